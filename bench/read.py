@@ -6,7 +6,7 @@
 It makes a program crate on `sqlite` in a folder of its own, which opens a table of the shape of `outgoing`, does one thing and closes the
 file, and proves and builds it with `rt run` (some minutes). Prints the most memory that each process had, with one row in the file and with
 three, as a table of docs/PERFORMANCE.md: these are the calls that `sieved send` makes of a row (`outgoing`, `next_queued` and `take_out` of
-mailstore), and that `export` makes of a message (`message_of`), whose table has the same key. `step` looks at the message where SQLite has
+store_accounts), and that `export` makes of a message (`message_of`), whose table has the same key. `step` looks at the message where SQLite has
 it, with no copy: less no caller can take.
 """
 import os, shutil, sqlite3, subprocess, sys, tempfile

@@ -10,7 +10,7 @@ import os, subprocess, sys, tempfile
 
 HERE = os.path.dirname(os.path.abspath(__file__))
 ROOT = os.path.dirname(HERE)
-LINE = "speeds: octets mailhead encwords addrparts collation globmatch sievesyntax msproto saslplain mailstore mailengine sqlite\n"
+LINE = "speeds: octets mail_head mail_words mail_address sieve_match sieve_syntax managesieve_protocol sasl_plain store_accounts store_engine sqlite\n"
 
 
 def below(rows, names):

@@ -11,7 +11,7 @@ import argparse, os, random, subprocess, tempfile
 
 HERE = os.path.dirname(os.path.abspath(__file__))
 ROOT = os.path.dirname(HERE)
-LINE = "work: octets sievesyntax sievecode sieveexec std_io\n"
+LINE = "work: octets sieve_syntax sieve_code sieve_exec std_io\n"
 LIMIT = 200_000_000
 SCRIPT = 262_144
 HEADER = 1_048_576

@@ -1,10 +1,10 @@
 #!/usr/bin/env python3
-"""Writes crates/cases/data/accountfiles.cases: texts of accounts, and near misses of them.
+"""Writes crates/test_runs/data/accountfiles.cases: texts of accounts, and near misses of them.
 
-Each text is spelled here, from README.md of crates/accountfiles, and its SHA-256 is that of Python's hashlib. What is wanted of a
+Each text is spelled here, from README.md of crates/store_text, and its SHA-256 is that of Python's hashlib. What is wanted of a
 right one is what it was spelled from; what is cut, changed, out of order or past a limit is the text of no account.
 
-    python3 tests/accountfiles.py > crates/cases/data/accountfiles.cases
+    python3 tests/accountfiles.py > crates/test_runs/data/accountfiles.cases
 """
 import hashlib, random
 from accounttexts import LIMIT, NUMBERS, OWNER, Long, account, column, ended, line

@@ -1,4 +1,4 @@
-"""The texts of accounts, spelled from README.md of crates/accountfiles, and how a column of a file of cases has them.
+"""The texts of accounts, spelled from README.md of crates/store_text, and how a column of a file of cases has them.
 
 A text is a list of pieces, so that a piece whose octets are all the same has room in a case. The SHA-256 is that of Python's hashlib.
 """

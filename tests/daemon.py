@@ -15,7 +15,7 @@ from hostile import RULES, SESSION, Ledger, memory, said, until_ok
 from lmtp import Peer, greet
 from managesieve import HERE, SIEVED, Client, Gone, Store, connect, end
 
-CASES = f"{HERE}/../crates/cases/data"
+CASES = f"{HERE}/../crates/test_runs/data"
 PROGRAM = [SIEVED]
 TRYLATER = b"NO (TRYLATER)"
 # Who has an account in the conversations of the cases.

@@ -1,11 +1,11 @@
 #!/usr/bin/env python3
-"""Writes crates/cases/data/dates.cases: texts of dates and near misses of them, zones, and the parts that come.
+"""Writes crates/test_runs/data/dates.cases: texts of dates and near misses of them, zones, and the parts that come.
 
 What is wanted comes from Python's datetime. The texts are those of RFC 5322, appendix A, those of the lists below, and some drawn
 from the grammar of date-time (3.3, 4.3) with a fixed seed. Where Python's email.utils can read a text, what it reads is held
 against what is wanted.
 
-    python3 tests/dates.py > crates/cases/data/dates.cases
+    python3 tests/dates.py > crates/test_runs/data/dates.cases
 """
 import email.utils, random
 from datetime import datetime, timedelta, timezone

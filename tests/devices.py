@@ -1,16 +1,16 @@
 #!/usr/bin/env python3
-"""Writes crates/cases/data/devices.cases: one session of ManageSieve whose input fails at its kth read, for each k, and whose output
+"""Writes crates/test_runs/data/devices.cases: one session of ManageSieve whose input fails at its kth read, for each k, and whose output
 fails at its kth call, for each k; after each the next session, which is served and shows the scripts after the steps that were made.
 
 What is wanted comes from the model below, written from RFC 5804, which knows nothing of the program.
 
 The tables are made by the statements of runs.cases, and the password is digested once, so that a login costs nothing.
 
-    python3 tests/devices.py > crates/cases/data/devices.cases
+    python3 tests/devices.py > crates/test_runs/data/devices.cases
 """
 import hashlib, os
 
-RUNS = f"{os.path.dirname(os.path.abspath(__file__))}/../crates/cases/data/runs.cases"
+RUNS = f"{os.path.dirname(os.path.abspath(__file__))}/../crates/test_runs/data/runs.cases"
 SCRIPT = 'require "fileinto";\r\nfileinto "lists";\r\n'
 # Each command, its answer, and what it makes of the scripts: whether `main` is there and active.
 STEPS = [

@@ -1,6 +1,7 @@
 #!/usr/bin/env python3
 """Tries the documents: every command of README as it stands, the limits of their lines, their links, those of the package and its
-version, the form of decisions, the completion for bash, and that scripts can be run.
+version, the form of decisions, the completion for bash, that scripts can be run, and that names of crates, types and definitions are
+of one thing each.
 
   tests/documents.py [--sieved SIEVED] [TRIAL ..]
 """
@@ -13,6 +14,11 @@ SIEVED = f"{TOP}/crates/sieved/out/sieved"
 WIDE = {"docs/DEFINITIONS.md": 160, "docs/DECISIONS.md": 160, "docs/CONTRIBUTING.md": 160}
 NARROW_CELLS = ["README.md", "docs/OPERATING.md", "docs/VARIANTS.md", "docs/REFERENCE.md"]
 LINE, README_LINES = 130, 130
+FAMILIES = {"cli", "daemon", "lmtp", "mail", "maildir", "managesieve", "net", "sasl", "sieve", "smtp", "store", "test"}
+# These are the same thing in each crate that has them: a limit, a list or a question which crates side by side both need.
+SAME = {"after_span", "day_names", "is_visible", "month_names"}
+# A type, a definition and a function that other crates can name.
+DECLARED = {"src": r"^\s*pub (?:struct|enum|trait|type) (\w+)", "specs": r"^(?:unfoldable |abbrev |record |data )*pub (?:record |data )?(?!mod\b|use\b)(\w+)"}
 
 
 def pages():
@@ -159,7 +165,7 @@ def package():
 
 
 def version():
-    with open(f"{TOP}/crates/sievedwords/src/program.rt") as file:
+    with open(f"{TOP}/crates/cli_subcommands/src/program.rt") as file:
         (found,) = re.findall(r'VERSION: &str = "([^"]*)"', file.read())
     said = subprocess.run([SIEVED, "--version"], capture_output=True, text=True).stdout.split()
     page = [line for line in lines_of("docs/sieved.1") if line.startswith(".Os")]
@@ -204,7 +210,48 @@ def modes():
     return f"{len(scripts)} scripts"
 
 
-TRIALS = {"modes": modes, "readme": readme, "lines": lines, "links": links, "decisions": decisions, "version": version, "package": package, "completion": completion}
+
+def crates():
+    with open(f"{TOP}/crates.txt") as file:
+        return [line.partition(":")[0] for line in file if line.strip() and not line.startswith("#")]
+
+
+def sources(crate, part):
+    """The text of each file of a crate's `src` or `specs`."""
+    for folder, _, files in sorted(os.walk(f"{TOP}/crates/{crate}/{part}")):
+        for name in sorted(files):
+            if name.endswith((".rt", ".antt")):
+                with open(f"{folder}/{name}", encoding="utf-8") as file:
+                    yield name, file.read()
+
+
+def handed_out(crate):
+    """The functions that others call by the crate's name: those that its `lib.rt` hands out, and those of its public modules."""
+    texts = dict(sources(crate, "src"))
+    lists = re.findall(r"^pub use [\w:]+?::(?:\{([^}]*)\}|(\w+));", texts.get("lib.rt", ""), re.M)
+    named = {name for several, one in lists for name in re.findall(r"\b[a-z]\w*", several or one)}
+    public = ["lib.rt"] + [f"{name}.rt" for name in re.findall(r"^pub mod (\w+);", texts.get("lib.rt", ""), re.M)]
+    return named | {name for file in public for name in re.findall(r"^pub fn (\w+)", texts.get(file, ""), re.M)}
+
+
+def names():
+    """A crate begins with its family; a public type, definition or function has a name that no other has."""
+    odd = [crate for crate in crates() if "_" in crate and crate.split("_")[0] not in FAMILIES]
+    places, count = {}, 0
+    for crate in crates():
+        for part, form in DECLARED.items():
+            for file, text in sources(crate, part):
+                for name in re.findall(form, text, re.M):
+                    places.setdefault((part, name), []).append(f"{crate}/{part}/{file}")
+        for name in handed_out(crate):
+            places.setdefault(("function", name), []).append(crate)
+    double = [f"{name}: {' '.join(found)}" for (part, name), found in sorted(places.items()) if len(found) > 1 and name not in SAME]
+    idle = [name for name in SAME if not any(len(found) > 1 for (_, other), found in places.items() if other == name)]
+    assert places and not odd + double + idle, f"no family: {odd}; double: {'; '.join(double)}; not double: {idle}"
+    return f"{len(places)} names"
+
+
+TRIALS = {"modes": modes, "readme": readme, "lines": lines, "links": links, "decisions": decisions, "version": version, "package": package, "completion": completion, "names": names}
 
 
 def program(path):

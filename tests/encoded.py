@@ -1,5 +1,5 @@
 #!/usr/bin/env python3
-"""Writes the last section of crates/cases/data/scripts.cases: strings at random behind a `require` of `encoded-character`, as names of
+"""Writes the last section of crates/test_runs/data/scripts.cases: strings at random behind a `require` of `encoded-character`, as names of
 folders. What they stand for comes from the model below, written from the grammar of RFC 5228, 2.4.2.4.
 
     python3 tests/encoded.py

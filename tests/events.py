@@ -1,11 +1,11 @@
 #!/usr/bin/env python3
-"""Writes crates/cases/data/events.cases: 300 events of three users and five sessions, then each user's events alone in a world of its own.
+"""Writes crates/test_runs/data/events.cases: 300 events of three users and five sessions, then each user's events alone in a world of its own.
 
 What is wanted comes from the model below, which is written from RFC 5804, RFC 5228 and RFC 5230, and for what an administrator does from
 docs/DEFINITIONS.md. It knows nothing of the program: scripts stand in it by what they mean, messages by their fields. It also asserts that
 each user's answers and possessions are the same alone.
 
-    python3 tests/events.py > crates/cases/data/events.cases
+    python3 tests/events.py > crates/test_runs/data/events.cases
 """
 import base64
 import datetime
@@ -164,7 +164,7 @@ DIGESTS = {user: digest(word.encode()) for user, word in PASSWORDS.items()}
 
 
 def text_of(user, drawn):
-    """The text of an account, as README.md of crates/accountfiles spells it. Of replies it has those under a handle that is named."""
+    """The text of an account, as README.md of crates/store_text spells it. Of replies it has those under a handle that is named."""
     parts = [(b"script", name.encode(), (SCRIPTS[key][0] if key in SCRIPTS else key).encode()) for name, key in sorted(drawn["scripts"].items())]
     parts += [(b"reply", b"\x01" + key[1].encode(), sender.encode(), moment) for (key, sender), moment in sorted(drawn["kept"].items())]
     number = 1

@@ -1,11 +1,11 @@
 #!/usr/bin/env python3
-"""Writes crates/cases/data/exports.cases: accounts that go out as texts and come in, on stores in memory.
+"""Writes crates/test_runs/data/exports.cases: accounts that go out as texts and come in, on stores in memory.
 
-Each text is spelled here, from README.md of crates/accountfiles; its SHA-256 and the digests of passwords are those of Python's
+Each text is spelled here, from README.md of crates/store_text; its SHA-256 and the digests of passwords are those of Python's
 hashlib. What `export` is to print is what was spelled, octet by octet. What a delivery leaves is worked out from RFC 5228, RFC 5230
 and docs/STORE.md; refusals come from docs/REFERENCE.md.
 
-    python3 tests/exports.py > crates/cases/data/exports.cases
+    python3 tests/exports.py > crates/test_runs/data/exports.cases
 """
 import datetime, hashlib
 from accounttexts import Long, Many, account, column, percent
@@ -85,7 +85,7 @@ def comes_back(text, name=b"alice"):
 
 
 print("# Written by tests/exports.py: accounts that go out as texts and come in, on stores in memory; rows are those of runs.cases. The texts are")
-print("# spelled by README.md of crates/accountfiles; SHA-256 and digests by Python's hashlib. The clock says 1700000000.")
+print("# spelled by README.md of crates/store_text; SHA-256 and digests by Python's hashlib. The clock says 1700000000.")
 
 EMPTY = account(owner=owner())
 

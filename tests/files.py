@@ -1,9 +1,9 @@
 #!/usr/bin/env python3
-"""Tries the cases of crates/cases/data/files.cases on the program: its words, and sessions, one after the other on a store in a file.
+"""Tries the cases of crates/test_runs/data/files.cases on the program: its words, and sessions, one after the other on a store in a file.
 
   tests/files.py [--sieved SIEVED]       SIEVED: the program, crates/sieved/out/sieved where none is named
 
-The file says in its head what its columns are, and the README of crates/cases how octets are written. Each case that fails is a line,
+The file says in its head what its columns are, and the README of crates/test_runs how octets are written. Each case that fails is a line,
 `files.cases:9: wanted .., got ..`; the last line counts them, and the status is 1 where one failed. `tests/run` runs it. It needs
 python3 on Linux.
 """
@@ -12,7 +12,7 @@ from contextlib import closing
 from urllib.parse import quote_from_bytes, unquote_to_bytes
 from managesieve import SIEVED
 
-DATA = os.path.abspath(f"{os.path.dirname(os.path.abspath(__file__))}/../crates/cases/data")
+DATA = os.path.abspath(f"{os.path.dirname(os.path.abspath(__file__))}/../crates/test_runs/data")
 FILE = "files.cases"
 LOGIN = b'AUTHENTICATE "PLAIN" "AGFsaWNlAHNlY3JldA=="\r\n'
 LOGGED_IN = b'OK "Logged in."\r\n'

@@ -1,5 +1,5 @@
 #!/usr/bin/env python3
-"""Writes crates/sendcases/data/: letters.cases, refusals.cases and mailboxes.cases.
+"""Writes crates/test_sends/data/: letters.cases, refusals.cases and mailboxes.cases.
 
 What a run does is worked out here from RFC 5321, sections 4.2, 4.3.2 and 4.5.3, over whole replies, and not from the program."""
 import os
@@ -7,7 +7,7 @@ import random
 
 import mailboxes
 
-HOME = os.path.join(os.path.dirname(os.path.abspath(__file__)), "..", "crates", "sendcases", "data")
+HOME = os.path.join(os.path.dirname(os.path.abspath(__file__)), "..", "crates", "test_sends", "data")
 GREETING = b"220 s ESMTP\r\n"
 HELLO = b"250-s\r\n250-SIZE 1000\r\n250-8BITMIME\r\n250 SMTPUTF8\r\n"
 BARE = b"250 s\r\n"

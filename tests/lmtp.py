@@ -12,7 +12,7 @@ import trials
 from hostile import memory
 from managesieve import HERE, SIEVED, Store, connect, end
 
-CASES = f"{HERE}/../crates/wirecases/data/lmtp.cases"
+CASES = f"{HERE}/../crates/test_loops/data/lmtp.cases"
 PROGRAM = [SIEVED]
 PART = re.compile(r"%\{([^*]*)\*(\d+)\}|%([0-9A-F]{2})")
 # Rows in which the cases' host lacks something, or says of a recipient what a store doesn't, or has names that no account has.

@@ -6,7 +6,7 @@
 `refuse_memory.c`, loaded before the C library, refuses the Nth request of a run. The trials of the first kind are the words of the
 program over a file: each ends with 0 and all that it says, or with 75 and `out of memory`; then the store is read back, by the
 program's words and table by table, and is as before or, where the word has done it, as after. Those of the second kind are calls of
-the engine over a store in memory, which the program of crates/cases makes: between two marks one event or call happens, and what
+the engine over a store in memory, which the program of crates/test_runs makes: between two marks one event or call happens, and what
 is read after it is as before where it was refused, and as after where not. Those of the third kind are single texts (a script, an
 address, a reply ..), of which the same program answers all or nothing.
 
@@ -16,7 +16,7 @@ makes them takes memory to tell what came.
 
 A line for a trial says how many requests there were, at how many the answer was the refusal and at how many the full one; the last
 line counts the trials, and the status is 1 where one failed. `tests/run` runs it, with --quick: some forty requests of each, spread
-over all. It needs python3 and cc; what crates/cases tries needs its program, crates/cases/out/cases.
+over all. It needs python3 and cc; what crates/test_runs tries needs its program, crates/test_runs/out/cases.
 """
 import contextlib, io, os, re, shutil, sqlite3, struct, subprocess, tempfile
 import managesieve, stops, trials
@@ -24,8 +24,8 @@ from collections import Counter
 from concurrent.futures import ThreadPoolExecutor
 from stops import LONG, MAIL, PROGRAM, SALT, SCRIPT, Look, Room, asking, by_path, files_of, login, put_script
 
-CASES = os.path.abspath(f"{managesieve.HERE}/../crates/cases/out/cases")
-DATA = os.path.abspath(f"{managesieve.HERE}/../crates/cases/data")
+CASES = os.path.abspath(f"{managesieve.HERE}/../crates/test_runs/out/test_runs")
+DATA = os.path.abspath(f"{managesieve.HERE}/../crates/test_runs/data")
 # The sizes of two requests that nothing else makes: those of the names of two users who aren't there.
 FIRST, LAST = 77_777, 66_666
 FEW = 24
@@ -376,7 +376,7 @@ def serve():
 def files_with(name, text):
     """A folder of cases where one file has a text, and the others none."""
     if not os.path.exists(CASES):
-        raise trials.LeftOut("no crates/cases/out/cases")
+        raise trials.LeftOut("no crates/test_runs/out/test_runs")
     folder = tempfile.mkdtemp(dir=TOP.name)
     for other in os.listdir(DATA):
         with open(f"{folder}/{other}", "wb") as file:

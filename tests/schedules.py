@@ -1,4 +1,4 @@
-"""Writes the schedules of crates/wirecases/data/ that are too long to write by hand.
+"""Writes the schedules of crates/test_loops/data/ that are too long to write by hand.
 
 Those of the echo come from its protocol alone: each line is answered by the same line, and one that comes is told `hi`. Those of the
 daemon are lives of five clients of ManageSieve and two of LMTP side by side, with what other processes do to the store in between; what
@@ -10,7 +10,7 @@ import sys
 import events
 
 HERE = os.path.dirname(os.path.abspath(__file__))
-DATA = os.path.join(HERE, "..", "crates", "wirecases", "data")
+DATA = os.path.join(HERE, "..", "crates", "test_loops", "data")
 LIVES = 40
 GUEST = 59_000      # a guest has a minute; one that would be late goes before
 SPAN = 2_000        # for so long the answer to a login that failed is kept back

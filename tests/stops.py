@@ -12,7 +12,7 @@ state of two moments is opened once. Nothing is thought durable that wasn't sync
 The trials: init, adduser, deliver, done, imported, exported, drain, session; `drain_seen`, where two of three messages have a system flag, and
 `drain_made`, where the Maildir lacks `cur` besides; `drain_killed` and `drain_refused`, where a run before was broken off as it had made
 `cur`; `daemon`, which moves a message, where one before was killed as it had made the Maildir; `upgrade_last`, `upgrade_fourth` and
-`upgrade_second`, the first word over a store that a program of version 1 or 2 wrote (crates/cases/data); `again`, where the power goes once more as what it left is opened;
+`upgrade_second`, the first word over a store that a program of version 1 or 2 wrote (crates/test_runs/data); `again`, where the power goes once more as what it left is opened;
 `unsynced`, a disk that loses a commit between its write and its sync, over which the next word reads the disk; and `planted`, in
 which a sync is left out of the log, an answer stands before one, or a commit before the last write, and a state has to be found
 that isn't as it should be.
@@ -26,7 +26,7 @@ from collections import Counter, namedtuple
 from concurrent.futures import ThreadPoolExecutor
 
 PROGRAM = [managesieve.SIEVED]
-DATA = os.path.abspath(f"{managesieve.HERE}/../crates/cases/data")
+DATA = os.path.abspath(f"{managesieve.HERE}/../crates/test_runs/data")
 SECTOR = 512
 SALT = "000102030405060708090a0b0c0d0e0f"
 LOG_HEAD = 41

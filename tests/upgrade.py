@@ -9,7 +9,7 @@ last one are written by Python's sqlite3, with mail of three users (`empty`: wit
 (`--quick`: 10,000), and says how long it takes, and with how much memory. `killed` kills the program in the middle of the upgrade 100 times
 (`--quick`: 10), the layouts in turn; a kill counts where the log of the store has some octets, and fewer than the whole upgrade writes.
 In `disk` the disk is full on the way (as root), in `memory` a request for memory is refused (cc). `written` takes the files that programs of
-versions 1 and 2 wrote (crates/cases/data/copies-last.db, copies-fourth.db and version-2.db). Where SIEVED_BEFORE names a program of version 1
+versions 1 and 2 wrote (crates/test_runs/data/copies-last.db, copies-fourth.db and version-2.db). Where SIEVED_BEFORE names a program of version 1
 or 2 there is one trial more, `refused`: it reads what became of such files. Prints a line for each; the last one counts them, and the status
 is 1 where one failed. `tests/run` runs it, quick.
 """
@@ -19,7 +19,7 @@ from collections import Counter
 from contextlib import closing
 from managesieve import HERE, SIEVED
 
-DATA = os.path.abspath(f"{HERE}/../crates/cases/data")
+DATA = os.path.abspath(f"{HERE}/../crates/test_runs/data")
 DOCS = os.path.abspath(f"{HERE}/../docs")
 
 BEGIN = [

@@ -1,30 +1,30 @@
 -- Reports and listings by example: right ones, and what is near them.
 use Rattle.std.proofs.Common.{◌≡◌, ℕ, List, refl, ap, get_or, [], ◌∷◌, ◌++◌, Some, None, arith}
 use Rattle.std.specs.Prelude.{codes}
-use Rattle.mailflags.specs.declared.placement.Placement.{Placement}
-use Rattle.sievesyntax.specs.Meaning.{Done, Failed}
-use Rattle.sievesyntax.specs.RunState.{TooManyRedirects}
-use Rattle.mailtables.specs.declared.queue.Kind.TheVariants.{Redirect, Reply}
-use Rattle.mailstore.specs.declared.report.VacationReport.TheVariants as vacation
-use Rattle.reportlines.specs.Addresses.{shown_address, shown_octet}
-use Rattle.reportlines.specs.Reports.{delivery_report, report_of}
-use Rattle.reportlines.specs.Listings.{notice_line, notice_listing, queue_line, queue_listing}
+use Rattle.mail_flags.specs.declared.placement.Placement.{Placement}
+use Rattle.sieve_syntax.specs.Meaning.{Done, Failed}
+use Rattle.sieve_syntax.specs.RunState.{TooManyRedirects}
+use Rattle.store_tables.specs.declared.queue.QueuedKind.TheVariants.{Redirect, Reply}
+use Rattle.store_accounts.specs.declared.report.VacationReport.TheVariants as vacation
+use Rattle.cli_reports.specs.Addresses.{shown_address, address_octet}
+use Rattle.cli_reports.specs.Reports.{delivery_report, outcome_report}
+use Rattle.cli_reports.specs.Listings.{notice_line, notice_listing, queue_line, queue_listing}
 
 abbrev seen : List ℕ → Placement
 seen mailbox = record { mailbox = mailbox; flags = codes "\\Seen" }
 
 -- nothing done is told by `discard`, and mailboxes by a line each, without flags
-report-nothing : report_of (Done (record { filed = []; sent = []; reply = None })) ≡ codes "discard\n"
+report-nothing : outcome_report (Done (record { filed = []; sent = []; reply = None })) ≡ codes "discard\n"
 report-nothing = refl
 
-report-two : report_of (Done (record { filed = seen (codes "lists") ∷ seen (codes "INBOX") ∷ []; sent = []; reply = None })) ≡ codes "file lists\nfile INBOX\n"
+report-two : outcome_report (Done (record { filed = seen (codes "lists") ∷ seen (codes "INBOX") ∷ []; sent = []; reply = None })) ≡ codes "file lists\nfile INBOX\n"
 report-two = refl
 
 -- beside a mailbox there is no `discard`
-report-beside : report_of (Done (record { filed = seen (codes "INBOX") ∷ []; sent = []; reply = None })) ≡ codes "file INBOX\ndiscard\n" → ⊥
+report-beside : outcome_report (Done (record { filed = seen (codes "INBOX") ∷ []; sent = []; reply = None })) ≡ codes "file INBOX\ndiscard\n" → ⊥
 report-beside e = cc
 
-report-failed : report_of (Failed TooManyRedirects) ≡ codes "failed: more than 16 redirects\n"
+report-failed : outcome_report (Failed TooManyRedirects) ≡ codes "failed: more than 16 redirects\n"
 report-failed = refl
 
 -- a delivery tells of its folders, addresses, vacation reply and notice, in this order
@@ -80,7 +80,7 @@ shown-ends = refl
 third : (text : List ℕ) → ℕ
 third text = get_or text 2 0
 
-shown-lower : shown_octet 62 ≡ codes "\\3E" → ⊥
+shown-lower : address_octet 62 ≡ codes "\\3E" → ⊥
 unfolding Rattle.hex.specs.Hex.encode_with third
 shown-lower e = other 101 69 refl refl (ap third e)
 

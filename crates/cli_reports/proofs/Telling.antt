@@ -9,13 +9,13 @@ use Rattle.std.proofs.lemmas.List.Folds.{list_all-append}
 use Rattle.hex.specs.Hex.{IsBytes, decode_of, encode_lower, encode_with, lower_digits}
 use Rattle.hex.proofs.HexLemmas.{decode_of-encode_lower}
 use Rattle.octets.specs.Ascii.{is_digit}
-use Rattle.mailtables.specs.declared.queue.Kind.{Kind}
-use Rattle.mailtables.specs.declared.queue.Kind.TheVariants.{Redirect, Reply}
-use Rattle.mailstore.specs.declared.head.Head.{Head}
-use Rattle.reportlines.specs.Addresses.{is_escaped, may_stand, shown_address, shown_octet}
-use Rattle.reportlines.specs.Laws.{AreRows, IsRow}
-use Rattle.reportlines.specs.Listings.{kind_word, queue_line, queue_listing}
-use Rattle.reportlines.specs.Reports.{with_end}
+use Rattle.store_tables.specs.declared.queue.QueuedKind.{QueuedKind}
+use Rattle.store_tables.specs.declared.queue.QueuedKind.TheVariants.{Redirect, Reply}
+use Rattle.store_accounts.specs.declared.queued_envelope.QueuedEnvelope.{QueuedEnvelope}
+use Rattle.cli_reports.specs.Addresses.{is_escaped, may_stand, shown_address, address_octet}
+use Rattle.cli_reports.specs.Laws.{AreRows, IsQueueRow}
+use Rattle.cli_reports.specs.Listings.{kind_word, queue_line, queue_listing}
+use Rattle.cli_reports.specs.Reports.{ended_line}
 
 -- two texts of octets that pass, each before an octet that doesn't
 cut : (p : ℕ → Bool) (c : ℕ) (a b r s : List ℕ) → p c ≡ false → list_all p a ≡ true → list_all p b ≡ true → a ++ c ∷ r ≡ b ++ c ∷ s → (a ≡ b) × (r ≡ s)
@@ -62,7 +62,7 @@ unescaped_stands : (is_backslash escaped : Bool) → escaped ≡ false → ((is_
 unescaped_stands true escaped e = refl
 unescaped_stands false escaped e = rw e refl
 
-octet_stands : (octet : ℕ) → list_all may_stand (shown_octet octet) ≡ true
+octet_stands : (octet : ℕ) → list_all may_stand (address_octet octet) ≡ true
 octet_stands octet = go (is_escaped octet) refl
   where
     go : (escaped : Bool) → is_escaped octet ≡ escaped → list_all may_stand (cond escaped (92 ∷ encode_lower (octet ∷ [])) (octet ∷ [])) ≡ true
@@ -72,7 +72,7 @@ octet_stands octet = go (is_escaped octet) refl
 pub address_stands : (address : List ℕ) → list_all may_stand (shown_address address) ≡ true
 address_stands [] = refl
 address_stands (octet ∷ rest) =
-    list_all-append may_stand (shown_octet octet) (shown_address rest) ∙ and_from (list_all may_stand (shown_octet octet)) (list_all may_stand (shown_address rest)) (octet_stands octet) (address_stands rest)
+    list_all-append may_stand (address_octet octet) (shown_address rest) ∙ and_from (list_all may_stand (address_octet octet)) (list_all may_stand (shown_address rest)) (octet_stands octet) (address_stands rest)
 
 bytes_one : (octet : ℕ) → octet < 256 → IsBytes (octet ∷ [])
 bytes_one octet small zero = small
@@ -93,7 +93,7 @@ digits_before x y r s e = (cc, cc)
 is_no_escape : (octet : ℕ) → is_escaped octet ≡ false → octet ≡ 92 → ⊥
 is_no_escape octet e is = let plain : is_escaped 92 ≡ false = subst (λ (o : ℕ). is_escaped o ≡ false) is e in absurd cc
 
-octet_told : (x y : ℕ) (r s : List ℕ) → shown_octet x ++ r ≡ shown_octet y ++ s → (x ≡ y) × (r ≡ s)
+octet_told : (x y : ℕ) (r s : List ℕ) → address_octet x ++ r ≡ address_octet y ++ s → (x ≡ y) × (r ≡ s)
 octet_told x y r s = go (is_escaped x) (is_escaped y) refl refl
   where
     go : (a b : Bool) → is_escaped x ≡ a → is_escaped y ≡ b → cond a (92 ∷ encode_lower (x ∷ [])) (x ∷ []) ++ r ≡ cond b (92 ∷ encode_lower (y ∷ [])) (y ∷ []) ++ s → (x ≡ y) × (r ≡ s)
@@ -105,7 +105,7 @@ octet_told x y r s = go (is_escaped x) (is_escaped y) refl refl
     go false true one two e = let is : x ≡ 92 = cc in absurd (is_no_escape x one is)
     go false false one two e = (cc, cc)
 
-octet_there : (octet : ℕ) (rest : List ℕ) → [] ≡ shown_octet octet ++ rest → ⊥
+octet_there : (octet : ℕ) (rest : List ℕ) → [] ≡ address_octet octet ++ rest → ⊥
 octet_there octet rest = go (is_escaped octet)
   where
     go : (escaped : Bool) → [] ≡ cond escaped (92 ∷ encode_lower (octet ∷ [])) (octet ∷ []) ++ rest → ⊥
@@ -127,13 +127,13 @@ address_told (x ∷ xs) (y ∷ ys) e =
 distinct : (x y : ℕ) → x ≡ 100 → y ≡ 112 → x ≡ y → ⊥
 distinct x y a b same = omega arith
 
-kind_told : (one two : Kind) (r s : List ℕ) → kind_word one ++ 32 ∷ r ≡ kind_word two ++ 32 ∷ s → (one ≡ two) × (r ≡ s)
+kind_told : (one two : QueuedKind) (r s : List ℕ) → kind_word one ++ 32 ∷ r ≡ kind_word two ++ 32 ∷ s → (one ≡ two) × (r ≡ s)
 kind_told Redirect Redirect r s e = (refl, cc)
 kind_told Redirect Reply r s e = absurd (distinct 100 112 refl refl (ap (λ (l : List ℕ). get_or l 2 0) e))
 kind_told Reply Redirect r s e = absurd (distinct 100 112 refl refl (sym (ap (λ (l : List ℕ). get_or l 2 0) e)))
 kind_told Reply Reply r s e = (refl, cc)
 
-pub line_told : (one two : Head) → IsRow one → IsRow two → queue_line one ≡ queue_line two → one ≡ two
+pub line_told : (one two : QueuedEnvelope) → IsQueueRow one → IsQueueRow two → queue_line one ≡ queue_line two → one ≡ two
 line_told one two fits too e =
     let numbers = cut is_digit 32 (decimal one.id) (decimal two.id) _ _ refl (digits-decimal one.id fits.id_fits) (digits-decimal two.id too.id_fits) e in
     let kinds = kind_told one.kind two.kind _ _ numbers.1 in
@@ -168,7 +168,7 @@ standing_goes_on : (octet : ℕ) → may_stand octet ≡ true → goes_on octet 
 unfolding goes_on
 standing_goes_on octet h = grind (arith, nat_tests)
 
-kind_goes_on : (kind : Kind) → list_all goes_on (kind_word kind) ≡ true
+kind_goes_on : (kind : QueuedKind) → list_all goes_on (kind_word kind) ≡ true
 unfolding goes_on
 kind_goes_on Redirect = refl
 kind_goes_on Reply = refl
@@ -184,15 +184,15 @@ parts_go_on : (a b c d e : List ℕ) → list_all goes_on a ≡ true → list_al
 unfolding goes_on
 parts_go_on a b c d e one two three four five = simp (list_all-append, one, two, three, four, five)
 
-line_goes_on : (row : Head) → IsRow row → list_all goes_on (queue_line row) ≡ true
+line_goes_on : (row : QueuedEnvelope) → IsQueueRow row → list_all goes_on (queue_line row) ≡ true
 line_goes_on row fits =
     parts_go_on (decimal row.id) (kind_word row.kind) (shown_address row.sender) (shown_address row.target) (decimal row.len)
     (number_goes_on row.id fits.id_fits) (kind_goes_on row.kind) (address_goes_on row.sender) (address_goes_on row.target) (number_goes_on row.len fits.octets_fit)
 
-ended : (line rest : List ℕ) → with_end line ++ rest ≡ line ++ 10 ∷ rest
+ended : (line rest : List ℕ) → ended_line line ++ rest ≡ line ++ 10 ∷ rest
 ended line rest = append_assoc line (10 ∷ []) rest
 
-not_empty : (line rest : List ℕ) → [] ≡ with_end line ++ rest → ⊥
+not_empty : (line rest : List ℕ) → [] ≡ ended_line line ++ rest → ⊥
 not_empty [] rest e = absurd cc
 not_empty (octet ∷ line) rest e = absurd cc
 
@@ -200,11 +200,11 @@ ends : goes_on 10 ≡ false
 unfolding goes_on
 ends = refl
 
-pub listing_told : (one two : List Head) → AreRows one → AreRows two → queue_listing one ≡ queue_listing two → one ≡ two
+pub listing_told : (one two : List QueuedEnvelope) → AreRows one → AreRows two → queue_listing one ≡ queue_listing two → one ≡ two
 listing_told [] [] fits too e = refl
 listing_told [] (row ∷ more) fits too e = absurd (not_empty (queue_line row) (queue_listing more) e)
 listing_told (row ∷ more) [] fits too e = absurd (not_empty (queue_line row) (queue_listing more) (sym e))
 listing_told (row ∷ more) (other ∷ others) fits too e =
     let same = sym (ended (queue_line row) (queue_listing more)) ∙ e ∙ ended (queue_line other) (queue_listing others) in
     let parts = cut goes_on 10 (queue_line row) (queue_line other) (queue_listing more) (queue_listing others) ends (line_goes_on row fits.0) (line_goes_on other too.0) same in
-    ap₂ (λ (x : Head) xs. x ∷ xs) (line_told row other fits.0 too.0 parts.0) (listing_told more others fits.1 too.1 parts.1)
+    ap₂ (λ (x : QueuedEnvelope) xs. x ∷ xs) (line_told row other fits.0 too.0 parts.0) (listing_told more others fits.1 too.1 parts.1)

@@ -8,12 +8,12 @@ abbrev pub is_escaped : ℕ → Bool
 is_escaped octet = nat_le octet 32 || octet == 127 || octet == 60 || octet == 62 || octet == 92
 
 -- such an octet is `\` and two hexadecimal digits in lower case, any other one is itself
-abbrev pub shown_octet : ℕ → List ℕ
-shown_octet octet = cond (is_escaped octet) (92 ∷ encode_lower (octet ∷ [])) (octet ∷ [])
+abbrev pub address_octet : ℕ → List ℕ
+address_octet octet = cond (is_escaped octet) (92 ∷ encode_lower (octet ∷ [])) (octet ∷ [])
 
 -- an address, octet by octet
 abbrev pub shown_address : List ℕ → List ℕ
-shown_address address = flat_map shown_octet address
+shown_address address = flat_map address_octet address
 
 -- what may be in an address that is shown: `\`, and each octet that isn't escaped
 abbrev pub may_stand : ℕ → Bool

@@ -1,7 +1,7 @@
 //! An address in a line.
 ghost use Rattle.std.specs.Prelude.{◌≡◌, ◌++◌, ◌<◌, OnOk, slice_index};
 ghost use Rattle.hex.specs.Hex.{lower_digits};
-ghost use Rattle.reportlines.specs.Addresses.{is_escaped as is_escaped_of, shown_address, shown_octet};
+ghost use Rattle.cli_reports.specs.Addresses.{is_escaped as is_escaped_of, shown_address, address_octet};
 
 use octets::Octets;
 use std::alloc::AllocError;
@@ -19,7 +19,7 @@ pub fn add_address(text: &mut Octets, address: &[u8]) -> Result<(), AllocError>
 
 /// Appends an octet of an address: if it is escaped, `\` and two hexadecimal digits in lower case, else itself.
 fn add_octet(text: &mut Octets, octet: u8) -> Result<(), AllocError>
-    ensures { OnOk result (text.new ≡ text.old ++ shown_octet octet) }
+    ensures { OnOk result (text.new ≡ text.old ++ address_octet octet) }
 {
     if !is_escaped(octet) {
         return text.push(octet);

@@ -1,5 +1,5 @@
 //! Laws of the definitions, each the contract of a function that does nothing.
-ghost use Rattle.reportlines.specs.Laws.{AddressesStand, LinesTell, ListingsTell};
+ghost use Rattle.cli_reports.specs.Laws.{AddressesStand, LinesTell, ListingsTell};
 
 /// An address in a line has no blank, no angle bracket and no control octet, whatever the address.
 pub fn addresses_stand()

@@ -8,5 +8,5 @@ mod line;
 pub mod listing;
 pub mod report;
 
-pub use listing::{of_notices, of_queue};
-pub use report::{of_fault, of_outcome};
+pub use listing::{list_user_notices, list_queue};
+pub use report::{report_fault, report_outcome};

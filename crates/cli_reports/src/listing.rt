@@ -1,17 +1,17 @@
 //! The lines of a user's queue and notices.
 ghost use Rattle.std.specs.Prelude.{◌≡◌, ◌++◌, IfOk, OnOk};
-ghost use Rattle.reportlines.specs.Listings.{kind_word, notice_line, notice_listing, queue_line, queue_listing};
-ghost use Rattle.reportlines.specs.Reports.{with_end};
+ghost use Rattle.cli_reports.specs.Listings.{kind_word, notice_line, notice_listing, queue_line, queue_listing};
+ghost use Rattle.cli_reports.specs.Reports.{ended_line};
 
 use crate::address::add_address;
-use mailstore::{Head, Kind, Notice};
+use store_accounts::{QueuedEnvelope, QueuedKind, Notice};
 use octets::{Octets, write_decimal};
 use std::alloc::{AllocError, Global};
 
 /// A line for each message on its way out, in order: `1 redirect <bob@example.net> <c@example.com> 18`, which are its
 /// number, kind, sender, target and size in octets. In an address an octet up to 32, 127, `<`, `>` or `\` is
 /// written as `\` and two hexadecimal digits in lower case, so that a line has five words, and determines the row.
-pub fn of_queue(alloc: Global, rows: &[Head]) -> Result<Octets, AllocError>
+pub fn list_queue(alloc: Global, rows: &[QueuedEnvelope]) -> Result<Octets, AllocError>
     ensures { IfOk result (λ text. text ≡ queue_listing rows.now) }
 {
     let mut text = Octets::new(alloc);
@@ -23,7 +23,7 @@ pub fn of_queue(alloc: Global, rows: &[Head]) -> Result<Octets, AllocError>
 
 /// A line for each notice, in order: `1700000000 vacation executed twice`, which are its moment in seconds since 1970 and
 /// its text.
-pub fn of_notices(alloc: Global, notices: &[Notice]) -> Result<Octets, AllocError>
+pub fn list_user_notices(alloc: Global, notices: &[Notice]) -> Result<Octets, AllocError>
     ensures { IfOk result (λ text. text ≡ notice_listing notices.now) }
 {
     let mut text = Octets::new(alloc);
@@ -34,8 +34,8 @@ pub fn of_notices(alloc: Global, notices: &[Notice]) -> Result<Octets, AllocErro
 }
 
 /// Appends the line of a message on its way out.
-fn add_row(text: &mut Octets, row: &Head) -> Result<(), AllocError>
-    ensures { OnOk result (text.new ≡ text.old ++ with_end (queue_line row.now)) }
+fn add_row(text: &mut Octets, row: &QueuedEnvelope) -> Result<(), AllocError>
+    ensures { OnOk result (text.new ≡ text.old ++ ended_line (queue_line row.now)) }
 {
     write_decimal(text, row.id)?;
     text.extend_from_slice(b" ")?;
@@ -50,18 +50,18 @@ fn add_row(text: &mut Octets, row: &Head) -> Result<(), AllocError>
 }
 
 /// The word for why a message goes out.
-fn word_of(kind: Kind) -> &'static [u8]
+fn word_of(kind: QueuedKind) -> &'static [u8]
     ensures { result.now ≡ kind_word kind }
 {
     match kind {
-        Kind::Redirect => b"redirect",
-        Kind::Reply => b"reply",
+        QueuedKind::Redirect => b"redirect",
+        QueuedKind::Reply => b"reply",
     }
 }
 
 /// Appends the line of a notice.
 fn add_notice(text: &mut Octets, notice: &Notice) -> Result<(), AllocError>
-    ensures { OnOk result (text.new ≡ text.old ++ with_end (notice_line notice.now)) }
+    ensures { OnOk result (text.new ≡ text.old ++ ended_line (notice_line notice.now)) }
 {
     write_decimal(text, notice.moment)?;
     text.extend_from_slice(b" ")?;

@@ -1,13 +1,13 @@
 -- What comes of a text that is checked.
 use Rattle.std.proofs.Common.{◌≡◌, ℕ, List, Option, Some, None, Ok, Err, codes, refl, subst}
-use Rattle.mailstore.specs.declared.refusal.Refusal.TheVariants.{ScriptTooLarge}
-use Rattle.sievelex.specs.declared.fault.ScriptFault.{ScriptFault}
-use Rattle.sievedrun.specs.declared.fault.Fault.{Fault}
-use Rattle.sievedrun.specs.declared.fault.Fault.TheVariants.{Refused}
-use Rattle.sievedrun.specs.Faults.{line_of}
-use Rattle.sievedrun.specs.Checks.{Finding, IsChecked, PrintsFinding, TellsFinding, status_found, told_in}
-use Rattle.sievedrun.specs.Streams.{ReadsAll}
-use Rattle.sievedrun.specs.TryScript.{OfInput}
+use Rattle.store_accounts.specs.declared.refusal.Refusal.TheVariants.{ScriptTooLarge}
+use Rattle.sieve_lex.specs.declared.fault.ScriptFault.{ScriptFault}
+use Rattle.cli_run.specs.declared.fault.RunFault.{RunFault}
+use Rattle.cli_run.specs.declared.fault.RunFault.TheVariants.{Refused}
+use Rattle.cli_run.specs.Faults.{run_fault_line}
+use Rattle.cli_run.specs.Checks.{Finding, IsChecked, PrintsFinding, TellsFinding, status_found, check_fault_line}
+use Rattle.cli_run.specs.Streams.{ReadsAll}
+use Rattle.cli_run.specs.TryScript.{OfInput}
 
 -- what is so of what was read is so of the input
 pub of_input : (given : Option (List ℕ)) (octets : List ℕ) (P : List ℕ → Type 0) → ReadsAll given octets → P octets → OfInput given P
@@ -15,7 +15,7 @@ of_input None octets P read p = (octets, p)
 of_input (Some input) octets P read p = subst P read p
 
 -- of any other fault the file isn't told
-pub told_otherwise : (file : Option (List ℕ)) (fault : Fault) → (fault ≡ Refused ScriptTooLarge → ⊥) → told_in file fault ≡ line_of fault
+pub told_otherwise : (file : Option (List ℕ)) (fault : RunFault) → (fault ≡ Refused ScriptTooLarge → ⊥) → check_fault_line file fault ≡ run_fault_line fault
 told_otherwise None fault other = refl
 told_otherwise (Some file) (Refused ScriptTooLarge) other = absurd (other refl)
 told_otherwise (Some file) fault other = refl
@@ -28,7 +28,7 @@ found_told file text out_old out_new err_old err_new status found finding is pri
 
 -- ---- by example
 
-large-told : told_in (Some (codes "a.sieve")) (Refused ScriptTooLarge) ≡ codes "a.sieve: script too large\n"
+large-told : check_fault_line (Some (codes "a.sieve")) (Refused ScriptTooLarge) ≡ codes "a.sieve: script too large\n"
 large-told = refl
 
 -- near miss: a fault is found, and the status says that none is

@@ -1,13 +1,13 @@
 -- Messages that leave a folder for a sink by example: a right one, and near misses.
 use Rattle.std.proofs.Common.{◌≡◌, ℕ, List, [], ◌∷◌, ◌++◌, take, true, Some, refl, sym, ◌∙◌, ap, subst, inr, codes, get_or, arith}
-use Rattle.mailsinks.specs.Kept.{kept_mail}
-use Rattle.mailsinks.specs.declared.kept.KeptMail.{KeptMail}
-use Rattle.mailstore.specs.Account.{Account, Accounts, open_of, with_user, messages_in, takes_mail}
-use Rattle.mailstore.specs.declared.taking.NumberedMessage.{NumberedMessage}
-use Rattle.mailengine.specs.declared.answer.Answer.TheVariants.{MailTaken}
-use Rattle.mailengine.specs.AccountEvents.{TakesFirst, TakesMailIn}
-use Rattle.sievedrun.specs.Draining.{mail_of, mail_in, IsFirst, AreFirsts, GrowsBy, Moved, StoppedShort, LostNone}
-use Rattle.sievedrun.proofs.LeaveLemmas.{leave_one}
+use Rattle.maildir_files.specs.Kept.{kept_mail}
+use Rattle.maildir_files.specs.declared.kept.KeptMail.{KeptMail}
+use Rattle.store_accounts.specs.Account.{Account, Accounts, open_account_of, with_user, messages_in, takes_mail}
+use Rattle.store_accounts.specs.declared.taking.NumberedMessage.{NumberedMessage}
+use Rattle.store_engine.specs.declared.answer.Answer.TheVariants.{MailTaken}
+use Rattle.store_engine.specs.AccountEvents.{TakesFirst, TakesMailIn}
+use Rattle.cli_run.specs.Draining.{folder_mail, mail_in, IsFirstMessage, AreFirsts, GrowsBy, Moved, StoppedShort, LostNone}
+use Rattle.cli_run.proofs.LeaveLemmas.{leave_one}
 
 abbrev alice : List ℕ
 alice = codes "alice"
@@ -26,15 +26,15 @@ first_of (mail ∷ mails) = mail
 
 -- what is kept of one message is that message, alone
 kept_alone : (new mails : List KeptMail) (message : List ℕ) → new ≡ [] ++ mails → AreFirsts alice inbox mails (message ∷ [])
-    → (first : NumberedMessage) × IsFirst alice inbox first × (new ≡ kept_mail alice inbox first.number first.message first.flags ∷ []) × (first.message ≡ message)
+    → (first : NumberedMessage) × IsFirstMessage alice inbox first × (new ≡ kept_mail alice inbox first.number first.message first.flags ∷ []) × (first.message ≡ message)
 kept_alone new [] message is kept = absurd kept
 kept_alone new (mail ∷ []) message is kept = (kept.0, kept.1, is ∙ ap (λ m. m ∷ []) kept.2, kept.3)
 kept_alone new (mail ∷ other ∷ more) message is kept = absurd kept.4
 
 -- alice has two messages, and the first has number 7
-module _ (accounts : Accounts) (a : Account) (is : open_of accounts alice ≡ Some a) (mail : messages_in a.folders inbox ≡ codes "M" ∷ codes "MM" ∷ []) (told : IsFirst alice inbox (record { number = 7; message = codes "M"; flags = [] })) where
+module _ (accounts : Accounts) (a : Account) (is : open_account_of accounts alice ≡ Some a) (mail : messages_in a.folders inbox ≡ codes "M" ∷ codes "MM" ∷ []) (told : IsFirstMessage alice inbox (record { number = 7; message = codes "M"; flags = [] })) where
   mail_is : mail_in accounts alice inbox ≡ codes "M" ∷ codes "MM" ∷ []
-  mail_is = ap (λ o. mail_of o inbox) is ∙ mail
+  mail_is = ap (λ o. folder_mail o inbox) is ∙ mail
 
   it_is : Has (kept_mail alice inbox 7 (codes "M") [] ∷ []) (take 1 (mail_in accounts alice inbox))
   it_is = subst (λ messages. Has (kept_mail alice inbox 7 (codes "M") [] ∷ []) (take 1 messages)) (sym mail_is) (λ tells. (kept_mail alice inbox 7 (codes "M") [] ∷ [], refl, (record { number = 7; message = codes "M"; flags = [] }, told, refl, refl, tt)))
@@ -54,7 +54,7 @@ module _ (accounts : Accounts) (a : Account) (is : open_of accounts alice ≡ So
 
   -- what is kept of the first, once it moved
   module _ (new : List KeptMail) (later : Accounts) (moved : Moved alice inbox (Has new) 1 accounts later) where
-    kept_first : (first : NumberedMessage) × IsFirst alice inbox first × (new ≡ kept_mail alice inbox first.number first.message first.flags ∷ []) × (first.message ≡ codes "M")
+    kept_first : (first : NumberedMessage) × IsFirstMessage alice inbox first × (new ≡ kept_mail alice inbox first.number first.message first.flags ∷ []) × (first.message ≡ codes "M")
     kept_first = let k = moved.kept refl in kept_alone new k.0 (codes "M") k.1 (subst (λ messages. AreFirsts alice inbox k.0 (take 1 messages)) mail_is k.2)
 
     -- near misses: it left, and isn't kept; it is kept twice; the second is kept in its place; it is kept as bob's, or in another folder
@@ -80,7 +80,7 @@ module _ (accounts : Accounts) (a : Account) (is : open_of accounts alice ≡ So
         let no : 87 ≡ 73 = ap (λ mails. get_or (first_of mails).folder 0 0) (sym other ∙ whole) in absurd (omega (arith, no))
 
     -- under another number than it has
-    kept_as_next : ((first : NumberedMessage) → IsFirst alice inbox first → first.number ≡ 7) → new ≡ kept_mail alice inbox 8 (codes "M") [] ∷ [] → ⊥
+    kept_as_next : ((first : NumberedMessage) → IsFirstMessage alice inbox first → first.number ≡ 7) → new ≡ kept_mail alice inbox 8 (codes "M") [] ∷ [] → ⊥
     kept_as_next only other =
         let (first, told_so, whole, same) = kept_first in
         let no : 8 ≡ 7 = ap (λ mails. (first_of mails).number) (sym other ∙ whole) ∙ only first told_so in absurd (omega (arith, no))

@@ -5,20 +5,20 @@ use Rattle.std.specs.Prelude.{codes}
 use Rattle.std.specs.Option.{option_copied}
 use Rattle.octets.specs.Ascii.{is_digit}
 use Rattle.octets.specs.Decimal.{Writes, number_of}
-use Rattle.msproto.specs.Machine.{rows as machine_rows}
-use Rattle.mailstore.specs.Account.{no_accounts}
-use Rattle.mailstore.specs.declared.refusal.Refusal.{Refusal}
-use Rattle.sessions.specs.declared.progress.Progress.TheVariants.{Done}
-use Rattle.sessions.specs.Clients.{Client, new_client, shut}
-use Rattle.sessions.specs.Replies.{done}
-use Rattle.keepers.specs.declared.keeper.Unavailable.{Unavailable}
-use Rattle.keepers.specs.declared.keeper.Unavailable.TheVariants.{Busy}
-use Rattle.sessions.specs.Refusing.{WasRefused}
-use Rattle.sievedwords.specs.declared.location.StoreLocation.{StoreLocation}
-use Rattle.sievedrun.specs.Faults.{cause_line, line_of, store_failed}
-use Rattle.sievedrun.specs.Framing.{IsFramed}
-use Rattle.sievedrun.specs.Serving.{Round, HasClosed, HasGiven, Hinders, IsDenied, IsDeniedBy, IsTold, Stops, Hears, Steps, GivesUp, Leads, Unstopped, came_in, said_in}
-use Rattle.sievedrun.specs.Streams.{WriteFailed}
+use Rattle.managesieve_protocol.specs.Machine.{rows as machine_rows}
+use Rattle.store_accounts.specs.Account.{no_accounts}
+use Rattle.store_accounts.specs.declared.refusal.Refusal.{Refusal}
+use Rattle.managesieve_sessions.specs.declared.progress.Progress.TheVariants.{Done}
+use Rattle.managesieve_sessions.specs.Clients.{Client, new_client, shut}
+use Rattle.managesieve_sessions.specs.Replies.{done_reply}
+use Rattle.store_lock.specs.declared.keeper.StoreUnavailable.{StoreUnavailable}
+use Rattle.store_lock.specs.declared.keeper.StoreUnavailable.TheVariants.{Busy}
+use Rattle.managesieve_sessions.specs.Refusing.{WasRefused}
+use Rattle.cli_subcommands.specs.declared.location.StoreLocation.{StoreLocation}
+use Rattle.cli_run.specs.Faults.{cause_line, run_fault_line, store_failed}
+use Rattle.cli_run.specs.Framing.{IsFramed}
+use Rattle.cli_run.specs.Serving.{Round, HasClosed, HasGiven, Hinders, IsDenied, IsDeniedBy, IsTold, StopsServing, RoundHears, RoundSteps, GivesUp, RoundsLead, Unstopped, came_in, said_in}
+use Rattle.cli_run.specs.Streams.{WriteFailed}
 
 five-digits : (k d : ℕ) → k < 1 → is_digit (get_or (codes "5") k d) ≡ true
 five-digits zero d k<1 = refl
@@ -63,7 +63,7 @@ abbrev noop_rounds : List Round
 noop_rounds =
     hears (codes "NO") (after (codes "NO")) ∷ hears (codes "OP" ++ crlf) (after (codes "NOOP" ++ crlf)) ∷ record { came = []; said = codes "OK \"Done.\"" ++ crlf; accounts = no_accounts; client = new_client } ∷ []
 
-noop : Leads Unstopped ⊥ no_accounts new_client noop_rounds no_accounts new_client
+noop : RoundsLead Unstopped ⊥ no_accounts new_client noop_rounds no_accounts new_client
 unfolding machine_rows
 noop = (
   inl (record { live = refl; waits = refl; short = lit≤ tt; silent = refl; joins = refl; same = refl }),
@@ -74,8 +74,8 @@ noop = (
         ready = refl;
         none = refl;
         progress = Done;
-        step = record { reply = done; replies = refl; spelled = refl; session = refl; goes_on = refl; changed = refl };
-        reach = inl (Done, λ accounts. record { reply = done; replies = refl; spelled = refl; session = refl; goes_on = refl; changed = refl });
+        step = record { reply = done_reply; replies = refl; spelled = refl; session = refl; goes_on = refl; changed = refl };
+        reach = inl (Done, λ accounts. record { reply = done_reply; replies = refl; spelled = refl; session = refl; goes_on = refl; changed = refl });
       })),
       (refl, refl),
     ),
@@ -99,20 +99,20 @@ noop_without_cause r g = elim g.cause [
   | inr was ↦ was
 ]
 
-noop_late : (r : Round) → Hears no_accounts (after (codes "NOOP" ++ crlf)) r → ⊥
+noop_late : (r : Round) → RoundHears no_accounts (after (codes "NOOP" ++ crlf)) r → ⊥
 unfolding machine_rows
 noop_late r h = let waits : true ≡ false = h.waits in cc
 
-half_answered : (r : Round) → Steps (Unit {0}) no_accounts (after (codes "NOOP")) r → ⊥
+half_answered : (r : Round) → RoundSteps (Unit {0}) no_accounts (after (codes "NOOP")) r → ⊥
 unfolding machine_rows
 half_answered r s = let ready : false ≡ true = s.ready in cc
 
 -- a session that is closed hears nothing, though nothing waits to be answered
-closed_hears : (r : Round) → Hears no_accounts (shut new_client) r → ⊥
+closed_hears : (r : Round) → RoundHears no_accounts (shut new_client) r → ⊥
 closed_hears r h = let live : true ≡ false = h.live in cc
 
 -- a denial at a path is none at another one, nor one of a keeper that waits otherwise; so with a store that was given
-abbrev RefusesA : ℕ → List ℕ → Unavailable → Type 0
+abbrev RefusesA : ℕ → List ℕ → StoreUnavailable → Type 0
 RefusesA keeper path denial = path ≡ codes "a.db"
 
 abbrev GivesA : ℕ → List ℕ → Type 0
@@ -144,17 +144,17 @@ module _ (here there : StoreLocation) (a : here.path.now ≡ codes "a.db") (b : 
   given_at_once waits h = let no : false ≡ true = h.2 ∙ waits in cc
 
 -- a trouble is told by its line, and by the one on its cause; nothing tells of one, where no write failed
-told_so : IsTold (Some []) (Some (line_of store_failed))
+told_so : IsTold (Some []) (Some (run_fault_line store_failed))
 told_so = (record { fault = store_failed; cause = None }, inl refl)
 
 told_silently : IsTold (Some []) (Some []) → WriteFailed (Some [])
 told_silently (trouble, written) = elim written [
-  | inl all ↦ absurd (let is : [] ≡ line_of trouble.fault ++ cause_line (option_copied trouble.cause) = all in let never : ⊥ = cc in never)
+  | inl all ↦ absurd (let is : [] ≡ run_fault_line trouble.fault ++ cause_line (option_copied trouble.cause) = all in let never : ⊥ = cc in never)
   | inr cut ↦ cut.1
 ]
 
 -- what is given up untold was so since another process had the store; a store whose closing is untold could be closed
-untold_busy : {K : Type 0} (refuses : K → List ℕ → Unavailable → Type 0) (waits : K → Bool) (location : StoreLocation) (c : Client) → Stops refuses waits location ⊥ c → IsDeniedBy refuses waits location Busy
+untold_busy : {K : Type 0} (refuses : K → List ℕ → StoreUnavailable → Type 0) (waits : K → Bool) (location : StoreLocation) (c : Client) → StopsServing refuses waits location ⊥ c → IsDeniedBy refuses waits location Busy
 untold_busy refuses waits location c stops = elim stops.1 [
   | inl told ↦ absurd told
   | inr busy ↦ busy

@@ -6,7 +6,7 @@ use Rattle.std.specs.List.{prefix_len, AllPass}
 use Rattle.octets.specs.Ascii.{is_digit}
 use Rattle.std.proofs.Math.Nat.{pow-succ', pow-le-pow_right}
 use Rattle.octets.specs.Decimal.{Writes, number_of, with_digit}
-use Rattle.sievedrun.specs.Framing.{Counts}
+use Rattle.cli_run.specs.Framing.{HasCountLine}
 
 -- digits before a line feed are all the leading digits
 digits_run : (digits rest : List ℕ) → AllPass is_digit digits → prefix_len is_digit (digits ++ 10 ∷ rest) ≡ length digits
@@ -19,7 +19,7 @@ pub record IsCut (input : List ℕ) (number : ℕ) (rest : List ℕ) : Type 0 wh
   pub written : Writes (take (prefix_len is_digit input) input) number
   pub after : drop (prefix_len is_digit input) input ≡ 10 ∷ rest
 
-pub cut : (input : List ℕ) (number : ℕ) (rest : List ℕ) → Counts input number rest → IsCut input number rest
+pub cut : (input : List ℕ) (number : ℕ) (rest : List ℕ) → HasCountLine input number rest → IsCut input number rest
 cut input number rest counts =
     let run : prefix_len is_digit input ≡ length counts.digits = ap (prefix_len is_digit) counts.spelled ∙ digits_run counts.digits rest counts.written.digits in
     record {
@@ -29,7 +29,7 @@ cut input number rest counts =
     }
 
 -- two counts of one input are one
-pub counts_only : (input : List ℕ) (m n : ℕ) (xs ys : List ℕ) → Counts input m xs → Counts input n ys → (m ≡ n) × (xs ≡ ys)
+pub counts_only : (input : List ℕ) (m n : ℕ) (xs ys : List ℕ) → HasCountLine input m xs → HasCountLine input n ys → (m ≡ n) × (xs ≡ ys)
 counts_only input m n xs ys first second =
     let a = cut input m xs first in
     let b = cut input n ys second in
@@ -46,7 +46,7 @@ places (digit ∷ more) number bound each below =
     subst (λ (n : ℕ). fold with_digit (with_digit number digit) more < n) (mul_assoc bound 10 power ∙ ap (λ n. bound * n) (sym (pow-succ' 10 (length more)))) others
 
 -- a count is small
-pub counts_small : (input : List ℕ) (number : ℕ) (rest : List ℕ) → Counts input number rest → number < 2 ^ 64
+pub counts_small : (input : List ℕ) (number : ℕ) (rest : List ℕ) → HasCountLine input number rest → number < 2 ^ 64
 counts_small input number rest counts =
     let digits = counts.digits in
     let below : number_of digits < 1 * 10 ^ length digits = places digits 0 1 counts.written.digits (lit< tt) in

@@ -1,44 +1,44 @@
 -- What the account of a text comes to: it was added, or refused, and no account changed; or it was no text of an account.
 use Rattle.std.proofs.Common.{◌≡◌, Bool, true, false, ℕ, List, Option, Some, None, Result, Ok, Err, MatchBool, refl, sym, ap, ◌∙◌, subst, inl, inr}
 use Rattle.std.specs.FinMap.{get}
-use Rattle.accountfiles.specs.declared.account_file.AccountFile.{AccountFile}
-use Rattle.accountfiles.specs.declared.head.Head.{Head}
-use Rattle.accountfiles.specs.declared.part.Part.{Part}
+use Rattle.store_text.specs.declared.account_file.AccountFile.{AccountFile}
+use Rattle.store_text.specs.declared.head.AccountHead.{AccountHead}
+use Rattle.store_text.specs.declared.part.Part.{Part}
 use Rattle.sqlite.specs.Effect.{Database}
-use Rattle.mailstore.specs.Account.{Account, Accounts, has_mail, is_closed}
-use Rattle.mailstore.specs.declared.refusal.Refusal.{Refusal}
-use Rattle.mailstore.specs.declared.refusal.Refusal.TheVariants.{UserExists, UserHasMail}
-use Rattle.mailengine.specs.AccountEvents.{Importing, ImportsUnder, Refuses, Replaces}
-use Rattle.mailengine.specs.Hosts.{MayRefuseImport, TurnsBy}
-use Rattle.mailengine.proofs.HostLemmas.{importing_may}
-use Rattle.mailengine.specs.declared.answer.Answer.{Answer}
-use Rattle.mailengine.specs.declared.answer.Answer.TheVariants as answer
-use Rattle.mailengine.specs.declared.event.Event.TheVariants.{Import}
-use Rattle.sievedrun.specs.declared.fault.Fault.{Fault}
-use Rattle.sievedrun.specs.declared.fault.Fault.TheVariants.{Refused}
-use Rattle.sievedrun.specs.Promise.{world_of}
-use Rattle.sievedrun.specs.Streams.{InputFailed}
-use Rattle.sievedrun.specs.Words.{Brings, DoesEvent, DoesImport, IsNotRead, Puts}
-use Rattle.sievedrun.proofs.WordLemmas.{broken, event_hindered, kept_same, next_by, refused_by, stays_turned, turned_wider}
+use Rattle.store_accounts.specs.Account.{Account, Accounts, has_mail, is_closed_account}
+use Rattle.store_accounts.specs.declared.refusal.Refusal.{Refusal}
+use Rattle.store_accounts.specs.declared.refusal.Refusal.TheVariants.{UserExists, UserHasMail}
+use Rattle.store_engine.specs.AccountEvents.{Importing, ImportsUnder, MachineRefuses, Replaces}
+use Rattle.store_engine.specs.Hosts.{MayRefuseImport, TurnsBy}
+use Rattle.store_engine.proofs.HostLemmas.{importing_may}
+use Rattle.store_engine.specs.declared.answer.Answer.{Answer}
+use Rattle.store_engine.specs.declared.answer.Answer.TheVariants as answer
+use Rattle.store_engine.specs.declared.event.Event.TheVariants.{Import}
+use Rattle.cli_run.specs.declared.fault.RunFault.{RunFault}
+use Rattle.cli_run.specs.declared.fault.RunFault.TheVariants.{Refused}
+use Rattle.cli_run.specs.Promise.{world_of_accounts}
+use Rattle.cli_run.specs.Streams.{InputFailed}
+use Rattle.cli_run.specs.Subcommands.{IsImportEvent, DoesEvent, DoesImport, IsNotRead, Puts}
+use Rattle.cli_run.proofs.WordLemmas.{broken, event_hindered, kept_same, next_by, refused_by, stays_turned, turned_wider}
 
 -- where the machine refuses it, no account changes
-imports_kept : (head : Head) (parts : List Part) (accounts later : Accounts) (refusal : Refusal) → Importing accounts head parts (answer.Refused refusal) later → later ≡ accounts
+imports_kept : (head : AccountHead) (parts : List Part) (accounts later : Accounts) (refusal : Refusal) → Importing accounts head parts (answer.Refused refusal) later → later ≡ accounts
 imports_kept head parts accounts later refusal = go
   where
-    over : (closed full : Bool) → MatchBool closed (MatchBool full (Refuses UserHasMail accounts (answer.Refused refusal) later) (Replaces accounts head parts (answer.Refused refusal) later)) (Refuses UserExists accounts (answer.Refused refusal) later) → later ≡ accounts
+    over : (closed full : Bool) → MatchBool closed (MatchBool full (MachineRefuses UserHasMail accounts (answer.Refused refusal) later) (Replaces accounts head parts (answer.Refused refusal) later)) (MachineRefuses UserExists accounts (answer.Refused refusal) later) → later ≡ accounts
     over true true h = h.stays
     over true false h = absurd (let no = h.imported in cc)
     over false full h = h.stays
 
     by : (o : Option Account) → ImportsUnder accounts head parts o (answer.Refused refusal) later → later ≡ accounts
     by None h = absurd (let no = h.imported in cc)
-    by (Some a) h = over (is_closed a) (has_mail a) h
+    by (Some a) h = over (is_closed_account a) (has_mail a) h
 
     go : Importing accounts head parts (answer.Refused refusal) later → later ≡ accounts
     go (inl h) = by (get accounts head.owner.name) h.1
     go (inr h) = h.1.stays
 
-module _ (Denied : Fault → Type 0) (file : AccountFile) where
+module _ (Denied : RunFault → Type 0) (file : AccountFile) where
   abbrev Row : Accounts → Answer → Accounts → Type 0
   Row accounts = Importing accounts file.head file.parts
 
@@ -46,20 +46,20 @@ module _ (Denied : Fault → Type 0) (file : AccountFile) where
   May = MayRefuseImport file.head file.parts
 
   pub import_made : (done : Unit {0}) (accounts later : Accounts) → TurnsBy Row May answer.Imported accounts later → Puts Denied (Import file) (λ x. answer.Imported) (Ok done) accounts later
-  import_made done = next_by (Import file) Row May (λ accounts later said row. (later, row, refl)) (λ accounts. importing_may file (world_of accounts)) (imports_kept file.head file.parts) answer.Imported
+  import_made done = next_by (Import file) Row May (λ accounts later said row. (later, row, refl)) (λ accounts. importing_may file (world_of_accounts accounts)) (imports_kept file.head file.parts) answer.Imported
 
   pub import_refused : (refusal : Refusal) (accounts later : Accounts) → TurnsBy Row May (answer.Refused refusal) accounts later → Puts {X = Unit {0}} Denied (Import file) (λ x. answer.Imported) (Err (Refused refusal)) accounts later
-  import_refused = refused_by (Import file) Row May (λ accounts later said row. (later, row, refl)) (λ accounts. importing_may file (world_of accounts)) (imports_kept file.head file.parts) {X = Unit {0}} Denied (λ x. answer.Imported)
+  import_refused = refused_by (Import file) Row May (λ accounts later said row. (later, row, refl)) (λ accounts. importing_may file (world_of_accounts accounts)) (imports_kept file.head file.parts) {X = Unit {0}} Denied (λ x. answer.Imported)
 
-module _ (Denied : Fault → Type 0) (given : Option (List ℕ)) where
+module _ (Denied : RunFault → Type 0) (given : Option (List ℕ)) where
   -- the word ended as one that is an event does
-  pub import_as_event : (old out : Option (List ℕ)) (held new : Database) (r : Result (Unit {0}) Fault) → DoesEvent InputFailed ⊥ Denied (Brings given) old out r held new → DoesImport Denied given old out r held new
+  pub import_as_event : (old out : Option (List ℕ)) (held new : Database) (r : Result (Unit {0}) RunFault) → DoesEvent InputFailed ⊥ Denied (IsImportEvent given) old out r held new → DoesImport Denied given old out r held new
   import_as_event old out held new r does = turned_wider _ _ held new (λ accounts later h. inl h) does
 
   -- no account was read
-  pub import_unread : (out : Option (List ℕ)) (held : Database) (fault : Fault) (r : Result (Unit {0}) Fault) → r ≡ Err fault → IsNotRead given fault → DoesImport Denied given out out r held held
-  import_unread out held fault r is (inl lacks) = import_as_event out out held held r (event_hindered InputFailed ⊥ Denied (Brings given) out held fault r is (inl lacks))
+  pub import_unread : (out : Option (List ℕ)) (held : Database) (fault : RunFault) (r : Result (Unit {0}) RunFault) → r ≡ Err fault → IsNotRead given fault → DoesImport Denied given out out r held held
+  import_unread out held fault r is (inl lacks) = import_as_event out out held held r (event_hindered InputFailed ⊥ Denied (IsImportEvent given) out held fault r is (inl lacks))
   import_unread out held fault r is (inr (inl failed)) =
-      import_as_event out out held held r (event_hindered InputFailed ⊥ Denied (Brings given) out held fault r is (broken InputFailed ⊥ Denied fault failed.0 failed.1))
+      import_as_event out out held held r (event_hindered InputFailed ⊥ Denied (IsImportEvent given) out held fault r is (broken InputFailed ⊥ Denied fault failed.0 failed.1))
   import_unread out held fault r is (inr (inr none)) =
       stays_turned _ held held refl (λ accounts. inr (record { none = none.1; told = is ∙ ap Err none.0; stays = refl; silent = kept_same out }))

@@ -6,30 +6,30 @@ use Rattle.std.proofs.lemmas.List.{append-nil}
 use Rattle.std.specs.FinMap.{get}
 use Rattle.sqlite.specs.State.{State, HasCleanDisk, Survives}
 use Rattle.sqlite.proofs.StateLemmas.{survives_then, survives_weaker}
-use Rattle.mailsinks.specs.Kept.{kept_mail, MayKeep}
-use Rattle.mailsinks.specs.declared.kept.KeptMail.{KeptMail}
-use Rattle.mailstore.specs.declared.refusal.Refusal.{Refusal}
-use Rattle.mailstore.specs.declared.refusal.Refusal.TheVariants.{NoUser}
-use Rattle.mailstore.specs.declared.profile.Profile.{Profile}
-use Rattle.mailstore.specs.declared.taking.NumberedMessage.{NumberedMessage}
-use Rattle.mailstore.specs.Account.{Account, Accounts, open_of, with_user, messages_in, takes_mail}
-use Rattle.mailstore.specs.AccountRows.{profile_of}
-use Rattle.mailstore.specs.CopyRows.{HasFirst, IsFirstIn}
-use Rattle.mailstore.specs.Promises.{HasOurTables, HasUser, HasOpen, HasNoOpen, OfOpen, Keeps, CrashLeavesAccounts, Reads, ReadsOwn, WritesAccount}
-use Rattle.mailstore.specs.Refusals.{IsTransient}
-use Rattle.mailstore.specs.Shows.{IsFirstOf, rows_of}
-use Rattle.mailtables.proofs.WriteLemmas.{clean_before}
-use Rattle.sessions.specs.Acts.{HasAccounts, CrashLeaves}
-use Rattle.sessions.proofs.ActLemmas.{glanced, accounts_stay, read_shows}
-use Rattle.mailengine.specs.declared.answer.Answer.TheVariants.{MailTaken, Refused}
-use Rattle.mailengine.specs.AccountEvents.{MailTaking}
-use Rattle.mailengine.specs.Hosts.{TurnsBy, MayTurnBy, ActsMailTaking, answer_by}
-use Rattle.sievedrun.specs.declared.fault.Fault.{Fault}
-use Rattle.sievedrun.specs.declared.fault.Fault.TheVariants as fault
-use Rattle.sievedrun.specs.Faults.{no_user, status_of}
-use Rattle.sievedrun.specs.Draining.{mail_of, mail_in, IsFirst, GrowsBy, Moved, StoppedShort, LostNone, MovesMail, FirstMoved, AllMoved, AnyMoved, Drained}
-use Rattle.sievedrun.specs.Promise.{world_of}
-use Rattle.sievedrun.proofs.LeaveLemmas.{has_first, none_left, leave_one, leave_then, take_then, grown_none, grown_then, one_kept, may_be_kept}
+use Rattle.maildir_files.specs.Kept.{kept_mail, MayKeep}
+use Rattle.maildir_files.specs.declared.kept.KeptMail.{KeptMail}
+use Rattle.store_accounts.specs.declared.refusal.Refusal.{Refusal}
+use Rattle.store_accounts.specs.declared.refusal.Refusal.TheVariants.{NoUser}
+use Rattle.store_accounts.specs.declared.profile.Profile.{Profile}
+use Rattle.store_accounts.specs.declared.taking.NumberedMessage.{NumberedMessage}
+use Rattle.store_accounts.specs.Account.{Account, Accounts, open_account_of, with_user, messages_in, takes_mail}
+use Rattle.store_accounts.specs.AccountRows.{profile_of}
+use Rattle.store_accounts.specs.CopyRows.{HasFirst, IsFirstIn}
+use Rattle.store_accounts.specs.Promises.{HasOurTables, HasUser, HasOpen, HasNoOpen, OfOpen, KeepsTables, CrashLeavesAccounts, ReadsOpenAccount, ReadsOwn, WritesAccount}
+use Rattle.store_accounts.specs.Refusals.{IsTransient}
+use Rattle.store_accounts.specs.Shows.{IsFirstOf, rows_of}
+use Rattle.store_tables.proofs.WriteLemmas.{clean_before}
+use Rattle.managesieve_sessions.specs.Acts.{HasAccounts, CrashLeaves}
+use Rattle.managesieve_sessions.proofs.ActLemmas.{glanced, accounts_stay, read_shows}
+use Rattle.store_engine.specs.declared.answer.Answer.TheVariants.{MailTaken, Refused}
+use Rattle.store_engine.specs.AccountEvents.{MailTaking}
+use Rattle.store_engine.specs.Hosts.{TurnsBy, MayTurnBy, ActsMailTaking, answer_by}
+use Rattle.cli_run.specs.declared.fault.RunFault.{RunFault}
+use Rattle.cli_run.specs.declared.fault.RunFault.TheVariants as fault
+use Rattle.cli_run.specs.Faults.{no_user, status_of}
+use Rattle.cli_run.specs.Draining.{folder_mail, mail_in, IsFirstMessage, GrowsBy, Moved, StoppedShort, LostNone, MovesMail, FirstMoved, AllMoved, AnyMoved, Drained}
+use Rattle.cli_run.specs.Promise.{world_of_accounts}
+use Rattle.cli_run.proofs.LeaveLemmas.{has_first, none_left, leave_one, leave_then, take_then, grown_none, grown_then, one_kept, may_be_kept}
 
 -- ---- one message that is read, kept and taken
 module _ (user folder : List ℕ) (tells : Bool) (had has : List KeptMail) where
@@ -40,7 +40,7 @@ module _ (user folder : List ℕ) (tells : Bool) (had has : List KeptMail) where
   First = IsFirstIn folder
 
   -- only reads
-  pub read_alone : {X E : Type 0} (a b : State) (r : Result X E) (answers_ok : Bool) (Became : Accounts → Accounts → Type 0) → Keeps a b r → (IsTrue answers_ok → HasCleanDisk b → IsTrue b.is_open)
+  pub read_alone : {X E : Type 0} (a b : State) (r : Result X E) (answers_ok : Bool) (Became : Accounts → Accounts → Type 0) → KeepsTables a b r → (IsTrue answers_ok → HasCleanDisk b → IsTrue b.is_open)
       → (HasCleanDisk b → (accounts : Accounts) → HasAccounts a accounts → Became accounts accounts) → MovesMail user folder Grew answers_ok Became a b
   read_alone a b r answers_ok Became keeps opens became = record {
     carries = λ clean accounts shown. (accounts, became clean accounts shown, accounts_stay a b (glanced a b r keeps) clean accounts shown);
@@ -57,14 +57,14 @@ module _ (user folder : List ℕ) (tells : Bool) (had has : List KeptMail) where
   some_first [] first is = absurd (let no = is in cc)
   some_first (message ∷ more) first is = let same : first.message ≡ message = cc in ap (λ m. m ∷ more) (sym same)
 
-  own_mail : (accounts : Accounts) (a : Account) → open_of accounts user ≡ Some a → mail_in accounts user folder ≡ messages_in a.folders folder
-  own_mail accounts a is = ap (λ o. mail_of o folder) is
+  own_mail : (accounts : Accounts) (a : Account) → open_account_of accounts user ≡ Some a → mail_in accounts user folder ≡ messages_in a.folders folder
+  own_mail accounts a is = ap (λ o. folder_mail o folder) is
 
   -- nothing was found to move, or it couldn't be read, and nothing was kept
-  pub not_read : (a b : State) (r : Result (Option NumberedMessage) Refusal) (fault : Fault) → Reads user First a b r → Grew [] → MovesMail user folder Grew false (FirstMoved user folder Grew (Err fault)) a b
+  pub not_read : (a b : State) (r : Result (Option NumberedMessage) Refusal) (fault : RunFault) → ReadsOpenAccount user First a b r → Grew [] → MovesMail user folder Grew false (FirstMoved user folder Grew (Err fault)) a b
   not_read a b r fault reads same = read_alone a b r false (FirstMoved user folder Grew (Err fault)) reads.keeps (λ told. absurd (false≢true told)) (λ clean accounts shown. record { left = refl; kept = inl same })
 
-  module _ (a b : State) (r : Result (Option NumberedMessage) Refusal) (first : Option NumberedMessage) (was : r ≡ Ok first) (reads : Reads user First a b r) where
+  module _ (a b : State) (r : Result (Option NumberedMessage) Refusal) (first : Option NumberedMessage) (was : r ≡ Ok first) (reads : ReadsOpenAccount user First a b r) where
     found : HasCleanDisk b → (accounts : Accounts) → HasAccounts a accounts → OfOpen accounts user (First first)
     found clean accounts shown =
         subst (λ q. IfOk q (λ x. OfOpen accounts user (First x))) was (reads.found clean accounts (read_shows a b r first was reads.keeps clean accounts shown).0)
@@ -77,7 +77,7 @@ module _ (user folder : List ℕ) (tells : Bool) (had has : List KeptMail) where
         (record { left = refl; kept = same }, none))
 
     module _ (message : NumberedMessage) (is : first ≡ Some message) (numbered : ReadsOwn user (IsFirstOf user folder) a b r) where
-      told_first : HasCleanDisk b → (accounts : Accounts) → HasAccounts a accounts → IsFirst user folder message
+      told_first : HasCleanDisk b → (accounts : Accounts) → HasAccounts a accounts → IsFirstMessage user folder message
       told_first clean accounts shown =
           let (tables, held, shows) = (read_shows a b r first was reads.keeps clean accounts shown).0 in
           (tables, accounts, shows, subst (λ q. IfOk q (λ x. IsFirstOf user folder x (rows_of user tables))) (was ∙ ap Ok is) (numbered.found clean tables held))
@@ -88,7 +88,7 @@ module _ (user folder : List ℕ) (tells : Bool) (had has : List KeptMail) where
           (drop 1 (messages_in own.0.folders folder), own_mail accounts own.0 own.1 ∙ some_first (messages_in own.0.folders folder) message (subst (λ f. First f own.0) is own.2).message)
 
       -- the sink refused it
-      pub not_kept : (fault : Fault) → (IsTrue tells → MayKeep had (kept_mail user folder message.number message.message message.flags) has) → MovesMail user folder Grew false (FirstMoved user folder Grew (Err fault)) a b
+      pub not_kept : (fault : RunFault) → (IsTrue tells → MayKeep had (kept_mail user folder message.number message.message message.flags) has) → MovesMail user folder Grew false (FirstMoved user folder Grew (Err fault)) a b
       not_kept fault may = read_alone a b r false (FirstMoved user folder Grew (Err fault)) reads.keeps (λ told. absurd (false≢true told))
           (λ clean accounts shown.
           let mail = is_first clean accounts shown in
@@ -98,7 +98,7 @@ module _ (user folder : List ℕ) (tells : Bool) (had has : List KeptMail) where
         before : HasCleanDisk c → HasCleanDisk b
         before = clean_before b c (CrashLeavesAccounts (HasUser user) (λ all. with_user all user (takes_mail folder 1)) b) writes.crash
 
-        is_kept : IsFirst user folder message → (mail : List (List ℕ)) (more : List (List ℕ)) → mail ≡ message.message ∷ more → Grew (take 1 mail)
+        is_kept : IsFirstMessage user folder message → (mail : List (List ℕ)) (more : List (List ℕ)) → mail ≡ message.message ∷ more → Grew (take 1 mail)
         is_kept told mail more mail_is = one_kept user folder tells had has mail message more mail_is told kept
 
         -- whatever was answered, where a crash comes the message is kept
@@ -132,13 +132,13 @@ module _ (user folder : List ℕ) (tells : Bool) (had has : List KeptMail) where
           crash = crashes;
         }
           where
-            by : (accounts later : Accounts) (more : List (List ℕ)) → mail_in accounts user folder ≡ message.message ∷ more → IsFirst user folder message → TurnsBy (λ all. MailTaking all user folder) IsTransient MailTaken accounts later
+            by : (accounts later : Accounts) (more : List (List ℕ)) → mail_in accounts user folder ≡ message.message ∷ more → IsFirstMessage user folder message → TurnsBy (λ all. MailTaking all user folder) IsTransient MailTaken accounts later
                 → Moved user folder Grew 1 accounts later
             by accounts later more mail told (inl row) = record { left = leave_one user folder accounts later row; kept = is_kept told (mail_in accounts user folder) more mail }
             by accounts later more mail told (inr refused) = absurd (let no = refused.2 in cc)
 
         -- it is there still, and kept
-        pub not_taken : (e : Refusal) (fault : Fault) → q ≡ Err e → MovesMail user folder Grew false (FirstMoved user folder Grew (Err fault)) a c
+        pub not_taken : (e : Refusal) (fault : RunFault) → q ≡ Err e → MovesMail user folder Grew false (FirstMoved user folder Grew (Err fault)) a c
         not_taken e fault refused = record {
           carries = λ clean accounts shown.
               let mail = is_first (before clean) accounts shown in
@@ -149,10 +149,10 @@ module _ (user folder : List ℕ) (tells : Bool) (had has : List KeptMail) where
           crash = crashes;
         }
           where
-            by : (accounts later : Accounts) (more : List (List ℕ)) → mail_in accounts user folder ≡ message.message ∷ more → IsFirst user folder message → TurnsBy (λ all. MailTaking all user folder) IsTransient (Refused e) accounts later
+            by : (accounts later : Accounts) (more : List (List ℕ)) → mail_in accounts user folder ≡ message.message ∷ more → IsFirstMessage user folder message → TurnsBy (λ all. MailTaking all user folder) IsTransient (Refused e) accounts later
                 → StoppedShort user folder Grew 0 accounts later
             by accounts later more mail told (inl row) = absurd (let no = has_first user folder accounts later (Refused e) message.message more mail row in cc)
-            by accounts later more mail told (inr stays) = record { left = ap world_of stays.3; kept = inr (is_kept told (mail_in accounts user folder) more mail) }
+            by accounts later more mail told (inr stays) = record { left = ap world_of_accounts stays.3; kept = inr (is_kept told (mail_in accounts user folder) more mail) }
 
 -- ---- one call, and then another
 module _ (user folder : List ℕ) (tells : Bool) (had mid has : List KeptMail) where
@@ -247,24 +247,24 @@ module _ (user folder : List ℕ) (tells : Bool) (had mid has : List KeptMail) (
   Last = GrowsBy user folder tells mid has
 
   -- the sink grew by something, whatever was answered
-  grew_first : (r : Result Bool Fault) (between later : Accounts) → FirstMoved user folder Last r between later → (more : List (List ℕ)) × Last more
+  grew_first : (r : Result Bool RunFault) (between later : Accounts) → FirstMoved user folder Last r between later → (more : List (List ℕ)) × Last more
   grew_first (Ok true) between later h = (take 1 (mail_in between user folder), h.kept)
   grew_first (Ok false) between later h = (take 0 (mail_in between user folder), h.0.kept)
   grew_first (Err fault) between later h = elim h.kept [ inl g ↦ (take 0 (mail_in between user folder), g) | inr g ↦ (take 1 (mail_in between user folder), g) ]
 
-  step : (r : Result Bool Fault) (Became : Accounts → Accounts → Type 0)
+  step : (r : Result Bool RunFault) (Became : Accounts → Accounts → Type 0)
       → ((accounts between later : Accounts) → Moved user folder (GrowsBy user folder tells had mid) count accounts between → FirstMoved user folder Last r between later → Became accounts later)
       → MovesMail user folder Last (is_ok r) (FirstMoved user folder Last r) b c → MovesMail user folder Those (is_ok r) Became a c
   step r Became became two =
       moves_then user folder tells had mid has a b c (is_ok r) (Moved user folder (GrowsBy user folder tells had mid) count) (FirstMoved user folder Last r) Became count (λ accounts between h. h) (grew_first r) became one two
 
-  pub one_more : (r : Result Bool Fault) → r ≡ Ok true → MovesMail user folder Last (is_ok r) (FirstMoved user folder Last r) b c → MovesMail user folder Those true (Moved user folder Those (count + 1)) a c
+  pub one_more : (r : Result Bool RunFault) → r ≡ Ok true → MovesMail user folder Last (is_ok r) (FirstMoved user folder Last r) b c → MovesMail user folder Those true (Moved user folder Those (count + 1)) a c
   one_more r is two =
       step (Ok true) (Moved user folder Those (count + 1)) (λ accounts between later h k. moved_then user folder tells had mid has count 1 accounts between later h k)
       (subst (λ q. MovesMail user folder Last (is_ok q) (FirstMoved user folder Last q) b c) is two)
 
   -- none is left
-  pub no_more : (r : Result Bool Fault) (most : ℕ) → r ≡ Ok false → count < most → MovesMail user folder Last (is_ok r) (FirstMoved user folder Last r) b c
+  pub no_more : (r : Result Bool RunFault) (most : ℕ) → r ≡ Ok false → count < most → MovesMail user folder Last (is_ok r) (FirstMoved user folder Last r) b c
       → MovesMail user folder Those true (AnyMoved user folder Those most (Ok count)) a c
   no_more r most is below two =
       step (Ok false) (AnyMoved user folder Those most (Ok count))
@@ -275,7 +275,7 @@ module _ (user folder : List ℕ) (tells : Bool) (had mid has : List KeptMail) (
       })
       (subst (λ q. MovesMail user folder Last (is_ok q) (FirstMoved user folder Last q) b c) is two)
 
-  pub stops : (r : Result Bool Fault) (fault told : Fault) (most : ℕ) → r ≡ Err fault → count < most → MovesMail user folder Last (is_ok r) (FirstMoved user folder Last r) b c → MovesMail user folder Those false (AnyMoved user folder Those most (Err told)) a c
+  pub stops : (r : Result Bool RunFault) (fault told : RunFault) (most : ℕ) → r ≡ Err fault → count < most → MovesMail user folder Last (is_ok r) (FirstMoved user folder Last r) b c → MovesMail user folder Those false (AnyMoved user folder Those most (Err told)) a c
   stops r fault told most is below two =
       step (Err fault) (AnyMoved user folder Those most (Err told))
       (λ accounts between later h k. (count, subst (λ n. StoppedShort user folder Those n accounts later) (add-zero count) (stopped_then user folder tells had mid has count 0 accounts between later h k), omega arith))
@@ -310,7 +310,7 @@ most_moved user folder Grew most count a b is moves =
 -- ---- a user whose account was looked for first
 
 -- a refusal that may pass says nothing of the user
-transient_user : (fault : Fault) → status_of fault ≡ 75 → (q : Result ℕ Fault) → q ≡ Err fault → q ≡ Err no_user → ⊥
+transient_user : (fault : RunFault) → status_of fault ≡ 75 → (q : Result ℕ RunFault) → q ≡ Err fault → q ≡ Err no_user → ⊥
 transient_user fault transient q was is =
     let same : fault ≡ no_user = cc in
     differ 67 75 refl refl (sym (ap status_of same) ∙ transient)
@@ -318,11 +318,11 @@ transient_user fault transient q was is =
     differ : (x y : ℕ) → x ≡ 67 → y ≡ 75 → x ≡ y → ⊥
     differ x y one two e = absurd (omega arith)
 
-module _ (user folder : List ℕ) (tells : Bool) (had has : List KeptMail) (most : ℕ) (a b : State) (r : Result Profile Refusal) (reads : Reads user (λ p account. p ≡ profile_of account) a b r) where
+module _ (user folder : List ℕ) (tells : Bool) (had has : List KeptMail) (most : ℕ) (a b : State) (r : Result Profile Refusal) (reads : ReadsOpenAccount user (λ p account. p ≡ profile_of account) a b r) where
   abbrev Grown : List (List ℕ) → Type 0
   Grown = GrowsBy user folder tells had has
 
-  abbrev Ended : Result ℕ Fault → Accounts → Accounts → Type 0
+  abbrev Ended : Result ℕ RunFault → Accounts → Accounts → Type 0
   Ended q accounts later = Drained user folder Grown most q accounts later × (q ≡ Err no_user → HasNoOpen user accounts)
 
   -- there is no open account, or it can't be read now
@@ -336,7 +336,7 @@ module _ (user folder : List ℕ) (tells : Bool) (had has : List KeptMail) (most
           subst (λ q. IfErr q (λ f. f ≡ NoUser → HasNoOpen user accounts)) was (reads.absent clean accounts (shown (reads.keeps.shut clean live))) absent
 
   -- the account is open, and messages were moved
-  module _ (c : State) (p : Profile) (was : r ≡ Ok p) (q : Result ℕ Fault) (transient : IfErr q (λ fault. status_of fault ≡ 75)) where
+  module _ (c : State) (p : Profile) (was : r ≡ Ok p) (q : Result ℕ RunFault) (transient : IfErr q (λ fault. status_of fault ≡ 75)) where
     abbrev Looked : Accounts → Accounts → Type 0
     Looked accounts between = Moved user folder (GrowsBy user folder tells had had) 0 accounts between × HasOpen user accounts
 
@@ -348,7 +348,7 @@ module _ (user folder : List ℕ) (tells : Bool) (had has : List KeptMail) (most
     looked = read_alone user folder tells had had a b r true Looked reads.keeps (λ told clean. subst (λ o. OnOk o (IsTrue b.is_open)) was (reads.keeps.live clean))
         (λ clean accounts shown. (record { left = refl; kept = grown_none user folder tells had }, subst IsSome (sym (entered clean accounts shown).1) refl))
 
-    grew_any : (q : Result ℕ Fault) (between later : Accounts) → AnyMoved user folder Grown most q between later → (more : List (List ℕ)) × Grown more
+    grew_any : (q : Result ℕ RunFault) (between later : Accounts) → AnyMoved user folder Grown most q between later → (more : List (List ℕ)) × Grown more
     grew_any (Ok count) between later h = (take count (mail_in between user folder), h.moved.kept)
     grew_any (Err fault) between later h = elim h.1.kept [ inl g ↦ (take h.0 (mail_in between user folder), g) | inr g ↦ (take (suc h.0) (mail_in between user folder), g) ]
 
@@ -356,7 +356,7 @@ module _ (user folder : List ℕ) (tells : Bool) (had has : List KeptMail) (most
     alike : (P : Accounts → Type 0) (accounts between : Accounts) → Looked accounts between → P between → P accounts
     alike P accounts between look h = subst P (none_left user folder accounts between look.0.left) h
 
-    ended : (q : Result ℕ Fault) → IfErr q (λ fault. status_of fault ≡ 75) → (accounts between later : Accounts) → Looked accounts between → AnyMoved user folder Grown most q between later → Ended q accounts later
+    ended : (q : Result ℕ RunFault) → IfErr q (λ fault. status_of fault ≡ 75) → (accounts between later : Accounts) → Looked accounts between → AnyMoved user folder Grown most q between later → Ended q accounts later
     ended (Ok count) passes accounts between later look h = ((look.1, alike (λ all. AllMoved user folder Grown most count all later) accounts between look h), λ is. absurd (let no = is in cc))
     ended (Err fault) passes accounts between later look h =
         ((h.0, alike (λ all. StoppedShort user folder Grown h.0 all later) accounts between look h.1, h.2, inr passes), λ is. absurd (transient_user fault passes (Err fault) refl is))

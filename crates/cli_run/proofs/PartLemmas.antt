@@ -5,53 +5,53 @@ use Rattle.std.proofs.lemmas.List.Concat.{flat_map-append}
 use Rattle.std.specs.FinMap.{get}
 use Rattle.std.specs.Io.KnownBytes.{Appends}
 use Rattle.std.specs.List.{flat_map}
-use Rattle.accountfiles.specs.Text.{part_line}
-use Rattle.accountfiles.specs.Writing.{HasWritten}
-use Rattle.accountfiles.specs.declared.part.Part.{Part}
-use Rattle.accountfiles.specs.declared.writing.Writer.{Writer}
-use Rattle.accountcopies.specs.Reading.{AreRead, IsNextPart}
-use Rattle.accountcopies.specs.declared.contents.Contents.{Contents}
+use Rattle.store_text.specs.Text.{part_line}
+use Rattle.store_text.specs.Writing.{HasWritten}
+use Rattle.store_text.specs.declared.part.Part.{Part}
+use Rattle.store_text.specs.declared.writing.Writer.{Writer}
+use Rattle.store_export.specs.Reading.{AreRead, IsNextPart}
+use Rattle.store_export.specs.declared.contents.Contents.{Contents}
 use Rattle.sqlite.specs.State.{State, HasCleanDisk}
-use Rattle.mailtables.proofs.ResultLemmas.{on_any}
-use Rattle.mailtables.proofs.WriteLemmas.{clean_before}
-use Rattle.mailstore.specs.Account.{Account}
-use Rattle.mailstore.specs.Promises.{Keeps, ReadsEntered}
-use Rattle.mailstore.specs.Refusals.{IsTransient}
-use Rattle.mailstore.specs.declared.refusal.Refusal.{Refusal}
-use Rattle.mailstore.proofs.KeepLemmas.{keeps_ok, keeps_refused, keeps_then, mid_shows}
-use Rattle.sessions.proofs.ActLemmas.{no_glance}
-use Rattle.sievedrun.specs.Exports.{GoOn, PutsParts, PutsSome}
-use Rattle.sievedrun.specs.Faults.{memory, IsPut, IsSudden}
-use Rattle.sievedrun.specs.declared.fault.Fault.{Fault}
-use Rattle.sievedrun.specs.declared.fault.Fault.TheVariants.{Refused}
-use Rattle.sievedrun.proofs.StreamLemmas.{front_on, nothing_written, put_then, written_on}
-use Rattle.sievedrun.proofs.WordLemmas.{sudden_refusal}
+use Rattle.store_tables.proofs.ResultLemmas.{on_any}
+use Rattle.store_tables.proofs.WriteLemmas.{clean_before}
+use Rattle.store_accounts.specs.Account.{Account}
+use Rattle.store_accounts.specs.Promises.{KeepsTables, ReadsEntered}
+use Rattle.store_accounts.specs.Refusals.{IsTransient}
+use Rattle.store_accounts.specs.declared.refusal.Refusal.{Refusal}
+use Rattle.store_accounts.proofs.KeepLemmas.{keeps_ok, keeps_refused, keeps_then, mid_shows}
+use Rattle.managesieve_sessions.proofs.ActLemmas.{no_glance}
+use Rattle.cli_run.specs.Exports.{PartsGoOn, PutsParts, PutsSome}
+use Rattle.cli_run.specs.Faults.{memory, IsTextPut, IsSudden}
+use Rattle.cli_run.specs.declared.fault.RunFault.{RunFault}
+use Rattle.cli_run.specs.declared.fault.RunFault.TheVariants.{Refused}
+use Rattle.cli_run.proofs.StreamLemmas.{front_on, nothing_written, put_then, written_on}
+use Rattle.cli_run.proofs.WordLemmas.{sudden_refusal}
 
 -- ---- texts
 
 -- one after another
-some_then : (a b c : Option (List ℕ)) (first text : List ℕ) (r : Result (Unit {0}) Fault) → Appends a b first → PutsSome r b c text → PutsSome r a c (first ++ text)
+some_then : (a b c : Option (List ℕ)) (first text : List ℕ) (r : Result (Unit {0}) RunFault) → Appends a b first → PutsSome r b c text → PutsSome r a c (first ++ text)
 some_then a b c first text (Ok done) one two = written_on a b c first text one two
 some_then a b c first text (Err fault) one (inl sudden) = inl (sudden.0, front_on a b c first text one sudden.1)
 some_then a b c first text (Err fault) one (inr cut) = inr (put_then a b c first text (Err fault) one cut)
 
 -- of a text that was put, or cut
-put_some : (a b : Option (List ℕ)) (text : List ℕ) (r : Result (Unit {0}) Fault) → IsPut r a b text → PutsSome r a b text
+put_some : (a b : Option (List ℕ)) (text : List ℕ) (r : Result (Unit {0}) RunFault) → IsTextPut r a b text → PutsSome r a b text
 put_some a b text (Ok done) put = put
 put_some a b text (Err fault) put = inr put
 
 -- nothing was put
-none_put : (a : Option (List ℕ)) (fault : Fault) (r : Result (Unit {0}) Fault) → r ≡ Err fault → IsSudden ⊥ fault → PutsSome r a a []
+none_put : (a : Option (List ℕ)) (fault : RunFault) (r : Result (Unit {0}) RunFault) → r ≡ Err fault → IsSudden ⊥ fault → PutsSome r a a []
 none_put a fault r is sudden = subst (λ o. PutsSome o a a []) (sym is) (inl (sudden, (0, nothing_written a)))
 
 -- ---- a part
 
 module _ (contents : Contents) (at until : ℕ) (begun ended : Writer) (out : Option (List ℕ)) (old new : State) where
   -- of no part
-  none_more : GoOn contents at [] old
+  none_more : PartsGoOn contents at [] old
   none_more accounts p a has early first are = subst (λ l. AreRead contents l old.now a) (sym (append-nil early)) are
 
-  none_parts : (r : Result (Unit {0}) Fault) (fault : Fault) → r ≡ Err fault → IsSudden ⊥ fault → Keeps old new r → PutsParts contents at until begun ended out out old new r
+  none_parts : (r : Result (Unit {0}) RunFault) (fault : RunFault) → r ≡ Err fault → IsSudden ⊥ fault → KeepsTables old new r → PutsParts contents at until begun ended out out old new r
   none_parts r fault is sudden keeps = record {
     keeps = keeps;
     parts = [];
@@ -62,19 +62,19 @@ module _ (contents : Contents) (at until : ℕ) (begun ended : Writer) (out : Op
   }
 
   -- it couldn't be read
-  pub part_unread : (user : List ℕ) (P : Part → Account → Type 0) (q : Result Part Refusal) (e : Refusal) → q ≡ Err e → ReadsEntered user P old new q → (r : Result (Unit {0}) Fault) → r ≡ Err (Refused e) → PutsParts contents at until begun ended out out old new r
+  pub part_unread : (user : List ℕ) (P : Part → Account → Type 0) (q : Result Part Refusal) (e : Refusal) → q ≡ Err e → ReadsEntered user P old new q → (r : Result (Unit {0}) RunFault) → r ≡ Err (Refused e) → PutsParts contents at until begun ended out out old new r
   part_unread user P q e is reads r told =
       none_parts r (Refused e) told (sudden_refusal ⊥ e (subst (λ o. IfErr o IsTransient) is reads.named)) (keeps_refused old new q (Refused e) r told reads.keeps)
 
   -- there was no memory for its line
-  pub part_unput : (user : List ℕ) (P : Part → Account → Type 0) (q : Result Part Refusal) (part : Part) → q ≡ Ok part → ReadsEntered user P old new q → (r : Result (Unit {0}) Fault) → r ≡ Err memory → PutsParts contents at until begun ended out out old new r
+  pub part_unput : (user : List ℕ) (P : Part → Account → Type 0) (q : Result Part Refusal) (part : Part) → q ≡ Ok part → ReadsEntered user P old new q → (r : Result (Unit {0}) RunFault) → r ≡ Err memory → PutsParts contents at until begun ended out out old new r
   part_unput user P q part is reads r told = none_parts r memory told (inl refl) (keeps_ok old new q part r is reads.keeps)
 
 -- its line was put, or cut
 module _ (contents : Contents) (at : ℕ) (begun ended : Writer) (out_old out_new : Option (List ℕ)) (old new : State) where
   pub part_put : (q : Result Part Refusal) (part : Part) → q ≡ Ok part → ReadsEntered contents.head.owner.name (λ p a. IsNextPart contents at p old.now a) old new q
       → (line : List ℕ) → line ≡ part_line part → ((text : List ℕ) → HasWritten begun text → HasWritten ended (text ++ part_line part))
-      → (r : Result (Unit {0}) Fault) → IsPut r out_old out_new line → PutsParts contents at (at + 1) begun ended out_old out_new old new r
+      → (r : Result (Unit {0}) RunFault) → IsTextPut r out_old out_new line → PutsParts contents at (at + 1) begun ended out_old out_new old new r
   part_put q part is reads line spelled hashed r put = record {
     keeps = keeps_ok old new q part r is reads.keeps;
     parts = part ∷ [];
@@ -83,7 +83,7 @@ module _ (contents : Contents) (at : ℕ) (begun ended : Writer) (out_old out_ne
         let found = subst (λ o. IfOk o (λ x. IfSome (get accounts contents.head.owner.name) (λ b. IsNextPart contents at x old.now b))) is (reads.found clean accounts p) in
         let next : IsNextPart contents at part old.now a = subst (λ o. IfSome o (λ b. IsNextPart contents at part old.now b)) has found in
         next early first are;
-    put = put_some out_old out_new (flat_map part_line (part ∷ [])) r (subst (IsPut r out_old out_new) (spelled ∙ sym (append-nil (part_line part))) put);
+    put = put_some out_old out_new (flat_map part_line (part ∷ [])) r (subst (IsTextPut r out_old out_new) (spelled ∙ sym (append-nil (part_line part))) put);
     hashed = on_any r _ (λ text h. subst (λ l. HasWritten ended (text ++ l)) (sym (append-nil (part_line part))) (hashed text h));
   }
 
@@ -103,23 +103,23 @@ module _ (contents : Contents) where
         hashed = λ text h. subst (HasWritten writer) (sym (append-nil text)) h;
       }
 
-  module _ (from mid until : ℕ) (w0 w1 w2 : Writer) (o0 o1 o2 : Option (List ℕ)) (s0 s1 s2 : State) (early : PutsParts contents from mid w0 w1 o0 o1 s0 s1 (Ok tt)) (r : Result (Unit {0}) Fault) (late : PutsParts contents mid until w1 w2 o1 o2 s1 s2 r) where
+  module _ (from mid until : ℕ) (w0 w1 w2 : Writer) (o0 o1 o2 : Option (List ℕ)) (s0 s1 s2 : State) (early : PutsParts contents from mid w0 w1 o0 o1 s0 s1 (Ok tt)) (r : Result (Unit {0}) RunFault) (late : PutsParts contents mid until w1 w2 o1 o2 s1 s2 r) where
     abbrev all_parts : List Part
     all_parts = early.parts ++ late.parts
 
     spelled : flat_map part_line early.parts ++ flat_map part_line late.parts ≡ flat_map part_line all_parts
     spelled = sym (flat_map-append part_line early.parts late.parts)
 
-    counted : (q : Result (Unit {0}) Fault) → OnOk q (mid + length late.parts ≡ until) → OnOk q (from + length all_parts ≡ until)
+    counted : (q : Result (Unit {0}) RunFault) → OnOk q (mid + length late.parts ≡ until) → OnOk q (from + length all_parts ≡ until)
     counted (Ok done) is = omega (arith, is, length-append early.parts late.parts, early.all)
     counted (Err fault) is = tt
 
-    hashes : (q : Result (Unit {0}) Fault) → OnOk q ((text : List ℕ) → HasWritten w1 text → HasWritten w2 (text ++ flat_map part_line late.parts)) → OnOk q ((text : List ℕ) → HasWritten w0 text → HasWritten w2 (text ++ flat_map part_line all_parts))
+    hashes : (q : Result (Unit {0}) RunFault) → OnOk q ((text : List ℕ) → HasWritten w1 text → HasWritten w2 (text ++ flat_map part_line late.parts)) → OnOk q ((text : List ℕ) → HasWritten w0 text → HasWritten w2 (text ++ flat_map part_line all_parts))
     hashes (Ok done) two = λ text h.
         subst (HasWritten w2) (append_assoc text (flat_map part_line early.parts) (flat_map part_line late.parts) ∙ ap (λ l. text ++ l) spelled) (two (text ++ flat_map part_line early.parts) (early.hashed text h))
     hashes (Err fault) two = tt
 
-    reads : HasCleanDisk s2 → GoOn contents from all_parts s0
+    reads : HasCleanDisk s2 → PartsGoOn contents from all_parts s0
     reads clean accounts p a has first len are =
         let before = clean_before s1 s2 _ late.keeps.crash clean in
         let now = (early.keeps.same before (p.0, p.1)).now_is (early.keeps.live before) in
@@ -140,7 +140,7 @@ module _ (contents : Contents) where
     }
 
     -- it broke off there, wherever it was to end
-    pub parts_stopped : (end : ℕ) (fault : Fault) → r ≡ Err fault → (q : Result (Unit {0}) Fault) → q ≡ Err fault → PutsParts contents from end w0 w2 o0 o2 s0 s2 q
+    pub parts_stopped : (end : ℕ) (fault : RunFault) → r ≡ Err fault → (q : Result (Unit {0}) RunFault) → q ≡ Err fault → PutsParts contents from end w0 w2 o0 o2 s0 s2 q
     parts_stopped end fault is q told =
         let h = subst (PutsParts contents from until w0 w2 o0 o2 s0 s2) is parts_then in
         subst (PutsParts contents from end w0 w2 o0 o2 s0 s2) (sym told) (record { keeps = h.keeps; parts = h.parts; all = tt; read = h.read; put = h.put; hashed = tt })

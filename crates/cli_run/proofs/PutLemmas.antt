@@ -2,29 +2,29 @@
 use Rattle.std.proofs.Common.{◌≡◌, ◌⊎◌, ◌++◌, ℕ, List, Bool, codes, Option, Some, None, Result, Ok, Err, refl, sym, subst, inl, inr}
 use Rattle.std.specs.FinMap.{get}
 use Rattle.sqlite.specs.Effect.{Database}
-use Rattle.mailstore.specs.Account.{Account, Accounts, open_one}
-use Rattle.mailstore.specs.declared.refusal.Refusal.{Refusal}
-use Rattle.mailstore.specs.declared.refusal.Refusal.TheVariants.{NoUser, BadScriptName, ScriptTooLarge, TooManyScripts}
-use Rattle.sievelex.specs.declared.fault.ScriptFault.{ScriptFault}
-use Rattle.sessions.specs.Scripts.{Where, IsValid}
-use Rattle.mailengine.specs.declared.answer.Answer.{Answer}
-use Rattle.mailengine.specs.declared.answer.Answer.TheVariants as answer
-use Rattle.mailengine.specs.declared.event.Event.{Event}
-use Rattle.mailengine.specs.declared.event.Event.TheVariants.{Keep}
-use Rattle.mailengine.specs.declared.upkeep.Upkeep.{Upkeep}
-use Rattle.mailengine.specs.declared.upkeep.Upkeep.TheVariants as upkeep
-use Rattle.mailengine.specs.Hosts.{TurnsBy, MayRefuseKeeping}
-use Rattle.mailengine.specs.Upkeep.{Alters, InAccount, Keeps, Keeping, Stores, TellsFault, put_instead, stores}
-use Rattle.mailengine.specs.World.{Next}
-use Rattle.mailengine.proofs.HostLemmas.{keeping_may}
-use Rattle.reportlines.specs.Reports.{with_end}
-use Rattle.sievedrun.specs.declared.fault.Fault.{Fault}
-use Rattle.sievedrun.specs.declared.fault.Fault.TheVariants.{Refused}
-use Rattle.sievedrun.specs.Draining.{TurnsTables}
-use Rattle.sievedrun.specs.Promise.{world_of}
-use Rattle.sievedrun.specs.Streams.{InputFailed}
-use Rattle.sievedrun.specs.Words.{DoesEvent, DoesPut, Finishes, IsStoredBy, Makes, Puts, PutsScript, RefusesScript, TellsVerdict, script_of}
-use Rattle.sievedrun.proofs.WordLemmas.{event_made, next_by, refused_by, turned_wider, put_denied, stays_turned, denied}
+use Rattle.store_accounts.specs.Account.{Account, Accounts, open_one}
+use Rattle.store_accounts.specs.declared.refusal.Refusal.{Refusal}
+use Rattle.store_accounts.specs.declared.refusal.Refusal.TheVariants.{NoUser, BadScriptName, ScriptTooLarge, TooManyScripts}
+use Rattle.sieve_lex.specs.declared.fault.ScriptFault.{ScriptFault}
+use Rattle.managesieve_sessions.specs.Scripts.{IfElse, IsValidScript}
+use Rattle.store_engine.specs.declared.answer.Answer.{Answer}
+use Rattle.store_engine.specs.declared.answer.Answer.TheVariants as answer
+use Rattle.store_engine.specs.declared.event.Event.{Event}
+use Rattle.store_engine.specs.declared.event.Event.TheVariants.{Keep}
+use Rattle.store_engine.specs.declared.upkeep.Upkeep.{Upkeep}
+use Rattle.store_engine.specs.declared.upkeep.Upkeep.TheVariants as upkeep
+use Rattle.store_engine.specs.Hosts.{TurnsBy, MayRefuseKeeping}
+use Rattle.store_engine.specs.Upkeep.{Alters, InAccount, DoesUpkeep, Keeping, Stores, AnswersFault, put_instead, stores}
+use Rattle.store_engine.specs.World.{Next}
+use Rattle.store_engine.proofs.HostLemmas.{keeping_may}
+use Rattle.cli_reports.specs.Reports.{ended_line}
+use Rattle.cli_run.specs.declared.fault.RunFault.{RunFault}
+use Rattle.cli_run.specs.declared.fault.RunFault.TheVariants.{Refused}
+use Rattle.cli_run.specs.Draining.{TurnsTables}
+use Rattle.cli_run.specs.Promise.{world_of_accounts}
+use Rattle.cli_run.specs.Streams.{InputFailed}
+use Rattle.cli_run.specs.Subcommands.{DoesEvent, DoesPut, FinishesPrinted, IsStoredBy, MakesEvent, Puts, PutsScript, RefusesScript, TellsVerdict, script_of}
+use Rattle.cli_run.proofs.WordLemmas.{event_made, next_by, refused_by, turned_wider, put_denied, stays_turned, denied}
 
 -- it was stored; or the answer is a fault of the text, or a refusal, with which nothing changes
 abbrev Comes : Answer → Option Account → Type 0
@@ -36,17 +36,17 @@ module _ (name text : List ℕ) (activate : Bool) where
   comes_in None said change h = inr (inr (NoUser, h.says, h.stays))
   comes_in (Some a) said change (inl h) = go h.1
     where
-      go : Where (IsValid text) (Alters answer.Stored (stores name text activate a) said change) (TellsFault text said change) → Comes said change
+      go : IfElse (IsValidScript text) (Alters answer.Stored (stores name text activate a) said change) (AnswersFault text said change) → Comes said change
       go (inl valid) = inl valid.1.says
       go (inr told) = inr (inl (told.1.0, told.1.2.says, told.1.2.stays))
   comes_in (Some a) said change (inr h) = inr (inr (TooManyScripts, h.1.says, h.1.stays))
 
-  comes : (o : Option Account) (said : Answer) (change : Option Account) → Keeps (upkeep.StoreScript name text activate) o said change → Comes said change
+  comes : (o : Option Account) (said : Answer) (change : Option Account) → DoesUpkeep (upkeep.StoreScript name text activate) o said change → Comes said change
   comes o said change (inl (named, inl h)) = comes_in (open_one o) said change h.1
   comes o said change (inl (named, inr h)) = inr (inr (ScriptTooLarge, h.1.says, h.1.stays))
   comes o said change (inr h) = inr (inr (BadScriptName, h.1.says, h.1.stays))
 
-module _ (Denied : Fault → Type 0) (user name text : List ℕ) (activate : Bool) where
+module _ (Denied : RunFault → Type 0) (user name text : List ℕ) (activate : Bool) where
   abbrev act : Upkeep
   act = upkeep.StoreScript name text activate
 
@@ -82,36 +82,36 @@ module _ (Denied : Fault → Type 0) (user name text : List ℕ) (activate : Boo
       elim (comes name text activate (get accounts user) said row.0 row.1) [ inl is ↦ is | inr more ↦ elim more [ inl told ↦ absurd (valid told.0 told.1) | inr is ↦ absurd (unrefused is.0 is.1) ] ]
   stored_so accounts later said unrefused valid (inr h) = absurd (unrefused h.0 h.2)
 
-  next : (said : Answer) (accounts later : Accounts) → TurnsBy StoreRow StoreMay said accounts later → Next (world_of accounts) (Keep user act) said (world_of later)
-  next said accounts later turned = next_by (Keep user act) StoreRow StoreMay (λ all then answered row. (then, row, refl)) (λ all. keeping_may user act (world_of all)) kept_same said accounts later turned
+  next : (said : Answer) (accounts later : Accounts) → TurnsBy StoreRow StoreMay said accounts later → Next (world_of_accounts accounts) (Keep user act) said (world_of_accounts later)
+  next said accounts later turned = next_by (Keep user act) StoreRow StoreMay (λ all then answered row. (then, row, refl)) (λ all. keeping_may user act (world_of_accounts all)) kept_same said accounts later turned
 
   -- the script, put to the machine
-  pub stored_put : (said : Answer) (r : Result (Option ScriptFault) Fault) → IsStoredBy said r → (accounts later : Accounts) → TurnsBy StoreRow StoreMay said accounts later → PutsScript Denied user act r accounts later
+  pub stored_put : (said : Answer) (r : Result (Option ScriptFault) RunFault) → IsStoredBy said r → (accounts later : Accounts) → TurnsBy StoreRow StoreMay said accounts later → PutsScript Denied user act r accounts later
   stored_put (answer.Refused refusal) r is accounts later turned =
       subst (λ o. PutsScript Denied user act o accounts later) (sym is)
-      (refused_by (Keep user act) StoreRow StoreMay (λ all then said row. (then, row, refl)) (λ all. keeping_may user act (world_of all)) kept_same {X = Unit {0}} Denied (λ done. answer.Stored) refusal accounts later turned)
+      (refused_by (Keep user act) StoreRow StoreMay (λ all then said row. (then, row, refl)) (λ all. keeping_may user act (world_of_accounts all)) kept_same {X = Unit {0}} Denied (λ done. answer.Stored) refusal accounts later turned)
   stored_put (answer.Invalid fault) r is accounts later turned =
       let same = fault_same accounts later fault turned in
-      subst (λ o. PutsScript Denied user act o accounts later) (sym is) (same, subst (λ all. Next (world_of accounts) (Keep user act) (answer.Invalid fault) (world_of all)) same (next (answer.Invalid fault) accounts later turned))
+      subst (λ o. PutsScript Denied user act o accounts later) (sym is) (same, subst (λ all. Next (world_of_accounts accounts) (Keep user act) (answer.Invalid fault) (world_of_accounts all)) same (next (answer.Invalid fault) accounts later turned))
   stored_put said r is accounts later turned =
       subst (λ o. PutsScript Denied user act o accounts later) (sym is)
-      (subst (λ a. Next (world_of accounts) (Keep user act) a (world_of later)) (stored_so accounts later said (λ refusal e. let no = e in cc) (λ fault e. let no = e in cc) turned) (next said accounts later turned))
+      (subst (λ a. Next (world_of_accounts accounts) (Keep user act) a (world_of_accounts later)) (stored_so accounts later said (λ refusal e. let no = e in cc) (λ fault e. let no = e in cc) turned) (next said accounts later turned))
 
 -- no store was given out
-pub script_denied : (Denied : Fault → Type 0) (user : List ℕ) (act : Upkeep) (fault : Fault) (r : Result (Option ScriptFault) Fault) → r ≡ Err fault → Denied fault → (held new : Database) → new ≡ held → TurnsTables (PutsScript Denied user act r) held new
+pub script_denied : (Denied : RunFault → Type 0) (user : List ℕ) (act : Upkeep) (fault : RunFault) (r : Result (Option ScriptFault) RunFault) → r ≡ Err fault → Denied fault → (held new : Database) → new ≡ held → TurnsTables (PutsScript Denied user act r) held new
 script_denied Denied user act fault r is why held new same =
     stays_turned (PutsScript Denied user act r) held new same (λ accounts. subst (λ o. PutsScript Denied user act o accounts accounts) (sym is) (refl, inl (denied ⊥ ⊥ Denied fault why (λ no. no))))
 
-module _ (Denied : Fault → Type 0) (Own : Event → Type 0) (old out : Option (List ℕ)) (held new : Database) where
+module _ (Denied : RunFault → Type 0) (Own : Event → Type 0) (old out : Option (List ℕ)) (held new : Database) where
   -- the word ended as one that is an event does
-  pub put_as_event : (r : Result (Unit {0}) Fault) → DoesEvent InputFailed ⊥ Denied Own old out r held new → DoesPut Denied Own old out r held new
+  pub put_as_event : (r : Result (Unit {0}) RunFault) → DoesEvent InputFailed ⊥ Denied Own old out r held new → DoesPut Denied Own old out r held new
   put_as_event r does = turned_wider _ _ held new (λ accounts later h. inl h) does
 
   -- it was put, and what came of that is told
-  pub put_told : (Kept : Fault → Type 0) (user name text : List ℕ) (activate : Bool) → Own (Keep user (upkeep.StoreScript name text activate)) → (verdict : Option ScriptFault) → TurnsTables (PutsScript Kept user (upkeep.StoreScript name text activate) (Ok verdict)) held new
-      → (r : Result (Unit {0}) Fault) → TellsVerdict name verdict old out r → DoesPut Denied Own old out r held new
+  pub put_told : (Kept : RunFault → Type 0) (user name text : List ℕ) (activate : Bool) → Own (Keep user (upkeep.StoreScript name text activate)) → (verdict : Option ScriptFault) → TurnsTables (PutsScript Kept user (upkeep.StoreScript name text activate) (Ok verdict)) held new
+      → (r : Result (Unit {0}) RunFault) → TellsVerdict name verdict old out r → DoesPut Denied Own old out r held new
   put_told Kept user name text activate own None put r told =
-      put_as_event r (event_made InputFailed ⊥ Denied Own {X = Unit {0}} (Keep user (upkeep.StoreScript name text activate)) own (λ done. answer.Stored) held new tt (with_end (codes "stored " ++ name)) refl put old out r told)
+      put_as_event r (event_made InputFailed ⊥ Denied Own {X = Unit {0}} (Keep user (upkeep.StoreScript name text activate)) own (λ done. answer.Stored) held new tt (ended_line (codes "stored " ++ name)) refl put old out r told)
   put_told Kept user name text activate own (Some fault) put r told =
       turned_wider (PutsScript Kept user (upkeep.StoreScript name text activate) (Ok (Some fault))) _ held new
       (λ accounts later h. inr (record { event = Keep user (upkeep.StoreScript name text activate); own = own; fault = fault; next = h.1; stays = h.0; told = told })) put

@@ -3,18 +3,18 @@ use Rattle.std.proofs.Common.{◌≡◌, ◌↔◌, Bool, true, false, IsTrue, L
 use Rattle.std.proofs.lemmas.List.{drop_more}
 use Rattle.std.proofs.lemmas.Grind.{flat_map-append}
 use Rattle.std.specs.List.{flat_map}
-use Rattle.mailstore.specs.declared.report.Report.{Report}
-use Rattle.reportlines.specs.Reports.{delivery_lines, delivery_report, file_line, notice_lines, or_discard, send_line, vacation_lines, with_end}
+use Rattle.store_accounts.specs.declared.report.Report.{Report}
+use Rattle.cli_reports.specs.Reports.{delivery_lines, delivery_report, file_line, notice_lines, or_discard, send_line, vacation_lines, ended_line}
 
 or_told : (lines : List (List ℕ)) → (lines ≡ [] → ⊥) → or_discard lines ≡ lines
 or_told [] some = absurd (some refl)
 or_told (line ∷ more) some = refl
 
-pub told_lines : (report : Report) → (delivery_lines report ≡ [] → ⊥) → delivery_report report ≡ flat_map with_end (delivery_lines report)
-told_lines report some = ap (flat_map with_end) (or_told (delivery_lines report) some)
+pub told_lines : (report : Report) → (delivery_lines report ≡ [] → ⊥) → delivery_report report ≡ flat_map ended_line (delivery_lines report)
+told_lines report some = ap (flat_map ended_line) (or_told (delivery_lines report) some)
 
 pub told_none : (report : Report) → delivery_lines report ≡ [] → delivery_report report ≡ codes "discard\n"
-told_none report none = ap (λ lines. flat_map with_end (or_discard lines)) none
+told_none report none = ap (λ lines. flat_map ended_line (or_discard lines)) none
 
 -- one that isn't empty is told
 some_told : (told : Bool) (xs : List (List ℕ)) → told ≡ false → IsTrue told ↔ (xs ≡ []) → xs ≡ [] → ⊥
@@ -36,28 +36,28 @@ none_sent report empty is same = by report.filed report.sent (some_told empty re
     by (x ∷ xs) ys some none = let no = none in cc
 
 abbrev pub filed : Report → List ℕ
-filed report = flat_map with_end (map file_line report.filed)
+filed report = flat_map ended_line (map file_line report.filed)
 
 abbrev pub sent : Report → List ℕ
-sent report = flat_map with_end (map send_line report.sent)
+sent report = flat_map ended_line (map send_line report.sent)
 
 abbrev pub replied : Report → List ℕ
-replied report = flat_map with_end (vacation_lines report.vacation)
+replied report = flat_map ended_line (vacation_lines report.vacation)
 
 abbrev pub noticed : Report → List ℕ
-noticed report = flat_map with_end (notice_lines report.notice)
+noticed report = flat_map ended_line (notice_lines report.notice)
 
 -- folders, addresses, vacation reply and notice
-pub in_parts : (report : Report) → flat_map with_end (delivery_lines report) ≡ filed report ++ (sent report ++ (replied report ++ noticed report))
+pub in_parts : (report : Report) → flat_map ended_line (delivery_lines report) ≡ filed report ++ (sent report ++ (replied report ++ noticed report))
 in_parts report =
-    flat_map-append with_end (map file_line report.filed) (map send_line report.sent ++ (vacation_lines report.vacation ++ notice_lines report.notice))
-    ∙ ap (λ l. filed report ++ l) (flat_map-append with_end (map send_line report.sent) (vacation_lines report.vacation ++ notice_lines report.notice)
-    ∙ ap (λ l. sent report ++ l) (flat_map-append with_end (vacation_lines report.vacation) (notice_lines report.notice)))
+    flat_map-append ended_line (map file_line report.filed) (map send_line report.sent ++ (vacation_lines report.vacation ++ notice_lines report.notice))
+    ∙ ap (λ l. filed report ++ l) (flat_map-append ended_line (map send_line report.sent) (vacation_lines report.vacation ++ notice_lines report.notice)
+    ∙ ap (λ l. sent report ++ l) (flat_map-append ended_line (vacation_lines report.vacation) (notice_lines report.notice)))
 
 -- one line more of those that are left
-pub line_more : (word item text front all : List ℕ) (texts : List (List ℕ)) (i : ℕ) → i < length texts → item ≡ get_or texts i item → text ≡ item → front ++ flat_map with_end (map (λ t. word ++ t) (drop i texts)) ≡ all
-    → (front ++ with_end (word ++ text)) ++ flat_map with_end (map (λ t. word ++ t) (drop (i + 1) texts)) ≡ all
+pub line_more : (word item text front all : List ℕ) (texts : List (List ℕ)) (i : ℕ) → i < length texts → item ≡ get_or texts i item → text ≡ item → front ++ flat_map ended_line (map (λ t. word ++ t) (drop i texts)) ≡ all
+    → (front ++ ended_line (word ++ text)) ++ flat_map ended_line (map (λ t. word ++ t) (drop (i + 1) texts)) ≡ all
 line_more word item text front all texts i below is same whole =
-    append_assoc front (with_end (word ++ text)) (flat_map with_end (map (λ t. word ++ t) (drop (i + 1) texts)))
-    ∙ ap (λ l. front ++ flat_map with_end (map (λ t. word ++ t) l)) (sym (drop_more texts i item below ∙ ap (λ t. t ∷ drop (i + 1) texts) (sym (same ∙ is))))
+    append_assoc front (ended_line (word ++ text)) (flat_map ended_line (map (λ t. word ++ t) (drop (i + 1) texts)))
+    ∙ ap (λ l. front ++ flat_map ended_line (map (λ t. word ++ t) l)) (sym (drop_more texts i item below ∙ ap (λ t. t ∷ drop (i + 1) texts) (sym (same ∙ is))))
     ∙ whole

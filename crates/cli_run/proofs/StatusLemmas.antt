@@ -1,13 +1,13 @@
 -- Exit statuses.
 use Rattle.std.proofs.Common.{◌≡◌, ◌<◌, lit<, Result, Ok, Err, OnOk, arith}
-use Rattle.mailstore.specs.declared.refusal.Refusal.TheVariants as refusal
-use Rattle.sievedrun.specs.declared.fault.Fault.{Fault}
-use Rattle.sievedrun.specs.declared.fault.Fault.TheVariants.{Refused, Busy, Stream, NoMessage, NoMaildir, NoScript, Invalid, BadInput, BadArgument}
-use Rattle.sievedrun.specs.Faults.{status_of}
-use Rattle.sievedrun.specs.Promise.{status_after}
+use Rattle.store_accounts.specs.declared.refusal.Refusal.TheVariants as refusal
+use Rattle.cli_run.specs.declared.fault.RunFault.{RunFault}
+use Rattle.cli_run.specs.declared.fault.RunFault.TheVariants.{Refused, Busy, Stream, NoMessage, NoMaildir, NoScript, Invalid, BadInput, BadArgument}
+use Rattle.cli_run.specs.Faults.{status_of}
+use Rattle.cli_run.specs.Promise.{status_after}
 
 -- no fault has the status of what was done
-pub status_some : (fault : Fault) → 0 < status_of fault
+pub status_some : (fault : RunFault) → 0 < status_of fault
 status_some (Refused refusal.Memory) = lit< tt
 status_some (Refused refusal.Store) = lit< tt
 status_some (Refused refusal.NotOurs) = lit< tt
@@ -35,6 +35,6 @@ status_some BadInput = lit< tt
 status_some BadArgument = lit< tt
 
 -- so what was done alone has it
-pub done_so : {X : Type 0} (r : Result X Fault) (P : Type 0) → OnOk r P → status_after r ≡ 0 → P
+pub done_so : {X : Type 0} (r : Result X RunFault) (P : Type 0) → OnOk r P → status_after r ≡ 0 → P
 done_so (Ok x) P p is = p
 done_so (Err fault) P p is = absurd (omega (arith, status_some fault, is))

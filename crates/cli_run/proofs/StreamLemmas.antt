@@ -3,10 +3,10 @@ use Rattle.std.proofs.Common.{◌≡◌, ℕ, ◌+◌, List, Result, Ok, Err, On
 use Rattle.std.proofs.Math.Seq.{take-add, take-append_seam, take-append-add}
 use Rattle.std.proofs.lemmas.List.{take-append-drop}
 use Rattle.std.specs.Io.KnownBytes.{Appends, Consumes, Keeps}
-use Rattle.sievedrun.specs.Streams.{AppendsFront, InTurn, IsWritten, ReadsAllOrNone, ReadsToEnd}
-use Rattle.sievedrun.specs.Streams.InTurn.{one_more}
-use Rattle.sievedrun.specs.Faults.{IsPut, IsPrinted}
-use Rattle.sievedrun.specs.declared.fault.Fault.{Fault}
+use Rattle.cli_run.specs.Streams.{AppendsFront, InTurn, IsWritten, ReadsAllOrNone, ReadsToEnd}
+use Rattle.cli_run.specs.Streams.InTurn.{one_more}
+use Rattle.cli_run.specs.Faults.{IsTextPut, IsPrinted}
+use Rattle.cli_run.specs.declared.fault.RunFault.{RunFault}
 
 -- ---- turns
 
@@ -82,37 +82,37 @@ front_of a b text more front =
     let n = length (take front.0 text) in
     (n, subst (Appends a b) (sym (ap (take n) (sym (ap (λ l. l ++ more) (take-append-drop front.0 text)) ∙ append_assoc (take front.0 text) (drop front.0 text) more) ∙ take-append_seam (take front.0 text) (drop front.0 text ++ more))) front.1)
 
-pub put_then : (a b c : Option (List ℕ)) (first text : List ℕ) (r : Result (Unit {0}) Fault) → IsPut (Ok tt) a b first → IsPut r b c text → IsPut r a c (first ++ text)
+pub put_then : (a b c : Option (List ℕ)) (first text : List ℕ) (r : Result (Unit {0}) RunFault) → IsTextPut (Ok tt) a b first → IsTextPut r b c text → IsTextPut r a c (first ++ text)
 put_then a b c first text (Ok done) one two = written_on a b c first text one two
 put_then a b c first text (Err fault) one two = (two.0, (front_on a b c first text one two.1.0, two.1.1))
 
-pub printed_then : (a b c : Option (List ℕ)) (first text : List ℕ) (r : Result (Unit {0}) Fault) → IsPut (Ok tt) a b first → IsPrinted r b c text → IsPrinted r a c (first ++ text)
+pub printed_then : (a b c : Option (List ℕ)) (first text : List ℕ) (r : Result (Unit {0}) RunFault) → IsTextPut (Ok tt) a b first → IsPrinted r b c text → IsPrinted r a c (first ++ text)
 printed_then a b c first text (Ok done) one two = (written_on a b c first text one two.0, two.1)
 printed_then a b c first text (Err fault) one two = (two.0, (front_on a b c first text one two.1.0, two.1.1))
 
 -- all was flushed
-pub flushed_then : (a b c : Option (List ℕ)) (text : List ℕ) (r : Result (Unit {0}) Fault) → IsPut (Ok tt) a b text → IsPrinted r b c [] → IsPrinted r a c text
+pub flushed_then : (a b c : Option (List ℕ)) (text : List ℕ) (r : Result (Unit {0}) RunFault) → IsTextPut (Ok tt) a b text → IsPrinted r b c [] → IsPrinted r a c text
 flushed_then a b c text r one two = subst (IsPrinted r a c) (append-nil text) (printed_then a b c text [] r one two)
 
 -- it broke off before what follows
-pub put_cut : (a b : Option (List ℕ)) (text more : List ℕ) (fault : Fault) (r : Result (Unit {0}) Fault) → r ≡ Err fault → IsPut (Err fault) a b text → IsPut r a b (text ++ more)
-put_cut a b text more fault r is cut = subst (λ q. IsPut q a b (text ++ more)) (sym is) (cut.0, (front_of a b text more cut.1.0, cut.1.1))
+pub put_cut : (a b : Option (List ℕ)) (text more : List ℕ) (fault : RunFault) (r : Result (Unit {0}) RunFault) → r ≡ Err fault → IsTextPut (Err fault) a b text → IsTextPut r a b (text ++ more)
+put_cut a b text more fault r is cut = subst (λ q. IsTextPut q a b (text ++ more)) (sym is) (cut.0, (front_of a b text more cut.1.0, cut.1.1))
 
-pub printed_cut_whole : (a b : Option (List ℕ)) (text : List ℕ) (fault : Fault) (r : Result (Unit {0}) Fault) → r ≡ Err fault → IsPut (Err fault) a b text → IsPrinted r a b text
+pub printed_cut_whole : (a b : Option (List ℕ)) (text : List ℕ) (fault : RunFault) (r : Result (Unit {0}) RunFault) → r ≡ Err fault → IsTextPut (Err fault) a b text → IsPrinted r a b text
 printed_cut_whole a b text fault r is cut = subst (λ q. IsPrinted q a b text) (sym is) cut
 
 -- whether or not that is asked
-pub written : (a b : Option (List ℕ)) (text : List ℕ) (r : Result (Unit {0}) Fault) → IsPrinted r a b text → IsWritten a b text
+pub written : (a b : Option (List ℕ)) (text : List ℕ) (r : Result (Unit {0}) RunFault) → IsPrinted r a b text → IsWritten a b text
 written a b text (Ok done) printed = inl printed.0
 written a b text (Err fault) printed = inr printed.1
 
 -- a text, and what follows where it was written
-pub written_then : (a b c : Option (List ℕ)) (text more : List ℕ) (r : Result (Unit {0}) Fault) → is_ok r ≡ true → IsPrinted r a b text → IsWritten b c more → IsWritten a c (text ++ more)
+pub written_then : (a b c : Option (List ℕ)) (text more : List ℕ) (r : Result (Unit {0}) RunFault) → is_ok r ≡ true → IsPrinted r a b text → IsWritten b c more → IsWritten a c (text ++ more)
 written_then a b c text more (Ok done) ok one (inl two) = inl (written_on a b c text more one.0 two)
 written_then a b c text more (Ok done) ok one (inr two) = inr (front_on a b c text more one.0 two.0, two.1)
 written_then a b c text more (Err fault) ok one two = absurd (let no = ok in cc)
 
-pub written_cut : (a b : Option (List ℕ)) (text more : List ℕ) (r : Result (Unit {0}) Fault) → is_ok r ≡ false → IsPrinted r a b text → IsWritten a b (text ++ more)
+pub written_cut : (a b : Option (List ℕ)) (text more : List ℕ) (r : Result (Unit {0}) RunFault) → is_ok r ≡ false → IsPrinted r a b text → IsWritten a b (text ++ more)
 written_cut a b text more (Ok done) failed one = absurd (let no = failed in cc)
 written_cut a b text more (Err fault) failed one = inr (front_of a b text more one.1.0, one.1.1)
 

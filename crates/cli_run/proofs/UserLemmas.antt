@@ -3,31 +3,31 @@ use Rattle.std.proofs.Common.{◌≡◌, ◌++◌, ℕ, List, [], Option, Some, 
 use Rattle.std.specs.FinMap.{entries, get}
 use Rattle.sqlite.specs.Effect.{Database}
 use Rattle.sqlite.specs.State.{State, HasCleanDisk}
-use Rattle.mailstore.specs.Account.{Account, Accounts}
-use Rattle.mailstore.specs.AccountRows.{profile_of}
-use Rattle.mailstore.specs.Opening.{IsKnown}
-use Rattle.mailstore.specs.Promises.{ReadsProfile}
-use Rattle.mailstore.specs.Refusals.{IsTransient}
-use Rattle.mailstore.specs.Shows.{Presents, OpensAs}
-use Rattle.mailstore.specs.Users.{FindsOver, IsNextUser}
-use Rattle.mailstore.specs.declared.profile.Profile.{Profile}
-use Rattle.mailstore.specs.declared.refusal.Refusal.{Refusal}
-use Rattle.mailstore.proofs.WalkLemmas.{AreLinesTo, line_more, line_where, lines_begin, over_failed, over_then, over_then_failed, profile_over}
-use Rattle.sievedrun.specs.declared.fault.Fault.{Fault}
-use Rattle.sievedrun.specs.declared.fault.Fault.TheVariants.{Refused}
-use Rattle.sievedrun.specs.Draining.{TurnsTables}
-use Rattle.sievedrun.specs.Faults.{IsHindered, IsPrinted}
-use Rattle.sievedrun.specs.Words.{AddsUser, DoesUsers, Finishes, FindsUsers, ListsUsers, found_line, line_at, user_line, user_listing}
-use Rattle.sievedrun.proofs.WordLemmas.{denied, kept_same, ours_not_none, stays_turned, transient_hinders, turned_wider}
+use Rattle.store_accounts.specs.Account.{Account, Accounts}
+use Rattle.store_accounts.specs.AccountRows.{profile_of}
+use Rattle.store_accounts.specs.Opening.{IsKnown}
+use Rattle.store_accounts.specs.Promises.{ReadsProfile}
+use Rattle.store_accounts.specs.Refusals.{IsTransient}
+use Rattle.store_accounts.specs.Shows.{Presents, OpensAs}
+use Rattle.store_accounts.specs.Users.{FindsOver, IsNextUser}
+use Rattle.store_accounts.specs.declared.profile.Profile.{Profile}
+use Rattle.store_accounts.specs.declared.refusal.Refusal.{Refusal}
+use Rattle.store_accounts.proofs.WalkLemmas.{AreLinesTo, line_more, line_where, lines_begin, over_failed, over_then, over_then_failed, profile_over}
+use Rattle.cli_run.specs.declared.fault.RunFault.{RunFault}
+use Rattle.cli_run.specs.declared.fault.RunFault.TheVariants.{Refused}
+use Rattle.cli_run.specs.Draining.{TurnsTables}
+use Rattle.cli_run.specs.Faults.{IsHindered, IsPrinted}
+use Rattle.cli_run.specs.Subcommands.{AddsUser, DoesUsers, FinishesPrinted, FindsUsers, ListsUsers, found_line, user_line_at, user_line, user_listing}
+use Rattle.cli_run.proofs.WordLemmas.{denied, kept_same, ours_not_none, stays_turned, transient_hinders, turned_wider}
 
 -- ---- one user
 
-line_same : (name : List ℕ) (o : Option Account) → line_at name o ≡ line_where user_line name o
+line_same : (name : List ℕ) (o : Option Account) → user_line_at name o ≡ line_where user_line name o
 line_same name None = refl
 line_same name (Some a) = refl
 
 -- by what the store answered of the account
-found_same : (name : List ℕ) (o : Option Account) → found_line name (option_map profile_of o) ≡ line_at name o
+found_same : (name : List ℕ) (o : Option Account) → found_line name (option_map profile_of o) ≡ user_line_at name o
 found_same name None = refl
 found_same name (Some a) = refl
 
@@ -88,7 +88,7 @@ listed_stopped old next a b c early Q q late r none = over_then_failed (Listed o
 
 -- a store that saw what `open` makes of what was held, and was handed back, open and over a disk that keeps what is written
 module _ (held new : Database) (taken given : State) (opened : OpensAs held taken.now) (ours : IsKnown held) (clean : HasCleanDisk given) (live : IsTrue given.is_open) (back : new ≡ given.now) where
-  pub over_turned : (Denied : Fault → Type 0) (q : Result (List ℕ) Refusal) → FindsOver AreAll taken given q → (r : Result (List ℕ) Fault) → ((accounts : Accounts) → IfOk q (λ text. AreAll text accounts) → FindsUsers Denied r accounts)
+  pub over_turned : (Denied : RunFault → Type 0) (q : Result (List ℕ) Refusal) → FindsOver AreAll taken given q → (r : Result (List ℕ) RunFault) → ((accounts : Accounts) → IfOk q (λ text. AreAll text accounts) → FindsUsers Denied r accounts)
       → TurnsTables (λ accounts later. (later ≡ accounts) × FindsUsers Denied r accounts) held new
   over_turned Denied q reads r finds = record {
     accounts = λ accounts p.
@@ -98,35 +98,35 @@ module _ (held new : Database) (taken given : State) (opened : OpensAs held take
     none = λ blank. absurd (ours_not_none held ours blank);
   }
 
-pub listing_denied : (Denied : Fault → Type 0) (fault : Fault) (r : Result (List ℕ) Fault) → r ≡ Err fault → Denied fault → (held new : Database) → new ≡ held → TurnsTables (λ accounts later. (later ≡ accounts) × FindsUsers Denied r accounts) held new
+pub listing_denied : (Denied : RunFault → Type 0) (fault : RunFault) (r : Result (List ℕ) RunFault) → r ≡ Err fault → Denied fault → (held new : Database) → new ≡ held → TurnsTables (λ accounts later. (later ≡ accounts) × FindsUsers Denied r accounts) held new
 listing_denied Denied fault r is why held new same =
     stays_turned (λ accounts later. (later ≡ accounts) × FindsUsers Denied r accounts) held new same
     (λ accounts. (refl, subst (λ o. FindsUsers Denied o accounts) (sym is) (denied ⊥ ⊥ Denied fault why (λ no. no))))
 
-pub listing_had : (Denied : Fault → Type 0) (q : Result (List ℕ) Refusal) (text : List ℕ) (r : Result (List ℕ) Fault) → q ≡ Ok text → r ≡ Ok text → (accounts : Accounts) → IfOk q (λ t. AreAll t accounts) → FindsUsers Denied r accounts
+pub listing_had : (Denied : RunFault → Type 0) (q : Result (List ℕ) Refusal) (text : List ℕ) (r : Result (List ℕ) RunFault) → q ≡ Ok text → r ≡ Ok text → (accounts : Accounts) → IfOk q (λ t. AreAll t accounts) → FindsUsers Denied r accounts
 listing_had Denied q text r is told accounts found = subst (λ o. FindsUsers Denied o accounts) (sym told) (subst (λ o. IfOk o (λ t. AreAll t accounts)) is found)
 
-pub listing_failed : (Denied : Fault → Type 0) (e : Refusal) (r : Result (List ℕ) Fault) → r ≡ Err (Refused e) → IsTransient e → (accounts : Accounts) → FindsUsers Denied r accounts
+pub listing_failed : (Denied : RunFault → Type 0) (e : Refusal) (r : Result (List ℕ) RunFault) → r ≡ Err (Refused e) → IsTransient e → (accounts : Accounts) → FindsUsers Denied r accounts
 listing_failed Denied e r told transient accounts = subst (λ o. FindsUsers Denied o accounts) (sym told) (transient_hinders ⊥ ⊥ Denied e transient)
 
 -- ---- the word
 
-module _ (Denied : Fault → Type 0) (held new : Database) where
-  abbrev Found : Result (List ℕ) Fault → Accounts → Accounts → Type 0
+module _ (Denied : RunFault → Type 0) (held new : Database) where
+  abbrev Found : Result (List ℕ) RunFault → Accounts → Accounts → Type 0
   Found r accounts later = (later ≡ accounts) × FindsUsers Denied r accounts
 
-  abbrev Ends : Option (List ℕ) → Option (List ℕ) → Result (Unit {0}) Fault → Accounts → Accounts → Type 0
-  Ends old out r = Finishes ListsUsers (λ fault accounts. IsHindered ⊥ ⊥ Denied fault) old out r
+  abbrev Ends : Option (List ℕ) → Option (List ℕ) → Result (Unit {0}) RunFault → Accounts → Accounts → Type 0
+  Ends old out r = FinishesPrinted ListsUsers (λ fault accounts. IsHindered ⊥ ⊥ Denied fault) old out r
 
   -- nothing was found
-  pub users_refused : (out : Option (List ℕ)) (fault : Fault) (r : Result (Unit {0}) Fault) → r ≡ Err fault → TurnsTables (Found (Err fault)) held new → DoesUsers Denied out out r held new
+  pub users_refused : (out : Option (List ℕ)) (fault : RunFault) (r : Result (Unit {0}) RunFault) → r ≡ Err fault → TurnsTables (Found (Err fault)) held new → DoesUsers Denied out out r held new
   users_refused out fault r is found =
       turned_wider (Found (Err fault)) (Ends out out r) held new (λ accounts later h. subst (λ o. Ends out out o accounts later) (sym is) (inl (record { cause = h.1; stays = h.0; silent = kept_same out }))) found
 
   -- all was found, and a write of it was tried
-  pub users_shown : (text : List ℕ) → TurnsTables (Found (Ok text)) held new → (old out : Option (List ℕ)) (r : Result (Unit {0}) Fault) → IsPrinted r old out text → DoesUsers Denied old out r held new
+  pub users_shown : (text : List ℕ) → TurnsTables (Found (Ok text)) held new → (old out : Option (List ℕ)) (r : Result (Unit {0}) RunFault) → IsPrinted r old out text → DoesUsers Denied old out r held new
   users_shown text found old out r printed = turned_wider (Found (Ok text)) (Ends old out r) held new (λ accounts later h. by r printed accounts later h) found
     where
-      by : (r : Result (Unit {0}) Fault) → IsPrinted r old out text → (accounts later : Accounts) → Found (Ok text) accounts later → Ends old out r accounts later
+      by : (r : Result (Unit {0}) RunFault) → IsPrinted r old out text → (accounts later : Accounts) → Found (Ok text) accounts later → Ends old out r accounts later
       by (Ok done) printed accounts later h = record { text = text; deed = record { stays = h.0; listed = h.1 }; printed = printed }
       by (Err fault) printed accounts later h = inr (record { text = text; deed = record { stays = h.0; listed = h.1 }; printed = printed })

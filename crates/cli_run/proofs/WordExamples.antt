@@ -4,26 +4,26 @@ use Prim.Native.Nat.{zero}
 use Rattle.hex.specs.Hex.{decode_pairs}
 use Rattle.octets.specs.Ascii.{is_digit}
 use Rattle.octets.specs.Decimal.{Writes}
-use Rattle.maildirs.specs.declared.separator.Separator.TheVariants.{Dot, Slash}
-use Rattle.mailsinks.specs.declared.sink.SinkError.{SinkError}
-use Rattle.mailstore.specs.Account.{Account, Accounts, Password, activates, closes, new_account, removes, row_with}
-use Rattle.mailstore.specs.Promises.{HasNoOpen}
-use Rattle.mailstore.specs.declared.queue.Outgoing.{Outgoing}
-use Rattle.mailstore.specs.declared.refusal.Refusal.{Refusal}
-use Rattle.mailstore.specs.declared.refusal.Refusal.TheVariants.{Memory}
-use Rattle.mailengine.specs.declared.answer.Answer.TheVariants as answer
-use Rattle.mailengine.specs.declared.event.Event.TheVariants.{Deliver, AddUser, TakeOut, Keep}
-use Rattle.mailengine.specs.declared.upkeep.Upkeep.TheVariants.{SetPassword, SetAddress, StoreScript}
-use Rattle.mailstore.specs.declared.notice.Notice.{Notice}
-use Rattle.sievelex.specs.declared.fault.ScriptFault.{ScriptFault}
-use Rattle.sievedrun.specs.declared.fault.Fault.TheVariants.{Refused, Stream, NoMessage, NoMaildir, Invalid, Busy}
-use Rattle.sievedrun.specs.Draining.{IsUnkept, StopsDraining}
-use Rattle.sievedrun.specs.Faults.{memory, no_user, store_failed, cause_of, told_of, troubles, IsHindered}
-use Rattle.sievedrun.specs.Streams.{IsWritten, WriteFailed}
-use Rattle.sievedrun.specs.declared.fault.Fault.{Fault}
-use Rattle.sievedrun.specs.Values.{WritesSalt, IsSalt, IsMoment, IsWhen, IsSeparator, envelope_with}
-use Rattle.sieveexec.specs.declared.when.When.{When}
-use Rattle.sievedrun.specs.Words.{Adds, Guards, IsDoneBy, IsStoredBy, Offered, said_of, DeniedAtEnd, Posts, Dequeues, Tells, TellsInvalid, HasMessage, ShowsOutgoing, notices_until, user_line}
+use Rattle.maildir_files.specs.declared.separator.Separator.TheVariants.{Dot, Slash}
+use Rattle.maildir_files.specs.declared.sink.SinkError.{SinkError}
+use Rattle.store_accounts.specs.Account.{Account, Accounts, Password, activates, closes, new_account, removes, row_with}
+use Rattle.store_accounts.specs.Promises.{HasNoOpen}
+use Rattle.store_accounts.specs.declared.queue.QueuedMessage.{QueuedMessage}
+use Rattle.store_accounts.specs.declared.refusal.Refusal.{Refusal}
+use Rattle.store_accounts.specs.declared.refusal.Refusal.TheVariants.{Memory}
+use Rattle.store_engine.specs.declared.answer.Answer.TheVariants as answer
+use Rattle.store_engine.specs.declared.event.Event.TheVariants.{Deliver, AddUser, TakeOut, Keep}
+use Rattle.store_engine.specs.declared.upkeep.Upkeep.TheVariants.{SetPassword, SetAddress, StoreScript}
+use Rattle.store_accounts.specs.declared.notice.Notice.{Notice}
+use Rattle.sieve_lex.specs.declared.fault.ScriptFault.{ScriptFault}
+use Rattle.cli_run.specs.declared.fault.RunFault.TheVariants.{Refused, Stream, NoMessage, NoMaildir, Invalid, Busy}
+use Rattle.cli_run.specs.Draining.{IsUnkept, StopsDraining}
+use Rattle.cli_run.specs.Faults.{memory, no_user, store_failed, cause_of, run_fault_lines, troubles, IsHindered}
+use Rattle.cli_run.specs.Streams.{IsWritten, WriteFailed}
+use Rattle.cli_run.specs.declared.fault.RunFault.{RunFault}
+use Rattle.cli_run.specs.Values.{WritesSalt, IsSalt, IsGivenMoment, IsWhen, IsSeparator, envelope_with}
+use Rattle.sieve_exec.specs.declared.when.When.{When}
+use Rattle.cli_run.specs.Subcommands.{IsAddUserEvent, IsPasswdEvent, IsDoneBy, IsStoredBy, IsPutEvent, upkeep_answer, DeniedAtEnd, IsDeliverEvent, IsDoneEvent, TellsEvent, TellsInvalid, HasMessage, ShowsOutgoing, notices_until, user_line}
 
 -- ---- values
 
@@ -38,18 +38,18 @@ not_five : (n : ℕ) → (n ≡ 5 → ⊥) → Writes (codes "5") n → ⊥
 not_five n other w = other (sym w.value)
 
 -- the moment of the words comes before the clock's
-moment-told : IsMoment (Some (codes "5")) (Some 7) 5
+moment-told : IsGivenMoment (Some (codes "5")) (Some 7) 5
 moment-told = five
 
 -- near miss: the clock's in its place
-moment-ignored : IsMoment (Some (codes "5")) (Some 7) 7 → ⊥
+moment-ignored : IsGivenMoment (Some (codes "5")) (Some 7) 7 → ⊥
 moment-ignored = not_five 7 (λ e. cc)
 
-moment-clock : IsMoment None (Some 7) 7
+moment-clock : IsGivenMoment None (Some 7) 7
 moment-clock = refl
 
 -- near miss: 1970 for the clock
-moment-none : IsMoment None (Some 7) 0 → ⊥
+moment-none : IsGivenMoment None (Some 7) 0 → ⊥
 moment-none h = cc
 
 separator-slash : IsSeparator (Some (codes "/")) Slash
@@ -82,11 +82,11 @@ abbrev home : List ℕ
 home = codes "alice@example.com"
 
 -- the account of these words, with the first line of what was read
-added : Adds (Some digits) None alice home (Some (codes "secret\nmore")) (AddUser alice home salt (codes "secret"))
+added : IsAddUserEvent (Some digits) None alice home (Some (codes "secret\nmore")) (AddUser alice home salt (codes "secret"))
 added = record { octets = codes "secret\nmore"; read = refl; salt = salt; salted = salt-written; same = refl }
 
 -- without a salt in the words it is the system's
-added-random : Adds None (Some salt) alice home (Some (codes "secret\nmore")) (AddUser alice home salt (codes "secret"))
+added-random : IsAddUserEvent None (Some salt) alice home (Some (codes "secret\nmore")) (AddUser alice home salt (codes "secret"))
 added-random = record { octets = codes "secret\nmore"; read = refl; salt = salt; salted = refl; same = refl }
 
 -- near misses: the system's in place of the words'; none at all
@@ -96,15 +96,15 @@ salt-ignored other h = cc
 salt-none : (other : List ℕ) → IsSalt None None other → ⊥
 salt-none other h = cc
 
-guarded : Guards None (Some salt) alice (Some (codes "secret\nmore")) (Keep alice (SetPassword salt (codes "secret")))
+guarded : IsPasswdEvent None (Some salt) alice (Some (codes "secret\nmore")) (Keep alice (SetPassword salt (codes "secret")))
 guarded = record { octets = codes "secret\nmore"; read = refl; salt = salt; salted = refl; same = refl }
 
 -- near misses: another user's; all that was read
-guarded-other : Guards None (Some salt) alice (Some (codes "secret")) (Keep home (SetPassword salt (codes "secret"))) → ⊥
+guarded-other : IsPasswdEvent None (Some salt) alice (Some (codes "secret")) (Keep home (SetPassword salt (codes "secret"))) → ⊥
 guarded-other h = let e = h.same in cc
 
 -- what is done to an account is told as done
-changed-told : Tells (Keep alice (SetAddress home)) answer.Changed (codes "changed alice\n")
+changed-told : TellsEvent (Keep alice (SetAddress home)) answer.Changed (codes "changed alice\n")
 changed-told = refl
 
 -- near miss: a refusal of the machine
@@ -112,16 +112,16 @@ refused-done : IsDoneBy (answer.Refused Memory) (Ok tt) → ⊥
 refused-done h = cc
 
 -- all that was read is the script's text, and near misses: another name; the active script, where that isn't asked for
-offered : Offered alice (codes "m") false (Some (codes "keep;")) (Keep alice (StoreScript (codes "m") (codes "keep;") false))
+offered : IsPutEvent alice (codes "m") false (Some (codes "keep;")) (Keep alice (StoreScript (codes "m") (codes "keep;") false))
 offered = record { text = codes "keep;"; read = refl; same = refl }
 
-offered-other : (text : List ℕ) → Offered alice (codes "m") false (Some text) (Keep alice (StoreScript alice text false)) → ⊥
+offered-other : (text : List ℕ) → IsPutEvent alice (codes "m") false (Some text) (Keep alice (StoreScript alice text false)) → ⊥
 offered-other text h = let e = h.same in cc
 
-offered-active : (text : List ℕ) → Offered alice (codes "m") false (Some text) (Keep alice (StoreScript (codes "m") text true)) → ⊥
+offered-active : (text : List ℕ) → IsPutEvent alice (codes "m") false (Some text) (Keep alice (StoreScript (codes "m") text true)) → ⊥
 offered-active text h = let e = h.same in cc
 
-stored-told : Tells (Keep alice (StoreScript (codes "m") [] false)) answer.Stored (codes "stored m\n")
+stored-told : TellsEvent (Keep alice (StoreScript (codes "m") [] false)) answer.Stored (codes "stored m\n")
 stored-told = refl
 
 -- near misses: no script, told as stored; and without a fault
@@ -144,46 +144,46 @@ unfolding notice-at
 notices-before h = cc
 
 -- near miss: name and address swapped
-added-swapped : (password : List ℕ) → Adds (Some digits) None alice home (Some (codes "secret\nmore")) (AddUser home alice salt password) → ⊥
+added-swapped : (password : List ℕ) → IsAddUserEvent (Some digits) None alice home (Some (codes "secret\nmore")) (AddUser home alice salt password) → ⊥
 added-swapped password h = let e = h.same in cc
 
 posted : (clock : Option ℕ) (default : Option (List ℕ)) (when : When) → IsWhen (Some (codes "5")) None clock when
-    → Posts [] home (Some (codes "5")) None alice clock default (Some (codes "M")) (Deliver alice (envelope_with [] home) (codes "M") when default)
+    → IsDeliverEvent [] home (Some (codes "5")) None alice clock default (Some (codes "M")) (Deliver alice (envelope_with [] home) (codes "M") when default)
 posted clock default when is = record { message = codes "M"; read = refl; when = when; dated = is; same = refl }
 
 -- near misses: for the recipient's name in place of the user's; at the clock's moment; with another message; without the host's default script
-posted-elsewhere : (clock : Option ℕ) (default : Option (List ℕ)) (when : When) → Posts [] home (Some (codes "5")) None alice clock default (Some (codes "M")) (Deliver home (envelope_with [] home) (codes "M") when default) → ⊥
+posted-elsewhere : (clock : Option ℕ) (default : Option (List ℕ)) (when : When) → IsDeliverEvent [] home (Some (codes "5")) None alice clock default (Some (codes "M")) (Deliver home (envelope_with [] home) (codes "M") when default) → ⊥
 posted-elsewhere clock default when h = let e = h.same in cc
 
-posted-late : (default : Option (List ℕ)) (when : When) → when.moment ≡ 7 → Posts [] home (Some (codes "5")) None alice (Some 7) default (Some (codes "M")) (Deliver alice (envelope_with [] home) (codes "M") when default) → ⊥
+posted-late : (default : Option (List ℕ)) (when : When) → when.moment ≡ 7 → IsDeliverEvent [] home (Some (codes "5")) None alice (Some 7) default (Some (codes "M")) (Deliver alice (envelope_with [] home) (codes "M") when default) → ⊥
 posted-late default when late h = let same : when ≡ h.when = let e = h.same in cc in moment-ignored (subst (Writes (codes "5")) (sym (ap (λ (w : When). w.moment) same) ∙ late) h.dated.0)
 
-posted-other : (clock : Option ℕ) (default : Option (List ℕ)) (when : When) → Posts [] home (Some (codes "5")) None alice clock default (Some (codes "M")) (Deliver alice (envelope_with [] home) (codes "MM") when default) → ⊥
+posted-other : (clock : Option ℕ) (default : Option (List ℕ)) (when : When) → IsDeliverEvent [] home (Some (codes "5")) None alice clock default (Some (codes "M")) (Deliver alice (envelope_with [] home) (codes "MM") when default) → ⊥
 posted-other clock default when h = let same : codes "MM" ≡ h.message = let e = h.same in cc in let no : codes "MM" ≡ codes "M" = same ∙ h.read in cc
 
-posted-bare : (clock : Option ℕ) (default : List ℕ) (when : When) → Posts [] home (Some (codes "5")) None alice clock (Some default) (Some (codes "M")) (Deliver alice (envelope_with [] home) (codes "M") when None) → ⊥
+posted-bare : (clock : Option ℕ) (default : List ℕ) (when : When) → IsDeliverEvent [] home (Some (codes "5")) None alice clock (Some default) (Some (codes "M")) (Deliver alice (envelope_with [] home) (codes "M") when None) → ⊥
 posted-bare clock default when h = let same : None ≡ Some default = let e = h.same in cc in cc
 
-dequeued : Dequeues alice (codes "5") (TakeOut alice 5)
+dequeued : IsDoneEvent alice (codes "5") (TakeOut alice 5)
 dequeued = record { id = 5; written = five; same = refl }
 
 -- near miss: another number
-dequeued-other : Dequeues alice (codes "5") (TakeOut alice 6) → ⊥
+dequeued-other : IsDoneEvent alice (codes "5") (TakeOut alice 6) → ⊥
 dequeued-other h = let same : 6 ≡ h.id = let e = h.same in cc in not_five 6 (λ e. cc) (subst (Writes (codes "5")) (sym same) h.written)
 
 -- what is printed of an event, and near misses: another name; an event that wasn't made
-told : Tells (AddUser alice home salt []) answer.Added (codes "added alice\n")
+told : TellsEvent (AddUser alice home salt []) answer.Added (codes "added alice\n")
 told = refl
 
-told-other : Tells (AddUser alice home salt []) answer.Added (codes "added bob\n") → ⊥
+told-other : TellsEvent (AddUser alice home salt []) answer.Added (codes "added bob\n") → ⊥
 told-other h = cc
 
-told-refused : (refusal : Refusal) (text : List ℕ) → Tells (TakeOut alice 5) (answer.Refused refusal) text → ⊥
+told-refused : (refusal : Refusal) (text : List ℕ) → TellsEvent (TakeOut alice 5) (answer.Refused refusal) text → ⊥
 told-refused refusal text h = h
 
 -- ---- reads
 
-module _ (a : Account) (one two : Outgoing) (first : one.id ≡ 5) (second : two.id ≡ 6) (queued : a.queue ≡ one ∷ two ∷ []) (texts : one.message ≡ codes "M") (others : two.message ≡ codes "MM") where
+module _ (a : Account) (one two : QueuedMessage) (first : one.id ≡ 5) (second : two.id ≡ 6) (queued : a.queue ≡ one ∷ two ∷ []) (texts : one.message ≡ codes "M") (others : two.message ≡ codes "MM") where
   -- near miss: another one's octets
   shown-other : ShowsOutgoing (codes "5") a (codes "MM") → ⊥
   shown-other h =
@@ -191,7 +191,7 @@ module _ (a : Account) (one two : Outgoing) (first : one.id ≡ 5) (second : two
       let found : row_with 5 (one ∷ two ∷ []) ≡ Some h.1 = subst (λ q. row_with 5 q ≡ Some h.1) queued (subst (λ n. row_with n a.queue ≡ Some h.1) id h.3) in
       let is : Some one ≡ Some h.1 = sym (ap (λ n. cond (n == 5) (Some one) (row_with 5 (two ∷ []))) first) ∙ found in
       let row : one ≡ h.1 = cc in
-      let no : codes "MM" ≡ codes "M" = h.4 ∙ (ap (λ (r : Outgoing). r.message) (sym row) ∙ texts) in cc
+      let no : codes "MM" ≡ codes "M" = h.4 ∙ (ap (λ (r : QueuedMessage). r.message) (sym row) ∙ texts) in cc
 
 numbered : (a : Account) → HasMessage (codes "INBOX") 0 a None
 numbered a = refl
@@ -202,21 +202,21 @@ numbered-zero a message h = cc
 
 -- ---- faults
 
-abbrev nobody : Fault → Type 0
+abbrev nobody : RunFault → Type 0
 nobody fault = ⊥
 
 -- no sink refused a call
 abbrev unsunk : SinkError → Type 0
 unsunk error = ⊥
 
-abbrev busily : Fault → Type 0
+abbrev busily : RunFault → Type 0
 busily fault = fault ≡ Busy
 
 -- an unknown user is told as one, and near miss: as something else that is absent
 stops-told : (accounts : Accounts) → HasNoOpen alice accounts → StopsDraining unsunk ⊥ nobody alice no_user accounts
 stops-told accounts free = inr (inr (refl, free, λ no. no))
 
-not_hindered : (fault : Fault) → (fault ≡ memory → ⊥) → (fault ≡ store_failed → ⊥) → IsHindered (IsUnkept unsunk) ⊥ nobody fault → ⊥
+not_hindered : (fault : RunFault) → (fault ≡ memory → ⊥) → (fault ≡ store_failed → ⊥) → IsHindered (IsUnkept unsunk) ⊥ nobody fault → ⊥
 not_hindered fault m f (inl e) = m e
 not_hindered fault m f (inr (inl e)) = f e
 not_hindered fault m f (inr (inr (inl e))) = e.1.1
@@ -283,22 +283,22 @@ unread-failed (inr (inr (inr (inr denied)))) = denied.0
 -- ---- what is told
 
 -- a failed store is told with what its keeper said of it, and near miss: with what a sink said
-abbrev causes : Fault → Option (List ℕ)
+abbrev causes : RunFault → Option (List ℕ)
 causes = cause_of (Some (codes "disk is full")) (Some (codes "permission denied"))
 
-failed-told : IsWritten (Some []) (Some (codes "sieved: store failed\nsieved: disk is full\n")) (told_of causes store_failed)
+failed-told : IsWritten (Some []) (Some (codes "sieved: store failed\nsieved: disk is full\n")) (run_fault_lines causes store_failed)
 failed-told = inl refl
 
-failed-otherwise : IsWritten (Some []) (Some (codes "sieved: store failed\nsieved: permission denied\n")) (told_of causes store_failed) → WriteFailed (Some (codes "sieved: store failed\nsieved: permission denied\n"))
+failed-otherwise : IsWritten (Some []) (Some (codes "sieved: store failed\nsieved: permission denied\n")) (run_fault_lines causes store_failed) → WriteFailed (Some (codes "sieved: store failed\nsieved: permission denied\n"))
 failed-otherwise (inl more) = let no : 112 ≡ 100 = ap (λ l. get_or l 29 0) more in absurd (omega (arith, no))
 failed-otherwise (inr cut) = cut.1
 
 -- and of a user who is unknown nothing more is known
-unknown-told : IsWritten (Some []) (Some (codes "sieved: no such user\n")) (told_of causes no_user)
+unknown-told : IsWritten (Some []) (Some (codes "sieved: no such user\n")) (run_fault_lines causes no_user)
 unknown-told = inl refl
 
 -- nothing is told only where a write failed
-busy-untold : IsWritten (Some []) (Some []) (told_of causes Busy) → WriteFailed (Some [])
+busy-untold : IsWritten (Some []) (Some []) (run_fault_lines causes Busy) → WriteFailed (Some [])
 busy-untold (inl more) = let no = more in cc
 busy-untold (inr cut) = cut.1
 

@@ -1,35 +1,35 @@
 -- What `check` says about a text.
 use Rattle.std.specs.Prelude.{◌≡◌, ◌<◌, ◌≤◌, ◌⊎◌, ℕ, List, ◌++◌, codes, decimal, length, Option, Some, None, Result, Ok, Err}
 use Rattle.std.specs.Io.KnownBytes.{Keeps}
-use Rattle.sievelex.specs.Faults.{fault_line, text_of}
-use Rattle.sievelex.specs.declared.fault.ScriptFault.{ScriptFault}
-use Rattle.mailstore.specs.declared.refusal.Refusal.TheVariants.{ScriptTooLarge}
-use Rattle.sessions.specs.Limits.{script_limit}
-use Rattle.sessions.specs.Scripts.{IsValid, IsVerdict}
-use Rattle.reportlines.specs.Reports.{with_end}
-use Rattle.sievedrun.specs.declared.fault.Fault.{Fault}
-use Rattle.sievedrun.specs.declared.fault.Fault.TheVariants.{Refused, Stream}
-use Rattle.sievedrun.specs.Faults.{memory, status_of, line_of, IsFailure, IsPrinted}
-use Rattle.sievedrun.specs.Streams.{InputFailed, IsWritten}
-use Rattle.sievedrun.specs.TryScript.{OfInput}
+use Rattle.sieve_lex.specs.Faults.{fault_line, fault_text}
+use Rattle.sieve_lex.specs.declared.fault.ScriptFault.{ScriptFault}
+use Rattle.store_accounts.specs.declared.refusal.Refusal.TheVariants.{ScriptTooLarge}
+use Rattle.managesieve_sessions.specs.Limits.{script_limit}
+use Rattle.managesieve_sessions.specs.Scripts.{IsValidScript, IsVerdict}
+use Rattle.cli_reports.specs.Reports.{ended_line}
+use Rattle.cli_run.specs.declared.fault.RunFault.{RunFault}
+use Rattle.cli_run.specs.declared.fault.RunFault.TheVariants.{Refused, Stream}
+use Rattle.cli_run.specs.Faults.{memory, status_of, run_fault_line, IsFailure, IsPrinted}
+use Rattle.cli_run.specs.Streams.{InputFailed, IsWritten}
+use Rattle.cli_run.specs.TryScript.{OfInput}
 
 -- the line on a fault of a script: `line N: TEXT`, or `FILE:N: TEXT` if it is in a file
 abbrev pub fault_in_file : Option (List ℕ) → ScriptFault → List ℕ
-fault_in_file None fault = with_end (fault_line fault.line fault.kind)
-fault_in_file (Some file) fault = with_end (file ++ (codes ":" ++ (decimal fault.line ++ (codes ": " ++ text_of fault.kind))))
+fault_in_file None fault = ended_line (fault_line fault.line fault.kind)
+fault_in_file (Some file) fault = ended_line (file ++ (codes ":" ++ (decimal fault.line ++ (codes ": " ++ fault_text fault.kind))))
 
 -- a text is longer than a script may be
-abbrev pub too_large : Fault
-too_large = Refused ScriptTooLarge
+abbrev pub script_too_large : RunFault
+script_too_large = Refused ScriptTooLarge
 
 -- what is reported of a fault: after the file's name if the file is too large
-abbrev pub told_in : Option (List ℕ) → Fault → List ℕ
-told_in (Some file) (Refused ScriptTooLarge) = with_end (file ++ codes ": script too large")
-told_in file fault = line_of fault
+abbrev pub check_fault_line : Option (List ℕ) → RunFault → List ℕ
+check_fault_line (Some file) (Refused ScriptTooLarge) = ended_line (file ++ codes ": script too large")
+check_fault_line file fault = run_fault_line fault
 
 -- what was found: nothing, why it is no valid script, or a fault that hid it
 abbrev pub Finding : Type 0
-Finding = Result (Option ScriptFault) Fault
+Finding = Result (Option ScriptFault) RunFault
 
 -- and its exit status
 abbrev pub status_found : Finding → ℕ
@@ -47,13 +47,13 @@ PrintsFinding file text old new (Ok None) = Has text None × Keeps old new
 PrintsFinding file text old new (Ok (Some fault)) = Has text (Some fault) × IsPrinted (Ok tt) old new (fault_in_file file fault)
 PrintsFinding file text old new (Err fault) =
     ((fault ≡ memory) × Keeps old new)
-    ⊎ ((fault ≡ too_large) × (script_limit < length text) × Keeps old new)
+    ⊎ ((fault ≡ script_too_large) × (script_limit < length text) × Keeps old new)
     ⊎ ((verdict : ScriptFault) × Has text (Some verdict) × IsPrinted (Err fault) old new (fault_in_file file verdict))
 
 -- what is reported on the errors
 abbrev pub TellsFinding : Option (List ℕ) → Option (List ℕ) → Option (List ℕ) → Finding → Type 0
 TellsFinding file old new (Ok verdict) = Keeps old new
-TellsFinding file old new (Err fault) = IsWritten old new (told_in file fault)
+TellsFinding file old new (Err fault) = IsWritten old new (check_fault_line file fault)
 
 -- a text was checked
 pub record IsChecked (file : Option (List ℕ)) (text : List ℕ) (out_old out_new err_old err_new : Option (List ℕ)) (status : ℕ) : Type 0 where
@@ -64,12 +64,12 @@ pub record IsChecked (file : Option (List ℕ)) (text : List ℕ) (out_old out_n
 
 -- the input couldn't be read, or there was no memory for it
 pub record IsUnread (out_old out_new err_old err_new : Option (List ℕ)) (status : ℕ) : Type 0 where
-  pub fault : Fault
+  pub fault : RunFault
   pub failure : IsFailure fault
   pub cause : fault ≡ Stream → InputFailed
   pub ended : status ≡ status_of fault
   pub silent : Keeps out_old out_new
-  pub told : IsWritten err_old err_new (line_of fault)
+  pub told : IsWritten err_old err_new (run_fault_line fault)
 
 -- the input was checked
 abbrev pub ChecksInput : Option (List ℕ) → Option (List ℕ) → Option (List ℕ) → Option (List ℕ) → Option (List ℕ) → ℕ → Type 0

@@ -4,50 +4,50 @@ use Rattle.std.specs.Io.KnownBytes.{Keeps}
 use Rattle.octets.specs.Decimal.{Writes}
 use Rattle.sqlite.specs.Effect.{Database}
 use Rattle.sqlite.specs.State.{State, HasCleanDisk, Survives}
-use Rattle.mailstore.specs.Account.{Account, Accounts, open_of, messages_in}
-use Rattle.mailstore.specs.Promises.{HasOpen, HasNoOpen}
-use Rattle.mailstore.specs.Schema.{no_schema}
-use Rattle.mailtables.specs.Rows.{Tables}
-use Rattle.mailsinks.specs.Kept.{kept_mail}
-use Rattle.mailsinks.specs.declared.kept.KeptMail.{KeptMail}
-use Rattle.mailsinks.specs.declared.sink.SinkError.{SinkError}
-use Rattle.mailsinks.specs.declared.sink.SinkError.TheVariants as sink
-use Rattle.mailstore.specs.Shows.{Presents, Offers, ShowsAccounts, IsFirstOf, rows_of}
-use Rattle.mailstore.specs.declared.taking.NumberedMessage.{NumberedMessage}
-use Rattle.sessions.specs.Acts.{Carries, CrashLeaves}
-use Rattle.mailengine.specs.declared.event.Event.TheVariants.{TakeMail}
-use Rattle.mailengine.specs.declared.answer.Answer.TheVariants.{MailTaken}
-use Rattle.mailengine.specs.World.{Runs}
-use Rattle.sievedwords.specs.declared.subcommand.drain.Drain.{Drain}
-use Rattle.reportlines.specs.Reports.{with_end}
-use Rattle.sievedrun.specs.declared.fault.Fault.{Fault}
-use Rattle.sievedrun.specs.declared.fault.Fault.TheVariants.{NoMaildir}
-use Rattle.sievedrun.specs.Faults.{no_user, status_of, IsHindered, IsPrinted}
-use Rattle.sievedrun.specs.Promise.{world_of}
-use Rattle.sievedrun.specs.Values.{HasNoNumber}
+use Rattle.store_accounts.specs.Account.{Account, Accounts, open_account_of, messages_in}
+use Rattle.store_accounts.specs.Promises.{HasOpen, HasNoOpen}
+use Rattle.store_accounts.specs.Schema.{no_schema}
+use Rattle.store_tables.specs.Rows.{Tables}
+use Rattle.maildir_files.specs.Kept.{kept_mail}
+use Rattle.maildir_files.specs.declared.kept.KeptMail.{KeptMail}
+use Rattle.maildir_files.specs.declared.sink.SinkError.{SinkError}
+use Rattle.maildir_files.specs.declared.sink.SinkError.TheVariants as sink
+use Rattle.store_accounts.specs.Shows.{Presents, OffersAccounts, ShowsAccounts, IsFirstOf, rows_of}
+use Rattle.store_accounts.specs.declared.taking.NumberedMessage.{NumberedMessage}
+use Rattle.managesieve_sessions.specs.Acts.{TurnsAccounts, CrashLeaves}
+use Rattle.store_engine.specs.declared.event.Event.TheVariants.{TakeMail}
+use Rattle.store_engine.specs.declared.answer.Answer.TheVariants.{MailTaken}
+use Rattle.store_engine.specs.World.{Runs}
+use Rattle.cli_subcommands.specs.declared.subcommand.drain.DrainArgs.{DrainArgs}
+use Rattle.cli_reports.specs.Reports.{ended_line}
+use Rattle.cli_run.specs.declared.fault.RunFault.{RunFault}
+use Rattle.cli_run.specs.declared.fault.RunFault.TheVariants.{NoMaildir}
+use Rattle.cli_run.specs.Faults.{no_user, status_of, IsHindered, IsPrinted}
+use Rattle.cli_run.specs.Promise.{world_of_accounts}
+use Rattle.cli_run.specs.Values.{HasNoNumber}
 
 -- the messages of an account's folder; none if there is no account
-abbrev pub mail_of : Option Account → List ℕ → List (List ℕ)
-mail_of None folder = []
-mail_of (Some a) folder = messages_in a.folders folder
+abbrev pub folder_mail : Option Account → List ℕ → List (List ℕ)
+folder_mail None folder = []
+folder_mail (Some a) folder = messages_in a.folders folder
 
 -- the messages of the folder of the user's open account, in the order in which they came; none if there is no such account or folder
 abbrev pub mail_in : Accounts → List ℕ → List ℕ → List (List ℕ)
-mail_in accounts user folder = mail_of (open_of accounts user) folder
+mail_in accounts user folder = folder_mail (open_account_of accounts user) folder
 
 -- that many messages leave the user's folder, each the first of it: an event of the machine takes it, and is answered
 abbrev pub Leave : List ℕ → List ℕ → ℕ → Accounts → Accounts → Type 0
-Leave user folder count accounts later = Runs (world_of accounts) (replicate count (TakeMail user folder)) (replicate count MailTaken) (world_of later)
+Leave user folder count accounts later = Runs (world_of_accounts accounts) (replicate count (TakeMail user folder)) (replicate count MailTaken) (world_of_accounts later)
 
 -- tables that show accounts have this as the first message of the user's folder, with this number
-abbrev pub IsFirst : List ℕ → List ℕ → NumberedMessage → Type 0
-IsFirst user folder first = (tables : Tables) × (accounts : Accounts) × ShowsAccounts tables accounts × IsFirstOf user folder (Some first) (rows_of user tables)
+abbrev pub IsFirstMessage : List ℕ → List ℕ → NumberedMessage → Type 0
+IsFirstMessage user folder first = (tables : Tables) × (accounts : Accounts) × ShowsAccounts tables accounts × IsFirstOf user folder (Some first) (rows_of user tables)
 
 -- these are the messages, in order, each kept under its user, its folder and the number that it had in tables in which it was the first there
 abbrev pub AreFirsts : List ℕ → List ℕ → List KeptMail → List (List ℕ) → Type 0
 AreFirsts user folder [] [] = Unit {0}
 AreFirsts user folder (mail ∷ mails) (message ∷ messages) =
-    (first : NumberedMessage) × IsFirst user folder first × (mail ≡ kept_mail user folder first.number first.message first.flags) × (first.message ≡ message) × AreFirsts user folder mails messages
+    (first : NumberedMessage) × IsFirstMessage user folder first × (mail ≡ kept_mail user folder first.number first.message first.flags) × (first.message ≡ message) × AreFirsts user folder mails messages
 AreFirsts user folder mails messages = ⊥
 
 -- what a sink keeps grew by these messages of the user's folder, at its end; if it doesn't tell what it keeps nothing is said
@@ -64,7 +64,7 @@ LeavesTables old new accounts later = Presents new later ⊎ ((new ≡ old) × (
 
 -- tables that offered accounts, of whichever version, then show what these became; a database without tables stays so
 pub record TurnsTables (Became : Accounts → Accounts → Type 0) (old new : Database) : Type 0 where
-  pub accounts : (accounts : Accounts) → Offers old accounts → (later : Accounts) × Became accounts later × LeavesTables old new accounts later
+  pub accounts : (accounts : Accounts) → OffersAccounts old accounts → (later : Accounts) × Became accounts later × LeavesTables old new accounts later
   pub none : old.schema ≡ no_schema → new.schema ≡ no_schema
 
 -- ---- the user's folder, and a sink that grew by such messages
@@ -89,7 +89,7 @@ module _ (user folder : List ℕ) (Grew : List (List ℕ) → Type 0) where
   -- over a store: whatever accounts it showed, it then shows what these became; an open connection is still open if Ok was answered, and
   -- one that a fault of the disk has shut stays shut; and if it was open no crash loses a message
   pub record MovesMail (answers_ok : Bool) (Became : Accounts → Accounts → Type 0) (old new : State) : Type 0 where
-    pub carries : Carries Became old new
+    pub carries : TurnsAccounts Became old new
     pub live : IsTrue answers_ok → HasCleanDisk new → IsTrue old.is_open → IsTrue new.is_open
     pub shut : HasCleanDisk new → IsTrue new.is_open → IsTrue old.is_open
     pub crash : Survives old new (λ trees. IsTrue old.is_open → CrashLeaves LostNone old trees)
@@ -97,7 +97,7 @@ module _ (user folder : List ℕ) (Grew : List (List ℕ) → Type 0) where
   -- ---- the first message
 
   -- it moved; or the folder has none; after a refusal it is still in the folder
-  abbrev pub FirstMoved : Result Bool Fault → Accounts → Accounts → Type 0
+  abbrev pub FirstMoved : Result Bool RunFault → Accounts → Accounts → Type 0
   FirstMoved (Ok true) accounts later = Moved 1 accounts later
   FirstMoved (Ok false) accounts later = Moved 0 accounts later × (mail_in accounts user folder ≡ [])
   FirstMoved (Err fault) accounts later = StoppedShort 0 accounts later
@@ -110,7 +110,7 @@ module _ (user folder : List ℕ) (Grew : List (List ℕ) → Type 0) where
     pub whole : count < most → mail_in later user folder ≡ []
 
   -- after a refusal that many had moved
-  abbrev pub AnyMoved : ℕ → Result ℕ Fault → Accounts → Accounts → Type 0
+  abbrev pub AnyMoved : ℕ → Result ℕ RunFault → Accounts → Accounts → Type 0
   AnyMoved most (Ok count) accounts later = AllMoved most count accounts later
   AnyMoved most (Err fault) accounts later = (count : ℕ) × StoppedShort count accounts later × (count ≤ most)
 
@@ -119,24 +119,24 @@ module _ (user folder : List ℕ) (Grew : List (List ℕ) → Type 0) where
   NothingMoved count = (count ≡ 0) × Grew []
 
   -- it broke off with a fault, after no more messages than were asked for; a fault that another try can't help comes before anything moved
-  abbrev pub BrokeOff : ℕ → Fault → Accounts → Accounts → Type 0
+  abbrev pub BrokeOff : ℕ → RunFault → Accounts → Accounts → Type 0
   BrokeOff most fault accounts later = (count : ℕ) × StoppedShort count accounts later × (count ≤ most) × (NothingMoved count ⊎ (status_of fault ≡ 75))
 
   -- for a user who has an open account
-  abbrev pub Drained : ℕ → Result ℕ Fault → Accounts → Accounts → Type 0
+  abbrev pub Drained : ℕ → Result ℕ RunFault → Accounts → Accounts → Type 0
   Drained most (Ok count) accounts later = HasOpen user accounts × AllMoved most count accounts later
   Drained most (Err fault) accounts later = BrokeOff most fault accounts later
 
 -- ---- a call over a store, and a sink that tells what it keeps or doesn't, before and afterwards
 
-abbrev pub MovesFirst : List ℕ → List ℕ → Bool → List KeptMail → List KeptMail → Result Bool Fault → State → State → Type 0
-MovesFirst user folder tells had has result = MovesMail user folder (GrowsBy user folder tells had has) (is_ok result) (FirstMoved user folder (GrowsBy user folder tells had has) result)
+abbrev pub DrainsFirst : List ℕ → List ℕ → Bool → List KeptMail → List KeptMail → Result Bool RunFault → State → State → Type 0
+DrainsFirst user folder tells had has result = MovesMail user folder (GrowsBy user folder tells had has) (is_ok result) (FirstMoved user folder (GrowsBy user folder tells had has) result)
 
-abbrev pub MovesAll : List ℕ → List ℕ → Bool → List KeptMail → List KeptMail → ℕ → Result ℕ Fault → State → State → Type 0
+abbrev pub MovesAll : List ℕ → List ℕ → Bool → List KeptMail → List KeptMail → ℕ → Result ℕ RunFault → State → State → Type 0
 MovesAll user folder tells had has most result = MovesMail user folder (GrowsBy user folder tells had has) (is_ok result) (AnyMoved user folder (GrowsBy user folder tells had has) most result)
 
 -- and there is no such user if that is the fault
-abbrev pub Drains : List ℕ → List ℕ → Bool → List KeptMail → List KeptMail → ℕ → Result ℕ Fault → State → State → Type 0
+abbrev pub Drains : List ℕ → List ℕ → Bool → List KeptMail → List KeptMail → ℕ → Result ℕ RunFault → State → State → Type 0
 Drains user folder tells had has most result =
     MovesMail user folder (GrowsBy user folder tells had has) (is_ok result) (λ accounts later. Drained user folder (GrowsBy user folder tells had has) most result accounts later × (result ≡ Err no_user → HasNoOpen user accounts))
 
@@ -149,7 +149,7 @@ IsMost (Some digits) most = Writes digits most
 
 -- what is printed
 abbrev pub drained_line : ℕ → List ℕ
-drained_line count = with_end (codes "drained " ++ decimal count)
+drained_line count = ended_line (codes "drained " ++ decimal count)
 
 -- some sink refused a call with this error
 abbrev pub HasRefused : {T : Type 0} → (T → SinkError → Type 0) → SinkError → Type 0
@@ -160,18 +160,18 @@ abbrev pub IsUnkept : (SinkError → Type 0) → Type 0
 IsUnkept Sunk = (error : SinkError) × Sunk error
 
 -- why a folder isn't drained to its end: no open account has the name; the place for the messages is no Maildir; or the subcommand is hindered, by the sink too
-abbrev pub StopsDraining : (SinkError → Type 0) → Type 0 → (Fault → Type 0) → List ℕ → Fault → Accounts → Type 0
+abbrev pub StopsDraining : (SinkError → Type 0) → Type 0 → (RunFault → Type 0) → List ℕ → RunFault → Accounts → Type 0
 StopsDraining Sunk Wrong Denied user fault accounts =
     IsHindered (IsUnkept Sunk) Wrong Denied fault ⊎ ((fault ≡ NoMaildir) × Sunk sink.NoMaildir × (Wrong → ⊥)) ⊎ ((fault ≡ no_user) × HasNoOpen user accounts × (Wrong → ⊥))
 
 -- over tables: their store was drained, and if it wasn't to its end the cause is reported
-abbrev pub MovesTables : (SinkError → Type 0) → (Fault → Type 0) → Drain → Bool → List KeptMail → List KeptMail → ℕ → Result ℕ Fault → Database → Database → Type 0
+abbrev pub MovesTables : (SinkError → Type 0) → (RunFault → Type 0) → DrainArgs → Bool → List KeptMail → List KeptMail → ℕ → Result ℕ RunFault → Database → Database → Type 0
 MovesTables Sunk Denied asked tells had has most result =
     TurnsTables (λ accounts later. Drained asked.user.now asked.folder.now (GrowsBy asked.user.now asked.folder.now tells had has) most result accounts later × IfErr result (λ fault. StopsDraining Sunk ⊥ Denied asked.user.now fault accounts))
 
 -- after Ok the subcommand did what it was asked for, and printed how many messages moved; after a fault those that moved stay moved,
 -- nothing is printed, and the cause is reported; or that line wasn't printed whole
-abbrev pub WordDrained : (SinkError → Type 0) → (Fault → Type 0) → Drain → (List (List ℕ) → Type 0) → Option (List ℕ) → Option (List ℕ) → Result (Unit {0}) Fault → Accounts → Accounts → Type 0
+abbrev pub WordDrained : (SinkError → Type 0) → (RunFault → Type 0) → DrainArgs → (List (List ℕ) → Type 0) → Option (List ℕ) → Option (List ℕ) → Result (Unit {0}) RunFault → Accounts → Accounts → Type 0
 WordDrained Sunk Denied asked Grew old new (Ok done) accounts later =
     (most : ℕ) × (count : ℕ) × IsMost (option_copied asked.most) most × Drained asked.user.now asked.folder.now Grew most (Ok count) accounts later × IsPrinted (Ok tt) old new (drained_line count)
 WordDrained Sunk Denied asked Grew old new (Err fault) accounts later =
@@ -179,5 +179,5 @@ WordDrained Sunk Denied asked Grew old new (Err fault) accounts later =
     × ((Keeps old new × StopsDraining Sunk (HasNoNumber (option_copied asked.most)) Denied asked.user.now fault accounts) ⊎ IsPrinted (Err fault) old new (drained_line broke.0))
 
 -- and over tables
-abbrev pub HasDrained : (SinkError → Type 0) → (Fault → Type 0) → Drain → Bool → List KeptMail → List KeptMail → Option (List ℕ) → Option (List ℕ) → Result (Unit {0}) Fault → Database → Database → Type 0
+abbrev pub HasDrained : (SinkError → Type 0) → (RunFault → Type 0) → DrainArgs → Bool → List KeptMail → List KeptMail → Option (List ℕ) → Option (List ℕ) → Result (Unit {0}) RunFault → Database → Database → Type 0
 HasDrained Sunk Denied asked tells had has old new result = TurnsTables (WordDrained Sunk Denied asked (GrowsBy asked.user.now asked.folder.now tells had has) old new result)

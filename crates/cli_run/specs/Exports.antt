@@ -3,57 +3,57 @@ use Rattle.std.specs.Prelude.{◌≡◌, ◌⊎◌, ◌+◌, ◌++◌, ℕ, List
 use Rattle.std.specs.FinMap.{empty, get}
 use Rattle.std.specs.List.{flat_map}
 use Rattle.std.specs.Io.KnownBytes.{Appends}
-use Rattle.accountfiles.specs.Text.{body_of, part_line, text_of}
-use Rattle.accountfiles.specs.Writing.{HasWritten}
-use Rattle.accountfiles.specs.declared.head.Head.{Head}
-use Rattle.accountfiles.specs.declared.part.Part.{Part}
-use Rattle.accountfiles.specs.declared.writing.Writer.{Writer}
-use Rattle.accountcopies.specs.Reading.{AreRead}
-use Rattle.accountcopies.specs.declared.contents.Contents.{Contents}
+use Rattle.store_text.specs.Text.{account_body, part_line, account_text}
+use Rattle.store_text.specs.Writing.{HasWritten}
+use Rattle.store_text.specs.declared.head.AccountHead.{AccountHead}
+use Rattle.store_text.specs.declared.part.Part.{Part}
+use Rattle.store_text.specs.declared.writing.Writer.{Writer}
+use Rattle.store_export.specs.Reading.{AreRead}
+use Rattle.store_export.specs.declared.contents.Contents.{Contents}
 use Rattle.sqlite.specs.State.{State, HasCleanDisk}
-use Rattle.mailstore.specs.Account.{Account}
-use Rattle.mailstore.specs.Promises.{Keeps, OverAccounts}
-use Rattle.mailstore.specs.Whole.{whole}
-use Rattle.sievedrun.specs.Faults.{IsPrinted, IsPut, IsSudden}
-use Rattle.sievedrun.specs.Streams.{AppendsFront}
-use Rattle.sievedrun.specs.declared.fault.Fault.{Fault}
+use Rattle.store_accounts.specs.Account.{Account}
+use Rattle.store_accounts.specs.Promises.{KeepsTables, OverAccounts}
+use Rattle.store_accounts.specs.Whole.{whole}
+use Rattle.cli_run.specs.Faults.{IsPrinted, IsTextPut, IsSudden}
+use Rattle.cli_run.specs.Streams.{AppendsFront}
+use Rattle.cli_run.specs.declared.fault.RunFault.{RunFault}
 
 -- ---- the text of an account, if writing broke off
 
 -- what is in the text of this user's account was written like this
-pub record HasTold (user : List ℕ) (Written : Head → List Part → Type 0) (a : Account) : Type 0 where
-  pub head : Head
+pub record HasTold (user : List ℕ) (Written : AccountHead → List Part → Type 0) (a : Account) : Type 0 where
+  pub head : AccountHead
   pub parts : List Part
   pub named : head.owner.name ≡ user
   pub makes : whole head parts empty ≡ a
   pub written : Written head parts
 
 -- a prefix of the text was written: before its sum, if memory was refused or the store failed; up to the write that failed
-abbrev pub BrokeIn : Option (List ℕ) → Option (List ℕ) → Fault → Head → List Part → Type 0
-BrokeIn old new fault head parts = (IsSudden ⊥ fault × AppendsFront old new (body_of head parts)) ⊎ IsPrinted (Err fault) old new (text_of head parts)
+abbrev pub BrokeIn : Option (List ℕ) → Option (List ℕ) → RunFault → AccountHead → List Part → Type 0
+BrokeIn old new fault head parts = (IsSudden ⊥ fault × AppendsFront old new (account_body head parts)) ⊎ IsPrinted (Err fault) old new (account_text head parts)
 
 -- it broke off in the text of this account
-abbrev pub IsCutOff : List ℕ → Option (List ℕ) → Option (List ℕ) → Fault → Account → Type 0
+abbrev pub IsCutOff : List ℕ → Option (List ℕ) → Option (List ℕ) → RunFault → Account → Type 0
 IsCutOff user old new fault = HasTold user (BrokeIn old new fault)
 
 -- ---- some of its parts
 
 -- a text was written; or a prefix of it, since memory was refused, the store failed, or a write of it did
-abbrev pub PutsSome : Result (Unit {0}) Fault → Option (List ℕ) → Option (List ℕ) → List ℕ → Type 0
+abbrev pub PutsSome : Result (Unit {0}) RunFault → Option (List ℕ) → Option (List ℕ) → List ℕ → Type 0
 PutsSome (Ok done) old new text = Appends old new text
-PutsSome (Err fault) old new text = (IsSudden ⊥ fault × AppendsFront old new text) ⊎ IsPut (Err fault) old new text
+PutsSome (Err fault) old new text = (IsSudden ⊥ fault × AppendsFront old new text) ⊎ IsTextPut (Err fault) old new text
 
 -- if the parts before this place were read, these are the next ones
-abbrev pub GoOn : Contents → ℕ → List Part → State → Type 0
-GoOn contents at parts old =
+abbrev pub PartsGoOn : Contents → ℕ → List Part → State → Type 0
+PartsGoOn contents at parts old =
     OverAccounts old (λ accounts. (a : Account) → get accounts contents.head.owner.name ≡ Some a
     → (early : List Part) → length early ≡ at → AreRead contents early old.now a → AreRead contents (early ++ parts) old.now a)
 
 -- the parts from one place to another were read and written; after a fault the first ones of them
-pub record PutsParts (contents : Contents) (from until : ℕ) (begun ended : Writer) (out_old out_new : Option (List ℕ)) (old new : State) (result : Result (Unit {0}) Fault) : Type 0 where
-  pub keeps : Keeps old new result
+pub record PutsParts (contents : Contents) (from until : ℕ) (begun ended : Writer) (out_old out_new : Option (List ℕ)) (old new : State) (result : Result (Unit {0}) RunFault) : Type 0 where
+  pub keeps : KeepsTables old new result
   pub parts : List Part
   pub all : OnOk result (from + length parts ≡ until)
-  pub read : HasCleanDisk new → GoOn contents from parts old
+  pub read : HasCleanDisk new → PartsGoOn contents from parts old
   pub put : PutsSome result out_old out_new (flat_map part_line parts)
   pub hashed : OnOk result ((text : List ℕ) → HasWritten begun text → HasWritten ended (text ++ flat_map part_line parts))

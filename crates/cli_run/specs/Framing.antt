@@ -3,7 +3,7 @@ use Rattle.std.specs.Prelude.{◌≡◌, ℕ, ◌≤◌, List, ◌∷◌, ◌++�
 use Rattle.octets.specs.Decimal.{Writes}
 
 -- a line of one to nine digits that write this number, and what follows it
-pub record Counts (input : List ℕ) (number : ℕ) (rest : List ℕ) : Type 0 where
+pub record HasCountLine (input : List ℕ) (number : ℕ) (rest : List ℕ) : Type 0 where
   pub digits : List ℕ
   pub written : Writes digits number
   pub short : length digits ≤ 9
@@ -11,4 +11,4 @@ pub record Counts (input : List ℕ) (number : ℕ) (rest : List ℕ) : Type 0 w
 
 -- a line with how many octets the script has, that many octets of script, and the message to the end
 abbrev pub IsFramed : List ℕ → List ℕ → List ℕ → Type 0
-IsFramed input script message = Counts input (length script) (script ++ message)
+IsFramed input script message = HasCountLine input (length script) (script ++ message)

@@ -3,10 +3,10 @@ pub mod Draining
 pub mod Exports
 pub mod Faults
 pub mod Framing
-pub mod Fronts
+pub mod KeptInputs
 pub mod Promise
 pub mod Serving
 pub mod Streams
 pub mod TryScript
 pub mod Values
-pub mod Words
+pub mod Subcommands

@@ -4,29 +4,29 @@ use Rattle.std.specs.Option.{option_copied}
 use Rattle.std.specs.List.{flat_map}
 use Rattle.std.specs.Io.KnownBytes.{Appends, Consumes, IsAtEnd}
 use Rattle.sqlite.specs.Effect.{Database}
-use Rattle.msproto.specs.Replies.{spelled}
-use Rattle.mailstore.specs.Account.{Accounts}
-use Rattle.mailstore.specs.Schema.{no_schema}
-use Rattle.mailstore.specs.Shows.{Presents, Offers}
-use Rattle.mailstore.specs.declared.refusal.Refusal.{Refusal}
-use Rattle.sessions.specs.declared.progress.Progress.{Progress}
-use Rattle.sessions.specs.Clients.{Client, new_client, client_given, is_ready}
-use Rattle.sessions.specs.GivenUp.{text_given_up, client_given_up}
-use Rattle.sessions.specs.Refusing.{WasRefused}
-use Rattle.sessions.specs.Replies.{capabilities}
-use Rattle.sessions.specs.Steps.{IsStep}
-use Rattle.keepers.specs.declared.keeper.Unavailable.{Unavailable}
-use Rattle.keepers.specs.declared.keeper.Unavailable.TheVariants.{Busy}
-use Rattle.sievedwords.specs.declared.location.StoreLocation.{StoreLocation}
-use Rattle.sievedrun.specs.declared.fault.Fault.{Fault}
-use Rattle.sievedrun.specs.Faults.{cause_line, denial_fault, line_of}
-use Rattle.sievedrun.specs.Streams.{AppendsFront, InTurn, IsWritten}
-use Rattle.sievedrun.specs.declared.trouble.FirstTrouble.{FirstTrouble}
-use Rattle.sievedrun.specs.declared.trouble.Trouble.{Trouble}
+use Rattle.managesieve_protocol.specs.Replies.{reply_octets}
+use Rattle.store_accounts.specs.Account.{Accounts}
+use Rattle.store_accounts.specs.Schema.{no_schema}
+use Rattle.store_accounts.specs.Shows.{Presents, OffersAccounts}
+use Rattle.store_accounts.specs.declared.refusal.Refusal.{Refusal}
+use Rattle.managesieve_sessions.specs.declared.progress.Progress.{Progress}
+use Rattle.managesieve_sessions.specs.Clients.{Client, new_client, client_given, is_ready}
+use Rattle.managesieve_sessions.specs.GivenUp.{text_given_up, client_given_up}
+use Rattle.managesieve_sessions.specs.Refusing.{WasRefused}
+use Rattle.managesieve_sessions.specs.Replies.{capability_reply}
+use Rattle.managesieve_sessions.specs.Steps.{IsStep}
+use Rattle.store_lock.specs.declared.keeper.StoreUnavailable.{StoreUnavailable}
+use Rattle.store_lock.specs.declared.keeper.StoreUnavailable.TheVariants.{Busy}
+use Rattle.cli_subcommands.specs.declared.location.StoreLocation.{StoreLocation}
+use Rattle.cli_run.specs.declared.fault.RunFault.{RunFault}
+use Rattle.cli_run.specs.Faults.{cause_line, denial_fault, run_fault_line}
+use Rattle.cli_run.specs.Streams.{AppendsFront, InTurn, IsWritten}
+use Rattle.cli_run.specs.declared.fault_with_cause.FirstFault.{FirstFault}
+use Rattle.cli_run.specs.declared.fault_with_cause.FaultWithCause.{FaultWithCause}
 
 -- a piece of the client's octets has at most that many
-abbrev pub largest_piece : ℕ
-largest_piece = 4096
+abbrev pub max_client_piece : ℕ
+max_client_piece = 4096
 
 -- one round: what came from the client, what was said to it, and the accounts and the client after it
 pub record Round : Type 0 where
@@ -36,10 +36,10 @@ pub record Round : Type 0 where
   pub client : Client
 
 -- a piece came to a session that isn't closed, while nothing was to be answered
-pub record Hears (accounts : Accounts) (c : Client) (r : Round) : Type 0 where
+pub record RoundHears (accounts : Accounts) (c : Client) (r : Round) : Type 0 where
   pub live : c.closed ≡ false
   pub waits : is_ready c ≡ false
-  pub short : length r.came ≤ largest_piece
+  pub short : length r.came ≤ max_client_piece
   pub silent : r.said ≡ []
   pub joins : r.client ≡ client_given r.came c
   pub same : r.accounts ≡ accounts
@@ -49,7 +49,7 @@ abbrev pub AsksNothing : Client → List ℕ → Client → Type 0
 AsksNothing c said d = (progress : Progress) × ((accounts : Accounts) → IsStep accounts c progress said d accounts)
 
 -- the first item was answered by a step, over a store that was given if the step asks one
-pub record Steps (Given : Type 0) (accounts : Accounts) (c : Client) (r : Round) : Type 0 where
+pub record RoundSteps (Given : Type 0) (accounts : Accounts) (c : Client) (r : Round) : Type 0 where
   pub ready : is_ready c ≡ true
   pub none : r.came ≡ []
   pub progress : Progress
@@ -57,24 +57,24 @@ pub record Steps (Given : Type 0) (accounts : Accounts) (c : Client) (r : Round)
   pub reach : AsksNothing c r.said r.client ⊎ Given
 
 -- some keeper that waits as the location says refused the lock, which wasn't out, or its store at this path
-abbrev pub IsDenied : {K : Type 0} → (K → List ℕ → Unavailable → Type 0) → (K → Bool) → StoreLocation → Type 0
-IsDenied refuses waits location = (keeper : _) × (denial : Unavailable) × refuses keeper location.path.now denial × (waits keeper ≡ location.waits)
+abbrev pub IsDenied : {K : Type 0} → (K → List ℕ → StoreUnavailable → Type 0) → (K → Bool) → StoreLocation → Type 0
+IsDenied refuses waits location = (keeper : _) × (denial : StoreUnavailable) × refuses keeper location.path.now denial × (waits keeper ≡ location.waits)
 
 -- some keeper refused this with this denial
-abbrev pub IsDeniedBy : {K : Type 0} → (K → List ℕ → Unavailable → Type 0) → (K → Bool) → StoreLocation → Unavailable → Type 0
+abbrev pub IsDeniedBy : {K : Type 0} → (K → List ℕ → StoreUnavailable → Type 0) → (K → Bool) → StoreLocation → StoreUnavailable → Type 0
 IsDeniedBy refuses waits location denial = (keeper : _) × refuses keeper location.path.now denial × (waits keeper ≡ location.waits)
 
 -- the same, and this fault tells why
-abbrev pub HasDenied : {K : Type 0} → (K → List ℕ → Unavailable → Type 0) → (K → Bool) → StoreLocation → Fault → Type 0
-HasDenied refuses waits location fault = (keeper : _) × (denial : Unavailable) × refuses keeper location.path.now denial × (waits keeper ≡ location.waits) × (fault ≡ denial_fault denial)
+abbrev pub HasDenied : {K : Type 0} → (K → List ℕ → StoreUnavailable → Type 0) → (K → Bool) → StoreLocation → RunFault → Type 0
+HasDenied refuses waits location fault = (keeper : _) × (denial : StoreUnavailable) × refuses keeper location.path.now denial × (waits keeper ≡ location.waits) × (fault ≡ denial_fault denial)
 
 -- some keeper that waits as the location says gave its store out at this path
 abbrev pub HasGiven : {K : Type 0} → (K → List ℕ → Type 0) → (K → Bool) → StoreLocation → Type 0
 HasGiven gives waits location = (keeper : _) × gives keeper location.path.now × (waits keeper ≡ location.waits)
 
 -- such a keeper did, and a store is open
-abbrev pub HasOpen : {K X : Type 0} → (K → List ℕ → Type 0) → (K → Bool) → StoreLocation → Option X → Type 0
-HasOpen gives waits location store = HasGiven gives waits location × IsTrue (is_some store)
+abbrev pub HasOpenStore : {K X : Type 0} → (K → List ℕ → Type 0) → (K → Bool) → StoreLocation → Option X → Type 0
+HasOpenStore gives waits location store = HasGiven gives waits location × IsTrue (is_some store)
 
 -- a keeper took a store back and closed it; if it couldn't be closed this holds: it is noted, or reported
 abbrev pub HasClosed : {K S : Type 0} → (K → S → Option Refusal → Type 0) → Type 0 → Type 0
@@ -101,33 +101,33 @@ abbrev pub StopsAt : Client → List ℕ → Client → Type 0
 StopsAt c waits d = (is_ready d ≡ false) ⊎ (largest_wait ≤ length waits) ⊎ InTurn StoodReady c 18446744073709551615 d
 
 -- of the troubles of a connection the first is kept, and whether it was reported
-abbrev pub KeepsFirst : FirstTrouble → FirstTrouble → Type 0
+abbrev pub KeepsFirst : FirstFault → FirstFault → Type 0
 KeepsFirst old new = (new.is_told ≡ old.is_told) × IfSome old.trouble (λ first. new.trouble ≡ Some first)
 
 -- a trouble is noted
-abbrev pub HasNoted : FirstTrouble → Type 0
+abbrev pub HasNoted : FirstFault → Type 0
 HasNoted noted = IsTrue (is_some noted.trouble)
 
 -- the same; or another process had the store, which is no trouble
-abbrev pub IsNoted : (Unavailable → Type 0) → FirstTrouble → Type 0
-IsNoted Denied noted = HasNoted noted ⊎ Denied Busy
+abbrev pub IsDenialNoted : (StoreUnavailable → Type 0) → FirstFault → Type 0
+IsDenialNoted Denied noted = HasNoted noted ⊎ Denied Busy
 
 -- a trouble was reported this far: its lines were written, or writing broke off in them
 abbrev pub IsTold : Option (List ℕ) → Option (List ℕ) → Type 0
-IsTold old new = (trouble : Trouble) × IsWritten old new (line_of trouble.fault ++ cause_line (option_copied trouble.cause))
+IsTold old new = (trouble : FaultWithCause) × IsWritten old new (run_fault_line trouble.fault ++ cause_line (option_copied trouble.cause))
 
 -- at most one trouble was reported
 abbrev pub TellsOne : Option (List ℕ) → Option (List ℕ) → Type 0
 TellsOne old new = (new ≡ old) ⊎ IsTold old new
 
 -- why the session broke off was reported
-abbrev pub TellsEnding : Result (Unit {0}) Fault → Option (List ℕ) → Option (List ℕ) → Type 0
+abbrev pub TellsEnding : Result (Unit {0}) RunFault → Option (List ℕ) → Option (List ℕ) → Type 0
 TellsEnding (Ok done) old new = new ≡ old
-TellsEnding (Err fault) old new = IsWritten old new (line_of fault)
+TellsEnding (Err fault) old new = IsWritten old new (run_fault_line fault)
 
 -- why the first item can't be answered, and this holds: it is noted, or reported; it needn't be if another process had the store
-abbrev pub Stops : {K : Type 0} → (K → List ℕ → Unavailable → Type 0) → (K → Bool) → StoreLocation → Type 0 → Client → Type 0
-Stops refuses waits location Told c = Hinders (IsDenied refuses waits location) c × (Told ⊎ IsDeniedBy refuses waits location Busy)
+abbrev pub StopsServing : {K : Type 0} → (K → List ℕ → StoreUnavailable → Type 0) → (K → Bool) → StoreLocation → Type 0 → Client → Type 0
+StopsServing refuses waits location Told c = Hinders (IsDenied refuses waits location) c × (Told ⊎ IsDeniedBy refuses waits location Busy)
 
 -- nothing was given up
 abbrev pub Unstopped : Client → Type 0
@@ -143,12 +143,12 @@ pub record GivesUp (Stopped : Client → Type 0) (accounts : Accounts) (c : Clie
   pub same : r.accounts ≡ accounts
 
 abbrev pub IsRound : (Client → Type 0) → Type 0 → Accounts → Client → Round → Type 0
-IsRound Stopped Given accounts c r = Hears accounts c r ⊎ (Steps Given accounts c r ⊎ GivesUp Stopped accounts c r)
+IsRound Stopped Given accounts c r = RoundHears accounts c r ⊎ (RoundSteps Given accounts c r ⊎ GivesUp Stopped accounts c r)
 
 -- rounds in order lead from accounts and a client to these
-abbrev pub Leads : (Client → Type 0) → Type 0 → Accounts → Client → List Round → Accounts → Client → Type 0
-Leads Stopped Given accounts c [] later d = (later ≡ accounts) × (d ≡ c)
-Leads Stopped Given accounts c (r ∷ rounds) later d = IsRound Stopped Given accounts c r × Leads Stopped Given r.accounts r.client rounds later d
+abbrev pub RoundsLead : (Client → Type 0) → Type 0 → Accounts → Client → List Round → Accounts → Client → Type 0
+RoundsLead Stopped Given accounts c [] later d = (later ≡ accounts) × (d ≡ c)
+RoundsLead Stopped Given accounts c (r ∷ rounds) later d = IsRound Stopped Given accounts c r × RoundsLead Stopped Given r.accounts r.client rounds later d
 
 -- all that came in the rounds, and all that was said
 abbrev pub came_in : List Round → List ℕ
@@ -158,27 +158,27 @@ abbrev pub said_in : List Round → List ℕ
 said_in rounds = flat_map (λ r. r.said) rounds
 
 -- the octets that a reader had left begin with these
-abbrev pub BeginsWith : Option (List ℕ) → List ℕ → Type 0
-BeginsWith None text = Unit {0}
-BeginsWith (Some left) text = (rest : List ℕ) × (left ≡ text ++ rest)
+abbrev pub LeftBeginsWith : Option (List ℕ) → List ℕ → Type 0
+LeftBeginsWith None text = Unit {0}
+LeftBeginsWith (Some left) text = (rest : List ℕ) × (left ≡ text ++ rest)
 
 -- rounds lead from accounts and a client to these, and this holds of the accounts
-pub record Passes (Stopped : Client → Type 0) (Given : Type 0) (accounts : Accounts) (c : Client) (rounds : List Round) (d : Client) (Shown : Accounts → Type 0) : Type 0 where
+pub record RoundsPass (Stopped : Client → Type 0) (Given : Type 0) (accounts : Accounts) (c : Client) (rounds : List Round) (d : Client) (Shown : Accounts → Type 0) : Type 0 where
   pub later : Accounts
-  pub leads : Leads Stopped Given accounts c rounds later d
+  pub leads : RoundsLead Stopped Given accounts c rounds later d
   pub shown : Shown later
 
 -- rounds in which nothing came led here: what waits to be written grew by what was said
-pub record Answered (Stopped : Client → Type 0) (Given : Type 0) (accounts : Accounts) (c : Client) (waited waits : List ℕ) (d : Client) (Shown : Accounts → Type 0) : Type 0 where
+pub record RoundsAnswer (Stopped : Client → Type 0) (Given : Type 0) (accounts : Accounts) (c : Client) (waited waits : List ℕ) (d : Client) (Shown : Accounts → Type 0) : Type 0 where
   pub rounds : List Round
-  pub passes : Passes Stopped Given accounts c rounds d Shown
+  pub passes : RoundsPass Stopped Given accounts c rounds d Shown
   pub none : came_in rounds ≡ []
   pub joins : waits ≡ waited ++ said_in rounds
 
 -- rounds in which nothing came led here, the tables offer the accounts, and what was said is written
-pub record Writes (Stopped : Client → Type 0) (Given : Type 0) (accounts : Accounts) (c : Client) (out_old out_new : Option (List ℕ)) (d : Client) (new : Database) : Type 0 where
+pub record RoundsWrite (Stopped : Client → Type 0) (Given : Type 0) (accounts : Accounts) (c : Client) (out_old out_new : Option (List ℕ)) (d : Client) (new : Database) : Type 0 where
   pub rounds : List Round
-  pub passes : Passes Stopped Given accounts c rounds d (Offers new)
+  pub passes : RoundsPass Stopped Given accounts c rounds d (OffersAccounts new)
   pub none : came_in rounds ≡ []
   pub written : Appends out_old out_new (said_in rounds)
 
@@ -186,18 +186,18 @@ pub record Writes (Stopped : Client → Type 0) (Given : Type 0) (accounts : Acc
 pub record Interrupted (Stopped : Client → Type 0) (Given : Type 0) (accounts : Accounts) (c : Client) (out_old out_new : Option (List ℕ)) (new : Database) : Type 0 where
   pub rounds : List Round
   pub client : Client
-  pub passes : Passes Stopped Given accounts c rounds client (Offers new)
+  pub passes : RoundsPass Stopped Given accounts c rounds client (OffersAccounts new)
   pub none : came_in rounds ≡ []
   pub written : AppendsFront out_old out_new (said_in rounds)
 
 -- the first item was answered and the answer written, or a write failed
-abbrev pub WritesFirst : (Client → Type 0) → Type 0 → Accounts → Client → Option (List ℕ) → Option (List ℕ) → Client → Database → Result (Unit {0}) Fault → Type 0
-WritesFirst Stopped Given accounts c out_old out_new d new (Ok done) = Writes Stopped Given accounts c out_old out_new d new
+abbrev pub WritesFirst : (Client → Type 0) → Type 0 → Accounts → Client → Option (List ℕ) → Option (List ℕ) → Client → Database → Result (Unit {0}) RunFault → Type 0
+WritesFirst Stopped Given accounts c out_old out_new d new (Ok done) = RoundsWrite Stopped Given accounts c out_old out_new d new
 WritesFirst Stopped Given accounts c out_old out_new d new (Err fault) = Interrupted Stopped Given accounts c out_old out_new new
 
 -- all complete items were answered and the answers written, or a write failed
-abbrev pub WritesAll : (Client → Type 0) → Type 0 → Accounts → Client → Option (List ℕ) → Option (List ℕ) → Client → Database → Result (Unit {0}) Fault → Type 0
-WritesAll Stopped Given accounts c out_old out_new d new (Ok done) = Writes Stopped Given accounts c out_old out_new d new × (is_ready d ≡ false)
+abbrev pub WritesAll : (Client → Type 0) → Type 0 → Accounts → Client → Option (List ℕ) → Option (List ℕ) → Client → Database → Result (Unit {0}) RunFault → Type 0
+WritesAll Stopped Given accounts c out_old out_new d new (Ok done) = RoundsWrite Stopped Given accounts c out_old out_new d new × (is_ready d ≡ false)
 WritesAll Stopped Given accounts c out_old out_new d new (Err fault) = Interrupted Stopped Given accounts c out_old out_new new
 
 -- what is seen: what an open store sees, or else what is held
@@ -207,7 +207,7 @@ database_seen sees held (Some store) = sees store
 
 -- what is seen shows accounts: an open store, which was given, presents them, or else what is held offers them
 abbrev pub AreSeen : {X : Type 0} → Type 0 → (X → Database) → Database → Option X → Accounts → Type 0
-AreSeen Given sees held None accounts = Offers held accounts
+AreSeen Given sees held None accounts = OffersAccounts held accounts
 AreSeen Given sees held (Some store) accounts = Given × Presents (sees store) accounts
 
 -- an open store was given, and presents whatever accounts were seen
@@ -215,17 +215,17 @@ abbrev pub PresentsSeen : Type 0 → (Accounts → Type 0) → Database → Type
 PresentsSeen Given Seen now = (accounts : Accounts) → Seen accounts → Given × Presents now accounts
 
 -- a step of the session was made, over a store that was given if it asks one, and its answer waits after those before; or nothing changed
-abbrev pub StepsOn : Type 0 → Accounts → Client → List ℕ → List ℕ → Client → (Accounts → Type 0) → Bool → Type 0
-StepsOn Given accounts c waited waits d Shown true =
+abbrev pub StepsOrStays : Type 0 → Accounts → Client → List ℕ → List ℕ → Client → (Accounts → Type 0) → Bool → Type 0
+StepsOrStays Given accounts c waited waits d Shown true =
     (progress : Progress) × (octets : List ℕ) × (later : Accounts) × (waits ≡ waited ++ octets) × IsStep accounts c progress octets d later × Shown later × (AsksNothing c octets d ⊎ Given)
-StepsOn Given accounts c waited waits d Shown false = (d ≡ c) × (waits ≡ waited) × Shown accounts
+StepsOrStays Given accounts c waited waits d Shown false = (d ≡ c) × (waits ≡ waited) × Shown accounts
 
 -- a session led here from the greeting on: all that came was read and all that was said is written, and nothing that came is left to be answered
 pub record Served (Stopped : Client → Type 0) (Given : Type 0) (accounts : Accounts) (in_old in_new out_old out_new : Option (List ℕ)) (c : Client) (new : Database) : Type 0 where
   pub rounds : List Round
-  pub passes : Passes Stopped Given accounts new_client rounds c (Offers new)
+  pub passes : RoundsPass Stopped Given accounts new_client rounds c (OffersAccounts new)
   pub read : Consumes in_old in_new (came_in rounds)
-  pub written : Appends out_old out_new (spelled (capabilities None) ++ said_in rounds)
+  pub written : Appends out_old out_new (reply_octets (capability_reply None) ++ said_in rounds)
   pub answered : is_ready c ≡ false
 
 -- the session ended: it is closed, or the input is at its end
@@ -238,23 +238,23 @@ pub record Ends (Stopped : Client → Type 0) (Given : Type 0) (accounts : Accou
 pub record BreaksOff (Stopped : Client → Type 0) (Given : Type 0) (accounts : Accounts) (in_old out_old out_new : Option (List ℕ)) (new : Database) : Type 0 where
   pub rounds : List Round
   pub client : Client
-  pub passes : Passes Stopped Given accounts new_client rounds client (Offers new)
-  pub read : BeginsWith in_old (came_in rounds)
-  pub written : AppendsFront out_old out_new (spelled (capabilities None) ++ said_in rounds)
+  pub passes : RoundsPass Stopped Given accounts new_client rounds client (OffersAccounts new)
+  pub read : LeftBeginsWith in_old (came_in rounds)
+  pub written : AppendsFront out_old out_new (reply_octets (capability_reply None) ++ said_in rounds)
 
 -- one whole session over accounts
-abbrev pub Converses : (Client → Type 0) → Type 0 → Accounts → Option (List ℕ) → Option (List ℕ) → Option (List ℕ) → Option (List ℕ) → Database → Result (Unit {0}) Fault → Type 0
+abbrev pub Converses : (Client → Type 0) → Type 0 → Accounts → Option (List ℕ) → Option (List ℕ) → Option (List ℕ) → Option (List ℕ) → Database → Result (Unit {0}) RunFault → Type 0
 Converses Stopped Given accounts in_old in_new out_old out_new new (Ok done) = Ends Stopped Given accounts in_old in_new out_old out_new new
 Converses Stopped Given accounts in_old in_new out_old out_new new (Err fault) = BreaksOff Stopped Given accounts in_old out_old out_new new
 
 -- the same over tables: accounts that they offered were served; a database without tables stays so
-pub record Serves (Stopped : Client → Type 0) (Given : Type 0) (in_old in_new out_old out_new : Option (List ℕ)) (old new : Database) (result : Result (Unit {0}) Fault) : Type 0 where
-  pub talks : (accounts : Accounts) → Offers old accounts → Converses Stopped Given accounts in_old in_new out_old out_new new result
+pub record ServesTables (Stopped : Client → Type 0) (Given : Type 0) (in_old in_new out_old out_new : Option (List ℕ)) (old new : Database) (result : Result (Unit {0}) RunFault) : Type 0 where
+  pub talks : (accounts : Accounts) → OffersAccounts old accounts → Converses Stopped Given accounts in_old in_new out_old out_new new result
   pub none : old.schema ≡ no_schema → new.schema ≡ no_schema
 
 -- the same over a reader, a writer and a keeper, in terms of what is still to be read from the one, what was written to the other, and the tables
 -- of the third, which says by `refuses` that it refused the lock or the store at the path, by `gives` that it gave the store out there, by `waits`
 -- whether it waited, and by `closes` how closing it ended. Of what was given up, and of a store that couldn't be closed, this holds
-abbrev pub ServesBy : {A B C S : Type 0} → (A → Option (List ℕ)) → A → A → (B → Option (List ℕ)) → B → B → (C → List ℕ → Unavailable → Type 0) → (C → List ℕ → Type 0) → (C → Bool) → (C → S → Option Refusal → Type 0) → StoreLocation → (C → Database) → C → C → Type 0 → Result (Unit {0}) Fault → Type 0
+abbrev pub ServesBy : {A B C S : Type 0} → (A → Option (List ℕ)) → A → A → (B → Option (List ℕ)) → B → B → (C → List ℕ → StoreUnavailable → Type 0) → (C → List ℕ → Type 0) → (C → Bool) → (C → S → Option Refusal → Type 0) → StoreLocation → (C → Database) → C → C → Type 0 → Result (Unit {0}) RunFault → Type 0
 ServesBy remaining in_old in_new contents out_old out_new refuses gives waits closes location holds old new Told result =
-    Serves (Stops refuses waits location Told) (WasOut gives waits closes location Told) (remaining in_old) (remaining in_new) (contents out_old) (contents out_new) (holds old) (holds new) result
+    ServesTables (StopsServing refuses waits location Told) (WasOut gives waits closes location Told) (remaining in_old) (remaining in_new) (contents out_old) (contents out_new) (holds old) (holds new) result

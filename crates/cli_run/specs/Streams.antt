@@ -39,12 +39,12 @@ unfolding TellsEnd
 tells_end remaining old new nothing none = tt
 
 -- a read gave octets, at least one; or a signal came before it
-abbrev pub GoesOn : {R : Type 0} → (R → Option (List ℕ)) → R → R → Type 0
-GoesOn remaining old new = ((octets : List ℕ) × (octets ≢ []) × Consumes (remaining old) (remaining new) octets) ⊎ WasInterrupted old new
+abbrev pub ReadGoesOn : {R : Type 0} → (R → Option (List ℕ)) → R → R → Type 0
+ReadGoesOn remaining old new = ((octets : List ℕ) × (octets ≢ []) × Consumes (remaining old) (remaining new) octets) ⊎ WasInterrupted old new
 
 -- a write took octets, at least one; or a signal came before it
-abbrev pub Takes : {W : Type 0} → (W → Option (List ℕ)) → W → W → Type 0
-Takes contents old new = ((octets : List ℕ) × (octets ≢ []) × Appends (contents old) (contents new) octets) ⊎ WasInterrupted old new
+abbrev pub WriteTakes : {W : Type 0} → (W → Option (List ℕ)) → W → W → Type 0
+WriteTakes contents old new = ((octets : List ℕ) × (octets ≢ []) × Appends (contents old) (contents new) octets) ⊎ WasInterrupted old new
 
 -- that many steps in order led here
 pub data InTurn {X : Type 0} (Step : X → X → Type 0) (old : X) : ℕ → X → Type 0 where
@@ -53,7 +53,7 @@ pub data InTurn {X : Type 0} (Step : X → X → Type 0) (old : X) : ℕ → X �
 
 -- reads in order, each of which went on
 abbrev pub ReadsOn : {R : Type 0} → (R → Option (List ℕ)) → R → R → Type 0
-ReadsOn remaining old new = (count : ℕ) × InTurn (GoesOn remaining) old count new
+ReadsOn remaining old new = (count : ℕ) × InTurn (ReadGoesOn remaining) old count new
 
 -- reads in order went on, and the one after them, the last, returned that nothing is left
 pub record ReadsToEnd {R : Type 0} (remaining : R → Option (List ℕ)) (old new : R) : Type 0 where
@@ -78,7 +78,7 @@ pub read_failed : (left : Option (List ℕ)) (error : Error) → error_kind erro
 unfolding ReadFailed
 read_failed left error other = tt
 
-pub reads_end : {R : Type 0} (remaining : R → Option (List ℕ)) (old new : R) → InTurn (GoesOn remaining) old 40000000 new → ReadFailed (remaining new)
+pub reads_end : {R : Type 0} (remaining : R → Option (List ℕ)) (old new : R) → InTurn (ReadGoesOn remaining) old 40000000 new → ReadFailed (remaining new)
 unfolding ReadFailed
 reads_end remaining old new all = tt
 
@@ -120,9 +120,9 @@ abbrev pub OutputFailed : Type 0
 OutputFailed = (held : Option (List ℕ)) × WriteFailed held
 
 -- known octets grow by some prefix of a text, after which a write failed
-abbrev pub IsCut : Option (List ℕ) → Option (List ℕ) → List ℕ → Type 0
-IsCut old new text = AppendsFront old new text × WriteFailed new
+abbrev pub IsWriteCut : Option (List ℕ) → Option (List ℕ) → List ℕ → Type 0
+IsWriteCut old new text = AppendsFront old new text × WriteFailed new
 
 -- known octets grow by a text, or writing broke off in it
 abbrev pub IsWritten : Option (List ℕ) → Option (List ℕ) → List ℕ → Type 0
-IsWritten old new text = Appends old new text ⊎ IsCut old new text
+IsWritten old new text = Appends old new text ⊎ IsWriteCut old new text

@@ -4,87 +4,87 @@ use Rattle.std.specs.Prelude.{◌≡◌, ◌≢◌, ◌⊎◌, ℕ, suc, Bool, t
 use Rattle.std.specs.FinMap.{entries, get, keys}
 use Rattle.std.specs.Io.KnownBytes.{IsAtEnd, Keeps}
 use Rattle.std.specs.List.{flat_map}
-use Rattle.accountfiles.specs.Text.{IsTextOf}
-use Rattle.accountfiles.specs.declared.account_file.AccountFile.{AccountFile}
-use Rattle.accountfiles.specs.declared.head.Head.{Head}
-use Rattle.accountfiles.specs.declared.part.Part.{Part}
+use Rattle.store_text.specs.Text.{IsAccountText}
+use Rattle.store_text.specs.declared.account_file.AccountFile.{AccountFile}
+use Rattle.store_text.specs.declared.head.AccountHead.{AccountHead}
+use Rattle.store_text.specs.declared.part.Part.{Part}
 use Rattle.octets.specs.Decimal.{Writes}
-use Rattle.maildirs.specs.Directory.{directory}
-use Rattle.maildirs.specs.declared.separator.Separator.{Separator}
+use Rattle.maildir_files.specs.Directory.{directory}
+use Rattle.maildir_files.specs.declared.separator.Separator.{Separator}
 use Rattle.sqlite.specs.Effect.{Database}
 use Rattle.sqlite.specs.State.{State, HasCleanDisk}
-use Rattle.mailsinks.specs.declared.kept.KeptMail.{KeptMail}
-use Rattle.mailsinks.specs.declared.sink.SinkError.{SinkError}
-use Rattle.mailstore.specs.Account.{Account, Accounts, is_closed, is_removed, no_accounts, messages_in, row_with}
-use Rattle.mailstore.specs.HeadRows.{head_of}
-use Rattle.mailstore.specs.Promises.{HasNoOpen, OfOpen, OverAccounts}
-use Rattle.mailstore.specs.Promises.{Keeps as KeepsStore}
-use Rattle.mailstore.specs.Schema.{no_schema}
-use Rattle.mailstore.specs.Shows.{Presents}
-use Rattle.mailstore.specs.Tally.{size_of}
-use Rattle.mailstore.specs.Users.{IsNextUser}
-use Rattle.mailstore.specs.Whole.{IsCopyOf}
-use Rattle.mailstore.specs.declared.refusal.Refusal.{Refusal}
-use Rattle.mailstore.specs.declared.refusal.Refusal.TheVariants.{NoRow}
-use Rattle.mailengine.specs.World.{Next}
-use Rattle.mailengine.specs.declared.answer.Answer.{Answer}
-use Rattle.mailengine.specs.declared.answer.Answer.TheVariants as answer
-use Rattle.mailengine.specs.declared.event.Event.{Event}
-use Rattle.mailengine.specs.declared.event.Event.TheVariants.{Deliver, AddUser, Import, TakeOut, Keep}
-use Rattle.mailengine.specs.declared.upkeep.Upkeep.{Upkeep}
-use Rattle.mailengine.specs.declared.upkeep.Upkeep.TheVariants as upkeep
-use Rattle.mailstore.specs.declared.notice.Notice.{Notice}
-use Rattle.mailstore.specs.declared.profile.Profile.{Profile}
-use Rattle.msproto.specs.Replies.{lines_spelled, string_spelled}
-use Rattle.sessions.specs.Scripts.{script_lines}
-use Rattle.sievelex.specs.Faults.{fault_line}
-use Rattle.sievelex.specs.declared.fault.ScriptFault.{ScriptFault}
-use Rattle.reportlines.specs.Listings.{queue_listing, notice_listing}
-use Rattle.reportlines.specs.Reports.{with_end, delivery_report}
+use Rattle.maildir_files.specs.declared.kept.KeptMail.{KeptMail}
+use Rattle.maildir_files.specs.declared.sink.SinkError.{SinkError}
+use Rattle.store_accounts.specs.Account.{Account, Accounts, is_closed_account, is_removed, no_accounts, messages_in, row_with}
+use Rattle.store_accounts.specs.HeadRows.{queued_envelope}
+use Rattle.store_accounts.specs.Promises.{HasNoOpen, OfOpen, OverAccounts}
+use Rattle.store_accounts.specs.Promises.{KeepsTables as KeepsStore}
+use Rattle.store_accounts.specs.Schema.{no_schema}
+use Rattle.store_accounts.specs.Shows.{Presents}
+use Rattle.store_accounts.specs.Tally.{folder_size}
+use Rattle.store_accounts.specs.Users.{IsNextUser}
+use Rattle.store_accounts.specs.Whole.{IsCopyOf}
+use Rattle.store_accounts.specs.declared.refusal.Refusal.{Refusal}
+use Rattle.store_accounts.specs.declared.refusal.Refusal.TheVariants.{NoRow}
+use Rattle.store_engine.specs.World.{Next}
+use Rattle.store_engine.specs.declared.answer.Answer.{Answer}
+use Rattle.store_engine.specs.declared.answer.Answer.TheVariants as answer
+use Rattle.store_engine.specs.declared.event.Event.{Event}
+use Rattle.store_engine.specs.declared.event.Event.TheVariants.{Deliver, AddUser, Import, TakeOut, Keep}
+use Rattle.store_engine.specs.declared.upkeep.Upkeep.{Upkeep}
+use Rattle.store_engine.specs.declared.upkeep.Upkeep.TheVariants as upkeep
+use Rattle.store_accounts.specs.declared.notice.Notice.{Notice}
+use Rattle.store_accounts.specs.declared.profile.Profile.{Profile}
+use Rattle.managesieve_protocol.specs.Replies.{lines_spelled, string_spelled}
+use Rattle.managesieve_sessions.specs.Scripts.{script_lines}
+use Rattle.sieve_lex.specs.Faults.{fault_line}
+use Rattle.sieve_lex.specs.declared.fault.ScriptFault.{ScriptFault}
+use Rattle.cli_reports.specs.Listings.{queue_listing, notice_listing}
+use Rattle.cli_reports.specs.Reports.{ended_line, delivery_report}
 use Rattle.clap.specs.Words.{kind_of}
 use Rattle.clap.specs.declared.error.Error.{Error}
 use Rattle.clap.specs.declared.error.kind.ErrorKind.TheVariants.{DisplayHelp, DisplayVersion}
-use Rattle.sievedwords.specs.Asks.{WasRead}
-use Rattle.sievedwords.specs.declared.command_line.CommandLine.{CommandLine}
-use Rattle.sievedwords.specs.declared.location.StoreLocation.{StoreLocation}
-use Rattle.sievedwords.specs.declared.reading.ReadError.{ReadError}
-use Rattle.sievedwords.specs.declared.reading.ReadError.TheVariants.{Said, NotText, Unknown}
-use Rattle.sievedwords.specs.declared.subcommand.Subcommand.{Subcommand}
-use Rattle.sievedwords.specs.declared.subcommand.Subcommand.TheVariants as word
-use Rattle.sievedrun.specs.Draining.{StaysAsItWas, TurnsTables, HasDrained}
-use Rattle.sievedrun.specs.Exports.{IsCutOff}
-use Rattle.sievedrun.specs.Faults.{memory, no_user, status_of, line_of, troubles, AreTold, IsSudden, IsHindered, IsPrinted}
-use Rattle.sievedrun.specs.Promise.{first_line, world_of, status_after}
-use Rattle.sievedrun.specs.Streams.{ReadsAll, AppendsSome, InputFailed, IsWritten}
-use Rattle.sievedrun.specs.TryScript.{Tries}
-use Rattle.sievedrun.specs.Values.{IsNoNumber, IsNoUntil, IsSalt, HasNoSalt, IsWhen, HasNoWhen, IsSeparator, HasNoSeparator, envelope_with}
-use Rattle.sievedrun.specs.declared.fault.Fault.{Fault}
-use Rattle.sieveexec.specs.declared.when.When.{When}
-use Rattle.sievedrun.specs.declared.fault.Fault.TheVariants.{Refused, Stream, NoMessage, NoScript, Invalid, BadInput, BadArgument}
+use Rattle.cli_subcommands.specs.Asks.{WasRead}
+use Rattle.cli_subcommands.specs.declared.raw_args.RawArgs.{RawArgs}
+use Rattle.cli_subcommands.specs.declared.location.StoreLocation.{StoreLocation}
+use Rattle.cli_subcommands.specs.declared.reading.ArgsError.{ArgsError}
+use Rattle.cli_subcommands.specs.declared.reading.ArgsError.TheVariants.{Said, NotText, Unknown}
+use Rattle.cli_subcommands.specs.declared.subcommand.Subcommand.{Subcommand}
+use Rattle.cli_subcommands.specs.declared.subcommand.Subcommand.TheVariants as word
+use Rattle.cli_run.specs.Draining.{StaysAsItWas, TurnsTables, HasDrained}
+use Rattle.cli_run.specs.Exports.{IsCutOff}
+use Rattle.cli_run.specs.Faults.{memory, no_user, status_of, run_fault_line, troubles, AreTold, IsSudden, IsHindered, IsPrinted}
+use Rattle.cli_run.specs.Promise.{first_line, world_of_accounts, status_after}
+use Rattle.cli_run.specs.Streams.{ReadsAll, AppendsSome, InputFailed, IsWritten}
+use Rattle.cli_run.specs.TryScript.{Tries}
+use Rattle.cli_run.specs.Values.{IsNoNumber, IsNoUntil, IsSalt, HasNoSalt, IsWhen, HasNoWhen, IsSeparator, HasNoSeparator, envelope_with}
+use Rattle.cli_run.specs.declared.fault.RunFault.{RunFault}
+use Rattle.sieve_exec.specs.declared.when.When.{When}
+use Rattle.cli_run.specs.declared.fault.RunFault.TheVariants.{Refused, Stream, NoMessage, NoScript, Invalid, BadInput, BadArgument}
 
 -- ---- how a subcommand ends, whatever it does
 
 -- it was done: the accounts became these, and the text that reports it is printed like this
-pub record IsDone (Deed : Accounts → Accounts → List ℕ → Type 0) (IsPrinted : List ℕ → Type 0) (accounts later : Accounts) : Type 0 where
+pub record IsDoneAndPrinted (Deed : Accounts → Accounts → List ℕ → Type 0) (IsPrinted : List ℕ → Type 0) (accounts later : Accounts) : Type 0 where
   pub text : List ℕ
   pub deed : Deed accounts later text
   pub printed : IsPrinted text
 
 -- nothing was done and nothing printed, for a cause
-pub record IsUndone (Cause : Fault → Accounts → Type 0) (old new : Option (List ℕ)) (fault : Fault) (accounts later : Accounts) : Type 0 where
+pub record IsUndone (Cause : RunFault → Accounts → Type 0) (old new : Option (List ℕ)) (fault : RunFault) (accounts later : Accounts) : Type 0 where
   pub cause : Cause fault accounts
   pub stays : later ≡ accounts
   pub silent : Keeps old new
 
 -- after Ok it was done, and all of the text is printed; after a fault it wasn't, or it was, and a write of the text failed
-abbrev pub Finishes : (Accounts → Accounts → List ℕ → Type 0) → (Fault → Accounts → Type 0) → Option (List ℕ) → Option (List ℕ) → Result (Unit {0}) Fault → Accounts → Accounts → Type 0
-Finishes Deed Cause old new (Ok done) accounts later = IsDone Deed (IsPrinted (Ok tt) old new) accounts later
-Finishes Deed Cause old new (Err fault) accounts later = IsUndone Cause old new fault accounts later ⊎ IsDone Deed (IsPrinted (Err fault) old new) accounts later
+abbrev pub FinishesPrinted : (Accounts → Accounts → List ℕ → Type 0) → (RunFault → Accounts → Type 0) → Option (List ℕ) → Option (List ℕ) → Result (Unit {0}) RunFault → Accounts → Accounts → Type 0
+FinishesPrinted Deed Cause old new (Ok done) accounts later = IsDoneAndPrinted Deed (IsPrinted (Ok tt) old new) accounts later
+FinishesPrinted Deed Cause old new (Err fault) accounts later = IsUndone Cause old new fault accounts later ⊎ IsDoneAndPrinted Deed (IsPrinted (Err fault) old new) accounts later
 
 -- ---- subcommands that are an event of the machine
 
 -- `adduser`: the account of these arguments, whose password is the first line of what was read
-pub record Adds (digits random : Option (List ℕ)) (name address : List ℕ) (given : Option (List ℕ)) (event : Event) : Type 0 where
+pub record IsAddUserEvent (digits random : Option (List ℕ)) (name address : List ℕ) (given : Option (List ℕ)) (event : Event) : Type 0 where
   pub octets : List ℕ
   pub read : ReadsAll given octets
   pub salt : List ℕ
@@ -92,7 +92,7 @@ pub record Adds (digits random : Option (List ℕ)) (name address : List ℕ) (g
   pub same : event ≡ AddUser name address salt (first_line octets)
 
 -- `passwd`: the user's new password is the first line of what was read
-pub record Guards (digits random : Option (List ℕ)) (user : List ℕ) (given : Option (List ℕ)) (event : Event) : Type 0 where
+pub record IsPasswdEvent (digits random : Option (List ℕ)) (user : List ℕ) (given : Option (List ℕ)) (event : Event) : Type 0 where
   pub octets : List ℕ
   pub read : ReadsAll given octets
   pub salt : List ℕ
@@ -100,32 +100,32 @@ pub record Guards (digits random : Option (List ℕ)) (user : List ℕ) (given :
   pub same : event ≡ Keep user (upkeep.SetPassword salt (first_line octets))
 
 -- `address`, `open`, `remove`: this is done to the user's account
-abbrev pub IsKeeping : List ℕ → Upkeep → Event → Type 0
-IsKeeping user upkeep event = event ≡ Keep user upkeep
+abbrev pub IsUpkeepEvent : List ℕ → Upkeep → Event → Type 0
+IsUpkeepEvent user upkeep event = event ≡ Keep user upkeep
 
 -- no text is checked, so it is done or refused
-abbrev pub IsPlain : Upkeep → Type 0
-IsPlain (upkeep.StoreScript name text activate) = ⊥
-IsPlain other = Unit {0}
+abbrev pub IsPlainUpkeep : Upkeep → Type 0
+IsPlainUpkeep (upkeep.StoreScript name text activate) = ⊥
+IsPlainUpkeep other = Unit {0}
 
 -- it was done, or the machine's refusal is the fault
-abbrev pub IsDoneBy : Answer → Result (Unit {0}) Fault → Type 0
+abbrev pub IsDoneBy : Answer → Result (Unit {0}) RunFault → Type 0
 IsDoneBy (answer.Refused refusal) result = result ≡ Err (Refused refusal)
 IsDoneBy other result = result ≡ Ok tt
 
 -- what is answered if it is done
-abbrev pub said_of : Upkeep → Answer
-said_of (upkeep.SetPassword salt password) = answer.Changed
-said_of (upkeep.SetAddress address) = answer.Changed
-said_of (upkeep.StoreScript name text activate) = answer.Stored
-said_of upkeep.CloseAccount = answer.Closed
-said_of upkeep.OpenAccount = answer.Opened
-said_of (upkeep.RemoveAccount mail) = answer.Removed
-said_of (upkeep.TakeNotices until) = answer.NoticesTaken
+abbrev pub upkeep_answer : Upkeep → Answer
+upkeep_answer (upkeep.SetPassword salt password) = answer.Changed
+upkeep_answer (upkeep.SetAddress address) = answer.Changed
+upkeep_answer (upkeep.StoreScript name text activate) = answer.Stored
+upkeep_answer upkeep.CloseAccount = answer.Closed
+upkeep_answer upkeep.OpenAccount = answer.Opened
+upkeep_answer (upkeep.RemoveAccount mail) = answer.Removed
+upkeep_answer (upkeep.TakeNotices until) = answer.NoticesTaken
 
 -- `deliver`: all that was read is for the user, with these addresses, at the moment in the arguments or of the clock and in the zone of the
 -- arguments, by a host with this default script
-pub record Posts (from to : List ℕ) (at zone : Option (List ℕ)) (user : List ℕ) (clock : Option ℕ) (default given : Option (List ℕ)) (event : Event) : Type 0 where
+pub record IsDeliverEvent (from to : List ℕ) (at zone : Option (List ℕ)) (user : List ℕ) (clock : Option ℕ) (default given : Option (List ℕ)) (event : Event) : Type 0 where
   pub message : List ℕ
   pub read : ReadsAll given message
   pub when : When
@@ -133,13 +133,13 @@ pub record Posts (from to : List ℕ) (at zone : Option (List ℕ)) (user : List
   pub same : event ≡ Deliver user (envelope_with from to) message when default
 
 -- `put`: all that was read is the text of the user's script with this name
-pub record Offered (user name : List ℕ) (activate : Bool) (given : Option (List ℕ)) (event : Event) : Type 0 where
+pub record IsPutEvent (user name : List ℕ) (activate : Bool) (given : Option (List ℕ)) (event : Event) : Type 0 where
   pub text : List ℕ
   pub read : ReadsAll given text
   pub same : event ≡ Keep user (upkeep.StoreScript name text activate)
 
 -- it was stored, or is no script, or the machine's refusal is the fault
-abbrev pub IsStoredBy : Answer → Result (Option ScriptFault) Fault → Type 0
+abbrev pub IsStoredBy : Answer → Result (Option ScriptFault) RunFault → Type 0
 IsStoredBy (answer.Refused refusal) result = result ≡ Err (Refused refusal)
 IsStoredBy (answer.Invalid fault) result = result ≡ Ok (Some fault)
 IsStoredBy other result = result ≡ Ok None
@@ -150,116 +150,116 @@ script_of (upkeep.StoreScript name text activate) = name
 script_of other = []
 
 -- `done`: the message with the number that these digits write leaves the user's queue
-pub record Dequeues (user digits : List ℕ) (event : Event) : Type 0 where
+pub record IsDoneEvent (user digits : List ℕ) (event : Event) : Type 0 where
   pub id : ℕ
   pub written : Writes digits id
   pub same : event ≡ TakeOut user id
 
 -- `import`: all that was read is the text of this account
-pub record Brings (given : Option (List ℕ)) (event : Event) : Type 0 where
+pub record IsImportEvent (given : Option (List ℕ)) (event : Event) : Type 0 where
   pub text : List ℕ
   pub read : ReadsAll given text
   pub file : AccountFile
-  pub spelled : IsTextOf text file.head file.parts
+  pub spelled : IsAccountText text file.head file.parts
   pub same : event ≡ Import file
 
 -- what is printed of an event that was made, by its answer
-abbrev pub Tells : Event → Answer → List ℕ → Type 0
-Tells (AddUser name address salt password) answer.Added text = text ≡ with_end (codes "added " ++ name)
-Tells (Deliver user envelope message when default) (answer.Delivered report) text = text ≡ delivery_report report
-Tells (Import file) answer.Imported text = text ≡ with_end (codes "imported " ++ file.head.owner.name)
-Tells (TakeOut user id) (answer.Taken row) text = text ≡ with_end (codes "taken " ++ decimal id)
-Tells (Keep user upkeep) answer.Changed text = text ≡ with_end (codes "changed " ++ user)
-Tells (Keep user upkeep) answer.Stored text = text ≡ with_end (codes "stored " ++ script_of upkeep)
-Tells (Keep user upkeep) answer.Opened text = text ≡ with_end (codes "opened " ++ user)
-Tells (Keep user upkeep) answer.Removed text = text ≡ with_end (codes "removed " ++ user)
-Tells event answer text = ⊥
+abbrev pub TellsEvent : Event → Answer → List ℕ → Type 0
+TellsEvent (AddUser name address salt password) answer.Added text = text ≡ ended_line (codes "added " ++ name)
+TellsEvent (Deliver user envelope message when default) (answer.Delivered report) text = text ≡ delivery_report report
+TellsEvent (Import file) answer.Imported text = text ≡ ended_line (codes "imported " ++ file.head.owner.name)
+TellsEvent (TakeOut user id) (answer.Taken row) text = text ≡ ended_line (codes "taken " ++ decimal id)
+TellsEvent (Keep user upkeep) answer.Changed text = text ≡ ended_line (codes "changed " ++ user)
+TellsEvent (Keep user upkeep) answer.Stored text = text ≡ ended_line (codes "stored " ++ script_of upkeep)
+TellsEvent (Keep user upkeep) answer.Opened text = text ≡ ended_line (codes "opened " ++ user)
+TellsEvent (Keep user upkeep) answer.Removed text = text ≡ ended_line (codes "removed " ++ user)
+TellsEvent event answer text = ⊥
 
 -- an event of the subcommand's own was made, and this reports it
-pub record Makes (Own : Event → Type 0) (accounts later : Accounts) (text : List ℕ) : Type 0 where
+pub record MakesEvent (Own : Event → Type 0) (accounts later : Accounts) (text : List ℕ) : Type 0 where
   pub event : Event
   pub own : Own event
   pub answer : Answer
-  pub next : Next (world_of accounts) event answer (world_of later)
-  pub tells : Tells event answer text
+  pub next : Next (world_of_accounts accounts) event answer (world_of_accounts later)
+  pub tells : TellsEvent event answer text
 
 -- the machine refuses such an event, and its refusal is the fault
-pub record RefusesEvent (Own : Event → Type 0) (fault : Fault) (accounts : Accounts) : Type 0 where
+pub record RefusesEvent (Own : Event → Type 0) (fault : RunFault) (accounts : Accounts) : Type 0 where
   pub event : Event
   pub own : Own event
   pub refusal : Refusal
   pub told : fault ≡ Refused refusal
-  pub next : Next (world_of accounts) event (answer.Refused refusal) (world_of accounts)
+  pub next : Next (world_of_accounts accounts) event (answer.Refused refusal) (world_of_accounts accounts)
 
 -- one event over a store that was taken for it and handed back: it was made, with this said of the result; or the machine refuses it, or
 -- the subcommand was hindered
-abbrev pub Puts : {X : Type 0} → (Fault → Type 0) → Event → (X → Answer) → Result X Fault → Accounts → Accounts → Type 0
-Puts Denied event told (Ok x) accounts later = Next (world_of accounts) event (told x) (world_of later)
+abbrev pub Puts : {X : Type 0} → (RunFault → Type 0) → Event → (X → Answer) → Result X RunFault → Accounts → Accounts → Type 0
+Puts Denied event told (Ok x) accounts later = Next (world_of_accounts accounts) event (told x) (world_of_accounts later)
 Puts Denied event told (Err fault) accounts later = (later ≡ accounts) × (IsHindered ⊥ ⊥ Denied fault ⊎ RefusesEvent (λ e. e ≡ event) fault accounts)
 
 -- the subcommand over tables: an event of its own
-abbrev pub DoesEvent : Type 0 → Type 0 → (Fault → Type 0) → (Event → Type 0) → Option (List ℕ) → Option (List ℕ) → Result (Unit {0}) Fault → Database → Database → Type 0
-DoesEvent Broken Wrong Denied Own old new result = TurnsTables (Finishes (Makes Own) (λ fault accounts. IsHindered Broken Wrong Denied fault ⊎ RefusesEvent Own fault accounts) old new result)
+abbrev pub DoesEvent : Type 0 → Type 0 → (RunFault → Type 0) → (Event → Type 0) → Option (List ℕ) → Option (List ℕ) → Result (Unit {0}) RunFault → Database → Database → Type 0
+DoesEvent Broken Wrong Denied Own old new result = TurnsTables (FinishesPrinted (MakesEvent Own) (λ fault accounts. IsHindered Broken Wrong Denied fault ⊎ RefusesEvent Own fault accounts) old new result)
 
 -- ---- `put`, whose text may be no script
 
 -- a script was given to the machine: it was stored; or its text is none, and no account changed; or it is refused, or the subcommand was hindered
-abbrev pub PutsScript : (Fault → Type 0) → List ℕ → Upkeep → Result (Option ScriptFault) Fault → Accounts → Accounts → Type 0
-PutsScript Denied user upkeep (Ok None) accounts later = Next (world_of accounts) (Keep user upkeep) answer.Stored (world_of later)
-PutsScript Denied user upkeep (Ok (Some fault)) accounts later = (later ≡ accounts) × Next (world_of accounts) (Keep user upkeep) (answer.Invalid fault) (world_of accounts)
+abbrev pub PutsScript : (RunFault → Type 0) → List ℕ → Upkeep → Result (Option ScriptFault) RunFault → Accounts → Accounts → Type 0
+PutsScript Denied user upkeep (Ok None) accounts later = Next (world_of_accounts accounts) (Keep user upkeep) answer.Stored (world_of_accounts later)
+PutsScript Denied user upkeep (Ok (Some fault)) accounts later = (later ≡ accounts) × Next (world_of_accounts accounts) (Keep user upkeep) (answer.Invalid fault) (world_of_accounts accounts)
 PutsScript Denied user upkeep (Err fault) accounts later = (later ≡ accounts) × (IsHindered ⊥ ⊥ Denied fault ⊎ RefusesEvent (λ e. e ≡ Keep user upkeep) fault accounts)
 
 -- the line on a script's fault is printed whole, and the subcommand's fault is that the script isn't valid; or there was no memory for the line, or
 -- a write of it failed
-abbrev pub TellsInvalid : ScriptFault → Option (List ℕ) → Option (List ℕ) → Result (Unit {0}) Fault → Type 0
+abbrev pub TellsInvalid : ScriptFault → Option (List ℕ) → Option (List ℕ) → Result (Unit {0}) RunFault → Type 0
 TellsInvalid fault old new (Ok done) = ⊥
 TellsInvalid fault old new (Err told) =
-    ((told ≡ Invalid) × IsPrinted (Ok tt) old new (with_end (fault_line fault.line fault.kind)))
+    ((told ≡ Invalid) × IsPrinted (Ok tt) old new (ended_line (fault_line fault.line fault.kind)))
     ⊎ ((told ≡ memory) × Keeps old new)
-    ⊎ IsPrinted (Err told) old new (with_end (fault_line fault.line fault.kind))
+    ⊎ IsPrinted (Err told) old new (ended_line (fault_line fault.line fault.kind))
 
 -- what is printed of a script: that it was stored, or what is wrong with it
-abbrev pub TellsVerdict : List ℕ → Option ScriptFault → Option (List ℕ) → Option (List ℕ) → Result (Unit {0}) Fault → Type 0
-TellsVerdict name None old new result = IsPrinted result old new (with_end (codes "stored " ++ name))
+abbrev pub TellsVerdict : List ℕ → Option ScriptFault → Option (List ℕ) → Option (List ℕ) → Result (Unit {0}) RunFault → Type 0
+TellsVerdict name None old new result = IsPrinted result old new (ended_line (codes "stored " ++ name))
 TellsVerdict name (Some fault) old new result = TellsInvalid fault old new result
 
 -- the machine answers to such an event that the text is no script, no account changes, and that is printed
-pub record RefusesScript (Own : Event → Type 0) (old new : Option (List ℕ)) (result : Result (Unit {0}) Fault) (accounts later : Accounts) : Type 0 where
+pub record RefusesScript (Own : Event → Type 0) (old new : Option (List ℕ)) (result : Result (Unit {0}) RunFault) (accounts later : Accounts) : Type 0 where
   pub event : Event
   pub own : Own event
   pub fault : ScriptFault
-  pub next : Next (world_of accounts) event (answer.Invalid fault) (world_of accounts)
+  pub next : Next (world_of_accounts accounts) event (answer.Invalid fault) (world_of_accounts accounts)
   pub stays : later ≡ accounts
   pub told : TellsInvalid fault old new result
 
 -- the subcommand over tables
-abbrev pub DoesPut : (Fault → Type 0) → (Event → Type 0) → Option (List ℕ) → Option (List ℕ) → Result (Unit {0}) Fault → Database → Database → Type 0
+abbrev pub DoesPut : (RunFault → Type 0) → (Event → Type 0) → Option (List ℕ) → Option (List ℕ) → Result (Unit {0}) RunFault → Database → Database → Type 0
 DoesPut Denied Own old new result =
     TurnsTables (λ accounts later.
-    Finishes (Makes Own) (λ fault all. IsHindered InputFailed ⊥ Denied fault ⊎ RefusesEvent Own fault all) old new result accounts later ⊎ RefusesScript Own old new result accounts later)
+    FinishesPrinted (MakesEvent Own) (λ fault all. IsHindered InputFailed ⊥ Denied fault ⊎ RefusesEvent Own fault all) old new result accounts later ⊎ RefusesScript Own old new result accounts later)
 
 -- ---- `import`, whose text may not be that of an account
 
 -- all that was read isn't the text of an account
 abbrev pub IsNoAccount : Option (List ℕ) → Type 0
-IsNoAccount given = (text : List ℕ) × ReadsAll given text × ((head : Head) (parts : List Part) → IsTextOf text head parts → ⊥)
+IsNoAccount given = (text : List ℕ) × ReadsAll given text × ((head : AccountHead) (parts : List Part) → IsAccountText text head parts → ⊥)
 
 -- no account was read: memory was refused, a read failed, or all that was read isn't the text of one
-abbrev pub IsNotRead : Option (List ℕ) → Fault → Type 0
+abbrev pub IsNotRead : Option (List ℕ) → RunFault → Type 0
 IsNotRead given fault = (fault ≡ memory) ⊎ ((fault ≡ Stream) × InputFailed) ⊎ ((fault ≡ BadInput) × IsNoAccount given)
 
 -- that is reported, no account changed, and nothing is printed
-pub record RefusesText (given old new : Option (List ℕ)) (result : Result (Unit {0}) Fault) (accounts later : Accounts) : Type 0 where
+pub record RefusesText (given old new : Option (List ℕ)) (result : Result (Unit {0}) RunFault) (accounts later : Accounts) : Type 0 where
   pub none : IsNoAccount given
   pub told : result ≡ Err BadInput
   pub stays : later ≡ accounts
   pub silent : Keeps old new
 
 -- the subcommand over tables
-abbrev pub DoesImport : (Fault → Type 0) → Option (List ℕ) → Option (List ℕ) → Option (List ℕ) → Result (Unit {0}) Fault → Database → Database → Type 0
+abbrev pub DoesImport : (RunFault → Type 0) → Option (List ℕ) → Option (List ℕ) → Option (List ℕ) → Result (Unit {0}) RunFault → Database → Database → Type 0
 DoesImport Denied given old new result =
     TurnsTables (λ accounts later.
-    Finishes (Makes (Brings given)) (λ fault all. IsHindered InputFailed ⊥ Denied fault ⊎ RefusesEvent (Brings given) fault all) old new result accounts later ⊎ RefusesText given old new result accounts later)
+    FinishesPrinted (MakesEvent (IsImportEvent given)) (λ fault all. IsHindered InputFailed ⊥ Denied fault ⊎ RefusesEvent (IsImportEvent given) fault all) old new result accounts later ⊎ RefusesText given old new result accounts later)
 
 -- ---- subcommands that only read
 
@@ -269,18 +269,18 @@ pub record Shows (user : List ℕ) (IsShown : Account → List ℕ → Type 0) (
   pub shown : OfOpen accounts user (λ a. IsShown a text)
 
 -- what was read of the user's open account: this is found in it; or there is none, or the subcommand was hindered
-abbrev pub FindsIn : {X : Type 0} → (Fault → Type 0) → List ℕ → (X → Account → Type 0) → Result X Fault → Accounts → Type 0
+abbrev pub FindsIn : {X : Type 0} → (RunFault → Type 0) → List ℕ → (X → Account → Type 0) → Result X RunFault → Accounts → Type 0
 FindsIn Denied user Finds (Ok found) accounts = OfOpen accounts user (Finds found)
 FindsIn Denied user Finds (Err fault) accounts = IsHindered ⊥ ⊥ Denied fault ⊎ ((fault ≡ no_user) × HasNoOpen user accounts)
 
 -- why nothing is shown: the subcommand was hindered; no value in the arguments is wrong, and there is no open account of the name; or what was
 -- asked for isn't there, which this fault says
-abbrev pub HasNone : Type 0 → (Fault → Type 0) → List ℕ → (Fault → Account → Type 0) → Fault → Accounts → Type 0
-HasNone Wrong Denied user Lacks fault accounts = IsHindered ⊥ Wrong Denied fault ⊎ ((fault ≡ no_user) × HasNoOpen user accounts × (Wrong → ⊥)) ⊎ OfOpen accounts user (Lacks fault)
+abbrev pub ShowsNothing : Type 0 → (RunFault → Type 0) → List ℕ → (RunFault → Account → Type 0) → RunFault → Accounts → Type 0
+ShowsNothing Wrong Denied user Lacks fault accounts = IsHindered ⊥ Wrong Denied fault ⊎ ((fault ≡ no_user) × HasNoOpen user accounts × (Wrong → ⊥)) ⊎ OfOpen accounts user (Lacks fault)
 
 -- the subcommand over tables: it shows a part of the user's account
-abbrev pub DoesRead : Type 0 → (Fault → Type 0) → List ℕ → (Account → List ℕ → Type 0) → (Fault → Account → Type 0) → Option (List ℕ) → Option (List ℕ) → Result (Unit {0}) Fault → Database → Database → Type 0
-DoesRead Wrong Denied user IsShown Lacks old new result = TurnsTables (Finishes (Shows user IsShown) (HasNone Wrong Denied user Lacks) old new result)
+abbrev pub DoesRead : Type 0 → (RunFault → Type 0) → List ℕ → (Account → List ℕ → Type 0) → (RunFault → Account → Type 0) → Option (List ℕ) → Option (List ℕ) → Result (Unit {0}) RunFault → Database → Database → Type 0
+DoesRead Wrong Denied user IsShown Lacks old new result = TurnsTables (FinishesPrinted (Shows user IsShown) (ShowsNothing Wrong Denied user Lacks) old new result)
 
 -- a folder's name and the number of its messages, in a line
 abbrev pub folder_line : List ℕ × ℕ → List ℕ
@@ -292,11 +292,11 @@ directory_line separator folder = directory separator folder.0 ++ (codes " " ++ 
 
 -- a line for each folder, in the order of their names
 abbrev pub folder_listing : (List ℕ × ℕ → List ℕ) → List (List ℕ × ℕ) → List ℕ
-folder_listing line folders = flat_map with_end (map line folders)
+folder_listing line folders = flat_map ended_line (map line folders)
 
 -- `folders`
 abbrev pub ListsFolders : (List ℕ × ℕ → List ℕ) → Account → List ℕ → Type 0
-ListsFolders line a text = text ≡ folder_listing line (map size_of (entries a.folders))
+ListsFolders line a text = text ≡ folder_listing line (map folder_size (entries a.folders))
 
 -- `folders --maildir`, with this separator of the levels of folders
 abbrev pub ListsDirectories : Option (List ℕ) → Account → List ℕ → Type 0
@@ -304,7 +304,7 @@ ListsDirectories levels a text = (separator : Separator) × IsSeparator levels s
 
 -- `queue`
 abbrev pub ListsQueue : Account → List ℕ → Type 0
-ListsQueue a text = text ≡ queue_listing (map head_of a.queue)
+ListsQueue a text = text ≡ queue_listing (map queued_envelope a.queue)
 
 -- `notices`
 abbrev pub ListsNotices : Account → List ℕ → Type 0
@@ -320,7 +320,7 @@ abbrev pub ShowsMessage : List ℕ → List ℕ → Account → List ℕ → Typ
 ShowsMessage folder digits a text = (number : ℕ) × Writes digits number × HasMessage folder number a (Some text)
 
 -- and there is none
-abbrev pub LacksMessage : List ℕ → List ℕ → Fault → Account → Type 0
+abbrev pub LacksMessage : List ℕ → List ℕ → RunFault → Account → Type 0
 LacksMessage folder digits fault a = (fault ≡ NoMessage) × ((number : ℕ) × Writes digits number × HasMessage folder number a None)
 
 -- `queue` with a number: the octets of the message on its way out with the number that these digits write
@@ -328,7 +328,7 @@ abbrev pub ShowsOutgoing : List ℕ → Account → List ℕ → Type 0
 ShowsOutgoing digits a text = (id : ℕ) × (row : _) × Writes digits id × (row_with id a.queue ≡ Some row) × (text ≡ row.message)
 
 -- and there is none
-abbrev pub LacksOutgoing : List ℕ → Fault → Account → Type 0
+abbrev pub LacksOutgoing : List ℕ → RunFault → Account → Type 0
 LacksOutgoing digits fault a = (fault ≡ Refused NoRow) × ((id : ℕ) × Writes digits id × (row_with id a.queue ≡ None))
 
 -- `scripts`: the lines that LISTSCRIPTS has before its OK (RFC 5804, 2.7)
@@ -340,11 +340,11 @@ abbrev pub ShowsScript : List ℕ → Account → List ℕ → Type 0
 ShowsScript name a text = get a.scripts name ≡ Some text
 
 -- and there is none
-abbrev pub LacksScript : List ℕ → Fault → Account → Type 0
+abbrev pub LacksScript : List ℕ → RunFault → Account → Type 0
 LacksScript name fault a = (fault ≡ NoScript) × (get a.scripts name ≡ None)
 
 -- nothing that is asked for can be missing
-abbrev pub LacksNothing : Fault → Account → Type 0
+abbrev pub LacksNothing : RunFault → Account → Type 0
 LacksNothing fault a = ⊥
 
 -- ---- `users`
@@ -355,14 +355,14 @@ active_word None = codes "-"
 active_word (Some name) = string_spelled name
 
 abbrev pub open_line : List ℕ → Option (List ℕ) → List ℕ → List ℕ
-open_line name active address = with_end (name ++ (codes " " ++ (active_word active ++ (codes " " ++ address))))
+open_line name active address = ended_line (name ++ (codes " " ++ (active_word active ++ (codes " " ++ address))))
 
 abbrev pub closed_line : List ℕ → List ℕ
-closed_line name = with_end (codes "closed " ++ name)
+closed_line name = ended_line (codes "closed " ++ name)
 
 -- the line of an account; a removed one has none
 abbrev pub user_line : List ℕ → Account → List ℕ
-user_line name a = cond (is_removed a) [] (cond (is_closed a) (closed_line name) (open_line name a.active a.address))
+user_line name a = cond (is_removed a) [] (cond (is_closed_account a) (closed_line name) (open_line name a.active a.address))
 
 -- the same from what the store returns of the account, and for a name, which may have none
 abbrev pub profile_line : List ℕ → Profile → List ℕ
@@ -382,22 +382,22 @@ pub record ListsUsers (accounts later : Accounts) (text : List ℕ) : Type 0 whe
   pub listed : text ≡ user_listing (entries accounts)
 
 -- the subcommand over tables: the users are listed, or it was hindered
-abbrev pub DoesUsers : (Fault → Type 0) → Option (List ℕ) → Option (List ℕ) → Result (Unit {0}) Fault → Database → Database → Type 0
-DoesUsers Denied old new result = TurnsTables (Finishes ListsUsers (λ fault accounts. IsHindered ⊥ ⊥ Denied fault) old new result)
+abbrev pub DoesUsers : (RunFault → Type 0) → Option (List ℕ) → Option (List ℕ) → Result (Unit {0}) RunFault → Database → Database → Type 0
+DoesUsers Denied old new result = TurnsTables (FinishesPrinted ListsUsers (λ fault accounts. IsHindered ⊥ ⊥ Denied fault) old new result)
 
 -- what was read of all accounts: they are listed, or the subcommand was hindered
-abbrev pub FindsUsers : (Fault → Type 0) → Result (List ℕ) Fault → Accounts → Type 0
+abbrev pub FindsUsers : (RunFault → Type 0) → Result (List ℕ) RunFault → Accounts → Type 0
 FindsUsers Denied (Ok text) accounts = text ≡ user_listing (entries accounts)
 FindsUsers Denied (Err fault) accounts = IsHindered ⊥ ⊥ Denied fault
 
 -- the line of the user with the name, if there is an account
-abbrev pub line_at : List ℕ → Option Account → List ℕ
-line_at name None = []
-line_at name (Some a) = user_line name a
+abbrev pub user_line_at : List ℕ → Option Account → List ℕ
+user_line_at name None = []
+user_line_at name (Some a) = user_line name a
 
 -- the line of the user with the name is appended to the text, and the next user is this one
 pub record AddsUser (name old new : List ℕ) (next : Option (List ℕ)) (accounts : Accounts) : Type 0 where
-  pub added : new ≡ old ++ line_at name (get accounts name)
+  pub added : new ≡ old ++ user_line_at name (get accounts name)
   pub follows : IsNextUser name next accounts
 
 -- ---- `notices`, which may take what it prints
@@ -419,28 +419,28 @@ abbrev pub taking : List ℕ → ℕ → Event
 taking user until = Keep user (upkeep.TakeNotices until)
 
 -- nothing could be shown, and nothing is printed: memory was refused, the store failed, or there is no open account of the name
-abbrev pub IsUnlisted : List ℕ → Option (List ℕ) → Option (List ℕ) → Fault → Accounts → Type 0
+abbrev pub IsUnlisted : List ℕ → Option (List ℕ) → Option (List ℕ) → RunFault → Accounts → Type 0
 IsUnlisted user old new fault accounts = Keeps old new × (IsSudden ⊥ fault ⊎ ((fault ≡ no_user) × HasNoOpen user accounts))
 
 -- they are listed, and a write of that failed; or it is printed whole, and memory was refused, the store failed, or the machine refuses to take them
-abbrev pub IsUntaken : List ℕ → ℕ → Option (List ℕ) → Option (List ℕ) → Fault → Accounts → Type 0
+abbrev pub IsUntaken : List ℕ → ℕ → Option (List ℕ) → Option (List ℕ) → RunFault → Accounts → Type 0
 IsUntaken user until old new fault accounts =
     (text : List ℕ) × OfOpen accounts user (λ a. ListsUntil until a text)
     × (IsPrinted (Err fault) old new text ⊎ (IsPrinted (Ok tt) old new text × (IsSudden ⊥ fault ⊎ RefusesEvent (λ e. e ≡ taking user until) fault accounts)))
 
 -- after Ok they are printed whole and flushed, and were taken; after a fault none was
-abbrev pub TakesListed : List ℕ → ℕ → Option (List ℕ) → Option (List ℕ) → Result (Unit {0}) Fault → Accounts → Accounts → Type 0
+abbrev pub TakesListed : List ℕ → ℕ → Option (List ℕ) → Option (List ℕ) → Result (Unit {0}) RunFault → Accounts → Accounts → Type 0
 TakesListed user until old new (Ok done) accounts later =
-    (text : List ℕ) × OfOpen accounts user (λ a. ListsUntil until a text) × IsPrinted (Ok tt) old new text × Next (world_of accounts) (taking user until) answer.NoticesTaken (world_of later)
+    (text : List ℕ) × OfOpen accounts user (λ a. ListsUntil until a text) × IsPrinted (Ok tt) old new text × Next (world_of_accounts accounts) (taking user until) answer.NoticesTaken (world_of_accounts later)
 TakesListed user until old new (Err fault) accounts later = (later ≡ accounts) × (IsUnlisted user old new fault accounts ⊎ IsUntaken user until old new fault accounts)
 
 -- the subcommand was hindered: nothing is printed, and no account changed
-abbrev pub IsKeptFrom : Type 0 → (Fault → Type 0) → Option (List ℕ) → Option (List ℕ) → Result (Unit {0}) Fault → Accounts → Accounts → Type 0
+abbrev pub IsKeptFrom : Type 0 → (RunFault → Type 0) → Option (List ℕ) → Option (List ℕ) → Result (Unit {0}) RunFault → Accounts → Accounts → Type 0
 IsKeptFrom Wrong Denied old new (Ok done) accounts later = ⊥
 IsKeptFrom Wrong Denied old new (Err fault) accounts later = IsHindered ⊥ Wrong Denied fault × (later ≡ accounts) × Keeps old new
 
 -- `notices --until` over tables: those up to the moment that these digits write
-abbrev pub TakesNotices : (Fault → Type 0) → Option (List ℕ) → Option (List ℕ) → List ℕ → List ℕ → Result (Unit {0}) Fault → Database → Database → Type 0
+abbrev pub TakesNotices : (RunFault → Type 0) → Option (List ℕ) → Option (List ℕ) → List ℕ → List ℕ → Result (Unit {0}) RunFault → Database → Database → Type 0
 TakesNotices Denied old new user digits result =
     TurnsTables (λ accounts later. IsKeptFrom (IsNoUntil digits) Denied old new result accounts later ⊎ ((until : ℕ) × Writes digits until × TakesListed user until old new result accounts later))
 
@@ -455,39 +455,39 @@ abbrev pub HasExported : List ℕ → Option (List ℕ) → Option (List ℕ) �
 HasExported user old new accounts = (text : List ℕ) × OfOpen accounts user (IsCopyOf text user) × IsPrinted (Ok tt) old new text
 
 -- it isn't: nothing is written; or it broke off, and a prefix of the text is
-abbrev pub IsUnprinted : List ℕ → Option (List ℕ) → Option (List ℕ) → Fault → Accounts → Type 0
+abbrev pub IsUnprinted : List ℕ → Option (List ℕ) → Option (List ℕ) → RunFault → Accounts → Type 0
 IsUnprinted user old new fault accounts = IsUnlisted user old new fault accounts ⊎ OfOpen accounts user (IsCutOff user old new fault)
 
 -- reads of a store, with this result
-pub record PrintsText (user : List ℕ) (out_old out_new : Option (List ℕ)) (old new : State) (result : Result (Unit {0}) Fault) : Type 0 where
+pub record PrintsText (user : List ℕ) (out_old out_new : Option (List ℕ)) (old new : State) (result : Result (Unit {0}) RunFault) : Type 0 where
   pub keeps : KeepsStore old new result
   pub printed : HasCleanDisk new → OverAccounts old (λ accounts. MatchResult result (λ done. HasExported user out_old out_new accounts) (λ fault. IsUnprinted user out_old out_new fault accounts))
 
 -- what the accounts become after that: they stay, or the user's was closed
 abbrev pub BecomesClosed : Bool → List ℕ → Accounts → Accounts → Type 0
 BecomesClosed false user accounts later = later ≡ accounts
-BecomesClosed true user accounts later = Next (world_of accounts) (closing user) answer.Closed (world_of later)
+BecomesClosed true user accounts later = Next (world_of_accounts accounts) (closing user) answer.Closed (world_of_accounts later)
 
 -- the text is written, and the account isn't closed: memory was refused, the store failed, or the machine refuses to close it
-abbrev pub IsUnclosed : Bool → List ℕ → Option (List ℕ) → Option (List ℕ) → Fault → Accounts → Type 0
-IsUnclosed false user old new fault accounts = ⊥
-IsUnclosed true user old new fault accounts = HasExported user old new accounts × (IsSudden ⊥ fault ⊎ RefusesEvent (λ e. e ≡ closing user) fault accounts)
+abbrev pub IsCloseFailed : Bool → List ℕ → Option (List ℕ) → Option (List ℕ) → RunFault → Accounts → Type 0
+IsCloseFailed false user old new fault accounts = ⊥
+IsCloseFailed true user old new fault accounts = HasExported user old new accounts × (IsSudden ⊥ fault ⊎ RefusesEvent (λ e. e ≡ closing user) fault accounts)
 
 -- after Ok the text is written whole and flushed, and only then the account was closed, if that is asked for; after a fault no account
 -- changed, and nothing is written, a prefix of the text, or all of it
-abbrev pub Exports : Bool → List ℕ → Option (List ℕ) → Option (List ℕ) → Result (Unit {0}) Fault → Accounts → Accounts → Type 0
+abbrev pub Exports : Bool → List ℕ → Option (List ℕ) → Option (List ℕ) → Result (Unit {0}) RunFault → Accounts → Accounts → Type 0
 Exports closes user old new (Ok done) accounts later = HasExported user old new accounts × BecomesClosed closes user accounts later
 Exports closes user old new (Err fault) accounts later =
-    (later ≡ accounts) × (IsUnprinted user old new fault accounts ⊎ IsUnclosed closes user old new fault accounts)
+    (later ≡ accounts) × (IsUnprinted user old new fault accounts ⊎ IsCloseFailed closes user old new fault accounts)
 
 -- the subcommand over tables
-abbrev pub DoesExport : (Fault → Type 0) → Option (List ℕ) → Option (List ℕ) → Bool → List ℕ → Result (Unit {0}) Fault → Database → Database → Type 0
+abbrev pub DoesExport : (RunFault → Type 0) → Option (List ℕ) → Option (List ℕ) → Bool → List ℕ → Result (Unit {0}) RunFault → Database → Database → Type 0
 DoesExport Denied old new closes user result = TurnsTables (λ accounts later. IsKeptFrom ⊥ Denied old new result accounts later ⊎ Exports closes user old new result accounts later)
 
 -- ---- `init`
 
 -- if there was no table, there is a store without accounts then; after a fault only if the output failed
-abbrev pub DoesInit : (Fault → Type 0) → Option (List ℕ) → Option (List ℕ) → Result (Unit {0}) Fault → Database → Database → Type 0
+abbrev pub DoesInit : (RunFault → Type 0) → Option (List ℕ) → Option (List ℕ) → Result (Unit {0}) RunFault → Database → Database → Type 0
 DoesInit Denied out_old out_new (Ok done) old new = (old.schema ≡ no_schema) × Presents new no_accounts × IsPrinted (Ok tt) out_old out_new (codes "ready\n")
 DoesInit Denied out_old out_new (Err fault) old new =
     (IsHindered ⊥ ⊥ Denied fault × (new ≡ old) × Keeps out_old out_new) ⊎ ((old.schema ≡ no_schema) × Presents new no_accounts × IsPrinted (Err fault) out_old out_new (codes "ready\n"))
@@ -495,27 +495,27 @@ DoesInit Denied out_old out_new (Err fault) old new =
 -- ---- the subcommands
 
 -- nothing is done here
-abbrev pub DoesNothing : Option (List ℕ) → Option (List ℕ) → Result (Unit {0}) Fault → Database → Database → Type 0
+abbrev pub DoesNothing : Option (List ℕ) → Option (List ℕ) → Result (Unit {0}) RunFault → Database → Database → Type 0
 DoesNothing out_old out_new result old new = (result ≡ Err BadArgument) × (new ≡ old) × Keeps out_old out_new
 
 -- `folders`: directories in a Maildir are shown if they are asked for, and only then may a separator of levels be given
-abbrev pub DoesFolders : (Fault → Type 0) → Option (List ℕ) → Option (List ℕ) → List ℕ → Bool → Option (List ℕ) → Result (Unit {0}) Fault → Database → Database → Type 0
+abbrev pub DoesFolders : (RunFault → Type 0) → Option (List ℕ) → Option (List ℕ) → List ℕ → Bool → Option (List ℕ) → Result (Unit {0}) RunFault → Database → Database → Type 0
 DoesFolders Denied out_old out_new user true levels result = DoesRead (HasNoSeparator levels) Denied user (ListsDirectories levels) LacksNothing out_old out_new result
 DoesFolders Denied out_old out_new user false None result = DoesRead ⊥ Denied user (ListsFolders folder_line) LacksNothing out_old out_new result
 DoesFolders Denied out_old out_new user false (Some levels) result = DoesNothing out_old out_new result
 
 -- `queue`: all that is on its way out, or one message of it
-abbrev pub DoesQueue : (Fault → Type 0) → Option (List ℕ) → Option (List ℕ) → List ℕ → Option (List ℕ) → Result (Unit {0}) Fault → Database → Database → Type 0
+abbrev pub DoesQueue : (RunFault → Type 0) → Option (List ℕ) → Option (List ℕ) → List ℕ → Option (List ℕ) → Result (Unit {0}) RunFault → Database → Database → Type 0
 DoesQueue Denied out_old out_new user None result = DoesRead ⊥ Denied user ListsQueue LacksNothing out_old out_new result
 DoesQueue Denied out_old out_new user (Some digits) result = DoesRead (IsNoNumber digits) Denied user (ShowsOutgoing digits) (LacksOutgoing digits) out_old out_new result
 
 -- `scripts`: all, or one of them
-abbrev pub DoesScripts : (Fault → Type 0) → Option (List ℕ) → Option (List ℕ) → List ℕ → Option (List ℕ) → Result (Unit {0}) Fault → Database → Database → Type 0
+abbrev pub DoesScripts : (RunFault → Type 0) → Option (List ℕ) → Option (List ℕ) → List ℕ → Option (List ℕ) → Result (Unit {0}) RunFault → Database → Database → Type 0
 DoesScripts Denied out_old out_new user None result = DoesRead ⊥ Denied user ListsScripts LacksNothing out_old out_new result
 DoesScripts Denied out_old out_new user (Some name) result = DoesRead ⊥ Denied user (ShowsScript name) (LacksScript name) out_old out_new result
 
 -- `notices`: all are listed; or those up to a moment are, and taken
-abbrev pub DoesNotices : (Fault → Type 0) → Option (List ℕ) → Option (List ℕ) → List ℕ → Option (List ℕ) → Result (Unit {0}) Fault → Database → Database → Type 0
+abbrev pub DoesNotices : (RunFault → Type 0) → Option (List ℕ) → Option (List ℕ) → List ℕ → Option (List ℕ) → Result (Unit {0}) RunFault → Database → Database → Type 0
 DoesNotices Denied out_old out_new user None result = DoesRead ⊥ Denied user ListsNotices LacksNothing out_old out_new result
 DoesNotices Denied out_old out_new user (Some digits) result = TakesNotices Denied out_old out_new user digits result
 
@@ -528,83 +528,83 @@ abbrev pub SaltFailed : Option (List ℕ) → Option (List ℕ) → Type 0
 SaltFailed digits random = InputFailed ⊎ ((digits ≡ None) × (random ≡ None))
 
 -- the store was denied after all of the input was read
-abbrev pub DeniedAtEnd : (Fault → Type 0) → Option (List ℕ) → Fault → Type 0
+abbrev pub DeniedAtEnd : (RunFault → Type 0) → Option (List ℕ) → RunFault → Type 0
 DeniedAtEnd Denied left fault = Denied fault × IsAtEnd left
 
 -- who denies the store at a place, why a sink refused, the clock, the system's random octets, what was to be read and what is left of it, whether a
 -- sink tells what it keeps and what that was and is, and the output before and after
-module _ (Denied : StoreLocation → Fault → Type 0) (Sunk : SinkError → Type 0) (clock : Option ℕ) (random default : Option (List ℕ)) (given left : Option (List ℕ)) (tells : Bool) (had has : List KeptMail) (out_old out_new : Option (List ℕ)) where
+module _ (Denied : StoreLocation → RunFault → Type 0) (Sunk : SinkError → Type 0) (clock : Option ℕ) (random default : Option (List ℕ)) (given left : Option (List ℕ)) (tells : Bool) (had has : List KeptMail) (out_old out_new : Option (List ℕ)) where
   -- no message came to the sink, and nothing of the input was read
   abbrev pub Idle : Type 0
   Idle = StaysAsItWas tells had has × (left ≡ given)
 
   -- each subcommand does its own work; only `init` makes a store, only `drain` moves messages into the sink, and only `adduser`, `passwd`, `put`,
   -- `import` and `deliver` read
-  abbrev pub Does : Subcommand → Result (Unit {0}) Fault → Database → Database → Type 0
-  Does (word.Init a) result old new = Idle × DoesInit (Denied a.location) out_old out_new result old new
-  Does (word.AddUser a) result old new =
-      StaysAsItWas tells had has × DoesEvent (SaltFailed (option_copied a.salt) random) (HasNoSalt (option_copied a.salt)) (DeniedAtEnd (Denied a.location) left) (Adds (option_copied a.salt) random a.name.now a.address.now given) out_old out_new result old new
-  Does (word.Users a) result old new = Idle × DoesUsers (Denied a.location) out_old out_new result old new
-  Does (word.Passwd a) result old new =
+  abbrev pub DoesSubcommand : Subcommand → Result (Unit {0}) RunFault → Database → Database → Type 0
+  DoesSubcommand (word.Init a) result old new = Idle × DoesInit (Denied a.location) out_old out_new result old new
+  DoesSubcommand (word.AddUser a) result old new =
+      StaysAsItWas tells had has × DoesEvent (SaltFailed (option_copied a.salt) random) (HasNoSalt (option_copied a.salt)) (DeniedAtEnd (Denied a.location) left) (IsAddUserEvent (option_copied a.salt) random a.name.now a.address.now given) out_old out_new result old new
+  DoesSubcommand (word.Users a) result old new = Idle × DoesUsers (Denied a.location) out_old out_new result old new
+  DoesSubcommand (word.Passwd a) result old new =
       StaysAsItWas tells had has
-      × DoesEvent (SaltFailed (option_copied a.salt) random) (HasNoSalt (option_copied a.salt)) (DeniedAtEnd (Denied a.location) left) (Guards (option_copied a.salt) random a.user.now given) out_old out_new result old new
-  Does (word.Address a) result old new = Idle × DoesEvent ⊥ ⊥ (Denied a.location) (IsKeeping a.user.now (upkeep.SetAddress a.address.now)) out_old out_new result old new
-  Does (word.Scripts a) result old new = Idle × DoesScripts (Denied a.location) out_old out_new a.user.now (option_copied a.script) result old new
-  Does (word.Put a) result old new = StaysAsItWas tells had has × DoesPut (DeniedAtEnd (Denied a.location) left) (Offered a.user.now a.script.now a.activate given) out_old out_new result old new
-  Does (word.Open a) result old new = Idle × DoesEvent ⊥ ⊥ (Denied a.location) (IsKeeping a.user.now upkeep.OpenAccount) out_old out_new result old new
-  Does (word.Remove a) result old new = Idle × DoesEvent ⊥ ⊥ (Denied a.location) (IsKeeping a.user.now (upkeep.RemoveAccount a.mail)) out_old out_new result old new
-  Does (word.Export a) result old new = Idle × DoesExport (Denied a.location) out_old out_new a.and_close a.user.now result old new
-  Does (word.Import a) result old new = StaysAsItWas tells had has × DoesImport (DeniedAtEnd (Denied a.location) left) given out_old out_new result old new
-  Does (word.Deliver a) result old new =
+      × DoesEvent (SaltFailed (option_copied a.salt) random) (HasNoSalt (option_copied a.salt)) (DeniedAtEnd (Denied a.location) left) (IsPasswdEvent (option_copied a.salt) random a.user.now given) out_old out_new result old new
+  DoesSubcommand (word.Address a) result old new = Idle × DoesEvent ⊥ ⊥ (Denied a.location) (IsUpkeepEvent a.user.now (upkeep.SetAddress a.address.now)) out_old out_new result old new
+  DoesSubcommand (word.Scripts a) result old new = Idle × DoesScripts (Denied a.location) out_old out_new a.user.now (option_copied a.script) result old new
+  DoesSubcommand (word.Put a) result old new = StaysAsItWas tells had has × DoesPut (DeniedAtEnd (Denied a.location) left) (IsPutEvent a.user.now a.script.now a.activate given) out_old out_new result old new
+  DoesSubcommand (word.Open a) result old new = Idle × DoesEvent ⊥ ⊥ (Denied a.location) (IsUpkeepEvent a.user.now upkeep.OpenAccount) out_old out_new result old new
+  DoesSubcommand (word.Remove a) result old new = Idle × DoesEvent ⊥ ⊥ (Denied a.location) (IsUpkeepEvent a.user.now (upkeep.RemoveAccount a.mail)) out_old out_new result old new
+  DoesSubcommand (word.Export a) result old new = Idle × DoesExport (Denied a.location) out_old out_new a.and_close a.user.now result old new
+  DoesSubcommand (word.Import a) result old new = StaysAsItWas tells had has × DoesImport (DeniedAtEnd (Denied a.location) left) given out_old out_new result old new
+  DoesSubcommand (word.Deliver a) result old new =
       StaysAsItWas tells had has
       × DoesEvent (PostFailed (option_copied a.at) clock) (HasNoWhen (option_copied a.at) (option_copied a.zone)) (DeniedAtEnd (Denied a.location) left)
-      (Posts a.from.now a.to.now (option_copied a.at) (option_copied a.zone) a.user.now clock default given) out_old out_new result old new
-  Does (word.Done a) result old new = Idle × DoesEvent ⊥ (IsNoNumber a.id.now) (Denied a.location) (Dequeues a.user.now a.id.now) out_old out_new result old new
-  Does (word.Drain a) result old new = (left ≡ given) × HasDrained Sunk (Denied a.location) a tells had has out_old out_new result old new
-  Does (word.Folders a) result old new = Idle × DoesFolders (Denied a.location) out_old out_new a.user.now a.directories (option_copied a.separator) result old new
-  Does (word.Show a) result old new =
+      (IsDeliverEvent a.from.now a.to.now (option_copied a.at) (option_copied a.zone) a.user.now clock default given) out_old out_new result old new
+  DoesSubcommand (word.Done a) result old new = Idle × DoesEvent ⊥ (IsNoNumber a.id.now) (Denied a.location) (IsDoneEvent a.user.now a.id.now) out_old out_new result old new
+  DoesSubcommand (word.Drain a) result old new = (left ≡ given) × HasDrained Sunk (Denied a.location) a tells had has out_old out_new result old new
+  DoesSubcommand (word.Folders a) result old new = Idle × DoesFolders (Denied a.location) out_old out_new a.user.now a.directories (option_copied a.separator) result old new
+  DoesSubcommand (word.Show a) result old new =
       Idle × DoesRead (IsNoNumber a.number.now) (Denied a.location) a.user.now (ShowsMessage a.folder.now a.number.now) (LacksMessage a.folder.now a.number.now) out_old out_new result old new
-  Does (word.Queue a) result old new = Idle × DoesQueue (Denied a.location) out_old out_new a.user.now (option_copied a.id) result old new
-  Does (word.Notices a) result old new = Idle × DoesNotices (Denied a.location) out_old out_new a.user.now (option_copied a.until) result old new
-  Does (word.Try a) result old new = Idle × DoesNothing out_old out_new result old new
-  Does (word.Send a) result old new = Idle × DoesNothing out_old out_new result old new
-  Does (word.Serve a) result old new = Idle × DoesNothing out_old out_new result old new
-  Does (word.Session a) result old new = Idle × DoesNothing out_old out_new result old new
-  Does (word.Daemon a) result old new = Idle × DoesNothing out_old out_new result old new
-  Does (word.Check a) result old new = Idle × DoesNothing out_old out_new result old new
+  DoesSubcommand (word.Queue a) result old new = Idle × DoesQueue (Denied a.location) out_old out_new a.user.now (option_copied a.id) result old new
+  DoesSubcommand (word.Notices a) result old new = Idle × DoesNotices (Denied a.location) out_old out_new a.user.now (option_copied a.until) result old new
+  DoesSubcommand (word.Try a) result old new = Idle × DoesNothing out_old out_new result old new
+  DoesSubcommand (word.Send a) result old new = Idle × DoesNothing out_old out_new result old new
+  DoesSubcommand (word.Serve a) result old new = Idle × DoesNothing out_old out_new result old new
+  DoesSubcommand (word.Session a) result old new = Idle × DoesNothing out_old out_new result old new
+  DoesSubcommand (word.Daemon a) result old new = Idle × DoesNothing out_old out_new result old new
+  DoesSubcommand (word.Check a) result old new = Idle × DoesNothing out_old out_new result old new
 
 -- the store that a subcommand works on, and for `drain` the Maildir, are those that it names, and the store was waited for as it says
-abbrev pub Reaches : (StoreLocation → Type 0) → (List ℕ → Type 0) → Subcommand → Type 0
-Reaches Given At (word.Init a) = Given a.location
-Reaches Given At (word.AddUser a) = Given a.location
-Reaches Given At (word.Users a) = Given a.location
-Reaches Given At (word.Passwd a) = Given a.location
-Reaches Given At (word.Address a) = Given a.location
-Reaches Given At (word.Scripts a) = Given a.location
-Reaches Given At (word.Put a) = Given a.location
-Reaches Given At (word.Open a) = Given a.location
-Reaches Given At (word.Remove a) = Given a.location
-Reaches Given At (word.Export a) = Given a.location
-Reaches Given At (word.Import a) = Given a.location
-Reaches Given At (word.Deliver a) = Given a.location
-Reaches Given At (word.Folders a) = Given a.location
-Reaches Given At (word.Show a) = Given a.location
-Reaches Given At (word.Queue a) = Given a.location
-Reaches Given At (word.Done a) = Given a.location
-Reaches Given At (word.Notices a) = Given a.location
-Reaches Given At (word.Drain a) = Given a.location × At a.maildir.now
-Reaches Given At (word.Try a) = Unit {0}
-Reaches Given At (word.Send a) = Unit {0}
-Reaches Given At (word.Serve a) = Unit {0}
-Reaches Given At (word.Session a) = Unit {0}
-Reaches Given At (word.Daemon a) = Unit {0}
-Reaches Given At (word.Check a) = Unit {0}
+abbrev pub ReachesStore : (StoreLocation → Type 0) → (List ℕ → Type 0) → Subcommand → Type 0
+ReachesStore Given At (word.Init a) = Given a.location
+ReachesStore Given At (word.AddUser a) = Given a.location
+ReachesStore Given At (word.Users a) = Given a.location
+ReachesStore Given At (word.Passwd a) = Given a.location
+ReachesStore Given At (word.Address a) = Given a.location
+ReachesStore Given At (word.Scripts a) = Given a.location
+ReachesStore Given At (word.Put a) = Given a.location
+ReachesStore Given At (word.Open a) = Given a.location
+ReachesStore Given At (word.Remove a) = Given a.location
+ReachesStore Given At (word.Export a) = Given a.location
+ReachesStore Given At (word.Import a) = Given a.location
+ReachesStore Given At (word.Deliver a) = Given a.location
+ReachesStore Given At (word.Folders a) = Given a.location
+ReachesStore Given At (word.Show a) = Given a.location
+ReachesStore Given At (word.Queue a) = Given a.location
+ReachesStore Given At (word.Done a) = Given a.location
+ReachesStore Given At (word.Notices a) = Given a.location
+ReachesStore Given At (word.Drain a) = Given a.location × At a.maildir.now
+ReachesStore Given At (word.Try a) = Unit {0}
+ReachesStore Given At (word.Send a) = Unit {0}
+ReachesStore Given At (word.Serve a) = Unit {0}
+ReachesStore Given At (word.Session a) = Unit {0}
+ReachesStore Given At (word.Daemon a) = Unit {0}
+ReachesStore Given At (word.Check a) = Unit {0}
 
 -- ---- a run of the program
 
 -- no table changed, and no message came to the sink
-abbrev pub Untouched : Bool → List KeptMail → List KeptMail → Database → Database → Type 0
-Untouched tells had has old new = StaysAsItWas tells had has × (new ≡ old)
+abbrev pub TouchesNothing : Bool → List KeptMail → List KeptMail → Database → Database → Type 0
+TouchesNothing tells had has old new = StaysAsItWas tells had has × (new ≡ old)
 
 -- `clap` says that the arguments are wrong; else it shows help or a version
 abbrev pub IsMistake : Error → Type 0
@@ -626,42 +626,42 @@ pub record IsHelp (error : Error) (out_old out_new err_old err_new : Option (Lis
 
 -- there was no memory for the text, or a write of it failed
 pub record IsUnsaid (error : Error) (out_old out_new err_old err_new : Option (List ℕ)) (status : ℕ) : Type 0 where
-  pub fault : Fault
+  pub fault : RunFault
   pub cause : ((fault ≡ memory) × Keeps out_old out_new) ⊎ ((text : List ℕ) × IsPrinted (Err fault) out_old out_new text)
   pub ended : status ≡ status_of fault
-  pub told : IsWritten err_old err_new (line_of fault)
+  pub told : IsWritten err_old err_new (run_fault_line fault)
 
 -- what is printed of a text that `clap` has
-abbrev pub IsSaid : Error → Option (List ℕ) → Option (List ℕ) → Option (List ℕ) → Option (List ℕ) → ℕ → Type 0
-IsSaid error out_old out_new err_old err_new status =
+abbrev pub TellsClapText : Error → Option (List ℕ) → Option (List ℕ) → Option (List ℕ) → Option (List ℕ) → ℕ → Type 0
+TellsClapText error out_old out_new err_old err_new status =
     IsUsage error out_old out_new err_old err_new status ⊎ IsHelp error out_old out_new err_old err_new status ⊎ IsUnsaid error out_old out_new err_old err_new status
 
 -- nothing was done, and this fault is reported
-abbrev pub IsOnly : Fault → Option (List ℕ) → Option (List ℕ) → Option (List ℕ) → Option (List ℕ) → ℕ → Type 0
-IsOnly fault out_old out_new err_old err_new status = (status ≡ status_of fault) × (out_new ≡ out_old) × IsWritten err_old err_new (line_of fault)
+abbrev pub IsOnly : RunFault → Option (List ℕ) → Option (List ℕ) → Option (List ℕ) → Option (List ℕ) → ℕ → Type 0
+IsOnly fault out_old out_new err_old err_new status = (status ≡ status_of fault) × (out_new ≡ out_old) × IsWritten err_old err_new (run_fault_line fault)
 
 -- what is printed of arguments that ask for nothing
-abbrev pub IsUnread : ReadError → Option (List ℕ) → Option (List ℕ) → Option (List ℕ) → Option (List ℕ) → ℕ → Type 0
-IsUnread (Said error) out_old out_new err_old err_new status = IsSaid error out_old out_new err_old err_new status
-IsUnread NotText out_old out_new err_old err_new status = IsOnly BadArgument out_old out_new err_old err_new status
-IsUnread Unknown out_old out_new err_old err_new status = IsOnly BadArgument out_old out_new err_old err_new status
+abbrev pub TellsArgsError : ArgsError → Option (List ℕ) → Option (List ℕ) → Option (List ℕ) → Option (List ℕ) → ℕ → Type 0
+TellsArgsError (Said error) out_old out_new err_old err_new status = TellsClapText error out_old out_new err_old err_new status
+TellsArgsError NotText out_old out_new err_old err_new status = IsOnly BadArgument out_old out_new err_old err_new status
+TellsArgsError Unknown out_old out_new err_old err_new status = IsOnly BadArgument out_old out_new err_old err_new status
 
 -- a subcommand did its work: its status is that of how it ended, and what went wrong is reported, with its cause
-pub record Works (Did : Result (Unit {0}) Fault → Type 0) (Reached : Type 0) (cause : Fault → Option (List ℕ)) (err_old err_new : Option (List ℕ)) (status : ℕ) : Type 0 where
-  pub ending : Result (Unit {0}) Fault
+pub record RunsSubcommand (Did : Result (Unit {0}) RunFault → Type 0) (Reached : Type 0) (cause : RunFault → Option (List ℕ)) (err_old err_new : Option (List ℕ)) (status : ℕ) : Type 0 where
+  pub ending : Result (Unit {0}) RunFault
   pub ended : status ≡ status_after ending
   pub unclosed : Option Refusal
   pub told : AreTold err_old err_new cause (troubles unclosed ending)
   pub did : Did ending
   pub reached : OnOk ending Reached
 
-module _ (Denied : StoreLocation → Fault → Type 0) (Sunk : SinkError → Type 0) (Given : StoreLocation → Type 0) (At : List ℕ → Type 0) (cause : Fault → Option (List ℕ)) (clock : Option ℕ) (random default : Option (List ℕ)) (given left : Option (List ℕ)) (tells : Bool) (had has : List KeptMail) (out_old out_new err_old err_new : Option (List ℕ)) (status : ℕ) (old new : Database) where
+module _ (Denied : StoreLocation → RunFault → Type 0) (Sunk : SinkError → Type 0) (Given : StoreLocation → Type 0) (At : List ℕ → Type 0) (cause : RunFault → Option (List ℕ)) (clock : Option ℕ) (random default : Option (List ℕ)) (given left : Option (List ℕ)) (tells : Bool) (had has : List KeptMail) (out_old out_new err_old err_new : Option (List ℕ)) (status : ℕ) (old new : Database) where
   -- what arguments that were read like this do: a script was tried; a subcommand did its work; or they ask for nothing, which is reported
-  abbrev pub RunsAs : Result Subcommand ReadError → Type 0
-  RunsAs (Ok (word.Try a)) = Tries (option_copied a.at) (option_copied a.zone) clock (envelope_with a.from.now a.to.now) given out_old out_new err_old err_new status × Untouched tells had has old new
-  RunsAs (Ok asked) = Works (λ ending. Does Denied Sunk clock random default given left tells had has out_old out_new asked ending old new) (Reaches Given At asked) cause err_old err_new status
-  RunsAs (Err error) = IsUnread error out_old out_new err_old err_new status × Untouched tells had has old new × (left ≡ given)
+  abbrev pub RunsAs : Result Subcommand ArgsError → Type 0
+  RunsAs (Ok (word.Try a)) = Tries (option_copied a.at) (option_copied a.zone) clock (envelope_with a.from.now a.to.now) given out_old out_new err_old err_new status × TouchesNothing tells had has old new
+  RunsAs (Ok asked) = RunsSubcommand (λ ending. DoesSubcommand Denied Sunk clock random default given left tells had has out_old out_new asked ending old new) (ReachesStore Given At asked) cause err_old err_new status
+  RunsAs (Err error) = TellsArgsError error out_old out_new err_old err_new status × TouchesNothing tells had has old new × (left ≡ given)
 
   -- a run of the program with these arguments
-  abbrev pub RunsWords : CommandLine → Type 0
-  RunsWords line = (answer : Result Subcommand ReadError) × WasRead line answer × RunsAs answer
+  abbrev pub RunsWords : RawArgs → Type 0
+  RunsWords line = (answer : Result Subcommand ArgsError) × WasRead line answer × RunsAs answer

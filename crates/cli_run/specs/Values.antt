@@ -1,14 +1,14 @@
 -- The values in arguments.
 use Rattle.std.specs.Prelude.{◌≡◌, ◌⊎◌, ℕ, pos, ◌<◌, ◌≤◌, ◌^◌, List, [], ◌∷◌, Option, Some, None, Ok}
 use Rattle.hex.specs.Hex.{decode_sized}
-use Rattle.maildirs.specs.Spelling.{octet_of}
-use Rattle.maildirs.specs.declared.separator.Separator.{Separator}
-use Rattle.maildirs.specs.declared.separator.Separator.TheVariants.{Dot}
+use Rattle.maildir_files.specs.Spelling.{separator_octet}
+use Rattle.maildir_files.specs.declared.separator.Separator.{Separator}
+use Rattle.maildir_files.specs.declared.separator.Separator.TheVariants.{Dot}
 use Rattle.octets.specs.Decimal.{Writes}
-use Rattle.hostzones.specs.HostZones.{IsZoneText, IsOffsetAt}
-use Rattle.hostzones.specs.declared.zone.HostZone.{HostZone}
-use Rattle.sieveexec.specs.declared.envelope.Envelope.{Envelope}
-use Rattle.sieveexec.specs.declared.when.When.{When}
+use Rattle.mail_dates.specs.HostZones.{IsZoneText, IsOffsetAt}
+use Rattle.mail_dates.specs.declared.host_zone.HostZone.{HostZone}
+use Rattle.sieve_exec.specs.declared.envelope.Envelope.{Envelope}
+use Rattle.sieve_exec.specs.declared.when.When.{When}
 
 -- the text isn't a number of 64 bits
 abbrev pub IsNoNumber : List ℕ → Type 0
@@ -50,9 +50,9 @@ HasNoSalt (Some digits) = IsNoSalt digits
 HasNoSalt None = ⊥
 
 -- the moment that the argument has in decimal, or else the clock's
-abbrev pub IsMoment : Option (List ℕ) → Option ℕ → ℕ → Type 0
-IsMoment (Some digits) clock moment = Writes digits moment
-IsMoment None clock moment = clock ≡ Some moment
+abbrev pub IsGivenMoment : Option (List ℕ) → Option ℕ → ℕ → Type 0
+IsGivenMoment (Some digits) clock moment = Writes digits moment
+IsGivenMoment None clock moment = clock ≡ Some moment
 
 -- the text isn't a zone of a host
 abbrev pub IsNoZone : List ℕ → Type 0
@@ -69,7 +69,7 @@ IsZoned text when = (zone : HostZone) × IsHostZone text zone × IsOffsetAt zone
 
 -- the moment that the argument has in decimal, or else the clock's, and the host's zone at it
 abbrev pub IsWhen : Option (List ℕ) → Option (List ℕ) → Option ℕ → When → Type 0
-IsWhen at zone clock when = IsMoment at clock when.moment × IsZoned zone when
+IsWhen at zone clock when = IsGivenMoment at clock when.moment × IsZoned zone when
 
 -- the argument is there, and isn't a zone
 abbrev pub HasNoZone : Option (List ℕ) → Type 0
@@ -82,7 +82,7 @@ HasNoWhen at zone = HasNoNumber at ⊎ HasNoZone zone
 
 -- the separator of the levels of folders: `.` if it is left out
 abbrev pub IsSeparator : Option (List ℕ) → Separator → Type 0
-IsSeparator (Some text) separator = text ≡ octet_of separator ∷ []
+IsSeparator (Some text) separator = text ≡ separator_octet separator ∷ []
 IsSeparator None separator = separator ≡ Dot
 
 -- the argument is something else

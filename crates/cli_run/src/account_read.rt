@@ -1,20 +1,20 @@
 //! Reads of one user's account, each over a store that is taken and handed back.
 ghost use Rattle.std.specs.Prelude.{◌≡◌, ℕ, None, List, false, IsTrue, OnOk};
 ghost use Rattle.sqlite.specs.Held.{state};
-ghost use Rattle.mailstore.specs.Account.{Account};
-ghost use Rattle.mailstore.specs.Promises.{Reads};
-ghost use Rattle.sessions.specs.Decisions.{AreScripts};
-ghost use Rattle.sievedrun.specs.Draining.{TurnsTables};
-ghost use Rattle.sievedrun.specs.Serving.{HasDenied, HasGiven};
-ghost use Rattle.sievedrun.specs.Words.{FindsIn};
+ghost use Rattle.store_accounts.specs.Account.{Account};
+ghost use Rattle.store_accounts.specs.Promises.{ReadsOpenAccount};
+ghost use Rattle.managesieve_sessions.specs.Decisions.{AreScripts};
+ghost use Rattle.cli_run.specs.Draining.{TurnsTables};
+ghost use Rattle.cli_run.specs.Serving.{HasDenied, HasGiven};
+ghost use Rattle.cli_run.specs.Subcommands.{FindsIn};
 
 use crate::commands::take_store;
-use crate::fault::Fault;
-use keepers::Keeper;
-use maildirs::Separator;
-use mailstore::{Folder, Head, Notice, Outgoing, Refusal, Store};
+use crate::fault::RunFault;
+use store_lock::Keeper;
+use maildir_files::Separator;
+use store_accounts::{Folder, QueuedEnvelope, Notice, QueuedMessage, Refusal, Store};
 use octets::{List, Octets, Texts};
-use sievedwords::StoreLocation;
+use cli_subcommands::StoreLocation;
 use sqlite::Alter;
 
 /// A read of a user's account.
@@ -30,7 +30,7 @@ pub trait AccountRead {
 
     /// Reads it from a store. Errors are those of the store's read.
     fn read<S: Alter>(&self, store: &mut Store<S>) -> Result<Self::Found, Refusal>
-        ensures { Reads (user self.now) (finds self.now) (state S.Store store.old) (state S.Store store.new) result };
+        ensures { ReadsOpenAccount (user self.now) (finds self.now) (state S.Store store.old) (state S.Store store.new) result };
 }
 
 /// The folders of the user with this name.
@@ -73,7 +73,7 @@ pub struct ScriptNames {
 }
 
 impl AccountRead for FoldersOf<'_> {
-    ghost use Rattle.mailstore.specs.Tally.{AreFolders};
+    ghost use Rattle.store_accounts.specs.Tally.{AreFolders};
 
     ghost user = { λ wanted. wanted.0.now };
 
@@ -87,7 +87,7 @@ impl AccountRead for FoldersOf<'_> {
 }
 
 impl AccountRead for DirectoriesOf<'_> {
-    ghost use Rattle.mailstore.specs.Tally.{AreFolders};
+    ghost use Rattle.store_accounts.specs.Tally.{AreFolders};
 
     ghost user = { λ wanted. wanted.0.now };
 
@@ -101,7 +101,7 @@ impl AccountRead for DirectoriesOf<'_> {
 }
 
 impl AccountRead for MessageOf<'_> {
-    ghost use Rattle.sievedrun.specs.Words.{HasMessage};
+    ghost use Rattle.cli_run.specs.Subcommands.{HasMessage};
 
     ghost user = { λ wanted. wanted.0.now };
 
@@ -120,30 +120,30 @@ impl AccountRead for MessageOf<'_> {
 
 impl AccountRead for QueueOf<'_> {
     ghost use Rattle.std.specs.Prelude.{◌≡◌, map};
-    ghost use Rattle.mailstore.specs.HeadRows.{head_of};
+    ghost use Rattle.store_accounts.specs.HeadRows.{queued_envelope};
 
     ghost user = { λ wanted. wanted.0.now };
 
-    ghost finds = { λ wanted heads a. heads ≡ map head_of a.queue };
+    ghost finds = { λ wanted heads a. heads ≡ map queued_envelope a.queue };
 
-    type Found = List<Head>;
+    type Found = List<QueuedEnvelope>;
 
-    fn read<S: Alter>(&self, store: &mut Store<S>) -> Result<List<Head>, Refusal> {
+    fn read<S: Alter>(&self, store: &mut Store<S>) -> Result<List<QueuedEnvelope>, Refusal> {
         store.queue_heads(self.0.as_bytes())
     }
 }
 
 impl AccountRead for OutgoingOf<'_> {
     ghost use Rattle.std.specs.Prelude.{◌≡◌};
-    ghost use Rattle.mailstore.specs.Account.{row_with};
+    ghost use Rattle.store_accounts.specs.Account.{row_with};
 
     ghost user = { λ wanted. wanted.0.now };
 
     ghost finds = { λ wanted row a. row ≡ row_with wanted.1 a.queue };
 
-    type Found = Option<Outgoing>;
+    type Found = Option<QueuedMessage>;
 
-    fn read<S: Alter>(&self, store: &mut Store<S>) -> Result<Option<Outgoing>, Refusal> {
+    fn read<S: Alter>(&self, store: &mut Store<S>) -> Result<Option<QueuedMessage>, Refusal> {
         store.outgoing(self.0.as_bytes(), self.1)
     }
 }
@@ -163,7 +163,7 @@ impl AccountRead for NoticesOf<'_> {
 }
 
 impl AccountRead for ScriptsOf<'_> {
-    ghost use Rattle.sessions.specs.Decisions.{AreScripts};
+    ghost use Rattle.managesieve_sessions.specs.Decisions.{AreScripts};
 
     ghost user = { λ wanted. wanted.0.now };
 
@@ -193,7 +193,7 @@ impl AccountRead for ScriptOf<'_> {
 
 /// The names of a user's scripts, and the active one.
 fn script_names<S: Alter>(store: &mut Store<S>, user: &[u8]) -> Result<ScriptNames, Refusal>
-    ensures { Reads user.now (λ found a. AreScripts found.names found.active a) (state S.Store store.old) (state S.Store store.new) result }
+    ensures { ReadsOpenAccount user.now (λ found a. AreScripts found.names found.active a) (state S.Store store.old) (state S.Store store.new) result }
 {
     let profile = store.enter(user)?;
     let names = store.scripts_of(user)?;
@@ -205,7 +205,7 @@ fn script_names<S: Alter>(store: &mut Store<S>, user: &[u8]) -> Result<ScriptNam
 
 /// `None` for a message, if the user has an account.
 fn none_of<S: Alter>(store: &mut Store<S>, user: &[u8]) -> Result<Option<Octets>, Refusal>
-    ensures { Reads user.now (λ message a. message ≡ None) (state S.Store store.old) (state S.Store store.new) result }
+    ensures { ReadsOpenAccount user.now (λ message a. message ≡ None) (state S.Store store.old) (state S.Store store.new) result }
 {
     let _ = store.enter(user)?;
     Ok(None)
@@ -216,7 +216,7 @@ pub fn read_once<Q: AccountRead, K: Keeper>(
     location: StoreLocation<'_>,
     wanted: &Q,
     keeper: &mut K,
-) -> Result<Q::Found, Fault>
+) -> Result<Q::Found, RunFault>
     ensures back { K.is_out keeper.old ≡ false → K.is_out keeper.new ≡ false }
     ensures found { IsTrue K.tells → TurnsTables
         (λ accounts later. (later ≡ accounts) × FindsIn (HasDenied K.refuses K.will_wait location.entry) (Q.user wanted.now) (Q.finds wanted.now) result accounts)

@@ -1,47 +1,47 @@
 //! The answer to an input.
 ghost use Rattle.std.specs.Prelude.{◌≡◌, ◌≤◌, ◌+◌, ℕ, List, IfOk, IfErr};
-ghost use Rattle.sievelex.specs.Finding.{IfFault, IfFaultLine};
-ghost use Rattle.sievelex.specs.Text.{line_ends};
-ghost use Rattle.sievesyntax.specs.Tree.{Commands};
-ghost use Rattle.sievesyntax.specs.Means.{Means};
-ghost use Rattle.sieveexec.specs.Mails.{mail_of};
-ghost use Rattle.sieveexec.specs.Outcomes.{outcome_at};
-ghost use Rattle.reportlines.specs.Reports.{report_of};
-ghost use Rattle.sieveexec.specs.Runs.{outcome_view};
-ghost use Rattle.sievedrun.specs.declared.answer.Answer.TheVariants.{Report};
-ghost use Rattle.sievedrun.specs.Faults.{IsUnanswered, memory};
-ghost use Rattle.sievedrun.specs.Framing.{IsFramed};
-ghost use Rattle.sievedrun.specs.Fronts.{KeepsFront, StandsFor};
-ghost use Rattle.sievedrun.specs.TryScript.{Answers, IsNoInput, text_in};
+ghost use Rattle.sieve_lex.specs.Finding.{IfFault, IfFaultLine};
+ghost use Rattle.sieve_lex.specs.Text.{line_ends};
+ghost use Rattle.sieve_syntax.specs.Tree.{Commands};
+ghost use Rattle.sieve_syntax.specs.Means.{Means};
+ghost use Rattle.sieve_exec.specs.Mails.{mail_spec_of};
+ghost use Rattle.sieve_exec.specs.Outcomes.{outcome_at};
+ghost use Rattle.cli_reports.specs.Reports.{outcome_report};
+ghost use Rattle.sieve_exec.specs.Runs.{outcome_view};
+ghost use Rattle.cli_run.specs.declared.answer.TryAnswer.TheVariants.{Report};
+ghost use Rattle.cli_run.specs.Faults.{IsUnanswered, memory};
+ghost use Rattle.cli_run.specs.Framing.{IsFramed};
+ghost use Rattle.cli_run.specs.KeptInputs.{KeepsInput, IsMessagePrefix};
+ghost use Rattle.cli_run.specs.TryScript.{AnswersInput, IsNoInput, answer_text};
 
-use crate::fault::Fault;
+use crate::fault::RunFault;
 use crate::framing::split;
-use crate::front::Front;
-use mailengine::{Envelope, Outcome, attempt, attempt_on_front};
-use mailfronts::SizeCount;
-use mailstore::Refusal;
+use crate::kept_input::KeptInput;
+use store_engine::{Envelope, Outcome, attempt, attempt_on_prefix};
+use mail_head::SizeCount;
+use store_accounts::Refusal;
 use octets::Octets;
-use reportlines::{of_fault, of_outcome};
-use sieveexec::When;
-use sievelex::ScriptError;
+use cli_reports::{report_fault, report_outcome};
+use sieve_exec::When;
+use sieve_lex::ScriptError;
 use std::alloc::Global;
 
 /// The answer to an input that is a script and a message.
 #[derive(Drop)]
-pub enum Answer {
+pub enum TryAnswer {
     /// The report on what the script does.
     Report(Octets),
     /// The line on why the script is not valid.
     Refusal(Octets),
 }
 
-impl Answer {
+impl TryAnswer {
     /// The text that is printed.
     pub fn text(&self) -> &[u8]
-        ensures { result.now ≡ text_in self.now }
+        ensures { result.now ≡ answer_text self.now }
     {
         match self {
-            Answer::Report(text) | Answer::Refusal(text) => text.as_slice(),
+            TryAnswer::Report(text) | TryAnswer::Refusal(text) => text.as_slice(),
         }
     }
 }
@@ -51,10 +51,10 @@ pub fn answer_to(
     alloc: Global,
     envelope: Envelope,
     when: When,
-    input: &Front,
-) -> Result<Answer, Fault>
-    ensures answer { IfOk result (λ answer. (came : List ℕ) → KeepsFront came input.now.octets.items input.now.count → Answers envelope when came answer) }
-    ensures none { IfErr result (λ fault. (came : List ℕ) → KeepsFront came input.now.octets.items input.now.count → IsUnanswered (IsNoInput came) fault) }
+    input: &KeptInput,
+) -> Result<TryAnswer, RunFault>
+    ensures answer { IfOk result (λ answer. (came : List ℕ) → KeepsInput came input.now.octets.items input.now.count → AnswersInput envelope when came answer) }
+    ensures none { IfErr result (λ fault. (came : List ℕ) → KeepsInput came input.now.octets.items input.now.count → IsUnanswered (IsNoInput came) fault) }
 {
     match split(input.kept()) {
         Some(framed) => answer_on(
@@ -65,7 +65,7 @@ pub fn answer_to(
             framed.message,
             input.count(),
         ),
-        None => Err(Fault::BadInput),
+        None => Err(RunFault::BadInput),
     }
 }
 
@@ -77,15 +77,15 @@ fn answer_on(
     script: &[u8],
     front: &[u8],
     count: Option<SizeCount>,
-) -> Result<Answer, Fault>
-    ensures answer { IfOk result (λ answer. (input message : List ℕ) → IsFramed input script.now message → StandsFor front.now count message
-        → Answers envelope when input answer) }
+) -> Result<TryAnswer, RunFault>
+    ensures answer { IfOk result (λ answer. (input message : List ℕ) → IsFramed input script.now message → IsMessagePrefix front.now count message
+        → AnswersInput envelope when input answer) }
     ensures memory { IfErr result (λ fault. fault ≡ memory) }
 {
     match outcome_on(alloc, script, envelope, front, count, when) {
         Ok(outcome) => report(alloc, outcome),
-        Err(ScriptError::Fault(fault)) => Ok(Answer::Refusal(of_fault(alloc, fault)?)),
-        Err(ScriptError::Memory) => Err(Fault::Refused(Refusal::Memory)),
+        Err(ScriptError::Fault(fault)) => Ok(TryAnswer::Refusal(report_fault(alloc, fault)?)),
+        Err(ScriptError::Memory) => Err(RunFault::Refused(Refusal::Memory)),
     }
 }
 
@@ -99,21 +99,21 @@ fn outcome_on(
     when: When,
 ) -> Result<Outcome, ScriptError>
     ensures valid { IfOk result (λ done. (tree : Commands) × Means script.now tree) }
-    ensures done { IfOk result (λ done. (tree : Commands) (message : List ℕ) → Means script.now tree → StandsFor front.now count message
-        → outcome_view done ≡ outcome_at (mail_of message envelope when) tree) }
+    ensures done { IfOk result (λ done. (tree : Commands) (message : List ℕ) → Means script.now tree → IsMessagePrefix front.now count message
+        → outcome_view done ≡ outcome_at (mail_spec_of message envelope when) tree) }
     ensures fault { IfFault result ((tree : Commands) → Means script.now tree → ⊥) }
     ensures line { IfFaultLine result (λ line. (1 ≤ line) × (line ≤ 1 + line_ends script.now)) }
 {
     match count {
-        Some(count) => attempt_on_front(alloc, script, envelope, front, count.size(), when),
+        Some(count) => attempt_on_prefix(alloc, script, envelope, front, count.size(), when),
         None => attempt(alloc, script, envelope, front, when),
     }
 }
 
 /// The report on what a script does.
-fn report(alloc: Global, outcome: Outcome) -> Result<Answer, Fault>
-    ensures report { IfOk result (λ answer. answer ≡ Report (report_of (outcome_view outcome))) }
+fn report(alloc: Global, outcome: Outcome) -> Result<TryAnswer, RunFault>
+    ensures report { IfOk result (λ answer. answer ≡ Report (outcome_report (outcome_view outcome))) }
     ensures memory { IfErr result (λ fault. fault ≡ memory) }
 {
-    Ok(Answer::Report(of_outcome(alloc, &outcome)?))
+    Ok(TryAnswer::Report(report_outcome(alloc, &outcome)?))
 }

@@ -1,16 +1,16 @@
 //! Checks texts as scripts, without a store.
 ghost use Rattle.std.specs.Prelude.{◌≡◌, ◌≢◌, Some, false, IfOk, IsTrue, option_copied};
-ghost use Rattle.sievedrun.specs.Checks.{ChecksInput, IsChecked, PrintsFinding, fault_in_file, too_large, told_in};
-ghost use Rattle.sievedrun.specs.Faults.{status_of};
-ghost use Rattle.sievedrun.specs.Streams.{IsWritten, ReadsToEnd};
+ghost use Rattle.cli_run.specs.Checks.{ChecksInput, IsChecked, PrintsFinding, fault_in_file, script_too_large, check_fault_line};
+ghost use Rattle.cli_run.specs.Faults.{status_of};
+ghost use Rattle.cli_run.specs.Streams.{IsWritten, ReadsToEnd};
 
-use crate::fault::{Fault, refuse};
+use crate::fault::{RunFault, refuse};
 use crate::stream::{read_all, write_all, write_line};
-use mailstore::Refusal;
+use store_accounts::Refusal;
 use octets::{Octets, write_decimal};
-use reportlines::of_fault;
-use sessions::scripts::{MAX_SCRIPT, fault_in};
-use sievelex::ScriptFault;
+use cli_reports::report_fault;
+use managesieve_sessions::scripts::{MAX_SCRIPT, fault_in};
+use sieve_lex::ScriptFault;
 use std::alloc::{AllocError, Global};
 use std::io::{Read, Write};
 
@@ -33,7 +33,7 @@ pub fn check_input<R: Read, W: Write, E: Write>(
 
 /// Checks a text as a script, and if it isn't valid prints the line that tells why: `line N: TEXT`, or `FILE:N: TEXT` for a
 /// file. A text that is longer than a script may be is no script. Returns the exit status: 0, 65, or 75 if memory or a write
-/// failed. Time and memory are those of `sievesyntax::check`.
+/// failed. Time and memory are those of `sieve_syntax::check`.
 pub fn check_text<W: Write, E: Write>(
     alloc: Global,
     file: Option<&str>,
@@ -56,11 +56,11 @@ fn print_finding<W: Write>(
     file: Option<&str>,
     text: &[u8],
     output: &mut W,
-) -> Result<Option<ScriptFault>, Fault>
+) -> Result<Option<ScriptFault>, RunFault>
     ensures { PrintsFinding (option_copied file.entry) text.now (W.contents output.old) (W.contents output.new) result }
 {
     if text.len() > MAX_SCRIPT {
-        return Err(Fault::Refused(Refusal::ScriptTooLarge));
+        return Err(RunFault::Refused(Refusal::ScriptTooLarge));
     }
     let Some(fault) = fault_in(alloc, text)? else {
         return Ok(None);
@@ -75,7 +75,7 @@ fn line_in(alloc: Global, file: Option<&str>, fault: ScriptFault) -> Result<Octe
     ensures { IfOk result (λ text. text ≡ fault_in_file (option_copied file.entry) fault) }
 {
     match file {
-        None => of_fault(alloc, fault),
+        None => report_fault(alloc, fault),
         Some(file) => line_in_file(alloc, file, fault),
     }
 }
@@ -94,9 +94,9 @@ fn line_in_file(alloc: Global, file: &str, fault: ScriptFault) -> Result<Octets,
 }
 
 /// Reports a fault, after the file's name if the file is too large, and returns its exit status.
-fn refuse_in<E: Write>(errors: &mut E, file: Option<&str>, fault: Fault) -> u8
+fn refuse_in<E: Write>(errors: &mut E, file: Option<&str>, fault: RunFault) -> u8
     ensures status { result ≡ status_of fault }
-    ensures line { IsWritten (E.contents errors.old) (E.contents errors.new) (told_in (option_copied file.entry) fault) }
+    ensures line { IsWritten (E.contents errors.old) (E.contents errors.new) (check_fault_line (option_copied file.entry) fault) }
 {
     let Some(file) = file else {
         return refuse(errors, fault);
@@ -109,9 +109,9 @@ fn refuse_in<E: Write>(errors: &mut E, file: Option<&str>, fault: Fault) -> u8
 }
 
 /// Whether the fault is that a text is longer than a script may be.
-fn is_too_large(fault: Fault) -> bool
-    ensures yes { IsTrue result → fault ≡ too_large }
-    ensures other { result ≡ false → fault ≢ too_large }
+fn is_too_large(fault: RunFault) -> bool
+    ensures yes { IsTrue result → fault ≡ script_too_large }
+    ensures other { result ≡ false → fault ≢ script_too_large }
 {
-    matches!(fault, Fault::Refused(Refusal::ScriptTooLarge))
+    matches!(fault, RunFault::Refused(Refusal::ScriptTooLarge))
 }

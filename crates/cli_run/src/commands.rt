@@ -1,36 +1,36 @@
 //! The subcommands that work on a store, a function each.
 ghost use Rattle.std.specs.Prelude.{◌≡◌, ◌≢◌, false, IsTrue, IfOk, OnOk, OnErr, IfErr, option_copied};
 ghost use Rattle.sqlite.specs.Held.{state};
-ghost use Rattle.keepers.specs.Taken.{IsTaken};
-ghost use Rattle.mailengine.specs.declared.answer.Answer.TheVariants.{Delivered, Added};
-ghost use Rattle.mailengine.specs.declared.event.Event.TheVariants as machine;
-ghost use Rattle.mailstore.specs.Cells.{contents};
-ghost use Rattle.sievedrun.specs.Draining.{TurnsTables};
-ghost use Rattle.sievedrun.specs.Promise.{status_after};
-ghost use Rattle.sievedrun.specs.Serving.{HasDenied, HasGiven};
-ghost use Rattle.sievedrun.specs.Streams.{ReadsToEnd};
-ghost use Rattle.sievedrun.specs.Values.{IsNoNumber, HasNoWhen, HasNoSalt};
-ghost use Rattle.sievedrun.specs.Words.{Adds, Posts, PostFailed, SaltFailed, DeniedAtEnd, Puts, DoesEvent, DoesRead, DoesInit, ShowsMessage, LacksMessage};
+ghost use Rattle.store_lock.specs.Taken.{IsStoreTaken};
+ghost use Rattle.store_engine.specs.declared.answer.Answer.TheVariants.{Delivered, Added};
+ghost use Rattle.store_engine.specs.declared.event.Event.TheVariants as machine;
+ghost use Rattle.store_accounts.specs.Cells.{borrowed_octets};
+ghost use Rattle.cli_run.specs.Draining.{TurnsTables};
+ghost use Rattle.cli_run.specs.Promise.{status_after};
+ghost use Rattle.cli_run.specs.Serving.{HasDenied, HasGiven};
+ghost use Rattle.cli_run.specs.Streams.{ReadsToEnd};
+ghost use Rattle.cli_run.specs.Values.{IsNoNumber, HasNoWhen, HasNoSalt};
+ghost use Rattle.cli_run.specs.Subcommands.{IsAddUserEvent, IsDeliverEvent, PostFailed, SaltFailed, DeniedAtEnd, Puts, DoesEvent, DoesRead, DoesInit, ShowsMessage, LacksMessage};
 
 use crate::account_read::{MessageOf, read_once};
-use crate::fault::Fault;
+use crate::fault::RunFault;
 use crate::report::print_report;
 use crate::stream::{read_all, write_all, write_line};
-use crate::values::{decimal, envelope_of, first_line, given_salt, when_of};
-use keepers::Keeper;
-use mailengine::{Envelope, Report, add_user, deliver};
-use mailstore::Store;
-use sievedwords::{AddUser, Deliver, Init, Show, StoreLocation};
-use sieveexec::When;
+use crate::values::{decimal, envelope_of, first_input_line, given_salt, when_of};
+use store_lock::Keeper;
+use store_engine::{Envelope, Report, add_user, deliver};
+use store_accounts::Store;
+use cli_subcommands::{AddUserArgs, DeliverArgs, InitArgs, ShowArgs, StoreLocation};
+use sieve_exec::When;
 use std::alloc::Global;
 use std::io::{Read, Write};
 
 /// `init`: a new store.
 pub fn run_init<W: Write, K: Keeper>(
-    asked: Init<'_>,
+    asked: InitArgs<'_>,
     output: &mut W,
     keeper: &mut K,
-) -> Result<(), Fault>
+) -> Result<(), RunFault>
     ensures back { K.is_out keeper.old ≡ false → K.is_out keeper.new ≡ false }
     ensures does { IsTrue K.tells → DoesInit (HasDenied K.refuses K.will_wait asked.entry.location) (W.contents output.old) (W.contents output.new) result
         (K.holds keeper.old) (K.holds keeper.new) }
@@ -44,24 +44,24 @@ pub fn run_init<W: Write, K: Keeper>(
 /// `adduser`: a new account. Its password is the first line of the input. `random` is the salt if the arguments have none.
 pub fn run_adduser<R: Read, W: Write, K: Keeper>(
     alloc: Global,
-    asked: AddUser<'_>,
+    asked: AddUserArgs<'_>,
     random: Option<[u8; 16]>,
     input: &mut R,
     output: &mut W,
     keeper: &mut K,
-) -> Result<(), Fault>
+) -> Result<(), RunFault>
     ensures unread { status_after result ≡ 64 → input.new ≡ input.old }
     ensures reads { OnOk result (ReadsToEnd R.remaining input.old input.new) }
     ensures back { K.is_out keeper.old ≡ false → K.is_out keeper.new ≡ false }
     ensures does { IsTrue K.tells → DoesEvent (SaltFailed (option_copied asked.entry.salt) random) (HasNoSalt (option_copied asked.entry.salt))
         (DeniedAtEnd (HasDenied K.refuses K.will_wait asked.entry.location) (R.remaining input.new))
-        (Adds (option_copied asked.entry.salt) random asked.entry.name.now asked.entry.address.now (R.remaining input.old))
+        (IsAddUserEvent (option_copied asked.entry.salt) random asked.entry.name.now asked.entry.address.now (R.remaining input.old))
         (W.contents output.old) (W.contents output.new) result (K.holds keeper.old) (K.holds keeper.new) }
     ensures given { OnOk result (HasGiven K.gives K.will_wait asked.entry.location) }
 {
     let salt = given_salt(asked.salt, random)?;
     let octets = read_all(alloc, input)?;
-    let password = first_line(octets.as_slice());
+    let password = first_input_line(octets.as_slice());
     add(
         alloc,
         asked.location,
@@ -83,7 +83,7 @@ fn add<K: Keeper>(
     salt: [u8; 16],
     password: &[u8],
     keeper: &mut K,
-) -> Result<(), Fault>
+) -> Result<(), RunFault>
     ensures late { status_after result ≢ 64 }
     ensures back { K.is_out keeper.old ≡ false → K.is_out keeper.new ≡ false }
     ensures puts { IsTrue K.tells → TurnsTables
@@ -103,19 +103,19 @@ fn add<K: Keeper>(
 /// or not the store could be closed.
 pub fn run_deliver<R: Read, W: Write, K: Keeper>(
     alloc: Global,
-    asked: Deliver<'_>,
+    asked: DeliverArgs<'_>,
     clock: Option<u64>,
     default: Option<&[u8]>,
     input: &mut R,
     output: &mut W,
     keeper: &mut K,
-) -> Result<(), Fault>
+) -> Result<(), RunFault>
     ensures unread { status_after result ≡ 64 → input.new ≡ input.old }
     ensures reads { OnOk result (ReadsToEnd R.remaining input.old input.new) }
     ensures back { K.is_out keeper.old ≡ false → K.is_out keeper.new ≡ false }
     ensures does { IsTrue K.tells → DoesEvent (PostFailed (option_copied asked.entry.at) clock) (HasNoWhen (option_copied asked.entry.at) (option_copied asked.entry.zone))
         (DeniedAtEnd (HasDenied K.refuses K.will_wait asked.entry.location) (R.remaining input.new))
-        (Posts asked.entry.from.now asked.entry.to.now (option_copied asked.entry.at) (option_copied asked.entry.zone) asked.entry.user.now clock (contents default.entry)
+        (IsDeliverEvent asked.entry.from.now asked.entry.to.now (option_copied asked.entry.at) (option_copied asked.entry.zone) asked.entry.user.now clock (borrowed_octets default.entry)
         (R.remaining input.old))
         (W.contents output.old) (W.contents output.new) result (K.holds keeper.old) (K.holds keeper.new) }
     ensures given { OnOk result (HasGiven K.gives K.will_wait asked.entry.location) }
@@ -146,11 +146,11 @@ fn post<K: Keeper>(
     when: When,
     default: Option<&[u8]>,
     keeper: &mut K,
-) -> Result<Report, Fault>
+) -> Result<Report, RunFault>
     ensures late { status_after result ≢ 64 }
     ensures back { K.is_out keeper.old ≡ false → K.is_out keeper.new ≡ false }
     ensures puts { IsTrue K.tells → TurnsTables
-        (Puts (HasDenied K.refuses K.will_wait location.entry) (machine.Deliver user.now envelope message.now when (contents default.entry)) Delivered result)
+        (Puts (HasDenied K.refuses K.will_wait location.entry) (machine.Deliver user.now envelope message.now when (borrowed_octets default.entry)) Delivered result)
         (K.holds keeper.old) (K.holds keeper.new) }
     ensures given { OnOk result (HasGiven K.gives K.will_wait location.entry) }
 {
@@ -162,10 +162,10 @@ fn post<K: Keeper>(
 
 /// `show`: a message of a user's folder, by its number from 1. No other message is read.
 pub fn run_show<W: Write, K: Keeper>(
-    asked: Show<'_>,
+    asked: ShowArgs<'_>,
     output: &mut W,
     keeper: &mut K,
-) -> Result<(), Fault>
+) -> Result<(), RunFault>
     ensures back { K.is_out keeper.old ≡ false → K.is_out keeper.new ≡ false }
     ensures does { IsTrue K.tells → DoesRead (IsNoNumber asked.entry.number.now) (HasDenied K.refuses K.will_wait asked.entry.location) asked.entry.user.now
         (ShowsMessage asked.entry.folder.now asked.entry.number.now) (LacksMessage asked.entry.folder.now asked.entry.number.now)
@@ -175,7 +175,7 @@ pub fn run_show<W: Write, K: Keeper>(
     let number = decimal(asked.number)?;
     let wanted = MessageOf(asked.user, asked.folder, number);
     let Some(message) = read_once(asked.location, &wanted, keeper)? else {
-        return Err(Fault::NoMessage);
+        return Err(RunFault::NoMessage);
     };
     write_all(output, message.as_slice())
 }
@@ -185,9 +185,9 @@ pub fn take_store<K: Keeper>(
     location: StoreLocation<'_>,
     fresh: bool,
     keeper: &mut K,
-) -> Result<Store<K::S>, Fault>
+) -> Result<Store<K::S>, RunFault>
     ensures late { status_after result ≢ 64 }
-    ensures taken { IfOk result (λ store. IsTrue K.tells → IsTaken fresh (K.holds keeper.old) (state K.S.Store store).now) }
+    ensures taken { IfOk result (λ store. IsTrue K.tells → IsStoreTaken fresh (K.holds keeper.old) (state K.S.Store store).now) }
     ensures refused { OnErr result (IsTrue K.tells → K.holds keeper.new ≡ K.holds keeper.old) }
     ensures kept { OnErr result (K.is_out keeper.new ≡ K.is_out keeper.old) }
     ensures given { OnOk result (HasGiven K.gives K.will_wait location.entry) }

@@ -1,31 +1,31 @@
 //! The subcommand that empties a folder: its messages go into a sink, and then out of the store.
 ghost use Rattle.std.specs.Prelude.{◌≡◌, ◌≢◌, ◌⊎◌, ℕ, List, false, IfErr, IfOk, OnOk, IsTrue, option_copied};
 ghost use Rattle.sqlite.specs.Held.{state};
-ghost use Rattle.sievedrun.specs.Draining.{IsMost, MovesFirst, MovesAll, Drains, MovesTables, HasDrained, HasRefused, IsUnkept};
-ghost use Rattle.sievedrun.specs.Faults.{memory, no_user, store_failed, IsFailure, IsSudden};
-ghost use Rattle.sievedrun.specs.Serving.{HasDenied, HasGiven};
-ghost use Rattle.sievedrun.specs.Values.{HasNoNumber};
+ghost use Rattle.cli_run.specs.Draining.{IsMost, DrainsFirst, MovesAll, Drains, MovesTables, HasDrained, HasRefused, IsUnkept};
+ghost use Rattle.cli_run.specs.Faults.{memory, no_user, store_failed, IsFailure, IsSudden};
+ghost use Rattle.cli_run.specs.Serving.{HasDenied, HasGiven};
+ghost use Rattle.cli_run.specs.Values.{HasNoNumber};
 
 use crate::commands::take_store;
-use crate::fault::Fault;
+use crate::fault::RunFault;
 use crate::stream::write_number;
 use crate::values::decimal;
-use keepers::Keeper;
-use mailengine::first_message;
-use mailsinks::{MailSink, SinkError};
-use mailstore::{Refusal, Store};
-use sievedwords::Drain;
+use store_lock::Keeper;
+use store_engine::first_message;
+use maildir_files::{MailSink, SinkError};
+use store_accounts::{Refusal, Store};
+use cli_subcommands::DrainArgs;
 use sqlite::Alter;
 use std::io::Write;
 
 /// `drain`: moves a folder's messages into a Maildir, the first ones first. If the arguments or the path are wrong, no store is
 /// taken.
 pub fn run_drain<W: Write, K: Keeper, T: MailSink>(
-    asked: Drain<'_>,
+    asked: DrainArgs<'_>,
     output: &mut W,
     keeper: &mut K,
     sink: &mut T,
-) -> Result<(), Fault>
+) -> Result<(), RunFault>
     ensures back { K.is_out keeper.old ≡ false → K.is_out keeper.new ≡ false }
     ensures drains { IsTrue K.tells → HasDrained (HasRefused T.refuses) (HasDenied K.refuses K.will_wait asked.entry.location) asked.entry
         T.tells (T.kept sink.old) (T.kept sink.new) (W.contents output.old) (W.contents output.new) result (K.holds keeper.old) (K.holds keeper.new) }
@@ -39,10 +39,10 @@ pub fn run_drain<W: Write, K: Keeper, T: MailSink>(
 }
 
 /// How many messages the arguments ask for, at most.
-fn most_of(digits: Option<&str>) -> Result<u64, Fault>
+fn most_of(digits: Option<&str>) -> Result<u64, RunFault>
     ensures ok { IfOk result (IsMost (option_copied digits.entry)) }
     ensures right { OnOk result (HasNoNumber (option_copied digits.entry) → ⊥) }
-    ensures fault { IfErr result (λ fault. fault ≡ Fault.BadArgument) }
+    ensures fault { IfErr result (λ fault. fault ≡ RunFault.BadArgument) }
     ensures none { IfErr result (λ fault. HasNoNumber (option_copied digits.entry)) }
 {
     match digits {
@@ -53,11 +53,11 @@ fn most_of(digits: Option<&str>) -> Result<u64, Fault>
 
 /// Moves the messages out of a store that is taken and handed back. Returns how many moved.
 fn drain_store<K: Keeper, T: MailSink>(
-    asked: Drain<'_>,
+    asked: DrainArgs<'_>,
     most: u64,
     keeper: &mut K,
     sink: &mut T,
-) -> Result<u64, Fault>
+) -> Result<u64, RunFault>
     ensures back { K.is_out keeper.old ≡ false → K.is_out keeper.new ≡ false }
     ensures moves { IsTrue K.tells → MovesTables (HasRefused T.refuses) (HasDenied K.refuses K.will_wait asked.entry.location) asked.entry
         T.tells (T.kept sink.old) (T.kept sink.new) most result (K.holds keeper.old) (K.holds keeper.new) }
@@ -83,8 +83,8 @@ fn move_first<S: Alter, T: MailSink>(
     user: &[u8],
     folder: &[u8],
     sink: &mut T,
-) -> Result<bool, Fault>
-    ensures moves { MovesFirst user.now folder.now T.tells (T.kept sink.old) (T.kept sink.new) result (state S.Store store.old) (state S.Store store.new) }
+) -> Result<bool, RunFault>
+    ensures moves { DrainsFirst user.now folder.now T.tells (T.kept sink.old) (T.kept sink.new) result (state S.Store store.old) (state S.Store store.new) }
     ensures stays { (path : List ℕ) → T.is_at sink.old path → T.is_at sink.new path }
     ensures fault { IfErr result (IsSudden (IsUnkept (HasRefused T.refuses))) }
 {
@@ -101,31 +101,31 @@ fn move_first<S: Alter, T: MailSink>(
     }
     match store.take_mail(user, folder) {
         Ok(()) => Ok(true),
-        Err(refusal) => Err(Fault::Refused(refusal)),
+        Err(refusal) => Err(RunFault::Refused(refusal)),
     }
 }
 
 /// Why the folder of a user whose account was there a moment ago can't be read.
-fn failure_of(refusal: Refusal) -> Fault
+fn failure_of(refusal: Refusal) -> RunFault
     ensures sudden { IsSudden ⊥ result }
     ensures memory { refusal ≡ Refusal.Memory → result ≡ memory }
     ensures other { refusal ≢ Refusal.Memory → result ≡ store_failed }
 {
     match refusal {
-        Refusal::Memory => Fault::Refused(Refusal::Memory),
-        _ => Fault::Refused(Refusal::Store),
+        Refusal::Memory => RunFault::Refused(Refusal::Memory),
+        _ => RunFault::Refused(Refusal::Store),
     }
 }
 
 /// Why a message isn't kept by a sink that is open.
-fn sink_failure(error: SinkError) -> Fault
+fn sink_failure(error: SinkError) -> RunFault
     ensures failure { IsFailure result }
     ensures memory { error ≡ SinkError.Memory → result ≡ memory }
-    ensures other { error ≢ SinkError.Memory → result ≡ Fault.Stream }
+    ensures other { error ≢ SinkError.Memory → result ≡ RunFault.Stream }
 {
     match error {
-        SinkError::Memory => Fault::Refused(Refusal::Memory),
-        _ => Fault::Stream,
+        SinkError::Memory => RunFault::Refused(Refusal::Memory),
+        _ => RunFault::Stream,
     }
 }
 
@@ -137,7 +137,7 @@ fn move_all<S: Alter, T: MailSink>(
     folder: &[u8],
     most: u64,
     sink: &mut T,
-) -> Result<u64, Fault>
+) -> Result<u64, RunFault>
     ensures moves { MovesAll user.now folder.now T.tells (T.kept sink.old) (T.kept sink.new) most result (state S.Store store.old) (state S.Store store.new) }
     ensures stays { (path : List ℕ) → T.is_at sink.old path → T.is_at sink.new path }
     ensures fault { IfErr result (IsSudden (IsUnkept (HasRefused T.refuses))) }
@@ -163,7 +163,7 @@ fn drain<S: Alter, T: MailSink>(
     folder: &[u8],
     most: u64,
     sink: &mut T,
-) -> Result<u64, Fault>
+) -> Result<u64, RunFault>
     ensures moves { Drains user.now folder.now T.tells (T.kept sink.old) (T.kept sink.new) most result (state S.Store store.old) (state S.Store store.new) }
     ensures stays { (path : List ℕ) → T.is_at sink.old path → T.is_at sink.new path }
     ensures fault { IfErr result (λ fault. IsSudden (IsUnkept (HasRefused T.refuses)) fault ⊎ (fault ≡ no_user)) }

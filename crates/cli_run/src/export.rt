@@ -1,23 +1,23 @@
 //! The subcommand that prints an account as a text, and may close it after that.
 ghost use Rattle.std.specs.Prelude.{◌≡◌, ◌+◌, ◌<◌, false, length, IsTrue, OnOk};
-ghost use Rattle.accountfiles.specs.Writing.{text_in};
+ghost use Rattle.store_text.specs.Writing.{line_octets};
 ghost use Rattle.sqlite.specs.Held.{state};
 ghost use Rattle.sqlite.specs.State.{HasCleanDisk};
-ghost use Rattle.sievedrun.specs.Exports.{PutsParts};
-ghost use Rattle.sievedrun.specs.Faults.{IsPut};
-ghost use Rattle.sievedrun.specs.Serving.{HasDenied, HasGiven};
-ghost use Rattle.sievedrun.specs.Words.{DoesExport, Exports, PrintsText, TurnsStore};
+ghost use Rattle.cli_run.specs.Exports.{PutsParts};
+ghost use Rattle.cli_run.specs.Faults.{IsTextPut};
+ghost use Rattle.cli_run.specs.Serving.{HasDenied, HasGiven};
+ghost use Rattle.cli_run.specs.Subcommands.{DoesExport, Exports, PrintsText, TurnsStore};
 
 use crate::commands::take_store;
-use crate::fault::Fault;
+use crate::fault::RunFault;
 use crate::stream::{put, write_all};
 use crate::upkeep::done_by;
-use accountcopies::{Contents, list_contents, read_part};
-use accountfiles::{Line, Writer};
-use keepers::Keeper;
-use mailengine::{Upkeep, keep};
-use mailstore::Store;
-use sievedwords::Export;
+use store_export::{Contents, list_contents, read_part};
+use store_text::{AccountLine, Writer};
+use store_lock::Keeper;
+use store_engine::{Upkeep, do_upkeep};
+use store_accounts::Store;
+use cli_subcommands::ExportArgs;
 use sqlite::Alter;
 use std::alloc::Global;
 use std::io::Write;
@@ -29,10 +29,10 @@ use std::io::Write;
 /// text or message, nearly all of it SQLite's.
 pub fn run_export<W: Write, K: Keeper>(
     alloc: Global,
-    asked: Export<'_>,
+    asked: ExportArgs<'_>,
     output: &mut W,
     keeper: &mut K,
-) -> Result<(), Fault>
+) -> Result<(), RunFault>
     ensures back { K.is_out keeper.old ≡ false → K.is_out keeper.new ≡ false }
     ensures does { IsTrue K.tells → DoesExport (HasDenied K.refuses K.will_wait asked.entry.location) (W.contents output.old) (W.contents output.new)
         asked.entry.and_close asked.entry.user.now result (K.holds keeper.old) (K.holds keeper.new) }
@@ -57,14 +57,14 @@ fn export<S: Alter, W: Write>(
     user: &[u8],
     closes: bool,
     output: &mut W,
-) -> Result<(), Fault>
+) -> Result<(), RunFault>
     ensures { TurnsStore (Exports closes user.now (W.contents output.old) (W.contents output.new) result) (state S.Store store.old) (state S.Store store.new) }
 {
     print_text(alloc, store, user, output)?;
     if !closes {
         return Ok(());
     }
-    done_by(keep(alloc, store, user, &Upkeep::CloseAccount))
+    done_by(do_upkeep(alloc, store, user, &Upkeep::CloseAccount))
 }
 
 /// Prints the text of the user's account, a part at a time, and flushes.
@@ -73,7 +73,7 @@ fn print_text<S: Alter, W: Write>(
     store: &mut Store<S>,
     user: &[u8],
     output: &mut W,
-) -> Result<(), Fault>
+) -> Result<(), RunFault>
     ensures { PrintsText user.now (W.contents output.old) (W.contents output.new) (state S.Store store.old) (state S.Store store.new) result }
 {
     let contents = list_contents(alloc, store, user)?;
@@ -91,7 +91,7 @@ fn put_parts<S: Alter, W: Write>(
     contents: &Contents,
     writer: &mut Writer,
     output: &mut W,
-) -> Result<(), Fault>
+) -> Result<(), RunFault>
     requires live { HasCleanDisk (state S.Store store.old) → IsTrue (state S.Store store.old).is_open }
     ensures { PutsParts contents.now 0 (length contents.now.places) writer.old writer.new (W.contents output.old) (W.contents output.new)
         (state S.Store store.old) (state S.Store store.new) result }
@@ -110,7 +110,7 @@ fn put_part<S: Alter, W: Write>(
     at: usize,
     writer: &mut Writer,
     output: &mut W,
-) -> Result<(), Fault>
+) -> Result<(), RunFault>
     requires { at < length contents.now.places }
     ensures { PutsParts contents.now at (at + 1) writer.old writer.new (W.contents output.old) (W.contents output.new)
         (state S.Store store.old) (state S.Store store.new) result }
@@ -121,8 +121,8 @@ fn put_part<S: Alter, W: Write>(
 }
 
 /// Writes a line, without flushing.
-fn put_pieces<W: Write>(output: &mut W, line: &Line<'_>) -> Result<(), Fault>
-    ensures { IsPut result (W.contents output.old) (W.contents output.new) (text_in line.now) }
+fn put_pieces<W: Write>(output: &mut W, line: &AccountLine<'_>) -> Result<(), RunFault>
+    ensures { IsTextPut result (W.contents output.old) (W.contents output.new) (line_octets line.now) }
 {
     put(output, line.front.as_slice())?;
     put(output, line.last)?;

@@ -1,21 +1,21 @@
 //! What goes wrong, as the program reports it.
 ghost use Rattle.std.specs.Prelude.{◌≡◌, ◌≢◌, false, IsTrue};
-ghost use Rattle.sievedrun.specs.Faults.{status_of, line_of, store_failed};
-ghost use Rattle.sievedrun.specs.declared.fault.Fault.TheVariants.{Refused};
-ghost use Rattle.sievedrun.specs.Streams.{IsWritten};
+ghost use Rattle.cli_run.specs.Faults.{status_of, run_fault_line, store_failed};
+ghost use Rattle.cli_run.specs.declared.fault.RunFault.TheVariants.{Refused};
+ghost use Rattle.cli_run.specs.Streams.{IsWritten};
 
 use crate::stream;
-use accountfiles::ReadError;
-use keepers::Unavailable;
-use mailsinks::SinkError;
-use mailstore::Refusal;
+use store_text::AccountReadError;
+use store_lock::StoreUnavailable;
+use maildir_files::SinkError;
+use store_accounts::Refusal;
 use std::alloc::AllocError;
 use std::io::Write;
 use thiserror::Error;
 
 /// Why a run gives no answer.
 #[derive(Clone, Copy, Debug, PartialEq, Eq, Error)]
-pub enum Fault {
+pub enum RunFault {
     /// A refusal of a store or of the engine: memory, a database that failed or whose file or lock can't be used,
     /// and what a name, a message or a number is not.
     #[error(transparent)]
@@ -46,17 +46,17 @@ pub enum Fault {
     BadArgument,
 }
 
-impl Fault {
+impl RunFault {
     /// The exit status of the fault, a number of `sysexits.h`.
     pub fn status(self) -> u8
         ensures { result ≡ status_of self }
     {
         match self {
-            Fault::BadArgument => 64,
-            Fault::Refused(Refusal::NoUser) => 67,
-            Fault::Refused(Refusal::Memory | Refusal::Store | Refusal::AccountClosed)
-            | Fault::Busy
-            | Fault::Stream => 75,
+            RunFault::BadArgument => 64,
+            RunFault::Refused(Refusal::NoUser) => 67,
+            RunFault::Refused(Refusal::Memory | Refusal::Store | Refusal::AccountClosed)
+            | RunFault::Busy
+            | RunFault::Stream => 75,
             _ => 65,
         }
     }
@@ -66,30 +66,30 @@ impl Fault {
         ensures failed { IsTrue result → self ≡ store_failed }
         ensures other { result ≡ false → self ≢ store_failed }
     {
-        matches!(self, Fault::Refused(Refusal::Store))
+        matches!(self, RunFault::Refused(Refusal::Store))
     }
 
     /// The line on standard error that reports the fault.
     pub fn line(self) -> &'static [u8]
-        ensures { result.now ≡ line_of self }
+        ensures { result.now ≡ run_fault_line self }
     {
         match self {
-            Fault::Refused(refusal) => refusal_line(refusal),
-            Fault::Busy => b"sieved: busy\n",
-            Fault::Stream => b"sieved: input or output failed\n",
-            Fault::NoMessage => b"sieved: no such message\n",
-            Fault::NoMaildir => b"sieved: no such Maildir\n",
-            Fault::NoScript => b"sieved: no such script\n",
-            Fault::Invalid => b"sieved: not valid\n",
-            Fault::BadInput => b"sieved: bad input\n",
-            Fault::BadArgument => b"sieved: bad argument\n",
+            RunFault::Refused(refusal) => refusal_line(refusal),
+            RunFault::Busy => b"sieved: busy\n",
+            RunFault::Stream => b"sieved: input or output failed\n",
+            RunFault::NoMessage => b"sieved: no such message\n",
+            RunFault::NoMaildir => b"sieved: no such Maildir\n",
+            RunFault::NoScript => b"sieved: no such script\n",
+            RunFault::Invalid => b"sieved: not valid\n",
+            RunFault::BadInput => b"sieved: bad input\n",
+            RunFault::BadArgument => b"sieved: bad argument\n",
         }
     }
 }
 
 /// The line that reports a refusal.
 fn refusal_line(refusal: Refusal) -> &'static [u8]
-    ensures { result.now ≡ line_of (Refused refusal) }
+    ensures { result.now ≡ run_fault_line (Refused refusal) }
 {
     match refusal {
         Refusal::Memory => b"sieved: out of memory\n",
@@ -112,75 +112,75 @@ fn refusal_line(refusal: Refusal) -> &'static [u8]
     }
 }
 
-impl From<AllocError> for Fault {
+impl From<AllocError> for RunFault {
     ghost use Rattle.std.specs.Prelude.{◌≡◌};
-    ghost use Rattle.sievedrun.specs.Faults.{memory};
+    ghost use Rattle.cli_run.specs.Faults.{memory};
 
     ghost from_gives = { λ _ fault. fault ≡ memory };
 
-    fn from(_refused: AllocError) -> Fault {
-        Fault::Refused(Refusal::Memory)
+    fn from(_refused: AllocError) -> RunFault {
+        RunFault::Refused(Refusal::Memory)
     }
 }
 
-impl From<Refusal> for Fault {
+impl From<Refusal> for RunFault {
     ghost use Rattle.std.specs.Prelude.{◌≡◌};
-    ghost use Rattle.sievedrun.specs.declared.fault.Fault.TheVariants.{Refused};
+    ghost use Rattle.cli_run.specs.declared.fault.RunFault.TheVariants.{Refused};
 
     ghost from_gives = { λ refusal fault. fault ≡ Refused refusal };
 
-    fn from(refusal: Refusal) -> Fault {
-        Fault::Refused(refusal)
+    fn from(refusal: Refusal) -> RunFault {
+        RunFault::Refused(refusal)
     }
 }
 
-impl From<Unavailable> for Fault {
+impl From<StoreUnavailable> for RunFault {
     ghost use Rattle.std.specs.Prelude.{◌≡◌};
-    ghost use Rattle.sievedrun.specs.Faults.{denial_fault};
+    ghost use Rattle.cli_run.specs.Faults.{denial_fault};
 
     ghost from_gives = { λ denial fault. fault ≡ denial_fault denial };
 
-    fn from(denial: Unavailable) -> Fault {
+    fn from(denial: StoreUnavailable) -> RunFault {
         match denial {
-            Unavailable::Busy => Fault::Busy,
-            Unavailable::Refused(refusal) => Fault::Refused(refusal),
+            StoreUnavailable::Busy => RunFault::Busy,
+            StoreUnavailable::Refused(refusal) => RunFault::Refused(refusal),
         }
     }
 }
 
-impl From<SinkError> for Fault {
+impl From<SinkError> for RunFault {
     ghost use Rattle.std.specs.Prelude.{◌≡◌};
-    ghost use Rattle.sievedrun.specs.Faults.{sink_fault};
+    ghost use Rattle.cli_run.specs.Faults.{sink_fault};
 
     ghost from_gives = { λ error fault. fault ≡ sink_fault error };
 
-    fn from(error: SinkError) -> Fault {
+    fn from(error: SinkError) -> RunFault {
         match error {
-            SinkError::Memory => Fault::Refused(Refusal::Memory),
-            SinkError::NoMaildir => Fault::NoMaildir,
-            SinkError::Failed => Fault::Stream,
+            SinkError::Memory => RunFault::Refused(Refusal::Memory),
+            SinkError::NoMaildir => RunFault::NoMaildir,
+            SinkError::Failed => RunFault::Stream,
         }
     }
 }
 
-impl From<ReadError> for Fault {
+impl From<AccountReadError> for RunFault {
     ghost use Rattle.std.specs.Prelude.{◌≡◌};
-    ghost use Rattle.sievedrun.specs.Faults.{read_fault};
+    ghost use Rattle.cli_run.specs.Faults.{read_fault};
 
     ghost from_gives = { λ error fault. fault ≡ read_fault error };
 
-    fn from(error: ReadError) -> Fault {
+    fn from(error: AccountReadError) -> RunFault {
         match error {
-            ReadError::Memory => Fault::Refused(Refusal::Memory),
-            ReadError::NotAnAccount => Fault::BadInput,
+            AccountReadError::Memory => RunFault::Refused(Refusal::Memory),
+            AccountReadError::NotAnAccount => RunFault::BadInput,
         }
     }
 }
 
 /// Reports a fault, and returns its exit status. If the write fails, the status is all that reports it.
-pub fn refuse<E: Write>(errors: &mut E, fault: Fault) -> u8
+pub fn refuse<E: Write>(errors: &mut E, fault: RunFault) -> u8
     ensures status { result ≡ status_of fault }
-    ensures line { IsWritten (E.contents errors.old) (E.contents errors.new) (line_of fault) }
+    ensures line { IsWritten (E.contents errors.old) (E.contents errors.new) (run_fault_line fault) }
 {
     let _ = stream::write_all(errors, fault.line());
     fault.status()

@@ -1,39 +1,39 @@
 //! Trouble with a store, or in taking one, as it is reported on standard error.
 ghost use Rattle.std.specs.Prelude.{◌≡◌, ◌≢◌, ◌++◌, false, Some, None, IsTrue, IfSome, option_copied};
-ghost use Rattle.sievedrun.specs.Faults.{cause_line, line_of, store_failed};
-ghost use Rattle.sievedrun.specs.Streams.{IsWritten};
+ghost use Rattle.cli_run.specs.Faults.{cause_line, run_fault_line, store_failed};
+ghost use Rattle.cli_run.specs.Streams.{IsWritten};
 
-use crate::fault::Fault;
+use crate::fault::RunFault;
 use crate::stream::{write_all, write_line};
-use keepers::Keeper;
-use mailstore::Refusal;
+use store_lock::Keeper;
+use store_accounts::Refusal;
 use std::io::Write;
 
 /// A fault, and its cause as far as it is known.
 #[derive(Clone, Copy)]
-pub struct Trouble {
-    pub fault: Fault,
+pub struct FaultWithCause {
+    pub fault: RunFault,
     /// A text for a person, without a line end.
     pub cause: Option<&'static str>,
 }
 
-impl Trouble {
+impl FaultWithCause {
     /// A fault of the store, with what its keeper knows of the cause.
-    pub fn of_store<K: Keeper>(fault: Fault, keeper: &K) -> Trouble
+    pub fn of_store<K: Keeper>(fault: RunFault, keeper: &K) -> FaultWithCause
         ensures fault { result.fault ≡ fault }
         ensures cause { fault ≡ store_failed → option_copied result.cause ≡ K.said keeper.now }
         ensures quiet { fault ≢ store_failed → option_copied result.cause ≡ None }
     {
         let cause = match fault {
-            Fault::Refused(Refusal::Store) => keeper.cause(),
+            RunFault::Refused(Refusal::Store) => keeper.cause(),
             _ => None,
         };
-        Trouble { fault, cause }
+        FaultWithCause { fault, cause }
     }
 
     /// Reports it on a line, and its cause, if known, on a second one. If a write fails, nothing more is written.
     pub fn tell<E: Write>(self, errors: &mut E)
-        ensures { IsWritten (E.contents errors.old) (E.contents errors.new) (line_of self.fault ++ cause_line (option_copied self.cause)) }
+        ensures { IsWritten (E.contents errors.old) (E.contents errors.new) (run_fault_line self.fault ++ cause_line (option_copied self.cause)) }
     {
         if write_all(errors, self.fault.line()).is_ok() {
             tell_cause(errors, self.cause);
@@ -52,25 +52,25 @@ fn tell_cause<E: Write>(errors: &mut E, cause: Option<&'static str>)
 
 /// The first trouble that a connection has with the store, which is reported once; later ones aren't.
 #[derive(Clone, Copy)]
-pub struct FirstTrouble {
-    trouble: Option<Trouble>,
+pub struct FirstFault {
+    trouble: Option<FaultWithCause>,
     is_told: bool,
 }
 
-impl FirstTrouble {
+impl FirstFault {
     /// None yet.
-    pub fn none() -> FirstTrouble
+    pub fn none() -> FirstFault
         ensures none { result.trouble ≡ None }
         ensures untold { result.is_told ≡ false }
     {
-        FirstTrouble {
+        FirstFault {
             trouble: None,
             is_told: false,
         }
     }
 
     /// Keeps a trouble if it is the first one.
-    pub fn note(&mut self, trouble: Trouble)
+    pub fn note(&mut self, trouble: FaultWithCause)
         ensures first { self.old.trouble ≡ None → self.new.trouble ≡ Some trouble }
         ensures later { IfSome self.old.trouble (λ first. self.new.trouble ≡ Some first) }
         ensures told { self.new.is_told ≡ self.old.is_told }
@@ -86,7 +86,7 @@ impl FirstTrouble {
         ensures none { self.old.trouble ≡ None → E.contents errors.new ≡ E.contents errors.old }
         ensures tells { self.old.is_told ≡ false
             → IfSome self.old.trouble (λ trouble. IsWritten (E.contents errors.old) (E.contents errors.new)
-            (line_of trouble.fault ++ cause_line (option_copied trouble.cause))) }
+            (run_fault_line trouble.fault ++ cause_line (option_copied trouble.cause))) }
         ensures same { self.new.trouble ≡ self.old.trouble }
         ensures told { IfSome self.old.trouble (λ trouble. IsTrue self.new.is_told) }
         ensures untold { self.old.trouble ≡ None → self.new.is_told ≡ self.old.is_told }

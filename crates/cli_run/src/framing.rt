@@ -2,7 +2,7 @@
 ghost use Rattle.std.specs.Prelude.{◌≡◌, ℕ, List, MatchOption, IfSome, IfNone};
 ghost use Rattle.std.specs.List.{prefix_len};
 ghost use Rattle.octets.specs.Ascii.{is_digit};
-ghost use Rattle.sievedrun.specs.Framing.{Counts, IsFramed};
+ghost use Rattle.cli_run.specs.Framing.{HasCountLine, IsFramed};
 
 use octets::parse_decimal;
 
@@ -36,8 +36,8 @@ pub fn split(input: &[u8]) -> Option<Framed<'_>>
 
 /// The number in the first line, and what follows that line.
 fn split_count(input: &[u8]) -> Option<(u64, &[u8])>
-    ensures { MatchOption result ((number : ℕ) (rest : List ℕ) → Counts input.now number rest → ⊥)
-        (λ r. Counts input.now r.0 r.1.now) }
+    ensures { MatchOption result ((number : ℕ) (rest : List ℕ) → HasCountLine input.now number rest → ⊥)
+        (λ r. HasCountLine input.now r.0 r.1.now) }
 {
     let len = digits_len(input);
     if len > MAX_DIGITS {

@@ -1,20 +1,20 @@
 //! The subcommand that adds the account of a text.
 ghost use Rattle.std.specs.Prelude.{◌≡◌, ◌≢◌, ◌⊎◌, false, IsTrue, IfErr, IfOk, OnOk};
 ghost use Rattle.std.specs.Io.KnownBytes.{IsAtEnd};
-ghost use Rattle.mailengine.specs.declared.answer.Answer.TheVariants.{Imported};
-ghost use Rattle.mailengine.specs.declared.event.Event.TheVariants as machine;
-ghost use Rattle.sievedrun.specs.Draining.{TurnsTables};
-ghost use Rattle.sievedrun.specs.Promise.{status_after};
-ghost use Rattle.sievedrun.specs.Serving.{HasDenied, HasGiven};
-ghost use Rattle.sievedrun.specs.Streams.{ReadsToEnd};
-ghost use Rattle.sievedrun.specs.Words.{Brings, DeniedAtEnd, DoesImport, IsNotRead, Puts};
+ghost use Rattle.store_engine.specs.declared.answer.Answer.TheVariants.{Imported};
+ghost use Rattle.store_engine.specs.declared.event.Event.TheVariants as machine;
+ghost use Rattle.cli_run.specs.Draining.{TurnsTables};
+ghost use Rattle.cli_run.specs.Promise.{status_after};
+ghost use Rattle.cli_run.specs.Serving.{HasDenied, HasGiven};
+ghost use Rattle.cli_run.specs.Streams.{ReadsToEnd};
+ghost use Rattle.cli_run.specs.Subcommands.{IsImportEvent, DeniedAtEnd, DoesImport, IsNotRead, Puts};
 
 use crate::commands::take_store;
-use crate::fault::Fault;
+use crate::fault::RunFault;
 use crate::stream::{read_all, write_line};
-use accountfiles::AccountFile;
-use keepers::Keeper;
-use sievedwords::{Import, StoreLocation};
+use store_text::AccountFile;
+use store_lock::Keeper;
+use cli_subcommands::{ImportArgs, StoreLocation};
 use std::alloc::Global;
 use std::io::{Read, Write};
 
@@ -24,11 +24,11 @@ use std::io::{Read, Write};
 /// the transaction takes.
 pub fn run_import<R: Read, W: Write, K: Keeper>(
     alloc: Global,
-    asked: Import<'_>,
+    asked: ImportArgs<'_>,
     input: &mut R,
     output: &mut W,
     keeper: &mut K,
-) -> Result<(), Fault>
+) -> Result<(), RunFault>
     ensures unread { status_after result ≡ 64 → input.new ≡ input.old }
     ensures reads { OnOk result (ReadsToEnd R.remaining input.old input.new) }
     ensures back { K.is_out keeper.old ≡ false → K.is_out keeper.new ≡ false }
@@ -42,15 +42,15 @@ pub fn run_import<R: Read, W: Write, K: Keeper>(
 }
 
 /// The account whose text is all of the input.
-fn read_file<R: Read>(alloc: Global, input: &mut R) -> Result<AccountFile, Fault>
+fn read_file<R: Read>(alloc: Global, input: &mut R) -> Result<AccountFile, RunFault>
     ensures late { status_after result ≢ 64 }
-    ensures read { IfOk result (λ file. Brings (R.remaining input.old) (machine.Import file)) }
+    ensures read { IfOk result (λ file. IsImportEvent (R.remaining input.old) (machine.Import file)) }
     ensures end { OnOk result (IsAtEnd (R.remaining input.new)) }
     ensures reads { OnOk result (ReadsToEnd R.remaining input.old input.new) }
     ensures fault { IfErr result (IsNotRead (R.remaining input.old)) }
 {
     let octets = read_all(alloc, input)?;
-    Ok(accountfiles::read(alloc, octets.as_slice())?)
+    Ok(store_text::read_account_file(alloc, octets.as_slice())?)
 }
 
 /// Adds the account, in a store that is taken and handed back.
@@ -59,7 +59,7 @@ fn add_file<K: Keeper>(
     location: StoreLocation<'_>,
     file: &AccountFile,
     keeper: &mut K,
-) -> Result<(), Fault>
+) -> Result<(), RunFault>
     ensures late { status_after result ≢ 64 }
     ensures back { K.is_out keeper.old ≡ false → K.is_out keeper.new ≡ false }
     ensures puts { IsTrue K.tells → TurnsTables
@@ -67,7 +67,7 @@ fn add_file<K: Keeper>(
     ensures given { OnOk result (HasGiven K.gives K.will_wait location.entry) }
 {
     let mut store = take_store(location, false, keeper)?;
-    let added = mailengine::import(alloc, &mut store, file);
+    let added = store_engine::import(alloc, &mut store, file);
     keeper.hand_back(store);
     Ok(added?)
 }

@@ -1,22 +1,22 @@
 //! An input that is a script and a message, read without keeping the message's body.
 ghost use Rattle.std.specs.Prelude.{◌≡◌, ◌+◌, ◌*◌, ◌^◌, ◌≤◌, ◌++◌, ℕ, List, length, take, drop, vec_len, None, IfOk, IfErr, OnOk};
 ghost use Rattle.std.specs.Io.KnownBytes.{IsAtEnd};
-ghost use Rattle.sievedrun.specs.Faults.{IsFailure};
-ghost use Rattle.sievedrun.specs.Fronts.{IsWithin, KeepsFront};
-ghost use Rattle.sievedrun.specs.Streams.{InputFailed, ReadsToEnd};
-ghost use Rattle.sievedrun.specs.TryScript.{OfInput};
+ghost use Rattle.cli_run.specs.Faults.{IsFailure};
+ghost use Rattle.cli_run.specs.KeptInputs.{IsKeptWithin, KeepsInput};
+ghost use Rattle.cli_run.specs.Streams.{InputFailed, ReadsToEnd};
+ghost use Rattle.cli_run.specs.TryScript.{OfInput};
 
-use crate::fault::Fault;
+use crate::fault::RunFault;
 use crate::framing::split;
 use crate::stream::{MAX_READS, PIECE, make_room, read_at};
-use mailfronts::{SizeCount, has_empty_line};
+use mail_head::{SizeCount, has_empty_line};
 use std::alloc::Global;
 use std::io::Read;
 
 /// What is kept of an input: all of it, or if it is long the prefix that has the script and the message's header, and the
 /// message's size.
 #[derive(Drop)]
-pub struct Front {
+pub struct KeptInput {
     /// What is kept, and while the input is read also the free room after it.
     octets: Vec<u8>,
     /// How many octets of that are kept.
@@ -27,19 +27,19 @@ pub struct Front {
     count: Option<SizeCount>,
 }
 
-impl Front {
+impl KeptInput {
     /// Reads to the end, in pieces.
     ///
     /// What comes is kept until the message's header is there. That is checked when a piece is full, and then each time that what
     /// is kept has doubled: so the time is linear, and the memory in proportion to script and header, and a constant. What comes
     /// after that is counted in a piece that is used again.
-    pub fn read<R: Read>(alloc: Global, input: &mut R) -> Result<Front, Fault>
-        ensures ok { IfOk result (λ front. OfInput (R.remaining input.old) (λ came. KeepsFront came front.octets.items front.count)) }
+    pub fn read<R: Read>(alloc: Global, input: &mut R) -> Result<KeptInput, RunFault>
+        ensures ok { IfOk result (λ front. OfInput (R.remaining input.old) (λ came. KeepsInput came front.octets.items front.count)) }
         ensures reads { OnOk result (ReadsToEnd R.remaining input.old input.new) }
         ensures err { IfErr result IsFailure }
-        ensures failed { IfErr result (λ fault. fault ≡ Fault.Stream → InputFailed) }
+        ensures failed { IfErr result (λ fault. fault ≡ RunFault.Stream → InputFailed) }
     {
-        let mut front = Front {
+        let mut front = KeptInput {
             octets: Vec::new(alloc),
             kept: 0,
             due: PIECE,
@@ -55,7 +55,7 @@ impl Front {
                 }
             }
         }
-        Err(Fault::Stream)
+        Err(RunFault::Stream)
     }
 
     /// What is kept.
@@ -84,10 +84,10 @@ impl Front {
     fn take(&mut self, more: usize)
         requires room { self.old.kept + more ≤ vec_len self.old.octets }
         requires piece { more ≤ PIECE }
-        requires small { IsWithin (2 ^ 62) self.old.kept self.old.count }
-        ensures keeps { (came : List ℕ) → KeepsFront came (take self.old.kept self.old.octets.items) self.old.count
-            → KeepsFront (came ++ take more (drop self.old.kept self.old.octets.items)) (take self.new.kept self.new.octets.items) self.new.count }
-        ensures within { (most : ℕ) → IsWithin most self.old.kept self.old.count → IsWithin (most + 2 * more) self.new.kept self.new.count }
+        requires small { IsKeptWithin (2 ^ 62) self.old.kept self.old.count }
+        ensures keeps { (came : List ℕ) → KeepsInput came (take self.old.kept self.old.octets.items) self.old.count
+            → KeepsInput (came ++ take more (drop self.old.kept self.old.octets.items)) (take self.new.kept self.new.octets.items) self.new.count }
+        ensures within { (most : ℕ) → IsKeptWithin most self.old.kept self.old.count → IsKeptWithin (most + 2 * more) self.new.kept self.new.count }
         ensures same { self.new.octets ≡ self.old.octets }
         ensures least { self.old.kept ≤ self.new.kept }
         ensures most { self.new.kept ≤ self.old.kept + more }
@@ -109,8 +109,8 @@ impl Front {
         requires room { self.old.kept ≤ vec_len self.old.octets }
         requires small { 2 * self.old.kept ≤ 2 ^ 63 }
         requires all { self.old.count ≡ None }
-        ensures keeps { KeepsFront (take self.old.kept self.old.octets.items) (take self.old.kept self.old.octets.items) self.new.count }
-        ensures within { IsWithin (2 * self.old.kept) self.old.kept self.new.count }
+        ensures keeps { KeepsInput (take self.old.kept self.old.octets.items) (take self.old.kept self.old.octets.items) self.new.count }
+        ensures within { IsKeptWithin (2 * self.old.kept) self.old.kept self.new.count }
         ensures same { self.new.octets ≡ self.old.octets }
         ensures kept { self.new.kept ≡ self.old.kept }
     {
@@ -123,8 +123,8 @@ impl Front {
 
 /// The size of the message so far, if the input has enough of a message that its header is there.
 fn header_count(input: &[u8]) -> Option<SizeCount>
-    ensures keeps { KeepsFront input.now input.now result }
-    ensures within { IsWithin (2 * length input.now) (length input.now) result }
+    ensures keeps { KeepsInput input.now input.now result }
+    ensures within { IsKeptWithin (2 * length input.now) (length input.now) result }
 {
     let framed = split(input)?;
     if has_empty_line(framed.message) {

@@ -1,21 +1,21 @@
 //! The subcommands that list what is in a user's account.
 ghost use Rattle.std.specs.Prelude.{◌≡◌, ◌++◌, ℕ, List, codes, decimal, map, false, IsTrue, IfOk, OnOk, option_copied};
-ghost use Rattle.mailstore.specs.Account.{Account};
-ghost use Rattle.mailstore.specs.Tally.{count_of};
-ghost use Rattle.reportlines.specs.Reports.{with_end};
-ghost use Rattle.sievedrun.specs.Serving.{HasDenied, HasGiven};
-ghost use Rattle.sievedrun.specs.Words.{DoesFolders, DoesRead, LacksNothing, folder_line, directory_line, folder_listing};
+ghost use Rattle.store_accounts.specs.Account.{Account};
+ghost use Rattle.store_accounts.specs.Tally.{folder_count};
+ghost use Rattle.cli_reports.specs.Reports.{ended_line};
+ghost use Rattle.cli_run.specs.Serving.{HasDenied, HasGiven};
+ghost use Rattle.cli_run.specs.Subcommands.{DoesFolders, DoesRead, LacksNothing, folder_line, directory_line, folder_listing};
 
 use crate::account_read::{AccountRead, DirectoriesOf, FoldersOf, QueueOf, read_once};
-use crate::fault::Fault;
+use crate::fault::RunFault;
 use crate::stream::write_all;
 use crate::values::separator_of;
-use keepers::Keeper;
-use maildirs::{Separator, directory_of};
-use mailstore::{Folder, Head};
+use store_lock::Keeper;
+use maildir_files::{Separator, directory_of};
+use store_accounts::{Folder, QueuedEnvelope};
 use octets::{List, Octets, write_decimal};
-use reportlines::of_queue;
-use sievedwords::{Folders, StoreLocation};
+use cli_reports::list_queue;
+use cli_subcommands::{FoldersArgs, StoreLocation};
 use std::alloc::{AllocError, Global};
 use std::io::Write;
 
@@ -30,7 +30,7 @@ pub trait Listing: AccountRead {
 }
 
 impl Listing for FoldersOf<'_> {
-    ghost use Rattle.sievedrun.specs.Words.{ListsFolders, folder_line};
+    ghost use Rattle.cli_run.specs.Subcommands.{ListsFolders, folder_line};
 
     ghost shows = { λ wanted a text. ListsFolders folder_line a text };
 
@@ -40,7 +40,7 @@ impl Listing for FoldersOf<'_> {
 }
 
 impl Listing for DirectoriesOf<'_> {
-    ghost use Rattle.sievedrun.specs.Words.{ListsFolders, directory_line};
+    ghost use Rattle.cli_run.specs.Subcommands.{ListsFolders, directory_line};
 
     ghost shows = { λ wanted a text. ListsFolders (directory_line wanted.1) a text };
 
@@ -50,18 +50,18 @@ impl Listing for DirectoriesOf<'_> {
 }
 
 impl Listing for QueueOf<'_> {
-    ghost use Rattle.sievedrun.specs.Words.{ListsQueue};
+    ghost use Rattle.cli_run.specs.Subcommands.{ListsQueue};
 
     ghost shows = { λ wanted a text. ListsQueue a text };
 
-    fn lines(&self, alloc: Global, found: &List<Head>) -> Result<Octets, AllocError> {
-        of_queue(alloc, found.as_slice())
+    fn lines(&self, alloc: Global, found: &List<QueuedEnvelope>) -> Result<Octets, AllocError> {
+        list_queue(alloc, found.as_slice())
     }
 }
 
 /// The line of each folder, with the number of its messages.
 fn folder_lines(alloc: Global, folders: &[Folder]) -> Result<Octets, AllocError>
-    ensures { IfOk result (λ text. text ≡ folder_listing folder_line (map count_of folders.now)) }
+    ensures { IfOk result (λ text. text ≡ folder_listing folder_line (map folder_count folders.now)) }
 {
     let mut text = Octets::new(alloc);
     for folder in folders {
@@ -72,7 +72,7 @@ fn folder_lines(alloc: Global, folders: &[Folder]) -> Result<Octets, AllocError>
 
 /// Appends the line of a folder.
 fn add_folder(text: &mut Octets, folder: &Folder) -> Result<(), AllocError>
-    ensures { OnOk result (text.new ≡ text.old ++ with_end (folder_line (count_of folder.now))) }
+    ensures { OnOk result (text.new ≡ text.old ++ ended_line (folder_line (folder_count folder.now))) }
 {
     text.extend_from_slice(folder.name.as_slice())?;
     text.push(b' ')?;
@@ -86,7 +86,7 @@ fn directory_lines(
     folders: &[Folder],
     separator: Separator,
 ) -> Result<Octets, AllocError>
-    ensures { IfOk result (λ text. text ≡ folder_listing (directory_line separator) (map count_of folders.now)) }
+    ensures { IfOk result (λ text. text ≡ folder_listing (directory_line separator) (map folder_count folders.now)) }
 {
     let mut text = Octets::new(alloc);
     for folder in folders {
@@ -98,7 +98,7 @@ fn directory_lines(
 
 /// Appends the line of a folder, which begins with its directory.
 fn add_directory(text: &mut Octets, directory: &[u8], folder: &Folder) -> Result<(), AllocError>
-    ensures { OnOk result (text.new ≡ text.old ++ with_end (directory.now ++ (codes " " ++ (decimal folder.now.count ++ (codes " " ++ folder.now.name))))) }
+    ensures { OnOk result (text.new ≡ text.old ++ ended_line (directory.now ++ (codes " " ++ (decimal folder.now.count ++ (codes " " ++ folder.now.name))))) }
 {
     text.extend_from_slice(directory)?;
     text.push(b' ')?;
@@ -115,7 +115,7 @@ pub fn run_listing<Q: Listing, W: Write, K: Keeper>(
     wanted: &Q,
     output: &mut W,
     keeper: &mut K,
-) -> Result<(), Fault>
+) -> Result<(), RunFault>
     ensures back { K.is_out keeper.old ≡ false → K.is_out keeper.new ≡ false }
     ensures does { IsTrue K.tells → DoesRead ⊥ (HasDenied K.refuses K.will_wait location.entry) (Q.user wanted.now) (Q.shows wanted.now) LacksNothing
         (W.contents output.old) (W.contents output.new) result (K.holds keeper.old) (K.holds keeper.new) }
@@ -130,10 +130,10 @@ pub fn run_listing<Q: Listing, W: Write, K: Keeper>(
 /// with these.
 pub fn run_folders<W: Write, K: Keeper>(
     alloc: Global,
-    asked: Folders<'_>,
+    asked: FoldersArgs<'_>,
     output: &mut W,
     keeper: &mut K,
-) -> Result<(), Fault>
+) -> Result<(), RunFault>
     ensures back { K.is_out keeper.old ≡ false → K.is_out keeper.new ≡ false }
     ensures does { IsTrue K.tells → DoesFolders (HasDenied K.refuses K.will_wait asked.entry.location) (W.contents output.old) (W.contents output.new)
         asked.entry.user.now asked.entry.directories (option_copied asked.entry.separator) result (K.holds keeper.old) (K.holds keeper.new) }
@@ -152,6 +152,6 @@ pub fn run_folders<W: Write, K: Keeper>(
             output,
             keeper,
         ),
-        Some(_) => Err(Fault::BadArgument),
+        Some(_) => Err(RunFault::BadArgument),
     }
 }

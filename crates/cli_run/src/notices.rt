@@ -1,45 +1,45 @@
 //! The subcommand on a user's notices, which may take them after they are printed.
 ghost use Rattle.std.specs.Prelude.{◌≡◌, ◌≢◌, false, IsTrue, IfOk, OnOk, option_copied};
 ghost use Rattle.sqlite.specs.Held.{state};
-ghost use Rattle.reportlines.specs.Listings.{notice_listing};
-ghost use Rattle.sievedrun.specs.Promise.{status_after};
-ghost use Rattle.sievedrun.specs.Serving.{HasDenied, HasGiven};
-ghost use Rattle.sievedrun.specs.Words.{DoesNotices, TakesListed, TakesNotices, TurnsStore, notices_until};
+ghost use Rattle.cli_reports.specs.Listings.{notice_listing};
+ghost use Rattle.cli_run.specs.Promise.{status_after};
+ghost use Rattle.cli_run.specs.Serving.{HasDenied, HasGiven};
+ghost use Rattle.cli_run.specs.Subcommands.{DoesNotices, TakesListed, TakesNotices, TurnsStore, notices_until};
 
 use crate::account_read::NoticesOf;
 use crate::commands::take_store;
-use crate::fault::Fault;
+use crate::fault::RunFault;
 use crate::listing::{Listing, run_listing};
 use crate::stream::write_all;
 use crate::upkeep::done_by;
 use crate::values::until_of;
-use keepers::Keeper;
-use mailengine::{Upkeep, keep};
-use mailstore::{Notice, Store};
+use store_lock::Keeper;
+use store_engine::{Upkeep, do_upkeep};
+use store_accounts::{Notice, Store};
 use octets::{List, Octets};
-use reportlines::of_notices;
-use sievedwords::{Notices, StoreLocation};
+use cli_reports::list_user_notices;
+use cli_subcommands::{NoticesArgs, StoreLocation};
 use sqlite::Alter;
 use std::alloc::{AllocError, Global};
 use std::io::Write;
 
 impl Listing for NoticesOf<'_> {
-    ghost use Rattle.sievedrun.specs.Words.{ListsNotices};
+    ghost use Rattle.cli_run.specs.Subcommands.{ListsNotices};
 
     ghost shows = { λ wanted a text. ListsNotices a text };
 
     fn lines(&self, alloc: Global, found: &List<Notice>) -> Result<Octets, AllocError> {
-        of_notices(alloc, found.as_slice())
+        list_user_notices(alloc, found.as_slice())
     }
 }
 
 /// `notices`: what went wrong in the user's deliveries. With a moment the notices up to it are printed, and then taken.
 pub fn run_notices<W: Write, K: Keeper>(
     alloc: Global,
-    asked: Notices<'_>,
+    asked: NoticesArgs<'_>,
     output: &mut W,
     keeper: &mut K,
-) -> Result<(), Fault>
+) -> Result<(), RunFault>
     ensures back { K.is_out keeper.old ≡ false → K.is_out keeper.new ≡ false }
     ensures does { IsTrue K.tells → DoesNotices (HasDenied K.refuses K.will_wait asked.entry.location) (W.contents output.old) (W.contents output.new)
         asked.entry.user.now (option_copied asked.entry.until) result (K.holds keeper.old) (K.holds keeper.new) }
@@ -65,7 +65,7 @@ fn run_taking<W: Write, K: Keeper>(
     until: &str,
     output: &mut W,
     keeper: &mut K,
-) -> Result<(), Fault>
+) -> Result<(), RunFault>
     ensures back { K.is_out keeper.old ≡ false → K.is_out keeper.new ≡ false }
     ensures does { IsTrue K.tells → TakesNotices (HasDenied K.refuses K.will_wait location.entry) (W.contents output.old) (W.contents output.new)
         user.now until.now result (K.holds keeper.old) (K.holds keeper.new) }
@@ -85,14 +85,14 @@ fn print_and_take<S: Alter, W: Write>(
     user: &[u8],
     until: u64,
     output: &mut W,
-) -> Result<(), Fault>
+) -> Result<(), RunFault>
     ensures late { status_after result ≢ 64 }
     ensures takes { TurnsStore (TakesListed user.now until (W.contents output.old) (W.contents output.new) result) (state S.Store store.old) (state S.Store store.new) }
 {
     let notices = store.notices(user)?;
     let text = lines_until(alloc, notices, until)?;
     write_all(output, text.as_slice())?;
-    done_by(keep(alloc, store, user, &Upkeep::TakeNotices { until }))
+    done_by(do_upkeep(alloc, store, user, &Upkeep::TakeNotices { until }))
 }
 
 /// A line for each notice up to the moment, in their order. The notices aren't copied.
@@ -105,5 +105,5 @@ fn lines_until(alloc: Global, notices: List<Notice>, until: u64) -> Result<Octet
             early.push(notice)?;
         }
     }
-    of_notices(alloc, early.as_slice())
+    list_user_notices(alloc, early.as_slice())
 }

@@ -1,33 +1,33 @@
 //! The subcommands on a user's queue: the list, the octets of one message, and that one was sent.
 ghost use Rattle.std.specs.Prelude.{◌≡◌, ◌≢◌, false, IsTrue, OnOk, option_copied};
-ghost use Rattle.mailengine.specs.declared.answer.Answer.TheVariants.{Taken};
-ghost use Rattle.mailengine.specs.declared.event.Event.TheVariants.{TakeOut};
-ghost use Rattle.sievedrun.specs.Draining.{TurnsTables};
-ghost use Rattle.sievedrun.specs.Promise.{status_after};
-ghost use Rattle.sievedrun.specs.Serving.{HasDenied, HasGiven};
-ghost use Rattle.sievedrun.specs.Values.{IsNoNumber};
-ghost use Rattle.sievedrun.specs.Words.{Dequeues, Puts, DoesEvent, DoesQueue, DoesRead, ShowsOutgoing, LacksOutgoing};
+ghost use Rattle.store_engine.specs.declared.answer.Answer.TheVariants.{Taken};
+ghost use Rattle.store_engine.specs.declared.event.Event.TheVariants.{TakeOut};
+ghost use Rattle.cli_run.specs.Draining.{TurnsTables};
+ghost use Rattle.cli_run.specs.Promise.{status_after};
+ghost use Rattle.cli_run.specs.Serving.{HasDenied, HasGiven};
+ghost use Rattle.cli_run.specs.Values.{IsNoNumber};
+ghost use Rattle.cli_run.specs.Subcommands.{IsDoneEvent, Puts, DoesEvent, DoesQueue, DoesRead, ShowsOutgoing, LacksOutgoing};
 
 use crate::account_read::{OutgoingOf, QueueOf, read_once};
 use crate::commands::take_store;
-use crate::fault::Fault;
+use crate::fault::RunFault;
 use crate::listing::run_listing;
 use crate::stream::{write_all, write_number};
 use crate::values::decimal;
-use keepers::Keeper;
-use mailengine::take_out;
-use mailstore::{Outgoing, Refusal};
-use sievedwords::{Done, Queue, StoreLocation};
+use store_lock::Keeper;
+use store_engine::take_out;
+use store_accounts::{QueuedMessage, Refusal};
+use cli_subcommands::{DoneArgs, QueueArgs, StoreLocation};
 use std::alloc::Global;
 use std::io::Write;
 
 /// `queue`: the user's messages on their way out, or the octets of the one with the number.
 pub fn run_queue<W: Write, K: Keeper>(
     alloc: Global,
-    asked: Queue<'_>,
+    asked: QueueArgs<'_>,
     output: &mut W,
     keeper: &mut K,
-) -> Result<(), Fault>
+) -> Result<(), RunFault>
     ensures back { K.is_out keeper.old ≡ false → K.is_out keeper.new ≡ false }
     ensures does { IsTrue K.tells → DoesQueue (HasDenied K.refuses K.will_wait asked.entry.location) (W.contents output.old) (W.contents output.new)
         asked.entry.user.now (option_copied asked.entry.id) result (K.holds keeper.old) (K.holds keeper.new) }
@@ -46,7 +46,7 @@ fn run_queued<W: Write, K: Keeper>(
     id: &str,
     output: &mut W,
     keeper: &mut K,
-) -> Result<(), Fault>
+) -> Result<(), RunFault>
     ensures back { K.is_out keeper.old ≡ false → K.is_out keeper.new ≡ false }
     ensures does { IsTrue K.tells → DoesRead (IsNoNumber id.now) (HasDenied K.refuses K.will_wait location.entry) user.now (ShowsOutgoing id.now) (LacksOutgoing id.now)
         (W.contents output.old) (W.contents output.new) result (K.holds keeper.old) (K.holds keeper.new) }
@@ -54,20 +54,20 @@ fn run_queued<W: Write, K: Keeper>(
 {
     let id = decimal(id)?;
     let Some(row) = read_once(location, &OutgoingOf(user, id), keeper)? else {
-        return Err(Fault::Refused(Refusal::NoRow));
+        return Err(RunFault::Refused(Refusal::NoRow));
     };
     write_all(output, row.message.as_slice())
 }
 
 /// `done`: a message leaves the queue, since it was sent.
 pub fn run_done<W: Write, K: Keeper>(
-    asked: Done<'_>,
+    asked: DoneArgs<'_>,
     output: &mut W,
     keeper: &mut K,
-) -> Result<(), Fault>
+) -> Result<(), RunFault>
     ensures back { K.is_out keeper.old ≡ false → K.is_out keeper.new ≡ false }
     ensures does { IsTrue K.tells → DoesEvent ⊥ (IsNoNumber asked.entry.id.now) (HasDenied K.refuses K.will_wait asked.entry.location)
-        (Dequeues asked.entry.user.now asked.entry.id.now)
+        (IsDoneEvent asked.entry.user.now asked.entry.id.now)
         (W.contents output.old) (W.contents output.new) result (K.holds keeper.old) (K.holds keeper.new) }
     ensures given { OnOk result (HasGiven K.gives K.will_wait asked.entry.location) }
 {
@@ -82,7 +82,7 @@ fn dequeue<K: Keeper>(
     user: &[u8],
     id: u64,
     keeper: &mut K,
-) -> Result<Outgoing, Fault>
+) -> Result<QueuedMessage, RunFault>
     ensures late { status_after result ≢ 64 }
     ensures back { K.is_out keeper.old ≡ false → K.is_out keeper.new ≡ false }
     ensures puts { IsTrue K.tells → TurnsTables

@@ -1,37 +1,37 @@
 //! A run of the program: reads the arguments and does what they ask for.
 ghost use Rattle.std.specs.Prelude.{◌≡◌, false, None, IsTrue, IfSome, OnOk, option_copied};
-ghost use Rattle.mailstore.specs.Cells.{contents};
-ghost use Rattle.sievedrun.specs.Draining.{HasRefused};
-ghost use Rattle.sievedrun.specs.Faults.{cause_of, status_of, text_said, told_of, troubles, AreTold};
-ghost use Rattle.sievedrun.specs.Promise.{status_after};
-ghost use Rattle.sievedrun.specs.Serving.{HasDenied, HasGiven};
-ghost use Rattle.sievedrun.specs.Streams.{IsWritten, ReadsAllOrNone, ReadsToEnd};
-ghost use Rattle.sievedrun.specs.TryScript.{Tries};
-ghost use Rattle.sievedrun.specs.Values.{envelope_with};
-ghost use Rattle.sievedrun.specs.Words.{Does, IsSaid, IsUnread, Reaches, RunsWords};
+ghost use Rattle.store_accounts.specs.Cells.{borrowed_octets};
+ghost use Rattle.cli_run.specs.Draining.{HasRefused};
+ghost use Rattle.cli_run.specs.Faults.{cause_of, status_of, text_said, run_fault_lines, troubles, AreTold};
+ghost use Rattle.cli_run.specs.Promise.{status_after};
+ghost use Rattle.cli_run.specs.Serving.{HasDenied, HasGiven};
+ghost use Rattle.cli_run.specs.Streams.{IsWritten, ReadsAllOrNone, ReadsToEnd};
+ghost use Rattle.cli_run.specs.TryScript.{Tries};
+ghost use Rattle.cli_run.specs.Values.{envelope_with};
+ghost use Rattle.cli_run.specs.Subcommands.{DoesSubcommand, TellsClapText, TellsArgsError, ReachesStore, RunsWords};
 
 use crate::commands::{run_adduser, run_deliver, run_init, run_show};
 use crate::drain::run_drain;
 use crate::export::run_export;
-use crate::fault::{Fault, refuse};
+use crate::fault::{RunFault, refuse};
 use crate::import::run_import;
 use crate::listing::run_folders;
 use crate::notices::run_notices;
 use crate::queue::{run_done, run_queue};
 use crate::scripts::{run_put, run_scripts};
 use crate::stream::write_all;
-use crate::trouble::Trouble;
+use crate::fault_with_cause::FaultWithCause;
 use crate::try_script::try_run;
 use crate::upkeep::{run_address, run_open, run_passwd, run_remove};
 use crate::users::run_users;
 use crate::values::{envelope_of, when_of};
 use clap::Error;
 use clap::error::ErrorKind;
-use keepers::Keeper;
-use keepers::cause::of_file;
-use mailsinks::MailSink;
-use mailstore::Refusal;
-use sievedwords::{CommandLine, ReadError, Subcommand, Try, read};
+use store_lock::Keeper;
+use store_lock::cause::file_cause;
+use maildir_files::MailSink;
+use store_accounts::Refusal;
+use cli_subcommands::{RawArgs, ArgsError, Subcommand, TryArgs, read_command_line};
 use std::alloc::{AllocError, Global};
 use std::format;
 use std::io::{Read, Write};
@@ -46,9 +46,9 @@ const USAGE: u8 = 64;
 /// system gave some, and `default` is for `deliver` the text of the script for accounts without an active one. If arguments or
 /// values are wrong, nothing is read. The store is taken at most once, and handed back before the answer is written, except for
 /// notices, which are taken only after they were written. Messages that leave the store go into the sink.
-pub fn drive<R: Read, W: Write, E: Write, K: Keeper, T: MailSink>(
+pub fn run_program<R: Read, W: Write, E: Write, K: Keeper, T: MailSink>(
     alloc: Global,
-    words: &CommandLine,
+    words: &RawArgs,
     input: &mut R,
     output: &mut W,
     errors: &mut E,
@@ -62,12 +62,12 @@ pub fn drive<R: Read, W: Write, E: Write, K: Keeper, T: MailSink>(
     ensures reads { result ≡ 0 → ReadsAllOrNone R.remaining input.old input.new }
     ensures back { K.is_out keeper.old ≡ false → K.is_out keeper.new ≡ false }
     ensures runs { IsTrue K.tells → RunsWords (HasDenied K.refuses K.will_wait) (HasRefused T.refuses) (HasGiven K.gives K.will_wait) (T.is_at sink.new)
-        (cause_of (K.said keeper.new) (text_said (T.said sink.new))) clock random (contents default.entry)
+        (cause_of (K.said keeper.new) (text_said (T.said sink.new))) clock random (borrowed_octets default.entry)
         (R.remaining input.old) (R.remaining input.new) T.tells (T.kept sink.old) (T.kept sink.new) (W.contents output.old) (W.contents output.new)
         (E.contents errors.old) (E.contents errors.new) result (K.holds keeper.old) (K.holds keeper.new) words.now }
     ensures asked { K.unclosed keeper.old ≡ None → K.unclosed keeper.new ≡ None }
 {
-    let asked = match read(alloc, words) {
+    let asked = match read_command_line(alloc, words) {
         Ok(asked) => asked,
         Err(error) => return tell_unread(alloc, error, output, errors),
     };
@@ -86,7 +86,7 @@ pub fn drive<R: Read, W: Write, E: Write, K: Keeper, T: MailSink>(
 /// status.
 fn try_script<R: Read, W: Write, E: Write>(
     alloc: Global,
-    asked: Try<'_>,
+    asked: TryArgs<'_>,
     clock: Option<u64>,
     input: &mut R,
     output: &mut W,
@@ -103,7 +103,7 @@ fn try_script<R: Read, W: Write, E: Write>(
     };
     match envelope_of(alloc, asked.from, asked.to) {
         Ok(envelope) => try_run(alloc, envelope, when, input, output, errors),
-        Err(_) => refuse(errors, Fault::Refused(Refusal::Memory)),
+        Err(_) => refuse(errors, RunFault::Refused(Refusal::Memory)),
     }
 }
 
@@ -118,15 +118,15 @@ fn act<R: Read, W: Write, K: Keeper, T: MailSink>(
     random: Option<[u8; 16]>,
     default: Option<&[u8]>,
     sink: &mut T,
-) -> Result<(), Fault>
+) -> Result<(), RunFault>
     ensures unread { status_after result ≡ 64 → input.new ≡ input.old }
     ensures reads { OnOk result (ReadsAllOrNone R.remaining input.old input.new) }
     ensures back { K.is_out keeper.old ≡ false → K.is_out keeper.new ≡ false }
-    ensures does { IsTrue K.tells → Does (HasDenied K.refuses K.will_wait) (HasRefused T.refuses) clock random (contents default.entry) (R.remaining input.old)
+    ensures does { IsTrue K.tells → DoesSubcommand (HasDenied K.refuses K.will_wait) (HasRefused T.refuses) clock random (borrowed_octets default.entry) (R.remaining input.old)
         (R.remaining input.new)
         T.tells (T.kept sink.old) (T.kept sink.new) (W.contents output.old) (W.contents output.new) asked.entry result
         (K.holds keeper.old) (K.holds keeper.new) }
-    ensures reaches { OnOk result (Reaches (HasGiven K.gives K.will_wait) (T.is_at sink.new) asked.entry) }
+    ensures reaches { OnOk result (ReachesStore (HasGiven K.gives K.will_wait) (T.is_at sink.new) asked.entry) }
 {
     match asked {
         Subcommand::Init(asked) => run_init(asked, output, keeper),
@@ -154,7 +154,7 @@ fn act<R: Read, W: Write, K: Keeper, T: MailSink>(
         | Subcommand::Serve(_)
         | Subcommand::Session(_)
         | Subcommand::Daemon(_)
-        | Subcommand::Check(_) => Err(Fault::BadArgument),
+        | Subcommand::Check(_) => Err(RunFault::BadArgument),
     }
 }
 
@@ -162,7 +162,7 @@ fn act<R: Read, W: Write, K: Keeper, T: MailSink>(
 /// each with what the keeper or the sink knows of it. If a call was refused because the store failed, the report says both. That a
 /// script isn't valid was printed on the output.
 fn conclude<E: Write, K: Keeper, T: MailSink>(
-    done: Result<(), Fault>,
+    done: Result<(), RunFault>,
     errors: &mut E,
     keeper: &mut K,
     sink: &T,
@@ -180,9 +180,9 @@ fn conclude<E: Write, K: Keeper, T: MailSink>(
             tell_unclosed(errors, unclosed, keeper, sink);
             0
         }
-        Err(Fault::Invalid) => {
+        Err(RunFault::Invalid) => {
             tell_unclosed(errors, unclosed, keeper, sink);
-            Fault::Invalid.status()
+            RunFault::Invalid.status()
         }
         Err(fault) => {
             if fault.is_store_failure() {
@@ -202,39 +202,39 @@ fn tell_unclosed<E: Write, K: Keeper, T: MailSink>(
     sink: &T,
 )
     ensures some { IfSome unclosed (λ refusal. IsWritten (E.contents errors.old) (E.contents errors.new)
-        (told_of (cause_of (K.said keeper.now) (text_said (T.said sink.now))) (Fault.Refused refusal))) }
+        (run_fault_lines (cause_of (K.said keeper.now) (text_said (T.said sink.now))) (RunFault.Refused refusal))) }
     ensures none { unclosed ≡ None → E.contents errors.new ≡ E.contents errors.old }
 {
     if let Some(refusal) = unclosed {
-        tell_fault(errors, Fault::Refused(refusal), keeper, sink);
+        tell_fault(errors, RunFault::Refused(refusal), keeper, sink);
     }
 }
 
 /// Reports a fault, with what the keeper or the sink knows of it, and returns its status.
 fn tell_fault<E: Write, K: Keeper, T: MailSink>(
     errors: &mut E,
-    fault: Fault,
+    fault: RunFault,
     keeper: &K,
     sink: &T,
 ) -> u8
     ensures status { result ≡ status_of fault }
-    ensures line { IsWritten (E.contents errors.old) (E.contents errors.new) (told_of (cause_of (K.said keeper.now) (text_said (T.said sink.now))) fault) }
+    ensures line { IsWritten (E.contents errors.old) (E.contents errors.new) (run_fault_lines (cause_of (K.said keeper.now) (text_said (T.said sink.now))) fault) }
 {
     trouble_of(fault, keeper, sink).tell(errors);
     fault.status()
 }
 
 /// A fault with what the keeper or the sink knows of it.
-fn trouble_of<K: Keeper, T: MailSink>(fault: Fault, keeper: &K, sink: &T) -> Trouble
+fn trouble_of<K: Keeper, T: MailSink>(fault: RunFault, keeper: &K, sink: &T) -> FaultWithCause
     ensures fault { result.fault ≡ fault }
     ensures cause { option_copied result.cause ≡ cause_of (K.said keeper.now) (text_said (T.said sink.now)) fault }
 {
     match fault {
-        Fault::Stream | Fault::NoMaildir => Trouble {
+        RunFault::Stream | RunFault::NoMaildir => FaultWithCause {
             fault,
             cause: sink_cause(sink),
         },
-        _ => Trouble::of_store(fault, keeper),
+        _ => FaultWithCause::of_store(fault, keeper),
     }
 }
 
@@ -242,33 +242,33 @@ fn trouble_of<K: Keeper, T: MailSink>(fault: Fault, keeper: &K, sink: &T) -> Tro
 fn sink_cause<T: MailSink>(sink: &T) -> Option<&'static str>
     ensures { option_copied result ≡ text_said (T.said sink.now) }
 {
-    of_file(sink.cause()?)
+    file_cause(sink.cause()?)
 }
 
 /// Reports why the arguments ask for nothing.
 fn tell_unread<W: Write, E: Write>(
     alloc: Global,
-    error: ReadError,
+    error: ArgsError,
     output: &mut W,
     errors: &mut E,
 ) -> u8
-    ensures { IsUnread error (W.contents output.old) (W.contents output.new) (E.contents errors.old) (E.contents errors.new) result }
+    ensures { TellsArgsError error (W.contents output.old) (W.contents output.new) (E.contents errors.old) (E.contents errors.new) result }
 {
     match error {
-        ReadError::Said(error) => tell(alloc, &error, output, errors),
-        ReadError::NotText | ReadError::Unknown => refuse(errors, Fault::BadArgument),
+        ArgsError::Said(error) => tell(alloc, &error, output, errors),
+        ArgsError::NotText | ArgsError::Unknown => refuse(errors, RunFault::BadArgument),
     }
 }
 
 /// Prints what `clap` has to say: errors of usage on the errors, help and version on the output.
 fn tell<W: Write, E: Write>(alloc: Global, error: &Error, output: &mut W, errors: &mut E) -> u8
-    ensures { IsSaid error.now (W.contents output.old) (W.contents output.new) (E.contents errors.old) (E.contents errors.new) result }
+    ensures { TellsClapText error.now (W.contents output.old) (W.contents output.new) (E.contents errors.old) (E.contents errors.new) result }
 {
     if error.kind() == ErrorKind::OutOfMemory {
-        return refuse(errors, Fault::Refused(Refusal::Memory));
+        return refuse(errors, RunFault::Refused(Refusal::Memory));
     }
     let Ok(text) = text_of(alloc, error) else {
-        return refuse(errors, Fault::Refused(Refusal::Memory));
+        return refuse(errors, RunFault::Refused(Refusal::Memory));
     };
     if error.use_stderr() {
         let _ = write_all(errors, text.as_bytes());

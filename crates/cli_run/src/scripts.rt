@@ -1,36 +1,36 @@
 //! The subcommands on a user's scripts: `scripts` and `put`.
 ghost use Rattle.std.specs.Prelude.{◌≡◌, ◌≢◌, false, IsTrue, IfOk, OnOk, option_copied};
-ghost use Rattle.mailengine.specs.Hosts.{answer_of};
-ghost use Rattle.mailengine.specs.declared.upkeep.Upkeep.TheVariants as upkeep;
-ghost use Rattle.mailstore.specs.Account.{Account};
-ghost use Rattle.sessions.specs.Decisions.{AreScripts};
-ghost use Rattle.sessions.specs.Replies.{value_of};
-ghost use Rattle.sievedrun.specs.Draining.{TurnsTables};
-ghost use Rattle.sievedrun.specs.Promise.{status_after};
-ghost use Rattle.sievedrun.specs.Serving.{HasDenied, HasGiven};
-ghost use Rattle.sievedrun.specs.Streams.{ReadsToEnd};
-ghost use Rattle.sievedrun.specs.Words.{DeniedAtEnd, DoesPut, DoesRead, DoesScripts, IsStoredBy, LacksScript, ListsScripts, Offered, PutsScript, ShowsScript, TellsVerdict};
+ghost use Rattle.store_engine.specs.Hosts.{answer_of};
+ghost use Rattle.store_engine.specs.declared.upkeep.Upkeep.TheVariants as upkeep;
+ghost use Rattle.store_accounts.specs.Account.{Account};
+ghost use Rattle.managesieve_sessions.specs.Decisions.{AreScripts};
+ghost use Rattle.managesieve_sessions.specs.Replies.{borrowed_text};
+ghost use Rattle.cli_run.specs.Draining.{TurnsTables};
+ghost use Rattle.cli_run.specs.Promise.{status_after};
+ghost use Rattle.cli_run.specs.Serving.{HasDenied, HasGiven};
+ghost use Rattle.cli_run.specs.Streams.{ReadsToEnd};
+ghost use Rattle.cli_run.specs.Subcommands.{DeniedAtEnd, DoesPut, DoesRead, DoesScripts, IsStoredBy, LacksScript, ListsScripts, IsPutEvent, PutsScript, ShowsScript, TellsVerdict};
 
 use crate::account_read::{ScriptNames, ScriptOf, ScriptsOf, read_once};
 use crate::commands::take_store;
-use crate::fault::Fault;
+use crate::fault::RunFault;
 use crate::listing::{Listing, run_listing};
 use crate::stream::{read_all, write_all, write_line};
-use keepers::Keeper;
-use mailengine::{Answer, Upkeep, keep};
-use mailstore::Refusal;
-use msproto::spell;
+use store_lock::Keeper;
+use store_engine::{Answer, Upkeep, do_upkeep};
+use store_accounts::Refusal;
+use managesieve_protocol::spell;
 use octets::Octets;
-use reportlines::of_fault;
-use sessions::scripts::decide;
-use sessions::sort::NamedCommand;
-use sievedwords::{Put, Scripts, StoreLocation};
-use sievelex::ScriptFault;
+use cli_reports::report_fault;
+use managesieve_sessions::scripts::decide_script_command;
+use managesieve_sessions::command_class::NamedCommand;
+use cli_subcommands::{PutArgs, ScriptsArgs, StoreLocation};
+use sieve_lex::ScriptFault;
 use std::alloc::{AllocError, Global};
 use std::io::{Read, Write};
 
 impl Listing for ScriptsOf<'_> {
-    ghost use Rattle.sievedrun.specs.Words.{ListsScripts};
+    ghost use Rattle.cli_run.specs.Subcommands.{ListsScripts};
 
     ghost shows = { λ wanted a text. ListsScripts a text };
 
@@ -44,7 +44,7 @@ fn script_lines(alloc: Global, found: &ScriptNames) -> Result<Octets, AllocError
     ensures { IfOk result (λ text. (a : Account) → AreScripts found.now.names found.now.active a → ListsScripts a text) }
 {
     let names = found.names.try_clone(alloc)?;
-    let decision = decide(alloc, names, active_in(found), &NamedCommand::ListScripts)?;
+    let decision = decide_script_command(alloc, names, active_in(found), &NamedCommand::ListScripts)?;
     let mut reply = decision.reply;
     reply.word = None;
     let mut text = Octets::new(alloc);
@@ -54,7 +54,7 @@ fn script_lines(alloc: Global, found: &ScriptNames) -> Result<Octets, AllocError
 
 /// The name of the active script, if there is one.
 fn active_in(found: &ScriptNames) -> Option<&[u8]>
-    ensures { value_of result ≡ found.now.active }
+    ensures { borrowed_text result ≡ found.now.active }
 {
     match &found.active {
         Some(name) => Some(name.as_slice()),
@@ -65,10 +65,10 @@ fn active_in(found: &ScriptNames) -> Option<&[u8]>
 /// `scripts`: the user's scripts, as LISTSCRIPTS lists them, or the octets of the one with the name.
 pub fn run_scripts<W: Write, K: Keeper>(
     alloc: Global,
-    asked: Scripts<'_>,
+    asked: ScriptsArgs<'_>,
     output: &mut W,
     keeper: &mut K,
-) -> Result<(), Fault>
+) -> Result<(), RunFault>
     ensures back { K.is_out keeper.old ≡ false → K.is_out keeper.new ≡ false }
     ensures does { IsTrue K.tells → DoesScripts (HasDenied K.refuses K.will_wait asked.entry.location) (W.contents output.old) (W.contents output.new)
         asked.entry.user.now (option_copied asked.entry.script) result (K.holds keeper.old) (K.holds keeper.new) }
@@ -93,14 +93,14 @@ fn run_script<W: Write, K: Keeper>(
     name: &str,
     output: &mut W,
     keeper: &mut K,
-) -> Result<(), Fault>
+) -> Result<(), RunFault>
     ensures back { K.is_out keeper.old ≡ false → K.is_out keeper.new ≡ false }
     ensures does { IsTrue K.tells → DoesRead ⊥ (HasDenied K.refuses K.will_wait location.entry) user.now (ShowsScript name.now) (LacksScript name.now)
         (W.contents output.old) (W.contents output.new) result (K.holds keeper.old) (K.holds keeper.new) }
     ensures given { OnOk result (HasGiven K.gives K.will_wait location.entry) }
 {
     let Some(text) = read_once(location, &ScriptOf(user, name), keeper)? else {
-        return Err(Fault::NoScript);
+        return Err(RunFault::NoScript);
     };
     write_all(output, text.as_slice())
 }
@@ -109,16 +109,16 @@ fn run_script<W: Write, K: Keeper>(
 /// that tells why is written, and nothing is stored.
 pub fn run_put<R: Read, W: Write, K: Keeper>(
     alloc: Global,
-    asked: Put<'_>,
+    asked: PutArgs<'_>,
     input: &mut R,
     output: &mut W,
     keeper: &mut K,
-) -> Result<(), Fault>
+) -> Result<(), RunFault>
     ensures unread { status_after result ≡ 64 → input.new ≡ input.old }
     ensures reads { OnOk result (ReadsToEnd R.remaining input.old input.new) }
     ensures back { K.is_out keeper.old ≡ false → K.is_out keeper.new ≡ false }
     ensures does { IsTrue K.tells → DoesPut (DeniedAtEnd (HasDenied K.refuses K.will_wait asked.entry.location) (R.remaining input.new))
-        (Offered asked.entry.user.now asked.entry.script.now asked.entry.activate (R.remaining input.old))
+        (IsPutEvent asked.entry.user.now asked.entry.script.now asked.entry.activate (R.remaining input.old))
         (W.contents output.old) (W.contents output.new) result (K.holds keeper.old) (K.holds keeper.new) }
     ensures given { OnOk result (HasGiven K.gives K.will_wait asked.entry.location) }
 {
@@ -145,7 +145,7 @@ fn store_script<K: Keeper>(
     text: Octets,
     activate: bool,
     keeper: &mut K,
-) -> Result<Option<ScriptFault>, Fault>
+) -> Result<Option<ScriptFault>, RunFault>
     ensures late { status_after result ≢ 64 }
     ensures back { K.is_out keeper.old ≡ false → K.is_out keeper.new ≡ false }
     ensures puts { IsTrue K.tells → TurnsTables
@@ -158,20 +158,20 @@ fn store_script<K: Keeper>(
         activate,
     };
     let mut store = take_store(location, false, keeper)?;
-    let kept = keep(alloc, &mut store, user, &upkeep);
+    let kept = do_upkeep(alloc, &mut store, user, &upkeep);
     keeper.hand_back(store);
     stored_by(kept)
 }
 
 /// What is wrong with the script, if anything; a refusal of the engine is the fault.
-fn stored_by(kept: Result<Answer, Refusal>) -> Result<Option<ScriptFault>, Fault>
+fn stored_by(kept: Result<Answer, Refusal>) -> Result<Option<ScriptFault>, RunFault>
     ensures { IsStoredBy (answer_of kept) result }
 {
     match kept {
-        Ok(Answer::Refused(refusal)) => Err(Fault::Refused(refusal)),
+        Ok(Answer::Refused(refusal)) => Err(RunFault::Refused(refusal)),
         Ok(Answer::Invalid(fault)) => Ok(Some(fault)),
         Ok(_) => Ok(None),
-        Err(refusal) => Err(Fault::Refused(refusal)),
+        Err(refusal) => Err(RunFault::Refused(refusal)),
     }
 }
 
@@ -181,16 +181,16 @@ fn tell_verdict<W: Write>(
     name: &[u8],
     verdict: Option<ScriptFault>,
     output: &mut W,
-) -> Result<(), Fault>
+) -> Result<(), RunFault>
     ensures late { status_after result ≢ 64 }
     ensures tells { TellsVerdict name.now verdict (W.contents output.old) (W.contents output.new) result }
 {
     match verdict {
         None => write_line(output, b"stored ", name),
         Some(fault) => {
-            let line = of_fault(alloc, fault)?;
+            let line = report_fault(alloc, fault)?;
             write_all(output, line.as_slice())?;
-            Err(Fault::Invalid)
+            Err(RunFault::Invalid)
         }
     }
 }

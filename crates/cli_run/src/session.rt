@@ -1,30 +1,30 @@
 //! One client's session over a reader and a writer, and a store that is taken for the commands that came together.
 ghost use Rattle.std.specs.Prelude.{◌≡◌, ◌≢◌, ◌⊎◌, ℕ, List, Option, Some, None, Result, is_ok, is_some, false, true, IsTrue, IfOk, IfErr, IfSome, OnOk, OnErr, option_copied};
-ghost use Rattle.keepers.specs.declared.keeper.Unavailable.TheVariants.{Busy};
+ghost use Rattle.store_lock.specs.declared.keeper.StoreUnavailable.TheVariants.{Busy};
 ghost use Rattle.sqlite.specs.Held.{state};
-ghost use Rattle.mailstore.specs.Account.{Accounts};
-ghost use Rattle.mailstore.specs.Schema.{no_schema};
-ghost use Rattle.mailstore.specs.Opening.{IsKnown};
-ghost use Rattle.mailstore.specs.Shows.{Offers};
-ghost use Rattle.sessions.specs.Clients.{is_ready};
-ghost use Rattle.sessions.specs.Steps.{Asked};
-ghost use Rattle.sievedrun.specs.declared.fault.Fault.{Fault};
-ghost use Rattle.sievedrun.specs.declared.fault.Fault.TheVariants.{Stream};
-ghost use Rattle.sievedrun.specs.Faults.{IsCutShort, store_failed};
-ghost use Rattle.sievedrun.specs.Promise.{status_after};
-ghost use Rattle.sievedrun.specs.Serving.{Answered, AreSeen, Converses, HasGiven, HasNoted, HasOpen, Hinders, IsDenied, IsDeniedBy, IsNoted, IsTold, KeepsFirst};
-ghost use Rattle.sievedrun.specs.Serving.{PresentsSeen, Served, ServesBy, StepsOn, Stops, StopsAt, TellsEnding, TellsOne, Unstopped, WasOut, WritesAll};
-ghost use Rattle.sievedrun.specs.Serving.{WritesFirst, database_seen};
-ghost use Rattle.sievedrun.specs.Streams.{OutputFailed, ReadsOn, ReadsToEnd};
+ghost use Rattle.store_accounts.specs.Account.{Accounts};
+ghost use Rattle.store_accounts.specs.Schema.{no_schema};
+ghost use Rattle.store_accounts.specs.Opening.{IsKnown};
+ghost use Rattle.store_accounts.specs.Shows.{OffersAccounts};
+ghost use Rattle.managesieve_sessions.specs.Clients.{is_ready};
+ghost use Rattle.managesieve_sessions.specs.Steps.{Asked};
+ghost use Rattle.cli_run.specs.declared.fault.RunFault.{RunFault};
+ghost use Rattle.cli_run.specs.declared.fault.RunFault.TheVariants.{Stream};
+ghost use Rattle.cli_run.specs.Faults.{IsCutShort, store_failed};
+ghost use Rattle.cli_run.specs.Promise.{status_after};
+ghost use Rattle.cli_run.specs.Serving.{RoundsAnswer, AreSeen, Converses, HasGiven, HasNoted, HasOpenStore, Hinders, IsDenied, IsDeniedBy, IsDenialNoted, IsTold, KeepsFirst};
+ghost use Rattle.cli_run.specs.Serving.{PresentsSeen, Served, ServesBy, StepsOrStays, StopsServing, StopsAt, TellsEnding, TellsOne, Unstopped, WasOut, WritesAll};
+ghost use Rattle.cli_run.specs.Serving.{WritesFirst, database_seen};
+ghost use Rattle.cli_run.specs.Streams.{OutputFailed, ReadsOn, ReadsToEnd};
 
-use crate::fault::{Fault, refuse};
+use crate::fault::{RunFault, refuse};
 use crate::stream::{MAX_READS, read_at, write_all};
-use crate::trouble::{FirstTrouble, Trouble};
-use keepers::{Keeper, Unavailable};
-use mailstore::{Refusal, Store};
+use crate::fault_with_cause::{FirstFault, FaultWithCause};
+use store_lock::{Keeper, StoreUnavailable};
+use store_accounts::{Refusal, Store};
 use octets::Octets;
-use sessions::{Order, Session, Stepped};
-use sievedwords::StoreLocation;
+use managesieve_sessions::{StoreCommand, Session, FreeStep};
+use cli_subcommands::StoreLocation;
 use std::alloc::{AllocError, Global};
 use std::io;
 use std::io::{Read, Write};
@@ -53,7 +53,7 @@ pub fn serve_one<R: Read, W: Write, K: Keeper>(
     input: &mut R,
     output: &mut W,
     keeper: &mut K,
-) -> Result<(), Fault>
+) -> Result<(), RunFault>
     ensures back { K.is_out keeper.old ≡ false → K.is_out keeper.new ≡ false }
     ensures serves { IsTrue K.tells → K.is_out keeper.old ≡ false
         → ServesBy R.remaining input.old input.new W.contents output.old output.new K.refuses K.gives K.will_wait K.closes
@@ -74,7 +74,7 @@ pub fn serve_client<R: Read, W: Write, E: Write, K: Keeper>(
     output: &mut W,
     errors: &mut E,
     keeper: &mut K,
-) -> Result<(), Fault>
+) -> Result<(), RunFault>
     ensures back { K.is_out keeper.old ≡ false → K.is_out keeper.new ≡ false }
     ensures serves { IsTrue K.tells → K.is_out keeper.old ≡ false
         → ServesBy R.remaining input.old input.new W.contents output.old output.new K.refuses K.gives K.will_wait K.closes
@@ -100,7 +100,7 @@ pub fn run_session<R: Read, W: Write, E: Write, K: Keeper>(
 ) -> u8
     ensures back { K.is_out keeper.old ≡ false → K.is_out keeper.new ≡ false }
     ensures reads { result ≡ 0 → ReadsToEnd R.remaining input.old input.new ⊎ ReadsOn R.remaining input.old input.new }
-    ensures serves { IsTrue K.tells → K.is_out keeper.old ≡ false → (ending : Result (Unit {0}) Fault) × (told : Option (List ℕ))
+    ensures serves { IsTrue K.tells → K.is_out keeper.old ≡ false → (ending : Result (Unit {0}) RunFault) × (told : Option (List ℕ))
         × (result ≡ status_after ending) × IfErr ending IsCutShort × TellsOne (E.contents errors.old) told × TellsEnding ending told (E.contents errors.new)
         × ServesBy R.remaining input.old input.new W.contents output.old output.new K.refuses K.gives K.will_wait K.closes
         location.entry K.holds keeper.old keeper.new (IsTold (E.contents errors.old) told) ending }
@@ -120,7 +120,7 @@ fn converse<R: Read, W: Write, E: Write, K: Keeper>(
     output: &mut W,
     errors: &mut E,
     keeper: &mut K,
-) -> Result<(), Fault>
+) -> Result<(), RunFault>
     requires { session.old.client.closed ≡ false }
     ensures reads { OnOk result (ReadsToEnd R.remaining input.old input.new
         ⊎ ((session.new.client.closed ≡ true) × ReadsOn R.remaining input.old input.new)) }
@@ -129,7 +129,7 @@ fn converse<R: Read, W: Write, E: Write, K: Keeper>(
         → Served Unstopped ⊥ accounts first_in (R.remaining input.old) first_out
         (W.contents output.old) session.old.client
         (K.holds keeper.old)
-        → Converses (Stops K.refuses K.will_wait location.entry (IsTold (E.contents errors.old) (E.contents errors.new)))
+        → Converses (StopsServing K.refuses K.will_wait location.entry (IsTold (E.contents errors.old) (E.contents errors.new)))
         (WasOut K.gives K.will_wait K.closes location.entry (IsTold (E.contents errors.old) (E.contents errors.new)))
         accounts first_in (R.remaining input.new) first_out (W.contents output.new) (K.holds keeper.new) result }
     ensures told { TellsOne (E.contents errors.old) (E.contents errors.new) }
@@ -137,7 +137,7 @@ fn converse<R: Read, W: Write, E: Write, K: Keeper>(
     ensures fault { IfErr result IsCutShort }
 {
     let mut piece = [0u8; PIECE];
-    let mut trouble = FirstTrouble::none();
+    let mut trouble = FirstFault::none();
     for _ in 0..MAX_READS {
         let Some(len) = read_at(input, &mut piece, 0)? else {
             return Ok(());
@@ -151,7 +151,7 @@ fn converse<R: Read, W: Write, E: Write, K: Keeper>(
             return Ok(());
         }
     }
-    Err(Fault::Stream)
+    Err(RunFault::Stream)
 }
 
 /// Answers all that is whole, and writes the answers.
@@ -160,13 +160,13 @@ fn answer_all<W: Write, K: Keeper>(
     session: &mut Session,
     location: StoreLocation<'_>,
     output: &mut W,
-    trouble: &mut FirstTrouble,
+    trouble: &mut FirstFault,
     keeper: &mut K,
-) -> Result<(), Fault>
+) -> Result<(), RunFault>
     ensures kept { KeepsFirst trouble.old trouble.new }
     ensures back { K.is_out keeper.old ≡ false → K.is_out keeper.new ≡ false }
-    ensures answers { IsTrue K.tells → K.is_out keeper.old ≡ false → (accounts : Accounts) → Offers (K.holds keeper.old) accounts
-        → WritesAll (Stops K.refuses K.will_wait location.entry (HasNoted trouble.new))
+    ensures answers { IsTrue K.tells → K.is_out keeper.old ≡ false → (accounts : Accounts) → OffersAccounts (K.holds keeper.old) accounts
+        → WritesAll (StopsServing K.refuses K.will_wait location.entry (HasNoted trouble.new))
         (WasOut K.gives K.will_wait K.closes location.entry (HasNoted trouble.new))
         accounts session.old.client (W.contents output.old) (W.contents output.new) session.new.client (K.holds keeper.new) result }
     ensures none { IsTrue K.tells → (K.holds keeper.old).schema ≡ no_schema → (K.holds keeper.new).schema ≡ no_schema }
@@ -178,7 +178,7 @@ fn answer_all<W: Write, K: Keeper>(
         }
         answer_some(alloc, session, location, output, trouble, keeper)?;
     }
-    Err(Fault::Stream)
+    Err(RunFault::Stream)
 }
 
 /// Answers the items that are ready, and writes the answers after the lock and the store are given back. An item that can't be
@@ -188,14 +188,14 @@ fn answer_some<W: Write, K: Keeper>(
     session: &mut Session,
     location: StoreLocation<'_>,
     output: &mut W,
-    trouble: &mut FirstTrouble,
+    trouble: &mut FirstFault,
     keeper: &mut K,
-) -> Result<(), Fault>
+) -> Result<(), RunFault>
     requires { is_ready session.old.client ≡ true }
     ensures kept { KeepsFirst trouble.old trouble.new }
     ensures back { K.is_out keeper.old ≡ false → K.is_out keeper.new ≡ false }
-    ensures answers { IsTrue K.tells → K.is_out keeper.old ≡ false → (accounts : Accounts) → Offers (K.holds keeper.old) accounts
-        → WritesFirst (Stops K.refuses K.will_wait location.entry (HasNoted trouble.new))
+    ensures answers { IsTrue K.tells → K.is_out keeper.old ≡ false → (accounts : Accounts) → OffersAccounts (K.holds keeper.old) accounts
+        → WritesFirst (StopsServing K.refuses K.will_wait location.entry (HasNoted trouble.new))
         (WasOut K.gives K.will_wait K.closes location.entry (HasNoted trouble.new))
         accounts session.old.client (W.contents output.old) (W.contents output.new) session.new.client (K.holds keeper.new) result }
     ensures none { IsTrue K.tells → (K.holds keeper.old).schema ≡ no_schema → (K.holds keeper.new).schema ≡ no_schema }
@@ -216,18 +216,18 @@ fn answer_under_lock<K: Keeper>(
     session: &mut Session,
     location: StoreLocation<'_>,
     answers: &mut Octets,
-    trouble: &mut FirstTrouble,
+    trouble: &mut FirstFault,
     keeper: &mut K,
 ) -> bool
     requires { is_ready session.old.client ≡ true }
     ensures back { K.is_out keeper.old ≡ false → K.is_out keeper.new ≡ false }
-    ensures answers { IsTrue K.tells → (accounts : Accounts) → Offers (K.holds keeper.old) accounts
-        → Answered Unstopped (WasOut K.gives K.will_wait K.closes location.entry (HasNoted trouble.new))
+    ensures answers { IsTrue K.tells → (accounts : Accounts) → OffersAccounts (K.holds keeper.old) accounts
+        → RoundsAnswer Unstopped (WasOut K.gives K.will_wait K.closes location.entry (HasNoted trouble.new))
         accounts session.old.client answers.old answers.new session.new.client
-        (Offers (K.holds keeper.new)) }
+        (OffersAccounts (K.holds keeper.new)) }
     ensures whole { IsTrue result → StopsAt session.old.client answers.new session.new.client }
     ensures stopped { result ≡ false → is_ready session.new.client ≡ true }
-    ensures noted { result ≡ false → K.is_out keeper.old ≡ false → IsNoted (IsDeniedBy K.refuses K.will_wait location.entry) trouble.new }
+    ensures noted { result ≡ false → K.is_out keeper.old ≡ false → IsDenialNoted (IsDeniedBy K.refuses K.will_wait location.entry) trouble.new }
     ensures kept { KeepsFirst trouble.old trouble.new }
     ensures cause { result ≡ false → K.is_out keeper.old ≡ false → Hinders (IsDenied K.refuses K.will_wait location.entry) session.new.client }
     ensures none { IsTrue K.tells → (K.holds keeper.old).schema ≡ no_schema → (K.holds keeper.new).schema ≡ no_schema }
@@ -282,10 +282,10 @@ fn answer_ready<K: Keeper>(
     answers: &mut Octets,
     store: &mut Option<Store<K::S>>,
     keeper: &mut K,
-) -> Result<(), Unavailable>
+) -> Result<(), StoreUnavailable>
     ensures answers { IsTrue K.tells → (accounts : Accounts)
         → AreSeen (HasGiven K.gives K.will_wait location.entry) (λ s. (state K.S.Store s).now) (K.holds keeper.old) store.old accounts
-        → Answered Unstopped (HasOpen K.gives K.will_wait location.entry store.new) accounts session.old.client answers.old answers.new session.new.client
+        → RoundsAnswer Unstopped (HasOpenStore K.gives K.will_wait location.entry store.new) accounts session.old.client answers.old answers.new session.new.client
         (AreSeen (HasGiven K.gives K.will_wait location.entry) (λ s. (state K.S.Store s).now) (K.holds keeper.new) store.new) }
     ensures whole { OnOk result (StopsAt session.old.client answers.new session.new.client) }
     ensures stopped { OnErr result (is_ready session.new.client ≡ true) }
@@ -312,10 +312,10 @@ fn answer_first<K: Keeper>(
     answers: &mut Octets,
     store: &mut Option<Store<K::S>>,
     keeper: &mut K,
-) -> Result<(), Unavailable>
+) -> Result<(), StoreUnavailable>
     ensures steps { IsTrue K.tells → (accounts : Accounts)
         → AreSeen (HasGiven K.gives K.will_wait location.entry) (λ s. (state K.S.Store s).now) (K.holds keeper.old) store.old accounts
-        → StepsOn (HasOpen K.gives K.will_wait location.entry store.new) accounts session.old.client answers.old answers.new session.new.client
+        → StepsOrStays (HasOpenStore K.gives K.will_wait location.entry store.new) accounts session.old.client answers.old answers.new session.new.client
         (AreSeen (HasGiven K.gives K.will_wait location.entry) (λ s. (state K.S.Store s).now) (K.holds keeper.new) store.new) (is_ok result) }
     ensures same { OnErr result ((session.new ≡ session.old) × (answers.new ≡ answers.old)) }
     ensures open { IsTrue (is_some store.old) → IsTrue (is_some store.new) }
@@ -326,11 +326,11 @@ fn answer_first<K: Keeper>(
     ensures closed { K.unclosed keeper.new ≡ K.unclosed keeper.old }
 {
     match session.step_free(answers) {
-        Ok(Stepped::Made(_)) => Ok(()),
-        Ok(Stepped::Asks(order)) => answer_over_store(
+        Ok(FreeStep::Made(_)) => Ok(()),
+        Ok(FreeStep::Asks(order)) => answer_over_store(
             session, location, &order, answers, store, keeper,
         ),
-        Err(AllocError) => Err(Unavailable::Refused(Refusal::Memory)),
+        Err(AllocError) => Err(StoreUnavailable::Refused(Refusal::Memory)),
     }
 }
 
@@ -338,15 +338,15 @@ fn answer_first<K: Keeper>(
 fn answer_over_store<K: Keeper>(
     session: &mut Session,
     location: StoreLocation<'_>,
-    order: &Order,
+    order: &StoreCommand,
     answers: &mut Octets,
     store: &mut Option<Store<K::S>>,
     keeper: &mut K,
-) -> Result<(), Unavailable>
+) -> Result<(), StoreUnavailable>
     requires { Asked session.old.client order.now }
     ensures steps { IsTrue K.tells → (accounts : Accounts)
         → AreSeen (HasGiven K.gives K.will_wait location.entry) (λ s. (state K.S.Store s).now) (K.holds keeper.old) store.old accounts
-        → StepsOn (HasOpen K.gives K.will_wait location.entry store.new) accounts session.old.client answers.old answers.new session.new.client
+        → StepsOrStays (HasOpenStore K.gives K.will_wait location.entry store.new) accounts session.old.client answers.old answers.new session.new.client
         (AreSeen (HasGiven K.gives K.will_wait location.entry) (λ s. (state K.S.Store s).now) (K.holds keeper.new) store.new) (is_ok result) }
     ensures same { OnErr result ((session.new ≡ session.old) × (answers.new ≡ answers.old)) }
     ensures open { IsTrue (is_some store.old) → IsTrue (is_some store.new) }
@@ -361,7 +361,7 @@ fn answer_over_store<K: Keeper>(
     *store = Some(opened);
     match made {
         Ok(_) => Ok(()),
-        Err(refusal) => Err(Unavailable::Refused(refusal)),
+        Err(refusal) => Err(StoreUnavailable::Refused(refusal)),
     }
 }
 
@@ -370,7 +370,7 @@ fn open_store<K: Keeper>(
     location: StoreLocation<'_>,
     store: &mut Option<Store<K::S>>,
     keeper: &mut K,
-) -> Result<Store<K::S>, Unavailable>
+) -> Result<Store<K::S>, StoreUnavailable>
     ensures opened { IfOk result (λ opened. IsTrue K.tells
         → PresentsSeen (HasGiven K.gives K.will_wait location.entry) (AreSeen (HasGiven K.gives K.will_wait location.entry) (λ s. (state K.S.Store s).now) (K.holds keeper.old) store.old)
         (state K.S.Store opened).now) }
@@ -390,28 +390,28 @@ fn open_store<K: Keeper>(
 }
 
 /// Notes why no store is given out, unless another process has it.
-fn note_denial<K: Keeper>(trouble: &mut FirstTrouble, denial: Unavailable, keeper: &K)
+fn note_denial<K: Keeper>(trouble: &mut FirstFault, denial: StoreUnavailable, keeper: &K)
     ensures busy { denial ≡ Busy → trouble.new ≡ trouble.old }
     ensures noted { denial ≢ Busy → IsTrue (is_some trouble.new.trouble) }
     ensures later { IfSome trouble.old.trouble (λ first. trouble.new.trouble ≡ Some first) }
     ensures told { trouble.new.is_told ≡ trouble.old.is_told }
 {
-    if let Unavailable::Refused(refusal) = denial {
+    if let StoreUnavailable::Refused(refusal) = denial {
         note_refusal(trouble, Some(refusal), keeper);
     }
 }
 
 /// Notes the refusal of a store, if there is one.
-fn note_refusal<K: Keeper>(trouble: &mut FirstTrouble, refusal: Option<Refusal>, keeper: &K)
+fn note_refusal<K: Keeper>(trouble: &mut FirstFault, refusal: Option<Refusal>, keeper: &K)
     ensures none { refusal ≡ None → trouble.new ≡ trouble.old }
     ensures noted { IfSome refusal (λ refusal. IsTrue (is_some trouble.new.trouble)) }
-    ensures first { trouble.old.trouble ≡ None → IfSome refusal (λ refusal. IfSome trouble.new.trouble (λ t. t.fault ≡ Fault.Refused refusal)) }
-    ensures cause { trouble.old.trouble ≡ None → IfSome refusal (λ refusal. Fault.Refused refusal ≡ store_failed
+    ensures first { trouble.old.trouble ≡ None → IfSome refusal (λ refusal. IfSome trouble.new.trouble (λ t. t.fault ≡ RunFault.Refused refusal)) }
+    ensures cause { trouble.old.trouble ≡ None → IfSome refusal (λ refusal. RunFault.Refused refusal ≡ store_failed
         → IfSome trouble.new.trouble (λ t. option_copied t.cause ≡ K.said keeper.now)) }
     ensures later { IfSome trouble.old.trouble (λ first. trouble.new.trouble ≡ Some first) }
     ensures told { trouble.new.is_told ≡ trouble.old.is_told }
 {
     if let Some(refusal) = refusal {
-        trouble.note(Trouble::of_store(Fault::Refused(refusal), keeper));
+        trouble.note(FaultWithCause::of_store(RunFault::Refused(refusal), keeper));
     }
 }

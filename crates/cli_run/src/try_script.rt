@@ -1,14 +1,14 @@
 //! Tries one script on one message.
 ghost use Rattle.std.specs.Prelude.{◌≡◌, IfErr, IfOk, OnOk};
-ghost use Rattle.sievedrun.specs.Streams.{ReadsToEnd};
-ghost use Rattle.sievedrun.specs.TryScript.{Answers, HasNoAnswer, LeavesOutput, OfInput, Runs};
+ghost use Rattle.cli_run.specs.Streams.{ReadsToEnd};
+ghost use Rattle.cli_run.specs.TryScript.{AnswersInput, HasNoAnswer, LeavesOutput, OfInput, RunsTry};
 
-use crate::answer::{Answer, answer_to};
-use crate::fault::{Fault, refuse};
-use crate::front::Front;
+use crate::answer::{TryAnswer, answer_to};
+use crate::fault::{RunFault, refuse};
+use crate::kept_input::KeptInput;
 use crate::stream::write_all;
-use mailengine::Envelope;
-use sieveexec::When;
+use store_engine::Envelope;
+use sieve_exec::When;
 use std::alloc::Global;
 use std::io::{Read, Write};
 
@@ -25,12 +25,12 @@ pub fn try_run<R: Read, W: Write, E: Write>(
     errors: &mut E,
 ) -> u8
     ensures reads { result ≡ 0 → ReadsToEnd R.remaining input.old input.new }
-    ensures runs { Runs envelope when (R.remaining input.old) (W.contents output.old) (W.contents output.new)
+    ensures runs { RunsTry envelope when (R.remaining input.old) (W.contents output.old) (W.contents output.new)
         (E.contents errors.old) (E.contents errors.new) result }
 {
     match print_answer(alloc, envelope, when, input, output) {
-        Ok(Answer::Report(_)) => 0,
-        Ok(Answer::Refusal(_)) => 65,
+        Ok(TryAnswer::Report(_)) => 0,
+        Ok(TryAnswer::Refusal(_)) => 65,
         Err(fault) => refuse(errors, fault),
     }
 }
@@ -41,7 +41,7 @@ fn print_answer<R: Read, W: Write>(
     when: When,
     input: &mut R,
     output: &mut W,
-) -> Result<Answer, Fault>
+) -> Result<TryAnswer, RunFault>
     ensures reads { OnOk result (ReadsToEnd R.remaining input.old input.new) }
     ensures leaves { LeavesOutput envelope when (R.remaining input.old) (W.contents output.old) (W.contents output.new) result }
 {
@@ -56,11 +56,11 @@ fn answer_of<R: Read>(
     envelope: Envelope,
     when: When,
     input: &mut R,
-) -> Result<Answer, Fault>
-    ensures answer { IfOk result (λ answer. OfInput (R.remaining input.old) (λ came. Answers envelope when came answer)) }
+) -> Result<TryAnswer, RunFault>
+    ensures answer { IfOk result (λ answer. OfInput (R.remaining input.old) (λ came. AnswersInput envelope when came answer)) }
     ensures none { IfErr result (HasNoAnswer (R.remaining input.old)) }
     ensures reads { OnOk result (ReadsToEnd R.remaining input.old input.new) }
 {
-    let front = Front::read(alloc, input)?;
+    let front = KeptInput::read(alloc, input)?;
     answer_to(alloc, envelope, when, &front)
 }

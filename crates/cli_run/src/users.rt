@@ -2,21 +2,21 @@
 ghost use Rattle.std.specs.Prelude.{◌≡◌, ◌≢◌, ◌++◌, false, IsTrue, IfErr, OnOk};
 ghost use Rattle.std.specs.FinMap.{entries};
 ghost use Rattle.sqlite.specs.Held.{state};
-ghost use Rattle.mailstore.specs.Refusals.{IsTransient};
-ghost use Rattle.mailstore.specs.Users.{FindsOver};
-ghost use Rattle.sievedrun.specs.Draining.{TurnsTables};
-ghost use Rattle.sievedrun.specs.Promise.{status_after};
-ghost use Rattle.sievedrun.specs.Serving.{HasDenied, HasGiven};
-ghost use Rattle.sievedrun.specs.Words.{AddsUser, DoesUsers, FindsUsers, found_line, open_line, profile_line, user_listing};
+ghost use Rattle.store_accounts.specs.Refusals.{IsTransient};
+ghost use Rattle.store_accounts.specs.Users.{FindsOver};
+ghost use Rattle.cli_run.specs.Draining.{TurnsTables};
+ghost use Rattle.cli_run.specs.Promise.{status_after};
+ghost use Rattle.cli_run.specs.Serving.{HasDenied, HasGiven};
+ghost use Rattle.cli_run.specs.Subcommands.{AddsUser, DoesUsers, FindsUsers, found_line, open_line, profile_line, user_listing};
 
 use crate::commands::take_store;
-use crate::fault::Fault;
+use crate::fault::RunFault;
 use crate::stream::write_all;
-use keepers::Keeper;
-use mailstore::{Profile, Refusal, Store};
-use msproto::spell_string;
+use store_lock::Keeper;
+use store_accounts::{Profile, Refusal, Store};
+use managesieve_protocol::spell_string;
 use octets::Octets;
-use sievedwords::{StoreLocation, Users};
+use cli_subcommands::{StoreLocation, UsersArgs};
 use sqlite::Alter;
 use std::alloc::{AllocError, Global};
 use std::io::Write;
@@ -25,10 +25,10 @@ use std::io::Write;
 /// the store is handed back before they are written.
 pub fn run_users<W: Write, K: Keeper>(
     alloc: Global,
-    asked: Users<'_>,
+    asked: UsersArgs<'_>,
     output: &mut W,
     keeper: &mut K,
-) -> Result<(), Fault>
+) -> Result<(), RunFault>
     ensures late { status_after result ≢ 64 }
     ensures back { K.is_out keeper.old ≡ false → K.is_out keeper.new ≡ false }
     ensures does { IsTrue K.tells → DoesUsers (HasDenied K.refuses K.will_wait asked.entry.location) (W.contents output.old) (W.contents output.new)
@@ -44,7 +44,7 @@ fn list_users<K: Keeper>(
     alloc: Global,
     location: StoreLocation<'_>,
     keeper: &mut K,
-) -> Result<Octets, Fault>
+) -> Result<Octets, RunFault>
     ensures late { status_after result ≢ 64 }
     ensures back { K.is_out keeper.old ≡ false → K.is_out keeper.new ≡ false }
     ensures found { IsTrue K.tells → TurnsTables

@@ -2,17 +2,17 @@
 ghost use Rattle.std.specs.Prelude.{◌≡◌, ◌⊎◌, ◌≤◌, None, IfOk, IfErr, OnOk, option_copied};
 ghost use Rattle.std.specs.List.{prefix_len};
 ghost use Rattle.octets.specs.Decimal.{Writes};
-ghost use Rattle.sievedrun.specs.Promise as promise;
-ghost use Rattle.sievedrun.specs.Promise.{is_in_line};
-ghost use Rattle.sievedrun.specs.Values.{IsNoNumber, HasNoNumber, IsNoPort, IsNoSize, IsNoUntil, WritesSalt, IsNoSalt, IsSalt, HasNoSalt, IsMoment, IsHostZone, IsWhen, HasNoZone, HasNoWhen, IsSeparator, HasNoSeparator, envelope_with};
+ghost use Rattle.cli_run.specs.Promise as promise;
+ghost use Rattle.cli_run.specs.Promise.{is_in_line};
+ghost use Rattle.cli_run.specs.Values.{IsNoNumber, HasNoNumber, IsNoPort, IsNoSize, IsNoUntil, WritesSalt, IsNoSalt, IsSalt, HasNoSalt, IsGivenMoment, IsHostZone, IsWhen, HasNoZone, HasNoWhen, IsSeparator, HasNoSeparator, envelope_with};
 
-use crate::fault::Fault;
+use crate::fault::RunFault;
 use hex::FromHex;
-use hostzones::HostZone;
-use maildirs::Separator;
-use mailengine::Envelope;
+use mail_dates::HostZone;
+use maildir_files::Separator;
+use store_engine::Envelope;
 use octets::{Octets, parse_decimal};
-use sieveexec::When;
+use sieve_exec::When;
 use std::alloc::{AllocError, Global};
 
 /// The last moment that the database can hold.
@@ -22,127 +22,127 @@ const MAX_UNTIL: u64 = 9_223_372_036_854_775_807;
 const MAX_MEBIBYTES: u64 = 65_536;
 
 /// A number in decimal digits, without a sign.
-pub fn decimal(text: &str) -> Result<u64, Fault>
+pub fn decimal(text: &str) -> Result<u64, RunFault>
     ensures ok { IfOk result (λ number. Writes text.now number) }
     ensures right { OnOk result (IsNoNumber text.now → ⊥) }
-    ensures fault { IfErr result (λ fault. fault ≡ Fault.BadArgument) }
+    ensures fault { IfErr result (λ fault. fault ≡ RunFault.BadArgument) }
     ensures none { IfErr result (λ fault. IsNoNumber text.now) }
 {
-    parse_decimal(text.as_bytes()).ok_or(Fault::BadArgument)
+    parse_decimal(text.as_bytes()).ok_or(RunFault::BadArgument)
 }
 
 /// A port, in decimal digits; at most 65,535.
-pub fn port_of(text: &str) -> Result<u16, Fault>
+pub fn port_of(text: &str) -> Result<u16, RunFault>
     ensures ok { IfOk result (λ port. Writes text.now port) }
-    ensures fault { IfErr result (λ fault. fault ≡ Fault.BadArgument) }
+    ensures fault { IfErr result (λ fault. fault ≡ RunFault.BadArgument) }
     ensures none { IfErr result (λ fault. IsNoPort text.now) }
 {
     match u16::try_from(decimal(text)?) {
         Ok(port) => Ok(port),
-        Err(_) => Err(Fault::BadArgument),
+        Err(_) => Err(RunFault::BadArgument),
     }
 }
 
 /// A size in MiB, in decimal digits; from 1 to 65,536.
-pub fn mebibytes_of(text: &str) -> Result<u32, Fault>
+pub fn mebibytes_of(text: &str) -> Result<u32, RunFault>
     ensures ok { IfOk result (λ size. Writes text.now size) }
     ensures least { IfOk result (λ size. 1 ≤ size) }
     ensures most { IfOk result (λ size. size ≤ 65536) }
-    ensures fault { IfErr result (λ fault. fault ≡ Fault.BadArgument) }
+    ensures fault { IfErr result (λ fault. fault ≡ RunFault.BadArgument) }
     ensures none { IfErr result (λ fault. IsNoSize text.now) }
 {
     let size = decimal(text)?;
     if size == 0 || size > MAX_MEBIBYTES {
-        return Err(Fault::BadArgument);
+        return Err(RunFault::BadArgument);
     }
     Ok(size as u32)
 }
 
 /// The moment of the last notice that is taken, in seconds since 1970, in decimal digits; below 2^63.
-pub fn until_of(text: &str) -> Result<u64, Fault>
+pub fn until_of(text: &str) -> Result<u64, RunFault>
     ensures ok { IfOk result (λ until. Writes text.now until) }
     ensures right { OnOk result (IsNoUntil text.now → ⊥) }
-    ensures fault { IfErr result (λ fault. fault ≡ Fault.BadArgument) }
+    ensures fault { IfErr result (λ fault. fault ≡ RunFault.BadArgument) }
     ensures none { IfErr result (λ fault. IsNoUntil text.now) }
 {
     let until = decimal(text)?;
     if until > MAX_UNTIL {
-        return Err(Fault::BadArgument);
+        return Err(RunFault::BadArgument);
     }
     Ok(until)
 }
 
 /// The separator of the levels of folders: `.` unless it is given.
-pub fn separator_of(text: Option<&str>) -> Result<Separator, Fault>
+pub fn separator_of(text: Option<&str>) -> Result<Separator, RunFault>
     ensures ok { IfOk result (IsSeparator (option_copied text.entry)) }
-    ensures fault { IfErr result (λ fault. fault ≡ Fault.BadArgument) }
+    ensures fault { IfErr result (λ fault. fault ≡ RunFault.BadArgument) }
     ensures none { IfErr result (λ fault. HasNoSeparator (option_copied text.entry)) }
 {
     match text {
         None | Some(".") => Ok(Separator::Dot),
         Some("/") => Ok(Separator::Slash),
-        Some(_) => Err(Fault::BadArgument),
+        Some(_) => Err(RunFault::BadArgument),
     }
 }
 
 /// A salt in 32 hexadecimal digits.
-pub fn salt_of(text: &str) -> Result<[u8; 16], Fault>
+pub fn salt_of(text: &str) -> Result<[u8; 16], RunFault>
     ensures ok { IfOk result (λ salt. WritesSalt text.now salt) }
     ensures right { OnOk result (IsNoSalt text.now → ⊥) }
-    ensures fault { IfErr result (λ fault. fault ≡ Fault.BadArgument) }
+    ensures fault { IfErr result (λ fault. fault ≡ RunFault.BadArgument) }
     ensures none { IfErr result (λ fault. IsNoSalt text.now) }
 {
     match <[u8; 16] as FromHex>::from_hex(text) {
         Ok(salt) => Ok(salt),
-        Err(_) => Err(Fault::BadArgument),
+        Err(_) => Err(RunFault::BadArgument),
     }
 }
 
 /// The salt in the arguments, or else the system's random octets.
-pub fn given_salt(digits: Option<&str>, random: Option<[u8; 16]>) -> Result<[u8; 16], Fault>
+pub fn given_salt(digits: Option<&str>, random: Option<[u8; 16]>) -> Result<[u8; 16], RunFault>
     ensures ok { IfOk result (IsSalt (option_copied digits.entry) random) }
     ensures right { OnOk result (HasNoSalt (option_copied digits.entry) → ⊥) }
-    ensures fault { IfErr result (λ fault. ((fault ≡ Fault.BadArgument) × HasNoSalt (option_copied digits.entry))
-        ⊎ ((fault ≡ Fault.Stream) × (option_copied digits.entry ≡ None) × (random ≡ None))) }
+    ensures fault { IfErr result (λ fault. ((fault ≡ RunFault.BadArgument) × HasNoSalt (option_copied digits.entry))
+        ⊎ ((fault ≡ RunFault.Stream) × (option_copied digits.entry ≡ None) × (random ≡ None))) }
 {
     match digits {
         Some(text) => salt_of(text),
-        None => random.ok_or(Fault::Stream),
+        None => random.ok_or(RunFault::Stream),
     }
 }
 
 /// The moment in the arguments, or else the clock's, in seconds since 1970.
-fn moment_of(at: Option<&str>, clock: Option<u64>) -> Result<u64, Fault>
-    ensures ok { IfOk result (IsMoment (option_copied at.entry) clock) }
+fn moment_of(at: Option<&str>, clock: Option<u64>) -> Result<u64, RunFault>
+    ensures ok { IfOk result (IsGivenMoment (option_copied at.entry) clock) }
     ensures right { OnOk result (HasNoNumber (option_copied at.entry) → ⊥) }
-    ensures fault { IfErr result (λ fault. ((fault ≡ Fault.BadArgument) × HasNoNumber (option_copied at.entry))
-        ⊎ ((fault ≡ Fault.Stream) × (option_copied at.entry ≡ None) × (clock ≡ None))) }
+    ensures fault { IfErr result (λ fault. ((fault ≡ RunFault.BadArgument) × HasNoNumber (option_copied at.entry))
+        ⊎ ((fault ≡ RunFault.Stream) × (option_copied at.entry ≡ None) × (clock ≡ None))) }
 {
     match at {
         Some(text) => decimal(text),
-        None => clock.ok_or(Fault::Stream),
+        None => clock.ok_or(RunFault::Stream),
     }
 }
 
 /// The host's zone in the arguments; UTC if they have none.
-pub fn zone_of(text: Option<&str>) -> Result<HostZone, Fault>
+pub fn zone_of(text: Option<&str>) -> Result<HostZone, RunFault>
     ensures ok { IfOk result (IsHostZone (option_copied text.entry)) }
     ensures right { OnOk result (HasNoZone (option_copied text.entry) → ⊥) }
-    ensures fault { IfErr result (λ fault. fault ≡ Fault.BadArgument) }
+    ensures fault { IfErr result (λ fault. fault ≡ RunFault.BadArgument) }
     ensures none { IfErr result (λ fault. HasNoZone (option_copied text.entry)) }
 {
     match text {
-        Some(text) => HostZone::read(text.as_bytes()).ok_or(Fault::BadArgument),
+        Some(text) => HostZone::read(text.as_bytes()).ok_or(RunFault::BadArgument),
         None => Ok(HostZone::utc()),
     }
 }
 
 /// The moment in the arguments, or else the clock's, in seconds since 1970, and the host's zone at that moment.
-pub fn when_of(at: Option<&str>, zone: Option<&str>, clock: Option<u64>) -> Result<When, Fault>
+pub fn when_of(at: Option<&str>, zone: Option<&str>, clock: Option<u64>) -> Result<When, RunFault>
     ensures ok { IfOk result (IsWhen (option_copied at.entry) (option_copied zone.entry) clock) }
     ensures right { OnOk result (HasNoWhen (option_copied at.entry) (option_copied zone.entry) → ⊥) }
-    ensures fault { IfErr result (λ fault. ((fault ≡ Fault.BadArgument) × HasNoWhen (option_copied at.entry) (option_copied zone.entry))
-        ⊎ ((fault ≡ Fault.Stream) × (option_copied at.entry ≡ None) × (clock ≡ None))) }
+    ensures fault { IfErr result (λ fault. ((fault ≡ RunFault.BadArgument) × HasNoWhen (option_copied at.entry) (option_copied zone.entry))
+        ⊎ ((fault ≡ RunFault.Stream) × (option_copied at.entry ≡ None) × (clock ≡ None))) }
 {
     let zone = zone_of(zone)?;
     let moment = moment_of(at, clock)?;
@@ -163,7 +163,7 @@ pub fn envelope_of(alloc: Global, from: &[u8], to: &[u8]) -> Result<Envelope, Al
 }
 
 /// The octets before the first LF, or all if there is none.
-pub fn first_line(text: &[u8]) -> &[u8]
+pub fn first_input_line(text: &[u8]) -> &[u8]
     ensures { result.now ≡ promise.first_line text.now }
 {
     let len = line_len(text);

@@ -1,13 +1,13 @@
 //! The arguments of subcommands.
 ghost use Rattle.std.specs.Prelude.{◌≡◌};
-ghost use Rattle.sievedwords.specs.Ids.{id_of};
+ghost use Rattle.cli_subcommands.specs.Ids.{argument_id};
 
 use clap::{Arg, ArgAction};
 use std::alloc::Global;
 
 /// An argument of a subcommand. One that a subcommand requires and another one may have is two of these.
 #[derive(Clone, Copy)]
-pub enum Argument {
+pub enum CliArgument {
     Db,
     Wait,
     From,
@@ -64,7 +64,7 @@ enum Form {
     Operands,
 }
 
-impl Argument {
+impl CliArgument {
     /// The argument for `clap`.
     pub fn arg(self, alloc: Global) -> Arg<'static> {
         let arg = Arg::new(alloc, self.name())
@@ -86,207 +86,207 @@ impl Argument {
 
     fn form(self) -> Form {
         match self {
-            Argument::Wait
-            | Argument::Directories
-            | Argument::Quiet
-            | Argument::Check
-            | Argument::SendEightBit
-            | Argument::WithMail
-            | Argument::Activate
-            | Argument::AndClose => Form::Flag,
-            Argument::Db
-            | Argument::From
-            | Argument::To
-            | Argument::AnyTo
-            | Argument::At
-            | Argument::Zone
-            | Argument::Default
-            | Argument::Salt
-            | Argument::Most
-            | Argument::Separator
-            | Argument::Port
-            | Argument::Sessions
-            | Argument::Managesieve
-            | Argument::Lmtp
-            | Argument::Names
-            | Argument::Mail
-            | Argument::Host
-            | Argument::Smtp
-            | Argument::HostName
-            | Argument::MostRows
-            | Argument::Until
-            | Argument::Memory => Form::Option,
-            Argument::Name
-            | Argument::Address
-            | Argument::User
-            | Argument::Folder
-            | Argument::Number
-            | Argument::Id
-            | Argument::AnyId
-            | Argument::Maildir
-            | Argument::Script
-            | Argument::AnyScript => Form::Operand,
-            Argument::Files => Form::Operands,
+            CliArgument::Wait
+            | CliArgument::Directories
+            | CliArgument::Quiet
+            | CliArgument::Check
+            | CliArgument::SendEightBit
+            | CliArgument::WithMail
+            | CliArgument::Activate
+            | CliArgument::AndClose => Form::Flag,
+            CliArgument::Db
+            | CliArgument::From
+            | CliArgument::To
+            | CliArgument::AnyTo
+            | CliArgument::At
+            | CliArgument::Zone
+            | CliArgument::Default
+            | CliArgument::Salt
+            | CliArgument::Most
+            | CliArgument::Separator
+            | CliArgument::Port
+            | CliArgument::Sessions
+            | CliArgument::Managesieve
+            | CliArgument::Lmtp
+            | CliArgument::Names
+            | CliArgument::Mail
+            | CliArgument::Host
+            | CliArgument::Smtp
+            | CliArgument::HostName
+            | CliArgument::MostRows
+            | CliArgument::Until
+            | CliArgument::Memory => Form::Option,
+            CliArgument::Name
+            | CliArgument::Address
+            | CliArgument::User
+            | CliArgument::Folder
+            | CliArgument::Number
+            | CliArgument::Id
+            | CliArgument::AnyId
+            | CliArgument::Maildir
+            | CliArgument::Script
+            | CliArgument::AnyScript => Form::Operand,
+            CliArgument::Files => Form::Operands,
         }
     }
 
     /// The argument's name.
     pub fn name(self) -> &'static str
-        ensures { result.now ≡ id_of self }
+        ensures { result.now ≡ argument_id self }
     {
         match self {
-            Argument::Db => "db",
-            Argument::Wait => "wait",
-            Argument::From => "from",
-            Argument::To | Argument::AnyTo => "to",
-            Argument::At => "at",
-            Argument::Zone => "zone",
-            Argument::Default => "default",
-            Argument::Salt => "salt",
-            Argument::Name => "name",
-            Argument::Address => "address",
-            Argument::User => "user",
-            Argument::Folder => "folder",
-            Argument::Number => "number",
-            Argument::Id | Argument::AnyId => "id",
-            Argument::Most | Argument::MostRows => "most",
-            Argument::Maildir | Argument::Directories => "maildir",
-            Argument::Separator => "separator",
-            Argument::Port => "port",
-            Argument::Sessions => "sessions",
-            Argument::Managesieve => "managesieve",
-            Argument::Lmtp => "lmtp",
-            Argument::Names => "names",
-            Argument::Mail => "mail",
-            Argument::Host | Argument::HostName => "host",
-            Argument::Quiet => "quiet",
-            Argument::Check => "check",
-            Argument::Smtp => "smtp",
-            Argument::SendEightBit => "send-8bit",
-            Argument::WithMail => "mail",
-            Argument::Script | Argument::AnyScript => "script",
-            Argument::Activate => "activate",
-            Argument::AndClose => "and-close",
-            Argument::Until => "until",
-            Argument::Memory => "memory",
-            Argument::Files => "file",
+            CliArgument::Db => "db",
+            CliArgument::Wait => "wait",
+            CliArgument::From => "from",
+            CliArgument::To | CliArgument::AnyTo => "to",
+            CliArgument::At => "at",
+            CliArgument::Zone => "zone",
+            CliArgument::Default => "default",
+            CliArgument::Salt => "salt",
+            CliArgument::Name => "name",
+            CliArgument::Address => "address",
+            CliArgument::User => "user",
+            CliArgument::Folder => "folder",
+            CliArgument::Number => "number",
+            CliArgument::Id | CliArgument::AnyId => "id",
+            CliArgument::Most | CliArgument::MostRows => "most",
+            CliArgument::Maildir | CliArgument::Directories => "maildir",
+            CliArgument::Separator => "separator",
+            CliArgument::Port => "port",
+            CliArgument::Sessions => "sessions",
+            CliArgument::Managesieve => "managesieve",
+            CliArgument::Lmtp => "lmtp",
+            CliArgument::Names => "names",
+            CliArgument::Mail => "mail",
+            CliArgument::Host | CliArgument::HostName => "host",
+            CliArgument::Quiet => "quiet",
+            CliArgument::Check => "check",
+            CliArgument::Smtp => "smtp",
+            CliArgument::SendEightBit => "send-8bit",
+            CliArgument::WithMail => "mail",
+            CliArgument::Script | CliArgument::AnyScript => "script",
+            CliArgument::Activate => "activate",
+            CliArgument::AndClose => "and-close",
+            CliArgument::Until => "until",
+            CliArgument::Memory => "memory",
+            CliArgument::Files => "file",
         }
     }
 
     /// The placeholder of its value in the help.
     fn value_name(self) -> &'static str {
         match self {
-            Argument::Wait
-            | Argument::Directories
-            | Argument::Quiet
-            | Argument::Check
-            | Argument::SendEightBit
-            | Argument::WithMail
-            | Argument::Activate
-            | Argument::AndClose => "",
-            Argument::Separator => ".|/",
-            Argument::From | Argument::To | Argument::AnyTo => "A",
-            Argument::At | Argument::Number | Argument::Sessions | Argument::Until => "N",
-            Argument::Zone => "ZONE",
-            Argument::Most | Argument::MostRows => "K",
-            Argument::Smtp => "ADDRESS:PORT|PATH",
-            Argument::Port | Argument::Managesieve => "P",
-            Argument::Memory => "MIB",
-            Argument::Salt => "HEX32",
-            Argument::Db | Argument::Default | Argument::Files => "FILE",
-            Argument::Script | Argument::AnyScript => "SCRIPT",
-            Argument::Name | Argument::Host | Argument::HostName => "NAME",
-            Argument::Lmtp => "P|PATH|-",
-            Argument::Names => "local|whole",
-            Argument::Mail => "DIR",
-            Argument::Address => "ADDRESS",
-            Argument::User => "USER",
-            Argument::Folder => "FOLDER",
-            Argument::Id | Argument::AnyId => "ID",
-            Argument::Maildir => "MAILDIR",
+            CliArgument::Wait
+            | CliArgument::Directories
+            | CliArgument::Quiet
+            | CliArgument::Check
+            | CliArgument::SendEightBit
+            | CliArgument::WithMail
+            | CliArgument::Activate
+            | CliArgument::AndClose => "",
+            CliArgument::Separator => ".|/",
+            CliArgument::From | CliArgument::To | CliArgument::AnyTo => "A",
+            CliArgument::At | CliArgument::Number | CliArgument::Sessions | CliArgument::Until => "N",
+            CliArgument::Zone => "ZONE",
+            CliArgument::Most | CliArgument::MostRows => "K",
+            CliArgument::Smtp => "ADDRESS:PORT|PATH",
+            CliArgument::Port | CliArgument::Managesieve => "P",
+            CliArgument::Memory => "MIB",
+            CliArgument::Salt => "HEX32",
+            CliArgument::Db | CliArgument::Default | CliArgument::Files => "FILE",
+            CliArgument::Script | CliArgument::AnyScript => "SCRIPT",
+            CliArgument::Name | CliArgument::Host | CliArgument::HostName => "NAME",
+            CliArgument::Lmtp => "P|PATH|-",
+            CliArgument::Names => "local|whole",
+            CliArgument::Mail => "DIR",
+            CliArgument::Address => "ADDRESS",
+            CliArgument::User => "USER",
+            CliArgument::Folder => "FOLDER",
+            CliArgument::Id | CliArgument::AnyId => "ID",
+            CliArgument::Maildir => "MAILDIR",
         }
     }
 
     fn help(self) -> &'static str {
         match self {
-            Argument::Db => "The store's file",
-            Argument::Wait => "Waits where another process has the store",
-            Argument::From => "The envelope's sender [default: none]",
-            Argument::To => "The envelope's recipient",
-            Argument::AnyTo => "The envelope's recipient [default: none]",
-            Argument::At => "Seconds since 1970 [default: the clock]",
-            Argument::Zone =>
+            CliArgument::Db => "The store's file",
+            CliArgument::Wait => "Waits where another process has the store",
+            CliArgument::From => "The envelope's sender [default: none]",
+            CliArgument::To => "The envelope's recipient",
+            CliArgument::AnyTo => "The envelope's recipient [default: none]",
+            CliArgument::At => "Seconds since 1970 [default: the clock]",
+            CliArgument::Zone =>
                 "The zone: +HHMM, or a rule as CET-1CEST,M3.5.0,M10.5.0/3 [default: +0000]",
-            Argument::Default => "The script for accounts without an active one",
-            Argument::Salt => "16 random octets in hexadecimal [default: the system's]",
-            Argument::Name => "1 to 64 of letters, digits and . _ - @",
-            Argument::Address => "The mail address, without a display name",
-            Argument::User => "The account's name",
-            Argument::Folder => "The folder's name, as `folders` prints it",
-            Argument::Number => "The message's number in the folder, from 1",
-            Argument::Id => "The message's number, as `queue` prints it",
-            Argument::AnyId => "The message's number in the queue",
-            Argument::Most => "Moves at most K messages [default: all]",
-            Argument::Maildir => "A directory that has `tmp` and `new`",
-            Argument::Directories => "Prints each folder's directory in a Maildir before it",
-            Argument::Separator => "What parts a folder's levels [default: .]",
-            Argument::Port => "The port; 0 for any that is free",
-            Argument::Sessions => "Ends after N sessions [default: never]",
-            Argument::Managesieve => "The port for ManageSieve; 0 for any that is free",
-            Argument::Lmtp => "The port or the path of a socket for LMTP; - for descriptor 0",
-            Argument::Names => "What of an address names its account [default: local]",
-            Argument::Mail => "Moves mail on into the users' Maildirs in this directory",
-            Argument::Host => "The name that clients of LMTP are greeted with [default: localhost]",
-            Argument::Quiet => "Tells of no delivery that was made",
-            Argument::Check => "Says what would go wrong, and serves nobody",
-            Argument::Smtp => "The mail server's address and port, or the path of its socket",
-            Argument::HostName => "The name that EHLO says [default: localhost]",
-            Argument::MostRows => "Tries at most K rows [default: all]",
-            Argument::SendEightBit => "Sends octets over 127 where 8BITMIME isn't offered too",
-            Argument::WithMail => "Removes its messages too",
-            Argument::Script => "The script's name",
-            Argument::AnyScript => "The name of the script that is printed",
-            Argument::Activate => "Makes it the active script",
-            Argument::AndClose => "Closes the account once the text is written",
-            Argument::Until =>
+            CliArgument::Default => "The script for accounts without an active one",
+            CliArgument::Salt => "16 random octets in hexadecimal [default: the system's]",
+            CliArgument::Name => "1 to 64 of letters, digits and . _ - @",
+            CliArgument::Address => "The mail address, without a display name",
+            CliArgument::User => "The account's name",
+            CliArgument::Folder => "The folder's name, as `folders` prints it",
+            CliArgument::Number => "The message's number in the folder, from 1",
+            CliArgument::Id => "The message's number, as `queue` prints it",
+            CliArgument::AnyId => "The message's number in the queue",
+            CliArgument::Most => "Moves at most K messages [default: all]",
+            CliArgument::Maildir => "A directory that has `tmp` and `new`",
+            CliArgument::Directories => "Prints each folder's directory in a Maildir before it",
+            CliArgument::Separator => "What parts a folder's levels [default: .]",
+            CliArgument::Port => "The port; 0 for any that is free",
+            CliArgument::Sessions => "Ends after N sessions [default: never]",
+            CliArgument::Managesieve => "The port for ManageSieve; 0 for any that is free",
+            CliArgument::Lmtp => "The port or the path of a socket for LMTP; - for descriptor 0",
+            CliArgument::Names => "What of an address names its account [default: local]",
+            CliArgument::Mail => "Moves mail on into the users' Maildirs in this directory",
+            CliArgument::Host => "The name that clients of LMTP are greeted with [default: localhost]",
+            CliArgument::Quiet => "Tells of no delivery that was made",
+            CliArgument::Check => "Says what would go wrong, and serves nobody",
+            CliArgument::Smtp => "The mail server's address and port, or the path of its socket",
+            CliArgument::HostName => "The name that EHLO says [default: localhost]",
+            CliArgument::MostRows => "Tries at most K rows [default: all]",
+            CliArgument::SendEightBit => "Sends octets over 127 where 8BITMIME isn't offered too",
+            CliArgument::WithMail => "Removes its messages too",
+            CliArgument::Script => "The script's name",
+            CliArgument::AnyScript => "The name of the script that is printed",
+            CliArgument::Activate => "Makes it the active script",
+            CliArgument::AndClose => "Closes the account once the text is written",
+            CliArgument::Until =>
                 "Takes the notices up to this second since 1970, once they are printed",
-            Argument::Memory => "How much all connections may hold, in MiB [default: 64]",
-            Argument::Files => "Files that have a script each [default: standard input]",
+            CliArgument::Memory => "How much all connections may hold, in MiB [default: 64]",
+            CliArgument::Files => "Files that have a script each [default: standard input]",
         }
     }
 
     fn is_required(self) -> bool {
         !matches!(
             self,
-            Argument::Wait
-                | Argument::From
-                | Argument::AnyTo
-                | Argument::At
-                | Argument::Zone
-                | Argument::Default
-                | Argument::AnyId
-                | Argument::Most
-                | Argument::Directories
-                | Argument::Separator
-                | Argument::Sessions
-                | Argument::Managesieve
-                | Argument::Lmtp
-                | Argument::Names
-                | Argument::Mail
-                | Argument::Host
-                | Argument::Quiet
-                | Argument::Check
-                | Argument::HostName
-                | Argument::MostRows
-                | Argument::SendEightBit
-                | Argument::Salt
-                | Argument::WithMail
-                | Argument::AnyScript
-                | Argument::Activate
-                | Argument::AndClose
-                | Argument::Until
-                | Argument::Memory
-                | Argument::Files
+            CliArgument::Wait
+                | CliArgument::From
+                | CliArgument::AnyTo
+                | CliArgument::At
+                | CliArgument::Zone
+                | CliArgument::Default
+                | CliArgument::AnyId
+                | CliArgument::Most
+                | CliArgument::Directories
+                | CliArgument::Separator
+                | CliArgument::Sessions
+                | CliArgument::Managesieve
+                | CliArgument::Lmtp
+                | CliArgument::Names
+                | CliArgument::Mail
+                | CliArgument::Host
+                | CliArgument::Quiet
+                | CliArgument::Check
+                | CliArgument::HostName
+                | CliArgument::MostRows
+                | CliArgument::SendEightBit
+                | CliArgument::Salt
+                | CliArgument::WithMail
+                | CliArgument::AnyScript
+                | CliArgument::Activate
+                | CliArgument::AndClose
+                | CliArgument::Until
+                | CliArgument::Memory
+                | CliArgument::Files
         )
     }
 }

@@ -1,45 +1,45 @@
 //! The arguments that were given to a subcommand.
 ghost use Rattle.std.specs.Prelude.{◌≡◌, false, option_copied};
-ghost use Rattle.sievedwords.specs.Asks.{HasNoText, IsAddress, IsFlag, IsLocation, text_in, value_in};
-ghost use Rattle.sievedwords.specs.Ids.{id_of};
+ghost use Rattle.cli_subcommands.specs.Asks.{HasNoText, IsArgAddress, IsFlag, IsLocation, arg_text, arg_value};
+ghost use Rattle.cli_subcommands.specs.Ids.{argument_id};
 
-use crate::argument::Argument;
-use crate::command_line::CommandLine;
+use crate::argument::CliArgument;
+use crate::raw_args::RawArgs;
 use crate::location::StoreLocation;
 use clap::ArgMatches;
 
 /// What `clap` found for a subcommand in a command line.
 #[derive(Clone, Copy)]
 pub struct Given<'a, 'm> {
-    pub line: &'a CommandLine,
+    pub line: &'a RawArgs,
     pub matches: &'m ArgMatches<'a>,
 }
 
 impl<'a> Given<'a, '_> {
     /// The value of an argument, if it has one.
-    pub fn value(&self, argument: Argument) -> Option<&'a str>
-        ensures { option_copied result ≡ value_in self.now.matches.now (id_of argument) }
+    pub fn value(&self, argument: CliArgument) -> Option<&'a str>
+        ensures { option_copied result ≡ arg_value self.now.matches.now (argument_id argument) }
     {
         self.matches.get_str(argument.name())
     }
 
     /// The value of an argument, or the empty text if it was left out.
-    pub fn text(&self, argument: Argument) -> &'a str
-        ensures { result.now ≡ text_in self.now.matches.now (id_of argument) }
+    pub fn text(&self, argument: CliArgument) -> &'a str
+        ensures { result.now ≡ arg_text self.now.matches.now (argument_id argument) }
     {
         self.value(argument).unwrap_or("")
     }
 
     /// Whether a flag was given.
-    pub fn flag(&self, argument: Argument) -> bool
-        ensures { IsFlag self.now.matches.now (id_of argument) result }
+    pub fn flag(&self, argument: CliArgument) -> bool
+        ensures { IsFlag self.now.matches.now (argument_id argument) result }
     {
         self.matches.get_flag(argument.name())
     }
 
     /// The octets of an address; empty if it was left out.
-    pub fn address(&self, argument: Argument) -> &'a [u8]
-        ensures { IsAddress self.now.line.now (text_in self.now.matches.now (id_of argument)) result.now }
+    pub fn address(&self, argument: CliArgument) -> &'a [u8]
+        ensures { IsArgAddress self.now.line.now (arg_text self.now.matches.now (argument_id argument)) result.now }
     {
         self.line.address(self.text(argument))
     }
@@ -49,8 +49,8 @@ impl<'a> Given<'a, '_> {
         ensures { IsLocation self.now.matches.now result }
     {
         StoreLocation {
-            path: self.text(Argument::Db),
-            waits: self.flag(Argument::Wait),
+            path: self.text(CliArgument::Db),
+            waits: self.flag(CliArgument::Wait),
         }
     }
 
@@ -58,8 +58,8 @@ impl<'a> Given<'a, '_> {
     pub fn is_text_elsewhere(&self) -> bool
         ensures { result ≡ false → HasNoText self.now.line.now }
     {
-        let from = self.line.behind(self.text(Argument::From)).is_some();
-        let to = self.line.behind(self.text(Argument::To)).is_some();
+        let from = self.line.behind(self.text(CliArgument::From)).is_some();
+        let to = self.line.behind(self.text(CliArgument::To)).is_some();
         usize::from(from) + usize::from(to) == self.line.stand_ins()
     }
 }

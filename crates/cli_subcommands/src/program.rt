@@ -1,5 +1,5 @@
 //! The command line, for `clap`.
-use crate::subcommand::Word;
+use crate::subcommand::SubcommandName;
 use clap::Command;
 use std::alloc::{AllocError, Global};
 
@@ -8,14 +8,14 @@ pub const VERSION: &str = "2.0.0~dev";
 
 /// The program with all subcommands.
 pub fn sieved<'a>(alloc: Global) -> Result<Command<'a>, AllocError> {
-    with_words(alloc, program(alloc)?, &Word::ALL)
+    with_words(alloc, program(alloc)?, &SubcommandName::ALL)
 }
 
 /// A command with these subcommands added.
 fn with_words<'a>(
     alloc: Global,
     program: Command<'a>,
-    words: &[Word],
+    words: &[SubcommandName],
 ) -> Result<Command<'a>, AllocError> {
     let mut command = program;
     for word in words {

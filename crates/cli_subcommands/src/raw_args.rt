@@ -1,6 +1,6 @@
 //! The arguments of a command line: the octets that the system hands over, and the texts that `clap` reads.
 ghost use Rattle.std.specs.Prelude.{IsTrue};
-ghost use Rattle.sievedwords.specs.Asks.{HasNoText, IsAddress};
+ghost use Rattle.cli_subcommands.specs.Asks.{HasNoText, IsArgAddress};
 
 use octets::Octets;
 use std::alloc::{AllocError, Global};
@@ -16,21 +16,21 @@ const ADDRESS_OPTIONS: [&str; 2] = ["--from=", "--to="];
 /// `clap` finds it as an address, the octets of its argument are the address. Memory is that of the arguments, and of the longest
 /// one for each stand-in.
 #[derive(Drop)]
-pub struct CommandLine {
+pub struct RawArgs {
     octets: Vec<Octets>,
     texts: Vec<String>,
 }
 
-impl CommandLine {
+impl RawArgs {
     /// From the arguments in their order. Lack of memory is the only error.
-    pub fn new(alloc: Global, words: Vec<Octets>) -> Result<CommandLine, AllocError> {
+    pub fn new(alloc: Global, words: Vec<Octets>) -> Result<RawArgs, AllocError> {
         let longest = words.iter().map(|word| word.len()).max().unwrap_or(0);
         let mut texts = Vec::new(alloc);
         for (at, word) in words.iter().enumerate() {
             let stand_in = longest.saturating_add(at).saturating_add(1);
             texts.push(text_of(alloc, word.as_slice(), stand_in)?)?;
         }
-        Ok(CommandLine {
+        Ok(RawArgs {
             octets: words,
             texts,
         })
@@ -63,7 +63,7 @@ impl CommandLine {
 
     /// The octets of the address with this value: the value itself, or the octets that it stands in for.
     pub(crate) fn address<'a>(&'a self, value: &'a str) -> &'a [u8]
-        ensures { IsAddress self.now value.now result.now }
+        ensures { IsArgAddress self.now value.now result.now }
     {
         self.behind(value).unwrap_or(value.as_bytes())
     }

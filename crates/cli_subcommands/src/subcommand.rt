@@ -1,7 +1,7 @@
 //! The subcommands.
 ghost use Rattle.std.specs.Prelude.{◌≡◌, IfSome, None};
-ghost use Rattle.sievedwords.specs.Asks.{AsksFor};
-ghost use Rattle.sievedwords.specs.Ids.{IsNoWord, name_of};
+ghost use Rattle.cli_subcommands.specs.Asks.{IsSubcommandFor};
+ghost use Rattle.cli_subcommands.specs.Ids.{IsNoSubcommand, subcommand_name};
 
 pub mod address;
 pub mod adduser;
@@ -28,65 +28,65 @@ pub mod show;
 pub mod try_script;
 pub mod users;
 
-use self::address::{ADDRESS, SetAddress};
-use self::adduser::{ADDUSER, AddUser};
-use self::check::{CHECK, Check};
-use self::daemon::{DAEMON, Daemon};
-use self::deliver::{DELIVER, Deliver};
-use self::done::{DONE, Done};
-use self::drain::{DRAIN, Drain};
-use self::export::{EXPORT, Export};
-use self::folders::{FOLDERS, Folders};
-use self::import::{IMPORT, Import};
-use self::init::{INIT, Init};
-use self::notices::{NOTICES, Notices};
-use self::open::{OPEN, Open};
-use self::passwd::{PASSWD, Passwd};
-use self::put::{PUT, Put};
-use self::queue::{QUEUE, Queue};
-use self::remove::{REMOVE, Remove};
-use self::scripts::{SCRIPTS, Scripts};
-use self::send::{SEND, Send};
-use self::serve::{SERVE, Serve};
-use self::session::{SESSION, Session};
-use self::show::{SHOW, Show};
-use self::try_script::{TRY, Try};
-use self::users::{USERS, Users};
+use crate::subcommand::address::{ADDRESS, AddressArgs};
+use crate::subcommand::adduser::{ADDUSER, AddUserArgs};
+use crate::subcommand::check::{CHECK, CheckArgs};
+use crate::subcommand::daemon::{DAEMON, DaemonArgs};
+use crate::subcommand::deliver::{DELIVER, DeliverArgs};
+use crate::subcommand::done::{DONE, DoneArgs};
+use crate::subcommand::drain::{DRAIN, DrainArgs};
+use crate::subcommand::export::{EXPORT, ExportArgs};
+use crate::subcommand::folders::{FOLDERS, FoldersArgs};
+use crate::subcommand::import::{IMPORT, ImportArgs};
+use crate::subcommand::init::{INIT, InitArgs};
+use crate::subcommand::notices::{NOTICES, NoticesArgs};
+use crate::subcommand::open::{OPEN, OpenArgs};
+use crate::subcommand::passwd::{PASSWD, PasswdArgs};
+use crate::subcommand::put::{PUT, PutArgs};
+use crate::subcommand::queue::{QUEUE, QueueArgs};
+use crate::subcommand::remove::{REMOVE, RemoveArgs};
+use crate::subcommand::scripts::{SCRIPTS, ScriptsArgs};
+use crate::subcommand::send::{SEND, SendArgs};
+use crate::subcommand::serve::{SERVE, ServeArgs};
+use crate::subcommand::session::{SESSION, SessionArgs};
+use crate::subcommand::show::{SHOW, ShowArgs};
+use crate::subcommand::try_script::{TRY, TryArgs};
+use crate::subcommand::users::{USERS, UsersArgs};
 use crate::given::Given;
-use crate::row::Row;
+use crate::subcommand_row::SubcommandRow;
 
 /// A subcommand with its arguments, as they were written.
 #[derive(Clone, Copy)]
 pub enum Subcommand<'a> {
-    Try(Try<'a>),
-    Init(Init<'a>),
-    AddUser(AddUser<'a>),
-    Users(Users<'a>),
-    Passwd(Passwd<'a>),
-    Address(SetAddress<'a>),
-    Scripts(Scripts<'a>),
-    Put(Put<'a>),
-    Remove(Remove<'a>),
-    Open(Open<'a>),
-    Export(Export<'a>),
-    Import(Import<'a>),
-    Deliver(Deliver<'a>),
-    Folders(Folders<'a>),
-    Show(Show<'a>),
-    Queue(Queue<'a>),
-    Done(Done<'a>),
-    Notices(Notices<'a>),
-    Drain(Drain<'a>),
-    Send(Send<'a>),
-    Serve(Serve<'a>),
-    Session(Session<'a>),
-    Daemon(Daemon<'a>),
-    Check(Check<'a>),
+    Try(TryArgs<'a>),
+    Init(InitArgs<'a>),
+    AddUser(AddUserArgs<'a>),
+    Users(UsersArgs<'a>),
+    Passwd(PasswdArgs<'a>),
+    Address(AddressArgs<'a>),
+    Scripts(ScriptsArgs<'a>),
+    Put(PutArgs<'a>),
+    Remove(RemoveArgs<'a>),
+    Open(OpenArgs<'a>),
+    Export(ExportArgs<'a>),
+    Import(ImportArgs<'a>),
+    Deliver(DeliverArgs<'a>),
+    Folders(FoldersArgs<'a>),
+    Show(ShowArgs<'a>),
+    Queue(QueueArgs<'a>),
+    Done(DoneArgs<'a>),
+    Notices(NoticesArgs<'a>),
+    Drain(DrainArgs<'a>),
+    Send(SendArgs<'a>),
+    Serve(ServeArgs<'a>),
+    Session(SessionArgs<'a>),
+    Daemon(DaemonArgs<'a>),
+    Check(CheckArgs<'a>),
 }
 
 /// The name of a subcommand.
 #[derive(Clone, Copy, Debug, PartialEq, Eq)]
-pub enum Word {
+pub enum SubcommandName {
     Try,
     Init,
     AddUser,
@@ -113,41 +113,41 @@ pub enum Word {
     Check,
 }
 
-impl Word {
+impl SubcommandName {
     /// All subcommands, in the order of the help.
-    pub const ALL: [Word; 24] = [
-        Word::Try,
-        Word::Init,
-        Word::AddUser,
-        Word::Users,
-        Word::Passwd,
-        Word::Address,
-        Word::Scripts,
-        Word::Put,
-        Word::Remove,
-        Word::Open,
-        Word::Export,
-        Word::Import,
-        Word::Deliver,
-        Word::Folders,
-        Word::Show,
-        Word::Queue,
-        Word::Done,
-        Word::Notices,
-        Word::Drain,
-        Word::Send,
-        Word::Serve,
-        Word::Session,
-        Word::Daemon,
-        Word::Check,
+    pub const ALL: [SubcommandName; 24] = [
+        SubcommandName::Try,
+        SubcommandName::Init,
+        SubcommandName::AddUser,
+        SubcommandName::Users,
+        SubcommandName::Passwd,
+        SubcommandName::Address,
+        SubcommandName::Scripts,
+        SubcommandName::Put,
+        SubcommandName::Remove,
+        SubcommandName::Open,
+        SubcommandName::Export,
+        SubcommandName::Import,
+        SubcommandName::Deliver,
+        SubcommandName::Folders,
+        SubcommandName::Show,
+        SubcommandName::Queue,
+        SubcommandName::Done,
+        SubcommandName::Notices,
+        SubcommandName::Drain,
+        SubcommandName::Send,
+        SubcommandName::Serve,
+        SubcommandName::Session,
+        SubcommandName::Daemon,
+        SubcommandName::Check,
     ];
 
     /// The subcommand with this name.
-    pub fn from_name(name: &str) -> Option<Word>
-        ensures named { IfSome result (λ word. name_of word ≡ name.now) }
-        ensures none { result ≡ None → IsNoWord name.now }
+    pub fn from_name(name: &str) -> Option<SubcommandName>
+        ensures named { IfSome result (λ word. subcommand_name word ≡ name.now) }
+        ensures none { result ≡ None → IsNoSubcommand name.now }
     {
-        for word in Word::ALL {
+        for word in SubcommandName::ALL {
             if word.name() == name {
                 return Some(word);
             }
@@ -156,72 +156,72 @@ impl Word {
     }
 
     pub fn name(self) -> &'static str
-        ensures { result.now ≡ name_of self }
+        ensures { result.now ≡ subcommand_name self }
     {
         self.row().name
     }
 
     /// Its row in the help.
-    pub fn row(self) -> &'static Row
-        ensures { result.now.name.now ≡ name_of self }
+    pub fn row(self) -> &'static SubcommandRow
+        ensures { result.now.name.now ≡ subcommand_name self }
     {
         match self {
-            Word::Try => &TRY,
-            Word::Init => &INIT,
-            Word::AddUser => &ADDUSER,
-            Word::Users => &USERS,
-            Word::Passwd => &PASSWD,
-            Word::Address => &ADDRESS,
-            Word::Scripts => &SCRIPTS,
-            Word::Put => &PUT,
-            Word::Remove => &REMOVE,
-            Word::Open => &OPEN,
-            Word::Export => &EXPORT,
-            Word::Import => &IMPORT,
-            Word::Deliver => &DELIVER,
-            Word::Folders => &FOLDERS,
-            Word::Show => &SHOW,
-            Word::Queue => &QUEUE,
-            Word::Done => &DONE,
-            Word::Notices => &NOTICES,
-            Word::Drain => &DRAIN,
-            Word::Send => &SEND,
-            Word::Serve => &SERVE,
-            Word::Session => &SESSION,
-            Word::Daemon => &DAEMON,
-            Word::Check => &CHECK,
+            SubcommandName::Try => &TRY,
+            SubcommandName::Init => &INIT,
+            SubcommandName::AddUser => &ADDUSER,
+            SubcommandName::Users => &USERS,
+            SubcommandName::Passwd => &PASSWD,
+            SubcommandName::Address => &ADDRESS,
+            SubcommandName::Scripts => &SCRIPTS,
+            SubcommandName::Put => &PUT,
+            SubcommandName::Remove => &REMOVE,
+            SubcommandName::Open => &OPEN,
+            SubcommandName::Export => &EXPORT,
+            SubcommandName::Import => &IMPORT,
+            SubcommandName::Deliver => &DELIVER,
+            SubcommandName::Folders => &FOLDERS,
+            SubcommandName::Show => &SHOW,
+            SubcommandName::Queue => &QUEUE,
+            SubcommandName::Done => &DONE,
+            SubcommandName::Notices => &NOTICES,
+            SubcommandName::Drain => &DRAIN,
+            SubcommandName::Send => &SEND,
+            SubcommandName::Serve => &SERVE,
+            SubcommandName::Session => &SESSION,
+            SubcommandName::Daemon => &DAEMON,
+            SubcommandName::Check => &CHECK,
         }
     }
 
     /// The subcommand with what was given to it.
     pub fn read<'a>(self, given: &Given<'a, '_>) -> Subcommand<'a>
-        ensures { AsksFor given.now.line.now given.now.matches.now self result }
+        ensures { IsSubcommandFor given.now.line.now given.now.matches.now self result }
     {
         match self {
-            Word::Try => Subcommand::Try(Try::read(given)),
-            Word::Init => Subcommand::Init(Init::read(given)),
-            Word::AddUser => Subcommand::AddUser(AddUser::read(given)),
-            Word::Users => Subcommand::Users(Users::read(given)),
-            Word::Passwd => Subcommand::Passwd(Passwd::read(given)),
-            Word::Address => Subcommand::Address(SetAddress::read(given)),
-            Word::Scripts => Subcommand::Scripts(Scripts::read(given)),
-            Word::Put => Subcommand::Put(Put::read(given)),
-            Word::Remove => Subcommand::Remove(Remove::read(given)),
-            Word::Open => Subcommand::Open(Open::read(given)),
-            Word::Export => Subcommand::Export(Export::read(given)),
-            Word::Import => Subcommand::Import(Import::read(given)),
-            Word::Deliver => Subcommand::Deliver(Deliver::read(given)),
-            Word::Folders => Subcommand::Folders(Folders::read(given)),
-            Word::Show => Subcommand::Show(Show::read(given)),
-            Word::Queue => Subcommand::Queue(Queue::read(given)),
-            Word::Done => Subcommand::Done(Done::read(given)),
-            Word::Notices => Subcommand::Notices(Notices::read(given)),
-            Word::Drain => Subcommand::Drain(Drain::read(given)),
-            Word::Send => Subcommand::Send(Send::read(given)),
-            Word::Serve => Subcommand::Serve(Serve::read(given)),
-            Word::Session => Subcommand::Session(Session::read(given)),
-            Word::Daemon => Subcommand::Daemon(Daemon::read(given)),
-            Word::Check => Subcommand::Check(Check::read(given)),
+            SubcommandName::Try => Subcommand::Try(TryArgs::read(given)),
+            SubcommandName::Init => Subcommand::Init(InitArgs::read(given)),
+            SubcommandName::AddUser => Subcommand::AddUser(AddUserArgs::read(given)),
+            SubcommandName::Users => Subcommand::Users(UsersArgs::read(given)),
+            SubcommandName::Passwd => Subcommand::Passwd(PasswdArgs::read(given)),
+            SubcommandName::Address => Subcommand::Address(AddressArgs::read(given)),
+            SubcommandName::Scripts => Subcommand::Scripts(ScriptsArgs::read(given)),
+            SubcommandName::Put => Subcommand::Put(PutArgs::read(given)),
+            SubcommandName::Remove => Subcommand::Remove(RemoveArgs::read(given)),
+            SubcommandName::Open => Subcommand::Open(OpenArgs::read(given)),
+            SubcommandName::Export => Subcommand::Export(ExportArgs::read(given)),
+            SubcommandName::Import => Subcommand::Import(ImportArgs::read(given)),
+            SubcommandName::Deliver => Subcommand::Deliver(DeliverArgs::read(given)),
+            SubcommandName::Folders => Subcommand::Folders(FoldersArgs::read(given)),
+            SubcommandName::Show => Subcommand::Show(ShowArgs::read(given)),
+            SubcommandName::Queue => Subcommand::Queue(QueueArgs::read(given)),
+            SubcommandName::Done => Subcommand::Done(DoneArgs::read(given)),
+            SubcommandName::Notices => Subcommand::Notices(NoticesArgs::read(given)),
+            SubcommandName::Drain => Subcommand::Drain(DrainArgs::read(given)),
+            SubcommandName::Send => Subcommand::Send(SendArgs::read(given)),
+            SubcommandName::Serve => Subcommand::Serve(ServeArgs::read(given)),
+            SubcommandName::Session => Subcommand::Session(SessionArgs::read(given)),
+            SubcommandName::Daemon => Subcommand::Daemon(DaemonArgs::read(given)),
+            SubcommandName::Check => Subcommand::Check(CheckArgs::read(given)),
         }
     }
 }

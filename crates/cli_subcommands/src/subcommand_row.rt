@@ -1,19 +1,19 @@
 //! The row of a subcommand in the help.
-use crate::argument::Argument;
+use crate::argument::CliArgument;
 use clap::Command;
 use std::alloc::{AllocError, Global};
 
 /// A subcommand's name, its help, and its arguments.
 #[derive(Clone, Copy)]
-pub struct Row {
+pub struct SubcommandRow {
     pub name: &'static str,
     pub about: &'static str,
     /// What it reads and prints, and its exit statuses.
     pub more: &'static str,
-    pub arguments: &'static [Argument],
+    pub arguments: &'static [CliArgument],
 }
 
-impl Row {
+impl SubcommandRow {
     /// The subcommand for `clap`.
     pub fn command<'a>(&self, alloc: Global) -> Result<Command<'a>, AllocError> {
         let mut command = Command::new(alloc, self.name)

@@ -1,48 +1,48 @@
 -- What all hold, counted off what they may.
 use Rattle.std.proofs.Common.{◌≡◌, ◌∙◌, inl, inr, ℕ, ◌+◌, ◌-◌, ◌≤◌, length, true, cond, List, [], ◌∷◌, Option, Some, None, sym, ap, subst, arith}
 use Rattle.std.specs.Cmp.{eq_by_cmp_equiv, nat_cmp_total}
-use Rattle.lmtp.specs.Receivers.{held_by}
-use Rattle.mailengine.specs.Hosts.{Kept}
-use Rattle.mailposts.specs.Stands.{Keeps, Hears, HoldsNoMore}
-use Rattle.mailposts.specs.declared.post.Post.{Post}
-use Rattle.wires.specs.Talk.{same}
-use Rattle.sieveddaemon.specs.Bounds.{unread_of, unread_in, guest_unread, guests_in, held_in}
-use Rattle.sieveddaemon.specs.DaemonRules.{LacksFor}
-use Rattle.sieveddaemon.specs.MailRules.{post_at, Posts, SameHost, KeepsText, KeepsPosts, TakesPiece, LacksBy}
-use Rattle.sieveddaemon.specs.Places.{client_at}
-use Rattle.sieveddaemon.specs.declared.daemon.Daemon.{Daemon}
-use Rattle.sieveddaemon.specs.declared.mail.MailDaemon.{MailDaemon}
-use Rattle.sieveddaemon.specs.declared.place.Place.{Place}
-use Rattle.sieveddaemon.proofs.EventLemmas.{twice_by}
+use Rattle.lmtp_dialogue.specs.Receivers.{held_by}
+use Rattle.store_engine.specs.Hosts.{SessionMap}
+use Rattle.lmtp_connections.specs.Stands.{ConnectionKeeps, ConnectionHears, ConnectionHoldsNoMore}
+use Rattle.lmtp_connections.specs.declared.connection.LmtpConnection.{LmtpConnection}
+use Rattle.net_loop.specs.Talk.{is_same_id}
+use Rattle.daemon_core.specs.Bounds.{unread_of, unread_in, guest_unread, guests_in, held_in}
+use Rattle.daemon_core.specs.DaemonRules.{LacksFor}
+use Rattle.daemon_core.specs.MailRules.{post_at, ChangesPost, SameHost, KeepsText, KeepsPosts, TakesPiece, LacksBy}
+use Rattle.daemon_core.specs.ClientStates.{client_at}
+use Rattle.daemon_core.specs.declared.daemon.Daemon.{Daemon}
+use Rattle.daemon_core.specs.declared.mail.MailDaemon.{MailDaemon}
+use Rattle.daemon_core.specs.declared.client_state.ClientState.{ClientState}
+use Rattle.daemon_core.proofs.EventLemmas.{twice_by}
 
 -- ---- one connection after another is counted off
 
-abbrev pub less_unread : Kept → ℕ → List (ℕ × Place) → ℕ
+abbrev pub less_unread : SessionMap → ℕ → List (ℕ × ClientState) → ℕ
 less_unread sessions left [] = left
 less_unread sessions left (it ∷ entries) = less_unread sessions (left - unread_of (client_at sessions it.0)) entries
 
-abbrev pub less_guests : Kept → ℕ → List (ℕ × Place) → ℕ
+abbrev pub less_guests : SessionMap → ℕ → List (ℕ × ClientState) → ℕ
 less_guests sessions left [] = left
 less_guests sessions left (it ∷ entries) = less_guests sessions (left - guest_unread (client_at sessions it.0)) entries
 
-abbrev pub less_held : ℕ → List (ℕ × Post) → ℕ
+abbrev pub less_held : ℕ → List (ℕ × LmtpConnection) → ℕ
 less_held left [] = left
 less_held left (it ∷ entries) = less_held (left - held_by it.1.receiver) entries
 
 two_off : (left one more : ℕ) → left - one - more ≡ left - (one + more)
 two_off left one more = omega arith
 
-pub all_unread : (sessions : Kept) (left : ℕ) (entries : List (ℕ × Place)) → less_unread sessions left entries ≡ left - unread_in sessions entries
+pub all_unread : (sessions : SessionMap) (left : ℕ) (entries : List (ℕ × ClientState)) → less_unread sessions left entries ≡ left - unread_in sessions entries
 all_unread sessions left [] = omega arith
 all_unread sessions left (it ∷ entries) =
     all_unread sessions (left - unread_of (client_at sessions it.0)) entries ∙ two_off left (unread_of (client_at sessions it.0)) (unread_in sessions entries)
 
-pub all_guests : (sessions : Kept) (left : ℕ) (entries : List (ℕ × Place)) → less_guests sessions left entries ≡ left - guests_in sessions entries
+pub all_guests : (sessions : SessionMap) (left : ℕ) (entries : List (ℕ × ClientState)) → less_guests sessions left entries ≡ left - guests_in sessions entries
 all_guests sessions left [] = omega arith
 all_guests sessions left (it ∷ entries) =
     all_guests sessions (left - guest_unread (client_at sessions it.0)) entries ∙ two_off left (guest_unread (client_at sessions it.0)) (guests_in sessions entries)
 
-pub all_held : (left : ℕ) (entries : List (ℕ × Post)) → less_held left entries ≡ left - held_in entries
+pub all_held : (left : ℕ) (entries : List (ℕ × LmtpConnection)) → less_held left entries ≡ left - held_in entries
 all_held left [] = omega arith
 all_held left (it ∷ entries) = all_held (left - held_by it.1.receiver) entries ∙ two_off left (held_by it.1.receiver) (held_in entries)
 
@@ -51,8 +51,8 @@ all_held left (it ∷ entries) = all_held (left - held_by it.1.receiver) entries
 hosts : (d m e : MailDaemon) → SameHost d m → SameHost m e → SameHost d e
 hosts d m e one two = record { names = two.names ∙ one.names; host = two.host ∙ one.host; memory = two.memory ∙ one.memory }
 
-posts_over : (d m e : MailDaemon) (id : ℕ) (x y : Option Post) → Posts d id x m → Posts m id y e → Posts d id y e
-posts_over d m e id x y one two = λ other. two other ∙ (ap (λ p. cond (same id other) y p) (one other) ∙ twice_by (same id other) x y (post_at d other))
+posts_over : (d m e : MailDaemon) (id : ℕ) (x y : Option LmtpConnection) → ChangesPost d id x m → ChangesPost m id y e → ChangesPost d id y e
+posts_over d m e id x y one two = λ other. two other ∙ (ap (λ p. cond (is_same_id id other) y p) (one other) ∙ twice_by (is_same_id id other) x y (post_at d other))
 
 -- where memory is lacking behind that it is as before it
 pub lacks_behind : (d m e : MailDaemon) (id : ℕ) → KeepsPosts d id m → LacksBy m id e → LacksBy d id e
@@ -67,25 +67,25 @@ pub kept_posts : (d : MailDaemon) (id count : ℕ) (m : MailDaemon) → KeepsTex
 kept_posts d id count m (inl is) = inl is.1
 kept_posts d id count m (inr is) = inr is.1
 
-heard_over : (now : ℕ) (piece : List ℕ) (before mid after : Post) → Keeps before mid → Hears now piece mid after → Hears now piece before after
+heard_over : (now : ℕ) (piece : List ℕ) (before mid after : LmtpConnection) → ConnectionKeeps before mid → ConnectionHears now piece mid after → ConnectionHears now piece before after
 heard_over now piece before mid after keeps hears = λ p stands. hears p (keeps p stands)
 
-held_over : (before mid after : Post) (count : ℕ) → HoldsNoMore before mid → held_by after.receiver ≤ held_by mid.receiver + count → held_by after.receiver ≤ held_by before.receiver + count
+held_over : (before mid after : LmtpConnection) (count : ℕ) → ConnectionHoldsNoMore before mid → held_by after.receiver ≤ held_by mid.receiver + count → held_by after.receiver ≤ held_by before.receiver + count
 held_over before mid after count less more = omega (arith, less, more)
 
 -- what is heard behind that is heard
 pub takes_behind : (d m e : MailDaemon) (now id : ℕ) (piece : List ℕ) → KeepsPosts d id m → TakesPiece m now id piece e → TakesPiece d now id piece e
 takes_behind d m e now id piece (inl is) takes = subst (λ (x : MailDaemon). TakesPiece x now id piece e) is takes
 takes_behind d m e now id piece (inr drops) takes =
-    let itself : same id id ≡ true = (eq_by_cmp_equiv nat_cmp_total).refl id in
+    let itself : is_same_id id id ≡ true = (eq_by_cmp_equiv nat_cmp_total).refl id in
     let one : drops.after ≡ takes.before =
     let there : Some drops.after ≡ Some takes.before = sym (drops.posts id ∙ ap (λ b. cond b (Some drops.after) (post_at d id)) itself) ∙ takes.was in cc in
     record {
       before = drops.before;
       was = drops.was;
       after = takes.after;
-      hears = heard_over now piece drops.before takes.before takes.after (subst (λ (x : Post). Keeps drops.before x) one drops.keeps) takes.hears;
-      held = held_over drops.before takes.before takes.after (length piece) (subst (λ (x : Post). HoldsNoMore drops.before x) one drops.held) takes.held;
+      hears = heard_over now piece drops.before takes.before takes.after (subst (λ (x : LmtpConnection). ConnectionKeeps drops.before x) one drops.keeps) takes.hears;
+      held = held_over drops.before takes.before takes.after (length piece) (subst (λ (x : LmtpConnection). ConnectionHoldsNoMore drops.before x) one drops.held) takes.held;
       posts = posts_over d m e id (Some drops.after) (Some takes.after) drops.posts takes.posts;
       daemon = takes.daemon ∙ drops.daemon;
       host = hosts d m e drops.host takes.host;

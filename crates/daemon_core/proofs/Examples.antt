@@ -1,45 +1,45 @@
 -- Right cases of the definitions, and near misses.
 use Rattle.std.proofs.Common.{◌≡◌, ℕ, true, false, List, [], ◌∷◌, Option, Some, None, IfSome, codes, refl, sym, ◌∙◌, arith, inl, inr}
 use Rattle.std.specs.FinMap.{get}
-use Rattle.msproto.specs.Replies.{spelled}
-use Rattle.mailstore.specs.declared.refusal.Refusal.TheVariants.{Memory, Store}
-use Rattle.sessions.specs.Clients.{Client}
-use Rattle.sessions.specs.Replies.{accepted, declined, farewell, try_later}
-use Rattle.sessions.specs.declared.progress.Progress.TheVariants.{Done, Close}
-use Rattle.mailengine.specs.World.{World, Clients, InSession, Steps, Next, Runs}
-use Rattle.mailengine.specs.declared.answer.Answer.{Answer}
-use Rattle.mailengine.specs.declared.answer.Answer.TheVariants.{Out, Refused}
-use Rattle.mailengine.specs.declared.event.Event.{Event}
-use Rattle.mailengine.specs.declared.event.Event.TheVariants.{Step, GiveUp}
-use Rattle.wires.specs.Life.{IsFrontOf}
-use Rattle.wires.specs.declared.act.Act.{Act}
-use Rattle.wires.specs.declared.act.Act.TheVariants.{Timed, Sent, Noted, Full, ReadBlocked}
-use Rattle.sieveddaemon.specs.Acts.{no_line, tell_on, AreRight, LeadsBy, IsMadeOr}
-use Rattle.sieveddaemon.specs.Desk.{AreOthers}
-use Rattle.sieveddaemon.specs.Places.{new_place, due_by, never}
-use Rattle.sieveddaemon.specs.Room.{silent_rank, kept_rank, want_claim, kept_claim, since_claim, span_by}
-use Rattle.wires.specs.declared.machine.Want.TheVariants as wants
-use Rattle.sieveddaemon.specs.Waiting.{Allows, said_at_once, is_failure}
-use Rattle.sieveddaemon.specs.declared.note.Note.{Note}
-use Rattle.sieveddaemon.specs.declared.note.Note.TheVariants.{Did, Away, Freed, Spoke}
-use Rattle.sieveddaemon.specs.declared.place.Waits.TheVariants as waits
+use Rattle.managesieve_protocol.specs.Replies.{reply_octets}
+use Rattle.store_accounts.specs.declared.refusal.Refusal.TheVariants.{Memory, Store}
+use Rattle.managesieve_sessions.specs.Clients.{Client}
+use Rattle.managesieve_sessions.specs.Replies.{ok_reply, negative_reply, bye_reply, try_later}
+use Rattle.managesieve_sessions.specs.declared.progress.Progress.TheVariants.{Done, Close}
+use Rattle.store_engine.specs.World.{World, Clients, InSession, StepsSession, Next, Runs}
+use Rattle.store_engine.specs.declared.answer.Answer.{Answer}
+use Rattle.store_engine.specs.declared.answer.Answer.TheVariants.{Out, Refused}
+use Rattle.store_engine.specs.declared.event.Event.{Event}
+use Rattle.store_engine.specs.declared.event.Event.TheVariants.{Step, GiveUp}
+use Rattle.net_loop.specs.Life.{IsPrefixOf}
+use Rattle.net_loop.specs.declared.act.Act.{Act}
+use Rattle.net_loop.specs.declared.act.Act.TheVariants.{Timed, Sent, Noted, Full, ReadBlocked}
+use Rattle.daemon_core.specs.Acts.{no_line, line_after_acts, AreRight, LeadsBy, IsMadeOr}
+use Rattle.daemon_core.specs.StoreAccess.{AreOthers}
+use Rattle.daemon_core.specs.ClientStates.{new_place, session_due_by, never}
+use Rattle.daemon_core.specs.Eviction.{silent_rank, kept_rank, want_claim, kept_claim, since_claim, silence_span}
+use Rattle.net_loop.specs.declared.machine.Want.TheVariants as wants
+use Rattle.daemon_core.specs.Waiting.{Allows, said_at_once, is_failure}
+use Rattle.daemon_core.specs.declared.note.Note.{Note}
+use Rattle.daemon_core.specs.declared.note.Note.TheVariants.{Did, Away, Freed, Spoke}
+use Rattle.daemon_core.specs.declared.client_state.SessionWait.TheVariants as waits
 
 -- ---- what is said at once
 
 failed : List ℕ
-failed = spelled (declined None (codes "Authentication failed."))
+failed = reply_octets (negative_reply None (codes "Authentication failed."))
 
-kept_back : said_at_once (Out Done (spelled (declined None (codes "Authentication failed.")))) ≡ []
+kept_back : said_at_once (Out Done (reply_octets (negative_reply None (codes "Authentication failed.")))) ≡ []
 kept_back = refl
 
-the_last_kept_back : said_at_once (Out Close (spelled (farewell (codes "Too many failures.")))) ≡ []
+the_last_kept_back : said_at_once (Out Close (reply_octets (bye_reply (codes "Too many failures.")))) ≡ []
 the_last_kept_back = refl
 
 -- near misses: a farewell that was asked for, and a client that is put off
-said_at_logout : is_failure (spelled (accepted (codes "Bye."))) ≡ false
+said_at_logout : is_failure (reply_octets (ok_reply (codes "Bye."))) ≡ false
 said_at_logout = refl
 
-said_to_who_is_put_off : is_failure (spelled try_later) ≡ false
+said_to_who_is_put_off : is_failure (reply_octets try_later) ≡ false
 said_to_who_is_put_off = refl
 
 -- ---- what may be done
@@ -93,7 +93,7 @@ not_a_moment_before is = omega (arith, is.1.1.0.0)
 
 -- what was sent to a client of ManageSieve is a front of what these acts spell for it
 abbrev IsSent : ℕ → List (Act Note) → Type 0
-IsSent id acts = IfSome (tell_on id 0 (Some no_line) acts) (λ l. IsFrontOf l.sent l.spelled)
+IsSent id acts = IfSome (line_after_acts id 0 (Some no_line) acts) (λ l. IsPrefixOf l.sent l.spelled)
 
 -- an answer is sent behind its event
 abbrev answered : List (Act Note)
@@ -124,7 +124,7 @@ not_to_another is = let no_octet : 79 ∷ is.0 ≡ [] = is.1 in cc
 -- ---- accounts
 
 -- near misses: others' change that isn't told; others' step of a session that is ours
-refused_at : (w v : World) (o : Option Client) → InSession w o (Steps w 1) (Refused Store) v → v ≡ w
+refused_at : (w v : World) (o : Option Client) → InSession w o (StepsSession w 1) (Refused Store) v → v ≡ w
 refused_at w v None steps = steps.stays
 refused_at w v (Some c) steps = let never : Refused Store ≡ Out steps.goes_on steps.octets = steps.says in cc
 
@@ -144,7 +144,7 @@ not_ours sessions c there is = let never : Some c ≡ None = sym there ∙ is.0 
 
 -- ---- deadlines
 
-never_late_while_it_waits : (c : Client) → due_by (waits.Store 0 5) (new_place 0) c ≡ never
+never_late_while_it_waits : (c : Client) → session_due_by (waits.Store 0 5) (new_place 0) c ≡ never
 never_late_while_it_waits c = refl
 
 -- ---- who makes room
@@ -168,12 +168,12 @@ not_yet_kept : kept_claim 699 2200 ≡ None
 not_yet_kept = refl
 
 -- a client of LMTP without LHLO claims at once where many say none, else a second later
-flooded_then : since_claim 50 (span_by false true) (Some 0) ≡ Some (record { rank = silent_rank; moment = 0 })
+flooded_then : since_claim 50 (silence_span false true) (Some 0) ≡ Some (record { rank = silent_rank; moment = 0 })
 flooded_then = refl
 
-left_alone_else : since_claim 999 (span_by false false) (Some 0) ≡ None
+left_alone_else : since_claim 999 (silence_span false false) (Some 0) ≡ None
 left_alone_else = refl
 
 -- a near miss: one that has said LHLO has its second among many that haven't
-left_alone_behind_hello : since_claim 999 (span_by true true) (Some 0) ≡ None
+left_alone_behind_hello : since_claim 999 (silence_span true true) (Some 0) ≡ None
 left_alone_behind_hello = refl

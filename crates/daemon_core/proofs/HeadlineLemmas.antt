@@ -4,49 +4,49 @@ use Rattle.std.specs.Ordering.{nat_cmp}
 use Rattle.std.specs.BTreeMap as tree
 use Rattle.std.specs.Map.{lookup}
 use Rattle.sqlite_trees.specs.Tree.{Trees}
-use Rattle.lmtp.specs.declared.name.Names.{Names}
-use Rattle.mailstore.specs.Account.{Accounts}
-use Rattle.mailstore.specs.Shows.{ShowsIn}
+use Rattle.lmtp_dialogue.specs.declared.name.Names.{Names}
+use Rattle.store_accounts.specs.Account.{Accounts}
+use Rattle.store_accounts.specs.Shows.{ShowsIn}
 use Rattle.std.proofs.lemmas.List.{append-nil}
-use Rattle.mailengine.specs.World.{World, Next, Runs}
-use Rattle.mailmoves.specs.Enduring.{ShowsMade}
-use Rattle.mailmoves.specs.declared.moving.Moving.{Moving}
-use Rattle.mailmoves.specs.declared.moving.Moving.TheVariants as moving
-use Rattle.mailengine.specs.declared.answer.Answer.{Answer}
-use Rattle.mailengine.specs.declared.event.Event.{Event}
-use Rattle.mailengine.specs.declared.event.Event.TheVariants.{Open, Give, Close, TakeMail}
-use Rattle.mailengine.proofs.AloneLemmas.{projection}
-use Rattle.mailengine.proofs.SoundLemmas.{runs_sound}
-use Rattle.mailengine.proofs.SpacingLemmas.{spacing}
-use Rattle.wires.specs.declared.act.Act.{Act}
-use Rattle.wires.specs.declared.act.Act.TheVariants.{Displaced, Came, Heard, Noted, Worked, Full, Ended}
-use Rattle.wires.specs.declared.turn.Turn.TheVariants.{Stuffed}
-use Rattle.wires.specs.Life.{Move, acts_of, Passes, Fresh, IsFrontOf}
-use Rattle.wires.specs.Moves.{Moment, Moves}
-use Rattle.wires.specs.Talk.{client_of}
-use Rattle.sieveddaemon.specs.Acts.{Line, no_line, LeadsBy, LacksThen, LeadsIn, Leads, LeadsOn, RestsOn, opened_by, events_by, events_at, events_in, AnswersBy, AnswersAt, AnswersIn, moment_after, tell_line, tell_on, IsRight, AreRight}
-use Rattle.sieveddaemon.specs.DaemonRules.{lmtp, place_at}
-use Rattle.sieveddaemon.specs.Desk.{View, IsWorld, ComesTo}
-use Rattle.sieveddaemon.specs.Headline.{world_of, HoldsAfter, Headline, IsNew}
-use Rattle.sieveddaemon.specs.Holding.{firm_client, firm_post, firm_at, IsBounded}
-use Rattle.sieveddaemon.specs.MailActs.{MailLine, Tells, TellsOn}
-use Rattle.sieveddaemon.specs.MailRules.{mail_rules, post_at}
-use Rattle.sieveddaemon.specs.Places.{client_at}
-use Rattle.sieveddaemon.specs.Tried.{TriesAt, TriedIn, LeavesTried, IsLeft}
-use Rattle.sieveddaemon.specs.Moves.{LetAt, MovedAt, takes_of, answers_of}
-use Rattle.sieveddaemon.specs.declared.mail.MailDaemon.{MailDaemon}
-use Rattle.sieveddaemon.specs.declared.note.Note.{Note}
-use Rattle.sieveddaemon.specs.declared.note.Note.TheVariants.{Did, Away, Freed, Spoke, Answered, Asked, Looked, Moved}
-use Rattle.sieveddaemon.proofs.EventLemmas.{runs_then, runs_one, none_open}
-use Rattle.sieveddaemon.proofs.HoldingLemmas.{grown, bounded_then}
-use Rattle.sieveddaemon.proofs.LeadLemmas.{Led, TriedHere, leads}
-use Rattle.sieveddaemon.proofs.TriedLemmas.{LeavesOn, left_on, left_here, is_left}
-use Rattle.sieveddaemon.proofs.LineLemmas.{TiedBy, moment_is, tied_after, right_at}
-use Rattle.sieveddaemon.proofs.MailLemmas.{IsSetUp, stays_set_up, BoundBy, FitsBy as MailFits, words_of as mail_words, mail_after}
-use Rattle.sieveddaemon.proofs.SentLemmas.{front}
-use Rattle.sieveddaemon.proofs.SumLemmas.{sums_nothing}
-use Rattle.sieveddaemon.proofs.TurnLemmas.{IsFull, fulls}
-use Rattle.sieveddaemon.proofs.WordLemmas.{FitsBy, words_of, none_sent, line_after}
+use Rattle.store_engine.specs.World.{World, Next, Runs}
+use Rattle.maildir_moves.specs.Enduring.{ShowsMade}
+use Rattle.maildir_moves.specs.declared.moving.Moving.{Moving}
+use Rattle.maildir_moves.specs.declared.moving.Moving.TheVariants as moving
+use Rattle.store_engine.specs.declared.answer.Answer.{Answer}
+use Rattle.store_engine.specs.declared.event.Event.{Event}
+use Rattle.store_engine.specs.declared.event.Event.TheVariants.{Open, Give, Close, TakeMail}
+use Rattle.store_engine.proofs.AloneLemmas.{projection}
+use Rattle.store_engine.proofs.SoundLemmas.{runs_sound}
+use Rattle.store_engine.proofs.SpacingLemmas.{spacing}
+use Rattle.net_loop.specs.declared.act.Act.{Act}
+use Rattle.net_loop.specs.declared.act.Act.TheVariants.{Displaced, Came, Heard, Noted, Worked, Full, Ended}
+use Rattle.net_loop.specs.declared.turn.Turn.TheVariants.{OutOfMemory}
+use Rattle.net_loop.specs.Life.{Move, acts_of, PassesMoves, Fresh, IsPrefixOf}
+use Rattle.net_loop.specs.Moves.{Moment, LoopMoves}
+use Rattle.net_loop.specs.Talk.{client_of}
+use Rattle.daemon_core.specs.Acts.{SessionLine, no_line, LeadsBy, LacksThen, LeadsIn, ActLeads, LeadsOn, RestsOn, opened_by, events_by, events_at, events_in, AnswersBy, AnswersAt, AnswersIn, moment_after, tell_line, line_after_acts, IsRight, AreRight}
+use Rattle.daemon_core.specs.DaemonRules.{lmtp, place_at}
+use Rattle.daemon_core.specs.StoreAccess.{View, IsWorld, ComesTo}
+use Rattle.daemon_core.specs.Headline.{world_of, HoldsAfter, Headline, IsNewDaemon}
+use Rattle.daemon_core.specs.Holding.{firm_client, firm_post, firm_at, IsBounded}
+use Rattle.daemon_core.specs.MailActs.{MailLine, LmtpTells, TellsOn}
+use Rattle.daemon_core.specs.MailRules.{mail_rules, post_at}
+use Rattle.daemon_core.specs.ClientStates.{client_at}
+use Rattle.daemon_core.specs.Tried.{TriesAt, TriedIn, LeavesTried, IsLeftByCrash}
+use Rattle.daemon_core.specs.Moves.{LetAt, MovedAt, takes_of, answers_of}
+use Rattle.daemon_core.specs.declared.mail.MailDaemon.{MailDaemon}
+use Rattle.daemon_core.specs.declared.note.Note.{Note}
+use Rattle.daemon_core.specs.declared.note.Note.TheVariants.{Did, Away, Freed, Spoke, Answered, Asked, Looked, Moved}
+use Rattle.daemon_core.proofs.EventLemmas.{runs_then, runs_one, none_open}
+use Rattle.daemon_core.proofs.HoldingLemmas.{grown, bounded_then}
+use Rattle.daemon_core.proofs.LeadLemmas.{Led, TriedHere, leads}
+use Rattle.daemon_core.proofs.TriedLemmas.{LeavesOn, left_on, left_here, is_left}
+use Rattle.daemon_core.proofs.LineLemmas.{TiedBy, moment_is, tied_after, right_at}
+use Rattle.daemon_core.proofs.MailLemmas.{IsSetUp, stays_set_up, BoundBy, FitsBy as MailFits, words_of as mail_words, mail_after}
+use Rattle.daemon_core.proofs.SentLemmas.{front}
+use Rattle.daemon_core.proofs.SumLemmas.{sums_nothing}
+use Rattle.daemon_core.proofs.TurnLemmas.{IsFull, fulls}
+use Rattle.daemon_core.proofs.WordLemmas.{FitsBy, words_of, none_sent, line_after}
 
 -- ---- acts as events
 
@@ -83,7 +83,7 @@ runs_opened : (b : Bool) (w v : World) (id : ℕ) (more : List (Act Note)) → L
 runs_opened true w v id more led = ([], led)
 runs_opened false w v id more led = (led.0 ∷ [], runs_one w v (Open id) led.0 led.2)
 
-runs_at : (w v : World) (act : Act Note) (more : List (Act Note)) → Leads w act more v → (told : List Answer) × Runs w (events_at act) told v × AnswersAt act told
+runs_at : (w v : World) (act : Act Note) (more : List (Act Note)) → ActLeads w act more v → (told : List Answer) × Runs w (events_at act) told v × AnswersAt act told
 runs_at w v (Came id kind) more led = let run = runs_opened (kind == lmtp) w v id more led in (run.0, run.1, tt)
 runs_at w v (Heard id piece) more led = (led.0 ∷ [], runs_one w v (Give id piece) led.0 led.2, tt)
 runs_at w v (Ended id) more led = (led.0 ∷ [], runs_one w v (Close id) led.0 led.1, tt)
@@ -111,7 +111,7 @@ module _ {R : Type 0} (view : View R) where
   full_then id (Full n) more is = is
   full_then id _ more is = absurd is
 
-  lacks_then : (m : Moment MailDaemon Note R) (moves : List (Move Note)) (n : Moment MailDaemon Note R) → Passes (mail_rules view) m moves n → (id kind : ℕ) → m.service.turn ≡ Stuffed id kind → LacksThen id (acts_of moves)
+  lacks_then : (m : Moment MailDaemon Note R) (moves : List (Move Note)) (n : Moment MailDaemon Note R) → PassesMoves (mail_rules view) m moves n → (id kind : ℕ) → m.service.turn ≡ OutOfMemory id kind → LacksThen id (acts_of moves)
   lacks_then m [] n passes id kind stuffed = tt
   lacks_then m (move ∷ moves) n passes id kind stuffed =
       let mid = passes.0 in
@@ -120,7 +120,7 @@ module _ {R : Type 0} (view : View R) where
       full_then id move.act (acts_of moves) (subst (λ a. IsFull id a) passes.2 is)
 
   -- acts lead to a world, and a crash leaves its accounts, or what was tried in them, or what it left before, where no account changed
-  leads_on : (m : Moment MailDaemon Note R) (moves : List (Move Note)) (n : Moment MailDaemon Note R) (w : World) → Passes (mail_rules view) m moves n → Stands m w
+  leads_on : (m : Moment MailDaemon Note R) (moves : List (Move Note)) (n : Moment MailDaemon Note R) (w : World) → PassesMoves (mail_rules view) m moves n → Stands m w
       → (v : World) × LeadsOn w (acts_of moves) v × Stands n v × LeavesOn (view.leaves m.rest) w (acts_of moves) (view.leaves n.rest) v
   leads_on m [] n w passes stands = (
     w,
@@ -138,7 +138,7 @@ module _ {R : Type 0} (view : View R) where
       (more.0, (led.0, led.1, more.1), more.2, left_on (view.leaves m.rest) (view.leaves mid.rest) (view.leaves n.rest) w led.0 more.0 move.act (acts_of moves) led.1 led.2.left more.3)
 
   -- what all hold
-  bounded_on : (m : Moment MailDaemon Note R) (moves : List (Move Note)) (n : Moment MailDaemon Note R) (w : World) → Passes (mail_rules view) m moves n → Stands m w → IsBounded m.machine → IsBounded n.machine
+  bounded_on : (m : Moment MailDaemon Note R) (moves : List (Move Note)) (n : Moment MailDaemon Note R) (w : World) → PassesMoves (mail_rules view) m moves n → Stands m w → IsBounded m.machine → IsBounded n.machine
   bounded_on m [] n w passes stands was = subst (λ (k : Moment MailDaemon Note R). IsBounded k.machine) (sym passes) was
   bounded_on m (move ∷ moves) n w passes stands was =
       let mid = passes.0 in
@@ -149,28 +149,28 @@ module _ {R : Type 0} (view : View R) where
       bounded_on mid moves n led.0 passes.4 led.2.is (bounded_then view m.machine mid.machine m.rest mid.rest m.service mid.service one.act one.said one.turns more w stands was)
 
   -- the moment behind one move
-  moment_then : (m mid : Moment MailDaemon Note R) (one : Moves (mail_rules view) m mid) (act : Act Note) → one.act ≡ act → mid.service.moment ≡ moment_after m.service.moment act
+  moment_then : (m mid : Moment MailDaemon Note R) (one : LoopMoves (mail_rules view) m mid) (act : Act Note) → one.act ≡ act → mid.service.moment ≡ moment_after m.service.moment act
   moment_then m mid one act is = moment_is m.service.moment one.act mid.service.moment one.ticks ∙ ap (λ a. moment_after m.service.moment a) is
 
   -- ---- a client of ManageSieve
 
-  abbrev Line_at : ℕ → Moment MailDaemon Note R → Option Line → Type 0
+  abbrev Line_at : ℕ → Moment MailDaemon Note R → Option SessionLine → Type 0
   Line_at id m o = TiedBy m.machine id o × FitsBy id o (client_of m.service id) m.service.turn
 
-  line_one : (m mid : Moment MailDaemon Note R) (one : Moves (mail_rules view) m mid) (id : ℕ) (o : Option Line) → Line_at id m o → Line_at id mid (tell_line id m.service.moment o one.act)
+  line_one : (m mid : Moment MailDaemon Note R) (one : LoopMoves (mail_rules view) m mid) (id : ℕ) (o : Option SessionLine) → Line_at id m o → Line_at id mid (tell_line id m.service.moment o one.act)
   line_one m mid one id o at = (
     tied_after view m.machine mid.machine m.rest mid.rest m.service mid.service id o at.0 one.act one.said one.turns,
     line_after view m.machine mid.machine m.rest mid.rest m.service mid.service id o at.0 at.1 one.act one.said one.turns (one.talks id),
   )
 
-  line_then : (m mid : Moment MailDaemon Note R) (one : Moves (mail_rules view) m mid) (id : ℕ) (o : Option Line) (act : Act Note) → one.act ≡ act → Line_at id m o → Line_at id mid (tell_line id m.service.moment o act)
+  line_then : (m mid : Moment MailDaemon Note R) (one : LoopMoves (mail_rules view) m mid) (id : ℕ) (o : Option SessionLine) (act : Act Note) → one.act ≡ act → Line_at id m o → Line_at id mid (tell_line id m.service.moment o act)
   line_then m mid one id o act is at = subst (λ a. Line_at id mid (tell_line id m.service.moment o a)) is (line_one m mid one id o at)
 
-  right_one : (m mid : Moment MailDaemon Note R) (one : Moves (mail_rules view) m mid) (id : ℕ) (o : Option Line) (act : Act Note) → one.act ≡ act → Line_at id m o → IfSome o (λ l. IsRight id m.service.moment l act)
+  right_one : (m mid : Moment MailDaemon Note R) (one : LoopMoves (mail_rules view) m mid) (id : ℕ) (o : Option SessionLine) (act : Act Note) → one.act ≡ act → Line_at id m o → IfSome o (λ l. IsRight id m.service.moment l act)
   right_one m mid one id o act is at =
       subst (λ a. IfSome o (λ l. IsRight id m.service.moment l a)) is (right_at view m.machine mid.machine m.rest mid.rest m.service mid.service id o at.0 one.act one.said one.turns)
 
-  right_on : (m : Moment MailDaemon Note R) (moves : List (Move Note)) (n : Moment MailDaemon Note R) (id : ℕ) (o : Option Line) → Passes (mail_rules view) m moves n → Line_at id m o → AreRight id m.service.moment o (acts_of moves)
+  right_on : (m : Moment MailDaemon Note R) (moves : List (Move Note)) (n : Moment MailDaemon Note R) (id : ℕ) (o : Option SessionLine) → PassesMoves (mail_rules view) m moves n → Line_at id m o → AreRight id m.service.moment o (acts_of moves)
   right_on m [] n id o passes at = tt
   right_on m (move ∷ moves) n id o passes at =
       let mid = passes.0 in
@@ -180,18 +180,18 @@ module _ {R : Type 0} (view : View R) where
         subst (λ t. AreRight id t (tell_line id m.service.moment o move.act) (acts_of moves)) moment (right_on mid moves n id (tell_line id m.service.moment o move.act) passes.4 later),
       )
 
-  line_front : (id : ℕ) (m : Moment MailDaemon Note R) (o : Option Line) → Line_at id m o → IfSome o (λ l. IsFrontOf l.sent l.spelled)
+  line_front : (id : ℕ) (m : Moment MailDaemon Note R) (o : Option SessionLine) → Line_at id m o → IfSome o (λ l. IsPrefixOf l.sent l.spelled)
   line_front id m None at = tt
   line_front id m (Some l) at = front id (words_of l) (client_of m.service id) m.service.turn at.1
 
-  sent_on : (m : Moment MailDaemon Note R) (moves : List (Move Note)) (n : Moment MailDaemon Note R) (id : ℕ) (o : Option Line) → Passes (mail_rules view) m moves n → Line_at id m o
-      → IfSome (tell_on id m.service.moment o (acts_of moves)) (λ l. IsFrontOf l.sent l.spelled)
+  sent_on : (m : Moment MailDaemon Note R) (moves : List (Move Note)) (n : Moment MailDaemon Note R) (id : ℕ) (o : Option SessionLine) → PassesMoves (mail_rules view) m moves n → Line_at id m o
+      → IfSome (line_after_acts id m.service.moment o (acts_of moves)) (λ l. IsPrefixOf l.sent l.spelled)
   sent_on m [] n id o passes at = line_front id m o at
   sent_on m (move ∷ moves) n id o passes at =
       let mid = passes.0 in
       let moment = moment_then m mid passes.1 move.act passes.2 in
       let later = line_then m mid passes.1 id o move.act passes.2 at in
-      subst (λ t. IfSome (tell_on id t (tell_line id m.service.moment o move.act) (acts_of moves)) (λ l. IsFrontOf l.sent l.spelled)) moment (sent_on mid moves n id (tell_line id m.service.moment o move.act) passes.4 later)
+      subst (λ t. IfSome (line_after_acts id t (tell_line id m.service.moment o move.act) (acts_of moves)) (λ l. IsPrefixOf l.sent l.spelled)) moment (sent_on mid moves n id (tell_line id m.service.moment o move.act) passes.4 later)
 
   -- ---- a client of LMTP
 
@@ -201,8 +201,8 @@ module _ {R : Type 0} (view : View R) where
       pub bound : BoundBy m.machine id o
       pub fits : MailFits id o (client_of m.service id) m.service.turn
 
-    mail_one : (m mid : Moment MailDaemon Note R) (one : Moves (mail_rules view) m mid) (id : ℕ) (o : Option MailLine) → MailAt id m o
-        → (p : Option MailLine) × Tells names host id m.service.moment o one.act p × MailAt id mid p
+    mail_one : (m mid : Moment MailDaemon Note R) (one : LoopMoves (mail_rules view) m mid) (id : ℕ) (o : Option MailLine) → MailAt id m o
+        → (p : Option MailLine) × LmtpTells names host id m.service.moment o one.act p × MailAt id mid p
     mail_one m mid one id o at =
         let it = mail_after view names host m.machine mid.machine m.rest mid.rest m.service mid.service id at.set_up o at.bound at.fits one.act one.said one.turns (one.talks id) in (
           it.0,
@@ -214,24 +214,24 @@ module _ {R : Type 0} (view : View R) where
           },
         )
 
-    mail_on : (m : Moment MailDaemon Note R) (moves : List (Move Note)) (n : Moment MailDaemon Note R) (id : ℕ) (o : Option MailLine) → Passes (mail_rules view) m moves n → MailAt id m o
+    mail_on : (m : Moment MailDaemon Note R) (moves : List (Move Note)) (n : Moment MailDaemon Note R) (id : ℕ) (o : Option MailLine) → PassesMoves (mail_rules view) m moves n → MailAt id m o
         → (p : Option MailLine) × TellsOn names host id m.service.moment o (acts_of moves) p × MailAt id n p
     mail_on m [] n id o passes at = (o, refl, subst (λ (k : Moment MailDaemon Note R). MailAt id k o) (sym passes) at)
     mail_on m (move ∷ moves) n id o passes at =
         let mid = passes.0 in
         let moment = moment_then m mid passes.1 move.act passes.2 in
         let it = mail_one m mid passes.1 id o at in
-        let told : Tells names host id m.service.moment o move.act it.0 = subst (λ a. Tells names host id m.service.moment o a it.0) passes.2 it.1 in
+        let told : LmtpTells names host id m.service.moment o move.act it.0 = subst (λ a. LmtpTells names host id m.service.moment o a it.0) passes.2 it.1 in
         let more = mail_on mid moves n id it.0 passes.4 it.2 in
         (more.0, (it.0, told, subst (λ t. TellsOn names host id t it.0 (acts_of moves) more.0) moment more.1), more.2)
 
-    mail_front : (id : ℕ) (m : Moment MailDaemon Note R) (o : Option MailLine) → MailAt id m o → IfSome o (λ l. IsFrontOf l.sent l.spelled)
+    mail_front : (id : ℕ) (m : Moment MailDaemon Note R) (o : Option MailLine) → MailAt id m o → IfSome o (λ l. IsPrefixOf l.sent l.spelled)
     mail_front id m None at = tt
     mail_front id m (Some l) at = front id (mail_words l) (client_of m.service id) m.service.turn at.fits
 
   -- some first acts are those of some first moves
-  some_first : (m : Moment MailDaemon Note R) (moves : List (Move Note)) (n : Moment MailDaemon Note R) (some rest : List (Act Note)) → some ++ rest ≡ acts_of moves → Passes (mail_rules view) m moves n
-      → (first : List (Move Note)) × (mid : Moment MailDaemon Note R) × (acts_of first ≡ some) × Passes (mail_rules view) m first mid
+  some_first : (m : Moment MailDaemon Note R) (moves : List (Move Note)) (n : Moment MailDaemon Note R) (some rest : List (Act Note)) → some ++ rest ≡ acts_of moves → PassesMoves (mail_rules view) m moves n
+      → (first : List (Move Note)) × (mid : Moment MailDaemon Note R) × (acts_of first ≡ some) × PassesMoves (mail_rules view) m first mid
   some_first m moves n [] rest is passes = ([], m, refl, refl)
   some_first m [] n (act ∷ some) rest is passes = let never : ⊥ = cc in absurd never
   some_first m (move ∷ moves) n (act ∷ some) rest is passes =
@@ -242,7 +242,7 @@ module _ {R : Type 0} (view : View R) where
 
   -- ---- the headline
 
-  module _ (m : Moment MailDaemon Note R) (fresh : Fresh m.service) (new : IsNew m.machine) (start : Accounts) (shown : view.shows m.rest start) (settled : (trees : Trees) → view.leaves m.rest trees → ShowsIn trees start) where
+  module _ (m : Moment MailDaemon Note R) (fresh : Fresh m.service) (new : IsNewDaemon m.machine) (start : Accounts) (shown : view.shows m.rest start) (settled : (trees : Trees) → view.leaves m.rest trees → ShowsIn trees start) where
     no_client : (id : ℕ) → client_of m.service id ≡ None
     no_client id = ap (λ es. lookup (tree.is_at (nat_cmp id)) es) fresh.none
 
@@ -270,7 +270,7 @@ module _ {R : Type 0} (view : View R) where
     bounded_begins : IsBounded m.machine
     bounded_begins count = omega (arith, sums_nothing count (firm_at m.machine) nothing_firm)
 
-    holds : (moves : List (Move Note)) (n : Moment MailDaemon Note R) → Passes (mail_rules view) m moves n
+    holds : (moves : List (Move Note)) (n : Moment MailDaemon Note R) → PassesMoves (mail_rules view) m moves n
         → (v : World) × HoldsAfter m.machine.names m.machine.host (world_of start) m.service.moment (acts_of moves) v × Stands n v × LeavesOn (view.leaves m.rest) (world_of start) (acts_of moves) (view.leaves n.rest) v
     holds moves n passes =
         let led = leads_on m moves n (world_of start) passes stands in
@@ -294,7 +294,7 @@ module _ {R : Type 0} (view : View R) where
           led.3,
         )
 
-    pub headline : (moves : List (Move Note)) (n : Moment MailDaemon Note R) → Passes (mail_rules view) m moves n → Headline view m.machine.names m.machine.host start m.service.moment (acts_of moves) n.rest n.machine
+    pub headline : (moves : List (Move Note)) (n : Moment MailDaemon Note R) → PassesMoves (mail_rules view) m moves n → Headline view m.machine.names m.machine.host start m.service.moment (acts_of moves) n.rest n.machine
     headline moves n passes =
         let all = holds moves n passes in
         record {

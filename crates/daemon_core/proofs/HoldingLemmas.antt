@@ -4,56 +4,56 @@ use Rattle.std.specs.Cmp.{eq_by_cmp_equiv, nat_cmp_total}
 use Rattle.std.specs.FinMap.{get, get-insert}
 use Rattle.std.specs.Ordering.{nat_cmp}
 use Rattle.std.specs.BTreeMap as tree
-use Rattle.lmtp.specs.Receivers.{held_by}
-use Rattle.mailstore.specs.Account.{Accounts}
-use Rattle.mailengine.specs.Hosts.{HasClients}
-use Rattle.mailengine.specs.World.{World, Clients, Next, Opens}
-use Rattle.mailengine.specs.declared.answer.Answer.{Answer}
-use Rattle.mailengine.specs.declared.event.Event.{Event}
-use Rattle.mailengine.specs.declared.event.Event.TheVariants.{Open, Give, Step as StepOf, GiveUp, Close, Deliver, AddUser, Import, TakeOut, TakeMail, Keep}
-use Rattle.mailmoves.specs.declared.moving.Moving.{Moving}
-use Rattle.mailmoves.specs.declared.moving.Moving.TheVariants as moving
-use Rattle.mailposts.specs.Posts.{Deed}
-use Rattle.mailposts.specs.declared.post.Post.{Post}
-use Rattle.sessions.specs.Clients.{Client as Session, new_client}
-use Rattle.wires.specs.declared.act.Act.{Act}
-use Rattle.wires.specs.declared.act.Act.TheVariants.{Woke, Began, Timed, Late, Waits, Roused, Worked, Came, NoneCame, Crowded, Displaced, Listened, InUse, Heard, ReadBlocked, Over, Sent, WriteBlocked, Lost, Noted, Full, Again, Shut, Dropped, Ended}
-use Rattle.wires.specs.declared.machine.Want.{Want}
-use Rattle.wires.specs.declared.machine.Want.TheVariants as want
-use Rattle.wires.specs.declared.service.Client.{Client}
-use Rattle.wires.specs.declared.service.Service.{Service}
-use Rattle.wires.specs.declared.service.Phase.{Phase}
-use Rattle.wires.specs.declared.service.Phase.TheVariants as phase
-use Rattle.wires.specs.declared.turn.Task.{Task}
-use Rattle.wires.specs.declared.turn.Task.TheVariants.{Send, Hear, Step, Rest, HangUp, Drain, End, Nothing}
-use Rattle.wires.specs.Rules.{Rules}
-use Rattle.wires.specs.Talk.{same, client_of, kind_of, waits as waiting, gathers, task, task_by, task_sent, task_unsent, task_wanted}
-use Rattle.wires.specs.Told.{largest_piece}
-use Rattle.wires.specs.Turns.{Turns, Tasks, StepsOn, Goes as Went, Lacks, Parting, Opens as Enters}
-use Rattle.wires.proofs.TalkLemmas.{one_number}
-use Rattle.sieveddaemon.specs.Acts.{LeadsBy, LeadsIn, Leads}
-use Rattle.sieveddaemon.specs.Bounds.{unread_of, held, bound, own}
-use Rattle.sieveddaemon.specs.DaemonRules.{lmtp, place_at}
-use Rattle.sieveddaemon.specs.Deeds.{IsDeed}
-use Rattle.sieveddaemon.specs.Desk.{View, IsWorld}
-use Rattle.sieveddaemon.specs.Holding.{firm_by, firm_client, firm_post, firm_at, IsBounded}
-use Rattle.sieveddaemon.specs.MailRules.{mail_rules, post_at, wants_by, HasRoom, KeepsText, FitsAs, OpensBy, PostGives, SessionGives, GivesBy, PostGoes, SessionGoes, GoesBy, Works, LacksBy}
-use Rattle.sieveddaemon.specs.Moves.{MovedAt}
-use Rattle.sieveddaemon.specs.Places.{client_at, want_by, want_of, is_out, new_place, place_given, place_behind, fit_behind}
-use Rattle.sieveddaemon.specs.Waiting.{Allows, IsDue}
-use Rattle.sieveddaemon.specs.declared.daemon.Daemon.{Daemon}
-use Rattle.sieveddaemon.specs.declared.mail.MailDaemon.{MailDaemon}
-use Rattle.sieveddaemon.specs.declared.note.Note.{Note}
-use Rattle.sieveddaemon.specs.declared.note.Note.TheVariants.{Did, Away, Freed, Spoke, Answered, Asked, Looked, Moved}
-use Rattle.sieveddaemon.specs.declared.place.Fit.{Fit}
-use Rattle.sieveddaemon.specs.declared.place.Fit.TheVariants as fit
-use Rattle.sieveddaemon.specs.declared.place.Place.{Place}
-use Rattle.sieveddaemon.specs.declared.place.Waits.{Waits as Waiting}
-use Rattle.sieveddaemon.specs.declared.place.Waits.TheVariants as waits
-use Rattle.sieveddaemon.proofs.LineLemmas.{Touches, touch_same, touch_post, due_at}
-use Rattle.sieveddaemon.proofs.SumLemmas.{sums_less, sums_one, full_client, full_post, full_at, full_sum}
-use Rattle.sieveddaemon.proofs.TurnLemmas.{wanted_at}
-use Rattle.sieveddaemon.proofs.UnreadLemmas.{gained, Grows, none_grows, event_grows}
+use Rattle.lmtp_dialogue.specs.Receivers.{held_by}
+use Rattle.store_accounts.specs.Account.{Accounts}
+use Rattle.store_engine.specs.Hosts.{HasClients}
+use Rattle.store_engine.specs.World.{World, Clients, Next, OpensSession}
+use Rattle.store_engine.specs.declared.answer.Answer.{Answer}
+use Rattle.store_engine.specs.declared.event.Event.{Event}
+use Rattle.store_engine.specs.declared.event.Event.TheVariants.{Open, Give, Step as StepOf, GiveUp, Close, Deliver, AddUser, Import, TakeOut, TakeMail, Keep}
+use Rattle.maildir_moves.specs.declared.moving.Moving.{Moving}
+use Rattle.maildir_moves.specs.declared.moving.Moving.TheVariants as moving
+use Rattle.lmtp_connections.specs.Connections.{LmtpStep}
+use Rattle.lmtp_connections.specs.declared.connection.LmtpConnection.{LmtpConnection}
+use Rattle.managesieve_sessions.specs.Clients.{Client as Session, new_client}
+use Rattle.net_loop.specs.declared.act.Act.{Act}
+use Rattle.net_loop.specs.declared.act.Act.TheVariants.{Woke, Began, Timed, Late, Waits, Resumed, Worked, Came, NoneCame, Crowded, Displaced, Listened, InUse, Heard, ReadBlocked, Over, Sent, WriteBlocked, Lost, Noted, Full, Again, Shut, Dropped, Ended}
+use Rattle.net_loop.specs.declared.machine.Want.{Want}
+use Rattle.net_loop.specs.declared.machine.Want.TheVariants as want
+use Rattle.net_loop.specs.declared.service.Client.{Client}
+use Rattle.net_loop.specs.declared.service.Service.{Service}
+use Rattle.net_loop.specs.declared.service.Phase.{Phase}
+use Rattle.net_loop.specs.declared.service.Phase.TheVariants as phase
+use Rattle.net_loop.specs.declared.turn.Task.{Task}
+use Rattle.net_loop.specs.declared.turn.Task.TheVariants.{Send, Hear, Step, Rest, HangUp, Drain, End, Nothing}
+use Rattle.net_loop.specs.Rules.{Rules}
+use Rattle.net_loop.specs.Talk.{is_same_id, client_of, client_kind, waits as waiting, gathers, task, task_by, task_sent, task_unsent, task_wanted}
+use Rattle.net_loop.specs.Told.{largest_piece}
+use Rattle.net_loop.specs.Turns.{TurnAllows, Tasks, StepsTurn, HeardOrLacking as Went, Lacks, Parting, ServiceOpens as Enters}
+use Rattle.net_loop.proofs.TalkLemmas.{one_number}
+use Rattle.daemon_core.specs.Acts.{LeadsBy, LeadsIn, ActLeads}
+use Rattle.daemon_core.specs.Bounds.{unread_of, held, bound, own}
+use Rattle.daemon_core.specs.DaemonRules.{lmtp, place_at}
+use Rattle.daemon_core.specs.LmtpSteps.{IsLmtpStep}
+use Rattle.daemon_core.specs.StoreAccess.{View, IsWorld}
+use Rattle.daemon_core.specs.Holding.{firm_by, firm_client, firm_post, firm_at, IsBounded}
+use Rattle.daemon_core.specs.MailRules.{mail_rules, post_at, wants_by, HasOctetRoom, KeepsText, FitsAs, OpensBy, PostGives, SessionGives, GivesBy, PostGoes, SessionGoes, GoesBy, DaemonWorks, LacksBy}
+use Rattle.daemon_core.specs.Moves.{MovedAt}
+use Rattle.daemon_core.specs.ClientStates.{client_at, session_want_by, want_of, is_out, new_place, place_given, place_behind, fit_behind}
+use Rattle.daemon_core.specs.Waiting.{Allows, IsDue}
+use Rattle.daemon_core.specs.declared.daemon.Daemon.{Daemon}
+use Rattle.daemon_core.specs.declared.mail.MailDaemon.{MailDaemon}
+use Rattle.daemon_core.specs.declared.note.Note.{Note}
+use Rattle.daemon_core.specs.declared.note.Note.TheVariants.{Did, Away, Freed, Spoke, Answered, Asked, Looked, Moved}
+use Rattle.daemon_core.specs.declared.client_state.Fit.{Fit}
+use Rattle.daemon_core.specs.declared.client_state.Fit.TheVariants as fit
+use Rattle.daemon_core.specs.declared.client_state.ClientState.{ClientState}
+use Rattle.daemon_core.specs.declared.client_state.SessionWait.{SessionWait as Waiting}
+use Rattle.daemon_core.specs.declared.client_state.SessionWait.TheVariants as waits
+use Rattle.daemon_core.proofs.LineLemmas.{Touches, touch_same, touch_post, due_at}
+use Rattle.daemon_core.proofs.SumLemmas.{sums_less, sums_one, full_client, full_post, full_at, full_sum}
+use Rattle.daemon_core.proofs.TurnLemmas.{wanted_at}
+use Rattle.daemon_core.proofs.UnreadLemmas.{gained, Grows, none_grows, event_grows}
 
 -- ---- what an act makes of the octets that are unread
 
@@ -63,7 +63,7 @@ gained_by (Freed event answer) k = gained event k
 gained_by note k = 0
 
 abbrev gain_of : Act Note → ℕ → ℕ
-gain_of (Heard n piece) k = cond (same n k) (length piece) 0
+gain_of (Heard n piece) k = cond (is_same_id n k) (length piece) 0
 gain_of (Noted n note) k = gained_by note k
 gain_of (Worked note) k = gained_by note k
 gain_of act k = 0
@@ -96,7 +96,7 @@ came_grows : (b : Bool) (w v : World) (id : ℕ) (more : List (Act Note)) → Le
 came_grows true w v id more led = still_grows w v (λ k. 0) led
 came_grows false w v id more led = event_grows w v (Open id) led.0 led.2
 
-act_grows : (w v : World) (act : Act Note) (more : List (Act Note)) → Leads w act more v → Grows w.sessions v.sessions (gain_of act)
+act_grows : (w v : World) (act : Act Note) (more : List (Act Note)) → ActLeads w act more v → Grows w.sessions v.sessions (gain_of act)
 act_grows w v (Came id kind) more led = came_grows (kind == lmtp) w v id more led
 act_grows w v (Heard id piece) more led = event_grows w v (Give id piece) led.0 led.2
 act_grows w v (Ended id) more led = event_grows w v (Close id) led.0 led.1
@@ -108,11 +108,11 @@ act_grows w v _ more led = still_grows w v (λ k. 0) led
 abbrev pub Grown : MailDaemon → MailDaemon → (ℕ → ℕ) → Type 0
 Grown d e more = (k : ℕ) → unread_of (client_at e.daemon.clients.sessions k) ≤ unread_of (client_at d.daemon.clients.sessions k) + more k
 
-pub grown : (d e : MailDaemon) (w v : World) (act : Act Note) (more : List (Act Note)) → HasClients d.daemon.clients.sessions w.sessions → HasClients e.daemon.clients.sessions v.sessions → Leads w act more v → Grown d e (gain_of act)
+pub grown : (d e : MailDaemon) (w v : World) (act : Act Note) (more : List (Act Note)) → HasClients d.daemon.clients.sessions w.sessions → HasClients e.daemon.clients.sessions v.sessions → ActLeads w act more v → Grown d e (gain_of act)
 grown d e w v act more has also led k = omega (arith, ap unread_of (has k), ap unread_of (also k), act_grows w v act more led k)
 
 -- one that comes holds nothing
-opened_empty : (w v : World) (n : ℕ) (answer : Answer) (o : Option Session) → Opens w n o answer v → is_out answer ≡ true → unread_of (get v.sessions n) ≡ 0
+opened_empty : (w v : World) (n : ℕ) (answer : Answer) (o : Option Session) → OpensSession w n o answer v → is_out answer ≡ true → unread_of (get v.sessions n) ≡ 0
 opened_empty w v n answer None is out =
     ap (λ (x : World). unread_of (get x.sessions n)) is.changed ∙ ap unread_of (get-insert nat_cmp_total w.sessions n new_client n ∙ ap (λ b. cond b (Some new_client) (get w.sessions n)) ((eq_by_cmp_equiv nat_cmp_total).refl n))
 opened_empty w v n answer (Some c) is out = absurd (let never : false ≡ true = ap is_out (sym is.ignored) ∙ out in cc)
@@ -160,7 +160,7 @@ hear_wanted : {M N R : Type 0} (rules : Rules M N R) (m : M) (now count id : ℕ
 hear_wanted rules m now count id None is = let never : ⊥ = cc in absurd never
 hear_wanted rules m now count id (Some c) is = hear_by (waiting c) (gathers c count) c.phase now (rules.wants m id) is
 
-fit_wanted : (w : Waiting) (whether : Fit) (c : Session) → want_by w whether c ≡ want.More → whether ≡ fit.Fits
+fit_wanted : (w : Waiting) (whether : Fit) (c : Session) → session_want_by w whether c ≡ want.More → whether ≡ fit.Fits
 fit_wanted waits.Nothing fit.Fits c is = refl
 fit_wanted waits.Nothing fit.Over c is = let never : ⊥ = cc in absurd never
 fit_wanted waits.Nothing fit.Told c is = let never : ⊥ = cc in absurd never
@@ -168,7 +168,7 @@ fit_wanted (waits.Store since again) whether c is = let never : ⊥ = cc in absu
 fit_wanted waits.Refused whether c is = let never : ⊥ = cc in absurd never
 fit_wanted (waits.Reply until text) whether c is = let never : ⊥ = cc in absurd never
 
-place_wanted : (place : Place) (o : Option Session) → want_of (Some place) o ≡ want.More → place.fit ≡ fit.Fits
+place_wanted : (place : ClientState) (o : Option Session) → want_of (Some place) o ≡ want.More → place.fit ≡ fit.Fits
 place_wanted place None is = let never : ⊥ = cc in absurd never
 place_wanted place (Some c) is = fit_wanted place.waits place.fit c is
 
@@ -194,26 +194,26 @@ behind_less whether (Asked others user lookup) a = omega arith
 behind_less whether (Looked wanted) a = omega arith
 behind_less whether (Moved others moving) a = omega arith
 
-client_less : (o p : Option Place) (x y : Option Session) → p ≡ o → unread_of y ≤ unread_of x → firm_client p y ≤ firm_client o x
-client_less o p x y is less = subst (λ (t : Option Place). firm_client t y ≤ firm_client o x) (sym is) (by o)
+client_less : (o p : Option ClientState) (x y : Option Session) → p ≡ o → unread_of y ≤ unread_of x → firm_client p y ≤ firm_client o x
+client_less o p x y is less = subst (λ (t : Option ClientState). firm_client t y ≤ firm_client o x) (sym is) (by o)
   where
-    by : (o : Option Place) → firm_client o y ≤ firm_client o x
+    by : (o : Option ClientState) → firm_client o y ≤ firm_client o x
     by None = omega arith
     by (Some place) = firm_less place.fit (unread_of y) (unread_of x) less
 
-full_less : (o p : Option Place) (x y : Option Session) → p ≡ o → unread_of y ≤ unread_of x → firm_client p y ≤ full_client o x
-full_less o p x y is less = subst (λ (t : Option Place). firm_client t y ≤ full_client o x) (sym is) (by o)
+full_less : (o p : Option ClientState) (x y : Option Session) → p ≡ o → unread_of y ≤ unread_of x → firm_client p y ≤ full_client o x
+full_less o p x y is less = subst (λ (t : Option ClientState). firm_client t y ≤ full_client o x) (sym is) (by o)
   where
     fits : (whether : Fit) → firm_by whether (unread_of y) ≤ unread_of x
     fits fit.Fits = omega (arith, less)
     fits fit.Over = omega (arith, less)
     fits fit.Told = omega (arith, less)
 
-    by : (o : Option Place) → firm_client o y ≤ full_client o x
+    by : (o : Option ClientState) → firm_client o y ≤ full_client o x
     by None = omega arith
     by (Some place) = fits place.fit
 
-post_full : (o : Option Post) → firm_post o ≤ full_post o
+post_full : (o : Option LmtpConnection) → firm_post o ≤ full_post o
 post_full None = omega arith
 post_full (Some post) = omega arith
 
@@ -222,42 +222,42 @@ post_full (Some post) = omega arith
 pub bounded_same : (d e : MailDaemon) → e.memory ≡ d.memory → ((k : ℕ) → firm_at e k ≤ firm_at d k) → IsBounded d → IsBounded e
 bounded_same d e memory less was n = omega (arith, ap (λ m. m * 1024) memory, sums_less n (firm_at e) (firm_at d) less, was n)
 
-bounded_heard : (d e : MailDaemon) (id count : ℕ) → e.memory ≡ d.memory → held d + count ≤ bound d → ((k : ℕ) → same id k ≡ false → firm_at e k ≤ full_at d k) → firm_at e id ≤ full_at d id + count → IsBounded e
+bounded_heard : (d e : MailDaemon) (id count : ℕ) → e.memory ≡ d.memory → held d + count ≤ bound d → ((k : ℕ) → is_same_id id k ≡ false → firm_at e k ≤ full_at d k) → firm_at e id ≤ full_at d id + count → IsBounded e
 bounded_heard d e id count memory fits others its n = omega (arith, ap (λ m. m * 1024) memory, fits, sums_one n (firm_at e) (full_at d) id count others its, full_sum n d)
 
-itself : (n : ℕ) → same n n ≡ true
+itself : (n : ℕ) → is_same_id n n ≡ true
 itself n = (eq_by_cmp_equiv nat_cmp_total).refl n
 
-module _ (d e : MailDaemon) (n : ℕ) (post : Option Post) (place : Option Place) (t : Touches d n post place e)
-    (grows : (k : ℕ) → same n k ≡ false → unread_of (client_at e.daemon.clients.sessions k) ≤ unread_of (client_at d.daemon.clients.sessions k)) where
+module _ (d e : MailDaemon) (n : ℕ) (post : Option LmtpConnection) (place : Option ClientState) (t : Touches d n post place e)
+    (grows : (k : ℕ) → is_same_id n k ≡ false → unread_of (client_at e.daemon.clients.sessions k) ≤ unread_of (client_at d.daemon.clients.sessions k)) where
   place_is : place_at e.daemon n ≡ place
   place_is = t.places n ∙ ap (λ b. cond b place (place_at d.daemon n)) (itself n)
 
   post_is : post_at e n ≡ post
   post_is = t.posts n ∙ ap (λ b. cond b post (post_at d n)) (itself n)
 
-  other_place : (k : ℕ) → same n k ≡ false → place_at e.daemon k ≡ place_at d.daemon k
+  other_place : (k : ℕ) → is_same_id n k ≡ false → place_at e.daemon k ≡ place_at d.daemon k
   other_place k is = t.places k ∙ ap (λ b. cond b place (place_at d.daemon k)) is
 
-  other_post : (k : ℕ) → same n k ≡ false → post_at e k ≡ post_at d k
+  other_post : (k : ℕ) → is_same_id n k ≡ false → post_at e k ≡ post_at d k
   other_post k is = t.posts k ∙ ap (λ b. cond b post (post_at d k)) is
 
-  others_less : (k : ℕ) → same n k ≡ false → firm_at e k ≤ firm_at d k
+  others_less : (k : ℕ) → is_same_id n k ≡ false → firm_at e k ≤ firm_at d k
   others_less k is =
       omega (arith, client_less (place_at d.daemon k) (place_at e.daemon k) (client_at d.daemon.clients.sessions k) (client_at e.daemon.clients.sessions k) (other_place k is) (grows k is), ap firm_post (other_post k is))
 
-  others_full : (k : ℕ) → same n k ≡ false → firm_at e k ≤ full_at d k
+  others_full : (k : ℕ) → is_same_id n k ≡ false → firm_at e k ≤ full_at d k
   others_full k is =
       omega (arith, full_less (place_at d.daemon k) (place_at e.daemon k) (client_at d.daemon.clients.sessions k) (client_at e.daemon.clients.sessions k) (other_place k is) (grows k is), ap firm_post (other_post k is), post_full (post_at d k))
 
   touched : firm_client place (client_at e.daemon.clients.sessions n) ≤ firm_client (place_at d.daemon n) (client_at d.daemon.clients.sessions n) → firm_post post ≤ firm_post (post_at d n)
       → (k : ℕ) → firm_at e k ≤ firm_at d k
-  touched client posts k = by (same n k) refl
+  touched client posts k = by (is_same_id n k) refl
     where
       its : firm_at e n ≤ firm_at d n
       its = omega (arith, ap (λ o. firm_client o (client_at e.daemon.clients.sessions n)) place_is, ap firm_post post_is, client, posts)
 
-      by : (b : Bool) → same n k ≡ b → firm_at e k ≤ firm_at d k
+      by : (b : Bool) → is_same_id n k ≡ b → firm_at e k ≤ firm_at d k
       by true is = subst (λ j. firm_at e j ≤ firm_at d j) (one_number n k is) its
       by false is = others_less k is
 
@@ -268,7 +268,7 @@ module _ (d e : MailDaemon) (n : ℕ) (post : Option Post) (place : Option Place
 
 -- ---- each act
 
-deed_gains : (note : Note) (deed : Deed) → IsDeed note deed → (k : ℕ) → gained_by note k ≡ 0
+deed_gains : (note : Note) (deed : LmtpStep) → IsLmtpStep note deed → (k : ℕ) → gained_by note k ≡ 0
 deed_gains (Did others event answer) deed is k = ap (λ (x : Event). gained x k) is.3
 deed_gains Answered deed is k = refl
 deed_gains (Asked others user lookup) deed is k = refl
@@ -308,13 +308,13 @@ module _ {R : Type 0} (view : View R) (d e : MailDaemon) (r q : R) (s u : Servic
   stays : e ≡ d → Kept_on
   stays is was = subst IsBounded (sym is) was
 
-  few : (n count : ℕ) → Grown d e (λ k. cond (same n k) count 0) → (k : ℕ) → same n k ≡ false → unread_of (client_at e.daemon.clients.sessions k) ≤ unread_of (client_at d.daemon.clients.sessions k)
+  few : (n count : ℕ) → Grown d e (λ k. cond (is_same_id n k) count 0) → (k : ℕ) → is_same_id n k ≡ false → unread_of (client_at e.daemon.clients.sessions k) ≤ unread_of (client_at d.daemon.clients.sessions k)
   few n count more k is = omega (arith, more k, ap (λ b. cond b count 0) is)
 
-  none : (n : ℕ) → Grown d e (λ k. 0) → (k : ℕ) → same n k ≡ false → unread_of (client_at e.daemon.clients.sessions k) ≤ unread_of (client_at d.daemon.clients.sessions k)
+  none : (n : ℕ) → Grown d e (λ k. 0) → (k : ℕ) → is_same_id n k ≡ false → unread_of (client_at e.daemon.clients.sessions k) ≤ unread_of (client_at d.daemon.clients.sessions k)
   none n more k is = omega (arith, more k)
 
-  lost : (n : ℕ) → LacksBy d n e → ((k : ℕ) → same n k ≡ false → unread_of (client_at e.daemon.clients.sessions k) ≤ unread_of (client_at d.daemon.clients.sessions k)) → Kept_on
+  lost : (n : ℕ) → LacksBy d n e → ((k : ℕ) → is_same_id n k ≡ false → unread_of (client_at e.daemon.clients.sessions k) ≤ unread_of (client_at d.daemon.clients.sessions k)) → Kept_on
   lost n lacks grows = bounded_same d e lacks.host.memory (touched d e n None None (record { posts = lacks.posts; places = lacks.lacks.place.places }) grows (omega arith) (omega arith))
 
   -- one comes
@@ -357,7 +357,7 @@ module _ {R : Type 0} (view : View R) (d e : MailDaemon) (r q : R) (s u : Servic
     taken_is : full_post (post_at e n) ≡ held_by g.takes.after.receiver
     taken_is = ap full_post (g.takes.posts n ∙ ap (λ b. cond b (Some g.takes.after) (post_at g.fitted n)) (itself n))
 
-    post_given : HasRoom g.fitted n (length piece) → Kept_on
+    post_given : HasOctetRoom g.fitted n (length piece) → Kept_on
     post_given (inl fits) was =
         full_touched g.fitted e n (Some g.takes.after) (place_at g.fitted.daemon n) (touch_post g.fitted e n (Some g.takes.after) g.takes.posts (λ other. ap (λ (x : Daemon). place_at x other) g.takes.daemon)) (λ k no. same_fitted k)
         (length piece) g.takes.host.memory fits (omega (arith, its_place, g.takes.held, ap full_post g.takes.was))
@@ -368,8 +368,8 @@ module _ {R : Type 0} (view : View R) (d e : MailDaemon) (r q : R) (s u : Servic
         (omega (arith, after_is, taken_is, g.takes.held, ap full_post g.takes.was, ap full_post its.1, its.2))) was
 
   -- of one of ManageSieve, for whose octets there was room so far
-  module _ (n : ℕ) (piece said : List ℕ) (g : SessionGives d s.moment n piece said e) (more : Grown d e (λ k. cond (same n k) (length piece) 0)) (short : length piece ≤ largest_piece) (fitted : g.gives.before.fit ≡ fit.Fits) where
-    abbrev new : Place
+  module _ (n : ℕ) (piece said : List ℕ) (g : SessionGives d s.moment n piece said e) (more : Grown d e (λ k. cond (is_same_id n k) (length piece) 0)) (short : length piece ≤ largest_piece) (fitted : g.gives.before.fit ≡ fit.Fits) where
+    abbrev new : ClientState
     new = place_given s.moment g.gives.before g.gives.client g.whether
 
     its_more : unread_of (client_at e.daemon.clients.sessions n) ≤ unread_of (client_at d.daemon.clients.sessions n) + length piece
@@ -396,8 +396,8 @@ module _ {R : Type 0} (view : View R) (d e : MailDaemon) (r q : R) (s u : Servic
         )) (omega arith)) was
     session_given fit.Told is never was = absurd never
 
-  heard : (n count : ℕ) (piece said : List ℕ) → Went (GivesBy d s.moment n piece said e) (LacksBy d n e) n (kind_of (client_of s n)) count said u.turn → Tasks (mail_rules view) d s n count Hear
-      → length piece ≤ largest_piece → Grown d e (λ k. cond (same n k) (length piece) 0) → Kept_on
+  heard : (n count : ℕ) (piece said : List ℕ) → Went (GivesBy d s.moment n piece said e) (LacksBy d n e) n (client_kind (client_of s n)) count said u.turn → Tasks (mail_rules view) d s n count Hear
+      → length piece ≤ largest_piece → Grown d e (λ k. cond (is_same_id n k) (length piece) 0) → Kept_on
   heard n count piece said (inr lacks) tasks short more = lost n lacks.0 (few n (length piece) more)
   heard n count piece said (inl went) tasks short more = by went.0
     where
@@ -421,7 +421,7 @@ module _ {R : Type 0} (view : View R) (d e : MailDaemon) (r q : R) (s u : Servic
       (client_less (place_at d.daemon n) (place_at d.daemon n) (client_at d.daemon.clients.sessions n) (client_at e.daemon.clients.sessions n) refl (still n))
       (omega (arith, g.does.held, ap firm_post g.was)))
 
-  session_goes : (n : ℕ) (note : Note) (said : List ℕ) → SessionGoes view d r s.moment n note said e q → StepsOn (mail_rules view) d s n u.turn → Grown d e (gained_by note) → Kept_on
+  session_goes : (n : ℕ) (note : Note) (said : List ℕ) → SessionGoes view d r s.moment n note said e q → StepsTurn (mail_rules view) d s n u.turn → Grown d e (gained_by note) → Kept_on
   session_goes n note said g on more =
       let wants : Want = want_of (place_at d.daemon n) (client_at d.daemon.clients.sessions n) in
       let wanted : task_wanted s.moment (wants_by (post_at d n) wants) ≡ Step = wanted_at (mail_rules view) d s.moment on.count n (client_of s n) on.wanted.task in
@@ -430,7 +430,7 @@ module _ {R : Type 0} (view : View R) (d e : MailDaemon) (r q : R) (s u : Servic
       due_at s.moment g.goes.before (client_at d.daemon.clients.sessions n) (subst (λ o. task_wanted s.moment (want_of o (client_at d.daemon.clients.sessions n)) ≡ Step) g.goes.was its) in
       let still : (k : ℕ) → unread_of (client_at e.daemon.clients.sessions k) ≤ unread_of (client_at d.daemon.clients.sessions k) =
       λ k. omega (arith, more k, allowed_gains s.moment g.goes.before.waits n note (g.goes.allows due) k) in
-      let later : Place = place_behind s.moment g.goes.before note (client_at e.daemon.clients.sessions n) in
+      let later : ClientState = place_behind s.moment g.goes.before note (client_at e.daemon.clients.sessions n) in
       bounded_same d e g.same.host.memory
       (touched d e n None (Some later) (touch_same d e n (Some later) g.other g.same.posts g.goes.place) (λ k no. still k)
       (omega (
@@ -441,12 +441,12 @@ module _ {R : Type 0} (view : View R) (d e : MailDaemon) (r q : R) (s u : Servic
       ))
       (omega arith))
 
-  goes : (n : ℕ) (note : Note) (said : List ℕ) → GoesBy view d r s.moment n note said e q → StepsOn (mail_rules view) d s n u.turn → Grown d e (gained_by note) → Kept_on
+  goes : (n : ℕ) (note : Note) (said : List ℕ) → GoesBy view d r s.moment n note said e q → StepsTurn (mail_rules view) d s n u.turn → Grown d e (gained_by note) → Kept_on
   goes n note said (inl g) on more = post_goes n note said g more
   goes n note said (inr g) on more = session_goes n note said g on more
 
   -- work of its own
-  work_gains : (note : Note) → Works view d r s.moment note e q → (k : ℕ) → gained_by note k ≡ 0
+  work_gains : (note : Note) → DaemonWorks view d r s.moment note e q → (k : ℕ) → gained_by note k ≡ 0
   work_gains (Did others event answer) work k = absurd work.does.works
   work_gains (Freed event answer) work k = absurd work.does.works
   work_gains Away work k = refl
@@ -456,7 +456,7 @@ module _ {R : Type 0} (view : View R) (d e : MailDaemon) (r q : R) (s u : Servic
   work_gains (Looked wanted) work k = refl
   work_gains (Moved others moving) work k = refl
 
-  rested : (note : Note) → Works view d r s.moment note e q → Grown d e (gained_by note) → Kept_on
+  rested : (note : Note) → DaemonWorks view d r s.moment note e q → Grown d e (gained_by note) → Kept_on
   rested note work more =
       bounded_same d e work.same.host.memory (λ k. omega (
         arith,
@@ -474,7 +474,7 @@ module _ {R : Type 0} (view : View R) (d e : MailDaemon) (r q : R) (s u : Servic
   lacked n (inr (inl t)) more = lost n t.0 (none n more)
   lacked n (inr (inr t)) more = stays t.0
 
-  pub bounded_then : (act : Act Note) (said : List ℕ) → Turns (mail_rules view) d r s act said e q u → Grown d e (gain_of act) → (w : World) → IsWorld view r d.daemon.clients.sessions w → Kept_on
+  pub bounded_then : (act : Act Note) (said : List ℕ) → TurnAllows (mail_rules view) d r s act said e q u → Grown d e (gain_of act) → (w : World) → IsWorld view r d.daemon.clients.sessions w → Kept_on
   bounded_then (Came n kind) said t more w is = came n kind said t.3 more w is
   bounded_then (Heard n piece) said t more w is = heard n t.count piece said t.goes t.wanted t.short more
   bounded_then (Noted n note) said t more w is = goes n note said t.0 t.1 more
@@ -489,7 +489,7 @@ module _ {R : Type 0} (view : View R) (d e : MailDaemon) (r q : R) (s u : Servic
   bounded_then (Woke within wakes) said t more w is = stays t.0.0
   bounded_then (Timed moment) said t more w is = stays t.0.0
   bounded_then (Began wake) said t more w is = stays t.0.0
-  bounded_then (Roused n) said t more w is = stays t.0.0
+  bounded_then (Resumed n) said t more w is = stays t.0.0
   bounded_then (NoneCame kind) said t more w is = stays t.0.0
   bounded_then (Crowded kind) said t more w is = stays t.0.0
   bounded_then (InUse n) said t more w is = stays t.0.0

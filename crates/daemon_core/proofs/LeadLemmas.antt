@@ -1,48 +1,48 @@
 -- What a move of the daemon makes of accounts and sessions.
 use Rattle.std.proofs.Common.{◌≡◌, ◌⊎◌, inl, inr, ℕ, ◌==◌, Bool, true, false, List, Option, Some, None, is_some, IfSome, refl, sym, ◌∙◌, ap, subst, if◌then◌else◌}
 use Rattle.std.specs.FinMap.{get}
-use Rattle.sessions.specs.Clients.{Client}
+use Rattle.managesieve_sessions.specs.Clients.{Client}
 use Rattle.sqlite_trees.specs.Tree.{Trees}
-use Rattle.mailstore.specs.Account.{Accounts}
-use Rattle.mailengine.specs.Hosts.{Kept, HasClients, KeepsClients, IsSessionEvent}
-use Rattle.mailengine.specs.World.{World, Clients, Next}
-use Rattle.mailengine.specs.declared.answer.Answer.{Answer}
-use Rattle.mailengine.specs.declared.answer.Answer.TheVariants.{Refused}
-use Rattle.mailengine.specs.declared.clients.Clients.{Clients as CodeClients}
-use Rattle.mailengine.specs.declared.event.Event.{Event}
-use Rattle.mailengine.specs.declared.event.Event.TheVariants.{Open, Give, Close, TakeMail}
-use Rattle.mailsinks.specs.declared.kept.KeptMail.{KeptMail}
-use Rattle.mailposts.specs.Posts.{Deed}
-use Rattle.wires.specs.declared.act.Act.{Act}
-use Rattle.wires.specs.declared.act.Act.TheVariants.{Woke, Began, Timed, Late, Waits, Roused, Worked, Came, NoneCame, Crowded, Displaced, Listened, InUse, Heard, ReadBlocked, Over, Sent, WriteBlocked, Lost, Noted, Full, Again, Shut, Dropped, Ended}
-use Rattle.wires.specs.declared.service.Service.{Service}
-use Rattle.wires.specs.declared.turn.Turn.TheVariants.{Stuffed}
-use Rattle.wires.specs.Moves.{Leaves}
-use Rattle.wires.specs.Room.{makes_room}
-use Rattle.wires.specs.Turns.{Turns, Opens as Enters, Goes, Lacks, Parting}
-use Rattle.wires.proofs.RoomLemmas.{claims_one}
-use Rattle.wires.specs.Talk.{client_of, kind_of}
-use Rattle.mailmoves.specs.Enduring.{MayLeave, ShowsMade, ShowsTried, none_tried}
-use Rattle.mailmoves.specs.declared.moving.Moving.{Moving}
-use Rattle.mailmoves.specs.declared.moving.Moving.TheVariants as moving
-use Rattle.mailmoves.proofs.EnduringLemmas.{left_alone, left_weaker}
-use Rattle.sieveddaemon.specs.Acts.{LeadsBy, LeadsIn, Leads, LacksThen, IsMadeOr, IsGuest}
-use Rattle.sieveddaemon.specs.DaemonRules.{lmtp, place_at, Happened, Made, Makes, WorksBy}
-use Rattle.sieveddaemon.specs.Deeds.{IsDeed, Stores}
-use Rattle.sieveddaemon.specs.Desk.{View, DoneAt, IsWorld, ComesTo, IsDone, NothingDone, StillShows}
-use Rattle.sieveddaemon.specs.MailRules.{mail_rules, post_at, OpensBy, GivesBy, GoesBy, LacksBy}
-use Rattle.sieveddaemon.specs.Moves.{MovedAt, TriedAt}
-use Rattle.sieveddaemon.specs.Places.{client_at, is_user}
-use Rattle.sieveddaemon.specs.Room.{is_flooded}
-use Rattle.sieveddaemon.specs.Tried.{TriesBy, TriesAt}
-use Rattle.sieveddaemon.proofs.RoomLemmas.{no_user_goes}
-use Rattle.sieveddaemon.specs.declared.daemon.Daemon.{Daemon}
-use Rattle.sieveddaemon.specs.declared.mail.MailDaemon.{MailDaemon}
-use Rattle.sieveddaemon.specs.declared.note.Note.{Note}
-use Rattle.sieveddaemon.specs.declared.note.Note.TheVariants.{Did, Away, Freed, Spoke, Answered, Asked, Looked, Moved}
-use Rattle.sieveddaemon.proofs.EventLemmas.{clients_one, open_refused, give_refused, give_unheard}
+use Rattle.store_accounts.specs.Account.{Accounts}
+use Rattle.store_engine.specs.Hosts.{SessionMap, HasClients, KeepsClients, IsSessionEvent}
+use Rattle.store_engine.specs.World.{World, Clients, Next}
+use Rattle.store_engine.specs.declared.answer.Answer.{Answer}
+use Rattle.store_engine.specs.declared.answer.Answer.TheVariants.{Refused}
+use Rattle.store_engine.specs.declared.clients.Clients.{Clients as CodeClients}
+use Rattle.store_engine.specs.declared.event.Event.{Event}
+use Rattle.store_engine.specs.declared.event.Event.TheVariants.{Open, Give, Close, TakeMail}
+use Rattle.maildir_files.specs.declared.kept.KeptMail.{KeptMail}
+use Rattle.lmtp_connections.specs.Connections.{LmtpStep}
+use Rattle.net_loop.specs.declared.act.Act.{Act}
+use Rattle.net_loop.specs.declared.act.Act.TheVariants.{Woke, Began, Timed, Late, Waits, Resumed, Worked, Came, NoneCame, Crowded, Displaced, Listened, InUse, Heard, ReadBlocked, Over, Sent, WriteBlocked, Lost, Noted, Full, Again, Shut, Dropped, Ended}
+use Rattle.net_loop.specs.declared.service.Service.{Service}
+use Rattle.net_loop.specs.declared.turn.Turn.TheVariants.{OutOfMemory}
+use Rattle.net_loop.specs.Moves.{LeavesRest}
+use Rattle.net_loop.specs.Room.{makes_room}
+use Rattle.net_loop.specs.Turns.{TurnAllows, ServiceOpens as Enters, HeardOrLacking, Lacks, Parting}
+use Rattle.net_loop.proofs.RoomLemmas.{claims_one}
+use Rattle.net_loop.specs.Talk.{client_of, client_kind}
+use Rattle.maildir_moves.specs.Enduring.{MayLeave, ShowsMade, ShowsTried, none_tried}
+use Rattle.maildir_moves.specs.declared.moving.Moving.{Moving}
+use Rattle.maildir_moves.specs.declared.moving.Moving.TheVariants as moving
+use Rattle.maildir_moves.proofs.EnduringLemmas.{left_alone, left_weaker}
+use Rattle.daemon_core.specs.Acts.{LeadsBy, LeadsIn, ActLeads, LacksThen, IsMadeOr, IsGuest}
+use Rattle.daemon_core.specs.DaemonRules.{lmtp, place_at, Happened, Made, NoteMakes, WorksBy}
+use Rattle.daemon_core.specs.LmtpSteps.{IsLmtpStep, StepStores}
+use Rattle.daemon_core.specs.StoreAccess.{View, DoneAt, IsWorld, ComesTo, IsEventDone, NothingDone, ViewStillShows}
+use Rattle.daemon_core.specs.MailRules.{mail_rules, post_at, OpensBy, GivesBy, GoesBy, LacksBy}
+use Rattle.daemon_core.specs.Moves.{MovedAt, TriedAt}
+use Rattle.daemon_core.specs.ClientStates.{client_at, has_login}
+use Rattle.daemon_core.specs.Eviction.{is_flooded}
+use Rattle.daemon_core.specs.Tried.{TriesBy, TriesAt}
+use Rattle.daemon_core.proofs.RoomLemmas.{no_user_goes}
+use Rattle.daemon_core.specs.declared.daemon.Daemon.{Daemon}
+use Rattle.daemon_core.specs.declared.mail.MailDaemon.{MailDaemon}
+use Rattle.daemon_core.specs.declared.note.Note.{Note}
+use Rattle.daemon_core.specs.declared.note.Note.TheVariants.{Did, Away, Freed, Spoke, Answered, Asked, Looked, Moved}
+use Rattle.daemon_core.proofs.EventLemmas.{clients_one, open_refused, give_refused, give_unheard}
 
-guest_of : (o : Option Client) → is_user o ≡ false → IfSome o (λ c. c.user ≡ None)
+guest_of : (o : Option Client) → has_login o ≡ false → IfSome o (λ c. c.user ≡ None)
 guest_of None is = tt
 guest_of (Some c) is = by c.user is
   where
@@ -73,7 +73,7 @@ moved_tried others _ w v moved trees none = absurd none
 module _ {R : Type 0} (view : View R) (d e : MailDaemon) (r q : R) where
   -- an act, which others follow, led there, and the store and the sessions are so
   abbrev pub Led : World → Act Note → List (Act Note) → Type 0
-  Led w act more = (v : World) × Leads w act more v × ComesTo view r w (TriedHere w act v) q e.daemon.clients.sessions v
+  Led w act more = (v : World) × ActLeads w act more v × ComesTo view r w (TriedHere w act v) q e.daemon.clients.sessions v
 
   -- the store is as it was
   unchanged : (Tried : Trees → Type 0) (accounts : Accounts) → q ≡ r → MayLeave (view.leaves r) accounts (view.leaves q) accounts Tried
@@ -111,7 +111,7 @@ module _ {R : Type 0} (view : View R) (d e : MailDaemon) (r q : R) where
       )
 
   -- what asks no store is the same whatever accounts there are
-  freed : (event : Event) (answer : Answer) (w : World) → IsWorld view r d.daemon.clients.sessions w → StillShows view r q → IsSessionEvent event answer d.daemon.clients.sessions e.daemon.clients.sessions
+  freed : (event : Event) (answer : Answer) (w : World) → IsWorld view r d.daemon.clients.sessions w → ViewStillShows view r q → IsSessionEvent event answer d.daemon.clients.sessions e.daemon.clients.sessions
       → (v : World) × LeadsBy w (Freed event answer) v × ComesTo view r w (TriedBy w (Freed event answer) v) q e.daemon.clients.sessions v
   freed event answer w is still free =
       let made = free w is.sessions in
@@ -132,13 +132,13 @@ module _ {R : Type 0} (view : View R) (d e : MailDaemon) (r q : R) where
   abbrev LedBy : World → Note → Type 0
   LedBy w note = (v : World) × LeadsBy w note v × ComesTo view r w (TriedBy w note v) q e.daemon.clients.sessions v
 
-  done_so : (others : List Event) (event : Event) (answer : Answer) (w : World) → IsWorld view r d.daemon.clients.sessions w → IsDone view others event answer r d.daemon.clients.sessions q e.daemon.clients.sessions → LedBy w (Did others event answer)
+  done_so : (others : List Event) (event : Event) (answer : Answer) (w : World) → IsWorld view r d.daemon.clients.sessions w → IsEventDone view others event answer r d.daemon.clients.sessions q e.daemon.clients.sessions → LedBy w (Did others event answer)
   done_so others event answer w is done =
       let it = done w is in
       (it.0, it.1, record { is = it.2.is; left = left_weaker (view.leaves r) (view.leaves q) w.accounts it.0.accounts (ShowsTried event answer it.1.between) (TriedBy w (Did others event answer) it.0) (did_tried others event answer w it.0 it.1) it.2.left })
 
   -- what is done for a client of ManageSieve
-  noted : (note : Note) (w : World) → IsWorld view r d.daemon.clients.sessions w → Makes view r d.daemon note q e.daemon → LedBy w note
+  noted : (note : Note) (w : World) → IsWorld view r d.daemon.clients.sessions w → NoteMakes view r d.daemon note q e.daemon → LedBy w note
   noted (Did others event answer) w is makes = done_so others event answer w is makes
   noted Away w is makes = (w, refl, nothing w is makes)
   noted (Freed event answer) w is makes = freed event answer w is makes.0 makes.1
@@ -149,7 +149,7 @@ module _ {R : Type 0} (view : View R) (d e : MailDaemon) (r q : R) where
   noted (Moved others moving) w is makes = absurd makes
 
   -- what is done for a client of LMTP
-  did : (note : Note) (deed : Deed) (w : World) → IsWorld view r d.daemon.clients.sessions w → IsDeed note deed → Stores view r d.daemon.clients.sessions note q e.daemon.clients.sessions → LedBy w note
+  did : (note : Note) (deed : LmtpStep) (w : World) → IsWorld view r d.daemon.clients.sessions w → IsLmtpStep note deed → StepStores view r d.daemon.clients.sessions note q e.daemon.clients.sessions → LedBy w note
   did (Did others event answer) deed w is told stores = done_so others event answer w is stores
   did (Asked others user lookup) deed w is told stores = let it = stores w is in (it.0, it.1, record { is = it.2.is; left = untried _ w.accounts it.0.accounts it.2.left })
   did Away deed w is told stores = (w, refl, nothing w is stores)
@@ -167,7 +167,7 @@ module _ {R : Type 0} (view : View R) (d e : MailDaemon) (r q : R) where
   worked : (now : ℕ) (note : Note) (w : World) → IsWorld view r d.daemon.clients.sessions w → WorksBy view d.daemon r now note e.daemon.clients.sessions e.daemon.holding q → LedBy w note
   worked now (Looked wanted) w is works =
       let still = works.0 w.accounts is.shown in
-      (w, refl, record { is = record { shown = still.0; sessions = subst (λ (k : Kept). HasClients k w.sessions) (sym works.1) is.sessions }; left = untried _ w.accounts w.accounts still.1 })
+      (w, refl, record { is = record { shown = still.0; sessions = subst (λ (k : SessionMap). HasClients k w.sessions) (sym works.1) is.sessions }; left = untried _ w.accounts w.accounts still.1 })
   worked now (Moved others moving) w is works =
       let it = works.1 w is in
       (it.0, it.1, record { is = it.2.is; left = left_weaker (view.leaves r) (view.leaves q) w.accounts it.0.accounts (TriedAt others moving w it.0 it.1) (TriedBy w (Moved others moving) it.0) (moved_tried others moving w it.0 it.1) it.2.left })
@@ -183,15 +183,15 @@ module _ {R : Type 0} (view : View R) (d e : MailDaemon) (r q : R) where
   guest_goes s kind id room w is =
       let its = claims_one (mail_rules view) d s kind id room in
       let nobody = no_user_goes s.moment (is_flooded d.posts.entries) (post_at d id) (place_at d.daemon id) (client_at d.daemon.clients.sessions id) its.0 its.1 in
-      guest_of (get w.sessions id) (subst (λ c. is_user c ≡ false) (is.sessions id) nobody)
+      guest_of (get w.sessions id) (subst (λ c. has_login c ≡ false) (is.sessions id) nobody)
 
   -- where memory was lacking for a connection, that is what follows says
-  module _ (s u : Service) (more : List (Act Note)) (lacks_then : (id kind : ℕ) → u.turn ≡ Stuffed id kind → LacksThen id more) where
+  module _ (s u : Service) (more : List (Act Note)) (lacks_then : (id kind : ℕ) → u.turn ≡ OutOfMemory id kind → LacksThen id more) where
     opened : (Tried : World → Trees → Type 0) (b : Bool) (id : ℕ) (said : List ℕ) (w : World) → IsWorld view r d.daemon.clients.sessions w → q ≡ r → OpensBy b d s.moment id said e → (v : World) × LeadsIn b w id more v × ComesTo view r w (Tried v) q e.daemon.clients.sessions v
     opened Tried true id said w is left o = (w, refl, same w is (subst (λ (k : CodeClients). KeepsClients d.daemon.clients.sessions k.sessions) (sym o.daemon.clients) (λ clients has. has)) left)
     opened Tried false id said w is left o = made Tried (Open id) id more w is o.opens.event left
 
-    lacking : (Tried : World → Trees → Type 0) (b : Bool) (id kind : ℕ) (w : World) → IsWorld view r d.daemon.clients.sessions w → q ≡ r → u.turn ≡ Stuffed id kind → LacksBy d id e → (v : World) × LeadsIn b w id more v × ComesTo view r w (Tried v) q e.daemon.clients.sessions v
+    lacking : (Tried : World → Trees → Type 0) (b : Bool) (id kind : ℕ) (w : World) → IsWorld view r d.daemon.clients.sessions w → q ≡ r → u.turn ≡ OutOfMemory id kind → LacksBy d id e → (v : World) × LeadsIn b w id more v × ComesTo view r w (Tried v) q e.daemon.clients.sessions v
     lacking Tried true id kind w is left turn l = (w, refl, same w is l.lacks.kept left)
     lacking Tried false id kind w is left turn l = let refused = open_refused w id in (w, (refused.0, inr (lacks_then id kind turn), refused.1), same w is l.lacks.kept left)
 
@@ -209,10 +209,10 @@ module _ {R : Type 0} (view : View R) (d e : MailDaemon) (r q : R) where
     given id piece said w is left (inr g) = let it = made (TriedHere w (Heard id piece)) (Give id piece) id more w is g.gives.event left in (it.0, (it.1.0, inl it.1.1, it.1.2), it.2)
 
     heard : (id : ℕ) (piece said : List ℕ) (count : ℕ) (w : World) → IsWorld view r d.daemon.clients.sessions w → q ≡ r
-        → Goes (GivesBy d s.moment id piece said e) (LacksBy d id e) id (kind_of (client_of s id)) count said u.turn → Led w (Heard id piece) more
+        → HeardOrLacking (GivesBy d s.moment id piece said e) (LacksBy d id e) id (client_kind (client_of s id)) count said u.turn → Led w (Heard id piece) more
     heard id piece said count w is left (inl g) = given id piece said w is left g.0
     heard id piece said count w is left (inr g) =
-        let refused = give_refused w id piece in (w, (refused.0, inl (inr (lacks_then id (kind_of (client_of s id)) g.2)), refused.1), same w is g.0.lacks.kept left)
+        let refused = give_refused w id piece in (w, (refused.0, inl (inr (lacks_then id (client_kind (client_of s id)) g.2)), refused.1), same w is g.0.lacks.kept left)
 
     lacked : (id : ℕ) → Lacks (mail_rules view) d s id e u → KeepsClients d.daemon.clients.sessions e.daemon.clients.sessions
     lacked id (inl l) = kept l.2
@@ -225,7 +225,7 @@ module _ {R : Type 0} (view : View R) (d e : MailDaemon) (r q : R) where
     late id said (inr (inr p)) = p.2.lacks.kept
 
     -- each act, of whatever accounts and sessions there were
-    pub leads : (act : Act Note) (said : List ℕ) (w : World) → Turns (mail_rules view) d r s act said e q u → Leaves r act q → IsWorld view r d.daemon.clients.sessions w → Led w act more
+    pub leads : (act : Act Note) (said : List ℕ) (w : World) → TurnAllows (mail_rules view) d r s act said e q u → LeavesRest r act q → IsWorld view r d.daemon.clients.sessions w → Led w act more
     leads (Came id kind) said w turns left is = came id kind said w is left turns.3
     leads (Heard id piece) said w turns left is = heard id piece said turns.count w is left turns.goes
     leads (Ended id) said w turns left is = happened (TriedHere w (Ended id)) (Close id) w is turns.0.closes.event left
@@ -238,7 +238,7 @@ module _ {R : Type 0} (view : View R) (d e : MailDaemon) (r q : R) where
     leads (Woke within wakes) said w turns left is = (w, refl, same w is (kept turns.0.0) left)
     leads (Timed moment) said w turns left is = (w, refl, same w is (kept turns.0.0) left)
     leads (Began wake) said w turns left is = (w, refl, same w is (kept turns.0.0) left)
-    leads (Roused id) said w turns left is = (w, refl, same w is (kept turns.0.0) left)
+    leads (Resumed id) said w turns left is = (w, refl, same w is (kept turns.0.0) left)
     leads (NoneCame kind) said w turns left is = (w, refl, same w is (kept turns.0.0) left)
     leads (Crowded kind) said w turns left is = (w, refl, same w is (kept turns.0.0) left)
     leads (InUse id) said w turns left is = (w, refl, same w is (kept turns.0.0) left)

@@ -1,63 +1,63 @@
 -- Right cases of the definitions on clients of LMTP, and near misses.
 use Rattle.std.proofs.Common.{◌≡◌, ◌+◌, ◌<◌, ◌≤◌, inl, inr, ℕ, List, [], ◌∷◌, Option, Some, None, IfSome, codes, refl, sym, ◌∙◌, ap, subst, arith}
 use Rattle.std.specs.FinMap.{get}
-use Rattle.lmtp.specs.Receivers.{held_by}
-use Rattle.lmtp.specs.Replies.{greeting}
-use Rattle.lmtp.specs.declared.name.Names.{Names}
-use Rattle.lmtp.specs.declared.receiver.Lookup.TheVariants.{Unknown}
-use Rattle.lmtp.specs.declared.reply.Reply.TheVariants.{NoSuchUser, LocalFault, BadSender}
-use Rattle.mailposts.specs.Posts.{Deed, Away, Declined}
-use Rattle.mailposts.specs.declared.post.Post.{Post}
-use Rattle.mailposts.specs.declared.addressee.Became.TheVariants.{Delivered, Refused}
-use Rattle.mailstore.specs.Account.{Account, known_one}
-use Rattle.mailstore.specs.declared.refusal.Refusal.TheVariants.{NoUser, Store, BadEnvelope}
-use Rattle.mailengine.specs.World.{World, Runs}
-use Rattle.mailengine.specs.declared.answer.Answer.{Answer}
-use Rattle.mailengine.specs.declared.answer.Answer.TheVariants as answer
-use Rattle.mailengine.specs.declared.event.Event.TheVariants.{Step, Deliver}
-use Rattle.wires.specs.Life.{IsFrontOf}
-use Rattle.wires.specs.declared.act.Act.{Act}
-use Rattle.wires.specs.declared.act.Act.TheVariants.{Came, Sent}
-use Rattle.sieveddaemon.specs.Acts.{LeadsBy}
-use Rattle.sieveddaemon.specs.Bounds.{unread_of, held, bound, own, guests, share, IsGuestAt}
-use Rattle.sieveddaemon.specs.MailRules.{post_at, HasRoom, KeepsText, Fits, FitsAs}
-use Rattle.sieveddaemon.specs.Places.{client_at}
-use Rattle.sieveddaemon.specs.declared.place.Fit.TheVariants as fit
-use Rattle.sieveddaemon.proofs.SumLemmas.{full_post}
-use Rattle.sieveddaemon.specs.declared.mail.MailDaemon.{MailDaemon}
-use Rattle.sieveddaemon.specs.Deeds.{IsDeed, IsBecame, one_line, reply_to}
-use Rattle.sieveddaemon.specs.MailActs.{MailLine, new_mail, sent_more, TellsOn}
-use Rattle.sieveddaemon.specs.declared.note.Note.{Note}
-use Rattle.sieveddaemon.specs.declared.note.Note.TheVariants as note
+use Rattle.lmtp_dialogue.specs.Receivers.{held_by}
+use Rattle.lmtp_dialogue.specs.Replies.{lmtp_greeting}
+use Rattle.lmtp_dialogue.specs.declared.name.Names.{Names}
+use Rattle.lmtp_dialogue.specs.declared.receiver.Lookup.TheVariants.{Unknown}
+use Rattle.lmtp_dialogue.specs.declared.reply.LmtpReply.TheVariants.{NoSuchUser, LocalFault, BadSender}
+use Rattle.lmtp_connections.specs.Connections.{LmtpStep, Away, Declined}
+use Rattle.lmtp_connections.specs.declared.connection.LmtpConnection.{LmtpConnection}
+use Rattle.lmtp_connections.specs.declared.addressee.DeliveryResult.TheVariants.{Delivered, Refused}
+use Rattle.store_accounts.specs.Account.{Account, known_one}
+use Rattle.store_accounts.specs.declared.refusal.Refusal.TheVariants.{NoUser, Store, BadEnvelope}
+use Rattle.store_engine.specs.World.{World, Runs}
+use Rattle.store_engine.specs.declared.answer.Answer.{Answer}
+use Rattle.store_engine.specs.declared.answer.Answer.TheVariants as answer
+use Rattle.store_engine.specs.declared.event.Event.TheVariants.{Step, Deliver}
+use Rattle.net_loop.specs.Life.{IsPrefixOf}
+use Rattle.net_loop.specs.declared.act.Act.{Act}
+use Rattle.net_loop.specs.declared.act.Act.TheVariants.{Came, Sent}
+use Rattle.daemon_core.specs.Acts.{LeadsBy}
+use Rattle.daemon_core.specs.Bounds.{unread_of, held, bound, own, guests, share, IsGuestAt}
+use Rattle.daemon_core.specs.MailRules.{post_at, HasOctetRoom, KeepsText, Fits, FitsAs}
+use Rattle.daemon_core.specs.ClientStates.{client_at}
+use Rattle.daemon_core.specs.declared.client_state.Fit.TheVariants as fit
+use Rattle.daemon_core.proofs.SumLemmas.{full_post}
+use Rattle.daemon_core.specs.declared.mail.MailDaemon.{MailDaemon}
+use Rattle.daemon_core.specs.LmtpSteps.{IsLmtpStep, IsDeliveryResult, one_line, refusal_reply}
+use Rattle.daemon_core.specs.MailActs.{MailLine, new_mail, sent_more, TellsOn}
+use Rattle.daemon_core.specs.declared.note.Note.{Note}
+use Rattle.daemon_core.specs.declared.note.Note.TheVariants as note
 
 -- ---- what a recipient is told
 
 in_one_line : one_line (codes "file INBOX\nvacation quiet 8\n") ≡ codes "file INBOX, vacation quiet 8"
 in_one_line = refl
 
-put_off_for_a_fault : IsBecame [] (answer.Refused Store) (Refused LocalFault)
+put_off_for_a_fault : IsDeliveryResult [] (answer.Refused Store) (Refused LocalFault)
 put_off_for_a_fault = refl
 
-of_a_bad_sender : reply_to (codes "a\nb") BadEnvelope ≡ BadSender
+of_a_bad_sender : refusal_reply (codes "a\nb") BadEnvelope ≡ BadSender
 of_a_bad_sender = refl
 
 -- near misses: a delivery that was refused is told as made; one for which the host is to blame bounces
-not_as_made : (report : List ℕ) → IsBecame [] (answer.Refused NoUser) (Delivered report) → ⊥
+not_as_made : (report : List ℕ) → IsDeliveryResult [] (answer.Refused NoUser) (Delivered report) → ⊥
 not_as_made report is = cc
 
-not_bounced : IsBecame [] (answer.Refused Store) (Refused NoSuchUser) → ⊥
+not_bounced : IsDeliveryResult [] (answer.Refused Store) (Refused NoSuchUser) → ⊥
 not_bounced is = let never : Refused NoSuchUser ≡ Refused LocalFault = is in cc
 
 -- ---- what a note tells
 
-away_is : IsDeed note.Away Away
+away_is : IsLmtpStep note.Away Away
 away_is = refl
 
 -- near misses: the step of a session is no deed for a client of LMTP, nor is an event that asks no store
-not_a_step : (told : Answer) (deed : Deed) → IsDeed (note.Did [] (Step 1) told) deed → ⊥
+not_a_step : (told : Answer) (deed : LmtpStep) → IsLmtpStep (note.Did [] (Step 1) told) deed → ⊥
 not_a_step told deed is = let never : Step 1 ≡ Deliver is.0.user (record { from = is.0.sender; to = is.0.recipient }) is.0.message is.1.when is.1.default = is.3 in cc
 
-not_freed : (told : Answer) (deed : Deed) → IsDeed (note.Freed (Step 1) told) deed → ⊥
+not_freed : (told : Answer) (deed : LmtpStep) → IsLmtpStep (note.Freed (Step 1) told) deed → ⊥
 not_freed told deed is = is
 
 -- ---- what was found of an account
@@ -80,7 +80,7 @@ abbrev unasked : List (Act Note)
 unasked = Came 1 1 ∷ Sent 1 (53 ∷ []) ∷ []
 
 -- near miss: octets that nothing spells
-not_unspelled : (names : Names) (host : List ℕ) (o : Option MailLine) → TellsOn names host 1 0 None unasked o → IfSome o (λ l. IsFrontOf l.sent l.spelled) → ⊥
+not_unspelled : (names : Names) (host : List ℕ) (o : Option MailLine) → TellsOn names host 1 0 None unasked o → IfSome o (λ l. IsPrefixOf l.sent l.spelled) → ⊥
 not_unspelled names host o told front = by told.0 told.1 told.2
   where
     by : (mid : Option MailLine) → mid ≡ Some (new_mail names host 0) → TellsOn names host 1 0 mid (Sent 1 (53 ∷ []) ∷ []) o → ⊥
@@ -88,7 +88,7 @@ not_unspelled names host o told front = by told.0 told.1 told.2
     by (Some l) came then =
         let one : l ≡ new_mail names host 0 = cc in
         let is : o ≡ Some (sent_more (53 ∷ []) (new_mail names host 0)) = then.2 ∙ then.1.2 ∙ ap (λ (k : MailLine). Some k) (then.1.1 ∙ ap (sent_more (53 ∷ [])) one) in
-        let sent : IsFrontOf (53 ∷ []) (greeting host) = subst (λ (x : Option MailLine). IfSome x (λ l. IsFrontOf l.sent l.spelled)) is front in
+        let sent : IsPrefixOf (53 ∷ []) (lmtp_greeting host) = subst (λ (x : Option MailLine). IfSome x (λ l. IsPrefixOf l.sent l.spelled)) is front in
         let first : 53 ≡ 50 = ap first_of sent.1 in omega (arith, first)
 
 -- ---- room
@@ -107,13 +107,13 @@ no_guest_over : (d : MailDaemon) (id count : ℕ) → IsGuestAt d id → share d
 no_guest_over d id count guest over more (inl keeps) = omega (arith, over, keeps.guests guest)
 no_guest_over d id count guest over more (inr small) = omega (arith, more, small)
 
-no_text_over : (d e : MailDaemon) (id count : ℕ) (post : Post) → post_at e id ≡ Some post → bound e < held e + count → own < held_by post.receiver + count → Fits d id count e → ⊥
+no_text_over : (d e : MailDaemon) (id count : ℕ) (post : LmtpConnection) → post_at e id ≡ Some post → bound e < held e + count → own < held_by post.receiver + count → Fits d id count e → ⊥
 no_text_over d e id count post at over more fits = by fits.room
   where
-    by : HasRoom e id count → ⊥
+    by : HasOctetRoom e id count → ⊥
     by (inl room) = omega (arith, over, room)
     by (inr its) = omega (arith, more, its.2, ap full_post (sym at ∙ its.1))
 
 -- a MAIL is told as answered, and what it lacked is one number
-refused_for : IsDeed note.Answered (Declined 1000)
+refused_for : IsLmtpStep note.Answered (Declined 1000)
 refused_for = inr (1000, refl)

@@ -2,32 +2,32 @@
 use Rattle.std.proofs.Common.{◌≡◌, ◌⊎◌, inl, inr, ℕ, ◌==◌, Bool, true, false, cond, List, [], ◌++◌, Option, Some, None, refl, sym, ◌∙◌, ap, subst}
 use Rattle.std.specs.Ordering.{nat_cmp}
 use Rattle.std.specs.BTreeMap as tree
-use Rattle.lmtp.specs.Replies.{greeting, line_of}
-use Rattle.lmtp.specs.declared.name.Names.{Names}
-use Rattle.lmtp.specs.declared.reply.Reply.TheVariants.{Idle}
-use Rattle.mailstore.specs.Account.{Accounts}
-use Rattle.mailengine.specs.declared.event.Event.{Event}
-use Rattle.mailposts.specs.Posts.{Post, new_post, post_heard}
-use Rattle.mailposts.specs.Stands.{Stands}
-use Rattle.mailposts.specs.declared.post.Post.{Post as Code}
-use Rattle.wires.specs.declared.act.Act.{Act}
-use Rattle.wires.specs.declared.act.Act.TheVariants.{Woke, Began, Timed, Late, Waits, Roused, Worked, Came, NoneCame, Crowded, Displaced, Listened, InUse, Heard, ReadBlocked, Over, Sent, WriteBlocked, Lost, Noted, Full, Again, Shut, Dropped, Ended}
-use Rattle.wires.specs.declared.service.Client.{Client}
-use Rattle.wires.specs.declared.service.Service.{Service}
-use Rattle.wires.specs.declared.turn.Turn.{Turn}
-use Rattle.wires.specs.Talk.{same, client_of, kind_of, Talks}
-use Rattle.wires.specs.Turns.{Turns, Goes as Went, Lacks, Parting, Opens as Enters}
-use Rattle.wires.proofs.TalkLemmas.{one_number}
-use Rattle.sieveddaemon.specs.Desk.{View}
-use Rattle.sieveddaemon.specs.DaemonRules.{lmtp, place_at}
-use Rattle.sieveddaemon.specs.MailActs.{MailLine, new_mail, mail_came, says_more, sent_more, IsNoted, Its, TellsOf, Tells}
-use Rattle.sieveddaemon.specs.MailRules.{mail_rules, post_at, OpensBy, GivesBy, GoesBy, SameHost, IsFarewell, Parts, Works, LacksBy}
-use Rattle.sieveddaemon.specs.declared.daemon.Daemon.{Daemon}
-use Rattle.sieveddaemon.specs.declared.mail.MailDaemon.{MailDaemon}
-use Rattle.sieveddaemon.specs.declared.note.Note.{Note}
-use Rattle.sieveddaemon.specs.declared.place.Place.{Place}
-use Rattle.sieveddaemon.proofs.LineLemmas.{Touches, touch_same, touch_post}
-use Rattle.sieveddaemon.proofs.SentLemmas.{Words, spells, Fits, words_after, fits_new, fits_after}
+use Rattle.lmtp_dialogue.specs.Replies.{lmtp_greeting, lmtp_line_of}
+use Rattle.lmtp_dialogue.specs.declared.name.Names.{Names}
+use Rattle.lmtp_dialogue.specs.declared.reply.LmtpReply.TheVariants.{Idle}
+use Rattle.store_accounts.specs.Account.{Accounts}
+use Rattle.store_engine.specs.declared.event.Event.{Event}
+use Rattle.lmtp_connections.specs.Connections.{LmtpState, new_lmtp_state, lmtp_state_heard}
+use Rattle.lmtp_connections.specs.Stands.{ConnectionStands}
+use Rattle.lmtp_connections.specs.declared.connection.LmtpConnection.{LmtpConnection as Code}
+use Rattle.net_loop.specs.declared.act.Act.{Act}
+use Rattle.net_loop.specs.declared.act.Act.TheVariants.{Woke, Began, Timed, Late, Waits, Resumed, Worked, Came, NoneCame, Crowded, Displaced, Listened, InUse, Heard, ReadBlocked, Over, Sent, WriteBlocked, Lost, Noted, Full, Again, Shut, Dropped, Ended}
+use Rattle.net_loop.specs.declared.service.Client.{Client}
+use Rattle.net_loop.specs.declared.service.Service.{Service}
+use Rattle.net_loop.specs.declared.turn.Turn.{Turn}
+use Rattle.net_loop.specs.Talk.{is_same_id, client_of, client_kind, ClientTalks}
+use Rattle.net_loop.specs.Turns.{TurnAllows, HeardOrLacking as Went, Lacks, Parting, ServiceOpens as Enters}
+use Rattle.net_loop.proofs.TalkLemmas.{one_number}
+use Rattle.daemon_core.specs.StoreAccess.{View}
+use Rattle.daemon_core.specs.DaemonRules.{lmtp, place_at}
+use Rattle.daemon_core.specs.MailActs.{MailLine, new_mail, mail_came, says_more, sent_more, IsLmtpNoted, Its, TellsOf, LmtpTells}
+use Rattle.daemon_core.specs.MailRules.{mail_rules, post_at, OpensBy, GivesBy, GoesBy, SameHost, IsFarewell, SaysLast, DaemonWorks, LacksBy}
+use Rattle.daemon_core.specs.declared.daemon.Daemon.{Daemon}
+use Rattle.daemon_core.specs.declared.mail.MailDaemon.{MailDaemon}
+use Rattle.daemon_core.specs.declared.note.Note.{Note}
+use Rattle.daemon_core.specs.declared.client_state.ClientState.{ClientState}
+use Rattle.daemon_core.proofs.LineLemmas.{Touches, touch_same, touch_post}
+use Rattle.daemon_core.proofs.SentLemmas.{Words, spells, Fits, words_after, fits_new, fits_after}
 
 -- ---- how the daemon is set up stays
 
@@ -36,7 +36,7 @@ pub record IsSetUp (names : Names) (host : List ℕ) (d : MailDaemon) : Type 0 w
   pub hosted : d.host ≡ host
 
 set_up : (names : Names) (host : List ℕ) (d e : MailDaemon) → IsSetUp names host d → SameHost d e → IsSetUp names host e
-set_up names host d e is same = record { named = same.names ∙ is.named; hosted = same.host ∙ is.hosted }
+set_up names host d e is is_same_id = record { named = is_same_id.names ∙ is.named; hosted = is_same_id.host ∙ is.hosted }
 
 module _ {R : Type 0} (view : View R) (names : Names) (host : List ℕ) (d e : MailDaemon) (r q : R) (s u : Service) (is : IsSetUp names host d) where
   left_so : e ≡ d → IsSetUp names host e
@@ -61,7 +61,7 @@ module _ {R : Type 0} (view : View R) (names : Names) (host : List ℕ) (d e : M
   gives_so n piece said (inl g) = set_up names host d e is g.host
   gives_so n piece said (inr g) = set_up names host d e is g.same.host
 
-  heard_so : (n count : ℕ) (piece said : List ℕ) → Went (GivesBy d s.moment n piece said e) (LacksBy d n e) n (kind_of (client_of s n)) count said u.turn → IsSetUp names host e
+  heard_so : (n count : ℕ) (piece said : List ℕ) → Went (GivesBy d s.moment n piece said e) (LacksBy d n e) n (client_kind (client_of s n)) count said u.turn → IsSetUp names host e
   heard_so n count piece said (inl g) = gives_so n piece said g.0
   heard_so n count piece said (inr g) = lacks_so n g.0
 
@@ -79,7 +79,7 @@ module _ {R : Type 0} (view : View R) (names : Names) (host : List ℕ) (d e : M
   lacked_so n (inr (inl t)) = lacks_so n t.0
   lacked_so n (inr (inr t)) = left_so t.0
 
-  pub stays_set_up : (act : Act Note) (said : List ℕ) → Turns (mail_rules view) d r s act said e q u → IsSetUp names host e
+  pub stays_set_up : (act : Act Note) (said : List ℕ) → TurnAllows (mail_rules view) d r s act said e q u → IsSetUp names host e
   stays_set_up (Came n kind) said t = came_so n kind said t.3
   stays_set_up (Heard n piece) said t = heard_so n t.count piece said t.goes
   stays_set_up (Ended n) said t = set_up names host d e is t.0.host
@@ -93,7 +93,7 @@ module _ {R : Type 0} (view : View R) (names : Names) (host : List ℕ) (d e : M
   stays_set_up (Woke within wakes) said t = left_so t.0.0
   stays_set_up (Timed moment) said t = left_so t.0.0
   stays_set_up (Began wake) said t = left_so t.0.0
-  stays_set_up (Roused n) said t = left_so t.0.0
+  stays_set_up (Resumed n) said t = left_so t.0.0
   stays_set_up (NoneCame kind) said t = left_so t.0.0
   stays_set_up (Crowded kind) said t = left_so t.0.0
   stays_set_up (InUse n) said t = left_so t.0.0
@@ -109,44 +109,44 @@ module _ {R : Type 0} (view : View R) (names : Names) (host : List ℕ) (d e : M
 -- ---- for which connection the code stands
 
 -- nothing of a client of ManageSieve has its number
-pub record Bound (d : MailDaemon) (id : ℕ) (p : Post) : Type 0 where
+pub record Bound (d : MailDaemon) (id : ℕ) (p : LmtpState) : Type 0 where
   pub none : place_at d.daemon id ≡ None
-  pub stands : (c : Code) → post_at d id ≡ Some c → Stands c p
+  pub stands : (c : Code) → post_at d id ≡ Some c → ConnectionStands c p
 
 abbrev pub BoundBy : MailDaemon → ℕ → Option MailLine → Type 0
 BoundBy d id None = Unit {0}
 BoundBy d id (Some l) = Bound d id l.post
 
 -- a connection n of which this is known now
-pub record Keeps (post : Option Code) (place : Option Place) (p : Post) : Type 0 where
+pub record Keeps (post : Option Code) (place : Option ClientState) (p : LmtpState) : Type 0 where
   pub none : place ≡ None
-  pub stands : (c : Code) → post ≡ Some c → Stands c p
+  pub stands : (c : Code) → post ≡ Some c → ConnectionStands c p
 
-bound_put : (d e : MailDaemon) (id : ℕ) (post : Option Code) (place : Option Place) (b : Bool) (k l : Post) → post_at e id ≡ cond b post (post_at d id) → place_at e.daemon id ≡ cond b place (place_at d.daemon id)
+bound_put : (d e : MailDaemon) (id : ℕ) (post : Option Code) (place : Option ClientState) (b : Bool) (k l : LmtpState) → post_at e id ≡ cond b post (post_at d id) → place_at e.daemon id ≡ cond b place (place_at d.daemon id)
     → (b ≡ true → Keeps post place k) → Bound d id l → Bound e id (cond b k l)
 bound_put d e id post place true k l posts places put bound =
     let new = put refl in record { none = places ∙ new.none; stands = λ c at. new.stands c (sym posts ∙ at) }
 bound_put d e id post place false k l posts places put bound = record { none = places ∙ bound.none; stands = λ c at. bound.stands c (sym posts ∙ at) }
 
 -- none is kept
-none_kept : (p : Post) → Keeps None None p
+none_kept : (p : LmtpState) → Keeps None None p
 none_kept p = record { none = refl; stands = λ c at. let never : ⊥ = let is : ◌≡◌ {A = Option Code} None (Some c) = at in cc in absurd never }
 
 -- this one is
-one_kept : (code : Code) (p : Post) → Stands code p → (place : Option Place) → place ≡ None → Keeps (Some code) place p
-one_kept code p stands place none = record { none = none; stands = λ c at. let one : code ≡ c = cc in subst (λ x. Stands x p) one stands }
+one_kept : (code : Code) (p : LmtpState) → ConnectionStands code p → (place : Option ClientState) → place ≡ None → Keeps (Some code) place p
+one_kept code p stands place none = record { none = none; stands = λ c at. let one : code ≡ c = cc in subst (λ x. ConnectionStands x p) one stands }
 
-same_post : (b : Bool) (p : Post) → cond b p p ≡ p
+same_post : (b : Bool) (p : LmtpState) → cond b p p ≡ p
 same_post true p = refl
 same_post false p = refl
 
 -- what is said last to it
-farewell_by : (o : Option Code) (p : Option Place) (said : List ℕ) → p ≡ None → IsFarewell o p said → said ≡ line_of Idle
+farewell_by : (o : Option Code) (p : Option ClientState) (said : List ℕ) → p ≡ None → IsFarewell o p said → said ≡ lmtp_line_of Idle
 farewell_by (Some code) p said none is = is
 farewell_by None None said none is = absurd is
 farewell_by None (Some place) said none is = let never : ⊥ = cc in absurd never
 
-idle_some : [] ≡ line_of Idle → ⊥
+idle_some : [] ≡ lmtp_line_of Idle → ⊥
 idle_some is = cc
 
 abbrev pub words_of : MailLine → Words
@@ -157,16 +157,16 @@ FitsBy id None o turn = Unit {0}
 FitsBy id (Some l) o turn = Fits id (words_of l) o turn
 
 module _ {R : Type 0} (view : View R) (names : Names) (host : List ℕ) (d e : MailDaemon) (r q : R) (s u : Service) (id : ℕ) (is_set_up : IsSetUp names host d) where
-  touched : (n : ℕ) (post : Option Code) (place : Option Place) → Touches d n post place e → (k l : Post) → (same n id ≡ true → Keeps post place k) → Bound d id l → Bound e id (cond (same n id) k l)
-  touched n post place t k l put bound = bound_put d e id post place (same n id) k l (t.posts id) (t.places id) put bound
+  touched : (n : ℕ) (post : Option Code) (place : Option ClientState) → Touches d n post place e → (k l : LmtpState) → (is_same_id n id ≡ true → Keeps post place k) → Bound d id l → Bound e id (cond (is_same_id n id) k l)
+  touched n post place t k l put bound = bound_put d e id post place (is_same_id n id) k l (t.posts id) (t.places id) put bound
 
-  touched_still : (n : ℕ) (post : Option Code) (place : Option Place) → Touches d n post place e → (l : Post) → (same n id ≡ true → Keeps post place l) → Bound d id l → Bound e id l
-  touched_still n post place t l put bound = subst (λ k. Bound e id k) (same_post (same n id) l) (touched n post place t l l put bound)
+  touched_still : (n : ℕ) (post : Option Code) (place : Option ClientState) → Touches d n post place e → (l : LmtpState) → (is_same_id n id ≡ true → Keeps post place l) → Bound d id l → Bound e id l
+  touched_still n post place t l put bound = subst (λ k. Bound e id k) (same_post (is_same_id n id) l) (touched n post place t l l put bound)
 
   lost : (n : ℕ) → LacksBy d n e → Touches d n None None e
   lost n lacks = record { posts = lacks.posts; places = lacks.lacks.place.places }
 
-  gone : (n : ℕ) → LacksBy d n e → (k l : Post) → Bound d id l → Bound e id (cond (same n id) k l)
+  gone : (n : ℕ) → LacksBy d n e → (k l : LmtpState) → Bound d id l → Bound e id (cond (is_same_id n id) k l)
   gone n lacks k l bound = touched n None None (lost n lacks) k l (λ is. none_kept k) bound
 
   -- behind an act of one that came
@@ -179,57 +179,57 @@ module _ {R : Type 0} (view : View R) (names : Names) (host : List ℕ) (d e : M
     still is = subst (λ (x : MailDaemon). Bound x id l.post) (sym is) bound
 
     -- no place of a client of ManageSieve is its own
-    no_place : (n : ℕ) (place : Place) → place_at d.daemon n ≡ Some place → same n id ≡ true → ⊥
+    no_place : (n : ℕ) (place : ClientState) → place_at d.daemon n ≡ Some place → is_same_id n id ≡ true → ⊥
     no_place n place was is = let never : None ≡ Some place = sym bound.none ∙ ap (λ k. place_at d.daemon k) (sym (one_number n id is)) ∙ was in cc
 
-    stood : (n : ℕ) (code : Code) → post_at d n ≡ Some code → same n id ≡ true → Stands code l.post
+    stood : (n : ℕ) (code : Code) → post_at d n ≡ Some code → is_same_id n id ≡ true → ConnectionStands code l.post
     stood n code was is = bound.stands code (ap (λ k. post_at d k) (sym (one_number n id is)) ∙ was)
 
-    place_none : (n : ℕ) → same n id ≡ true → place_at d.daemon n ≡ None
+    place_none : (n : ℕ) → is_same_id n id ≡ true → place_at d.daemon n ≡ None
     place_none n is = ap (λ k. place_at d.daemon k) (one_number n id is) ∙ bound.none
 
     heard_to : ℕ → List ℕ → MailLine
-    heard_to n piece = record l { post = cond (same n id) (post_heard s.moment piece l.post) l.post }
+    heard_to n piece = record l { post = cond (is_same_id n id) (lmtp_state_heard s.moment piece l.post) l.post }
 
-    given : (n : ℕ) (piece said : List ℕ) → GivesBy d s.moment n piece said e → Bound e id (cond (same n id) (post_heard s.moment piece l.post) l.post)
+    given : (n : ℕ) (piece said : List ℕ) → GivesBy d s.moment n piece said e → Bound e id (cond (is_same_id n id) (lmtp_state_heard s.moment piece l.post) l.post)
     given n piece said (inl g) =
-        touched n (Some g.after) (place_at d.daemon n) (touch_post d e n (Some g.after) g.posts (λ other. ap (λ (k : Daemon). place_at k other) g.daemon)) (post_heard s.moment piece l.post) l.post
-        (λ is. one_kept g.after (post_heard s.moment piece l.post) (g.hears l.post (stood n g.before g.was is)) (place_at d.daemon n) (place_none n is)) bound
+        touched n (Some g.after) (place_at d.daemon n) (touch_post d e n (Some g.after) g.posts (λ other. ap (λ (k : Daemon). place_at k other) g.daemon)) (lmtp_state_heard s.moment piece l.post) l.post
+        (λ is. one_kept g.after (lmtp_state_heard s.moment piece l.post) (g.hears l.post (stood n g.before g.was is)) (place_at d.daemon n) (place_none n is)) bound
     given n piece said (inr g) =
-        touched n None _ (touch_same d e n _ g.other g.same.posts g.gives.place.places) (post_heard s.moment piece l.post) l.post (λ is. absurd (no_place n g.gives.before g.gives.was is)) bound
+        touched n None _ (touch_same d e n _ g.other g.same.posts g.gives.place.places) (lmtp_state_heard s.moment piece l.post) l.post (λ is. absurd (no_place n g.gives.before g.gives.was is)) bound
 
-    heard : (n count : ℕ) (piece said : List ℕ) → Went (GivesBy d s.moment n piece said e) (LacksBy d n e) n (kind_of (client_of s n)) count said u.turn → Bound e id (cond (same n id) (post_heard s.moment piece l.post) l.post)
+    heard : (n count : ℕ) (piece said : List ℕ) → Went (GivesBy d s.moment n piece said e) (LacksBy d n e) n (client_kind (client_of s n)) count said u.turn → Bound e id (cond (is_same_id n id) (lmtp_state_heard s.moment piece l.post) l.post)
     heard n count piece said (inl g) = given n piece said g.0
-    heard n count piece said (inr g) = gone n g.0 (post_heard s.moment piece l.post) l.post bound
+    heard n count piece said (inr g) = gone n g.0 (lmtp_state_heard s.moment piece l.post) l.post bound
 
-    heard_then : (b : Bool) (piece : List ℕ) → Bound e id (cond b (post_heard s.moment piece l.post) l.post) → Fits id (words_of l) (client_of u id) u.turn
-        → (k : MailLine) × Its b (k ≡ record l { post = post_heard s.moment piece l.post }) (k ≡ l) × Bound e id k.post × Fits id (words_of k) (client_of u id) u.turn
-    heard_then true piece now_bound fits = (record l { post = post_heard s.moment piece l.post }, refl, now_bound, fits)
+    heard_then : (b : Bool) (piece : List ℕ) → Bound e id (cond b (lmtp_state_heard s.moment piece l.post) l.post) → Fits id (words_of l) (client_of u id) u.turn
+        → (k : MailLine) × Its b (k ≡ record l { post = lmtp_state_heard s.moment piece l.post }) (k ≡ l) × Bound e id k.post × Fits id (words_of k) (client_of u id) u.turn
+    heard_then true piece now_bound fits = (record l { post = lmtp_state_heard s.moment piece l.post }, refl, now_bound, fits)
     heard_then false piece now_bound fits = (l, refl, now_bound, fits)
 
     -- a deed for it, or a note of another
-    done : (n : ℕ) (note : Note) (said : List ℕ) → same n id ≡ true → GoesBy view d r s.moment n note said e q → Fits id (spells said (words_of l)) (client_of u id) u.turn
-        → (k : MailLine) × IsNoted s.moment l note k × Bound e id k.post × Fits id (words_of k) (client_of u id) u.turn
+    done : (n : ℕ) (note : Note) (said : List ℕ) → is_same_id n id ≡ true → GoesBy view d r s.moment n note said e q → Fits id (spells said (words_of l)) (client_of u id) u.turn
+        → (k : MailLine) × IsLmtpNoted s.moment l note k × Bound e id k.post × Fits id (words_of k) (client_of u id) u.turn
     done n note said is (inl g) fits =
         let did = g.does.does l.post (stood n g.before g.was is) in
         let post : post_at e id ≡ Some g.after = g.posts id ∙ ap (λ b. cond b (Some g.after) (post_at d id)) is in
         let place : place_at e.daemon id ≡ None = ap (λ places. place_at (record d.daemon { places = places }) id) g.does.places ∙ bound.none in (
           record { post = did.0; spelled = l.spelled ++ said; sent = l.sent },
           record { deed = g.does.deed; told = g.does.is; said = said; after = did.0; goes = did.1; leaves = refl },
-          record { none = place; stands = λ c at. let one : g.after ≡ c = let both : Some g.after ≡ Some c = sym post ∙ at in cc in subst (λ x. Stands x did.0) one did.2 },
+          record { none = place; stands = λ c at. let one : g.after ≡ c = let both : Some g.after ≡ Some c = sym post ∙ at in cc in subst (λ x. ConnectionStands x did.0) one did.2 },
           fits,
         )
     done n note said is (inr g) fits = absurd (no_place n g.goes.before g.goes.was is)
 
-    done_elsewhere : (n : ℕ) (note : Note) (said : List ℕ) → same n id ≡ false → GoesBy view d r s.moment n note said e q → Bound e id l.post
+    done_elsewhere : (n : ℕ) (note : Note) (said : List ℕ) → is_same_id n id ≡ false → GoesBy view d r s.moment n note said e q → Bound e id l.post
     done_elsewhere n note said other (inl g) =
         touched_still n (Some g.after) (place_at d.daemon n) (touch_post d e n (Some g.after) g.posts (λ k. ap (λ places. place_at (record d.daemon { places = places }) k) g.does.places)) l.post
         (λ is. let never : ⊥ = let both : true ≡ false = sym is ∙ other in cc in absurd never) bound
     done_elsewhere n note said other (inr g) =
         touched_still n None _ (touch_same d e n _ g.other g.same.posts g.goes.place) l.post (λ is. let never : ⊥ = let both : true ≡ false = sym is ∙ other in cc in absurd never) bound
 
-    noted_then : (b : Bool) (n : ℕ) (note : Note) (said : List ℕ) → same n id ≡ b → GoesBy view d r s.moment n note said e q → Fits id (cond b (spells said (words_of l)) (words_of l)) (client_of u id) u.turn
-        → (k : MailLine) × Its b (IsNoted s.moment l note k) (k ≡ l) × Bound e id k.post × Fits id (words_of k) (client_of u id) u.turn
+    noted_then : (b : Bool) (n : ℕ) (note : Note) (said : List ℕ) → is_same_id n id ≡ b → GoesBy view d r s.moment n note said e q → Fits id (cond b (spells said (words_of l)) (words_of l)) (client_of u id) u.turn
+        → (k : MailLine) × Its b (IsLmtpNoted s.moment l note k) (k ≡ l) × Bound e id k.post × Fits id (words_of k) (client_of u id) u.turn
     noted_then true n note said is g fits = done n note said is g fits
     noted_then false n note said is g fits = (l, refl, done_elsewhere n note said is g, fits)
 
@@ -237,11 +237,11 @@ module _ {R : Type 0} (view : View R) (names : Names) (host : List ℕ) (d e : M
     late_bound : (n : ℕ) (said : List ℕ) → Parting (mail_rules view) d s n said e u → Bound e id l.post
     late_bound n said (inl p) = still p.1.stays
     late_bound n said (inr (inl p)) = still p.2.0
-    late_bound n said (inr (inr p)) = subst (λ k. Bound e id k) (same_post (same n id) l.post) (gone n p.2 l.post l.post bound)
+    late_bound n said (inr (inr p)) = subst (λ k. Bound e id k) (same_post (is_same_id n id) l.post) (gone n p.2 l.post l.post bound)
 
-    late_then : (b : Bool) → Bound e id l.post → Fits id (cond b (spells (line_of Idle) (words_of l)) (words_of l)) (client_of u id) u.turn
-        → (k : MailLine) × Its b (k ≡ says_more (line_of Idle) l) (k ≡ l) × Bound e id k.post × Fits id (words_of k) (client_of u id) u.turn
-    late_then true now_bound fits = (says_more (line_of Idle) l, refl, now_bound, fits)
+    late_then : (b : Bool) → Bound e id l.post → Fits id (cond b (spells (lmtp_line_of Idle) (words_of l)) (words_of l)) (client_of u id) u.turn
+        → (k : MailLine) × Its b (k ≡ says_more (lmtp_line_of Idle) l) (k ≡ l) × Bound e id k.post × Fits id (words_of k) (client_of u id) u.turn
+    late_then true now_bound fits = (says_more (lmtp_line_of Idle) l, refl, now_bound, fits)
     late_then false now_bound fits = (l, refl, now_bound, fits)
 
     sent_then : (b : Bool) (octets : List ℕ) → Bound e id l.post → Fits id (cond b (words_of (sent_more octets l)) (words_of l)) (client_of u id) u.turn
@@ -251,10 +251,10 @@ module _ {R : Type 0} (view : View R) (names : Names) (host : List ℕ) (d e : M
 
     lacked : (n : ℕ) → Lacks (mail_rules view) d s n e u → Bound e id l.post
     lacked n (inl t) = still t.2
-    lacked n (inr (inl t)) = subst (λ k. Bound e id k) (same_post (same n id) l.post) (gone n t.0 l.post l.post bound)
+    lacked n (inr (inl t)) = subst (λ k. Bound e id k) (same_post (is_same_id n id) l.post) (gone n t.0 l.post l.post bound)
     lacked n (inr (inr t)) = still t.0
 
-    rested : (note : Note) → Works view d r s.moment note e q → Bound e id l.post
+    rested : (note : Note) → DaemonWorks view d r s.moment note e q → Bound e id l.post
     rested note work =
         let post : post_at e id ≡ post_at d id = ap (λ posts. post_at (record d { posts = posts }) id) work.same.posts in
         let place : place_at e.daemon id ≡ place_at d.daemon id = ap (λ places. tree.get nat_cmp places id) work.does.places in
@@ -264,13 +264,13 @@ module _ {R : Type 0} (view : View R) (names : Names) (host : List ℕ) (d e : M
     ended n t = touched_still n None None t l.post (λ is. none_kept l.post) bound
 
     -- another came
-    opened : (b : Bool) (n : ℕ) (said : List ℕ) → same n id ≡ false → OpensBy b d s.moment n said e → Bound e id l.post
+    opened : (b : Bool) (n : ℕ) (said : List ℕ) → is_same_id n id ≡ false → OpensBy b d s.moment n said e → Bound e id l.post
     opened true n said other o =
         touched_still n (Some o.post) None (record { posts = o.posts; places = o.daemon.place.places }) l.post (λ is. let never : ⊥ = let both : true ≡ false = sym is ∙ other in cc in absurd never) bound
     opened false n said other o =
         touched_still n None _ (record { posts = o.posts; places = o.opens.place.places }) l.post (λ is. let never : ⊥ = let both : true ≡ false = sym is ∙ other in cc in absurd never) bound
 
-    came_elsewhere : (n kind : ℕ) (said : List ℕ) → same n id ≡ false → Enters (mail_rules view) d s.moment n kind said e u → Bound e id l.post
+    came_elsewhere : (n kind : ℕ) (said : List ℕ) → is_same_id n id ≡ false → Enters (mail_rules view) d s.moment n kind said e u → Bound e id l.post
     came_elsewhere n kind said other (inl o) = opened (kind == lmtp) n said other o.0
     came_elsewhere n kind said other (inr o) = by o.2
       where
@@ -282,24 +282,24 @@ module _ {R : Type 0} (view : View R) (names : Names) (host : List ℕ) (d e : M
     silent piece said (inl g) = g.silent
     silent piece said (inr g) = g.gives.silent
 
-    farewell : (said : List ℕ) → Parts d id said e → said ≡ line_of Idle
+    farewell : (said : List ℕ) → SaysLast d id said e → said ≡ lmtp_line_of Idle
     farewell said p = farewell_by (post_at d id) (place_at d.daemon id) said bound.none p.says
 
     abbrev IsOther : Act Note → Type 0
-    IsOther (Came n kind) = same n id ≡ false
+    IsOther (Came n kind) = is_same_id n id ≡ false
     IsOther act = Unit {0}
 
-    fit : (act : Act Note) (said : List ℕ) → IsOther act → Fits id (words_of l) (client_of s id) s.turn → Turns (mail_rules view) d r s act said e q u → Talks s.moment id (client_of s id) act said (client_of u id)
-        → Fits id (words_after (mail_rules view) d e r q s u id (line_of Idle) said (words_of l) act) (client_of u id) u.turn
-    fit act said other fits t talks = fits_after (mail_rules view) d e r q s u id (line_of Idle) (words_of l) idle_some silent farewell act said other fits t talks
+    fit : (act : Act Note) (said : List ℕ) → IsOther act → Fits id (words_of l) (client_of s id) s.turn → TurnAllows (mail_rules view) d r s act said e q u → ClientTalks s.moment id (client_of s id) act said (client_of u id)
+        → Fits id (words_after (mail_rules view) d e r q s u id (lmtp_line_of Idle) said (words_of l) act) (client_of u id) u.turn
+    fit act said other fits t talks = fits_after (mail_rules view) d e r q s u id (lmtp_line_of Idle) (words_of l) idle_some silent farewell act said other fits t talks
 
-    mail_then : (act : Act Note) (said : List ℕ) → IsOther act → Turns (mail_rules view) d r s act said e q u → Fits id (words_after (mail_rules view) d e r q s u id (line_of Idle) said (words_of l) act) (client_of u id) u.turn → Then act
+    mail_then : (act : Act Note) (said : List ℕ) → IsOther act → TurnAllows (mail_rules view) d r s act said e q u → Fits id (words_after (mail_rules view) d e r q s u id (lmtp_line_of Idle) said (words_of l) act) (client_of u id) u.turn → Then act
     mail_then (Came n kind) said other t fits = (l, refl, came_elsewhere n kind said other t.3, fits)
-    mail_then (Heard n piece) said other t fits = heard_then (same n id) piece (heard n t.count piece said t.goes) fits
-    mail_then (Noted n note) said other t fits = noted_then (same n id) n note said refl t.0 fits
-    mail_then (Late n) said other t fits = late_then (same n id) (late_bound n said t.2) fits
-    mail_then (Displaced n) said other t fits = late_then (same n id) (late_bound n said t.1) fits
-    mail_then (Sent n octets) said other t fits = sent_then (same n id) octets (still t.0.0) fits
+    mail_then (Heard n piece) said other t fits = heard_then (is_same_id n id) piece (heard n t.count piece said t.goes) fits
+    mail_then (Noted n note) said other t fits = noted_then (is_same_id n id) n note said refl t.0 fits
+    mail_then (Late n) said other t fits = late_then (is_same_id n id) (late_bound n said t.2) fits
+    mail_then (Displaced n) said other t fits = late_then (is_same_id n id) (late_bound n said t.1) fits
+    mail_then (Sent n octets) said other t fits = sent_then (is_same_id n id) octets (still t.0.0) fits
     mail_then (Ended n) said other t fits = (l, refl, ended n (record { posts = t.0.posts; places = t.0.closes.place.places }), fits)
     mail_then (Full n) said other t fits = (l, refl, lacked n t.1, fits)
     mail_then (Worked note) said other t fits = (l, refl, rested note t.0, fits)
@@ -307,7 +307,7 @@ module _ {R : Type 0} (view : View R) (names : Names) (host : List ℕ) (d e : M
     mail_then (Woke within wakes) said other t fits = (l, refl, still t.0.0, fits)
     mail_then (Timed moment) said other t fits = (l, refl, still t.0.0, fits)
     mail_then (Began wake) said other t fits = (l, refl, still t.0.0, fits)
-    mail_then (Roused n) said other t fits = (l, refl, still t.0.0, fits)
+    mail_then (Resumed n) said other t fits = (l, refl, still t.0.0, fits)
     mail_then (NoneCame kind) said other t fits = (l, refl, still t.0.0, fits)
     mail_then (Crowded kind) said other t fits = (l, refl, still t.0.0, fits)
     mail_then (InUse n) said other t fits = (l, refl, still t.0.0, fits)
@@ -325,53 +325,53 @@ module _ {R : Type 0} (view : View R) (names : Names) (host : List ℕ) (d e : M
   abbrev Newly : ℕ → Option MailLine → Type 0
   Newly kind p = (p ≡ mail_came names host s.moment (kind == lmtp)) × BoundBy e id p × FitsBy id p (client_of u id) u.turn
 
-  greets : (n kind : ℕ) (said : List ℕ) → kind == lmtp ≡ true → OpensBy (kind == lmtp) d s.moment n said e → said ≡ greeting host
+  greets : (n kind : ℕ) (said : List ℕ) → kind == lmtp ≡ true → OpensBy (kind == lmtp) d s.moment n said e → said ≡ lmtp_greeting host
   greets n kind said is opens =
-      let o = subst (λ b. OpensBy b d s.moment n said e) is opens in o.says ∙ ap greeting is_set_up.hosted
+      let o = subst (λ b. OpensBy b d s.moment n said e) is opens in o.says ∙ ap lmtp_greeting is_set_up.hosted
 
-  begun : (n : ℕ) (said : List ℕ) → same n id ≡ true → OpensBy true d s.moment n said e → Bound e id (new_post names host s.moment)
+  begun : (n : ℕ) (said : List ℕ) → is_same_id n id ≡ true → OpensBy true d s.moment n said e → Bound e id (new_lmtp_state names host s.moment)
   begun n said is o =
       let post : post_at e id ≡ Some o.post = o.posts id ∙ ap (λ b. cond b (Some o.post) (post_at d id)) is in
       let place : place_at e.daemon id ≡ None = o.daemon.place.places id ∙ ap (λ b. cond b None (place_at d.daemon id)) is in
-      let stands : Stands o.post (new_post names host s.moment) =
-      subst (λ h. Stands o.post (new_post names h s.moment)) is_set_up.hosted (subst (λ x. Stands o.post (new_post x d.host s.moment)) is_set_up.named o.begins) in
-      record { none = place; stands = λ c at. let one : o.post ≡ c = let both : Some o.post ≡ Some c = sym post ∙ at in cc in subst (λ x. Stands x (new_post names host s.moment)) one stands }
+      let stands : ConnectionStands o.post (new_lmtp_state names host s.moment) =
+      subst (λ h. ConnectionStands o.post (new_lmtp_state names h s.moment)) is_set_up.hosted (subst (λ x. ConnectionStands o.post (new_lmtp_state x d.host s.moment)) is_set_up.named o.begins) in
+      record { none = place; stands = λ c at. let one : o.post ≡ c = let both : Some o.post ≡ Some c = sym post ∙ at in cc in subst (λ x. ConnectionStands x (new_lmtp_state names host s.moment)) one stands }
 
-  gone_new : (n : ℕ) (p : Post) → same n id ≡ true → LacksBy d n e → Bound e id p
+  gone_new : (n : ℕ) (p : LmtpState) → is_same_id n id ≡ true → LacksBy d n e → Bound e id p
   gone_new n p is lacks =
       let post : post_at e id ≡ None = lacks.posts id ∙ ap (λ b. cond b None (post_at d id)) is in
       let place : place_at e.daemon id ≡ None = lacks.lacks.place.places id ∙ ap (λ b. cond b None (place_at d.daemon id)) is in
       record { none = place; stands = λ c at. let never : ⊥ = let both : None ≡ Some c = sym post ∙ at in cc in absurd never }
 
-  new_bound : (n kind : ℕ) (said : List ℕ) → same n id ≡ true → kind == lmtp ≡ true → Enters (mail_rules view) d s.moment n kind said e u → Bound e id (new_post names host s.moment)
+  new_bound : (n kind : ℕ) (said : List ℕ) → is_same_id n id ≡ true → kind == lmtp ≡ true → Enters (mail_rules view) d s.moment n kind said e u → Bound e id (new_lmtp_state names host s.moment)
   new_bound n kind said is by_lmtp (inl o) = begun n said is (subst (λ b. OpensBy b d s.moment n said e) by_lmtp o.0)
   new_bound n kind said is by_lmtp (inr o) = by o.2
     where
-      by : OpensBy (kind == lmtp) d s.moment n said e ⊎ LacksBy d n e → Bound e id (new_post names host s.moment)
+      by : OpensBy (kind == lmtp) d s.moment n said e ⊎ LacksBy d n e → Bound e id (new_lmtp_state names host s.moment)
       by (inl opens) = begun n said is (subst (λ b. OpensBy b d s.moment n said e) by_lmtp opens)
-      by (inr lacks) = gone_new n (new_post names host s.moment) is lacks
+      by (inr lacks) = gone_new n (new_lmtp_state names host s.moment) is lacks
 
-  new_by : (b : Bool) (n kind : ℕ) (said : List ℕ) → kind == lmtp ≡ b → same n id ≡ true → Enters (mail_rules view) d s.moment n kind said e u
+  new_by : (b : Bool) (n kind : ℕ) (said : List ℕ) → kind == lmtp ≡ b → is_same_id n id ≡ true → Enters (mail_rules view) d s.moment n kind said e u
       → (p : Option MailLine) × (p ≡ mail_came names host s.moment b) × BoundBy e id p × FitsBy id p (client_of u id) u.turn
   new_by false n kind said by_kind is enters = (None, refl, tt, tt)
   new_by true n kind said by_kind is enters = (
     Some (new_mail names host s.moment),
     refl,
     new_bound n kind said is by_kind enters,
-    fits_new (mail_rules view) d e r q s u id (line_of Idle) n kind (greeting host) said is (greets n kind said by_kind) enters,
+    fits_new (mail_rules view) d e r q s u id (lmtp_line_of Idle) n kind (lmtp_greeting host) said is (greets n kind said by_kind) enters,
   )
 
   -- ---- behind each act
 
   abbrev After : Option MailLine → Act Note → Type 0
-  After o act = (p : Option MailLine) × Tells names host id s.moment o act p × BoundBy e id p × FitsBy id p (client_of u id) u.turn
+  After o act = (p : Option MailLine) × LmtpTells names host id s.moment o act p × BoundBy e id p × FitsBy id p (client_of u id) u.turn
 
-  of_one : (l : MailLine) (bound : Bound d id l.post) → Fits id (words_of l) (client_of s id) s.turn → (act : Act Note) (said : List ℕ) → IsOther l bound act → Turns (mail_rules view) d r s act said e q u
-      → Talks s.moment id (client_of s id) act said (client_of u id) → (k : MailLine) × TellsOf id s.moment l act k × Bound e id k.post × Fits id (words_of k) (client_of u id) u.turn
+  of_one : (l : MailLine) (bound : Bound d id l.post) → Fits id (words_of l) (client_of s id) s.turn → (act : Act Note) (said : List ℕ) → IsOther l bound act → TurnAllows (mail_rules view) d r s act said e q u
+      → ClientTalks s.moment id (client_of s id) act said (client_of u id) → (k : MailLine) × TellsOf id s.moment l act k × Bound e id k.post × Fits id (words_of k) (client_of u id) u.turn
   of_one l bound fits act said other t talks = mail_then l bound act said other t (fit l bound act said other fits t talks)
 
-  came_by : (b : Bool) (o : Option MailLine) → BoundBy d id o → FitsBy id o (client_of s id) s.turn → (n kind : ℕ) (said : List ℕ) → same n id ≡ b → Turns (mail_rules view) d r s (Came n kind) said e q u
-      → Talks {N = Note} s.moment id (client_of s id) (Came n kind) said (client_of u id)
+  came_by : (b : Bool) (o : Option MailLine) → BoundBy d id o → FitsBy id o (client_of s id) s.turn → (n kind : ℕ) (said : List ℕ) → is_same_id n id ≡ b → TurnAllows (mail_rules view) d r s (Came n kind) said e q u
+      → ClientTalks {N = Note} s.moment id (client_of s id) (Came n kind) said (client_of u id)
       → (p : Option MailLine) × Its b (p ≡ mail_came names host s.moment (kind == lmtp)) (p ≡ o) × BoundBy e id p × FitsBy id p (client_of u id) u.turn
   came_by true o bound fits n kind said is t talks = new_by (kind == lmtp) n kind said refl is t.3
   came_by false None bound fits n kind said is t talks = (None, refl, tt, tt)
@@ -379,9 +379,9 @@ module _ {R : Type 0} (view : View R) (names : Names) (host : List ℕ) (d e : M
       let it = of_one l bound fits (Came n kind) said is t talks in
       (Some l, refl, subst (λ (k : MailLine). Bound e id k.post) it.1 it.2, subst (λ (k : MailLine). Fits id (words_of k) (client_of u id) u.turn) it.1 it.3)
 
-  mail_some : (l : MailLine) → Bound d id l.post → Fits id (words_of l) (client_of s id) s.turn → (act : Act Note) (said : List ℕ) → Turns (mail_rules view) d r s act said e q u
-      → Talks s.moment id (client_of s id) act said (client_of u id) → After (Some l) act
-  mail_some l bound fits (Came n kind) said t talks = came_by (same n id) (Some l) bound fits n kind said refl t talks
+  mail_some : (l : MailLine) → Bound d id l.post → Fits id (words_of l) (client_of s id) s.turn → (act : Act Note) (said : List ℕ) → TurnAllows (mail_rules view) d r s act said e q u
+      → ClientTalks s.moment id (client_of s id) act said (client_of u id) → After (Some l) act
+  mail_some l bound fits (Came n kind) said t talks = came_by (is_same_id n id) (Some l) bound fits n kind said refl t talks
   mail_some l bound fits (Heard n piece) said t talks = let it = of_one l bound fits (Heard n piece) said tt t talks in (Some it.0, (it.0, it.1, refl), it.2, it.3)
   mail_some l bound fits (Noted n note) said t talks = let it = of_one l bound fits (Noted n note) said tt t talks in (Some it.0, (it.0, it.1, refl), it.2, it.3)
   mail_some l bound fits (Late n) said t talks = let it = of_one l bound fits (Late n) said tt t talks in (Some it.0, (it.0, it.1, refl), it.2, it.3)
@@ -394,7 +394,7 @@ module _ {R : Type 0} (view : View R) (names : Names) (host : List ℕ) (d e : M
   mail_some l bound fits (Woke within wakes) said t talks = let it = of_one l bound fits (Woke within wakes) said tt t talks in (Some it.0, (it.0, it.1, refl), it.2, it.3)
   mail_some l bound fits (Timed moment) said t talks = let it = of_one l bound fits (Timed moment) said tt t talks in (Some it.0, (it.0, it.1, refl), it.2, it.3)
   mail_some l bound fits (Began wake) said t talks = let it = of_one l bound fits (Began wake) said tt t talks in (Some it.0, (it.0, it.1, refl), it.2, it.3)
-  mail_some l bound fits (Roused n) said t talks = let it = of_one l bound fits (Roused n) said tt t talks in (Some it.0, (it.0, it.1, refl), it.2, it.3)
+  mail_some l bound fits (Resumed n) said t talks = let it = of_one l bound fits (Resumed n) said tt t talks in (Some it.0, (it.0, it.1, refl), it.2, it.3)
   mail_some l bound fits (NoneCame kind) said t talks = let it = of_one l bound fits (NoneCame kind) said tt t talks in (Some it.0, (it.0, it.1, refl), it.2, it.3)
   mail_some l bound fits (Crowded kind) said t talks = let it = of_one l bound fits (Crowded kind) said tt t talks in (Some it.0, (it.0, it.1, refl), it.2, it.3)
   mail_some l bound fits (InUse n) said t talks = let it = of_one l bound fits (InUse n) said tt t talks in (Some it.0, (it.0, it.1, refl), it.2, it.3)
@@ -407,11 +407,11 @@ module _ {R : Type 0} (view : View R) (names : Names) (host : List ℕ) (d e : M
   mail_some l bound fits (Shut n) said t talks = let it = of_one l bound fits (Shut n) said tt t talks in (Some it.0, (it.0, it.1, refl), it.2, it.3)
   mail_some l bound fits (Dropped n count) said t talks = let it = of_one l bound fits (Dropped n count) said tt t talks in (Some it.0, (it.0, it.1, refl), it.2, it.3)
 
-  mail_none : (act : Act Note) (said : List ℕ) → Turns (mail_rules view) d r s act said e q u → Talks s.moment id (client_of s id) act said (client_of u id) → After None act
-  mail_none (Came n kind) said t talks = came_by (same n id) None tt tt n kind said refl t talks
+  mail_none : (act : Act Note) (said : List ℕ) → TurnAllows (mail_rules view) d r s act said e q u → ClientTalks s.moment id (client_of s id) act said (client_of u id) → After None act
+  mail_none (Came n kind) said t talks = came_by (is_same_id n id) None tt tt n kind said refl t talks
   mail_none _ said t talks = (None, refl, tt, tt)
 
-  pub mail_after : (o : Option MailLine) → BoundBy d id o → FitsBy id o (client_of s id) s.turn → (act : Act Note) (said : List ℕ) → Turns (mail_rules view) d r s act said e q u
-      → Talks s.moment id (client_of s id) act said (client_of u id) → After o act
+  pub mail_after : (o : Option MailLine) → BoundBy d id o → FitsBy id o (client_of s id) s.turn → (act : Act Note) (said : List ℕ) → TurnAllows (mail_rules view) d r s act said e q u
+      → ClientTalks s.moment id (client_of s id) act said (client_of u id) → After o act
   mail_after None bound fits act said t talks = mail_none act said t talks
   mail_after (Some l) bound fits act said t talks = mail_some l bound fits act said t talks

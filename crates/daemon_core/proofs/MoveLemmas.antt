@@ -1,33 +1,33 @@
 -- A message that moves on, behind what others did.
 use Rattle.std.proofs.Common.{◌≡◌, inl, inr, ℕ, Bool, true, List, [], Option, Some, None, IsTrue, refl, ◌∙◌, ap, subst}
 use Rattle.sqlite_trees.specs.Tree.{Trees}
-use Rattle.mailsinks.specs.declared.kept.KeptMail.{KeptMail}
-use Rattle.mailstore.specs.Account.{Accounts}
-use Rattle.mailengine.specs.Hosts.{Kept, HasClients}
-use Rattle.mailengine.specs.World.{World, Next}
-use Rattle.mailengine.specs.declared.answer.Answer.{Answer}
-use Rattle.mailengine.specs.declared.clients.Clients.{Clients}
-use Rattle.mailengine.specs.declared.event.Event.{Event}
-use Rattle.mailengine.specs.declared.event.Event.TheVariants.{TakeMail}
-use Rattle.mailengine.proofs.HostLemmas.{mail_taking_may}
-use Rattle.mailmoves.specs.Enduring.{MayLeave, ShowsTried, none_tried}
-use Rattle.mailmoves.specs.Moving.{Moves, TakesFirst, TriedMoving}
-use Rattle.mailmoves.proofs.EnduringLemmas.{left_then}
-use Rattle.mailmoves.specs.declared.moving.Moving.{Moving}
-use Rattle.mailmoves.specs.declared.moving.Moving.TheVariants as moving
-use Rattle.wires.specs.declared.act.Act.{Act}
-use Rattle.wires.specs.Rules.{WorksIf}
-use Rattle.sieveddaemon.specs.DaemonRules.{daemon_rules}
-use Rattle.sieveddaemon.specs.Desk.{View, ComesTo}
-use Rattle.sieveddaemon.specs.Holds.{is_move_due, moved}
-use Rattle.sieveddaemon.specs.Moves.{LetAt, MovedAt, TriedAt, MovesOn}
-use Rattle.sieveddaemon.specs.declared.daemon.Daemon.{Daemon}
-use Rattle.sieveddaemon.specs.declared.daemon.Holding.{Holding}
-use Rattle.sieveddaemon.specs.declared.note.Note.{Note}
-use Rattle.sieveddaemon.specs.declared.note.Note.TheVariants as note
+use Rattle.maildir_files.specs.declared.kept.KeptMail.{KeptMail}
+use Rattle.store_accounts.specs.Account.{Accounts}
+use Rattle.store_engine.specs.Hosts.{SessionMap, HasClients}
+use Rattle.store_engine.specs.World.{World, Next}
+use Rattle.store_engine.specs.declared.answer.Answer.{Answer}
+use Rattle.store_engine.specs.declared.clients.Clients.{Clients}
+use Rattle.store_engine.specs.declared.event.Event.{Event}
+use Rattle.store_engine.specs.declared.event.Event.TheVariants.{TakeMail}
+use Rattle.store_engine.proofs.HostLemmas.{mail_taking_may}
+use Rattle.maildir_moves.specs.Enduring.{MayLeave, ShowsTried, none_tried}
+use Rattle.maildir_moves.specs.Moving.{MovesMessage, TakesFirstMail, TriedMoving}
+use Rattle.maildir_moves.proofs.EnduringLemmas.{left_then}
+use Rattle.maildir_moves.specs.declared.moving.Moving.{Moving}
+use Rattle.maildir_moves.specs.declared.moving.Moving.TheVariants as moving
+use Rattle.net_loop.specs.declared.act.Act.{Act}
+use Rattle.net_loop.specs.Rules.{WorksIf}
+use Rattle.daemon_core.specs.DaemonRules.{daemon_rules}
+use Rattle.daemon_core.specs.StoreAccess.{View, ComesTo}
+use Rattle.daemon_core.specs.Holds.{is_move_due, holding_moved}
+use Rattle.daemon_core.specs.Moves.{LetAt, MovedAt, TriedAt, MovesNextMessage}
+use Rattle.daemon_core.specs.declared.daemon.Daemon.{Daemon}
+use Rattle.daemon_core.specs.declared.daemon.Holding.{Holding}
+use Rattle.daemon_core.specs.declared.note.Note.{Note}
+use Rattle.daemon_core.specs.declared.note.Note.TheVariants as note
 
 -- the event of the machine
-taken_next : (w : World) (user folder : List ℕ) (answer : Answer) (later : Accounts) → TakesFirst w.accounts user folder answer later → Next w (TakeMail user folder) answer (record { accounts = later; sessions = w.sessions })
+taken_next : (w : World) (user folder : List ℕ) (answer : Answer) (later : Accounts) → TakesFirstMail w.accounts user folder answer later → Next w (TakeMail user folder) answer (record { accounts = later; sessions = w.sessions })
 taken_next w user folder answer later (inl row) = inl (later, row, refl)
 taken_next w user folder answer later (inr (refusal, may, is, same)) =
     inr (record { refusal = refusal; may = mail_taking_may user folder w refusal may; refused = is; stays = ap (λ (a : Accounts). record { accounts = a; sessions = w.sessions }) same })
@@ -37,7 +37,7 @@ pub let_none : (w : World) → LetAt [] w w
 let_none w = record { strangers = tt; told = []; theirs = refl; apart = refl }
 
 -- behind what others did, of which nothing is left, and what might be left then
-module _ {R : Type 0} (view : View R) (others : List Event) (r q : R) (after : Kept) (w mid : World) (between : Trees → Type 0) (lets : LetAt others w mid) (sessions : HasClients after mid.sessions)
+module _ {R : Type 0} (view : View R) (others : List Event) (r q : R) (after : SessionMap) (w mid : World) (between : Trees → Type 0) (lets : LetAt others w mid) (sessions : HasClients after mid.sessions)
     (theirs : MayLeave (view.leaves r) w.accounts between mid.accounts none_tried) where
   nothing_then : (later : Accounts) → later ≡ mid.accounts → view.shows q later → MayLeave between mid.accounts (view.leaves q) later none_tried → (next : World) × LetAt others w next × ComesTo view r w none_tried q after next
   nothing_then later same shown left = (
@@ -49,8 +49,8 @@ module _ {R : Type 0} (view : View R) (others : List Event) (r q : R) (after : K
     },
   )
 
-  pub moved_then : (m : Moving) (later : Accounts) → Moves m mid.accounts later → view.shows q later → MayLeave between mid.accounts (view.leaves q) later (TriedMoving m mid)
-      → (next : World) × (moved : MovedAt others m w next) × ComesTo view r w (TriedAt others m w next moved) q after next
+  pub moved_then : (m : Moving) (later : Accounts) → MovesMessage m mid.accounts later → view.shows q later → MayLeave between mid.accounts (view.leaves q) later (TriedMoving m mid)
+      → (next : World) × (holding_moved : MovedAt others m w next) × ComesTo view r w (TriedAt others m w next holding_moved) q after next
   moved_then (moving.Kept mail answer) later moves shown left = (
     record { accounts = later; sessions = mid.sessions },
     record {
@@ -77,12 +77,12 @@ module _ {R : Type 0} (view : View R) (others : List Event) (r q : R) (after : K
 -- what the daemon does by itself
 module _ {O R : Type 0} (tells : O → Bool) (seen : O → List (Act Note)) (rest : O → R) (view : View R) (has : R → List KeptMail → Type 0) (clean : R → Type 0) (sure : (o : O) → IsTrue (tells o) → clean (rest o))
     (o p : O) (d : Daemon) (now : ℕ) where
-  pub works_move : (c : Clients) (span : Option ℕ) (h : Holding) → is_move_due d.holding now ≡ true → MovesOn tells seen rest view has clean o d.clients.sessions span p c.sessions → h ≡ moved d.holding now span
+  pub works_move : (c : Clients) (span : Option ℕ) (h : Holding) → is_move_due d.holding now ≡ true → MovesNextMessage tells seen rest view has clean o d.clients.sessions span p c.sessions → h ≡ holding_moved d.holding now span
       → WorksIf tells seen rest (daemon_rules view) o d now p (record d { clients = c; holding = h })
   works_move c (Some span) h due moves had = λ tell. record {
     note = note.Moved moves.0 moves.1;
     grows = moves.5 tell;
-    works = record { works = (due, moves.3 (sure p tell), had ∙ ap (λ s. moved d.holding now (Some s)) moves.2); places = refl };
+    works = record { works = (due, moves.3 (sure p tell), had ∙ ap (λ s. holding_moved d.holding now (Some s)) moves.2); places = refl };
   }
   works_move c None h due moves had = λ tell. record {
     note = note.Away;

@@ -1,32 +1,32 @@
 -- Steps of a connection, put together from what is brought, told and known.
 use Rattle.std.proofs.Common.{◌≡◌, ◌∙◌, ℕ, Bool, true, false, List, [], Some, None, IsTrue, refl, sym, subst}
-use Rattle.mailstore.specs.Account.{Accounts}
-use Rattle.mailengine.specs.Hosts.{Kept, KeepsClients, IsMade, AsksStore, IsSessionEvent, clients_of}
-use Rattle.mailengine.proofs.HostLemmas.{clients_are}
-use Rattle.mailengine.specs.World.{if_open}
-use Rattle.sessions.specs.Steps.{may_fail}
-use Rattle.mailengine.specs.declared.answer.Answer.{Answer}
-use Rattle.mailengine.specs.declared.answer.Answer.TheVariants.{Out, Delivered, Added, Imported, Taken, MailTaken, Changed, Stored, Invalid, Closed, Opened, Removed, NoticesTaken, Ignored, Refused}
-use Rattle.mailengine.specs.declared.clients.Clients.{Clients as CodeClients}
-use Rattle.mailengine.specs.declared.event.Event.{Event}
-use Rattle.mailengine.specs.declared.event.Event.TheVariants.{Step, GiveUp}
-use Rattle.wires.specs.declared.act.Act.{Act}
-use Rattle.wires.specs.declared.act.Act.TheVariants.{Noted}
-use Rattle.wires.specs.Rules.{StepsIf}
-use Rattle.wires.specs.Told.{TellsIf}
-use Rattle.sieveddaemon.specs.DaemonRules.{daemon_rules, place_at, AtPlace, AsksFor, Makes, Places, Renews}
-use Rattle.sieveddaemon.specs.Holds.{asked_at}
-use Rattle.sieveddaemon.specs.Desk.{View, Carries, IsDone, NothingDone, StillShowsIf}
-use Rattle.sieveddaemon.specs.Places.{client_at, renewed, place_told, is_out, is_user}
-use Rattle.sieveddaemon.specs.Waiting.{Allows, MayAsk, MayGiveUp, said_at_once, too_much, waits_after, waits_behind}
-use Rattle.sieveddaemon.specs.declared.daemon.Daemon.{Daemon}
-use Rattle.sieveddaemon.specs.declared.daemon.Holding.{Holding}
-use Rattle.sieveddaemon.specs.declared.note.Note.{Note}
-use Rattle.sieveddaemon.specs.declared.note.Note.TheVariants.{Did, Away, Freed, Spoke, Answered, Asked, Looked, Moved}
-use Rattle.sieveddaemon.specs.declared.place.Fit.TheVariants as fit
-use Rattle.sieveddaemon.specs.declared.place.Place.{Place}
-use Rattle.sieveddaemon.specs.declared.place.Waits.{Waits}
-use Rattle.sieveddaemon.specs.declared.place.Waits.TheVariants as waits
+use Rattle.store_accounts.specs.Account.{Accounts}
+use Rattle.store_engine.specs.Hosts.{SessionMap, KeepsClients, IsMade, EventAsksStore, IsSessionEvent, clients_of}
+use Rattle.store_engine.proofs.HostLemmas.{clients_are}
+use Rattle.store_engine.specs.World.{if_open}
+use Rattle.managesieve_sessions.specs.Steps.{may_fail}
+use Rattle.store_engine.specs.declared.answer.Answer.{Answer}
+use Rattle.store_engine.specs.declared.answer.Answer.TheVariants.{Out, Delivered, Added, Imported, Taken, MailTaken, Changed, Stored, Invalid, Closed, Opened, Removed, NoticesTaken, Ignored, Refused}
+use Rattle.store_engine.specs.declared.clients.Clients.{Clients as CodeClients}
+use Rattle.store_engine.specs.declared.event.Event.{Event}
+use Rattle.store_engine.specs.declared.event.Event.TheVariants.{Step, GiveUp}
+use Rattle.net_loop.specs.declared.act.Act.{Act}
+use Rattle.net_loop.specs.declared.act.Act.TheVariants.{Noted}
+use Rattle.net_loop.specs.Rules.{StepsIf}
+use Rattle.net_loop.specs.Told.{TellsIf}
+use Rattle.daemon_core.specs.DaemonRules.{daemon_rules, place_at, AtPlace, NoteAsksFor, NoteMakes, Places, DaemonRenews}
+use Rattle.daemon_core.specs.Holds.{asked_at}
+use Rattle.daemon_core.specs.StoreAccess.{View, AppliesEvent, IsEventDone, NothingDone, StillShowsIf}
+use Rattle.daemon_core.specs.ClientStates.{client_at, state_renewed, place_told, is_out, has_login}
+use Rattle.daemon_core.specs.Waiting.{Allows, SessionMayAsk, MayGiveUp, said_at_once, too_much, waits_after, waits_behind}
+use Rattle.daemon_core.specs.declared.daemon.Daemon.{Daemon}
+use Rattle.daemon_core.specs.declared.daemon.Holding.{Holding}
+use Rattle.daemon_core.specs.declared.note.Note.{Note}
+use Rattle.daemon_core.specs.declared.note.Note.TheVariants.{Did, Away, Freed, Spoke, Answered, Asked, Looked, Moved}
+use Rattle.daemon_core.specs.declared.client_state.Fit.TheVariants as fit
+use Rattle.daemon_core.specs.declared.client_state.ClientState.{ClientState}
+use Rattle.daemon_core.specs.declared.client_state.SessionWait.{SessionWait}
+use Rattle.daemon_core.specs.declared.client_state.SessionWait.TheVariants as waits
 
 some_one : {X : Type 0} (a b : X) → Some a ≡ Some b → a ≡ b
 some_one a b is = cc
@@ -49,13 +49,13 @@ made_out Ignored is = tt
 made_out (Refused refusal) is = let never : false ≡ true = is in absurd (let no_one : ⊥ = cc in no_one)
 
 -- a session that is as it was asks for the same
-client_kept : (id : ℕ) (before after : Kept) → KeepsClients before after → client_at after id ≡ client_at before id
+client_kept : (id : ℕ) (before after : SessionMap) → KeepsClients before after → client_at after id ≡ client_at before id
 client_kept id before after keeps = keeps (clients_of before) (clients_are before) id ∙ sym (clients_are before id)
 
-asks_before : (id : ℕ) (before after : Kept) → KeepsClients before after → AsksStore (Step id) after → AsksStore (Step id) before
+asks_before : (id : ℕ) (before after : SessionMap) → KeepsClients before after → EventAsksStore (Step id) after → EventAsksStore (Step id) before
 asks_before id before after keeps asks = subst (λ o. if_open may_fail o ≡ true) (client_kept id before after keeps) asks
 
-pub asks_after : (id : ℕ) (before after : Kept) → KeepsClients before after → AsksStore (Step id) before → AsksStore (Step id) after
+pub asks_after : (id : ℕ) (before after : SessionMap) → KeepsClients before after → EventAsksStore (Step id) before → EventAsksStore (Step id) after
 asks_after id before after keeps asks = subst (λ o. if_open may_fail o ≡ true) (sym (client_kept id before after keeps)) asks
 
 -- the daemon with other sessions, and what is so of the store
@@ -63,16 +63,16 @@ abbrev mid_of : Daemon → CodeClients → Holding → Daemon
 mid_of d c h = record d { clients = c; holding = h }
 
 -- what is known of the connection, with the session that is there then
-place_by : (d e : Daemon) (c : CodeClients) (h : Holding) (now id : ℕ) (w : Waits) (answered : Bool) (before : Place) → Renews (mid_of d c h) now id w answered e → place_at d id ≡ Some before
-    → Places d id (Some (renewed now before w answered (is_user (client_at e.clients.sessions id)))) e
+place_by : (d e : Daemon) (c : CodeClients) (h : Holding) (now id : ℕ) (w : SessionWait) (answered : Bool) (before : ClientState) → DaemonRenews (mid_of d c h) now id w answered e → place_at d id ≡ Some before
+    → Places d id (Some (state_renewed now before w answered (has_login (client_at e.clients.sessions id)))) e
 place_by d e c h now id w answered before r was =
-    subst (λ (k : CodeClients). Places d id (Some (renewed now before w answered (is_user (client_at k.sessions id)))) e) (sym r.clients) (r.place before was)
+    subst (λ (k : CodeClients). Places d id (Some (state_renewed now before w answered (has_login (client_at k.sessions id)))) e) (sym r.clients) (r.place before was)
 
 module _ {O R : Type 0} (tells : O → Bool) (seen : O → List (Act Note)) (rest : O → R) (view : View R) (clean : R → Type 0) (sure : (o : O) → IsTrue (tells o) → clean (rest o))
     (o p : O) (d e : Daemon) (c : CodeClients) (now id : ℕ) (said : List ℕ) where
   -- an event was done by the store
-  pub did : (answer : Answer) → Carries tells seen rest view clean id (Step id) o d.clients.sessions (Some answer) p c.sessions → AsksStore (Step id) d.clients.sessions
-      → AtPlace d id (λ place. MayAsk now place.waits) → Renews (mid_of d c (asked_at now d.holding)) now id (waits_after now answer) (is_out answer) e → said ≡ said_at_once answer → StepsIf tells seen rest (daemon_rules view) o d now id said p e
+  pub did : (answer : Answer) → AppliesEvent tells seen rest view clean id (Step id) o d.clients.sessions (Some answer) p c.sessions → EventAsksStore (Step id) d.clients.sessions
+      → AtPlace d id (λ place. SessionMayAsk now place.waits) → DaemonRenews (mid_of d c (asked_at now d.holding)) now id (waits_after now answer) (is_out answer) e → said ≡ said_at_once answer → StepsIf tells seen rest (daemon_rules view) o d now id said p e
   did answer carries asks may r says tell = record {
     note = Did carries.0 (Step id) answer;
     grows = carries.2 tell;
@@ -82,7 +82,7 @@ module _ {O R : Type 0} (tells : O → Bool) (seen : O → List (Act Note)) (res
       allows = λ due. (may.2, refl);
       cause = tt;
       asks = asks;
-      makes = subst (λ (k : CodeClients). IsDone view carries.0 (Step id) answer (rest o) d.clients.sessions (rest p) k.sessions) (sym r.clients) (carries.1 (sure p tell));
+      makes = subst (λ (k : CodeClients). IsEventDone view carries.0 (Step id) answer (rest o) d.clients.sessions (rest p) k.sessions) (sym r.clients) (carries.1 (sure p tell));
       says = says;
       place = place_by d e c (asked_at now d.holding) now id (waits_after now answer) (is_out answer) may.0 r may.1;
       holding = r.holding;
@@ -90,8 +90,8 @@ module _ {O R : Type 0} (tells : O → Bool) (seen : O → List (Act Note)) (res
   }
 
   -- it was away
-  pub away : Carries tells seen rest view clean id (Step id) o d.clients.sessions None p c.sessions → AsksStore (Step id) d.clients.sessions
-      → (may : AtPlace d id (λ place. MayAsk now place.waits)) → Renews (mid_of d c d.holding) now id (waits_behind now may.0.waits Away) false e → said ≡ [] → StepsIf tells seen rest (daemon_rules view) o d now id said p e
+  pub away : AppliesEvent tells seen rest view clean id (Step id) o d.clients.sessions None p c.sessions → EventAsksStore (Step id) d.clients.sessions
+      → (may : AtPlace d id (λ place. SessionMayAsk now place.waits)) → DaemonRenews (mid_of d c d.holding) now id (waits_behind now may.0.waits Away) false e → said ≡ [] → StepsIf tells seen rest (daemon_rules view) o d now id said p e
   away carries asks may r says tell = record {
     note = Away;
     grows = carries.1 tell;
@@ -109,9 +109,9 @@ module _ {O R : Type 0} (tells : O → Bool) (seen : O → List (Act Note)) (res
   }
 
   -- an event was answered that asks no store
-  pub freed : (event : Event) (answer : Answer) → ((place : Place) → place_at d id ≡ Some place → Allows now place.waits id (Freed event answer)) → (before : Place) → place_at d id ≡ Some before
+  pub freed : (event : Event) (answer : Answer) → ((place : ClientState) → place_at d id ≡ Some place → Allows now place.waits id (Freed event answer)) → (before : ClientState) → place_at d id ≡ Some before
       → IsSessionEvent event answer d.clients.sessions c.sessions → TellsIf tells seen o (Noted id (Freed event answer)) p → StillShowsIf tells rest view o p
-      → Renews (mid_of d c d.holding) now id (waits_after now answer) (is_out answer) e → said ≡ said_at_once answer → StepsIf tells seen rest (daemon_rules view) o d now id said p e
+      → DaemonRenews (mid_of d c d.holding) now id (waits_after now answer) (is_out answer) e → said ≡ said_at_once answer → StepsIf tells seen rest (daemon_rules view) o d now id said p e
   freed event answer allows before was made told still r says tell = record {
     note = Freed event answer;
     grows = told tell;
@@ -129,7 +129,7 @@ module _ {O R : Type 0} (tells : O → Bool) (seen : O → List (Act Note)) (res
   }
 
   -- a step from sessions that are as they were
-  kept_makes : (note : Note) → KeepsClients d.clients.sessions c.sessions → Makes view (rest o) (mid_of d c d.holding) note (rest p) e → Makes view (rest o) d note (rest p) e
+  kept_makes : (note : Note) → KeepsClients d.clients.sessions c.sessions → NoteMakes view (rest o) (mid_of d c d.holding) note (rest p) e → NoteMakes view (rest o) d note (rest p) e
   kept_makes (Did others event answer) keeps makes = λ w stands. makes w (record { shown = stands.shown; sessions = keeps w.sessions stands.sessions })
   kept_makes Away keeps makes = record { shown = makes.shown; kept = λ clients has. makes.kept clients (keeps clients has) }
   kept_makes Spoke keeps makes = record { shown = makes.shown; kept = λ clients has. makes.kept clients (keeps clients has) }
@@ -139,7 +139,7 @@ module _ {O R : Type 0} (tells : O → Bool) (seen : O → List (Act Note)) (res
   kept_makes (Looked wanted) keeps makes = makes
   kept_makes (Moved others moving) keeps makes = makes
 
-  kept_asks : (note : Note) → KeepsClients d.clients.sessions c.sessions → AsksFor id note c.sessions → AsksFor id note d.clients.sessions
+  kept_asks : (note : Note) → KeepsClients d.clients.sessions c.sessions → NoteAsksFor id note c.sessions → NoteAsksFor id note d.clients.sessions
   kept_asks (Did others event answer) keeps asks = asks_before id d.clients.sessions c.sessions keeps asks
   kept_asks Away keeps asks = asks_before id d.clients.sessions c.sessions keeps asks
   kept_asks Spoke keeps asks = tt
@@ -162,7 +162,7 @@ module _ {O R : Type 0} (tells : O → Bool) (seen : O → List (Act Note)) (res
 -- it was told that there was no room
 pub refused : {O R : Type 0} (tells : O → Bool) (seen : O → List (Act Note)) (rest : O → R) (view : View R) (o p : O) (d e : Daemon) (now id : ℕ) (said : List ℕ)
     → AtPlace d id (λ place. (place.waits ≡ waits.Nothing) × (place.fit ≡ fit.Over)) → TellsIf tells seen o (Noted id Answered) p → StillShowsIf tells rest view o p → said ≡ too_much
-    → ((before : Place) → place_at d id ≡ Some before → Places d id (Some (place_told now before (is_user (client_at d.clients.sessions id)))) e) → e.clients ≡ d.clients → e.holding ≡ d.holding
+    → ((before : ClientState) → place_at d id ≡ Some before → Places d id (Some (place_told now before (has_login (client_at d.clients.sessions id)))) e) → e.clients ≡ d.clients → e.holding ≡ d.holding
     → StepsIf tells seen rest (daemon_rules view) o d now id said p e
 refused tells seen rest view o p d e now id said may told still says places clients holding tell = record {
   note = Answered;
@@ -175,22 +175,22 @@ refused tells seen rest view o p d e now id said may told still says places clie
     asks = tt;
     makes = record { shown = still tell; kept = subst (λ (k : CodeClients). KeepsClients d.clients.sessions k.sessions) (sym clients) (λ all has. has) };
     says = says;
-    place = subst (λ (k : CodeClients). Places d id (Some (place_told now may.0 (is_user (client_at k.sessions id)))) e) (sym clients) (places may.0 may.1);
+    place = subst (λ (k : CodeClients). Places d id (Some (place_told now may.0 (has_login (client_at k.sessions id)))) e) (sym clients) (places may.0 may.1);
     holding = holding;
   };
 }
 
 -- given up, or stepped at once
-pub gives_up : (d : Daemon) (now id : ℕ) (answer : Answer) → AtPlace d id (λ place. MayGiveUp now place.waits) → (place : Place) → place_at d id ≡ Some place → Allows now place.waits id (Freed (GiveUp id) answer)
+pub gives_up : (d : Daemon) (now id : ℕ) (answer : Answer) → AtPlace d id (λ place. MayGiveUp now place.waits) → (place : ClientState) → place_at d id ≡ Some place → Allows now place.waits id (Freed (GiveUp id) answer)
 gives_up d now id answer may place was =
     let one : may.0 ≡ place = some_one may.0 place (sym may.1 ∙ was) in
-    by place.waits (subst (λ (x : Place). MayGiveUp now x.waits) one may.2)
+    by place.waits (subst (λ (x : ClientState). MayGiveUp now x.waits) one may.2)
   where
-    by : (w : Waits) → MayGiveUp now w → Allows now w id (Freed (GiveUp id) answer)
+    by : (w : SessionWait) → MayGiveUp now w → Allows now w id (Freed (GiveUp id) answer)
     by w may = (may, refl)
 
-pub steps_free : (d : Daemon) (now id : ℕ) (answer : Answer) → is_out answer ≡ true → AtPlace d id (λ place. MayAsk now place.waits) → (place : Place) → place_at d id ≡ Some place
+pub steps_free : (d : Daemon) (now id : ℕ) (answer : Answer) → is_out answer ≡ true → AtPlace d id (λ place. SessionMayAsk now place.waits) → (place : ClientState) → place_at d id ≡ Some place
     → Allows now place.waits id (Freed (Step id) answer)
 steps_free d now id answer out may place was =
     let one : may.0 ≡ place = some_one may.0 place (sym may.1 ∙ was) in
-    (subst (λ (x : Place). MayAsk now x.waits) one may.2, refl, made_out answer out)
+    (subst (λ (x : ClientState). SessionMayAsk now x.waits) one may.2, refl, made_out answer out)

@@ -4,19 +4,19 @@ use Rattle.std.specs.Cmp.{eq_by_cmp_equiv, nat_cmp_total}
 use Rattle.std.specs.Map.{lookup}
 use Rattle.std.specs.Ordering.{nat_cmp}
 use Rattle.std.specs.BTreeMap as tree
-use Rattle.lmtp.specs.Receivers.{held_by}
-use Rattle.mailengine.specs.Hosts.{Kept}
-use Rattle.mailposts.specs.declared.post.Post.{Post}
-use Rattle.sessions.specs.Clients.{Client}
-use Rattle.wires.specs.Talk.{same}
-use Rattle.wires.proofs.TalkLemmas.{one_number}
-use Rattle.sieveddaemon.specs.Bounds.{unread_of, unread_in, held_in, held}
-use Rattle.sieveddaemon.specs.DaemonRules.{place_at}
-use Rattle.sieveddaemon.specs.Holding.{sum_below}
-use Rattle.sieveddaemon.specs.MailRules.{post_at}
-use Rattle.sieveddaemon.specs.Places.{client_at}
-use Rattle.sieveddaemon.specs.declared.mail.MailDaemon.{MailDaemon}
-use Rattle.sieveddaemon.specs.declared.place.Place.{Place}
+use Rattle.lmtp_dialogue.specs.Receivers.{held_by}
+use Rattle.store_engine.specs.Hosts.{SessionMap}
+use Rattle.lmtp_connections.specs.declared.connection.LmtpConnection.{LmtpConnection}
+use Rattle.managesieve_sessions.specs.Clients.{Client}
+use Rattle.net_loop.specs.Talk.{is_same_id}
+use Rattle.net_loop.proofs.TalkLemmas.{one_number}
+use Rattle.daemon_core.specs.Bounds.{unread_of, unread_in, held_in, held}
+use Rattle.daemon_core.specs.DaemonRules.{place_at}
+use Rattle.daemon_core.specs.Holding.{sum_below}
+use Rattle.daemon_core.specs.MailRules.{post_at}
+use Rattle.daemon_core.specs.ClientStates.{client_at}
+use Rattle.daemon_core.specs.declared.mail.MailDaemon.{MailDaemon}
+use Rattle.daemon_core.specs.declared.client_state.ClientState.{ClientState}
 
 pub sums_less : (n : ℕ) (f g : ℕ → ℕ) → ((k : ℕ) → f k ≤ g k) → sum_below n f ≤ sum_below n g
 sums_less zero f g less = omega arith
@@ -32,12 +32,12 @@ sums_nothing (suc n) f none = omega (arith, none n, sums_nothing n f none)
 
 -- so many at one number alone
 abbrev only : ℕ → ℕ → ℕ → ℕ
-only id more k = cond (same id k) more 0
+only id more k = cond (is_same_id id k) more 0
 
 none_before : (id n more : ℕ) → n < id → only id more n ≡ 0
-none_before id n more less = by (same id n) refl
+none_before id n more less = by (is_same_id id n) refl
   where
-    by : (b : Bool) → same id n ≡ b → cond b more 0 ≡ 0
+    by : (b : Bool) → is_same_id id n ≡ b → cond b more 0 ≡ 0
     by true is = absurd (omega (arith, one_number id n is, less))
     by false is = refl
 
@@ -47,62 +47,62 @@ sum_before (suc n) id more less = omega (arith, none_before id n more (omega (ar
 
 sum_only : (n id more : ℕ) → sum_below n (only id more) ≤ more
 sum_only zero id more = omega arith
-sum_only (suc n) id more = by (same id n) refl (sum_only n id more)
+sum_only (suc n) id more = by (is_same_id id n) refl (sum_only n id more)
   where
-    by : (b : Bool) → same id n ≡ b → sum_below n (only id more) ≤ more → cond b more 0 + sum_below n (only id more) ≤ more
+    by : (b : Bool) → is_same_id id n ≡ b → sum_below n (only id more) ≤ more → cond b more 0 + sum_below n (only id more) ≤ more
     by true is less = omega (arith, sum_before n id more (omega (arith, one_number id n is)))
     by false is less = omega (arith, less)
 
 -- at one number so many more
-pub sums_one : (n : ℕ) (f g : ℕ → ℕ) (id more : ℕ) → ((k : ℕ) → same id k ≡ false → f k ≤ g k) → f id ≤ g id + more → sum_below n f ≤ sum_below n g + more
+pub sums_one : (n : ℕ) (f g : ℕ → ℕ) (id more : ℕ) → ((k : ℕ) → is_same_id id k ≡ false → f k ≤ g k) → f id ≤ g id + more → sum_below n f ≤ sum_below n g + more
 sums_one n f g id more others its =
-    omega (arith, sums_less n f (λ k. g k + only id more k) (λ k. by k (same id k) refl), sum_plus n g (only id more), sum_only n id more)
+    omega (arith, sums_less n f (λ k. g k + only id more k) (λ k. by k (is_same_id id k) refl), sum_plus n g (only id more), sum_only n id more)
   where
-    by : (k : ℕ) (b : Bool) → same id k ≡ b → f k ≤ g k + cond b more 0
+    by : (k : ℕ) (b : Bool) → is_same_id id k ≡ b → f k ≤ g k + cond b more 0
     by k true is = subst (λ j. f j ≤ g j + more) (one_number id k is) its
     by k false is = omega (arith, others k is)
 
-pub same_turned : (n s : ℕ) → same n s ≡ same s n
+pub same_turned : (n s : ℕ) → is_same_id n s ≡ is_same_id s n
 same_turned n s = (eq_by_cmp_equiv nat_cmp_total).symm n s
 
 -- ---- what connections hold, with what is their own
 
-abbrev pub full_client : Option Place → Option Client → ℕ
+abbrev pub full_client : Option ClientState → Option Client → ℕ
 full_client None o = 0
 full_client (Some place) o = unread_of o
 
-abbrev pub full_post : Option Post → ℕ
+abbrev pub full_post : Option LmtpConnection → ℕ
 full_post None = 0
 full_post (Some post) = held_by post.receiver
 
 abbrev pub full_at : MailDaemon → ℕ → ℕ
 full_at d id = full_client (place_at d.daemon id) (client_at d.daemon.clients.sessions id) + full_post (post_at d id)
 
-abbrev client_in : Kept → List (ℕ × Place) → ℕ → ℕ
+abbrev client_in : SessionMap → List (ℕ × ClientState) → ℕ → ℕ
 client_in sessions entries id = full_client (lookup (tree.is_at (nat_cmp id)) entries) (client_at sessions id)
 
-clients_sum : (n : ℕ) (sessions : Kept) (entries : List (ℕ × Place)) → sum_below n (client_in sessions entries) ≤ unread_in sessions entries
+clients_sum : (n : ℕ) (sessions : SessionMap) (entries : List (ℕ × ClientState)) → sum_below n (client_in sessions entries) ≤ unread_in sessions entries
 clients_sum n sessions [] = omega (arith, sums_nothing n (client_in sessions []) (λ k. refl))
 clients_sum n sessions (it ∷ entries) =
     omega (arith, sums_one n (client_in sessions (it ∷ entries)) (client_in sessions entries) it.0 (unread_of (client_at sessions it.0)) others (its (lookup (tree.is_at (nat_cmp it.0)) (it ∷ entries))), clients_sum n sessions entries)
   where
-    others : (k : ℕ) → same it.0 k ≡ false → client_in sessions (it ∷ entries) k ≤ client_in sessions entries k
+    others : (k : ℕ) → is_same_id it.0 k ≡ false → client_in sessions (it ∷ entries) k ≤ client_in sessions entries k
     others k other =
         subst (λ b. full_client (cond b (Some it.1) (lookup (tree.is_at (nat_cmp k)) entries)) (client_at sessions k) ≤ client_in sessions entries k) (sym (same_turned k it.0 ∙ other)) (omega arith)
 
-    its : (o : Option Place) → full_client o (client_at sessions it.0) ≤ client_in sessions entries it.0 + unread_of (client_at sessions it.0)
+    its : (o : Option ClientState) → full_client o (client_at sessions it.0) ≤ client_in sessions entries it.0 + unread_of (client_at sessions it.0)
     its None = omega arith
     its (Some place) = omega arith
 
-abbrev post_in : List (ℕ × Post) → ℕ → ℕ
+abbrev post_in : List (ℕ × LmtpConnection) → ℕ → ℕ
 post_in entries id = full_post (lookup (tree.is_at (nat_cmp id)) entries)
 
-posts_sum : (n : ℕ) (entries : List (ℕ × Post)) → sum_below n (post_in entries) ≤ held_in entries
+posts_sum : (n : ℕ) (entries : List (ℕ × LmtpConnection)) → sum_below n (post_in entries) ≤ held_in entries
 posts_sum n [] = omega (arith, sums_nothing n (post_in []) (λ k. refl))
 posts_sum n (it ∷ entries) =
     omega (arith, sums_one n (post_in (it ∷ entries)) (post_in entries) it.0 (held_by it.1.receiver) others its, posts_sum n entries)
   where
-    others : (k : ℕ) → same it.0 k ≡ false → post_in (it ∷ entries) k ≤ post_in entries k
+    others : (k : ℕ) → is_same_id it.0 k ≡ false → post_in (it ∷ entries) k ≤ post_in entries k
     others k other = subst (λ b. full_post (cond b (Some it.1) (lookup (tree.is_at (nat_cmp k)) entries)) ≤ post_in entries k) (sym (same_turned k it.0 ∙ other)) (omega arith)
 
     its : post_in (it ∷ entries) it.0 ≤ post_in entries it.0 + held_by it.1.receiver

@@ -2,22 +2,22 @@
 use Rattle.std.proofs.Common.{◌≡◌, ◌⊎◌, ℕ, List, [], ◌∷◌, ◌++◌, Option, Some, None, refl, sym, ◌∙◌, ap, subst, inl, inr}
 use Rattle.std.specs.FinMap.{get}
 use Rattle.sqlite_trees.specs.Tree.{Trees}
-use Rattle.mailstore.specs.Shows.{ShowsIn}
-use Rattle.mailstore.specs.declared.refusal.Refusal.TheVariants.{Store}
-use Rattle.sessions.specs.declared.progress.Progress.TheVariants.{Done}
-use Rattle.mailengine.specs.World.{World, InSession, Steps, Next, Runs}
-use Rattle.mailengine.specs.declared.answer.Answer.{Answer}
-use Rattle.mailengine.specs.declared.answer.Answer.TheVariants.{Out, Refused}
-use Rattle.mailengine.specs.declared.event.Event.{Event}
-use Rattle.mailengine.specs.declared.event.Event.TheVariants.{Step}
-use Rattle.mailmoves.specs.Enduring.{ShowsMade}
-use Rattle.wires.specs.declared.act.Act.{Act}
-use Rattle.wires.specs.declared.act.Act.TheVariants.{Noted}
-use Rattle.sieveddaemon.specs.Acts.{LeadsOn, RestsOn}
-use Rattle.sieveddaemon.specs.Tried.{RefusedAt, TriesAt, TriedIn, LeavesTried, IsLeft}
-use Rattle.sieveddaemon.specs.declared.note.Note.{Note}
-use Rattle.sieveddaemon.specs.declared.note.Note.TheVariants.{Did}
-use Rattle.sieveddaemon.proofs.TriedLemmas.{refused_stays, tried_same}
+use Rattle.store_accounts.specs.Shows.{ShowsIn}
+use Rattle.store_accounts.specs.declared.refusal.Refusal.TheVariants.{Store}
+use Rattle.managesieve_sessions.specs.declared.progress.Progress.TheVariants.{Done}
+use Rattle.store_engine.specs.World.{World, InSession, StepsSession, Next, Runs}
+use Rattle.store_engine.specs.declared.answer.Answer.{Answer}
+use Rattle.store_engine.specs.declared.answer.Answer.TheVariants.{Out, Refused}
+use Rattle.store_engine.specs.declared.event.Event.{Event}
+use Rattle.store_engine.specs.declared.event.Event.TheVariants.{Step}
+use Rattle.maildir_moves.specs.Enduring.{ShowsMade}
+use Rattle.net_loop.specs.declared.act.Act.{Act}
+use Rattle.net_loop.specs.declared.act.Act.TheVariants.{Noted}
+use Rattle.daemon_core.specs.Acts.{LeadsOn, RestsOn}
+use Rattle.daemon_core.specs.Tried.{RefusedAt, TriesAt, TriedIn, LeavesTried, IsLeftByCrash}
+use Rattle.daemon_core.specs.declared.note.Note.{Note}
+use Rattle.daemon_core.specs.declared.note.Note.TheVariants.{Did}
+use Rattle.daemon_core.proofs.TriedLemmas.{refused_stays, tried_same}
 
 -- the step of a session was refused
 abbrev refused : Act Note
@@ -28,7 +28,7 @@ abbrev made : Act Note
 made = Noted 2 (Did [] (Step 2) (Out Done []))
 
 -- what the refused step makes of the very world that it met may be left
-left_of_it : (w : World) (trees : Trees) → Next w (Step 1) (Refused Store) w → ShowsMade (Step 1) w trees → IsLeft w (refused ∷ []) w trees
+left_of_it : (w : World) (trees : Trees) → Next w (Step 1) (Refused Store) w → ShowsMade (Step 1) w trees → IsLeftByCrash w (refused ∷ []) w trees
 left_of_it w trees next shows = inr (record {
   event = Step 1;
   met = w;
@@ -47,7 +47,7 @@ left_of_it w trees next shows = inr (record {
 })
 
 -- near misses: where no act tried anything a crash leaves the accounts alone
-none_left : (w end : World) (trees : Trees) → IsLeft w [] end trees → ShowsIn trees end.accounts
+none_left : (w end : World) (trees : Trees) → IsLeftByCrash w [] end trees → ShowsIn trees end.accounts
 none_left w end trees (inl shown) = shown
 none_left w end trees (inr left) = by left.tried.some left.tried.front
   where
@@ -79,7 +79,7 @@ module _ (w end : World) (trees : Trees) where
       by (act ∷ some) is leads = let none : some ++ left.tried.act ∷ left.tried.rest ≡ [] = cc in no_more left.tried.act some left.tried.rest none
 
   -- so no command of another session: where the one that was stepped has none, a crash leaves the accounts alone
-  not_of_another : get w.sessions 1 ≡ None → IsLeft w (refused ∷ []) end trees → ShowsIn trees end.accounts
+  not_of_another : get w.sessions 1 ≡ None → IsLeftByCrash w (refused ∷ []) end trees → ShowsIn trees end.accounts
   not_of_another gone (inl shown) = shown
   not_of_another gone (inr left) =
       let shows = its_own left in
@@ -94,11 +94,11 @@ module _ (w end : World) (trees : Trees) where
       met_is (act ∷ some) is leads = let none : some ++ left.tried.act ∷ left.tried.rest ≡ [] = cc in no_more left.tried.act some left.tried.rest none
 
       by : (answer : Answer) (after : World) → Next w (Step 1) answer after → after ≡ w
-      by answer after (inl steps) = let ignores = subst (λ o. InSession w o (Steps w 1) answer after) gone steps in ignores.stays
+      by answer after (inl steps) = let ignores = subst (λ o. InSession w o (StepsSession w 1) answer after) gone steps in ignores.stays
       by answer after (inr stays) = stays.stays
 
   -- nor an event that was tried before a commit that changed an account
-  not_behind_a_change : (end.accounts ≡ w.accounts → ⊥) → IsLeft w (refused ∷ made ∷ []) end trees → ShowsIn trees end.accounts
+  not_behind_a_change : (end.accounts ≡ w.accounts → ⊥) → IsLeftByCrash w (refused ∷ made ∷ []) end trees → ShowsIn trees end.accounts
   not_behind_a_change changed (inl shown) = shown
   not_behind_a_change changed (inr left) = by left.tried.some left.tried.front left.tried.leads
     where

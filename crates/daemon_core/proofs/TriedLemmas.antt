@@ -1,23 +1,23 @@
 -- What a crash leaves, act by act.
 use Rattle.std.proofs.Common.{◌≡◌, ◌⊎◌, ℕ, ◌==◌, Bool, true, false, List, [], ◌∷◌, ◌++◌, refl, sym, ◌∙◌, ap, subst, inl, inr}
 use Rattle.sqlite_trees.specs.Tree.{Trees}
-use Rattle.mailstore.specs.Shows.{ShowsIn}
-use Rattle.mailengine.specs.World.{World}
-use Rattle.mailengine.specs.declared.answer.Answer.{Answer}
-use Rattle.mailengine.specs.declared.answer.Answer.TheVariants.{Refused}
-use Rattle.mailengine.specs.declared.event.Event.{Event}
-use Rattle.mailengine.specs.declared.event.Event.TheVariants.{TakeMail}
-use Rattle.mailmoves.specs.Enduring.{MayLeave, ShowsMade}
-use Rattle.mailmoves.specs.declared.moving.Moving.TheVariants as moving
-use Rattle.mailmoves.proofs.RefusedLemmas.{refused_same}
-use Rattle.wires.specs.declared.act.Act.{Act}
-use Rattle.wires.specs.declared.act.Act.TheVariants.{Displaced, Came, Heard, Noted, Worked, Full, Ended}
-use Rattle.sieveddaemon.specs.Acts.{LacksThen, IsMadeOr, IsHeardOr, LeadsIn, Leads, LeadsOn, RestsOn}
-use Rattle.sieveddaemon.specs.DaemonRules.{lmtp}
-use Rattle.sieveddaemon.specs.Tried.{RefusedAt, TriesBy, TriesAt, TriedIn, LeavesTried, IsLeft}
-use Rattle.sieveddaemon.specs.declared.note.Note.{Note}
-use Rattle.sieveddaemon.specs.declared.note.Note.TheVariants.{Did, Away, Freed, Spoke, Answered, Asked, Looked, Moved}
-use Rattle.sieveddaemon.proofs.LeadLemmas.{TriedHere}
+use Rattle.store_accounts.specs.Shows.{ShowsIn}
+use Rattle.store_engine.specs.World.{World}
+use Rattle.store_engine.specs.declared.answer.Answer.{Answer}
+use Rattle.store_engine.specs.declared.answer.Answer.TheVariants.{Refused}
+use Rattle.store_engine.specs.declared.event.Event.{Event}
+use Rattle.store_engine.specs.declared.event.Event.TheVariants.{TakeMail}
+use Rattle.maildir_moves.specs.Enduring.{MayLeave, ShowsMade}
+use Rattle.maildir_moves.specs.declared.moving.Moving.TheVariants as moving
+use Rattle.maildir_moves.proofs.RefusedLemmas.{refused_same}
+use Rattle.net_loop.specs.declared.act.Act.{Act}
+use Rattle.net_loop.specs.declared.act.Act.TheVariants.{Displaced, Came, Heard, Noted, Worked, Full, Ended}
+use Rattle.daemon_core.specs.Acts.{LacksThen, IsMadeOr, IsHeardOr, LeadsIn, ActLeads, LeadsOn, RestsOn}
+use Rattle.daemon_core.specs.DaemonRules.{lmtp}
+use Rattle.daemon_core.specs.Tried.{RefusedAt, TriesBy, TriesAt, TriedIn, LeavesTried, IsLeftByCrash}
+use Rattle.daemon_core.specs.declared.note.Note.{Note}
+use Rattle.daemon_core.specs.declared.note.Note.TheVariants.{Did, Away, Freed, Spoke, Answered, Asked, Looked, Moved}
+use Rattle.daemon_core.proofs.LeadLemmas.{TriedHere}
 
 -- ---- an act leads as it does where fewer follow it
 
@@ -38,7 +38,7 @@ in_less : (b : Bool) (w : World) (id : ℕ) (some more : List (Act Note)) (v : W
 in_less true w id some more v led = led
 in_less false w id some more v led = (led.0, made_less led.0 id some more led.1, led.2)
 
-leads_less : (w : World) (act : Act Note) (some more : List (Act Note)) (v : World) → Leads w act (some ++ more) v → Leads w act some v
+leads_less : (w : World) (act : Act Note) (some more : List (Act Note)) (v : World) → ActLeads w act (some ++ more) v → ActLeads w act some v
 leads_less w (Came id kind) some more v led = in_less (kind == lmtp) w id some more v led
 leads_less w (Heard id piece) some more v led = (led.0, heard_less led.0 id some more led.1, led.2)
 leads_less w (Ended id) some more v led = led
@@ -50,7 +50,7 @@ leads_less w _ some more v led = led
 -- ---- what was tried
 
 -- in acts behind another one
-tried_behind : (w mid : World) (act : Act Note) (acts : List (Act Note)) (end : World) (trees : Trees) → Leads w act acts mid → LeavesTried mid acts end trees → LeavesTried w (act ∷ acts) end trees
+tried_behind : (w mid : World) (act : Act Note) (acts : List (Act Note)) (end : World) (trees : Trees) → ActLeads w act acts mid → LeavesTried mid acts end trees → LeavesTried w (act ∷ acts) end trees
 tried_behind w mid act acts end trees led left =
     let t = left.tried in
     record {
@@ -62,7 +62,7 @@ tried_behind w mid act acts end trees led left =
         rest = t.rest;
         front = ap (λ l. act ∷ l) t.front;
         before = t.before;
-        leads = (mid, leads_less w act t.some (t.act ∷ t.rest) mid (subst (λ l. Leads w act l mid) (sym t.front) led), t.leads);
+        leads = (mid, leads_less w act t.some (t.act ∷ t.rest) mid (subst (λ l. ActLeads w act l mid) (sym t.front) led), t.leads);
         after = t.after;
         tries = t.tries;
         rests = t.rests;
@@ -121,7 +121,7 @@ rests_same w (act ∷ acts) v rests = rests_same rests.0 acts v rests.3 ∙ rest
 pub tried_same : (start : World) (acts : List (Act Note)) (end : World) (event : Event) (met : World) → TriedIn start acts end event met → end.accounts ≡ met.accounts
 tried_same start acts end event met tried = rests_same tried.after tried.rest end tried.rests ∙ act_stays tried.before tried.act tried.after event met tried.tries
 
-pub left_on : (a b c : Trees → Type 0) (w mid v : World) (act : Act Note) (acts : List (Act Note)) → Leads w act acts mid → MayLeave a w.accounts b mid.accounts (TriedHere w act mid) → LeavesOn b mid acts c v
+pub left_on : (a b c : Trees → Type 0) (w mid v : World) (act : Act Note) (acts : List (Act Note)) → ActLeads w act acts mid → MayLeave a w.accounts b mid.accounts (TriedHere w act mid) → LeavesOn b mid acts c v
     → LeavesOn a w (act ∷ acts) c v
 left_on a b c w mid v act acts led here later trees may = by_later (later trees may)
   where
@@ -137,10 +137,10 @@ left_on a b c w mid v act acts led here later trees may = by_later (later trees 
     by_later (inr (inr tried)) = inr (inr (tried_behind w mid act acts v trees led tried))
 
 -- from a store of which a crash leaves the accounts alone
-pub is_left : (before after : Trees → Type 0) (w v : World) (acts : List (Act Note)) → ((trees : Trees) → before trees → ShowsIn trees w.accounts) → LeavesOn before w acts after v → (trees : Trees) → after trees → IsLeft w acts v trees
+pub is_left : (before after : Trees → Type 0) (w v : World) (acts : List (Act Note)) → ((trees : Trees) → before trees → ShowsIn trees w.accounts) → LeavesOn before w acts after v → (trees : Trees) → after trees → IsLeftByCrash w acts v trees
 is_left before after w v acts settled left trees may = by (left trees may)
   where
-    by : ShowsIn trees v.accounts ⊎ (RestsOn w acts v × before trees) ⊎ LeavesTried w acts v trees → IsLeft w acts v trees
+    by : ShowsIn trees v.accounts ⊎ (RestsOn w acts v × before trees) ⊎ LeavesTried w acts v trees → IsLeftByCrash w acts v trees
     by (inl shown) = inl shown
     by (inr (inl old)) = inl (subst (ShowsIn trees) (sym (rests_same w acts v old.0)) (settled trees old.1))
     by (inr (inr tried)) = inr tried

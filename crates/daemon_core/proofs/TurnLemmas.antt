@@ -1,29 +1,29 @@
 -- Whose turn it is, and what a step is made for.
 use Rattle.std.proofs.Common.{◌≡◌, inl, inr, ℕ, ◌==◌, Bool, true, false, cond, List, [], ◌∷◌, Option, Some, None, refl, sym, ◌∙◌, subst}
-use Rattle.wires.specs.declared.act.Act.{Act}
-use Rattle.wires.specs.declared.act.Act.TheVariants.{Woke, Began, Timed, Late, Waits, Roused, Worked, Came, NoneCame, Crowded, Displaced, Listened, InUse, Heard, ReadBlocked, Over, Sent, WriteBlocked, Lost, Noted, Full, Again, Shut, Dropped, Ended}
-use Rattle.wires.specs.declared.machine.Want.{Want}
-use Rattle.wires.specs.declared.service.Client.{Client}
-use Rattle.wires.specs.declared.service.Service.{Service}
-use Rattle.wires.specs.declared.service.Phase.{Phase}
-use Rattle.wires.specs.declared.service.Phase.TheVariants as phase
-use Rattle.wires.specs.declared.turn.Turn.{Turn}
-use Rattle.wires.specs.declared.turn.Turn.TheVariants.{Free, Stuffed, Leaving}
-use Rattle.wires.specs.declared.turn.Task.{Task}
-use Rattle.wires.specs.declared.turn.Task.TheVariants.{Send, Hear, Step, Rest, HangUp, Drain, End, Nothing}
-use Rattle.wires.specs.Rules.{Rules}
-use Rattle.wires.specs.Talk.{client_of, waits, gathers, task, task_by, task_sent, task_unsent, task_wanted, kind_of}
-use Rattle.wires.specs.Turns.{Turns, Tasks, Calm, Rests, MayWait, Reads, Fails, Lacks, Yields, MayEnd}
+use Rattle.net_loop.specs.declared.act.Act.{Act}
+use Rattle.net_loop.specs.declared.act.Act.TheVariants.{Woke, Began, Timed, Late, Waits, Resumed, Worked, Came, NoneCame, Crowded, Displaced, Listened, InUse, Heard, ReadBlocked, Over, Sent, WriteBlocked, Lost, Noted, Full, Again, Shut, Dropped, Ended}
+use Rattle.net_loop.specs.declared.machine.Want.{Want}
+use Rattle.net_loop.specs.declared.service.Client.{Client}
+use Rattle.net_loop.specs.declared.service.Service.{Service}
+use Rattle.net_loop.specs.declared.service.Phase.{Phase}
+use Rattle.net_loop.specs.declared.service.Phase.TheVariants as phase
+use Rattle.net_loop.specs.declared.turn.Turn.{Turn}
+use Rattle.net_loop.specs.declared.turn.Turn.TheVariants.{Free, OutOfMemory, Leaving}
+use Rattle.net_loop.specs.declared.turn.Task.{Task}
+use Rattle.net_loop.specs.declared.turn.Task.TheVariants.{Send, Hear, Step, Rest, HangUp, Drain, End, Nothing}
+use Rattle.net_loop.specs.Rules.{Rules}
+use Rattle.net_loop.specs.Talk.{client_of, waits, gathers, task, task_by, task_sent, task_unsent, task_wanted, client_kind}
+use Rattle.net_loop.specs.Turns.{TurnAllows, Tasks, Calm, RestsOrCalm, MayWait, ReadEnds, Fails, Lacks, Yields, MayEnd}
 
 -- a turn behind which one act alone may come
 abbrev IsBound : Turn → Type 0
-IsBound (Stuffed id kind) = Unit {0}
+IsBound (OutOfMemory id kind) = Unit {0}
 IsBound (Leaving id kind) = Unit {0}
 IsBound _ = ⊥
 
 -- that act: memory was lacking for its connection, or that is closed
 abbrev Follows : {N : Type 0} → Turn → Act N → Type 0
-Follows turn (Full k) = (kind : ℕ) × (turn ≡ Stuffed k kind)
+Follows turn (Full k) = (kind : ℕ) × (turn ≡ OutOfMemory k kind)
 Follows turn (Ended k) = (kind : ℕ) × (turn ≡ Leaving k kind)
 Follows turn _ = ⊥
 
@@ -32,7 +32,7 @@ module _ {M N R : Type 0} (rules : Rules M N R) (m n : M) (r q : R) (s u : Servi
   calm (inl is) = subst IsBound is bound
   calm (inr is) = subst IsBound is.0 bound
 
-  rests : Rests rules m s → ⊥
+  rests : RestsOrCalm rules m s → ⊥
   rests (inl is) = calm is
   rests (inr is) = subst IsBound is bound
 
@@ -43,7 +43,7 @@ module _ {M N R : Type 0} (rules : Rules M N R) (m n : M) (r q : R) (s u : Servi
   tasks : (k count : ℕ) (wanted : Task) → Tasks rules m s k count wanted → ⊥
   tasks k count wanted t = subst IsBound t.busy bound
 
-  reads : (k : ℕ) (to turn : Turn) → Reads rules m s k to turn → ⊥
+  reads : (k : ℕ) (to turn : Turn) → ReadEnds rules m s k to turn → ⊥
   reads k to turn (inl t) = tasks k t.0 Hear t.1
   reads k to turn (inr t) = tasks k t.0 Drain t.1
 
@@ -51,7 +51,7 @@ module _ {M N R : Type 0} (rules : Rules M N R) (m n : M) (r q : R) (s u : Servi
   fails k to turn (inl t) = tasks k t.0 Send t.1
   fails k to turn (inr t) = reads k to turn t
 
-  lacks : (k : ℕ) → Lacks rules m s k n u → (kind : ℕ) × (s.turn ≡ Stuffed k kind)
+  lacks : (k : ℕ) → Lacks rules m s k n u → (kind : ℕ) × (s.turn ≡ OutOfMemory k kind)
   lacks k (inl t) = (t.0, t.1)
   lacks k (inr (inl t)) = absurd (tasks k t.1.0 Step t.1.1)
   lacks k (inr (inr t)) = absurd (tasks k t.1.0 Rest t.1.1)
@@ -64,12 +64,12 @@ module _ {M N R : Type 0} (rules : Rules M N R) (m n : M) (r q : R) (s u : Servi
   may_end k j (inl t) = (j, t)
   may_end k j (inr t) = absurd (tasks k t.0 End t.1)
 
-  follows : (act : Act N) (said : List ℕ) → Turns rules m r s act said n q u → Follows s.turn act
+  follows : (act : Act N) (said : List ℕ) → TurnAllows rules m r s act said n q u → Follows s.turn act
   follows (Woke within wakes) said t = may_wait t.1
   follows (Timed moment) said t = subst IsBound t.1 bound
   follows (Late k) said t = subst IsBound t.0 bound
   follows (Began wake) said t = rests t.1
-  follows (Roused k) said t = rests t.1
+  follows (Resumed k) said t = rests t.1
   follows (Worked note) said t = calm t.2.calm
   follows (Came k door) said t = subst IsBound t.0.door bound
   follows (NoneCame door) said t = subst IsBound t.1.door bound
@@ -79,10 +79,10 @@ module _ {M N R : Type 0} (rules : Rules M N R) (m n : M) (r q : R) (s u : Servi
   follows (InUse k) said t = subst IsBound t.1.door bound
   follows (Heard k piece) said t = tasks k t.count Hear t.wanted
   follows (ReadBlocked k) said t = reads k Free u.turn t.1
-  follows (Over k) said t = reads k (Leaving k (kind_of (client_of s k))) u.turn t.1
+  follows (Over k) said t = reads k (Leaving k (client_kind (client_of s k))) u.turn t.1
   follows (Sent k octets) said t = tasks k t.1.0 Send t.1.1
   follows (WriteBlocked k) said t = tasks k t.1.0 Send t.1.1
-  follows (Lost k) said t = fails k (Leaving k (kind_of (client_of s k))) u.turn t.1
+  follows (Lost k) said t = fails k (Leaving k (client_kind (client_of s k))) u.turn t.1
   follows (Noted k note) said t = tasks k t.1.count Step t.1.wanted
   follows (Waits k) said t = tasks k t.1.0 Rest t.1.1
   follows (Full k) said t = lacks k t.1
@@ -102,21 +102,21 @@ IsFull id _ = ⊥
 
 end_by : {N : Type 0} (id kind : ℕ) (turn : Turn) → turn ≡ Leaving id kind → (act : Act N) → Follows turn act → IsEnd id act
 end_by id kind turn leaving (Ended k) is = let one : Leaving k is.0 ≡ Leaving id kind = sym is.1 ∙ leaving in cc
-end_by id kind turn leaving (Full k) is = let never : Stuffed k is.0 ≡ Leaving id kind = sym is.1 ∙ leaving in cc
+end_by id kind turn leaving (Full k) is = let never : OutOfMemory k is.0 ≡ Leaving id kind = sym is.1 ∙ leaving in cc
 end_by id kind turn leaving _ is = absurd is
 
-full_by : {N : Type 0} (id kind : ℕ) (turn : Turn) → turn ≡ Stuffed id kind → (act : Act N) → Follows turn act → IsFull id act
-full_by id kind turn stuffed (Full k) is = let one : Stuffed k is.0 ≡ Stuffed id kind = sym is.1 ∙ stuffed in cc
-full_by id kind turn stuffed (Ended k) is = let never : Leaving k is.0 ≡ Stuffed id kind = sym is.1 ∙ stuffed in cc
+full_by : {N : Type 0} (id kind : ℕ) (turn : Turn) → turn ≡ OutOfMemory id kind → (act : Act N) → Follows turn act → IsFull id act
+full_by id kind turn stuffed (Full k) is = let one : OutOfMemory k is.0 ≡ OutOfMemory id kind = sym is.1 ∙ stuffed in cc
+full_by id kind turn stuffed (Ended k) is = let never : Leaving k is.0 ≡ OutOfMemory id kind = sym is.1 ∙ stuffed in cc
 full_by id kind turn stuffed _ is = absurd is
 
 module _ {M N R : Type 0} (rules : Rules M N R) (m n : M) (r q : R) (s u : Service) (id kind : ℕ) where
   -- one that has to be closed is closed
-  pub ends : s.turn ≡ Leaving id kind → (act : Act N) (said : List ℕ) → Turns rules m r s act said n q u → IsEnd id act
+  pub ends : s.turn ≡ Leaving id kind → (act : Act N) (said : List ℕ) → TurnAllows rules m r s act said n q u → IsEnd id act
   ends leaving act said t = end_by id kind s.turn leaving act (follows rules m n r q s u (subst IsBound (sym leaving) tt) act said t)
 
   -- of one for which memory was lacking that is said
-  pub fulls : s.turn ≡ Stuffed id kind → (act : Act N) (said : List ℕ) → Turns rules m r s act said n q u → IsFull id act
+  pub fulls : s.turn ≡ OutOfMemory id kind → (act : Act N) (said : List ℕ) → TurnAllows rules m r s act said n q u → IsFull id act
   fulls stuffed act said t = full_by id kind s.turn stuffed act (follows rules m n r q s u (subst IsBound (sym stuffed) tt) act said t)
 
 -- ---- a step is made of one that is open and of which one is wanted

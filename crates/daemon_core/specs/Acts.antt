@@ -1,26 +1,26 @@
 -- What acts make of accounts and sessions, and what they say of one client of ManageSieve.
 use Rattle.std.specs.Prelude.{◌≡◌, ◌⊎◌, ℕ, ◌==◌, Bool, true, false, cond, nat_lt, List, [], ◌∷◌, ◌++◌, if◌then◌else◌, Option, None, Some, option_map, IfSome}
 use Rattle.std.specs.FinMap.{get}
-use Rattle.mailstore.specs.Account.{Accounts}
-use Rattle.mailengine.specs.World.{World, Next}
-use Rattle.mailengine.specs.declared.answer.Answer.{Answer}
-use Rattle.mailengine.specs.declared.answer.Answer.TheVariants.{Ignored}
-use Rattle.mailengine.specs.declared.event.Event.{Event}
-use Rattle.mailengine.specs.declared.event.Event.TheVariants.{Open, Give, Close}
-use Rattle.wires.specs.Talk.{same}
-use Rattle.wires.specs.declared.act.Act.{Act}
-use Rattle.wires.specs.declared.act.Act.TheVariants.{Timed, Late, Displaced, Worked, Came, Heard, Sent, Noted, Full, Ended}
-use Rattle.sieveddaemon.specs.DaemonRules.{lmtp}
-use Rattle.sieveddaemon.specs.Desk.{DoneAt, FindsAt}
-use Rattle.sieveddaemon.specs.Moves.{MovedAt, takes_of, answers_of}
-use Rattle.sieveddaemon.specs.Places.{is_out}
-use Rattle.sieveddaemon.specs.Waiting.{Allows, waits_behind, said_with, greeting, idle}
-use Rattle.sieveddaemon.specs.declared.note.Note.{Note}
-use Rattle.sieveddaemon.specs.declared.note.Note.TheVariants.{Did, Freed, Asked, Moved}
-use Rattle.sieveddaemon.specs.declared.place.Waits.{Waits}
-use Rattle.sieveddaemon.specs.declared.place.Waits.TheVariants as waits
+use Rattle.store_accounts.specs.Account.{Accounts}
+use Rattle.store_engine.specs.World.{World, Next}
+use Rattle.store_engine.specs.declared.answer.Answer.{Answer}
+use Rattle.store_engine.specs.declared.answer.Answer.TheVariants.{Ignored}
+use Rattle.store_engine.specs.declared.event.Event.{Event}
+use Rattle.store_engine.specs.declared.event.Event.TheVariants.{Open, Give, Close}
+use Rattle.net_loop.specs.Talk.{is_same_id}
+use Rattle.net_loop.specs.declared.act.Act.{Act}
+use Rattle.net_loop.specs.declared.act.Act.TheVariants.{Timed, Late, Displaced, Worked, Came, Heard, Sent, Noted, Full, Ended}
+use Rattle.daemon_core.specs.DaemonRules.{lmtp}
+use Rattle.daemon_core.specs.StoreAccess.{DoneAt, FindsAt}
+use Rattle.daemon_core.specs.Moves.{MovedAt, takes_of, answers_of}
+use Rattle.daemon_core.specs.ClientStates.{is_out}
+use Rattle.daemon_core.specs.Waiting.{Allows, waits_behind, said_with, session_greeting, idle}
+use Rattle.daemon_core.specs.declared.note.Note.{Note}
+use Rattle.daemon_core.specs.declared.note.Note.TheVariants.{Did, Freed, Asked, Moved}
+use Rattle.daemon_core.specs.declared.client_state.SessionWait.{SessionWait}
+use Rattle.daemon_core.specs.declared.client_state.SessionWait.TheVariants as waits
 
--- ---- accounts and sessions: the machine of mailengine
+-- ---- accounts and sessions: the machine of store_engine
 
 -- what the daemon notes of a connection. What asks no store is the same whatever accounts there are, and changes none
 abbrev pub LeadsBy : World → Note → World → Type 0
@@ -56,23 +56,23 @@ LeadsIn false w id more v = (answer : Answer) × IsMadeOr answer id more × Next
 
 -- who comes opens a session, what is heard is given to it, who goes closes it: each is an event, and none is passed over, except when
 -- memory was lacking, and then that connection ends. Only a guest makes room. `more` follows
-abbrev pub Leads : World → Act Note → List (Act Note) → World → Type 0
-Leads w (Came id kind) more v = LeadsIn (kind == lmtp) w id more v
-Leads w (Heard id piece) more v = (answer : Answer) × IsHeardOr answer id more × Next w (Give id piece) answer v
-Leads w (Ended id) more v = (answer : Answer) × Next w (Close id) answer v
-Leads w (Noted id note) more v = LeadsBy w note v
-Leads w (Worked note) more v = LeadsBy w note v
-Leads w (Displaced id) more v = (v ≡ w) × IsGuest w id
-Leads w _ more v = v ≡ w
+abbrev pub ActLeads : World → Act Note → List (Act Note) → World → Type 0
+ActLeads w (Came id kind) more v = LeadsIn (kind == lmtp) w id more v
+ActLeads w (Heard id piece) more v = (answer : Answer) × IsHeardOr answer id more × Next w (Give id piece) answer v
+ActLeads w (Ended id) more v = (answer : Answer) × Next w (Close id) answer v
+ActLeads w (Noted id note) more v = LeadsBy w note v
+ActLeads w (Worked note) more v = LeadsBy w note v
+ActLeads w (Displaced id) more v = (v ≡ w) × IsGuest w id
+ActLeads w _ more v = v ≡ w
 
 abbrev pub LeadsOn : World → List (Act Note) → World → Type 0
 LeadsOn w [] v = v ≡ w
-LeadsOn w (act ∷ acts) v = (mid : World) × Leads w act acts mid × LeadsOn mid acts v
+LeadsOn w (act ∷ acts) v = (mid : World) × ActLeads w act acts mid × LeadsOn mid acts v
 
 -- the same, and no act changes an account
 abbrev pub RestsOn : World → List (Act Note) → World → Type 0
 RestsOn w [] v = v ≡ w
-RestsOn w (act ∷ acts) v = (mid : World) × Leads w act acts mid × (mid.accounts ≡ w.accounts) × RestsOn mid acts v
+RestsOn w (act ∷ acts) v = (mid : World) × ActLeads w act acts mid × (mid.accounts ≡ w.accounts) × RestsOn mid acts v
 
 -- the same as a list of events
 abbrev pub events_by : Note → List Event
@@ -118,20 +118,20 @@ AnswersIn (act ∷ acts) told = (here : List Answer) × (later : List Answer) ×
 -- ---- one client of ManageSieve, since it came
 
 -- what it waits for, what its acts spell, and what was sent on it
-pub record Line : Type 0 where
-  pub waits : Waits
+pub record SessionLine : Type 0 where
+  pub waits : SessionWait
   pub spelled : List ℕ
   pub sent : List ℕ
 
 -- before it came
-abbrev pub no_line : Line
+abbrev pub no_line : SessionLine
 no_line = record { waits = waits.Nothing; spelled = []; sent = [] }
 
-abbrev pub new_line : Line
-new_line = record { waits = waits.Nothing; spelled = greeting; sent = [] }
+abbrev pub new_line : SessionLine
+new_line = record { waits = waits.Nothing; spelled = session_greeting; sent = [] }
 
 -- one that came; a client of LMTP has no such line
-abbrev pub line_came : Bool → Option Line
+abbrev pub line_came : Bool → Option SessionLine
 line_came true = None
 line_came false = Some new_line
 
@@ -140,35 +140,35 @@ abbrev pub moment_after : ℕ → Act Note → ℕ
 moment_after now (Timed moment) = if nat_lt now moment then moment else now
 moment_after now _ = now
 
-abbrev pub noted : ℕ → Line → Note → Line
-noted now l note = record l { waits = waits_behind now l.waits note; spelled = l.spelled ++ said_with l.waits note }
+abbrev pub line_noted : ℕ → SessionLine → Note → SessionLine
+line_noted now l note = record l { waits = waits_behind now l.waits note; spelled = l.spelled ++ said_with l.waits note }
 
 -- it was late, or made room for another
-abbrev pub idled : Line → Line
+abbrev pub idled : SessionLine → SessionLine
 idled l = record l { spelled = l.spelled ++ idle }
 
 -- what an act tells of it, at a moment; others' acts nothing
-abbrev pub tell : ℕ → ℕ → Line → Act Note → Line
-tell id now l (Noted n note) = cond (same n id) (noted now l note) l
-tell id now l (Late n) = cond (same n id) (idled l) l
-tell id now l (Displaced n) = cond (same n id) (idled l) l
-tell id now l (Sent n octets) = cond (same n id) (record l { sent = l.sent ++ octets }) l
-tell id now l _ = l
+abbrev pub line_after_act : ℕ → ℕ → SessionLine → Act Note → SessionLine
+line_after_act id now l (Noted n note) = cond (is_same_id n id) (line_noted now l note) l
+line_after_act id now l (Late n) = cond (is_same_id n id) (idled l) l
+line_after_act id now l (Displaced n) = cond (is_same_id n id) (idled l) l
+line_after_act id now l (Sent n octets) = cond (is_same_id n id) (record l { sent = l.sent ++ octets }) l
+line_after_act id now l _ = l
 
 -- the same, once it came
-abbrev pub tell_line : ℕ → ℕ → Option Line → Act Note → Option Line
-tell_line id now o (Came n kind) = cond (same n id) (line_came (kind == lmtp)) o
-tell_line id now o act = option_map (λ l. tell id now l act) o
+abbrev pub tell_line : ℕ → ℕ → Option SessionLine → Act Note → Option SessionLine
+tell_line id now o (Came n kind) = cond (is_same_id n id) (line_came (kind == lmtp)) o
+tell_line id now o act = option_map (λ l. line_after_act id now l act) o
 
-abbrev pub tell_on : ℕ → ℕ → Option Line → List (Act Note) → Option Line
-tell_on id now o [] = o
-tell_on id now o (act ∷ acts) = tell_on id (moment_after now act) (tell_line id now o act) acts
+abbrev pub line_after_acts : ℕ → ℕ → Option SessionLine → List (Act Note) → Option SessionLine
+line_after_acts id now o [] = o
+line_after_acts id now o (act ∷ acts) = line_after_acts id (moment_after now act) (tell_line id now o act) acts
 
 -- each note of it is one that it allows: its own items are stepped, each once, and given up only for a cause
-abbrev pub IsRight : ℕ → ℕ → Line → Act Note → Type 0
-IsRight id now l (Noted n note) = cond (same n id) (Allows now l.waits id note) (Unit {0})
+abbrev pub IsRight : ℕ → ℕ → SessionLine → Act Note → Type 0
+IsRight id now l (Noted n note) = cond (is_same_id n id) (Allows now l.waits id note) (Unit {0})
 IsRight id now l act = Unit {0}
 
-abbrev pub AreRight : ℕ → ℕ → Option Line → List (Act Note) → Type 0
+abbrev pub AreRight : ℕ → ℕ → Option SessionLine → List (Act Note) → Type 0
 AreRight id now o [] = Unit {0}
 AreRight id now o (act ∷ acts) = IfSome o (λ l. IsRight id now l act) × AreRight id (moment_after now act) (tell_line id now o act) acts

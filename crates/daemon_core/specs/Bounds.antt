@@ -1,32 +1,32 @@
 -- How many octets all connections hold, and how many they may.
 use Rattle.std.specs.Prelude.{◌≡◌, ◌⊎◌, ℕ, ◌+◌, ◌-◌, ◌*◌, ◌<◌, ◌≤◌, List, [], ◌∷◌, length, Option, Some, None, false, if◌then◌else◌}
-use Rattle.lmtp.specs.Receivers.{held_by}
-use Rattle.mailengine.specs.Hosts.{Kept}
-use Rattle.mailposts.specs.declared.post.Post.{Post}
-use Rattle.sessions.specs.Clients.{Client}
-use Rattle.sieveddaemon.specs.Places.{client_at, is_user}
-use Rattle.sieveddaemon.specs.declared.mail.MailDaemon.{MailDaemon}
-use Rattle.sieveddaemon.specs.declared.place.Place.{Place}
+use Rattle.lmtp_dialogue.specs.Receivers.{held_by}
+use Rattle.store_engine.specs.Hosts.{SessionMap}
+use Rattle.lmtp_connections.specs.declared.connection.LmtpConnection.{LmtpConnection}
+use Rattle.managesieve_sessions.specs.Clients.{Client}
+use Rattle.daemon_core.specs.ClientStates.{client_at, has_login}
+use Rattle.daemon_core.specs.declared.mail.MailDaemon.{MailDaemon}
+use Rattle.daemon_core.specs.declared.client_state.ClientState.{ClientState}
 
 -- of a client of ManageSieve: what came and isn't taken off
 abbrev pub unread_of : Option Client → ℕ
 unread_of None = 0
 unread_of (Some client) = length client.unread
 
-abbrev pub unread_in : Kept → List (ℕ × Place) → ℕ
+abbrev pub unread_in : SessionMap → List (ℕ × ClientState) → ℕ
 unread_in sessions [] = 0
 unread_in sessions (it ∷ entries) = unread_of (client_at sessions it.0) + unread_in sessions entries
 
 -- the same, of those alone where nobody is logged in
 abbrev pub guest_unread : Option Client → ℕ
-guest_unread o = if is_user o then 0 else unread_of o
+guest_unread o = if has_login o then 0 else unread_of o
 
-abbrev pub guests_in : Kept → List (ℕ × Place) → ℕ
+abbrev pub guests_in : SessionMap → List (ℕ × ClientState) → ℕ
 guests_in sessions [] = 0
 guests_in sessions (it ∷ entries) = guest_unread (client_at sessions it.0) + guests_in sessions entries
 
 -- of clients of LMTP: lines, and a text
-abbrev pub held_in : List (ℕ × Post) → ℕ
+abbrev pub held_in : List (ℕ × LmtpConnection) → ℕ
 held_in [] = 0
 held_in (it ∷ entries) = held_by it.1.receiver + held_in entries
 
@@ -43,8 +43,8 @@ abbrev pub own : ℕ
 own = 8192
 
 -- for how many more there is room
-abbrev pub room : MailDaemon → ℕ
-room d = bound d - held d
+abbrev pub octet_room : MailDaemon → ℕ
+octet_room d = bound d - held d
 
 -- how many of them clients of ManageSieve hold where nobody is logged in, and how many they may: an eighth
 abbrev pub guests : MailDaemon → ℕ
@@ -55,7 +55,7 @@ share d = d.memory * 128
 
 -- nobody is logged in at a connection
 abbrev pub IsGuestAt : MailDaemon → ℕ → Type 0
-IsGuestAt d id = is_user (client_at d.daemon.clients.sessions id) ≡ false
+IsGuestAt d id = has_login (client_at d.daemon.clients.sessions id) ≡ false
 
 -- with this many octets more of a client of ManageSieve all hold what they may, and if nobody is logged in there, so do all such clients
 pub record KeepsBound (d : MailDaemon) (id count : ℕ) : Type 0 where

@@ -2,24 +2,24 @@
 use Rattle.std.specs.Prelude.{ℕ, ◌-◌, ◌^◌, ◌==◌, Bool, true, false, List, length, Option, Some, None, is_some, option_map, if◌then◌else◌}
 use Rattle.std.specs.Ordering.{nat_cmp}
 use Rattle.std.specs.BTreeMap as tree
-use Rattle.sessions.specs.Clients.{Client, is_ready}
-use Rattle.mailengine.specs.Hosts.{Kept}
-use Rattle.mailengine.specs.declared.answer.Answer.{Answer}
-use Rattle.mailengine.specs.declared.answer.Answer.TheVariants.{Out}
-use Rattle.wires.specs.Talk.{after_span}
-use Rattle.wires.specs.declared.machine.Want.{Want}
-use Rattle.wires.specs.declared.machine.Want.TheVariants.{More, Step, Until, Done}
-use Rattle.sieveddaemon.specs.Waiting.{waits_behind}
-use Rattle.sieveddaemon.specs.declared.note.Note.{Note}
-use Rattle.sieveddaemon.specs.declared.note.Note.TheVariants.{Did, Freed, Spoke, Answered}
-use Rattle.sieveddaemon.specs.declared.place.Fit.{Fit}
-use Rattle.sieveddaemon.specs.declared.place.Fit.TheVariants as fit
-use Rattle.sieveddaemon.specs.declared.place.Place.{Place}
-use Rattle.sieveddaemon.specs.declared.place.Waits.{Waits}
-use Rattle.sieveddaemon.specs.declared.place.Waits.TheVariants as waits
+use Rattle.managesieve_sessions.specs.Clients.{Client, is_ready}
+use Rattle.store_engine.specs.Hosts.{SessionMap}
+use Rattle.store_engine.specs.declared.answer.Answer.{Answer}
+use Rattle.store_engine.specs.declared.answer.Answer.TheVariants.{Out}
+use Rattle.net_loop.specs.Talk.{after_span}
+use Rattle.net_loop.specs.declared.machine.Want.{Want}
+use Rattle.net_loop.specs.declared.machine.Want.TheVariants.{More, Step, Until, Done}
+use Rattle.daemon_core.specs.Waiting.{waits_behind}
+use Rattle.daemon_core.specs.declared.note.Note.{Note}
+use Rattle.daemon_core.specs.declared.note.Note.TheVariants.{Did, Freed, Spoke, Answered}
+use Rattle.daemon_core.specs.declared.client_state.Fit.{Fit}
+use Rattle.daemon_core.specs.declared.client_state.Fit.TheVariants as fit
+use Rattle.daemon_core.specs.declared.client_state.ClientState.{ClientState}
+use Rattle.daemon_core.specs.declared.client_state.SessionWait.{SessionWait}
+use Rattle.daemon_core.specs.declared.client_state.SessionWait.TheVariants as waits
 
 -- the session under a number, as contracts see it
-abbrev pub client_at : Kept → ℕ → Option Client
+abbrev pub client_at : SessionMap → ℕ → Option Client
 client_at kept id = option_map (λ session. session.client) (tree.get nat_cmp kept id)
 
 -- ---- what is wanted
@@ -34,14 +34,14 @@ want_in fit.Fits c = want_of_session c
 want_in fit.Over c = Step
 want_in fit.Told c = Done
 
-abbrev pub want_by : Waits → Fit → Client → Want
-want_by waits.Nothing whether c = want_in whether c
-want_by (waits.Store since again) whether c = Until again
-want_by waits.Refused whether c = Step
-want_by (waits.Reply until text) whether c = Until until
+abbrev pub session_want_by : SessionWait → Fit → Client → Want
+session_want_by waits.Nothing whether c = want_in whether c
+session_want_by (waits.Store since again) whether c = Until again
+session_want_by waits.Refused whether c = Step
+session_want_by (waits.Reply until text) whether c = Until until
 
-abbrev pub want_of : Option Place → Option Client → Want
-want_of (Some place) (Some c) = want_by place.waits place.fit c
+abbrev pub want_of : Option ClientState → Option Client → Want
+want_of (Some place) (Some c) = session_want_by place.waits place.fit c
 want_of _ _ = Done
 
 -- ---- when it is late
@@ -54,8 +54,8 @@ max_login = 60000
 abbrev pub max_command : ℕ
 max_command = 300000
 
-abbrev pub max_silence : ℕ
-max_silence = 1800000
+abbrev pub max_user_silence : ℕ
+max_user_silence = 1800000
 
 -- of one that waits for something else nothing is owed: that wait has an end of its own
 abbrev pub never : ℕ
@@ -63,37 +63,37 @@ never = 2 ^ 64 - 1
 
 -- one that is logged in owes the rest of what it began, or now and then a command
 abbrev pub due_of_user : ℕ → List ℕ → ℕ
-due_of_user since unread = if length unread == 0 then after_span since max_silence else after_span since max_command
+due_of_user since unread = if length unread == 0 then after_span since max_user_silence else after_span since max_command
 
-abbrev pub due_of_session : Place → Option (List ℕ) → List ℕ → ℕ
+abbrev pub due_of_session : ClientState → Option (List ℕ) → List ℕ → ℕ
 due_of_session place None unread = after_span place.guest max_login
 due_of_session place (Some user) unread = due_of_user place.since unread
 
-abbrev pub due_by : Waits → Place → Client → ℕ
-due_by waits.Nothing place c = due_of_session place c.user c.unread
-due_by _ place c = never
+abbrev pub session_due_by : SessionWait → ClientState → Client → ℕ
+session_due_by waits.Nothing place c = due_of_session place c.user c.unread
+session_due_by _ place c = never
 
-abbrev pub due_of : Option Place → Option Client → ℕ
-due_of (Some place) (Some c) = due_by place.waits place c
+abbrev pub due_of : Option ClientState → Option Client → ℕ
+due_of (Some place) (Some c) = session_due_by place.waits place c
 due_of _ _ = never
 
 -- ---- what is known of it
 
 -- one that has just come
-abbrev pub new_place : ℕ → Place
+abbrev pub new_place : ℕ → ClientState
 new_place now = record { waits = waits.Nothing; guest = now; since = now; fit = fit.Fits }
 
 -- octets came: if nothing was unread they begin what comes next; and whether there was room for them
-abbrev pub begun : ℕ → Place → Bool → Fit → Place
+abbrev pub begun : ℕ → ClientState → Bool → Fit → ClientState
 begun now place begins fits = record { waits = place.waits; guest = place.guest; since = if begins then now else place.since; fit = fits }
 
-abbrev pub place_given : ℕ → Place → Client → Fit → Place
+abbrev pub place_given : ℕ → ClientState → Client → Fit → ClientState
 place_given now place c fits = begun now place (length c.unread == 0) fits
 
 -- what is waited for changes: `answered`, if the next command is counted from now on; `user`, if somebody is logged in, who is a
 -- guest from now on at the earliest
-abbrev pub renewed : ℕ → Place → Waits → Bool → Bool → Place
-renewed now place w answered user =
+abbrev pub state_renewed : ℕ → ClientState → SessionWait → Bool → Bool → ClientState
+state_renewed now place w answered user =
     record { waits = w; guest = if user then now else place.guest; since = if answered then now else place.since; fit = place.fit }
 
 abbrev pub is_out : Answer → Bool
@@ -106,18 +106,18 @@ is_answered (Freed event answer) = is_out answer
 is_answered Spoke = true
 is_answered _ = false
 
-abbrev pub is_user : Option Client → Bool
-is_user None = false
-is_user (Some c) = is_some c.user
+abbrev pub has_login : Option Client → Bool
+has_login None = false
+has_login (Some c) = is_some c.user
 
 abbrev pub fit_behind : Fit → Note → Fit
 fit_behind whether Answered = fit.Told
 fit_behind whether _ = whether
 
 -- after a note, with the session that is there then
-abbrev pub place_behind : ℕ → Place → Note → Option Client → Place
-place_behind now place note c = record (renewed now place (waits_behind now place.waits note) (is_answered note) (is_user c)) { fit = fit_behind place.fit note }
+abbrev pub place_behind : ℕ → ClientState → Note → Option Client → ClientState
+place_behind now place note c = record (state_renewed now place (waits_behind now place.waits note) (is_answered note) (has_login c)) { fit = fit_behind place.fit note }
 
 -- after one that says that there was no room
-abbrev pub place_told : ℕ → Place → Bool → Place
-place_told now place user = record (renewed now place waits.Nothing false user) { fit = fit.Told }
+abbrev pub place_told : ℕ → ClientState → Bool → ClientState
+place_told now place user = record (state_renewed now place waits.Nothing false user) { fit = fit.Told }

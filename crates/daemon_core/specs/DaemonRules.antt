@@ -2,29 +2,29 @@
 use Rattle.std.specs.Prelude.{◌≡◌, ◌∷◌, ℕ, ◌==◌, ◌||◌, nat_lt, Bool, true, cond, List, [], Option, Some, None, if◌then◌else◌}
 use Rattle.std.specs.Ordering.{nat_cmp}
 use Rattle.std.specs.BTreeMap as tree
-use Rattle.sessions.specs.Clients.{Client}
-use Rattle.mailengine.specs.Hosts.{Kept, AsksStore, IsSessionEvent, KeepsClients}
-use Rattle.mailengine.specs.declared.answer.Answer.{Answer}
-use Rattle.mailengine.specs.declared.event.Event.{Event}
-use Rattle.mailengine.specs.declared.event.Event.TheVariants.{Open, Give, Step, Close}
-use Rattle.wires.specs.Rules.{Rules}
-use Rattle.wires.specs.Talk.{same}
-use Rattle.sieveddaemon.specs.Desk.{View, StillShows, IsDone, NothingDone}
-use Rattle.mailmoves.specs.Moving.{span_behind}
-use Rattle.sieveddaemon.specs.Holds.{asked_at, holding_behind, has_work, is_move_due, is_rested, looked, moved, patience_by}
-use Rattle.sieveddaemon.specs.Moves.{IsMoved}
-use Rattle.sieveddaemon.specs.Room.{guest_claim}
-use Rattle.sieveddaemon.specs.Places.{client_at, want_of, due_of, new_place, place_given, place_behind, renewed, is_out, is_user}
-use Rattle.sieveddaemon.specs.Waiting.{Allows, IsDue, said_with, greeting, idle}
-use Rattle.sieveddaemon.specs.declared.daemon.Daemon.{Daemon}
-use Rattle.sieveddaemon.specs.declared.daemon.Holding.{Holding}
-use Rattle.sieveddaemon.specs.declared.note.Note.{Note}
-use Rattle.sieveddaemon.specs.declared.note.Note.TheVariants.{Did, Away, Freed, Spoke, Answered, Looked, Moved}
-use Rattle.sieveddaemon.specs.declared.place.Fit.{Fit}
-use Rattle.sieveddaemon.specs.declared.place.Fit.TheVariants as fit
-use Rattle.sieveddaemon.specs.declared.place.Place.{Place}
-use Rattle.sieveddaemon.specs.declared.place.Waits.{Waits}
-use Rattle.sieveddaemon.specs.declared.place.Waits.TheVariants as waits
+use Rattle.managesieve_sessions.specs.Clients.{Client}
+use Rattle.store_engine.specs.Hosts.{SessionMap, EventAsksStore, IsSessionEvent, KeepsClients}
+use Rattle.store_engine.specs.declared.answer.Answer.{Answer}
+use Rattle.store_engine.specs.declared.event.Event.{Event}
+use Rattle.store_engine.specs.declared.event.Event.TheVariants.{Open, Give, Step, Close}
+use Rattle.net_loop.specs.Rules.{Rules}
+use Rattle.net_loop.specs.Talk.{is_same_id}
+use Rattle.daemon_core.specs.StoreAccess.{View, ViewStillShows, IsEventDone, NothingDone}
+use Rattle.maildir_moves.specs.Moving.{span_behind}
+use Rattle.daemon_core.specs.Holds.{asked_at, holding_behind, has_work, is_move_due, is_rested, holding_looked, holding_moved, patience_by}
+use Rattle.daemon_core.specs.Moves.{IsMessageMoved}
+use Rattle.daemon_core.specs.Eviction.{guest_claim}
+use Rattle.daemon_core.specs.ClientStates.{client_at, want_of, due_of, new_place, place_given, place_behind, state_renewed, is_out, has_login}
+use Rattle.daemon_core.specs.Waiting.{Allows, IsDue, said_with, session_greeting, idle}
+use Rattle.daemon_core.specs.declared.daemon.Daemon.{Daemon}
+use Rattle.daemon_core.specs.declared.daemon.Holding.{Holding}
+use Rattle.daemon_core.specs.declared.note.Note.{Note}
+use Rattle.daemon_core.specs.declared.note.Note.TheVariants.{Did, Away, Freed, Spoke, Answered, Looked, Moved}
+use Rattle.daemon_core.specs.declared.client_state.Fit.{Fit}
+use Rattle.daemon_core.specs.declared.client_state.Fit.TheVariants as fit
+use Rattle.daemon_core.specs.declared.client_state.ClientState.{ClientState}
+use Rattle.daemon_core.specs.declared.client_state.SessionWait.{SessionWait}
+use Rattle.daemon_core.specs.declared.client_state.SessionWait.TheVariants as waits
 
 -- the kinds of the connections of ManageSieve and of LMTP, and how many of the first there may be
 abbrev pub managesieve : ℕ
@@ -39,19 +39,19 @@ max_clients = 50
 abbrev pub limit_of : ℕ → ℕ
 limit_of kind = if kind == managesieve then max_clients else 0
 
-abbrev pub place_at : Daemon → ℕ → Option Place
+abbrev pub place_at : Daemon → ℕ → Option ClientState
 place_at d id = tree.get nat_cmp d.places id
 
 -- something is known of a connection, and this holds of it
-abbrev pub AtPlace : Daemon → ℕ → (Place → Type 0) → Type 0
-AtPlace d id P = (place : Place) × (place_at d id ≡ Some place) × P place
+abbrev pub AtPlace : Daemon → ℕ → (ClientState → Type 0) → Type 0
+AtPlace d id P = (place : ClientState) × (place_at d id ≡ Some place) × P place
 
 -- what is known of one connection changes, and of no other
-abbrev pub Places : Daemon → ℕ → Option Place → Daemon → Type 0
-Places d id place e = (other : ℕ) → place_at e other ≡ cond (same id other) place (place_at d other)
+abbrev pub Places : Daemon → ℕ → Option ClientState → Daemon → Type 0
+Places d id place e = (other : ℕ) → place_at e other ≡ cond (is_same_id id other) place (place_at d other)
 
 -- the same, and nothing of the store
-pub record Knows (d : Daemon) (id : ℕ) (place : Option Place) (e : Daemon) : Type 0 where
+pub record Knows (d : Daemon) (id : ℕ) (place : Option ClientState) (e : Daemon) : Type 0 where
   pub places : Places d id place e
   pub holding : e.holding ≡ d.holding
 
@@ -66,16 +66,16 @@ Made event d e = (answer : Answer) × (is_out answer ≡ true) × IsSessionEvent
 -- ---- connections come, say something, and go
 
 -- one is greeted, and its session begins
-pub record Opens (d : Daemon) (now id : ℕ) (said : List ℕ) (e : Daemon) : Type 0 where
-  pub says : said ≡ greeting
+pub record DaemonOpens (d : Daemon) (now id : ℕ) (said : List ℕ) (e : Daemon) : Type 0 where
+  pub says : said ≡ session_greeting
   pub event : Made (Open id) d e
   pub place : Knows d id (Some (new_place now)) e
 
 -- octets of one are appended to its session, and nothing is said; whether there was room for them is known then
-pub record Gives (d : Daemon) (now id : ℕ) (piece : List ℕ) (whether : Fit) (said : List ℕ) (e : Daemon) : Type 0 where
+pub record DaemonGives (d : Daemon) (now id : ℕ) (piece : List ℕ) (whether : Fit) (said : List ℕ) (e : Daemon) : Type 0 where
   pub silent : said ≡ []
   pub event : Made (Give id piece) d e
-  pub before : Place
+  pub before : ClientState
   pub was : place_at d id ≡ Some before
   pub client : Client
   pub session : client_at d.clients.sessions id ≡ Some client
@@ -87,7 +87,7 @@ pub record LacksFor (d : Daemon) (id : ℕ) (e : Daemon) : Type 0 where
   pub place : Knows d id None e
 
 -- one is gone, and its session
-pub record Closes (d : Daemon) (id : ℕ) (e : Daemon) : Type 0 where
+pub record DaemonCloses (d : Daemon) (id : ℕ) (e : Daemon) : Type 0 where
   pub event : Happened (Close id) d e
   pub place : Knows d id None e
 
@@ -95,19 +95,19 @@ pub record Closes (d : Daemon) (id : ℕ) (e : Daemon) : Type 0 where
 
 -- what a note says is done: an event by the store; nothing if it was away, what was kept back is said, or it is over; an event that asks
 -- no store, and is the same whatever accounts there are
-abbrev pub Makes : {R : Type 0} → View R → R → Daemon → Note → R → Daemon → Type 0
-Makes view r d (Did others event answer) q e = IsDone view others event answer r d.clients.sessions q e.clients.sessions
-Makes view r d Away q e = NothingDone view r d.clients.sessions q e.clients.sessions
-Makes view r d Spoke q e = NothingDone view r d.clients.sessions q e.clients.sessions
-Makes view r d Answered q e = NothingDone view r d.clients.sessions q e.clients.sessions
-Makes view r d (Freed event answer) q e = StillShows view r q × IsSessionEvent event answer d.clients.sessions e.clients.sessions
-Makes view r d _ q e = ⊥
+abbrev pub NoteMakes : {R : Type 0} → View R → R → Daemon → Note → R → Daemon → Type 0
+NoteMakes view r d (Did others event answer) q e = IsEventDone view others event answer r d.clients.sessions q e.clients.sessions
+NoteMakes view r d Away q e = NothingDone view r d.clients.sessions q e.clients.sessions
+NoteMakes view r d Spoke q e = NothingDone view r d.clients.sessions q e.clients.sessions
+NoteMakes view r d Answered q e = NothingDone view r d.clients.sessions q e.clients.sessions
+NoteMakes view r d (Freed event answer) q e = ViewStillShows view r q × IsSessionEvent event answer d.clients.sessions e.clients.sessions
+NoteMakes view r d _ q e = ⊥
 
 -- the store is asked only for what asks one: all else is answered by the session alone
-abbrev pub AsksFor : ℕ → Note → Kept → Type 0
-AsksFor id (Did others event answer) kept = AsksStore (Step id) kept
-AsksFor id Away kept = AsksStore (Step id) kept
-AsksFor id note kept = Unit {0}
+abbrev pub NoteAsksFor : ℕ → Note → SessionMap → Type 0
+NoteAsksFor id (Did others event answer) kept = EventAsksStore (Step id) kept
+NoteAsksFor id Away kept = EventAsksStore (Step id) kept
+NoteAsksFor id note kept = Unit {0}
 
 -- it is over with a connection only if there was no room for what it sent
 abbrev pub HasCause : Note → Fit → Type 0
@@ -118,13 +118,13 @@ abbrev pub had_at : ℕ → Daemon → Daemon
 had_at now d = record d { holding = asked_at now d.holding }
 
 -- what its connection waits for allows the note, which says what is done, what is said, and what is waited for then
-pub record Goes {R : Type 0} (view : View R) (d : Daemon) (r : R) (now id : ℕ) (note : Note) (said : List ℕ) (e : Daemon) (q : R) : Type 0 where
-  pub before : Place
+pub record DaemonGoes {R : Type 0} (view : View R) (d : Daemon) (r : R) (now id : ℕ) (note : Note) (said : List ℕ) (e : Daemon) (q : R) : Type 0 where
+  pub before : ClientState
   pub was : place_at d id ≡ Some before
   pub allows : IsDue now before.waits → Allows now before.waits id note
   pub cause : HasCause note before.fit
-  pub asks : AsksFor id note d.clients.sessions
-  pub makes : Makes view r d note q e
+  pub asks : NoteAsksFor id note d.clients.sessions
+  pub makes : NoteMakes view r d note q e
   pub says : said ≡ said_with before.waits note
   pub place : Places d id (Some (place_behind now before note (client_at e.clients.sessions id))) e
   pub holding : e.holding ≡ holding_behind now note d.holding
@@ -137,21 +137,21 @@ pub record Forgets (d : Daemon) (id : ℕ) (e : Daemon) : Type 0 where
   pub place : Knows d id None e
 
 -- what a connection waits for changes, whatever it was, and all else is as it was
-pub record Renews (d : Daemon) (now id : ℕ) (w : Waits) (answered : Bool) (e : Daemon) : Type 0 where
+pub record DaemonRenews (d : Daemon) (now id : ℕ) (w : SessionWait) (answered : Bool) (e : Daemon) : Type 0 where
   pub clients : e.clients ≡ d.clients
   pub holding : e.holding ≡ d.holding
-  pub place : (before : Place) → place_at d id ≡ Some before → Places d id (Some (renewed now before w answered (is_user (client_at d.clients.sessions id)))) e
+  pub place : (before : ClientState) → place_at d id ≡ Some before → Places d id (Some (state_renewed now before w answered (has_login (client_at d.clients.sessions id)))) e
 
 -- ---- work of its own: the store is given back, or mail moves on
 
 -- what is noted of it: it was given back if somebody waits for it, or nobody asked for that long; a message was to move on, and it was
 -- its time; or the store wasn't available for that
-abbrev pub WorksBy : {R : Type 0} → View R → Daemon → R → ℕ → Note → Kept → Holding → R → Type 0
+abbrev pub WorksBy : {R : Type 0} → View R → Daemon → R → ℕ → Note → SessionMap → Holding → R → Type 0
 WorksBy view d r now (Looked wanted) after h q =
-    StillShows view r q × (after ≡ d.clients.sessions) × (h ≡ looked d.holding now (is_rested d.holding now) (is_rested d.holding now || wanted))
+    ViewStillShows view r q × (after ≡ d.clients.sessions) × (h ≡ holding_looked d.holding now (is_rested d.holding now) (is_rested d.holding now || wanted))
 WorksBy view d r now (Moved others moving) after h q =
-    (is_move_due d.holding now ≡ true) × IsMoved view others moving r d.clients.sessions q after × (h ≡ moved d.holding now (Some (span_behind moving)))
-WorksBy view d r now Away after h q = (is_move_due d.holding now ≡ true) × NothingDone view r d.clients.sessions q after × (h ≡ moved d.holding now None)
+    (is_move_due d.holding now ≡ true) × IsMessageMoved view others moving r d.clients.sessions q after × (h ≡ holding_moved d.holding now (Some (span_behind moving)))
+WorksBy view d r now Away after h q = (is_move_due d.holding now ≡ true) × NothingDone view r d.clients.sessions q after × (h ≡ holding_moved d.holding now None)
 WorksBy view d r now _ after h q = ⊥
 
 -- nothing else changes
@@ -162,22 +162,22 @@ pub record DoesWork {R : Type 0} (view : View R) (d : Daemon) (r : R) (now : ℕ
 -- ---- for how long it may rest
 
 -- in milliseconds: if one waits for the store, or for the answer to what was refused; if something is kept back; otherwise
-abbrev pub patience_with : Waits → ℕ
-patience_with waits.Nothing = 1000
-patience_with (waits.Store since again) = 5
-patience_with waits.Refused = 5
-patience_with (waits.Reply until text) = 100
+abbrev pub session_patience : SessionWait → ℕ
+session_patience waits.Nothing = 1000
+session_patience (waits.Store since again) = 5
+session_patience waits.Refused = 5
+session_patience (waits.Reply until text) = 100
 
 abbrev pub least : ℕ → ℕ → ℕ
 least span other = if nat_lt other span then other else span
 
-abbrev pub least_from : ℕ → List (ℕ × Place) → ℕ
-least_from span [] = span
-least_from span (it ∷ entries) = least_from (least span (patience_with it.1.waits)) entries
+abbrev pub least_patience : ℕ → List (ℕ × ClientState) → ℕ
+least_patience span [] = span
+least_patience span (it ∷ entries) = least_patience (least span (session_patience it.1.waits)) entries
 
 -- the least of those of all connections, and of that by the store
 abbrev pub patience_of : Daemon → ℕ
-patience_of d = least_from (patience_by d.holding) d.places.entries
+patience_of d = least_patience (patience_by d.holding) d.places.entries
 
 -- ---- all of it
 
@@ -189,11 +189,11 @@ daemon_rules view = record {
   has_work = λ d now. has_work d.holding now;
   patience = patience_of;
   deadline = λ d id. due_of (place_at d id) (client_at d.clients.sessions id);
-  opens = λ d now kind id said e. Opens d now id said e;
-  gives = λ d now id piece said e. (whether : Fit) × Gives d now id piece whether said e;
-  steps = λ d r now id note said e q. Goes view d r now id note said e q;
+  opens = λ d now kind id said e. DaemonOpens d now id said e;
+  gives = λ d now id piece said e. (whether : Fit) × DaemonGives d now id piece whether said e;
+  steps = λ d r now id note said e q. DaemonGoes view d r now id note said e q;
   lates = λ d now id said e. (said ≡ idle) × (e ≡ d);
   works = λ d r now note e q. DoesWork view d r now note e q;
   lacks = λ d id e. LacksFor d id e;
-  closes = λ d now id e. Closes d id e;
+  closes = λ d now id e. DaemonCloses d id e;
 }

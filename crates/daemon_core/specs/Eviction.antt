@@ -1,17 +1,17 @@
 -- Who claims to go when another one of its kind wants its place, and all are taken.
 use Rattle.std.specs.Prelude.{◌≡◌, ℕ, ◌+◌, ◌-◌, ◌==◌, nat_le, Bool, true, false, if◌then◌else◌, List, [], ◌∷◌, Option, Some, None, is_some}
-use Rattle.sessions.specs.Clients.{Client, has_failed}
-use Rattle.mailposts.specs.Stands.{owed_since, has_said_hello}
-use Rattle.mailposts.specs.declared.post.Post.{Post}
-use Rattle.wires.specs.Talk.{after_span}
-use Rattle.wires.specs.declared.machine.Claim.{Claim}
-use Rattle.wires.specs.declared.machine.Want.{Want}
-use Rattle.wires.specs.declared.machine.Want.TheVariants.{More, Step, Wait, Until, Done}
-use Rattle.sieveddaemon.specs.Places.{want_by, is_user, never}
-use Rattle.sieveddaemon.specs.Waiting.{login_delay}
-use Rattle.sieveddaemon.specs.declared.place.Place.{Place}
-use Rattle.sieveddaemon.specs.declared.place.Waits.{Waits}
-use Rattle.sieveddaemon.specs.declared.place.Waits.TheVariants as waits
+use Rattle.managesieve_sessions.specs.Clients.{Client, has_failed}
+use Rattle.lmtp_connections.specs.Stands.{owed_since, has_said_hello}
+use Rattle.lmtp_connections.specs.declared.connection.LmtpConnection.{LmtpConnection}
+use Rattle.net_loop.specs.Talk.{after_span}
+use Rattle.net_loop.specs.declared.machine.Claim.{Claim}
+use Rattle.net_loop.specs.declared.machine.Want.{Want}
+use Rattle.net_loop.specs.declared.machine.Want.TheVariants.{More, Step, Wait, Until, Done}
+use Rattle.daemon_core.specs.ClientStates.{session_want_by, has_login, never}
+use Rattle.daemon_core.specs.Waiting.{login_delay}
+use Rattle.daemon_core.specs.declared.client_state.ClientState.{ClientState}
+use Rattle.daemon_core.specs.declared.client_state.SessionWait.{SessionWait}
+use Rattle.daemon_core.specs.declared.client_state.SessionWait.TheVariants as waits
 
 -- ---- for how long one is left alone, in milliseconds
 
@@ -53,8 +53,8 @@ abbrev pub kept_claim : ℕ → ℕ → Option Claim
 kept_claim now until =
     if nat_le until (after_span now (login_delay - kept_span)) then Some (record { rank = kept_rank; moment = never - until }) else None
 
-abbrev pub rank_of : Client → ℕ
-rank_of c = if has_failed c then failed_rank else silent_rank
+abbrev pub guest_rank : Client → ℕ
+guest_rank c = if has_failed c then failed_rank else silent_rank
 
 -- to any other an answer is owed
 abbrev pub want_claim : ℕ → Want → ℕ → ℕ → Option Claim
@@ -64,12 +64,12 @@ want_claim now Wait rank since = None
 want_claim now (Until moment) rank since = None
 want_claim now Done rank since = None
 
-abbrev pub waits_claim : ℕ → Waits → Place → Client → Option Claim
+abbrev pub waits_claim : ℕ → SessionWait → ClientState → Client → Option Claim
 waits_claim now (waits.Reply until text) place c = kept_claim now until
-waits_claim now w place c = want_claim now (want_by place.waits place.fit c) (rank_of c) place.guest
+waits_claim now w place c = want_claim now (session_want_by place.waits place.fit c) (guest_rank c) place.guest
 
 -- a guest of ManageSieve; who is logged in stays
-abbrev pub guest_claim : ℕ → Option Place → Option Client → Option Claim
+abbrev pub guest_claim : ℕ → Option ClientState → Option Client → Option Claim
 guest_claim now (Some place) (Some c) = if is_some c.user then None else waits_claim now place.waits place c
 guest_claim now _ _ = None
 
@@ -77,27 +77,27 @@ guest_claim now _ _ = None
 abbrev pub silent_by : Bool → ℕ
 silent_by hello = if hello then 0 else 1
 
-abbrev pub silent_in : List (ℕ × Post) → ℕ
+abbrev pub silent_in : List (ℕ × LmtpConnection) → ℕ
 silent_in [] = 0
 silent_in (it ∷ entries) = silent_by (has_said_hello it.1) + silent_in entries
 
 -- many haven't
-abbrev pub is_flooded : List (ℕ × Post) → Bool
+abbrev pub is_flooded : List (ℕ × LmtpConnection) → Bool
 is_flooded entries = (many_silent - silent_in entries) == 0
 
-abbrev pub span_by : Bool → Bool → ℕ
-span_by true flooded = sender_span
-span_by false flooded = if flooded then first_span else sender_span
+abbrev pub silence_span : Bool → Bool → ℕ
+silence_span true flooded = sender_span
+silence_span false flooded = if flooded then first_span else sender_span
 
 abbrev pub since_claim : ℕ → ℕ → Option ℕ → Option Claim
 since_claim now span None = None
 since_claim now span (Some since) = owed_claim now span silent_rank since
 
 -- a client of LMTP that owes octets while no recipient of its is taken; none that has a session
-abbrev pub sender_claim : ℕ → Bool → Option Client → Post → Option Claim
-sender_claim now flooded o post = if is_user o then None else since_claim now (span_by (has_said_hello post) flooded) (owed_since post)
+abbrev pub sender_claim : ℕ → Bool → Option Client → LmtpConnection → Option Claim
+sender_claim now flooded o post = if has_login o then None else since_claim now (silence_span (has_said_hello post) flooded) (owed_since post)
 
 -- either, by what is known of it
-abbrev pub claim_by : ℕ → Bool → Option Post → Option Place → Option Client → Option Claim
-claim_by now flooded (Some post) place o = sender_claim now flooded o post
-claim_by now flooded None place o = guest_claim now place o
+abbrev pub claim_by_kind : ℕ → Bool → Option LmtpConnection → Option ClientState → Option Client → Option Claim
+claim_by_kind now flooded (Some post) place o = sender_claim now flooded o post
+claim_by_kind now flooded None place o = guest_claim now place o

@@ -2,24 +2,24 @@
 use Rattle.std.specs.Prelude.{◌≡◌, ℕ, List, [], ◌++◌, Bool, Option, Some, None, IfSome, IsTrue}
 use Rattle.std.specs.FinMap.{empty}
 use Rattle.sqlite_trees.specs.Tree.{Trees}
-use Rattle.lmtp.specs.declared.name.Names.{Names}
-use Rattle.mailstore.specs.Account.{Accounts}
-use Rattle.mailstore.specs.Shows.{ShowsIn}
-use Rattle.mailengine.specs.OwnActs.{IsAlone}
-use Rattle.mailengine.specs.Sound.{AreSound}
-use Rattle.mailengine.specs.Spacing.{IsSpaced}
-use Rattle.mailengine.specs.World.{World, Runs}
-use Rattle.mailengine.specs.declared.answer.Answer.{Answer}
-use Rattle.wires.specs.Life.{Fresh, IsFrontOf}
-use Rattle.wires.specs.declared.act.Act.{Act}
-use Rattle.wires.specs.declared.service.Service.{Service}
-use Rattle.sieveddaemon.specs.Acts.{LeadsOn, events_in, AnswersIn, no_line, tell_on, AreRight}
-use Rattle.sieveddaemon.specs.Desk.{View, IsWorld}
-use Rattle.sieveddaemon.specs.Holding.{IsBounded}
-use Rattle.sieveddaemon.specs.MailActs.{MailLine, TellsOn}
-use Rattle.sieveddaemon.specs.Tried.{IsLeft}
-use Rattle.sieveddaemon.specs.declared.mail.MailDaemon.{MailDaemon}
-use Rattle.sieveddaemon.specs.declared.note.Note.{Note}
+use Rattle.lmtp_dialogue.specs.declared.name.Names.{Names}
+use Rattle.store_accounts.specs.Account.{Accounts}
+use Rattle.store_accounts.specs.Shows.{ShowsIn}
+use Rattle.store_engine.specs.OwnActs.{IsAlone}
+use Rattle.store_engine.specs.Sound.{AreSound}
+use Rattle.store_engine.specs.Spacing.{IsSpaced}
+use Rattle.store_engine.specs.World.{World, Runs}
+use Rattle.store_engine.specs.declared.answer.Answer.{Answer}
+use Rattle.net_loop.specs.Life.{Fresh, IsPrefixOf}
+use Rattle.net_loop.specs.declared.act.Act.{Act}
+use Rattle.net_loop.specs.declared.service.Service.{Service}
+use Rattle.daemon_core.specs.Acts.{LeadsOn, events_in, AnswersIn, no_line, line_after_acts, AreRight}
+use Rattle.daemon_core.specs.StoreAccess.{View, IsWorld}
+use Rattle.daemon_core.specs.Holding.{IsBounded}
+use Rattle.daemon_core.specs.MailActs.{MailLine, TellsOn}
+use Rattle.daemon_core.specs.Tried.{IsLeftByCrash}
+use Rattle.daemon_core.specs.declared.mail.MailDaemon.{MailDaemon}
+use Rattle.daemon_core.specs.declared.note.Note.{Note}
 
 -- these accounts, and no session
 abbrev pub world_of : Accounts → World
@@ -28,7 +28,7 @@ world_of accounts = record { accounts = accounts; sessions = empty }
 -- what holds after exactly these acts were seen, from a world at a moment to another
 pub record HoldsAfter (names : Names) (host : List ℕ) (w : World) (now : ℕ) (acts : List (Act Note)) (v : World) : Type 0 where
   -- each act does what it is to the accounts and the sessions, and so the events of all, with some answers that agree with those noted,
-  -- are a run of the machine of mailengine
+  -- are a run of the machine of store_engine
   pub leads : LeadsOn w acts v
   pub told : List Answer
   pub runs : Runs w (events_in acts) told v
@@ -41,32 +41,32 @@ pub record HoldsAfter (names : Names) (host : List ℕ) (w : World) (now : ℕ) 
   -- what is done for a client of ManageSieve is what it allows
   pub right : (id : ℕ) → AreRight id now (Some no_line) acts
   -- what was sent to it since it came is a prefix of what its own acts spell
-  pub sent : (id : ℕ) → IfSome (tell_on id now (Some no_line) acts) (λ l. IsFrontOf l.sent l.spelled)
+  pub sent : (id : ℕ) → IfSome (line_after_acts id now (Some no_line) acts) (λ l. IsPrefixOf l.sent l.spelled)
   -- what is done for a client of LMTP is a step that it allows, and what was sent to it since it came is a prefix of what these spell
-  pub mail : (id : ℕ) → (o : Option MailLine) × TellsOn names host id now None acts o × IfSome o (λ l. IsFrontOf l.sent l.spelled)
+  pub mail : (id : ℕ) → (o : Option MailLine) × TellsOn names host id now None acts o × IfSome o (λ l. IsPrefixOf l.sent l.spelled)
 
 -- from these accounts and no connection on, at each prefix of the acts, and at the end with the accounts that the store shows then and the
 -- daemon's sessions. A crash at the end, while the store is held and no fault of the disk has shut it, leaves these accounts, or what one
--- event makes of them that was refused since they last changed, at the very world that it met (`IsLeft`). So what was acknowledged stays,
+-- event makes of them that was refused since they last changed, at the very world that it met (`IsLeftByCrash`). So what was acknowledged stays,
 -- but for what that event makes of it, and nothing is half there
 pub record Headline {R : Type 0} (view : View R) (names : Names) (host : List ℕ) (start : Accounts) (now : ℕ) (acts : List (Act Note)) (r : R) (d : MailDaemon) : Type 0 where
   pub each_moment : (some rest : List (Act Note)) → some ++ rest ≡ acts → (v : World) × HoldsAfter names host (world_of start) now some v
   pub end : World
   pub holds : HoldsAfter names host (world_of start) now acts end
   pub shown : IsWorld view r d.daemon.clients.sessions end
-  pub left : (trees : Trees) → view.leaves r trees → IsLeft (world_of start) acts end trees
+  pub left : (trees : Trees) → view.leaves r trees → IsLeftByCrash (world_of start) acts end trees
   -- all connections together hold what they may, but for what each may besides
   pub bounded : IsBounded d
 
 -- a daemon that knows no connection
-pub record IsNew (d : MailDaemon) : Type 0 where
+pub record IsNewDaemon (d : MailDaemon) : Type 0 where
   pub sessions : d.daemon.clients.sessions.entries ≡ []
   pub places : d.daemon.places.entries ≡ []
   pub posts : d.posts.entries ≡ []
 
 -- of a life, if it is told, that begins with a store that shows these accounts, and of which a crash leaves nothing else: the acts
 -- that were added
-abbrev pub Serves : {O R : Type 0} → (O → Bool) → (O → List (Act Note)) → (O → R) → View R → O → MailDaemon → Service → O → MailDaemon → Type 0
-Serves tells seen rest view o d s p e =
-    IsTrue (tells p) → IsNew d → Fresh s → (start : Accounts) → view.shows (rest o) start → ((trees : Trees) → view.leaves (rest o) trees → ShowsIn trees start)
+abbrev pub DaemonServes : {O R : Type 0} → (O → Bool) → (O → List (Act Note)) → (O → R) → View R → O → MailDaemon → Service → O → MailDaemon → Type 0
+DaemonServes tells seen rest view o d s p e =
+    IsTrue (tells p) → IsNewDaemon d → Fresh s → (start : Accounts) → view.shows (rest o) start → ((trees : Trees) → view.leaves (rest o) trees → ShowsIn trees start)
     → (acts : List (Act Note)) × (seen p ≡ seen o ++ acts) × Headline view d.names d.host start s.moment acts (rest p) e

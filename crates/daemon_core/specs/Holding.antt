@@ -1,17 +1,17 @@
 -- What all connections hold at any time.
 use Rattle.std.specs.Prelude.{ℕ, zero, suc, ◌+◌, ◌-◌, ◌≤◌, Option, Some, None}
-use Rattle.lmtp.specs.Receivers.{held_by}
-use Rattle.mailposts.specs.declared.post.Post.{Post}
-use Rattle.sessions.specs.Clients.{Client}
-use Rattle.wires.specs.Told.{largest_piece}
-use Rattle.sieveddaemon.specs.Bounds.{unread_of, bound, own}
-use Rattle.sieveddaemon.specs.DaemonRules.{place_at}
-use Rattle.sieveddaemon.specs.MailRules.{post_at}
-use Rattle.sieveddaemon.specs.Places.{client_at}
-use Rattle.sieveddaemon.specs.declared.mail.MailDaemon.{MailDaemon}
-use Rattle.sieveddaemon.specs.declared.place.Fit.{Fit}
-use Rattle.sieveddaemon.specs.declared.place.Fit.TheVariants as fit
-use Rattle.sieveddaemon.specs.declared.place.Place.{Place}
+use Rattle.lmtp_dialogue.specs.Receivers.{held_by}
+use Rattle.lmtp_connections.specs.declared.connection.LmtpConnection.{LmtpConnection}
+use Rattle.managesieve_sessions.specs.Clients.{Client}
+use Rattle.net_loop.specs.Told.{largest_piece}
+use Rattle.daemon_core.specs.Bounds.{unread_of, bound, own}
+use Rattle.daemon_core.specs.DaemonRules.{place_at}
+use Rattle.daemon_core.specs.MailRules.{post_at}
+use Rattle.daemon_core.specs.ClientStates.{client_at}
+use Rattle.daemon_core.specs.declared.mail.MailDaemon.{MailDaemon}
+use Rattle.daemon_core.specs.declared.client_state.Fit.{Fit}
+use Rattle.daemon_core.specs.declared.client_state.Fit.TheVariants as fit
+use Rattle.daemon_core.specs.declared.client_state.ClientState.{ClientState}
 
 -- the sum of the values at all numbers below one
 abbrev pub sum_below : ℕ → (ℕ → ℕ) → ℕ
@@ -25,12 +25,12 @@ firm_by fit.Over count = count - (own + largest_piece)
 firm_by fit.Told count = count - (own + largest_piece)
 
 -- of a session for which memory was lacking nothing is counted: it ends next
-abbrev pub firm_client : Option Place → Option Client → ℕ
+abbrev pub firm_client : Option ClientState → Option Client → ℕ
 firm_client None o = 0
 firm_client (Some place) o = firm_by place.fit (unread_of o)
 
 -- what one of LMTP does
-abbrev pub firm_post : Option Post → ℕ
+abbrev pub firm_post : Option LmtpConnection → ℕ
 firm_post None = 0
 firm_post (Some post) = held_by post.receiver - own
 

@@ -1,17 +1,17 @@
 -- Whether the store is held, when it is given back, and when a message moves on.
 use Rattle.std.specs.Prelude.{ℕ, ◌+◌, ◌==◌, ◌&&◌, ◌||◌, not, nat_le, nat_lt, Bool, true, false, Option, Some, None, if◌then◌else◌}
-use Rattle.wires.specs.Talk.{after_span}
-use Rattle.sieveddaemon.specs.declared.daemon.Holding.{Holding}
-use Rattle.sieveddaemon.specs.declared.note.Note.{Note}
-use Rattle.sieveddaemon.specs.declared.note.Note.TheVariants.{Did, Asked}
+use Rattle.net_loop.specs.Talk.{after_span}
+use Rattle.daemon_core.specs.declared.daemon.Holding.{Holding}
+use Rattle.daemon_core.specs.declared.note.Note.{Note}
+use Rattle.daemon_core.specs.declared.note.Note.TheVariants.{Did, Asked}
 
 -- one event more; at most ten are counted
-abbrev pub counted : ℕ → ℕ
-counted events = if nat_lt events 10 then events + 1 else 10
+abbrev pub counted_events : ℕ → ℕ
+counted_events events = if nat_lt events 10 then events + 1 else 10
 
 -- after an event that asked the store it is held, it is looked at once whether somebody waits for it, and it is looked for mail
 abbrev pub asked_at : ℕ → Holding → Holding
-asked_at now h = record { had = true; look = now; asked = now; moves = h.moves; next = now; soon = h.soon; events = counted h.events }
+asked_at now h = record { had = true; look = now; asked = now; moves = h.moves; next = now; soon = h.soon; events = counted_events h.events }
 
 abbrev pub holding_behind : ℕ → Note → Holding → Holding
 holding_behind now (Did others event answer) h = asked_at now h
@@ -39,11 +39,11 @@ is_rested h now = nat_le (after_span h.asked max_rest) now
 abbrev pub again_span : ℕ
 again_span = 50
 
-abbrev pub span_by : Bool → ℕ
-span_by rests = if rests then 60000 else again_span
+abbrev pub look_span_by : Bool → ℕ
+look_span_by rests = if rests then 60000 else again_span
 
-abbrev pub looked : Holding → ℕ → Bool → Bool → Holding
-looked h now rests given = if given then record h { had = false; next = after_span now (span_by rests); soon = not rests } else record h { look = after_span now look_span }
+abbrev pub holding_looked : Holding → ℕ → Bool → Bool → Holding
+holding_looked h now rests given = if given then record h { had = false; next = after_span now (look_span_by rests); soon = not rests } else record h { look = after_span now look_span }
 
 -- ---- a message moves on
 
@@ -55,9 +55,9 @@ abbrev pub is_move_due : Holding → ℕ → Bool
 is_move_due h now = h.moves && (nat_le h.next now && is_turn h now)
 
 -- one was to move: for how long none is to; or the store wasn't available, and it is asked for 50 ms later
-abbrev pub moved : Holding → ℕ → Option ℕ → Holding
-moved h now (Some span) = record { had = true; look = now; asked = now; moves = h.moves; next = after_span now span; soon = false; events = 0 }
-moved h now None = record h { next = after_span now again_span; soon = true }
+abbrev pub holding_moved : Holding → ℕ → Option ℕ → Holding
+holding_moved h now (Some span) = record { had = true; look = now; asked = now; moves = h.moves; next = after_span now span; soon = false; events = 0 }
+holding_moved h now None = record h { next = after_span now again_span; soon = true }
 
 abbrev pub has_work : Holding → ℕ → Bool
 has_work h now = is_look_due h now || is_move_due h now

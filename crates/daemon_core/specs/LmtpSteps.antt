@@ -1,30 +1,30 @@
 -- What notes tell of a client of LMTP.
 use Rattle.std.specs.Prelude.{◌≡◌, ◌⊎◌, ℕ, ◌-◌, ◌==◌, if◌then◌else◌, List, [], ◌∷◌, ◌++◌, length, take, Bool, true, false, IsTrue}
 use Rattle.std.specs.List.{flat_map}
-use Rattle.lmtp.specs.declared.reply.Reply.{Reply}
-use Rattle.lmtp.specs.declared.reply.Reply.TheVariants.{NoSuchUser, AccountClosed, MessageTooLarge, BadSender, BadRecipient, NoRoom, LocalFault}
-use Rattle.mailstore.specs.declared.refusal.Refusal.{Refusal}
-use Rattle.mailstore.specs.declared.refusal.Refusal.TheVariants.{Memory, NoUser, AccountClosed as ClosedAccount, TooLarge, BadEnvelope}
-use Rattle.mailengine.specs.Hosts.{Kept}
-use Rattle.mailengine.specs.declared.event.Event.{Event}
-use Rattle.mailengine.specs.Limits.{is_envelope_address}
-use Rattle.mailengine.specs.declared.answer.Answer.{Answer}
-use Rattle.mailengine.specs.declared.answer.Answer.TheVariants as answer
-use Rattle.mailposts.specs.Posts.{Deed, Answered, Declined, Asked, Away, Brought}
-use Rattle.mailposts.specs.declared.addressee.Became.{Became}
-use Rattle.mailposts.specs.declared.addressee.Became.TheVariants.{Delivered, Refused}
-use Rattle.mailposts.specs.declared.demand.Parcel.{Parcel}
-use Rattle.mailposts.specs.Stands.{Does, HoldsNoMore}
-use Rattle.mailposts.specs.declared.post.Post.{Post}
-use Rattle.reportlines.specs.Reports.{delivery_report}
-use Rattle.wires.specs.declared.act.Act.{Act}
-use Rattle.wires.specs.declared.act.Act.TheVariants.{Noted}
-use Rattle.sieveddaemon.specs.Holds.{holding_behind}
-use Rattle.sieveddaemon.specs.Desk.{View, IsDone, IsAsked, NothingDone, delivery_of}
-use Rattle.sieveddaemon.specs.declared.daemon.Daemon.{Daemon}
-use Rattle.sieveddaemon.specs.declared.note.Note.{Note}
-use Rattle.mailengine.specs.Terms.{Terms}
-use Rattle.sieveddaemon.specs.declared.note.Note.TheVariants as note
+use Rattle.lmtp_dialogue.specs.declared.reply.LmtpReply.{LmtpReply}
+use Rattle.lmtp_dialogue.specs.declared.reply.LmtpReply.TheVariants.{NoSuchUser, AccountClosed, MessageTooLarge, BadSender, BadRecipient, NoRoom, LocalFault}
+use Rattle.store_accounts.specs.declared.refusal.Refusal.{Refusal}
+use Rattle.store_accounts.specs.declared.refusal.Refusal.TheVariants.{Memory, NoUser, AccountClosed as ClosedAccount, TooLarge, BadEnvelope}
+use Rattle.store_engine.specs.Hosts.{SessionMap}
+use Rattle.store_engine.specs.declared.event.Event.{Event}
+use Rattle.store_engine.specs.Limits.{is_envelope_address}
+use Rattle.store_engine.specs.declared.answer.Answer.{Answer}
+use Rattle.store_engine.specs.declared.answer.Answer.TheVariants as answer
+use Rattle.lmtp_connections.specs.Connections.{LmtpStep, Answered, Declined, Asked, Away, Brought}
+use Rattle.lmtp_connections.specs.declared.addressee.DeliveryResult.{DeliveryResult}
+use Rattle.lmtp_connections.specs.declared.addressee.DeliveryResult.TheVariants.{Delivered, Refused}
+use Rattle.lmtp_connections.specs.declared.demand.StoreDelivery.{StoreDelivery}
+use Rattle.lmtp_connections.specs.Stands.{ConnectionDoes, ConnectionHoldsNoMore}
+use Rattle.lmtp_connections.specs.declared.connection.LmtpConnection.{LmtpConnection}
+use Rattle.cli_reports.specs.Reports.{delivery_report}
+use Rattle.net_loop.specs.declared.act.Act.{Act}
+use Rattle.net_loop.specs.declared.act.Act.TheVariants.{Noted}
+use Rattle.daemon_core.specs.Holds.{holding_behind}
+use Rattle.daemon_core.specs.StoreAccess.{View, IsEventDone, IsAccountAsked, NothingDone, delivery_of}
+use Rattle.daemon_core.specs.declared.daemon.Daemon.{Daemon}
+use Rattle.daemon_core.specs.declared.note.Note.{Note}
+use Rattle.store_engine.specs.Terms.{Terms}
+use Rattle.daemon_core.specs.declared.note.Note.TheVariants as note
 
 -- the lines of a report as one line: a comma and a space for each line end but the last one
 abbrev pub joined_octet : ℕ → List ℕ
@@ -34,55 +34,55 @@ abbrev pub one_line : List ℕ → List ℕ
 one_line lines = flat_map joined_octet (take (length lines - 1) lines)
 
 -- of whom a refusal of the envelope is: of the sender if that address may not be in a store, otherwise of the recipient
-abbrev pub envelope_reply : Bool → Reply
+abbrev pub envelope_reply : Bool → LmtpReply
 envelope_reply true = BadRecipient
 envelope_reply false = BadSender
 
 -- how a recipient is told that a delivery was refused; for a fault of the host it is told to try again
-abbrev pub reply_to : List ℕ → Refusal → Reply
-reply_to sender NoUser = NoSuchUser
-reply_to sender ClosedAccount = AccountClosed
-reply_to sender TooLarge = MessageTooLarge
-reply_to sender BadEnvelope = envelope_reply (is_envelope_address sender)
-reply_to sender Memory = NoRoom
-reply_to sender refusal = LocalFault
+abbrev pub refusal_reply : List ℕ → Refusal → LmtpReply
+refusal_reply sender NoUser = NoSuchUser
+refusal_reply sender ClosedAccount = AccountClosed
+refusal_reply sender TooLarge = MessageTooLarge
+refusal_reply sender BadEnvelope = envelope_reply (is_envelope_address sender)
+refusal_reply sender Memory = NoRoom
+refusal_reply sender refusal = LocalFault
 
 -- what became of a message that was to be delivered: a delivery is reported, or if memory was lacking for the report just told
-abbrev pub IsBecame : List ℕ → Answer → Became → Type 0
-IsBecame sender (answer.Delivered report) became = (became ≡ Delivered (one_line (delivery_report report))) ⊎ (became ≡ Delivered [])
-IsBecame sender (answer.Refused refusal) became = became ≡ Refused (reply_to sender refusal)
-IsBecame sender other became = became ≡ Refused LocalFault
+abbrev pub IsDeliveryResult : List ℕ → Answer → DeliveryResult → Type 0
+IsDeliveryResult sender (answer.Delivered report) became = (became ≡ Delivered (one_line (delivery_report report))) ⊎ (became ≡ Delivered [])
+IsDeliveryResult sender (answer.Refused refusal) became = became ≡ Refused (refusal_reply sender refusal)
+IsDeliveryResult sender other became = became ≡ Refused LocalFault
 
 -- the step that a note tells; a MAIL that is refused for lack of room is answered too
-abbrev pub IsDeed : Note → Deed → Type 0
-IsDeed note.Answered deed = (deed ≡ Answered) ⊎ ((size : ℕ) × (deed ≡ Declined size))
-IsDeed (note.Asked others user lookup) deed = deed ≡ Asked user lookup
-IsDeed note.Away deed = deed ≡ Away
-IsDeed (note.Did others event told) deed =
-    (parcel : Parcel) × (terms : Terms) × (became : Became) × (event ≡ delivery_of parcel terms) × IsBecame parcel.sender told became × (deed ≡ Brought parcel became)
-IsDeed other deed = ⊥
+abbrev pub IsLmtpStep : Note → LmtpStep → Type 0
+IsLmtpStep note.Answered deed = (deed ≡ Answered) ⊎ ((size : ℕ) × (deed ≡ Declined size))
+IsLmtpStep (note.Asked others user lookup) deed = deed ≡ Asked user lookup
+IsLmtpStep note.Away deed = deed ≡ Away
+IsLmtpStep (note.Did others event told) deed =
+    (parcel : StoreDelivery) × (terms : Terms) × (became : DeliveryResult) × (event ≡ delivery_of parcel terms) × IsDeliveryResult parcel.sender told became × (deed ≡ Brought parcel became)
+IsLmtpStep other deed = ⊥
 
 -- and what it makes of the store
-abbrev pub Stores : {R : Type 0} → View R → R → Kept → Note → R → Kept → Type 0
-Stores view r before (note.Did others event told) q after = IsDone view others event told r before q after
-Stores view r before (note.Asked others user lookup) q after = IsAsked view others user lookup r before q after
-Stores view r before other q after = NothingDone view r before q after
+abbrev pub StepStores : {R : Type 0} → View R → R → SessionMap → Note → R → SessionMap → Type 0
+StepStores view r before (note.Did others event told) q after = IsEventDone view others event told r before q after
+StepStores view r before (note.Asked others user lookup) q after = IsAccountAsked view others user lookup r before q after
+StepStores view r before other q after = NothingDone view r before q after
 
 -- ---- one step of a client of LMTP, apart from others
 
 -- its note tells a step for it, of which the store and the sessions have their part; there is room for this many octets. It holds no more
 -- after it
-pub record DoesOne {R : Type 0} (view : View R) (room : ℕ) (d : Daemon) (r : R) (before : Post) (now : ℕ) (note : Note) (said : List ℕ) (e : Daemon) (q : R) (after : Post) : Type 0 where
-  pub deed : Deed
-  pub is : IsDeed note deed
-  pub does : Does now deed said before after
+pub record DoesOne {R : Type 0} (view : View R) (room : ℕ) (d : Daemon) (r : R) (before : LmtpConnection) (now : ℕ) (note : Note) (said : List ℕ) (e : Daemon) (q : R) (after : LmtpConnection) : Type 0 where
+  pub deed : LmtpStep
+  pub is : IsLmtpStep note deed
+  pub does : ConnectionDoes now deed said before after
   pub spare : (size : ℕ) → deed ≡ Declined size → size ≡ room
-  pub held : HoldsNoMore before after
-  pub stores : Stores view r d.clients.sessions note q e.clients.sessions
+  pub held : ConnectionHoldsNoMore before after
+  pub stores : StepStores view r d.clients.sessions note q e.clients.sessions
   pub places : e.places ≡ d.places
   pub holding : e.holding ≡ holding_behind now note d.holding
 
 -- the same, if it is told
-abbrev pub DoesOneIf : {O R : Type 0} → (O → Bool) → (O → List (Act Note)) → (O → R) → View R → ℕ → O → Daemon → Post → ℕ → ℕ → List ℕ → O → Daemon → Post → Type 0
+abbrev pub DoesOneIf : {O R : Type 0} → (O → Bool) → (O → List (Act Note)) → (O → R) → View R → ℕ → O → Daemon → LmtpConnection → ℕ → ℕ → List ℕ → O → Daemon → LmtpConnection → Type 0
 DoesOneIf tells seen rest view room o d before now id said p e after =
     IsTrue (tells p) → (note : Note) × (seen p ≡ seen o ++ Noted id note ∷ []) × DoesOne view room d (rest o) before now note said e (rest p) after

@@ -1,22 +1,22 @@
 -- A message that moves on: others' events, then it is kept, and then the event that takes it out.
 use Rattle.std.specs.Prelude.{◌≡◌, ℕ, Bool, List, [], ◌∷◌, ◌++◌, Option, Some, None}
 use Rattle.sqlite_trees.specs.Tree.{Trees}
-use Rattle.mailsinks.specs.declared.kept.KeptMail.{KeptMail}
-use Rattle.mailengine.specs.Hosts.{Kept}
-use Rattle.mailengine.specs.World.{World, Runs}
-use Rattle.mailengine.specs.declared.answer.Answer.{Answer}
-use Rattle.mailengine.specs.declared.event.Event.{Event}
-use Rattle.mailengine.specs.declared.event.Event.TheVariants.{TakeMail}
-use Rattle.mailmoves.specs.Enduring.{ShowsTried}
-use Rattle.mailmoves.specs.Moving.{IsFirst, span_behind}
-use Rattle.mailmoves.specs.declared.moving.Moving.{Moving}
-use Rattle.mailmoves.specs.declared.moving.Moving.TheVariants as moving
-use Rattle.wires.specs.declared.act.Act.{Act}
-use Rattle.wires.specs.declared.act.Act.TheVariants.{Worked}
-use Rattle.wires.specs.Told.{TellsIf}
-use Rattle.sieveddaemon.specs.Desk.{View, AreOthers, DoneAt, IsWorld, ComesTo, NothingDone}
-use Rattle.sieveddaemon.specs.declared.note.Note.{Note}
-use Rattle.sieveddaemon.specs.declared.note.Note.TheVariants.{Away, Moved}
+use Rattle.maildir_files.specs.declared.kept.KeptMail.{KeptMail}
+use Rattle.store_engine.specs.Hosts.{SessionMap}
+use Rattle.store_engine.specs.World.{World, Runs}
+use Rattle.store_engine.specs.declared.answer.Answer.{Answer}
+use Rattle.store_engine.specs.declared.event.Event.{Event}
+use Rattle.store_engine.specs.declared.event.Event.TheVariants.{TakeMail}
+use Rattle.maildir_moves.specs.Enduring.{ShowsTried}
+use Rattle.maildir_moves.specs.Moving.{IsFirstMail, span_behind}
+use Rattle.maildir_moves.specs.declared.moving.Moving.{Moving}
+use Rattle.maildir_moves.specs.declared.moving.Moving.TheVariants as moving
+use Rattle.net_loop.specs.declared.act.Act.{Act}
+use Rattle.net_loop.specs.declared.act.Act.TheVariants.{Worked}
+use Rattle.net_loop.specs.Told.{TellsIf}
+use Rattle.daemon_core.specs.StoreAccess.{View, AreOthers, DoneAt, IsWorld, ComesTo, NothingDone}
+use Rattle.daemon_core.specs.declared.note.Note.{Note}
+use Rattle.daemon_core.specs.declared.note.Note.TheVariants.{Away, Moved}
 
 -- others' events alone lead there, with sessions of their own that come and go in them
 pub record LetAt (others : List Event) (w next : World) : Type 0 where
@@ -28,7 +28,7 @@ pub record LetAt (others : List Event) (w next : World) : Type 0 where
 -- after others' events the message is the first of its folder, and the event that takes the first out was answered so
 pub record TakenAt (others : List Event) (mail : KeptMail) (answer : Answer) (w next : World) : Type 0 where
   pub done : DoneAt others (TakeMail mail.user mail.folder) answer w next
-  pub first : IsFirst done.between.accounts mail.user mail.folder mail.message mail.flags
+  pub first : IsFirstMail done.between.accounts mail.user mail.folder mail.message mail.flags
 
 -- what became of a message leads from a world to another
 abbrev pub MovedAt : List Event → Moving → World → World → Type 0
@@ -41,8 +41,8 @@ TriedAt others (moving.Kept mail answer) w next moved trees = ShowsTried (TakeMa
 TriedAt others other w next moved trees = ⊥
 
 -- the same, whatever accounts the store showed
-abbrev pub IsMoved : {R : Type 0} → View R → List Event → Moving → R → Kept → R → Kept → Type 0
-IsMoved view others moving r before q after =
+abbrev pub IsMessageMoved : {R : Type 0} → View R → List Event → Moving → R → SessionMap → R → SessionMap → Type 0
+IsMessageMoved view others moving r before q after =
     (w : World) → IsWorld view r before w
     → (next : World) × (moved : MovedAt others moving w next) × ComesTo view r w (TriedAt others moving w next moved) q after next
 
@@ -61,9 +61,9 @@ answers_of (moving.Kept mail answer) = answer ∷ []
 answers_of other = []
 
 -- a call on the store; if something is told, it is that. `clean`: the disk returned what was written
-abbrev pub MovesOn : {O R : Type 0} → (O → Bool) → (O → List (Act Note)) → (O → R) → View R → (R → List KeptMail → Type 0) → (R → Type 0) → O → Kept → Option ℕ → O → Kept → Type 0
-MovesOn tells seen rest view has clean old before (Some span) new after =
-    (others : List Event) × (moving : Moving) × (span ≡ span_behind moving) × (clean (rest new) → IsMoved view others moving (rest old) before (rest new) after)
+abbrev pub MovesNextMessage : {O R : Type 0} → (O → Bool) → (O → List (Act Note)) → (O → R) → View R → (R → List KeptMail → Type 0) → (R → Type 0) → O → SessionMap → Option ℕ → O → SessionMap → Type 0
+MovesNextMessage tells seen rest view has clean old before (Some span) new after =
+    (others : List Event) × (moving : Moving) × (span ≡ span_behind moving) × (clean (rest new) → IsMessageMoved view others moving (rest old) before (rest new) after)
     × HasKept has moving (rest old) (rest new) × TellsIf tells seen old (Worked (Moved others moving)) new
-MovesOn tells seen rest view has clean old before None new after =
+MovesNextMessage tells seen rest view has clean old before None new after =
     (clean (rest new) → NothingDone view (rest old) before (rest new) after) × TellsIf tells seen old (Worked Away) new

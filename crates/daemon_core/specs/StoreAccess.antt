@@ -1,26 +1,26 @@
 -- What applying an event to the store comes to.
 use Rattle.std.specs.Prelude.{◌≡◌, ℕ, ◌||◌, Bool, List, [], ◌∷◌, Option, Some, None, IsSome, IsTrue}
-use Rattle.lmtp.specs.declared.receiver.Lookup.{Lookup}
-use Rattle.lmtp.specs.declared.receiver.Lookup.TheVariants.{Known, Unknown, Away as Absent}
+use Rattle.lmtp_dialogue.specs.declared.receiver.Lookup.{Lookup}
+use Rattle.lmtp_dialogue.specs.declared.receiver.Lookup.TheVariants.{Known, Unknown, Away as Absent}
 use Rattle.std.specs.FinMap.{get}
 use Rattle.sqlite_trees.specs.Tree.{Trees}
-use Rattle.mailstore.specs.Account.{Accounts, known_one}
-use Rattle.sieveexec.specs.declared.when.When.{When}
+use Rattle.store_accounts.specs.Account.{Accounts, known_one}
+use Rattle.sieve_exec.specs.declared.when.When.{When}
 use Rattle.sqlite.specs.State.{State, HasCleanDisk}
-use Rattle.mailengine.specs.Hosts.{Kept, HasClients, KeepsClients}
-use Rattle.mailengine.specs.Terms.{Terms, terms}
-use Rattle.mailengine.specs.World.{World, Clients, Next, Runs}
-use Rattle.mailengine.specs.declared.answer.Answer.{Answer}
-use Rattle.mailengine.specs.declared.event.Event.{Event}
-use Rattle.mailengine.specs.declared.event.Event.TheVariants.{Open, Give, Step, GiveUp, Close, Deliver}
-use Rattle.mailmoves.specs.Enduring.{Endures, MayLeave, ShowsTried, none_tried}
-use Rattle.sessions.specs.Acts.{HasAccounts}
-use Rattle.mailposts.specs.declared.demand.Parcel.{Parcel}
-use Rattle.wires.specs.declared.act.Act.{Act}
-use Rattle.wires.specs.declared.act.Act.TheVariants.{Noted, Worked}
-use Rattle.wires.specs.Told.{TellsIf}
-use Rattle.sieveddaemon.specs.declared.note.Note.{Note}
-use Rattle.sieveddaemon.specs.declared.note.Note.TheVariants.{Did, Away, Asked, Looked}
+use Rattle.store_engine.specs.Hosts.{SessionMap, HasClients, KeepsClients}
+use Rattle.store_engine.specs.Terms.{Terms, terms}
+use Rattle.store_engine.specs.World.{World, Clients, Next, Runs}
+use Rattle.store_engine.specs.declared.answer.Answer.{Answer}
+use Rattle.store_engine.specs.declared.event.Event.{Event}
+use Rattle.store_engine.specs.declared.event.Event.TheVariants.{Open, Give, Step, GiveUp, Close, Deliver}
+use Rattle.maildir_moves.specs.Enduring.{Endures, MayLeave, ShowsTried, none_tried}
+use Rattle.managesieve_sessions.specs.Acts.{HasAccounts}
+use Rattle.lmtp_connections.specs.declared.demand.StoreDelivery.{StoreDelivery}
+use Rattle.net_loop.specs.declared.act.Act.{Act}
+use Rattle.net_loop.specs.declared.act.Act.TheVariants.{Noted, Worked}
+use Rattle.net_loop.specs.Told.{TellsIf}
+use Rattle.daemon_core.specs.declared.note.Note.{Note}
+use Rattle.daemon_core.specs.declared.note.Note.TheVariants.{Did, Away, Asked, Looked}
 
 -- which accounts a store shows, and what an open after a crash at this moment may find, while it is held and no fault of the disk has
 -- shut it
@@ -29,8 +29,8 @@ pub record View (R : Type 0) : Type 1 where
   pub leaves : R → Trees → Type 0
 
 -- whatever accounts were shown, they are shown; and a crash leaves them, or what it might leave before
-abbrev pub StillShows : {R : Type 0} → View R → R → R → Type 0
-StillShows view r q = (accounts : Accounts) → view.shows r accounts → view.shows q accounts × MayLeave (view.leaves r) accounts (view.leaves q) accounts none_tried
+abbrev pub ViewStillShows : {R : Type 0} → View R → R → R → Type 0
+ViewStillShows view r q = (accounts : Accounts) → view.shows r accounts → view.shows q accounts × MayLeave (view.leaves r) accounts (view.leaves q) accounts none_tried
 
 -- an event of another process: it names no session that there is
 abbrev pub IsOthers : Clients → Event → Type 0
@@ -56,45 +56,45 @@ pub record DoneAt (others : List Event) (event : Event) (answer : Answer) (w nex
   pub ours : Next between event answer next
 
 -- the store shows the accounts of a world, and the sessions are its own
-pub record IsWorld {R : Type 0} (view : View R) (r : R) (kept : Kept) (w : World) : Type 0 where
+pub record IsWorld {R : Type 0} (view : View R) (r : R) (kept : SessionMap) (w : World) : Type 0 where
   pub shown : view.shows r w.accounts
   pub sessions : HasClients kept w.sessions
 
 -- after a call, from a world to the next one: a crash leaves the accounts of that, or, if they are as they were, what it might leave
 -- before, or what was tried in the call
-pub record ComesTo {R : Type 0} (view : View R) (r : R) (w : World) (Tried : Trees → Type 0) (q : R) (kept : Kept) (next : World) : Type 0 where
+pub record ComesTo {R : Type 0} (view : View R) (r : R) (w : World) (Tried : Trees → Type 0) (q : R) (kept : SessionMap) (next : World) : Type 0 where
   pub is : IsWorld view q kept next
   pub left : MayLeave (view.leaves r) w.accounts (view.leaves q) next.accounts Tried
 
 -- the event with this answer was done, after those of others, whatever accounts the store showed. If it was refused it was tried, at
 -- the world that it met; of what others tried nothing is left
-abbrev pub IsDone : {R : Type 0} → View R → List Event → Event → Answer → R → Kept → R → Kept → Type 0
-IsDone view others event answer r before q after =
+abbrev pub IsEventDone : {R : Type 0} → View R → List Event → Event → Answer → R → SessionMap → R → SessionMap → Type 0
+IsEventDone view others event answer r before q after =
     (w : World) → IsWorld view r before w
     → (next : World) × (done : DoneAt others event answer w next) × ComesTo view r w (ShowsTried event answer done.between) q after next
 
 -- all accounts and sessions that there were are still there
-pub record NothingDone {R : Type 0} (view : View R) (r : R) (before : Kept) (q : R) (after : Kept) : Type 0 where
-  pub shown : StillShows view r q
+pub record NothingDone {R : Type 0} (view : View R) (r : R) (before : SessionMap) (q : R) (after : SessionMap) : Type 0 where
+  pub shown : ViewStillShows view r q
   pub kept : KeepsClients before after
 
 -- an event was done and answered, or the store wasn't available and nothing was; if something is told, it is that. `clean`: the disk
 -- returned what was written
-abbrev pub Carries : {O R : Type 0} → (O → Bool) → (O → List (Act Note)) → (O → R) → View R → (R → Type 0) → ℕ → Event → O → Kept → Option Answer → O → Kept → Type 0
-Carries tells seen rest view clean id event old before (Some answer) new after =
-    (others : List Event) × (clean (rest new) → IsDone view others event answer (rest old) before (rest new) after)
+abbrev pub AppliesEvent : {O R : Type 0} → (O → Bool) → (O → List (Act Note)) → (O → R) → View R → (R → Type 0) → ℕ → Event → O → SessionMap → Option Answer → O → SessionMap → Type 0
+AppliesEvent tells seen rest view clean id event old before (Some answer) new after =
+    (others : List Event) × (clean (rest new) → IsEventDone view others event answer (rest old) before (rest new) after)
     × TellsIf tells seen old (Noted id (Did others event answer)) new
-Carries tells seen rest view clean id event old before None new after =
+AppliesEvent tells seen rest view clean id event old before None new after =
     (clean (rest new) → NothingDone view (rest old) before (rest new) after) × TellsIf tells seen old (Noted id Away) new
 
 -- it was looked whether somebody waits; the store was given back if somebody does, or if it `rests`; no account changed
 abbrev pub Looks : {O R : Type 0} → (O → Bool) → (O → List (Act Note)) → (O → R) → View R → (R → Type 0) → O → Bool → Bool → O → Type 0
 Looks tells seen rest view clean old rests gave new =
-    (clean (rest new) → StillShows view (rest old) (rest new)) × ((wanted : Bool) × (gave ≡ (rests || wanted)) × TellsIf tells seen old (Worked (Looked wanted)) new)
+    (clean (rest new) → ViewStillShows view (rest old) (rest new)) × ((wanted : Bool) × (gave ≡ (rests || wanted)) × TellsIf tells seen old (Worked (Looked wanted)) new)
 
 -- the same, if it is told
 abbrev pub StillShowsIf : {O R : Type 0} → (O → Bool) → (O → R) → View R → O → O → Type 0
-StillShowsIf tells rest view old new = IsTrue (tells new) → StillShows view (rest old) (rest new)
+StillShowsIf tells rest view old new = IsTrue (tells new) → ViewStillShows view (rest old) (rest new)
 
 -- what was found of an account of that name, among these; one that was removed isn't there
 abbrev pub IsFoundIn : Accounts → List ℕ → Lookup → Type 0
@@ -104,8 +104,8 @@ IsFoundIn accounts user Absent = ⊥
 IsFoundIn accounts user lookup = Unit {0}
 
 -- the same of a store, as it is after that: it shows what it showed, and a crash leaves that, or what it left before
-abbrev pub Finds : List ℕ → Lookup → State → State → Type 0
-Finds user lookup old new = HasCleanDisk new → (accounts : Accounts) → HasAccounts old accounts → IsFoundIn accounts user lookup × Endures old accounts new accounts none_tried
+abbrev pub StoreFindsAccount : List ℕ → Lookup → State → State → Type 0
+StoreFindsAccount user lookup old new = HasCleanDisk new → (accounts : Accounts) → HasAccounts old accounts → IsFoundIn accounts user lookup × Endures old accounts new accounts none_tried
 
 -- from a world others' events lead to accounts, and that was found in them; nothing else changes
 pub record FindsAt (others : List Event) (user : List ℕ) (lookup : Lookup) (w next : World) : Type 0 where
@@ -115,22 +115,22 @@ pub record FindsAt (others : List Event) (user : List ℕ) (lookup : Lookup) (w 
   pub apart : next.sessions ≡ w.sessions
   pub found : IsFoundIn next.accounts user lookup
 
-abbrev pub IsAsked : {R : Type 0} → View R → List Event → List ℕ → Lookup → R → Kept → R → Kept → Type 0
-IsAsked view others user lookup r before q after =
+abbrev pub IsAccountAsked : {R : Type 0} → View R → List Event → List ℕ → Lookup → R → SessionMap → R → SessionMap → Type 0
+IsAccountAsked view others user lookup r before q after =
     (w : World) → IsWorld view r before w → (next : World) × FindsAt others user lookup w next × ComesTo view r w none_tried q after next
 
-abbrev pub LooksUp : {O R : Type 0} → (O → Bool) → (O → List (Act Note)) → (O → R) → View R → (R → Type 0) → ℕ → List ℕ → O → Kept → Option Lookup → O → Kept → Type 0
-LooksUp tells seen rest view clean id user old before (Some lookup) new after =
-    (others : List Event) × (clean (rest new) → IsAsked view others user lookup (rest old) before (rest new) after)
+abbrev pub FindsAccount : {O R : Type 0} → (O → Bool) → (O → List (Act Note)) → (O → R) → View R → (R → Type 0) → ℕ → List ℕ → O → SessionMap → Option Lookup → O → SessionMap → Type 0
+FindsAccount tells seen rest view clean id user old before (Some lookup) new after =
+    (others : List Event) × (clean (rest new) → IsAccountAsked view others user lookup (rest old) before (rest new) after)
     × TellsIf tells seen old (Noted id (Asked others user lookup)) new
-LooksUp tells seen rest view clean id user old before None new after =
+FindsAccount tells seen rest view clean id user old before None new after =
     (clean (rest new) → NothingDone view (rest old) before (rest new) after) × TellsIf tells seen old (Noted id Away) new
 
 -- the event of a message for one recipient, on these terms
-abbrev pub delivery_of : Parcel → Terms → Event
+abbrev pub delivery_of : StoreDelivery → Terms → Event
 delivery_of parcel terms = Deliver parcel.user (record { from = parcel.sender; to = parcel.recipient }) parcel.message terms.when terms.default
 
--- the same as `Carries`, at a moment and in a zone that the call has read, with the default script that the store's host has
-abbrev pub Delivers : {O R : Type 0} → (O → Bool) → (O → List (Act Note)) → (O → R) → View R → (R → Type 0) → (O → Option (List ℕ)) → ℕ → Parcel → O → Kept → Option Answer → O → Kept → Type 0
-Delivers tells seen rest view clean default id parcel old before answer new after =
-    (when : When) × Carries tells seen rest view clean id (delivery_of parcel (terms when (default old))) old before answer new after
+-- the same as `AppliesEvent`, at a moment and in a zone that the call has read, with the default script that the store's host has
+abbrev pub DeliversMessage : {O R : Type 0} → (O → Bool) → (O → List (Act Note)) → (O → R) → View R → (R → Type 0) → (O → Option (List ℕ)) → ℕ → StoreDelivery → O → SessionMap → Option Answer → O → SessionMap → Type 0
+DeliversMessage tells seen rest view clean default id parcel old before answer new after =
+    (when : When) × AppliesEvent tells seen rest view clean id (delivery_of parcel (terms when (default old))) old before answer new after

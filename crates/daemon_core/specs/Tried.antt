@@ -1,22 +1,22 @@
 -- What a crash leaves at the end of acts.
 use Rattle.std.specs.Prelude.{◌≡◌, ◌⊎◌, List, ◌∷◌, ◌++◌}
 use Rattle.sqlite_trees.specs.Tree.{Trees}
-use Rattle.mailstore.specs.Shows.{ShowsIn}
-use Rattle.mailengine.specs.World.{World}
-use Rattle.mailengine.specs.declared.answer.Answer.{Answer}
-use Rattle.mailengine.specs.declared.answer.Answer.TheVariants.{Refused}
-use Rattle.mailengine.specs.declared.event.Event.{Event}
-use Rattle.mailengine.specs.declared.event.Event.TheVariants.{TakeMail}
-use Rattle.mailmoves.specs.Enduring.{ShowsMade}
-use Rattle.mailmoves.specs.declared.moving.Moving.{Moving}
-use Rattle.mailmoves.specs.declared.moving.Moving.TheVariants as moving
-use Rattle.wires.specs.declared.act.Act.{Act}
-use Rattle.wires.specs.declared.act.Act.TheVariants.{Worked, Noted}
-use Rattle.sieveddaemon.specs.Acts.{LeadsOn, RestsOn}
-use Rattle.sieveddaemon.specs.Desk.{DoneAt}
-use Rattle.sieveddaemon.specs.Moves.{TakenAt}
-use Rattle.sieveddaemon.specs.declared.note.Note.{Note}
-use Rattle.sieveddaemon.specs.declared.note.Note.TheVariants.{Did, Moved}
+use Rattle.store_accounts.specs.Shows.{ShowsIn}
+use Rattle.store_engine.specs.World.{World}
+use Rattle.store_engine.specs.declared.answer.Answer.{Answer}
+use Rattle.store_engine.specs.declared.answer.Answer.TheVariants.{Refused}
+use Rattle.store_engine.specs.declared.event.Event.{Event}
+use Rattle.store_engine.specs.declared.event.Event.TheVariants.{TakeMail}
+use Rattle.maildir_moves.specs.Enduring.{ShowsMade}
+use Rattle.maildir_moves.specs.declared.moving.Moving.{Moving}
+use Rattle.maildir_moves.specs.declared.moving.Moving.TheVariants as moving
+use Rattle.net_loop.specs.declared.act.Act.{Act}
+use Rattle.net_loop.specs.declared.act.Act.TheVariants.{Worked, Noted}
+use Rattle.daemon_core.specs.Acts.{LeadsOn, RestsOn}
+use Rattle.daemon_core.specs.StoreAccess.{DoneAt}
+use Rattle.daemon_core.specs.Moves.{TakenAt}
+use Rattle.daemon_core.specs.declared.note.Note.{Note}
+use Rattle.daemon_core.specs.declared.note.Note.TheVariants.{Did, Moved}
 
 abbrev pub IsRefusal : Answer → Type 0
 IsRefusal (Refused refusal) = Unit {0}
@@ -59,5 +59,5 @@ pub record LeavesTried (start : World) (acts : List (Act Note)) (end : World) (t
   pub made : ShowsMade event met trees
 
 -- the accounts at the end, or what one event made of them that was tried since they last changed
-abbrev pub IsLeft : World → List (Act Note) → World → Trees → Type 0
-IsLeft start acts end trees = ShowsIn trees end.accounts ⊎ LeavesTried start acts end trees
+abbrev pub IsLeftByCrash : World → List (Act Note) → World → Trees → Type 0
+IsLeftByCrash start acts end trees = ShowsIn trees end.accounts ⊎ LeavesTried start acts end trees

@@ -1,10 +1,10 @@
 //! An account that is looked for in a store.
-ghost use Rattle.mailposts.specs.Posts.{IsFound};
+ghost use Rattle.lmtp_connections.specs.Connections.{IsFinding};
 ghost use Rattle.sqlite.specs.Held.{state};
-ghost use Rattle.sieveddaemon.specs.Desk.{Finds};
+ghost use Rattle.daemon_core.specs.StoreAccess.{StoreFindsAccount};
 
-use lmtp::Lookup;
-use mailstore::{Refusal, Store};
+use lmtp_dialogue::Lookup;
+use store_accounts::{Refusal, Store};
 use sqlite::Alter;
 
 /// Whether the store has an account of that name, open or closed; one that was removed isn't there. A name that it can't look for now
@@ -12,8 +12,8 @@ use sqlite::Alter;
 ///
 /// Time is that of one row that is read by its key.
 pub fn find_account<S: Alter>(store: &mut Store<S>, user: &[u8]) -> Lookup
-    ensures found { IsFound result }
-    ensures finds { Finds user.now result (state S.Store store.old) (state S.Store store.new) }
+    ensures found { IsFinding result }
+    ensures finds { StoreFindsAccount user.now result (state S.Store store.old) (state S.Store store.new) }
 {
     match store.account(user) {
         Ok(Some(profile)) => {

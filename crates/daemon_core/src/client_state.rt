@@ -3,7 +3,7 @@ use octets::Octets;
 
 /// What a connection waits for, beside its socket. Moments are in milliseconds.
 #[derive(Drop)]
-pub enum Waits {
+pub enum SessionWait {
     /// Nothing.
     Nothing,
     /// The store, which wasn't available at the first moment, and is asked for again at the second.
@@ -27,8 +27,8 @@ pub enum Fit {
 
 /// What the daemon knows of a connection beside its session. Moments are in milliseconds.
 #[derive(Drop)]
-pub struct Place {
-    pub waits: Waits,
+pub struct ClientState {
+    pub waits: SessionWait,
     /// The moment since which nobody is logged in; if somebody is, that of the last answer.
     pub guest: u64,
     /// The moment of the last answer, or of the first octet after it.

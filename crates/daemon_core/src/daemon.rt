@@ -1,9 +1,9 @@
 //! The daemon: sessions, what each connection waits for, and whether the store is held.
 ghost use Rattle.std.specs.Prelude.{◌≡◌, []};
-ghost use Rattle.sieveddaemon.specs.Holds as rules;
+ghost use Rattle.daemon_core.specs.Holds as rules;
 
-use crate::place::Place;
-use mailengine::Clients;
+use crate::client_state::ClientState;
+use store_engine::Clients;
 use std::alloc::Global;
 use std::collections::BTreeMap;
 
@@ -31,7 +31,7 @@ pub struct Holding {
 pub struct Daemon {
     pub alloc: Global,
     pub clients: Clients,
-    pub places: BTreeMap<u32, Place>,
+    pub places: BTreeMap<u32, ClientState>,
     pub holding: Holding,
 }
 
@@ -47,14 +47,14 @@ impl Holding {
             moves: self.moves,
             next: now,
             soon: self.soon,
-            events: counted(self.events),
+            events: count_event(self.events),
         }
     }
 }
 
 /// One more, at most ten.
-fn counted(events: u64) -> u64
-    ensures { result ≡ rules.counted events }
+fn count_event(events: u64) -> u64
+    ensures { result ≡ rules.counted_events events }
 {
     if events < 10 { events + 1 } else { 10 }
 }

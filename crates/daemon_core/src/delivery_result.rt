@@ -1,47 +1,47 @@
 //! What a recipient is told of a message that was to be delivered.
 ghost use Rattle.std.specs.Prelude.{◌≡◌};
 ghost use Rattle.std.specs.List.{list_any};
-ghost use Rattle.mailengine.specs.Limits.{is_envelope_address, is_forbidden_octet};
-ghost use Rattle.sieveddaemon.specs.Deeds as deeds;
+ghost use Rattle.store_engine.specs.Limits.{is_envelope_address, is_forbidden_octet};
+ghost use Rattle.daemon_core.specs.LmtpSteps as deeds;
 
 use crate::report::line_of_report;
-use lmtp::Reply;
-use mailengine::{Answer, Refusal};
-use mailposts::Became;
+use lmtp_dialogue::LmtpReply;
+use store_engine::{Answer, Refusal};
+use lmtp_connections::DeliveryResult;
 use std::alloc::Global;
 
 /// What became of a message that was to be delivered.
-pub fn became_of(alloc: Global, sender: &[u8], answer: Answer) -> Became
-    ensures { deeds.IsBecame sender.now answer result }
+pub fn result_of(alloc: Global, sender: &[u8], answer: Answer) -> DeliveryResult
+    ensures { deeds.IsDeliveryResult sender.now answer result }
 {
     match answer {
-        Answer::Delivered(report) => Became::Delivered(line_of_report(alloc, &report)),
-        Answer::Refused(refusal) => Became::Refused(reply_to(sender, refusal)),
-        _ => Became::Refused(Reply::LocalFault),
+        Answer::Delivered(report) => DeliveryResult::Delivered(line_of_report(alloc, &report)),
+        Answer::Refused(refusal) => DeliveryResult::Refused(reply_to(sender, refusal)),
+        _ => DeliveryResult::Refused(LmtpReply::LocalFault),
     }
 }
 
 /// How a recipient is told that a delivery was refused.
-fn reply_to(sender: &[u8], refusal: Refusal) -> Reply
-    ensures { result ≡ deeds.reply_to sender.now refusal }
+fn reply_to(sender: &[u8], refusal: Refusal) -> LmtpReply
+    ensures { result ≡ deeds.refusal_reply sender.now refusal }
 {
     match refusal {
-        Refusal::NoUser => Reply::NoSuchUser,
-        Refusal::AccountClosed => Reply::AccountClosed,
-        Refusal::TooLarge => Reply::MessageTooLarge,
+        Refusal::NoUser => LmtpReply::NoSuchUser,
+        Refusal::AccountClosed => LmtpReply::AccountClosed,
+        Refusal::TooLarge => LmtpReply::MessageTooLarge,
         Refusal::BadEnvelope => envelope_reply(sender),
-        Refusal::Memory => Reply::NoRoom,
-        _ => Reply::LocalFault,
+        Refusal::Memory => LmtpReply::NoRoom,
+        _ => LmtpReply::LocalFault,
     }
 }
 
-fn envelope_reply(sender: &[u8]) -> Reply
+fn envelope_reply(sender: &[u8]) -> LmtpReply
     ensures { result ≡ deeds.envelope_reply (is_envelope_address sender.now) }
 {
     if is_address(sender) {
-        Reply::BadRecipient
+        LmtpReply::BadRecipient
     } else {
-        Reply::BadSender
+        LmtpReply::BadSender
     }
 }
 

@@ -1,18 +1,18 @@
 //! Which connection is closed when all places of its kind are taken and a new one knocks: what each claims.
 ghost use Rattle.std.specs.Prelude.{◌≡◌, ◌-◌};
-ghost use Rattle.sieveddaemon.specs.DaemonRules as rules;
-ghost use Rattle.sieveddaemon.specs.Places as places;
-ghost use Rattle.sieveddaemon.specs.Places.{client_at};
-ghost use Rattle.sieveddaemon.specs.Room as room;
+ghost use Rattle.daemon_core.specs.DaemonRules as rules;
+ghost use Rattle.daemon_core.specs.ClientStates as places;
+ghost use Rattle.daemon_core.specs.ClientStates.{client_at};
+ghost use Rattle.daemon_core.specs.Eviction as room;
 
 use crate::daemon::Daemon;
-use crate::place::{Place, Waits};
+use crate::client_state::{ClientState, SessionWait};
 use crate::want::want_by;
-use mailengine::Clients;
-use mailposts::Post;
-use sessions::Session;
+use store_engine::Clients;
+use lmtp_connections::LmtpConnection;
+use managesieve_sessions::Session;
 use std::collections::BTreeMap;
-use wires::machine::{Claim, Want};
+use net_loop::machine::{Claim, Want};
 
 /// For so many milliseconds after it came a ManageSieve client that isn't logged in isn't closed for another, nor an LMTP client before
 /// its LHLO while many are: a client on the same machine answers its greeting within one or two, and 300 that say nothing have gone by within a second.
@@ -39,7 +39,7 @@ const KEPT: u32 = 2;
 
 /// Whether somebody is logged in there.
 pub fn is_user(clients: &Clients, id: u32) -> bool
-    ensures { result ≡ places.is_user (client_at clients.now.sessions id) }
+    ensures { result ≡ places.has_login (client_at clients.now.sessions id) }
 {
     match clients.session(id) {
         Some(session) => session.is_logged_in(),
@@ -76,7 +76,7 @@ fn kept_claim(now: u64, until: u64) -> Option<Claim>
 }
 
 fn rank_of(session: &Session) -> u32
-    ensures { result ≡ room.rank_of session.now.client }
+    ensures { result ≡ room.guest_rank session.now.client }
 {
     if session.has_failed() { FAILED } else { SILENT }
 }
@@ -92,11 +92,11 @@ fn want_claim(now: u64, want: Want, rank: u32, since: u64) -> Option<Claim>
 }
 
 /// What one claims that waits so.
-fn waits_claim(now: u64, place: &Place, session: &Session) -> Option<Claim>
+fn waits_claim(now: u64, place: &ClientState, session: &Session) -> Option<Claim>
     ensures { result ≡ room.waits_claim now place.now.waits place.now session.now.client }
 {
     match &place.waits {
-        Waits::Reply(until, _) => kept_claim(now, *until),
+        SessionWait::Reply(until, _) => kept_claim(now, *until),
         _ => want_claim(
             now,
             want_by(&place.waits, place.fit, session),
@@ -131,7 +131,7 @@ pub fn claim_of_sender(
     now: u64,
     flooded: bool,
     id: u32,
-    post: &Post,
+    post: &LmtpConnection,
 ) -> Option<Claim>
     ensures { result ≡ room.sender_claim now flooded (client_at clients.now.sessions id) post.now }
 {
@@ -152,7 +152,7 @@ fn since_claim(now: u64, span: u64, since: Option<u64>) -> Option<Claim>
 }
 
 fn span_by(hello: bool, flooded: bool) -> u64
-    ensures { result ≡ room.span_by hello flooded }
+    ensures { result ≡ room.silence_span hello flooded }
 {
     if hello {
         SENDER_SPAN
@@ -164,14 +164,14 @@ fn span_by(hello: bool, flooded: bool) -> u64
 }
 
 /// Whether many clients of LMTP haven't said LHLO. Time is linear in them.
-pub fn is_flooded(posts: &BTreeMap<u32, Post>) -> bool
+pub fn is_flooded(posts: &BTreeMap<u32, LmtpConnection>) -> bool
     ensures { result ≡ room.is_flooded posts.now.entries }
 {
     less_silent(MANY_SILENT, posts) == 0
 }
 
 /// `most` less how many of them haven't.
-fn less_silent(most: usize, posts: &BTreeMap<u32, Post>) -> usize
+fn less_silent(most: usize, posts: &BTreeMap<u32, LmtpConnection>) -> usize
     ensures { result ≡ most - room.silent_in posts.now.entries }
 {
     let mut left = most;

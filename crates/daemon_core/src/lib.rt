@@ -1,23 +1,23 @@
 //! A daemon that serves many clients of ManageSieve (RFC 5804) and of LMTP (RFC 2033) side by side, over whatever is outside:
-//! it is the abstract machine of mailengine, running.
+//! it is the abstract machine of store_engine, running.
 #![tactic(auto)]
 
 pub mod account;
-mod became;
-mod bound;
+mod delivery_result;
+mod memory_room;
 pub mod daemon;
-pub mod desk;
+pub mod store_access;
 pub mod life;
 mod look;
 mod machine;
 pub mod mail;
-mod mail_open;
+mod mail_connections;
 mod mail_step;
 pub mod note;
-mod patience;
-pub mod place;
+mod poll_wait;
+pub mod client_state;
 mod report;
-mod room;
+mod eviction;
 mod session;
 mod step;
 mod want;

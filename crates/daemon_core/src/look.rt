@@ -1,11 +1,11 @@
 //! What the daemon does by itself: it looks whether somebody waits for the store, and has mail move on.
 ghost use Rattle.std.specs.Prelude.{◌≡◌, true, IsTrue};
-ghost use Rattle.wires.specs.Rules.{WorksIf};
-ghost use Rattle.sieveddaemon.specs.DaemonRules.{daemon_rules};
-ghost use Rattle.sieveddaemon.specs.Holds as rules;
+ghost use Rattle.net_loop.specs.Rules.{WorksIf};
+ghost use Rattle.daemon_core.specs.DaemonRules.{daemon_rules};
+ghost use Rattle.daemon_core.specs.Holds as rules;
 
 use crate::daemon::{Daemon, Holding};
-use crate::desk::Desk;
+use crate::store_access::StoreAccess;
 
 /// How many milliseconds pass from one look whether somebody waits for the store to the next.
 const LOOK_SPAN: u64 = 20;
@@ -61,19 +61,19 @@ fn is_turn(holding: &Holding, now: u64) -> bool
 }
 
 /// Does something by itself.
-pub fn work_by<O: Desk>(daemon: &mut Daemon, outside: &mut O, now: u64)
+pub fn work_by<O: StoreAccess>(daemon: &mut Daemon, outside: &mut O, now: u64)
     ensures kept { IsTrue (O.tells outside.new) → IsTrue (O.tells outside.old) }
     ensures works { WorksIf O.tells O.seen O.rest (daemon_rules O.view) outside.old daemon.old now outside.new daemon.new }
 {
     if is_move_due(&daemon.holding, now) && is_looked(&daemon.holding) {
-        move_by(daemon, outside, now)
+        move_next(daemon, outside, now)
     } else {
-        look_by(daemon, outside, now)
+        look_for_others(daemon, outside, now)
     }
 }
 
 /// Looks whether somebody waits for the store.
-fn look_by<O: Desk>(daemon: &mut Daemon, outside: &mut O, now: u64)
+fn look_for_others<O: StoreAccess>(daemon: &mut Daemon, outside: &mut O, now: u64)
     ensures kept { IsTrue (O.tells outside.new) → IsTrue (O.tells outside.old) }
     ensures works { WorksIf O.tells O.seen O.rest (daemon_rules O.view) outside.old daemon.old now outside.new daemon.new }
 {
@@ -84,7 +84,7 @@ fn look_by<O: Desk>(daemon: &mut Daemon, outside: &mut O, now: u64)
 
 /// What is known of the store after a look.
 fn looked(holding: Holding, now: u64, rests: bool, gives: bool) -> Holding
-    ensures { result ≡ rules.looked holding now rests gives }
+    ensures { result ≡ rules.holding_looked holding now rests gives }
 {
     if !gives {
         return Holding {
@@ -109,25 +109,25 @@ fn looked(holding: Holding, now: u64, rests: bool, gives: bool) -> Holding
 }
 
 fn span_behind(rests: bool) -> u64
-    ensures { result ≡ rules.span_by rests }
+    ensures { result ≡ rules.look_span_by rests }
 {
     if rests { LONG_SPAN } else { AGAIN_SPAN }
 }
 
 /// Has a message move on.
-fn move_by<O: Desk>(daemon: &mut Daemon, outside: &mut O, now: u64)
+fn move_next<O: StoreAccess>(daemon: &mut Daemon, outside: &mut O, now: u64)
     requires { rules.is_move_due daemon.old.holding now ≡ true }
     ensures kept { IsTrue (O.tells outside.new) → IsTrue (O.tells outside.old) }
     ensures works { WorksIf O.tells O.seen O.rest (daemon_rules O.view) outside.old daemon.old now outside.new daemon.new }
 {
     let fresh = daemon.holding.events != 0;
-    let span = outside.move_on(&mut daemon.clients, now, fresh);
+    let span = outside.move_next(&mut daemon.clients, now, fresh);
     daemon.holding = moved(daemon.holding, now, span);
 }
 
 /// What is known of the store after a message was to move on: for how long none is to; none if the store wasn't available.
 fn moved(holding: Holding, now: u64, span: Option<u64>) -> Holding
-    ensures { result ≡ rules.moved holding now span }
+    ensures { result ≡ rules.holding_moved holding now span }
 {
     match span {
         Some(span) => Holding {

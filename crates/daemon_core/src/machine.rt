@@ -1,20 +1,20 @@
 //! The daemon as a machine that the loop serves.
 ghost use Rattle.std.specs.Prelude.{◌≡◌};
-ghost use Rattle.sieveddaemon.specs.MailRules as rules;
+ghost use Rattle.daemon_core.specs.MailRules as rules;
 
-use crate::desk::Desk;
+use crate::store_access::StoreAccess;
 use crate::look::{has_work, work_by};
 use crate::mail::MailDaemon;
-use crate::mail_open::{enter_client, enter_post, hear_by, leave_by, say_last};
+use crate::mail_connections::{enter_client, enter_post, hear_by, leave_by, say_last};
 use crate::mail_step::step_post;
-use crate::patience::patience_for;
-use crate::room::{claim_of_guest, claim_of_sender, is_flooded};
+use crate::poll_wait::patience_for;
+use crate::eviction::{claim_of_guest, claim_of_sender, is_flooded};
 use crate::step::step_once;
 use crate::want::{due_of, want_of};
-use mailposts::Wanted;
+use lmtp_connections::Wanted;
 use octets::Octets;
 use std::alloc::AllocError;
-use wires::machine::{Claim, Machine, Want};
+use net_loop::machine::{Claim, Machine, Want};
 
 /// The kind of the connections of ManageSieve.
 pub const MANAGESIEVE: u32 = 0;
@@ -28,8 +28,8 @@ pub const LMTP: u32 = 1;
 /// How many clients of LMTP may be there at once.
 pub const MAX_SENDERS: usize = 20;
 
-impl<O: Desk> Machine<O> for MailDaemon {
-    ghost use Rattle.sieveddaemon.specs.MailRules.{mail_rules};
+impl<O: StoreAccess> Machine<O> for MailDaemon {
+    ghost use Rattle.daemon_core.specs.MailRules.{mail_rules};
 
     ghost rules = { mail_rules O.view };
 

@@ -2,8 +2,8 @@
 ghost use Rattle.std.specs.Prelude.{◌≡◌, []};
 
 use crate::daemon::Daemon;
-use lmtp::Names;
-use mailposts::Post;
+use lmtp_dialogue::Names;
+use lmtp_connections::LmtpConnection;
 use octets::Octets;
 use std::alloc::Global;
 use std::collections::BTreeMap;
@@ -12,7 +12,7 @@ use std::collections::BTreeMap;
 #[derive(Drop)]
 pub struct MailDaemon {
     pub daemon: Daemon,
-    pub posts: BTreeMap<u32, Post>,
+    pub posts: BTreeMap<u32, LmtpConnection>,
     /// What names the account of a recipient.
     pub names: Names,
     /// The name with which clients of LMTP are greeted.

@@ -1,15 +1,15 @@
 //! Clients that come, say something, and go.
 ghost use Rattle.std.specs.Prelude.{◌≡◌, true, false, None, [], IsErr, IfSome, OnOk, OnErr};
-ghost use Rattle.sieveddaemon.specs.DaemonRules.{place_at};
-ghost use Rattle.sieveddaemon.specs.MailRules as rules;
+ghost use Rattle.daemon_core.specs.DaemonRules.{place_at};
+ghost use Rattle.daemon_core.specs.MailRules as rules;
 
-use crate::bound::{has_room, has_room_for, is_own};
+use crate::memory_room::{has_octet_room, has_room_for, is_own};
 use crate::mail::MailDaemon;
-use crate::place::Fit;
+use crate::client_state::Fit;
 use crate::session::{enter, hear, leave};
 use crate::step::forget;
-use lmtp::Reply;
-use mailposts::Post;
+use lmtp_dialogue::LmtpReply;
+use lmtp_connections::LmtpConnection;
 use octets::Octets;
 use std::alloc::AllocError;
 
@@ -28,7 +28,7 @@ pub fn enter_post(
     ensures err { OnErr result (rules.LacksBy mail.old id mail.new) }
 {
     let alloc = mail.daemon.alloc;
-    let Ok(post) = Post::new(alloc, mail.names, mail.host.as_slice(), now, out) else {
+    let Ok(post) = LmtpConnection::new(alloc, mail.names, mail.host.as_slice(), now, out) else {
         return lack_post(mail, id);
     };
     if mail.posts.insert(id, post).is_err() {
@@ -129,10 +129,10 @@ fn fit(mail: &mut MailDaemon, id: u32, count: usize) -> bool
 
 /// Whether this many octets of a client of LMTP fit: all may hold them, or they are its own.
 fn may_take(mail: &MailDaemon, id: u32, count: usize) -> bool
-    ensures has { result ≡ true → rules.HasRoom mail.now id count }
+    ensures has { result ≡ true → rules.HasOctetRoom mail.now id count }
     ensures lacks { result ≡ false → rules.LacksRoom mail.now id count }
 {
-    if has_room(mail, count) {
+    if has_octet_room(mail, count) {
         return true;
     }
     is_own(mail, id, count)
@@ -167,7 +167,7 @@ fn take_piece(mail: &mut MailDaemon, now: u64, id: u32, piece: &[u8]) -> Result<
 /// Says the last to one that is late or makes room. If memory was lacking for it before, nothing is said.
 pub fn say_last(mail: &mut MailDaemon, id: u32, out: &mut Octets) -> Result<(), AllocError>
     requires { out.old ≡ [] }
-    ensures ok { OnOk result (rules.Parts mail.old id out.new mail.new) }
+    ensures ok { OnOk result (rules.SaysLast mail.old id out.new mail.new) }
     ensures err { OnErr result (rules.LacksBy mail.old id mail.new) }
 {
     let Some(farewell) = farewell_to(mail, id) else {
@@ -184,7 +184,7 @@ fn farewell_to(mail: &MailDaemon, id: u32) -> Option<&'static [u8]>
     ensures { IfSome result (λ word. rules.IsFarewell (rules.post_at mail.now id) (place_at mail.now.daemon id) word.now) }
 {
     match mail.posts.get(&id) {
-        Some(_) => Some(Reply::Idle.line()),
+        Some(_) => Some(LmtpReply::Idle.line()),
         None => match mail.daemon.places.get(&id) {
             Some(_) => Some(IDLE),
             None => None,

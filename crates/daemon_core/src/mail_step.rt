@@ -1,24 +1,24 @@
 //! One step of a client of LMTP.
 ghost use Rattle.std.specs.Prelude.{◌≡◌, ℕ, [], IsTrue, OnOk, OnErr};
-ghost use Rattle.wires.specs.Rules.{StepsIf, IdlesIf};
-ghost use Rattle.sieveddaemon.specs.Deeds as deeds;
-ghost use Rattle.sieveddaemon.specs.declared.daemon.Daemon.{Daemon as DaemonOf};
-ghost use Rattle.sieveddaemon.specs.MailRules.{mail_rules, LacksBy};
-ghost use Rattle.mailposts.specs.Stands.{Demands, HasSlot};
-ghost use Rattle.mailposts.specs.declared.demand.Demand.TheVariants as demands;
+ghost use Rattle.net_loop.specs.Rules.{StepsIf, IdlesIf};
+ghost use Rattle.daemon_core.specs.LmtpSteps as deeds;
+ghost use Rattle.daemon_core.specs.declared.daemon.Daemon.{Daemon as DaemonOf};
+ghost use Rattle.daemon_core.specs.MailRules.{mail_rules, LacksBy};
+ghost use Rattle.lmtp_connections.specs.Stands.{Demands, HasSlot};
+ghost use Rattle.lmtp_connections.specs.declared.demand.Demand.TheVariants as demands;
 
-use crate::became::became_of;
-use crate::bound::room;
+use crate::delivery_result::result_of;
+use crate::memory_room::room;
 use crate::daemon::Daemon;
-use crate::desk::Desk;
+use crate::store_access::StoreAccess;
 use crate::mail::MailDaemon;
-use crate::mail_open::lack_post;
-use mailposts::{Demand, Parcel, Post, Question, Room};
+use crate::mail_connections::lack_post;
+use lmtp_connections::{Demand, StoreDelivery, LmtpConnection, Question, ReplyBuffer};
 use octets::Octets;
 use std::alloc::{AllocError, Global};
 
 /// One step of a client of LMTP.
-pub fn step_post<O: Desk>(
+pub fn step_post<O: StoreAccess>(
     mail: &mut MailDaemon,
     outside: &mut O,
     now: u64,
@@ -43,11 +43,11 @@ pub fn step_post<O: Desk>(
 }
 
 /// Does what is to be done next. There is room for this many octets that may be announced.
-fn do_next<O: Desk>(
+fn do_next<O: StoreAccess>(
     alloc: Global,
     spare: usize,
     daemon: &mut Daemon,
-    post: &mut Post,
+    post: &mut LmtpConnection,
     outside: &mut O,
     now: u64,
     id: u32,
@@ -75,22 +75,22 @@ fn do_next<O: Desk>(
             Ok(())
         }
         Demand::Account(question) => {
-            let room = Room::new(alloc)?;
-            *out = ask(alloc, daemon, post, outside, now, id, question, room);
+            let room = ReplyBuffer::new(alloc)?;
+            *out = find_account_for(alloc, daemon, post, outside, now, id, question, room);
             Ok(())
         }
         Demand::Delivery(parcel) => {
-            let room = Room::new(alloc)?;
-            *out = bring(alloc, daemon, post, outside, now, id, parcel, room);
+            let room = ReplyBuffer::new(alloc)?;
+            *out = deliver(alloc, daemon, post, outside, now, id, parcel, room);
             Ok(())
         }
     }
 }
 
 /// Answers the line that comes next; a MAIL that announces more than there is room for is refused.
-fn answer_line<O: Desk>(
+fn answer_line<O: StoreAccess>(
     spare: usize,
-    post: &mut Post,
+    post: &mut LmtpConnection,
     outside: &mut O,
     now: u64,
     id: u32,
@@ -113,22 +113,22 @@ fn answer_line<O: Desk>(
 }
 
 /// Asks the store for an account. Returns what is said.
-fn ask<O: Desk>(
+fn find_account_for<O: StoreAccess>(
     alloc: Global,
     daemon: &mut Daemon,
-    post: &mut Post,
+    post: &mut LmtpConnection,
     outside: &mut O,
     now: u64,
     id: u32,
     question: Question,
-    room: Room,
+    room: ReplyBuffer,
 ) -> Octets
     requires asked { Demands now post.old (demands.Account question) }
     requires slot { HasSlot post.old }
     ensures kept { IsTrue (O.tells outside.new) → IsTrue (O.tells outside.old) }
     ensures does { (spare : ℕ) → deeds.DoesOneIf O.tells O.seen O.rest O.view spare outside.old daemon.old post.old now id result outside.new daemon.new post.new }
 {
-    match outside.look_up(id, &mut daemon.clients, question.user.as_slice()) {
+    match outside.find_account(id, &mut daemon.clients, question.user.as_slice()) {
         Some(lookup) => {
             daemon.holding = daemon.holding.asked_at(now);
             post.answer_recipient(now, question, lookup, room)
@@ -141,15 +141,15 @@ fn ask<O: Desk>(
 }
 
 /// Has the store deliver a message. Returns what is said.
-fn bring<O: Desk>(
+fn deliver<O: StoreAccess>(
     alloc: Global,
     daemon: &mut Daemon,
-    post: &mut Post,
+    post: &mut LmtpConnection,
     outside: &mut O,
     now: u64,
     id: u32,
-    parcel: Parcel,
-    room: Room,
+    parcel: StoreDelivery,
+    room: ReplyBuffer,
 ) -> Octets
     requires { Demands now post.old (demands.Delivery parcel) }
     ensures kept { IsTrue (O.tells outside.new) → IsTrue (O.tells outside.old) }
@@ -158,8 +158,8 @@ fn bring<O: Desk>(
     match outside.deliver(id, &mut daemon.clients, &parcel) {
         Some(answer) => {
             daemon.holding = daemon.holding.asked_at(now);
-            let became = became_of(alloc, parcel.sender.as_slice(), answer);
-            post.brought(now, &parcel, became, room)
+            let became = result_of(alloc, parcel.sender.as_slice(), answer);
+            post.answer_delivery(now, &parcel, became, room)
         }
         None => {
             post.await_store(now);

@@ -1,16 +1,16 @@
 //! How many octets all connections hold, and for how many more there is room.
 ghost use Rattle.std.specs.Prelude.{◌≡◌, ◌⊎◌, ◌≤◌, ◌<◌, ◌+◌, ◌-◌, true, false, Some};
-ghost use Rattle.lmtp.specs.Receivers.{held_by};
-ghost use Rattle.mailposts.specs.declared.post.Post.{Post as PostOf};
-ghost use Rattle.sieveddaemon.specs.Bounds as bounds;
-ghost use Rattle.sieveddaemon.specs.MailRules as rules;
-ghost use Rattle.sieveddaemon.specs.Places.{client_at};
+ghost use Rattle.lmtp_dialogue.specs.Receivers.{held_by};
+ghost use Rattle.lmtp_connections.specs.declared.connection.LmtpConnection.{LmtpConnection as PostOf};
+ghost use Rattle.daemon_core.specs.Bounds as bounds;
+ghost use Rattle.daemon_core.specs.MailRules as rules;
+ghost use Rattle.daemon_core.specs.ClientStates.{client_at};
 
 use crate::mail::MailDaemon;
-use crate::place::Place;
-use crate::room::is_user;
-use mailengine::Clients;
-use mailposts::Post;
+use crate::client_state::ClientState;
+use crate::eviction::is_user;
+use store_engine::Clients;
+use lmtp_connections::LmtpConnection;
 use std::collections::BTreeMap;
 
 /// Octets of a KiB.
@@ -23,7 +23,7 @@ const OWN: usize = 8192;
 const GUESTS: usize = 128;
 
 /// Whether there is room for this many octets more. Time is linear in the connections.
-pub fn has_room(mail: &MailDaemon, count: usize) -> bool
+pub fn has_octet_room(mail: &MailDaemon, count: usize) -> bool
     ensures has { result ≡ true → bounds.held mail.now + count ≤ bounds.bound mail.now }
     ensures lacks { result ≡ false → bounds.bound mail.now < bounds.held mail.now + count }
 {
@@ -47,7 +47,7 @@ fn keeps_bound(mail: &MailDaemon, id: u32, count: usize) -> bool
     ensures has { result ≡ true → bounds.KeepsBound mail.now id count }
     ensures lacks { result ≡ false → (bounds.bound mail.now < bounds.held mail.now + count) ⊎ (bounds.IsGuestAt mail.now id × (bounds.share mail.now < bounds.guests mail.now + count)) }
 {
-    if !has_room(mail, count) {
+    if !has_octet_room(mail, count) {
         return false;
     }
     if is_user(&mail.daemon.clients, id) {
@@ -66,7 +66,7 @@ fn is_small(clients: &Clients, id: u32, count: usize) -> bool
 
 /// Whether this many octets more of a client of LMTP are within what each may hold, whatever the others do.
 pub fn is_own(mail: &MailDaemon, id: u32, count: usize) -> bool
-    ensures has { result ≡ true → rules.IsOwn mail.now id count }
+    ensures has { result ≡ true → rules.IsOwnShare mail.now id count }
     ensures lacks { result ≡ false → (post : PostOf) → rules.post_at mail.now id ≡ Some post → bounds.own < held_by post.receiver + count }
 {
     match mail.posts.get(&id) {
@@ -85,7 +85,7 @@ fn is_within(held: usize, count: usize) -> bool
 
 /// For how many octets more there is room. Time is linear in the connections.
 pub fn room(mail: &MailDaemon) -> usize
-    ensures { result ≡ bounds.room mail.now }
+    ensures { result ≡ bounds.octet_room mail.now }
 {
     left(mail).saturating_sub(1)
 }
@@ -108,7 +108,7 @@ fn left_to_guests(mail: &MailDaemon) -> usize
 }
 
 /// `most` less what clients of ManageSieve hold who aren't logged in.
-fn less_guests(most: usize, clients: &Clients, places: &BTreeMap<u32, Place>) -> usize
+fn less_guests(most: usize, clients: &Clients, places: &BTreeMap<u32, ClientState>) -> usize
     ensures { result ≡ most - bounds.guests_in clients.now.sessions places.now.entries }
 {
     let mut left = most;
@@ -129,7 +129,7 @@ fn guest_unread(clients: &Clients, id: u32) -> usize
 }
 
 /// `most` less what clients of ManageSieve hold.
-fn less_unread(most: usize, clients: &Clients, places: &BTreeMap<u32, Place>) -> usize
+fn less_unread(most: usize, clients: &Clients, places: &BTreeMap<u32, ClientState>) -> usize
     ensures { result ≡ most - bounds.unread_in clients.now.sessions places.now.entries }
 {
     let mut left = most;
@@ -149,7 +149,7 @@ fn unread_of(clients: &Clients, id: u32) -> usize
 }
 
 /// `most` less what clients of LMTP hold.
-fn less_held(most: usize, posts: &BTreeMap<u32, Post>) -> usize
+fn less_held(most: usize, posts: &BTreeMap<u32, LmtpConnection>) -> usize
     ensures { result ≡ most - bounds.held_in posts.now.entries }
 {
     let mut left = most;

@@ -1,7 +1,7 @@
 //! What the daemon notes.
-use lmtp::Lookup;
-use mailengine::{Answer, Event};
-use mailmoves::Moving;
+use lmtp_dialogue::Lookup;
+use store_engine::{Answer, Event};
+use maildir_moves::Moving;
 use octets::{List, Octets};
 
 /// What the daemon did when it continued with a connection, or by itself. One that tells its acts makes the value; over the

@@ -1,13 +1,13 @@
 //! How long the daemon may rest if nothing happens.
 ghost use Rattle.std.specs.Prelude.{◌≡◌};
-ghost use Rattle.sieveddaemon.specs.DaemonRules as rules;
-ghost use Rattle.sieveddaemon.specs.Holds as holds;
-ghost use Rattle.sieveddaemon.specs.MailRules as mail;
+ghost use Rattle.daemon_core.specs.DaemonRules as rules;
+ghost use Rattle.daemon_core.specs.Holds as holds;
+ghost use Rattle.daemon_core.specs.MailRules as mail;
 
 use crate::daemon::{Daemon, Holding};
 use crate::mail::MailDaemon;
-use crate::place::Waits;
-use mailposts::Wanted;
+use crate::client_state::SessionWait;
+use lmtp_connections::Wanted;
 
 /// How long the loop waits for its sockets while a client waits for the store, in milliseconds.
 const WHILE_AWAY: u32 = 5;
@@ -36,7 +36,7 @@ pub fn patience_for(daemon: &MailDaemon) -> u32
 }
 
 fn patience_by(wanted: Wanted) -> u32
-    ensures { result ≡ mail.patience_with wanted }
+    ensures { result ≡ mail.lmtp_patience wanted }
 {
     match wanted {
         Wanted::Until(_) => WHILE_AWAY,
@@ -92,13 +92,13 @@ fn least(span: u32, other: u32) -> u32
     if other < span { other } else { span }
 }
 
-fn patience_with(waits: &Waits) -> u32
-    ensures { result ≡ rules.patience_with waits.now }
+fn patience_with(waits: &SessionWait) -> u32
+    ensures { result ≡ rules.session_patience waits.now }
 {
     match waits {
-        Waits::Nothing => AT_REST,
-        Waits::Store(_, _) => WHILE_AWAY,
-        Waits::Refused => WHILE_AWAY,
-        Waits::Reply(_, _) => WHILE_KEPT,
+        SessionWait::Nothing => AT_REST,
+        SessionWait::Store(_, _) => WHILE_AWAY,
+        SessionWait::Refused => WHILE_AWAY,
+        SessionWait::Reply(_, _) => WHILE_KEPT,
     }
 }

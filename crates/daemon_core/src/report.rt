@@ -1,10 +1,10 @@
 //! The report on a delivery, in one line.
 ghost use Rattle.std.specs.Prelude.{◌≡◌, ◌⊎◌, ◌-◌, [], ◌++◌, codes, decimal, length, map, take, IfOk, OnOk};
 ghost use Rattle.std.specs.List.{flat_map};
-ghost use Rattle.reportlines.specs.Reports.{delivery_lines, delivery_report, file_line, send_line, notice_lines, vacation_lines, with_end};
-ghost use Rattle.sieveddaemon.specs.Deeds as deeds;
+ghost use Rattle.cli_reports.specs.Reports.{delivery_lines, delivery_report, file_line, send_line, notice_lines, vacation_lines, ended_line};
+ghost use Rattle.daemon_core.specs.LmtpSteps as deeds;
 
-use mailengine::{Report, VacationReport};
+use store_engine::{Report, VacationReport};
 use octets::{Octets, write_decimal};
 use std::alloc::{AllocError, Global};
 
@@ -65,7 +65,7 @@ fn of_report(alloc: Global, report: &Report) -> Result<Octets, AllocError>
 }
 
 fn of_delivery(alloc: Global, report: &Report) -> Result<Octets, AllocError>
-    ensures { IfOk result (λ text. text ≡ flat_map with_end (delivery_lines report.now)) }
+    ensures { IfOk result (λ text. text ≡ flat_map ended_line (delivery_lines report.now)) }
 {
     let mut text = Octets::new(alloc);
     add_mailboxes(&mut text, report.filed.as_slice())?;
@@ -76,7 +76,7 @@ fn of_delivery(alloc: Global, report: &Report) -> Result<Octets, AllocError>
 }
 
 fn add_mailboxes(text: &mut Octets, filed: &[Octets]) -> Result<(), AllocError>
-    ensures { OnOk result (text.new ≡ text.old ++ flat_map with_end (map file_line filed.now)) }
+    ensures { OnOk result (text.new ≡ text.old ++ flat_map ended_line (map file_line filed.now)) }
 {
     for mailbox in filed {
         add_line(text, b"file ", mailbox.as_slice())?;
@@ -85,7 +85,7 @@ fn add_mailboxes(text: &mut Octets, filed: &[Octets]) -> Result<(), AllocError>
 }
 
 fn add_addresses(text: &mut Octets, sent: &[Octets]) -> Result<(), AllocError>
-    ensures { OnOk result (text.new ≡ text.old ++ flat_map with_end (map send_line sent.now)) }
+    ensures { OnOk result (text.new ≡ text.old ++ flat_map ended_line (map send_line sent.now)) }
 {
     for target in sent {
         add_line(text, b"send ", target.as_slice())?;
@@ -94,7 +94,7 @@ fn add_addresses(text: &mut Octets, sent: &[Octets]) -> Result<(), AllocError>
 }
 
 fn add_vacation(text: &mut Octets, vacation: VacationReport) -> Result<(), AllocError>
-    ensures { OnOk result (text.new ≡ text.old ++ flat_map with_end (vacation_lines vacation)) }
+    ensures { OnOk result (text.new ≡ text.old ++ flat_map ended_line (vacation_lines vacation)) }
 {
     match vacation {
         VacationReport::None => Ok(()),
@@ -105,7 +105,7 @@ fn add_vacation(text: &mut Octets, vacation: VacationReport) -> Result<(), Alloc
 
 // The line on the rule that forbade a vacation reply.
 fn add_reason(text: &mut Octets, reason: u8) -> Result<(), AllocError>
-    ensures { OnOk result (text.new ≡ text.old ++ with_end (codes "vacation quiet " ++ decimal reason)) }
+    ensures { OnOk result (text.new ≡ text.old ++ ended_line (codes "vacation quiet " ++ decimal reason)) }
 {
     text.extend_from_slice(b"vacation quiet ")?;
     write_decimal(text, reason as u64)?;
@@ -113,7 +113,7 @@ fn add_reason(text: &mut Octets, reason: u8) -> Result<(), AllocError>
 }
 
 fn add_notice(text: &mut Octets, notice: &Option<Octets>) -> Result<(), AllocError>
-    ensures { OnOk result (text.new ≡ text.old ++ flat_map with_end (notice_lines notice.now)) }
+    ensures { OnOk result (text.new ≡ text.old ++ flat_map ended_line (notice_lines notice.now)) }
 {
     match notice {
         Some(notice) => add_line(text, b"notice ", notice.as_slice()),
@@ -123,7 +123,7 @@ fn add_notice(text: &mut Octets, notice: &Option<Octets>) -> Result<(), AllocErr
 
 // A word and what it is about, as a line.
 fn add_line(text: &mut Octets, word: &[u8], what: &[u8]) -> Result<(), AllocError>
-    ensures { OnOk result (text.new ≡ text.old ++ with_end (word.now ++ what.now)) }
+    ensures { OnOk result (text.new ≡ text.old ++ ended_line (word.now ++ what.now)) }
 {
     text.extend_from_slice(word)?;
     text.extend_from_slice(what)?;

@@ -2,14 +2,14 @@
 ghost use Rattle.std.specs.Prelude.{◌≡◌, [], Some, OnOk, OnErr};
 ghost use Rattle.std.specs.Ordering.{nat_cmp};
 ghost use Rattle.std.specs.BTreeMap as tree;
-ghost use Rattle.sieveddaemon.specs.Places.{begun};
-ghost use Rattle.sieveddaemon.specs.Waiting as waiting;
-ghost use Rattle.sieveddaemon.specs.DaemonRules.{Opens, Gives, Closes, LacksFor};
+ghost use Rattle.daemon_core.specs.ClientStates.{begun};
+ghost use Rattle.daemon_core.specs.Waiting as waiting;
+ghost use Rattle.daemon_core.specs.DaemonRules.{DaemonOpens, DaemonGives, DaemonCloses, LacksFor};
 
 use crate::daemon::Daemon;
-use crate::place::{Fit, Place, Waits};
+use crate::client_state::{Fit, ClientState, SessionWait};
 use crate::step::{forget, is_out, lack};
-use mailengine::{Answer, Event, apply_free};
+use store_engine::{Answer, Event, apply_free};
 use octets::Octets;
 use std::alloc::{AllocError, Global};
 use std::collections::BTreeMap;
@@ -17,11 +17,11 @@ use std::collections::BTreeMap;
 /// One comes: it is greeted, and its session begins.
 pub fn enter(daemon: &mut Daemon, now: u64, id: u32, out: &mut Octets) -> Result<(), AllocError>
     requires { out.old ≡ [] }
-    ensures ok { OnOk result (Opens daemon.old now id out.new daemon.new) }
+    ensures ok { OnOk result (DaemonOpens daemon.old now id out.new daemon.new) }
     ensures err { OnErr result (LacksFor daemon.old id daemon.new) }
 {
-    let place = Place {
-        waits: Waits::Nothing,
+    let place = ClientState {
+        waits: SessionWait::Nothing,
         guest: now,
         since: now,
         fit: Fit::Fits,
@@ -44,7 +44,7 @@ pub fn enter(daemon: &mut Daemon, now: u64, id: u32, out: &mut Octets) -> Result
 
 /// What an answer sends to a client.
 fn octets_of(alloc: Global, answer: Answer) -> Octets
-    ensures { result ≡ waiting.octets_of answer }
+    ensures { result ≡ waiting.answer_octets answer }
 {
     match answer {
         Answer::Out(_, octets) => octets,
@@ -60,7 +60,7 @@ pub fn hear(
     piece: &[u8],
     fit: Fit,
 ) -> Result<(), AllocError>
-    ensures ok { OnOk result (Gives daemon.old now id piece.now fit [] daemon.new) }
+    ensures ok { OnOk result (DaemonGives daemon.old now id piece.now fit [] daemon.new) }
     ensures err { OnErr result (LacksFor daemon.old id daemon.new) }
 {
     let Some(session) = daemon.clients.session(id) else {
@@ -78,8 +78,8 @@ pub fn hear(
 }
 
 /// If the octets that came begin what comes next (`begins`), its time is counted from now on; and whether there was room for them.
-fn begin(places: &mut BTreeMap<u32, Place>, now: u64, id: u32, begins: bool, fit: Fit)
-    ensures { (before : Place) → tree.get nat_cmp places.old id ≡ Some before → tree.Updates nat_cmp places.old places.new id (Some (begun now before begins fit)) }
+fn begin(places: &mut BTreeMap<u32, ClientState>, now: u64, id: u32, begins: bool, fit: Fit)
+    ensures { (before : ClientState) → tree.get nat_cmp places.old id ≡ Some before → tree.Updates nat_cmp places.old places.new id (Some (begun now before begins fit)) }
 {
     let Some(place) = places.get_mut(&id) else {
         return;
@@ -92,7 +92,7 @@ fn begin(places: &mut BTreeMap<u32, Place>, now: u64, id: u32, begins: bool, fit
 
 /// Ends a connection that is gone, and its session.
 pub fn leave(daemon: &mut Daemon, id: u32)
-    ensures { Closes daemon.old id daemon.new }
+    ensures { DaemonCloses daemon.old id daemon.new }
 {
     forget(daemon, id);
     let _ = apply_free(&mut daemon.clients, &Event::Close(id));

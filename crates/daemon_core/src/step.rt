@@ -2,21 +2,21 @@
 ghost use Rattle.std.specs.Prelude.{◌≡◌, [], Some, true, false, IsTrue, IsSome, IsErr, OnOk, OnErr};
 ghost use Rattle.std.specs.Ordering.{nat_cmp};
 ghost use Rattle.std.specs.BTreeMap as tree;
-ghost use Rattle.wires.specs.Rules.{StepsIf, IdlesIf};
-ghost use Rattle.sieveddaemon.specs.DaemonRules.{daemon_rules, place_at, AtPlace, Forgets, Renews, LacksFor, had_at};
-ghost use Rattle.sieveddaemon.specs.Places as places;
-ghost use Rattle.sieveddaemon.specs.Places.{client_at, renewed, place_told};
-ghost use Rattle.sieveddaemon.specs.Waiting as waiting;
-ghost use Rattle.sieveddaemon.specs.Waiting.{MayAsk, MayGiveUp, said_at_once, waits_after, IsReply};
-ghost use Rattle.sieveddaemon.specs.declared.note.Note.TheVariants.{Away};
-ghost use Rattle.mailengine.specs.Hosts.{AsksStore};
-ghost use Rattle.mailengine.specs.declared.event.Event.TheVariants.{Step};
+ghost use Rattle.net_loop.specs.Rules.{StepsIf, IdlesIf};
+ghost use Rattle.daemon_core.specs.DaemonRules.{daemon_rules, place_at, AtPlace, Forgets, DaemonRenews, LacksFor, had_at};
+ghost use Rattle.daemon_core.specs.ClientStates as places;
+ghost use Rattle.daemon_core.specs.ClientStates.{client_at, state_renewed, place_told};
+ghost use Rattle.daemon_core.specs.Waiting as waiting;
+ghost use Rattle.daemon_core.specs.Waiting.{SessionMayAsk, MayGiveUp, said_at_once, waits_after, IsReplyKeptBack};
+ghost use Rattle.daemon_core.specs.declared.note.Note.TheVariants.{Away};
+ghost use Rattle.store_engine.specs.Hosts.{EventAsksStore};
+ghost use Rattle.store_engine.specs.declared.event.Event.TheVariants.{Step};
 
 use crate::daemon::Daemon;
-use crate::desk::Desk;
-use crate::place::{Fit, Place, Waits};
-use crate::room::is_user;
-use mailengine::{Answer, Clients, Event, apply_free};
+use crate::store_access::StoreAccess;
+use crate::client_state::{Fit, ClientState, SessionWait};
+use crate::eviction::is_user;
+use store_engine::{Answer, Clients, Event, apply_free};
 use octets::Octets;
 use std::alloc::AllocError;
 use std::collections::BTreeMap;
@@ -50,7 +50,7 @@ fn is_failure(octets: &[u8]) -> bool
 }
 
 /// What is waited for after an answer; what is said of it at once is put out.
-fn take_answer(now: u64, answer: Answer, out: &mut Octets) -> Waits
+fn take_answer(now: u64, answer: Answer, out: &mut Octets) -> SessionWait
     requires { out.old ≡ [] }
     ensures waits { result ≡ waits_after now answer }
     ensures said { out.new ≡ said_at_once answer }
@@ -58,13 +58,13 @@ fn take_answer(now: u64, answer: Answer, out: &mut Octets) -> Waits
     match answer {
         Answer::Out(_, octets) => {
             if is_failure(octets.as_slice()) {
-                return Waits::Reply(now.wrapping_add(LOGIN_DELAY), octets);
+                return SessionWait::Reply(now.wrapping_add(LOGIN_DELAY), octets);
             }
             *out = octets;
-            Waits::Nothing
+            SessionWait::Nothing
         }
-        Answer::Refused(_) => Waits::Refused,
-        _ => Waits::Nothing,
+        Answer::Refused(_) => SessionWait::Refused,
+        _ => SessionWait::Nothing,
     }
 }
 
@@ -82,24 +82,24 @@ pub fn is_out(answer: &Answer) -> bool
 
 /// Replaces what a connection waits for, and returns what it waited for.
 fn replace_waits(
-    places: &mut BTreeMap<u32, Place>,
+    places: &mut BTreeMap<u32, ClientState>,
     now: u64,
     id: u32,
-    waits: Waits,
+    waits: SessionWait,
     answered: bool,
     user: bool,
-) -> Waits
-    ensures changed { (before : Place) → tree.get nat_cmp places.old id ≡ Some before → tree.Updates nat_cmp places.old places.new id (Some (renewed now before waits answered user)) }
-    ensures before { (before : Place) → tree.get nat_cmp places.old id ≡ Some before → result ≡ before.waits }
+) -> SessionWait
+    ensures changed { (before : ClientState) → tree.get nat_cmp places.old id ≡ Some before → tree.Updates nat_cmp places.old places.new id (Some (state_renewed now before waits answered user)) }
+    ensures before { (before : ClientState) → tree.get nat_cmp places.old id ≡ Some before → result ≡ before.waits }
 {
     let Some(place) = places.get_mut(&id) else {
-        return Waits::Nothing;
+        return SessionWait::Nothing;
     };
     let guest = if user { now } else { place.guest };
     let since = if answered { now } else { place.since };
     let before = replace(
         place,
-        Place {
+        ClientState {
             waits,
             guest,
             since,
@@ -110,9 +110,9 @@ fn replace_waits(
 }
 
 /// From now on a connection waits so; `answered`, if its next command is counted from now on.
-fn renew(daemon: &mut Daemon, now: u64, id: u32, waits: Waits, answered: bool) -> Waits
-    ensures renews { Renews daemon.old now id waits answered daemon.new }
-    ensures before { (before : Place) → place_at daemon.old id ≡ Some before → result ≡ before.waits }
+fn renew(daemon: &mut Daemon, now: u64, id: u32, waits: SessionWait, answered: bool) -> SessionWait
+    ensures renews { DaemonRenews daemon.old now id waits answered daemon.new }
+    ensures before { (before : ClientState) → place_at daemon.old id ≡ Some before → result ≡ before.waits }
 {
     let user = is_user(&daemon.clients, id);
     replace_waits(&mut daemon.places, now, id, waits, answered, user)
@@ -137,7 +137,7 @@ pub fn lack(daemon: &mut Daemon, id: u32) -> Result<(), AllocError>
 /// What follows from an answer: what is said at once, and what is waited for.
 fn settle(daemon: &mut Daemon, now: u64, id: u32, answer: Answer, out: &mut Octets)
     requires { out.old ≡ [] }
-    ensures renews { Renews daemon.old now id (waits_after now answer) (places.is_out answer) daemon.new }
+    ensures renews { DaemonRenews daemon.old now id (waits_after now answer) (places.is_out answer) daemon.new }
     ensures said { out.new ≡ said_at_once answer }
 {
     let answered = is_out(&answer);
@@ -147,13 +147,13 @@ fn settle(daemon: &mut Daemon, now: u64, id: u32, answer: Answer, out: &mut Octe
 
 /// Since when the store is asked for, for a connection.
 fn asked_since(daemon: &Daemon, now: u64, id: u32) -> u64
-    ensures { (before : Place) → place_at daemon.now id ≡ Some before → result ≡ waiting.asked_since now before.waits }
+    ensures { (before : ClientState) → place_at daemon.now id ≡ Some before → result ≡ waiting.session_asked_since now before.waits }
 {
     let Some(place) = daemon.places.get(&id) else {
         return now;
     };
     match &place.waits {
-        Waits::Store(since, _) => *since,
+        SessionWait::Store(since, _) => *since,
         _ => now,
     }
 }
@@ -161,7 +161,7 @@ fn asked_since(daemon: &Daemon, now: u64, id: u32) -> u64
 /// The same if the store answered: it is held then.
 fn settle_done(daemon: &mut Daemon, now: u64, id: u32, answer: Answer, out: &mut Octets)
     requires { out.old ≡ [] }
-    ensures renews { Renews (had_at now daemon.old) now id (waits_after now answer) (places.is_out answer) daemon.new }
+    ensures renews { DaemonRenews (had_at now daemon.old) now id (waits_after now answer) (places.is_out answer) daemon.new }
     ensures said { out.new ≡ said_at_once answer }
 {
     daemon.holding = daemon.holding.asked_at(now);
@@ -170,17 +170,17 @@ fn settle_done(daemon: &mut Daemon, now: u64, id: u32, answer: Answer, out: &mut
 
 /// A connection waits for the store.
 fn await_store(daemon: &mut Daemon, now: u64, id: u32)
-    ensures { (before : Place) → place_at daemon.old id ≡ Some before → Renews daemon.old now id (waiting.waits_behind now before.waits Away) false daemon.new }
+    ensures { (before : ClientState) → place_at daemon.old id ≡ Some before → DaemonRenews daemon.old now id (waiting.waits_behind now before.waits Away) false daemon.new }
 {
     let since = asked_since(daemon, now, id);
-    let waits = Waits::Store(since, now.wrapping_add(RETRY_SPAN));
+    let waits = SessionWait::Store(since, now.wrapping_add(RETRY_SPAN));
     let _ = renew(daemon, now, id, waits, false);
 }
 
 // ---- one step
 
 /// Applies what comes first to the store.
-fn bring<O: Desk>(
+fn apply_step<O: StoreAccess>(
     daemon: &mut Daemon,
     outside: &mut O,
     now: u64,
@@ -188,14 +188,14 @@ fn bring<O: Desk>(
     out: &mut Octets,
 ) -> Result<(), AllocError>
     requires out { out.old ≡ [] }
-    requires may { AtPlace daemon.old id (λ place. MayAsk now place.waits) }
-    requires asks { AsksStore (Step id) daemon.old.clients.sessions }
+    requires may { AtPlace daemon.old id (λ place. SessionMayAsk now place.waits) }
+    requires asks { EventAsksStore (Step id) daemon.old.clients.sessions }
     ensures kept { IsTrue (O.tells outside.new) → IsTrue (O.tells outside.old) }
     ensures ok { OnOk result (StepsIf O.tells O.seen O.rest (daemon_rules O.view) outside.old daemon.old now id out.new outside.new daemon.new) }
     ensures err { OnErr result (IdlesIf O.tells O.seen O.rest outside.old outside.new) }
     ensures lacks { OnErr result (LacksFor daemon.old id daemon.new) }
 {
-    match outside.carry(id, &mut daemon.clients, &Event::Step(id)) {
+    match outside.apply_event(id, &mut daemon.clients, &Event::Step(id)) {
         Some(answer) => {
             settle_done(daemon, now, id, answer, out);
             Ok(())
@@ -208,7 +208,7 @@ fn bring<O: Desk>(
 }
 
 /// Steps what comes first: at once if it asks no store, else by the store.
-fn step_first<O: Desk>(
+fn step_first<O: StoreAccess>(
     daemon: &mut Daemon,
     outside: &mut O,
     now: u64,
@@ -216,7 +216,7 @@ fn step_first<O: Desk>(
     out: &mut Octets,
 ) -> Result<(), AllocError>
     requires out { out.old ≡ [] }
-    requires may { AtPlace daemon.old id (λ place. MayAsk now place.waits) }
+    requires may { AtPlace daemon.old id (λ place. SessionMayAsk now place.waits) }
     ensures kept { IsTrue (O.tells outside.new) → IsTrue (O.tells outside.old) }
     ensures ok { OnOk result (StepsIf O.tells O.seen O.rest (daemon_rules O.view) outside.old daemon.old now id out.new outside.new daemon.new) }
     ensures err { OnErr result (IdlesIf O.tells O.seen O.rest outside.old outside.new) }
@@ -224,7 +224,7 @@ fn step_first<O: Desk>(
 {
     let event = Event::Step(id);
     match apply_free(&mut daemon.clients, &event) {
-        Ok(None) => bring(daemon, outside, now, id, out),
+        Ok(None) => apply_step(daemon, outside, now, id, out),
         Ok(Some(answer)) => {
             if !is_out(&answer) {
                 return lack(daemon, id);
@@ -238,7 +238,7 @@ fn step_first<O: Desk>(
 }
 
 /// Gives up what comes first.
-fn give_up<O: Desk>(
+fn give_up<O: StoreAccess>(
     daemon: &mut Daemon,
     outside: &mut O,
     now: u64,
@@ -265,15 +265,15 @@ fn give_up<O: Desk>(
 }
 
 /// Says what was kept back.
-fn speak<O: Desk>(daemon: &mut Daemon, outside: &mut O, now: u64, id: u32, out: &mut Octets)
+fn speak<O: StoreAccess>(daemon: &mut Daemon, outside: &mut O, now: u64, id: u32, out: &mut Octets)
     requires out { out.old ≡ [] }
-    requires may { AtPlace daemon.old id (λ place. IsReply place.waits) }
+    requires may { AtPlace daemon.old id (λ place. IsReplyKeptBack place.waits) }
     ensures kept { IsTrue (O.tells outside.new) → IsTrue (O.tells outside.old) }
     ensures ok { StepsIf O.tells O.seen O.rest (daemon_rules O.view) outside.old daemon.old now id out.new outside.new daemon.new }
 {
     outside.tell_spoke(id);
-    match renew(daemon, now, id, Waits::Nothing, true) {
-        Waits::Reply(_, text) => {
+    match renew(daemon, now, id, SessionWait::Nothing, true) {
+        SessionWait::Reply(_, text) => {
             *out = text;
         }
         _ => {}
@@ -291,8 +291,8 @@ fn is_over(fit: Fit) -> bool
 }
 
 /// Notes that one is told that there was no room.
-fn note_told(places: &mut BTreeMap<u32, Place>, now: u64, id: u32, user: bool)
-    ensures { (before : Place) → tree.get nat_cmp places.old id ≡ Some before → tree.Updates nat_cmp places.old places.new id (Some (place_told now before user)) }
+fn note_told(places: &mut BTreeMap<u32, ClientState>, now: u64, id: u32, user: bool)
+    ensures { (before : ClientState) → tree.get nat_cmp places.old id ≡ Some before → tree.Updates nat_cmp places.old places.new id (Some (place_told now before user)) }
 {
     let Some(place) = places.get_mut(&id) else {
         return;
@@ -300,12 +300,12 @@ fn note_told(places: &mut BTreeMap<u32, Place>, now: u64, id: u32, user: bool)
     if user {
         place.guest = now;
     }
-    place.waits = Waits::Nothing;
+    place.waits = SessionWait::Nothing;
     place.fit = Fit::Told;
 }
 
 /// Tells one that sends what there is no room for so; nothing more is done for it.
-fn refuse<O: Desk>(
+fn refuse<O: StoreAccess>(
     daemon: &mut Daemon,
     outside: &mut O,
     now: u64,
@@ -313,7 +313,7 @@ fn refuse<O: Desk>(
     out: &mut Octets,
 ) -> Result<(), AllocError>
     requires out { out.old ≡ [] }
-    requires may { AtPlace daemon.old id (λ place. (place.waits ≡ Waits.Nothing) × (place.fit ≡ Fit.Over)) }
+    requires may { AtPlace daemon.old id (λ place. (place.waits ≡ SessionWait.Nothing) × (place.fit ≡ Fit.Over)) }
     ensures kept { IsTrue (O.tells outside.new) → IsTrue (O.tells outside.old) }
     ensures ok { OnOk result (StepsIf O.tells O.seen O.rest (daemon_rules O.view) outside.old daemon.old now id out.new outside.new daemon.new) }
     ensures err { OnErr result (IdlesIf O.tells O.seen O.rest outside.old outside.new) }
@@ -329,7 +329,7 @@ fn refuse<O: Desk>(
 }
 
 /// One step of a connection that waits for nothing.
-fn step_free<O: Desk>(
+fn step_free<O: StoreAccess>(
     daemon: &mut Daemon,
     outside: &mut O,
     now: u64,
@@ -338,7 +338,7 @@ fn step_free<O: Desk>(
     out: &mut Octets,
 ) -> Result<(), AllocError>
     requires out { out.old ≡ [] }
-    requires may { AtPlace daemon.old id (λ place. (place.waits ≡ Waits.Nothing) × (place.fit ≡ fit)) }
+    requires may { AtPlace daemon.old id (λ place. (place.waits ≡ SessionWait.Nothing) × (place.fit ≡ fit)) }
     ensures kept { IsTrue (O.tells outside.new) → IsTrue (O.tells outside.old) }
     ensures ok { OnOk result (StepsIf O.tells O.seen O.rest (daemon_rules O.view) outside.old daemon.old now id out.new outside.new daemon.new) }
     ensures err { OnErr result (IdlesIf O.tells O.seen O.rest outside.old outside.new) }
@@ -352,7 +352,7 @@ fn step_free<O: Desk>(
 }
 
 /// One step of a connection.
-pub fn step_once<O: Desk>(
+pub fn step_once<O: StoreAccess>(
     daemon: &mut Daemon,
     outside: &mut O,
     now: u64,
@@ -369,19 +369,19 @@ pub fn step_once<O: Desk>(
         return lack(daemon, id);
     };
     match &place.waits {
-        Waits::Nothing => {
+        SessionWait::Nothing => {
             let fit = place.fit;
             step_free(daemon, outside, now, id, fit, out)
         }
-        Waits::Store(since, _) => {
+        SessionWait::Store(since, _) => {
             if now.saturating_sub(*since) < MAX_AWAY {
                 step_first(daemon, outside, now, id, out)
             } else {
                 give_up(daemon, outside, now, id, out)
             }
         }
-        Waits::Refused => give_up(daemon, outside, now, id, out),
-        Waits::Reply(_, _) => {
+        SessionWait::Refused => give_up(daemon, outside, now, id, out),
+        SessionWait::Reply(_, _) => {
             speak(daemon, outside, now, id, out);
             Ok(())
         }

@@ -1,23 +1,23 @@
 //! The store, as the daemon sees it.
 ghost use Rattle.std.specs.Prelude.{ℕ, List, Option, IsTrue, IfSome};
-ghost use Rattle.mailposts.specs.Posts.{IsFound};
-ghost use Rattle.mailengine.specs.Hosts.{IsGivenUp};
-ghost use Rattle.wires.specs.declared.act.Act.TheVariants.{Noted};
-ghost use Rattle.wires.specs.Told.{TellsIf};
-ghost use Rattle.sieveddaemon.specs.declared.note.Note.TheVariants.{Answered, Freed, Spoke};
-ghost use Rattle.mailsinks.specs.declared.kept.KeptMail.{KeptMail};
-ghost use Rattle.sieveddaemon.specs.Moves.{MovesOn};
-ghost use Rattle.sieveddaemon.specs.Desk.{View, Carries, Delivers, Looks, LooksUp, StillShowsIf};
+ghost use Rattle.lmtp_connections.specs.Connections.{IsFinding};
+ghost use Rattle.store_engine.specs.Hosts.{IsGivenUp};
+ghost use Rattle.net_loop.specs.declared.act.Act.TheVariants.{Noted};
+ghost use Rattle.net_loop.specs.Told.{TellsIf};
+ghost use Rattle.daemon_core.specs.declared.note.Note.TheVariants.{Answered, Freed, Spoke};
+ghost use Rattle.maildir_files.specs.declared.kept.KeptMail.{KeptMail};
+ghost use Rattle.daemon_core.specs.Moves.{MovesNextMessage};
+ghost use Rattle.daemon_core.specs.StoreAccess.{View, AppliesEvent, DeliversMessage, Looks, FindsAccount, StillShowsIf};
 
 use crate::note::Note;
-use lmtp::Lookup;
-use mailengine::{Answer, Clients, Event};
-use mailposts::Parcel;
-use wires::outside::Outside;
+use lmtp_dialogue::Lookup;
+use store_engine::{Answer, Clients, Event};
+use lmtp_connections::StoreDelivery;
+use net_loop::outside::Outside;
 
 /// Access to a store that other processes use too. Each call but those that only tell takes the store if it isn't held, and keeps it
 /// until it is given back.
-pub trait Desk: Outside<Note = Note> {
+pub trait StoreAccess: Outside<Note = Note> {
     /// Which accounts the store shows, and what an open after a crash at this moment may find, while it is held and no fault of the disk
     /// has shut it.
     ghost view: { View Self.Rest };
@@ -29,10 +29,10 @@ pub trait Desk: Outside<Note = Note> {
     ghost default: { Self → Option (List ℕ) };
 
     /// Applies an event to the store and its sessions, and answers it once its change is durable. None if the store isn't available now.
-    fn carry(&mut self, id: u32, clients: &mut Clients, event: &Event) -> Option<Answer>
+    fn apply_event(&mut self, id: u32, clients: &mut Clients, event: &Event) -> Option<Answer>
         requires { ¬ IsGivenUp event.now }
         ensures kept { IsTrue (Self.tells self.new) → IsTrue (Self.tells self.old) }
-        ensures carries { Carries Self.tells Self.seen Self.rest view clean id event.now self.old clients.old.sessions result self.new clients.new.sessions };
+        ensures carries { AppliesEvent Self.tells Self.seen Self.rest view clean id event.now self.old clients.old.sessions result self.new clients.new.sessions };
 
     /// Tells that an event of a connection was answered that asks no store. Nothing is done.
     fn tell_freed(&mut self, id: u32, event: &Event, answer: &Answer)
@@ -42,16 +42,16 @@ pub trait Desk: Outside<Note = Note> {
 
     /// Asks the store whether there is an account of that name; a name that it can't look for now is a fault, or lacks
     /// memory. Nothing is changed. None if the store isn't available now.
-    fn look_up(&mut self, id: u32, clients: &mut Clients, user: &[u8]) -> Option<Lookup>
+    fn find_account(&mut self, id: u32, clients: &mut Clients, user: &[u8]) -> Option<Lookup>
         ensures kept { IsTrue (Self.tells self.new) → IsTrue (Self.tells self.old) }
-        ensures found { IfSome result IsFound }
-        ensures asks { LooksUp Self.tells Self.seen Self.rest view clean id user.now self.old clients.old.sessions result self.new clients.new.sessions };
+        ensures found { IfSome result IsFinding }
+        ensures asks { FindsAccount Self.tells Self.seen Self.rest view clean id user.now self.old clients.old.sessions result self.new clients.new.sessions };
 
     /// Delivers a message to the store, at the moment that the clock shows now, with the host's default script, and answers it once
     /// its change is durable. None if the store isn't available now.
-    fn deliver(&mut self, id: u32, clients: &mut Clients, parcel: &Parcel) -> Option<Answer>
+    fn deliver(&mut self, id: u32, clients: &mut Clients, parcel: &StoreDelivery) -> Option<Answer>
         ensures kept { IsTrue (Self.tells self.new) → IsTrue (Self.tells self.old) }
-        ensures delivers { Delivers Self.tells Self.seen Self.rest view clean default id parcel.now self.old clients.old.sessions result self.new clients.new.sessions };
+        ensures delivers { DeliversMessage Self.tells Self.seen Self.rest view clean default id parcel.now self.old clients.old.sessions result self.new clients.new.sessions };
 
     /// Tells that a client of LMTP was answered without the store, or one of ManageSieve that there is no room. Nothing is done.
     fn tell_answered(&mut self, id: u32)
@@ -71,9 +71,9 @@ pub trait Desk: Outside<Note = Note> {
     /// Has the first message of a folder move on, whichever folder that is: the sink keeps it, and then it is taken out of the store,
     /// which is held all the while. `fresh`, if events asked the store since the last call. Returns for how many milliseconds no other
     /// message is to move; none if the store isn't available now.
-    fn move_on(&mut self, clients: &mut Clients, now: u64, fresh: bool) -> Option<u64>
+    fn move_next(&mut self, clients: &mut Clients, now: u64, fresh: bool) -> Option<u64>
         ensures kept { IsTrue (Self.tells self.new) → IsTrue (Self.tells self.old) }
-        ensures moves { MovesOn Self.tells Self.seen Self.rest view has clean self.old clients.old.sessions result self.new clients.new.sessions };
+        ensures moves { MovesNextMessage Self.tells Self.seen Self.rest view has clean self.old clients.old.sessions result self.new clients.new.sessions };
 
     /// Looks whether somebody waits for the store, and gives it back if somebody does, or if it `rests`. Returns whether
     /// it was given back.

@@ -1,13 +1,13 @@
 //! What the daemon wants of a connection, and by which moment it is late.
 ghost use Rattle.std.specs.Prelude.{◌≡◌};
-ghost use Rattle.sieveddaemon.specs.DaemonRules.{place_at};
-ghost use Rattle.sieveddaemon.specs.Places as places;
-ghost use Rattle.sieveddaemon.specs.Places.{client_at};
+ghost use Rattle.daemon_core.specs.DaemonRules.{place_at};
+ghost use Rattle.daemon_core.specs.ClientStates as places;
+ghost use Rattle.daemon_core.specs.ClientStates.{client_at};
 
 use crate::daemon::Daemon;
-use crate::place::{Fit, Place, Waits};
-use sessions::Session;
-use wires::machine::Want;
+use crate::client_state::{Fit, ClientState, SessionWait};
+use managesieve_sessions::Session;
+use net_loop::machine::Want;
 
 /// How many milliseconds there are for a login in all.
 const MAX_LOGIN: u64 = 60000;
@@ -19,14 +19,14 @@ const MAX_COMMAND: u64 = 300000;
 const MAX_SILENCE: u64 = 1800000;
 
 /// What is wanted of a connection that waits so, and for whose octets there was room or not.
-pub fn want_by(waits: &Waits, fit: Fit, session: &Session) -> Want
-    ensures { result ≡ places.want_by waits.now fit session.now.client }
+pub fn want_by(waits: &SessionWait, fit: Fit, session: &Session) -> Want
+    ensures { result ≡ places.session_want_by waits.now fit session.now.client }
 {
     match waits {
-        Waits::Nothing => want_in(fit, session),
-        Waits::Store(_, again) => Want::Until(*again),
-        Waits::Refused => Want::Step,
-        Waits::Reply(until, _) => Want::Until(*until),
+        SessionWait::Nothing => want_in(fit, session),
+        SessionWait::Store(_, again) => Want::Until(*again),
+        SessionWait::Refused => Want::Step,
+        SessionWait::Reply(until, _) => Want::Until(*until),
     }
 }
 
@@ -53,16 +53,16 @@ fn want_of_session(session: &Session) -> Want
 }
 
 /// The moment by which a connection is late.
-pub fn due_by(place: &Place, session: &Session) -> u64
-    ensures { result ≡ places.due_by place.now.waits place.now session.now.client }
+pub fn due_by(place: &ClientState, session: &Session) -> u64
+    ensures { result ≡ places.session_due_by place.now.waits place.now session.now.client }
 {
     match &place.waits {
-        Waits::Nothing => due_of_session(place, session),
+        SessionWait::Nothing => due_of_session(place, session),
         _ => u64::MAX,
     }
 }
 
-fn due_of_session(place: &Place, session: &Session) -> u64
+fn due_of_session(place: &ClientState, session: &Session) -> u64
     ensures { result ≡ places.due_of_session place.now session.now.client.user session.now.client.unread }
 {
     if !session.is_logged_in() {

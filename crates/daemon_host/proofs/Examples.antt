@@ -1,6 +1,6 @@
 -- Right cases of the definitions, and near misses.
 use Rattle.std.proofs.Common.{◌≡◌, true, false, [], ◌∷◌, Some, None, refl}
-use Rattle.daemonhosts.specs.Queue.{asked_of_late, is_first, Joins}
+use Rattle.daemon_host.specs.Queue.{asked_of_late, is_first, Joins}
 use Rattle.std.proofs.Common.{inl}
 
 -- one that asked 99 ms ago asks still, and one that asked 100 ms ago doesn't

@@ -3,46 +3,46 @@ use Rattle.std.proofs.Common.{◌≡◌, ℕ, Bool, false, List, [], ◌∷◌, 
 use Rattle.sqlite_trees.specs.declared.store.Store.{Ghosts}
 use Rattle.sqlite.specs.Effect.{Database}
 use Rattle.sqlite.specs.Held.{Held, state}
-use Rattle.mailstore.specs.Account.{Accounts}
-use Rattle.mailstore.specs.Shows.{Presents, Offers}
-use Rattle.mailstore.specs.Connection.{IsSettled}
+use Rattle.store_accounts.specs.Account.{Accounts}
+use Rattle.store_accounts.specs.Shows.{Presents, OffersAccounts}
+use Rattle.store_accounts.specs.Connection.{IsSettled}
 use Rattle.sqlite_trees.specs.Tree.{Trees}
-use Rattle.sessions.specs.Acts.{HasAccounts}
-use Rattle.keepers.specs.Taken.{IsTaken}
-use Rattle.mailmoves.specs.Enduring.{MayLeave, ShowsTried, none_tried, leaves_of}
-use Rattle.mailmoves.proofs.EnduringLemmas.{left_alone, left_then, settled_left, event_endures}
-use Rattle.lmtp.specs.declared.receiver.Lookup.{Lookup}
-use Rattle.mailstore.specs.declared.refusal.Refusal.{Refusal}
-use Rattle.mailstore.specs.declared.report.Report.{Report}
-use Rattle.sieveexec.specs.declared.envelope.Envelope.{Envelope}
-use Rattle.mailposts.specs.declared.demand.Parcel.{Parcel}
+use Rattle.managesieve_sessions.specs.Acts.{HasAccounts}
+use Rattle.store_lock.specs.Taken.{IsStoreTaken}
+use Rattle.maildir_moves.specs.Enduring.{MayLeave, ShowsTried, none_tried, leaves_of}
+use Rattle.maildir_moves.proofs.EnduringLemmas.{left_alone, left_then, settled_left, event_endures}
+use Rattle.lmtp_dialogue.specs.declared.receiver.Lookup.{Lookup}
+use Rattle.store_accounts.specs.declared.refusal.Refusal.{Refusal}
+use Rattle.store_accounts.specs.declared.report.Report.{Report}
+use Rattle.sieve_exec.specs.declared.envelope.Envelope.{Envelope}
+use Rattle.lmtp_connections.specs.declared.demand.StoreDelivery.{StoreDelivery}
 use Rattle.sqlite.specs.State.{State, HasCleanDisk}
-use Rattle.mailengine.specs.AccountEvents.{Delivery}
-use Rattle.mailengine.specs.World.{World}
-use Rattle.mailengine.specs.Hosts.{Kept, IsEvent, SurvivesEvent, host, ActsDelivery, MayRefuseDelivery, answer_by}
-use Rattle.mailengine.specs.declared.answer.Answer.TheVariants.{Delivered}
-use Rattle.mailengine.proofs.HostLemmas.{account_crash, account_event, delivery_may}
-use Rattle.mailengine.specs.declared.answer.Answer.{Answer}
-use Rattle.mailengine.specs.declared.event.Event.{Event}
-use Rattle.mailsinks.specs.declared.kept.KeptMail.{KeptMail}
-use Rattle.mailmoves.specs.Moving.{KeepsIt, Moves, TriedMoving}
-use Rattle.mailmoves.specs.declared.moving.Moving.{Moving}
-use Rattle.mailmoves.specs.declared.moving.Moving.TheVariants as moving
-use Rattle.sieveddaemon.specs.Moves.{HasKept, IsMoved}
-use Rattle.sieveddaemon.proofs.MoveLemmas.{let_none, moved_then}
-use Rattle.sieveddaemon.proofs.StillLemmas.{still_then}
-use Rattle.sieveddaemon.specs.Desk.{View, StillShows, IsDone, IsAsked, IsFoundIn, NothingDone, delivery_of}
-use Rattle.daemonhosts.specs.Held.{HasMail, ShowsBy, LeavesBy}
-use Rattle.mailengine.specs.Terms.{Terms}
-use Rattle.daemonhosts.specs.declared.held.HeldStore.{HeldStore}
+use Rattle.store_engine.specs.AccountEvents.{Delivery}
+use Rattle.store_engine.specs.World.{World}
+use Rattle.store_engine.specs.Hosts.{SessionMap, IsEvent, SurvivesEvent, host, ActsDelivery, MayRefuseDelivery, answer_by}
+use Rattle.store_engine.specs.declared.answer.Answer.TheVariants.{Delivered}
+use Rattle.store_engine.proofs.HostLemmas.{account_crash, account_event, delivery_may}
+use Rattle.store_engine.specs.declared.answer.Answer.{Answer}
+use Rattle.store_engine.specs.declared.event.Event.{Event}
+use Rattle.maildir_files.specs.declared.kept.KeptMail.{KeptMail}
+use Rattle.maildir_moves.specs.Moving.{KeepsIt, MovesMessage, TriedMoving}
+use Rattle.maildir_moves.specs.declared.moving.Moving.{Moving}
+use Rattle.maildir_moves.specs.declared.moving.Moving.TheVariants as moving
+use Rattle.daemon_core.specs.Moves.{HasKept, IsMessageMoved}
+use Rattle.daemon_core.proofs.MoveLemmas.{let_none, moved_then}
+use Rattle.daemon_core.proofs.StillLemmas.{still_then}
+use Rattle.daemon_core.specs.StoreAccess.{View, ViewStillShows, IsEventDone, IsAccountAsked, IsFoundIn, NothingDone, delivery_of}
+use Rattle.daemon_host.specs.Held.{SinkHasMail, ShowsBy, LeavesBy}
+use Rattle.store_engine.specs.Terms.{Terms}
+use Rattle.daemon_host.specs.declared.host_store.HostStore.{HostStore}
 
 -- tables of ours are tables that `open` takes
-presented : (db : Database) (accounts : Accounts) → Presents db accounts → Offers db accounts
+presented : (db : Database) (accounts : Accounts) → Presents db accounts → OffersAccounts db accounts
 presented db accounts shown = inl shown
 
 module _ {S : Type 0} (g : Ghosts S) (tells : Bool) where
   -- a store that was taken shows what its keeper's tables offered, and a crash leaves that alone
-  pub taken : (was is : Database) (store : Held S) → (IsTrue tells → IsTaken false was (state g store).now) → (IsTrue tells → IsSettled (state g store)) → (accounts : Accounts) → ShowsBy g tells was None accounts
+  pub taken : (was is : Database) (store : Held S) → (IsTrue tells → IsStoreTaken false was (state g store).now) → (IsTrue tells → IsSettled (state g store)) → (accounts : Accounts) → ShowsBy g tells was None accounts
       → ShowsBy g tells is (Some store) accounts × MayLeave (LeavesBy g None) accounts (LeavesBy g (Some store)) accounts none_tried
   taken was is store took settled accounts shown =
       let presents = (took shown.0).0.shown accounts shown.1 in
@@ -51,20 +51,20 @@ module _ {S : Type 0} (g : Ghosts S) (tells : Bool) where
   -- a store that was given back is offered by its keeper's tables, and nothing is left while it isn't had
   pub given : (was is : Database) (store : Held S) → (IsTrue tells → IsTrue (state g store).is_open) → (IsTrue tells → is ≡ (state g store).now) → IsTrue tells → (accounts : Accounts) → ShowsBy g tells was (Some store) accounts
       → ShowsBy g tells is None accounts × MayLeave (LeavesBy g (Some store)) accounts (LeavesBy g None) accounts none_tried
-  given was is store sure held told accounts shown = ((told, subst (λ db. Offers db accounts) (sym (held told)) (presented (state g store).now accounts (shown (sure told)))), λ trees may. absurd may)
+  given was is store sure held told accounts shown = ((told, subst (λ db. OffersAccounts db accounts) (sym (held told)) (presented (state g store).now accounts (shown (sure told)))), λ trees may. absurd may)
 
   -- what was shown stays so where the tables that are told are as they were
   pub kept : (was is : Database) (store : Option (Held S)) → (IsTrue tells → is ≡ was) → (accounts : Accounts) → ShowsBy g tells was store accounts
       → ShowsBy g tells is store accounts × MayLeave (LeavesBy g store) accounts (LeavesBy g store) accounts none_tried
   kept was is (Some store) same accounts shown = (shown, left_alone (LeavesBy g (Some store)) accounts none_tried)
-  kept was is None same accounts shown = ((shown.0, subst (λ db. Offers db accounts) (sym (same shown.0)) shown.1), left_alone (LeavesBy g None) accounts none_tried)
+  kept was is None same accounts shown = ((shown.0, subst (λ db. OffersAccounts db accounts) (sym (same shown.0)) shown.1), left_alone (LeavesBy g None) accounts none_tried)
 
 -- an event by one call of `apply`: nobody came between
-pub done_alone : {R S : Type 0} (g : Ghosts S) (view : View R) (r q : R) (event : Event) (answer : Answer) (old new : Held S) (before after : Kept)
+pub done_alone : {R S : Type 0} (g : Ghosts S) (view : View R) (r q : R) (event : Event) (answer : Answer) (old new : Held S) (before after : SessionMap)
     → ((accounts : Accounts) → view.shows r accounts → HasAccounts (state g old) accounts) → ((accounts : Accounts) → HasAccounts (state g new) accounts → view.shows q accounts)
     → ((trees : Trees) → leaves_of (state g old) trees → view.leaves r trees) → ((trees : Trees) → view.leaves q trees → leaves_of (state g new) trees)
     → HasCleanDisk (state g new) → (IsTrue (state g new).is_open → IsTrue (state g old).is_open) → SurvivesEvent event (host (state g old) before) (host (state g new) after)
-    → IsEvent event answer (host (state g old) before) (host (state g new) after) → IsDone view [] event answer r before q after
+    → IsEvent event answer (host (state g old) before) (host (state g new) after) → IsEventDone view [] event answer r before q after
 done_alone g view r q event answer old new before after was is left may clean shut crash made = λ w at.
     let it = event_endures event (state g old) (state g new) before after clean shut crash w at.sessions (was w.accounts at.shown) answer made in (
       it.0,
@@ -76,18 +76,18 @@ done_alone g view r q event answer old new before after was is left may clean sh
     )
 
 -- an event that was done behind a call that changed no account
-pub done_behind : {R : Type 0} (view : View R) (r m q : R) (event : Event) (answer : Answer) (before after : Kept) → StillShows view r m → IsDone view [] event answer m before q after → IsDone view [] event answer r before q after
+pub done_behind : {R : Type 0} (view : View R) (r m q : R) (event : Event) (answer : Answer) (before after : SessionMap) → ViewStillShows view r m → IsEventDone view [] event answer m before q after → IsEventDone view [] event answer r before q after
 done_behind view r m q event answer before after still done = λ w at.
     let here = still w.accounts at.shown in
     let it = done w (record { shown = here.0; sessions = at.sessions }) in
     (it.0, it.1, record { is = it.2.is; left = left_then (view.leaves r) (view.leaves m) (view.leaves q) w.accounts w.accounts it.0.accounts (ShowsTried event answer it.1.between) here.1 it.2.left })
 
 -- nothing was done behind such a call
-pub nothing_behind : {R : Type 0} (view : View R) (r m q : R) (before after : Kept) → StillShows view r m → NothingDone view m before q after → NothingDone view r before q after
+pub nothing_behind : {R : Type 0} (view : View R) (r m q : R) (before after : SessionMap) → ViewStillShows view r m → NothingDone view m before q after → NothingDone view r before q after
 nothing_behind view r m q before after still none = record { shown = still_then view r m q still none.shown; kept = none.kept }
 
 -- an account was looked for behind such a call
-pub found_behind : {R : Type 0} (view : View R) (r m q : R) (user : List ℕ) (lookup : Lookup) → StillShows view r m
+pub found_behind : {R : Type 0} (view : View R) (r m q : R) (user : List ℕ) (lookup : Lookup) → ViewStillShows view r m
     → ((accounts : Accounts) → view.shows m accounts → IsFoundIn accounts user lookup × view.shows q accounts × MayLeave (view.leaves m) accounts (view.leaves q) accounts none_tried)
     → (accounts : Accounts) → view.shows r accounts → IsFoundIn accounts user lookup × view.shows q accounts × MayLeave (view.leaves r) accounts (view.leaves q) accounts none_tried
 found_behind view r m q user lookup still finds accounts shown =
@@ -96,23 +96,23 @@ found_behind view r m q user lookup still finds accounts shown =
     (it.0, it.1, left_then (view.leaves r) (view.leaves m) (view.leaves q) accounts accounts accounts none_tried here.1 it.2)
 
 -- a message moved on behind such a call
-pub moved_behind : {R : Type 0} (view : View R) (r m q : R) (moving : Moving) → StillShows view r m
-    → ((w : World) → view.shows m w.accounts → (later : Accounts) × Moves moving w.accounts later × view.shows q later × MayLeave (view.leaves m) w.accounts (view.leaves q) later (TriedMoving moving w))
-    → (w : World) → view.shows r w.accounts → (later : Accounts) × Moves moving w.accounts later × view.shows q later × MayLeave (view.leaves r) w.accounts (view.leaves q) later (TriedMoving moving w)
+pub moved_behind : {R : Type 0} (view : View R) (r m q : R) (moving : Moving) → ViewStillShows view r m
+    → ((w : World) → view.shows m w.accounts → (later : Accounts) × MovesMessage moving w.accounts later × view.shows q later × MayLeave (view.leaves m) w.accounts (view.leaves q) later (TriedMoving moving w))
+    → (w : World) → view.shows r w.accounts → (later : Accounts) × MovesMessage moving w.accounts later × view.shows q later × MayLeave (view.leaves r) w.accounts (view.leaves q) later (TriedMoving moving w)
 moved_behind view r m q moving still moves w shown =
     let here = still w.accounts shown in
     let it = moves w here.0 in
     (it.0, it.1, it.2, left_then (view.leaves r) (view.leaves m) (view.leaves q) w.accounts w.accounts it.0 (TriedMoving moving w) here.1 it.3)
 
 -- an account was looked for, and nobody came between
-pub asked_alone : {R : Type 0} (view : View R) (r q : R) (user : List ℕ) (lookup : Lookup) (kept : Kept)
-    → ((accounts : Accounts) → view.shows r accounts → IsFoundIn accounts user lookup × view.shows q accounts × MayLeave (view.leaves r) accounts (view.leaves q) accounts none_tried) → IsAsked view [] user lookup r kept q kept
+pub asked_alone : {R : Type 0} (view : View R) (r q : R) (user : List ℕ) (lookup : Lookup) (kept : SessionMap)
+    → ((accounts : Accounts) → view.shows r accounts → IsFoundIn accounts user lookup × view.shows q accounts × MayLeave (view.leaves r) accounts (view.leaves q) accounts none_tried) → IsAccountAsked view [] user lookup r kept q kept
 asked_alone view r q user lookup kept finds = λ w at.
     let seen = finds w.accounts at.shown in
     (w, record { strangers = tt; told = []; theirs = refl; apart = refl; found = seen.0 }, record { is = record { shown = seen.1; sessions = at.sessions }; left = seen.2 })
 
 -- a delivery is an event, whatever sessions there are
-delivery_acts : (parcel : Parcel) (terms : Terms) (user message : List ℕ) (envelope : Envelope) (old new : State) (r : Result Report Refusal)
+delivery_acts : (parcel : StoreDelivery) (terms : Terms) (user message : List ℕ) (envelope : Envelope) (old new : State) (r : Result Report Refusal)
     → user ≡ parcel.user → envelope ≡ record { from = parcel.sender; to = parcel.recipient } → message ≡ parcel.message → ActsDelivery user envelope message terms old new r
     → ActsDelivery parcel.user (record { from = parcel.sender; to = parcel.recipient }) parcel.message terms old new r
 delivery_acts parcel terms user message envelope old new r is_user is_envelope is_message acts =
@@ -120,7 +120,7 @@ delivery_acts parcel terms user message envelope old new r is_user is_envelope i
     subst (λ u. ActsDelivery u own parcel.message terms old new r) is_user
     (subst (λ e. ActsDelivery user e parcel.message terms old new r) is_envelope (subst (λ m. ActsDelivery user envelope m terms old new r) is_message acts))
 
-pub delivered_as : (parcel : Parcel) (terms : Terms) (user message : List ℕ) (envelope : Envelope) (old new : State) (kept : Kept) (r : Result Report Refusal)
+pub delivered_as : (parcel : StoreDelivery) (terms : Terms) (user message : List ℕ) (envelope : Envelope) (old new : State) (kept : SessionMap) (r : Result Report Refusal)
     → user ≡ parcel.user → envelope ≡ record { from = parcel.sender; to = parcel.recipient } → message ≡ parcel.message → ActsDelivery user envelope message terms old new r
     → IsEvent (delivery_of parcel terms) (answer_by Delivered r) (host old kept) (host new kept)
 delivered_as parcel terms user message envelope old new kept r is_user is_envelope is_message acts =
@@ -129,7 +129,7 @@ delivered_as parcel terms user message envelope old new kept r is_user is_envelo
     (delivery_may parcel.user parcel.message own terms.when terms.default) old new kept Delivered r (delivery_acts parcel terms user message envelope old new r is_user is_envelope is_message acts)
 
 -- and what a crash leaves of it
-pub delivered_crash : (parcel : Parcel) (terms : Terms) (user message : List ℕ) (envelope : Envelope) (old new : State) (kept : Kept) (r : Result Report Refusal)
+pub delivered_crash : (parcel : StoreDelivery) (terms : Terms) (user message : List ℕ) (envelope : Envelope) (old new : State) (kept : SessionMap) (r : Result Report Refusal)
     → user ≡ parcel.user → envelope ≡ record { from = parcel.sender; to = parcel.recipient } → message ≡ parcel.message → ActsDelivery user envelope message terms old new r
     → SurvivesEvent (delivery_of parcel terms) (host old kept) (host new kept)
 delivered_crash parcel terms user message envelope old new kept r is_user is_envelope is_message acts =
@@ -138,7 +138,7 @@ delivered_crash parcel terms user message envelope old new kept r is_user is_env
     (delivery_may parcel.user parcel.message own terms.when terms.default) old new kept r (answer_by Delivered r) (delivery_acts parcel terms user message envelope old new r is_user is_envelope is_message acts)
 
 -- what a sink keeps, as the daemon sees it
-pub has_kept : {K S T : Type 0} (tells : Bool) (kept : T → List KeptMail) (r q : HeldStore K T S) (m : Moving) → KeepsIt tells (kept r.sink) (kept q.sink) m → HasKept (HasMail tells kept) m r q
+pub has_kept : {K S T : Type 0} (tells : Bool) (kept : T → List KeptMail) (r q : HostStore K T S) (m : Moving) → KeepsIt tells (kept r.sink) (kept q.sink) m → HasKept (SinkHasMail tells kept) m r q
 has_kept tells kept r q (moving.Kept mail answer) keeps = λ mails had told. keeps told ∙ ap (λ l. l ++ mail ∷ []) (had told)
 has_kept tells kept r q moving.Nothing keeps = tt
 has_kept tells kept r q moving.Passed keeps = tt
@@ -146,16 +146,16 @@ has_kept tells kept r q (moving.Failed refusal) keeps = tt
 has_kept tells kept r q (moving.Stays stay) keeps = tt
 
 -- the same behind calls that leave the sink as it is
-pub kept_behind : {K S T : Type 0} (tells : Bool) (kept : T → List KeptMail) (r a b q : HeldStore K T S) (m : Moving) → a.sink ≡ r.sink → q ≡ b → HasKept (HasMail tells kept) m a b → HasKept (HasMail tells kept) m r q
+pub kept_behind : {K S T : Type 0} (tells : Bool) (kept : T → List KeptMail) (r a b q : HostStore K T S) (m : Moving) → a.sink ≡ r.sink → q ≡ b → HasKept (SinkHasMail tells kept) m a b → HasKept (SinkHasMail tells kept) m r q
 kept_behind tells kept r a b q (moving.Kept mail answer) same then has = λ mails had.
-    subst (λ held. HasMail tells kept held (mails ++ mail ∷ [])) (sym then) (has mails (λ told. ap kept same ∙ had told))
+    subst (λ held. SinkHasMail tells kept held (mails ++ mail ∷ [])) (sym then) (has mails (λ told. ap kept same ∙ had told))
 kept_behind tells kept r a b q moving.Nothing same then has = tt
 kept_behind tells kept r a b q moving.Passed same then has = tt
 kept_behind tells kept r a b q (moving.Failed refusal) same then has = tt
 kept_behind tells kept r a b q (moving.Stays stay) same then has = tt
 
 -- and before calls that do
-pub kept_then : {K S T : Type 0} (tells : Bool) (kept : T → List KeptMail) (r a q : HeldStore K T S) (m : Moving) → q.sink ≡ a.sink → HasKept (HasMail tells kept) m r a → HasKept (HasMail tells kept) m r q
+pub kept_then : {K S T : Type 0} (tells : Bool) (kept : T → List KeptMail) (r a q : HostStore K T S) (m : Moving) → q.sink ≡ a.sink → HasKept (SinkHasMail tells kept) m r a → HasKept (SinkHasMail tells kept) m r q
 kept_then tells kept r a q (moving.Kept mail answer) same has = λ mails had told. ap kept same ∙ has mails had told
 kept_then tells kept r a q moving.Nothing same has = tt
 kept_then tells kept r a q moving.Passed same has = tt
@@ -163,8 +163,8 @@ kept_then tells kept r a q (moving.Failed refusal) same has = tt
 kept_then tells kept r a q (moving.Stays stay) same has = tt
 
 -- a message moved on, and nobody came between
-pub moved_alone : {R : Type 0} (view : View R) (r q : R) (m : Moving) (kept : Kept)
-    → ((w : World) → view.shows r w.accounts → (later : Accounts) × Moves m w.accounts later × view.shows q later × MayLeave (view.leaves r) w.accounts (view.leaves q) later (TriedMoving m w)) → IsMoved view [] m r kept q kept
+pub moved_alone : {R : Type 0} (view : View R) (r q : R) (m : Moving) (kept : SessionMap)
+    → ((w : World) → view.shows r w.accounts → (later : Accounts) × MovesMessage m w.accounts later × view.shows q later × MayLeave (view.leaves r) w.accounts (view.leaves q) later (TriedMoving m w)) → IsMessageMoved view [] m r kept q kept
 moved_alone view r q m kept moves = λ w is.
     let it = moves w is.shown in
     moved_then view [] r q kept w w (view.leaves r) (let_none w) is.sessions (left_alone (view.leaves r) w.accounts none_tried) m it.0 it.1 it.2 it.3

@@ -1,7 +1,7 @@
 -- Lines on messages that stay.
 use Rattle.std.proofs.Common.{◌≡◌, ℕ, Bool, true, false, List, Result, Ok, Err, IfOk}
-use Rattle.mailmoves.specs.declared.moving.Stay.{Stay}
-use Rattle.daemonhosts.specs.Log.{stay_line, IsWhy, IsStayLine, IsStayBy}
+use Rattle.maildir_moves.specs.declared.moving.Stay.{Stay}
+use Rattle.daemon_host.specs.Log.{stay_line, IsWhy, IsStayLine, IsStayBy}
 
 -- some reason stands there
 pub some_why : {E : Type 0} (result : Result (List ℕ) E) (stay : Stay) (why : List ℕ) → IsWhy stay.why why → IfOk result (λ line. line ≡ stay_line stay.user stay.folder why)

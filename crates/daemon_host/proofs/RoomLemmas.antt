@@ -1,25 +1,25 @@
 -- A delivery that the store refused may be one that memory lacked for: neither has a visible cause, and nothing changes.
 use Rattle.std.proofs.Common.{◌≡◌, ℕ, List, [], Bool, true, false, cond, Option, Some, None, refl, sym, ◌∙◌, ap, subst, inl, inr}
 use Rattle.std.specs.FinMap.{get}
-use Rattle.mailstore.specs.Account.{Account, Accounts, open_of, is_removed}
-use Rattle.mailstore.specs.declared.refusal.Refusal.{Refusal}
-use Rattle.mailstore.specs.declared.refusal.Refusal.TheVariants.{Memory, Store, NoUser, AccountClosed, TooLarge, BadEnvelope, BadMoment}
-use Rattle.sieveexec.specs.declared.envelope.Envelope.{Envelope}
+use Rattle.store_accounts.specs.Account.{Account, Accounts, open_account_of, is_removed}
+use Rattle.store_accounts.specs.declared.refusal.Refusal.{Refusal}
+use Rattle.store_accounts.specs.declared.refusal.Refusal.TheVariants.{Memory, Store, NoUser, AccountClosed, TooLarge, BadEnvelope, BadMoment}
+use Rattle.sieve_exec.specs.declared.envelope.Envelope.{Envelope}
 use Rattle.sqlite.specs.declared.error.ErrorCode.{ErrorCode}
-use Rattle.mailengine.specs.AccountEvents.{absence, DeliversIn, DeliversUnder}
-use Rattle.mailengine.specs.Hosts.{Kept}
-use Rattle.mailengine.specs.Limits.{limit_refusal}
-use Rattle.mailengine.specs.World.{World, Next, MayRefuse}
-use Rattle.mailengine.specs.declared.answer.Answer.{Answer}
-use Rattle.mailengine.specs.declared.answer.Answer.TheVariants.{Refused}
-use Rattle.mailengine.specs.declared.event.Event.{Event}
-use Rattle.mailengine.specs.declared.event.Event.TheVariants.{Deliver}
-use Rattle.mailposts.specs.declared.demand.Parcel.{Parcel}
-use Rattle.sieveddaemon.specs.Desk.{View, IsDone, delivery_of}
-use Rattle.daemonhosts.specs.Events.{is_full}
-use Rattle.daemonhosts.specs.Held.{lacking, told_by, IsToldAs}
-use Rattle.sieveexec.specs.declared.when.When.{When}
-use Rattle.mailengine.specs.Terms.{Terms, terms}
+use Rattle.store_engine.specs.AccountEvents.{absence, DeliversIn, DeliversUnder}
+use Rattle.store_engine.specs.Hosts.{SessionMap}
+use Rattle.store_engine.specs.Limits.{limit_refusal}
+use Rattle.store_engine.specs.World.{World, Next, MayRefuseEvent}
+use Rattle.store_engine.specs.declared.answer.Answer.{Answer}
+use Rattle.store_engine.specs.declared.answer.Answer.TheVariants.{Refused}
+use Rattle.store_engine.specs.declared.event.Event.{Event}
+use Rattle.store_engine.specs.declared.event.Event.TheVariants.{Deliver}
+use Rattle.lmtp_connections.specs.declared.demand.StoreDelivery.{StoreDelivery}
+use Rattle.daemon_core.specs.StoreAccess.{View, IsEventDone, delivery_of}
+use Rattle.daemon_host.specs.Events.{is_full}
+use Rattle.daemon_host.specs.Held.{lacking, answer_told, IsToldAs}
+use Rattle.sieve_exec.specs.declared.when.When.{When}
+use Rattle.store_engine.specs.Terms.{Terms, terms}
 
 -- no cause that is seen is the store's
 abbrev is_seen : Refusal → Bool
@@ -51,17 +51,17 @@ module _ (accounts later : Accounts) (user : List ℕ) (terms : Terms) (envelope
   never_in (Some a) it = let is = it.reported in let no : ⊥ = cc in absurd no
 
   never_under : (o : Option Refusal) → ((e : Refusal) → o ≡ Some e → is_seen e ≡ true) → DeliversUnder o accounts user terms envelope message (Refused Store) later → C
-  never_under None seen it = never_in (open_of accounts user) it
+  never_under None seen it = never_in (open_account_of accounts user) it
   never_under (Some e) seen it = of_store e (seen e refl) it.refused
 
 lacks_next : (w next : World) (user : List ℕ) (when : When) (default : Option (List ℕ)) (envelope : Envelope) (message : List ℕ) → Next w (Deliver user envelope message when default) (Refused Store) next → Next w (Deliver user envelope message when default) (Refused Memory) next
 lacks_next w next user when default envelope message (inl made) = never_under w.accounts made.0 user (terms when default) envelope message (limit_refusal envelope message when.moment) (limit_seen envelope message when.moment) made.1
 lacks_next w next user when default envelope message (inr refused) =
     let same : refused.refusal ≡ Store = let is = refused.refused in cc in
-    inr (record { refusal = Memory; may = subst (λ r. MayRefuse w (Deliver user envelope message when default) r) same refused.may; refused = refl; stays = refused.stays })
+    inr (record { refusal = Memory; may = subst (λ r. MayRefuseEvent w (Deliver user envelope message when default) r) same refused.may; refused = refl; stays = refused.stays })
 
 -- so what is told of it is an answer to the same event
-lacking_done : {R : Type 0} (view : View R) (parcel : Parcel) (terms : Terms) (r q : R) (kept : Kept) → IsDone view [] (delivery_of parcel terms) (Refused Store) r kept q kept → IsDone view [] (delivery_of parcel terms) (Refused Memory) r kept q kept
+lacking_done : {R : Type 0} (view : View R) (parcel : StoreDelivery) (terms : Terms) (r q : R) (kept : SessionMap) → IsEventDone view [] (delivery_of parcel terms) (Refused Store) r kept q kept → IsEventDone view [] (delivery_of parcel terms) (Refused Memory) r kept q kept
 lacking_done view parcel terms r q kept done = λ w at.
     let it = done w at in
     let own : Envelope = record { from = parcel.sender; to = parcel.recipient } in (
@@ -77,21 +77,21 @@ lacking_done view parcel terms r q kept done = λ w at.
       record { is = it.2.is; left = it.2.left },
     )
 
-refused_done : {R : Type 0} (view : View R) (parcel : Parcel) (terms : Terms) (refusal : Refusal) (r q : R) (kept : Kept) → IsDone view [] (delivery_of parcel terms) (Refused refusal) r kept q kept
-    → IsDone view [] (delivery_of parcel terms) (lacking (Refused refusal)) r kept q kept
+refused_done : {R : Type 0} (view : View R) (parcel : StoreDelivery) (terms : Terms) (refusal : Refusal) (r q : R) (kept : SessionMap) → IsEventDone view [] (delivery_of parcel terms) (Refused refusal) r kept q kept
+    → IsEventDone view [] (delivery_of parcel terms) (lacking (Refused refusal)) r kept q kept
 refused_done view parcel terms Store r q kept done = lacking_done view parcel terms r q kept done
 refused_done view parcel terms _ r q kept done = done
 
-lacking_by : {R : Type 0} (view : View R) (parcel : Parcel) (terms : Terms) (answer : Answer) (r q : R) (kept : Kept) → IsDone view [] (delivery_of parcel terms) answer r kept q kept → IsDone view [] (delivery_of parcel terms) (lacking answer) r kept q kept
+lacking_by : {R : Type 0} (view : View R) (parcel : StoreDelivery) (terms : Terms) (answer : Answer) (r q : R) (kept : SessionMap) → IsEventDone view [] (delivery_of parcel terms) answer r kept q kept → IsEventDone view [] (delivery_of parcel terms) (lacking answer) r kept q kept
 lacking_by view parcel terms (Refused refusal) r q kept done = refused_done view parcel terms refusal r q kept done
 lacking_by view parcel terms _ r q kept done = done
 
-told_so : {R : Type 0} (view : View R) (parcel : Parcel) (terms : Terms) (full : Bool) (answer : Answer) (r q : R) (kept : Kept) → IsDone view [] (delivery_of parcel terms) answer r kept q kept
-    → IsDone view [] (delivery_of parcel terms) (told_by full answer) r kept q kept
+told_so : {R : Type 0} (view : View R) (parcel : StoreDelivery) (terms : Terms) (full : Bool) (answer : Answer) (r q : R) (kept : SessionMap) → IsEventDone view [] (delivery_of parcel terms) answer r kept q kept
+    → IsEventDone view [] (delivery_of parcel terms) (answer_told full answer) r kept q kept
 told_so view parcel terms true answer r q kept done = lacking_by view parcel terms answer r q kept done
 told_so view parcel terms false answer r q kept done = done
 
-pub told_done : {R : Type 0} (view : View R) (parcel : Parcel) (terms : Terms) (answer told : Answer) (code : Option ErrorCode) (r q : R) (kept : Kept) → IsToldAs answer code told
-    → IsDone view [] (delivery_of parcel terms) answer r kept q kept → IsDone view [] (delivery_of parcel terms) told r kept q kept
+pub told_done : {R : Type 0} (view : View R) (parcel : StoreDelivery) (terms : Terms) (answer told : Answer) (code : Option ErrorCode) (r q : R) (kept : SessionMap) → IsToldAs answer code told
+    → IsEventDone view [] (delivery_of parcel terms) answer r kept q kept → IsEventDone view [] (delivery_of parcel terms) told r kept q kept
 told_done view parcel terms answer told code r q kept is done =
-    subst (λ a. IsDone view [] (delivery_of parcel terms) a r kept q kept) (sym is) (told_so view parcel terms (is_full code) answer r q kept done)
+    subst (λ a. IsEventDone view [] (delivery_of parcel terms) a r kept q kept) (sym is) (told_so view parcel terms (is_full code) answer r q kept done)

@@ -1,33 +1,33 @@
 -- What is noted of what happened.
 use Rattle.std.specs.Prelude.{◌+◌, ◌||◌, ℕ, min, not, Bool, true, false, Option, Some}
-use Rattle.lmtp.specs.declared.receiver.Lookup.{Lookup}
-use Rattle.lmtp.specs.declared.receiver.Lookup.TheVariants.{Fault}
-use Rattle.mailengine.specs.declared.answer.Answer.{Answer}
-use Rattle.mailengine.specs.declared.answer.Answer.TheVariants.{Refused}
+use Rattle.lmtp_dialogue.specs.declared.receiver.Lookup.{Lookup}
+use Rattle.lmtp_dialogue.specs.declared.receiver.Lookup.TheVariants.{Fault}
+use Rattle.store_engine.specs.declared.answer.Answer.{Answer}
+use Rattle.store_engine.specs.declared.answer.Answer.TheVariants.{Refused}
 use Rattle.sqlite.specs.declared.error.ErrorCode.{ErrorCode}
 use Rattle.sqlite.specs.declared.error.ErrorCode.TheVariants.{DiskFull}
-use Rattle.daemonhosts.specs.Log.{is_store_fault}
-use Rattle.loglines.specs.declared.tally.Counts.{Counts}
+use Rattle.daemon_host.specs.Log.{is_store_fault}
+use Rattle.daemon_log.specs.declared.tally.EventCounts.{EventCounts}
 
 -- once more, up to the greatest number of 64 bits
 abbrev pub more : ℕ → ℕ
 more times = min (times + 1) 18446744073709551615
 
 -- a message that was filed, or refused
-abbrev pub counted : Bool → Counts → Counts
-counted true c = record c { delivered = more c.delivered }
-counted false c = record c { refused = more c.refused }
+abbrev pub with_delivery : Bool → EventCounts → EventCounts
+with_delivery true c = record c { delivered = more c.delivered }
+with_delivery false c = record c { refused = more c.refused }
 
 -- a message that moved on, if it did
-abbrev pub moved_by : Bool → Counts → Counts
+abbrev pub moved_by : Bool → EventCounts → EventCounts
 moved_by true c = record c { moved = more c.moved }
 moved_by false c = c
 
 -- a command that was answered, and a login that failed
-abbrev pub with_command : Counts → Counts
+abbrev pub with_command : EventCounts → EventCounts
 with_command c = record c { commands = more c.commands }
 
-abbrev pub with_failed_login : Counts → Counts
+abbrev pub with_failed_login : EventCounts → EventCounts
 with_failed_login c = record c { logins_failed = more c.logins_failed }
 
 -- ---- whether the store failed, and is to be given back

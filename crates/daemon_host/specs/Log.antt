@@ -1,24 +1,24 @@
 -- What the daemon writes of what happened, a line each.
 use Rattle.std.specs.Prelude.{◌≡◌, ℕ, Bool, true, false, if◌then◌else◌, List, [], ◌∷◌, ◌++◌, Option, Some, None, codes, decimal}
-use Rattle.loglines.specs.Lines.{Pair, pair, line_of}
-use Rattle.mailengine.specs.declared.answer.Answer.{Answer}
-use Rattle.mailengine.specs.declared.answer.Answer.TheVariants.{Delivered, MailTaken, Refused}
-use Rattle.mailmoves.specs.declared.moving.Moving.{Moving}
-use Rattle.mailmoves.specs.declared.moving.Moving.TheVariants.{Stays, Kept, Failed}
-use Rattle.mailmoves.specs.declared.moving.Stay.{Stay}
-use Rattle.mailmoves.specs.declared.moving.Why.{Why}
-use Rattle.mailmoves.specs.declared.moving.Why.TheVariants.{Name, Gone, Store as InStore, Sink as InSink}
-use Rattle.mailposts.specs.declared.demand.Parcel.{Parcel}
-use Rattle.mailsinks.specs.declared.kept.KeptMail.{KeptMail}
-use Rattle.mailsinks.specs.declared.sink.SinkError.TheVariants.{Memory as NoMemory}
-use Rattle.mailstore.specs.declared.refusal.Refusal.{Refusal}
-use Rattle.mailstore.specs.declared.refusal.Refusal.TheVariants.{Memory, Store, NoUser, TooLarge, BadEnvelope}
+use Rattle.daemon_log.specs.Lines.{Pair, pair, log_line_of}
+use Rattle.store_engine.specs.declared.answer.Answer.{Answer}
+use Rattle.store_engine.specs.declared.answer.Answer.TheVariants.{Delivered, MailTaken, Refused}
+use Rattle.maildir_moves.specs.declared.moving.Moving.{Moving}
+use Rattle.maildir_moves.specs.declared.moving.Moving.TheVariants.{Stays, Kept, Failed}
+use Rattle.maildir_moves.specs.declared.moving.Stay.{Stay}
+use Rattle.maildir_moves.specs.declared.moving.StayReason.{StayReason}
+use Rattle.maildir_moves.specs.declared.moving.StayReason.TheVariants.{Name, Gone, Store as InStore, Sink as InSink}
+use Rattle.lmtp_connections.specs.declared.demand.StoreDelivery.{StoreDelivery}
+use Rattle.maildir_files.specs.declared.kept.KeptMail.{KeptMail}
+use Rattle.maildir_files.specs.declared.sink.SinkError.TheVariants.{Memory as NoMemory}
+use Rattle.store_accounts.specs.declared.refusal.Refusal.{Refusal}
+use Rattle.store_accounts.specs.declared.refusal.Refusal.TheVariants.{Memory, Store, NoUser, TooLarge, BadEnvelope}
 
 -- ---- a message that was to be delivered
 
-abbrev pub word_of : Answer → List ℕ
-word_of (Delivered report) = codes "delivered"
-word_of _ = codes "refused"
+abbrev pub delivery_word : Answer → List ℕ
+delivery_word (Delivered report) = codes "delivered"
+delivery_word _ = codes "refused"
 
 abbrev pub why_by : Refusal → List ℕ
 why_by NoUser = codes "user"
@@ -31,9 +31,9 @@ abbrev pub why_pairs : Answer → List Pair
 why_pairs (Refused refusal) = pair (codes "why") (why_by refusal) ∷ []
 why_pairs _ = []
 
-abbrev pub delivery_line : Parcel → Answer → List ℕ
+abbrev pub delivery_line : StoreDelivery → Answer → List ℕ
 delivery_line parcel answer =
-    line_of (word_of answer) (pair (codes "user") parcel.user ∷ pair (codes "from") parcel.sender ∷ pair (codes "to") parcel.recipient ∷ why_pairs answer)
+    log_line_of (delivery_word answer) (pair (codes "user") parcel.user ∷ pair (codes "from") parcel.sender ∷ pair (codes "to") parcel.recipient ∷ why_pairs answer)
 
 -- ---- what took long
 
@@ -42,23 +42,23 @@ user_pairs (Some user) = pair (codes "user") user ∷ []
 user_pairs None = []
 
 abbrev pub slow_line : List ℕ → Option (List ℕ) → ℕ → List ℕ
-slow_line what user millis = line_of (codes "slow") (pair (codes "what") what ∷ (user_pairs user ++ pair (codes "ms") (decimal millis) ∷ []))
+slow_line what user millis = log_line_of (codes "slow") (pair (codes "what") what ∷ (user_pairs user ++ pair (codes "ms") (decimal millis) ∷ []))
 
 -- whether it was filed
-abbrev pub is_filed : Answer → Bool
-is_filed (Delivered report) = true
-is_filed _ = false
+abbrev pub is_delivered_answer : Answer → Bool
+is_delivered_answer (Delivered report) = true
+is_delivered_answer _ = false
 
 -- ---- a message that moves on
 
 abbrev pub moved_line : KeptMail → List ℕ
-moved_line mail = line_of (codes "moved") (pair (codes "user") mail.user ∷ pair (codes "folder") mail.folder ∷ pair (codes "number") (decimal mail.number) ∷ [])
+moved_line mail = log_line_of (codes "moved") (pair (codes "user") mail.user ∷ pair (codes "folder") mail.folder ∷ pair (codes "number") (decimal mail.number) ∷ [])
 
 abbrev pub stay_line : List ℕ → List ℕ → List ℕ → List ℕ
-stay_line user folder why = line_of (codes "stays") (pair (codes "user") user ∷ pair (codes "folder") folder ∷ pair (codes "why") why ∷ [])
+stay_line user folder why = log_line_of (codes "stays") (pair (codes "user") user ∷ pair (codes "folder") folder ∷ pair (codes "why") why ∷ [])
 
 -- why it stays; of a fault of the sink that isn't memory any text
-abbrev pub IsWhy : Why → List ℕ → Type 0
+abbrev pub IsWhy : StayReason → List ℕ → Type 0
 IsWhy Name why = why ≡ codes "name"
 IsWhy Gone why = why ≡ codes "gone"
 IsWhy (InStore Memory) why = why ≡ codes "memory"
@@ -80,15 +80,15 @@ abbrev pub is_store_fault : Refusal → Bool
 is_store_fault Store = true
 is_store_fault _ = false
 
-abbrev pub is_fault_of_store : Why → Bool
+abbrev pub is_fault_of_store : StayReason → Bool
 is_fault_of_store (InStore refusal) = is_store_fault refusal
 is_fault_of_store why = false
 
-abbrev pub store_failed : Moving → Bool
-store_failed (Failed refusal) = is_store_fault refusal
-store_failed (Kept mail (Refused refusal)) = is_store_fault refusal
-store_failed (Stays stay) = is_fault_of_store stay.why
-store_failed _ = false
+abbrev pub moving_failed_store : Moving → Bool
+moving_failed_store (Failed refusal) = is_store_fault refusal
+moving_failed_store (Kept mail (Refused refusal)) = is_store_fault refusal
+moving_failed_store (Stays stay) = is_fault_of_store stay.why
+moving_failed_store _ = false
 
 -- that is told once, if its folder hadn't failed before
 abbrev pub IsStayBy : Bool → Stay → List ℕ → Type 0
@@ -105,5 +105,5 @@ IsMovingLine _ quiet line = line ≡ []
 
 -- ---- the first line
 
-abbrev pub first_line : List ℕ → ℕ → List ℕ
-first_line version pid = line_of (codes "begins") (pair (codes "version") version ∷ pair (codes "pid") (decimal pid) ∷ [])
+abbrev pub log_first_line : List ℕ → ℕ → List ℕ
+log_first_line version pid = log_line_of (codes "begins") (pair (codes "version") version ∷ pair (codes "pid") (decimal pid) ∷ [])

@@ -30,5 +30,5 @@ Joins id ids later =
     (later ≡ (if list_any (λ n. n == id) ids then ids else ids ++ id ∷ [])) ⊎ (later ≡ ids)
 
 -- when it asked is known, and all else stays; nothing changes if memory was lacking
-abbrev pub Asks : ℕ → ℕ → tree.BTreeMap ℕ ℕ → tree.BTreeMap ℕ ℕ → Type 0
-Asks id now asked later = tree.Updates nat_cmp asked later id (Some now) ⊎ tree.IsUnchanged asked later
+abbrev pub NotesAsking : ℕ → ℕ → tree.BTreeMap ℕ ℕ → tree.BTreeMap ℕ ℕ → Type 0
+NotesAsking id now asked later = tree.Updates nat_cmp asked later id (Some now) ⊎ tree.IsUnchanged asked later

@@ -1,33 +1,33 @@
 //! The outside of the daemon, over the system.
 ghost use Rattle.std.specs.Prelude.{◌≡◌, ℕ, [], ◌∷◌, ◌++◌, true, false, None, IsTrue, IfSome};
-ghost use Rattle.mailposts.specs.Posts.{IsFound};
-ghost use Rattle.mailengine.specs.Hosts.{IsGivenUp, Kept};
-ghost use Rattle.mailengine.specs.Terms.{terms};
-ghost use Rattle.mailstore.specs.Cells.{contents};
-ghost use Rattle.sieveexec.specs.declared.when.When.{When};
-ghost use Rattle.sieveddaemon.specs.Desk.{delivery_of};
-ghost use Rattle.wires.specs.Told.{IsOwn};
-ghost use Rattle.daemonhosts.specs.Events as events;
-ghost use Rattle.daemonhosts.specs.Held as held;
-ghost use Rattle.daemonhosts.specs.Held.{view_of, IsClean, StillShown, Brings, Goes, HasMail, IsToldAs, Seeks};
-ghost use Rattle.sieveddaemon.specs.Moves.{HasKept};
+ghost use Rattle.lmtp_connections.specs.Connections.{IsFinding};
+ghost use Rattle.store_engine.specs.Hosts.{IsGivenUp, SessionMap};
+ghost use Rattle.store_engine.specs.Terms.{terms};
+ghost use Rattle.store_accounts.specs.Cells.{borrowed_octets};
+ghost use Rattle.sieve_exec.specs.declared.when.When.{When};
+ghost use Rattle.daemon_core.specs.StoreAccess.{delivery_of};
+ghost use Rattle.net_loop.specs.Told.{IsLoopAct};
+ghost use Rattle.daemon_host.specs.Events as events;
+ghost use Rattle.daemon_host.specs.Held as held;
+ghost use Rattle.daemon_host.specs.Held.{host_view, IsClean, StillShown, HostBrings, HostMovesNext, SinkHasMail, IsToldAs, Seeks};
+ghost use Rattle.daemon_core.specs.Moves.{HasKept};
 
-use crate::held::HeldStore;
-use crate::news::News;
-use crate::queue::Queue;
-use hostzones::HostZone;
-use keepers::{Keeper, Unavailable};
-use lmtp::Lookup;
-use mailengine::{Answer, Clients, Event, Refusal};
-use mailmoves::{Moving, Route, span_behind};
-use mailposts::Parcel;
-use mailsinks::MailSink;
+use crate::host_store::HostStore;
+use crate::host_log::HostLog;
+use crate::store_turns::StoreTurns;
+use mail_dates::HostZone;
+use store_lock::{Keeper, StoreUnavailable};
+use lmtp_dialogue::Lookup;
+use store_engine::{Answer, Clients, Event, Refusal};
+use maildir_moves::{Moving, Route, span_behind};
+use lmtp_connections::StoreDelivery;
+use maildir_files::MailSink;
 use octets::Octets;
-use sieveddaemon::LMTP;
-use sieveddaemon::desk::Desk;
-use sieveddaemon::note::Note;
-use sievedrun::trouble::Trouble;
-use sieveexec::When;
+use daemon_core::LMTP;
+use daemon_core::store_access::StoreAccess;
+use daemon_core::note::Note;
+use cli_run::fault_with_cause::FaultWithCause;
+use sieve_exec::When;
 use sqlite::ErrorCode;
 use std::alloc::Global;
 use std::collections::VecDeque;
@@ -36,11 +36,11 @@ use std::mem::take;
 use std::net::Net;
 use std::time;
 use std::time::{Instant, SystemTime};
-use systemsockets::SystemSockets;
-use timeshares::{Account, Turns};
-use wires::act::Act;
-use wires::outcome::{self, Accepted, Input, Output, Wake};
-use wires::outside::{Clock, Outside, Sockets};
+use net_sockets::SystemSockets;
+use net_shares::{TimeAccount, Scheduler};
+use net_loop::act::Act;
+use net_loop::outcome::{self, Accepted, Input, Output, Wake};
+use net_loop::outside::{Clock, Outside, Sockets};
 
 /// After a step of more than this many microseconds another connection has its turn.
 const MAX_STEP: u64 = 5_000;
@@ -60,7 +60,7 @@ pub struct Host<'a, N: Net + time::Clock, E: Write + Drop, K: Keeper + Drop, T: 
     sockets: SystemSockets<'a, N>,
     /// A wait has failed.
     broken: bool,
-    held: HeldStore<K, T>,
+    held: HostStore<K, T>,
     /// Where mail moves on to, if it does.
     route: Option<Route>,
     path: &'a str,
@@ -69,16 +69,16 @@ pub struct Host<'a, N: Net + time::Clock, E: Write + Drop, K: Keeper + Drop, T: 
     /// The text of the script for accounts without an active one.
     default: Option<Octets>,
     /// Which connections wait for the store.
-    queue: Queue,
+    queue: StoreTurns,
     /// The moment at which nobody waited for it, if that was so when it was last looked.
     looked: Option<u64>,
     /// Who had how much of the time, and who waits behind the others for it.
-    turns: Turns,
+    turns: Scheduler,
     /// When the current act began, if the clock could be read.
     begun: Option<Instant>,
     /// The last step took long.
     long: bool,
-    news: News<E>,
+    news: HostLog<E>,
 }
 
 impl<'a, N: Net + time::Clock, E: Write + Drop, K: Keeper + Drop, T: MailSink + Drop> Host<
@@ -109,17 +109,17 @@ impl<'a, N: Net + time::Clock, E: Write + Drop, K: Keeper + Drop, T: MailSink + 
             system,
             sockets,
             broken: false,
-            held: HeldStore::new(keeper, sink),
+            held: HostStore::new(keeper, sink),
             route,
             path,
             zone,
             default,
-            queue: Queue::new(alloc),
+            queue: StoreTurns::new(alloc),
             looked: None,
-            turns: Turns::new(alloc),
+            turns: Scheduler::new(alloc),
             begun: None,
             long: false,
-            news: News::new(alloc, errors, quiet),
+            news: HostLog::new(alloc, errors, quiet),
         }
     }
 
@@ -129,7 +129,7 @@ impl<'a, N: Net + time::Clock, E: Write + Drop, K: Keeper + Drop, T: MailSink + 
     }
 
     /// Tells of trouble that ends the daemon, and gives its exit status.
-    pub fn refuse(&mut self, trouble: Trouble) -> u8 {
+    pub fn refuse(&mut self, trouble: FaultWithCause) -> u8 {
         self.news.refuse(trouble)
     }
 
@@ -142,7 +142,7 @@ impl<'a, N: Net + time::Clock, E: Write + Drop, K: Keeper + Drop, T: MailSink + 
     }
 
     /// Ends an act of a connection, of that kind and for that account; the next one begins.
-    fn end_act(&mut self, id: u32, account: Account, what: &[u8])
+    fn end_act(&mut self, id: u32, account: TimeAccount, what: &[u8])
         ensures same { self.new.held ≡ self.old.held }
         ensures default { self.new.default ≡ self.old.default }
     {
@@ -164,7 +164,7 @@ impl<'a, N: Net + time::Clock, E: Write + Drop, K: Keeper + Drop, T: MailSink + 
         ensures default { self.new.default ≡ self.old.default }
     {
         if let Ok(name) = Octets::from_slice(self.alloc, user) {
-            self.end_act(id, Account::User(name), what);
+            self.end_act(id, TimeAccount::User(name), what);
         }
     }
 
@@ -175,7 +175,7 @@ impl<'a, N: Net + time::Clock, E: Write + Drop, K: Keeper + Drop, T: MailSink + 
     {
         let account = match self.turns.account(id) {
             Some(account) => account.try_clone(self.alloc),
-            None => Ok(Account::Guests),
+            None => Ok(TimeAccount::Guests),
         };
         if let Ok(account) = account {
             self.end_act(id, account, b"command");
@@ -189,7 +189,7 @@ impl<'a, N: Net + time::Clock, E: Write + Drop, K: Keeper + Drop, T: MailSink + 
     {
         match user_of(clients, id) {
             Some(user) => self.end_act_of(id, user, b"command"),
-            None => self.end_act(id, Account::Guests, b"command"),
+            None => self.end_act(id, TimeAccount::Guests, b"command"),
         }
     }
 
@@ -218,7 +218,7 @@ impl<'a, N: Net + time::Clock, E: Write + Drop, K: Keeper + Drop, T: MailSink + 
         ensures default { self.new.default ≡ self.old.default }
     {
         let now = self.sockets.now();
-        if self.held.is_had() && self.looked == Some(now) {
+        if self.held.has_store() && self.looked == Some(now) {
             return false;
         }
         let awaited = self.held.is_awaited(self.path);
@@ -236,7 +236,7 @@ impl<'a, N: Net + time::Clock, E: Write + Drop, K: Keeper + Drop, T: MailSink + 
     /// Applies an event to the store, if that may be asked and is available.
     fn try_apply_event(&mut self, id: u32, clients: &mut Clients, event: &Event) -> Option<Answer>
         requires { ¬ IsGivenUp event.now }
-        ensures { Brings K.S.Store K.tells K.holds event.now result self.old.held clients.old.sessions self.new.held clients.new.sessions }
+        ensures { HostBrings K.S.Store K.tells K.holds event.now result self.old.held clients.old.sessions self.new.held clients.new.sessions }
     {
         if !self.may_ask(id) {
             return None;
@@ -251,7 +251,7 @@ impl<'a, N: Net + time::Clock, E: Write + Drop, K: Keeper + Drop, T: MailSink + 
         self.news.note_answer(&answer, self.held.code());
         note_time(&mut self.news, self.system, begun);
         let kept = self.is_kept();
-        Some(answered(answer, kept, is_guest, later))
+        Some(answer_if_kept(answer, kept, is_guest, later))
     }
 
     /// Whether the store is held, and the file at the path is another one, or none. That is told.
@@ -259,7 +259,7 @@ impl<'a, N: Net + time::Clock, E: Write + Drop, K: Keeper + Drop, T: MailSink + 
         ensures same { self.new.held ≡ self.old.held }
         ensures lost { result ≡ true → ¬ IsTrue K.tells }
     {
-        if !self.held.is_had() || self.held.is_there(self.path) {
+        if !self.held.has_store() || self.held.is_there(self.path) {
             return false;
         }
         self.news.note_lost();
@@ -279,8 +279,8 @@ impl<'a, N: Net + time::Clock, E: Write + Drop, K: Keeper + Drop, T: MailSink + 
     }
 
     /// Looks for an account, if the store may be asked and is available.
-    fn seek(&mut self, id: u32, user: &[u8]) -> Option<Lookup>
-        ensures found { IfSome result IsFound }
+    fn try_find_account(&mut self, id: u32, user: &[u8]) -> Option<Lookup>
+        ensures found { IfSome result IsFinding }
         ensures seeks { Seeks K.S.Store K.tells K.holds user.now result self.old.held self.new.held }
     {
         if !self.may_ask(id) {
@@ -290,12 +290,12 @@ impl<'a, N: Net + time::Clock, E: Write + Drop, K: Keeper + Drop, T: MailSink + 
         let lookup = self.held.find_account(user)?;
         self.news.note_lookup(lookup, self.held.code());
         let kept = self.is_kept();
-        Some(found(lookup, kept))
+        Some(lookup_if_kept(lookup, kept))
     }
 
     /// Delivers a message at the moment that the clock shows, if the store may be asked and is available.
-    fn try_deliver(&mut self, id: u32, parcel: &Parcel) -> Option<Answer>
-        ensures { (when : When) × ((kept : Kept) → Brings K.S.Store K.tells K.holds (delivery_of parcel.now (terms when self.old.default)) result
+    fn try_deliver(&mut self, id: u32, parcel: &StoreDelivery) -> Option<Answer>
+        ensures { (when : When) × ((kept : SessionMap) → HostBrings K.S.Store K.tells K.holds (delivery_of parcel.now (terms when self.old.default)) result
             self.old.held kept self.new.held kept) }
     {
         let when = when_in(self.system, &self.zone);
@@ -321,7 +321,7 @@ impl<'a, N: Net + time::Clock, E: Write + Drop, K: Keeper + Drop, T: MailSink + 
     /// Tells of a delivery, which is refused if it is no longer in the file at the path.
     fn tell_delivery(
         &mut self,
-        parcel: &Parcel,
+        parcel: &StoreDelivery,
         answer: Answer,
         code: Option<ErrorCode>,
         kept: bool,
@@ -333,20 +333,20 @@ impl<'a, N: Net + time::Clock, E: Write + Drop, K: Keeper + Drop, T: MailSink + 
             return self.news.refuse_delivery(parcel);
         }
         self.news.note_delivery(parcel, &answer, code);
-        told_as(answer, code)
+        tell_answer(answer, code)
     }
 
     /// Has a message move on, if the store may be asked and is available.
-    fn carry_on(&mut self, now: u64, fresh: bool) -> Option<Moving>
-        ensures moves { Goes K.S.Store K.tells K.holds result self.old.held self.new.held }
-        ensures keeps { IfSome result (λ moving. HasKept (HasMail T.tells T.kept) moving self.old.held self.new.held) }
+    fn try_move_next(&mut self, now: u64, fresh: bool) -> Option<Moving>
+        ensures moves { HostMovesNext K.S.Store K.tells K.holds result self.old.held self.new.held }
+        ensures keeps { IfSome result (λ moving. HasKept (SinkHasMail T.tells T.kept) moving self.old.held self.new.held) }
     {
         if !self.may_move() {
             return None;
         }
-        let fresh = fresh || !self.held.is_had();
+        let fresh = fresh || !self.held.has_store();
         self.reach();
-        let moving = self.go_on(now, fresh)?;
+        let moving = self.move_next_on_route(now, fresh)?;
         self.news
             .note_moving(&moving, self.held.code(), self.held.sink_cause());
         let _ = self.is_kept();
@@ -362,14 +362,14 @@ impl<'a, N: Net + time::Clock, E: Write + Drop, K: Keeper + Drop, T: MailSink + 
     }
 
     /// Has a message move on, if mail does, and the store is held.
-    fn go_on(&mut self, now: u64, fresh: bool) -> Option<Moving>
-        ensures moves { Goes K.S.Store K.tells K.holds result self.old.held self.new.held }
-        ensures keeps { IfSome result (λ moving. HasKept (HasMail T.tells T.kept) moving self.old.held self.new.held) }
+    fn move_next_on_route(&mut self, now: u64, fresh: bool) -> Option<Moving>
+        ensures moves { HostMovesNext K.S.Store K.tells K.holds result self.old.held self.new.held }
+        ensures keeps { IfSome result (λ moving. HasKept (SinkHasMail T.tells T.kept) moving self.old.held self.new.held) }
     {
         let Some(route) = &mut self.route else {
             return None;
         };
-        self.held.move_on(route, now, fresh)
+        self.held.move_next(route, now, fresh)
     }
 
     /// Takes the store, if it isn't held and isn't left alone.
@@ -378,13 +378,13 @@ impl<'a, N: Net + time::Clock, E: Write + Drop, K: Keeper + Drop, T: MailSink + 
         ensures sink { self.new.held.sink ≡ self.old.held.sink }
         ensures default { self.new.default ≡ self.old.default }
     {
-        if self.held.is_had() || self.news.lasts(self.sockets.now()) {
+        if self.held.has_store() || self.news.lasts(self.sockets.now()) {
             return;
         }
         match self.held.take(self.path) {
             Ok(()) => self.news.note_taken(),
-            Err(Unavailable::Busy) => {}
-            Err(Unavailable::Refused(refusal)) => {
+            Err(StoreUnavailable::Busy) => {}
+            Err(StoreUnavailable::Refused(refusal)) => {
                 let now = self.sockets.now();
                 self.news.leave_alone(refusal, self.held.cause(), now)
             }
@@ -404,11 +404,11 @@ impl<'a, N: Net + time::Clock, E: Write + Drop, K: Keeper + Drop, T: MailSink + 
 }
 
 /// For whom the first acts of a connection of that kind are.
-fn account_of(kind: u32) -> Account {
+fn account_of(kind: u32) -> TimeAccount {
     if kind == LMTP {
-        Account::Senders
+        TimeAccount::Senders
     } else {
-        Account::Guests
+        TimeAccount::Guests
     }
 }
 
@@ -422,7 +422,7 @@ fn user_of(clients: &Clients, id: u32) -> Option<&[u8]> {
 
 /// The answer to a command, as it is told. If it is no longer in the file at the path, a user is to try later; what a guest was told of
 /// a login isn't in any.
-fn answered(answer: Answer, kept: bool, is_guest: bool, later: Octets) -> Answer
+fn answer_if_kept(answer: Answer, kept: bool, is_guest: bool, later: Octets) -> Answer
     ensures { kept ≡ true → result ≡ answer }
 {
     if kept || is_guest {
@@ -435,15 +435,15 @@ fn answered(answer: Answer, kept: bool, is_guest: bool, later: Octets) -> Answer
 }
 
 /// What was found of an account, as it is told: a fault, if that is no longer in the file at the path.
-fn found(lookup: Lookup, kept: bool) -> Lookup
+fn lookup_if_kept(lookup: Lookup, kept: bool) -> Lookup
     ensures same { kept ≡ true → result ≡ lookup }
-    ensures found { IsFound lookup → IsFound result }
+    ensures found { IsFinding lookup → IsFinding result }
 {
     if kept { lookup } else { Lookup::Fault }
 }
 
 /// The answer to a delivery, as it is told: of a store whose disk is full as of one that lacks memory.
-fn told_as(answer: Answer, code: Option<ErrorCode>) -> Answer
+fn tell_answer(answer: Answer, code: Option<ErrorCode>) -> Answer
     ensures { IsToldAs answer code result }
 {
     if is_full(code) {
@@ -480,7 +480,7 @@ fn start<C: time::Clock>(clock: &C) -> Option<Instant> {
 
 /// Notes how long an event took that began then.
 fn note_time<C: time::Clock, E: Write + Drop>(
-    news: &mut News<E>,
+    news: &mut HostLog<E>,
     clock: &C,
     begun: Option<Instant>,
 ) {
@@ -506,7 +506,7 @@ fn when_in<C: time::Clock>(clock: &C, zone: &HostZone) -> When {
 
 /// The text's octets, if there is one.
 fn slice_of(text: &Option<Octets>) -> Option<&[u8]>
-    ensures { contents result ≡ text.now }
+    ensures { borrowed_octets result ≡ text.now }
 {
     match text {
         Some(text) => Some(text.as_slice()),
@@ -529,7 +529,7 @@ impl<N: Net + time::Clock, E: Write + Drop, K: Keeper + Drop, T: MailSink + Drop
     for Host<'_, N, E, K, T> {
     type Note = Note;
 
-    type Rest = HeldStore<K, T>;
+    type Rest = HostStore<K, T>;
 
     ghost tells = { λ _. false };
 
@@ -543,7 +543,7 @@ impl<N: Net + time::Clock, E: Write + Drop, K: Keeper + Drop, T: MailSink + Drop
 
 impl<N: Net + time::Clock, E: Write + Drop, K: Keeper + Drop, T: MailSink + Drop> Sockets
     for Host<'_, N, E, K, T> {
-    fn wait(&mut self, within: u32, ready: &mut VecDeque<Wake>) -> Result<(), outcome::Fault> {
+    fn wait(&mut self, within: u32, ready: &mut VecDeque<Wake>) -> Result<(), outcome::WaitError> {
         let now = self.sockets.now();
         self.news.tell_status(now);
         let within = if self.turns.has_waiting() { 0 } else { within };
@@ -605,7 +605,7 @@ impl<N: Net + time::Clock, E: Write + Drop, K: Keeper + Drop, T: MailSink + Drop
     }
 
     fn note(&mut self, act: Act<Note>)
-        requires { IsOwn act }
+        requires { IsLoopAct act }
         ensures seen { IsTrue false → [] ≡ [] ++ act ∷ [] }
         ensures left { IsTrue false → self.new.held ≡ self.old.held }
         ensures kept { IsTrue false → IsTrue false }
@@ -625,17 +625,17 @@ impl<N: Net + time::Clock, E: Write + Drop, K: Keeper + Drop, T: MailSink + Drop
     }
 }
 
-impl<N: Net + time::Clock, E: Write + Drop, K: Keeper + Drop, T: MailSink + Drop> Desk
+impl<N: Net + time::Clock, E: Write + Drop, K: Keeper + Drop, T: MailSink + Drop> StoreAccess
     for Host<'_, N, E, K, T> {
-    ghost use Rattle.keepers.specs.Laws.{never_told};
+    ghost use Rattle.store_lock.specs.Laws.{never_told};
 
-    ghost view = { view_of K.S.Store K.tells K.holds };
+    ghost view = { host_view K.S.Store K.tells K.holds };
 
     ghost clean = { IsClean K.S.Store K.tells };
 
     ghost default = { λ host. host.default };
 
-    fn carry(&mut self, id: u32, clients: &mut Clients, event: &Event) -> Option<Answer> {
+    fn apply_event(&mut self, id: u32, clients: &mut Clients, event: &Event) -> Option<Answer> {
         match self.try_apply_event(id, clients, event) {
             Some(answer) => {
                 self.queue.leave(id);
@@ -656,11 +656,11 @@ impl<N: Net + time::Clock, E: Write + Drop, K: Keeper + Drop, T: MailSink + Drop
         self.end_free_act(id);
     }
 
-    fn look_up(&mut self, id: u32, _clients: &mut Clients, user: &[u8]) -> Option<Lookup> {
-        match self.seek(id, user) {
+    fn find_account(&mut self, id: u32, _clients: &mut Clients, user: &[u8]) -> Option<Lookup> {
+        match self.try_find_account(id, user) {
             Some(lookup) => {
                 self.queue.leave(id);
-                self.end_act(id, Account::Senders, b"lookup");
+                self.end_act(id, TimeAccount::Senders, b"lookup");
                 Some(lookup)
             }
             None => {
@@ -670,7 +670,7 @@ impl<N: Net + time::Clock, E: Write + Drop, K: Keeper + Drop, T: MailSink + Drop
         }
     }
 
-    fn deliver(&mut self, id: u32, _clients: &mut Clients, parcel: &Parcel) -> Option<Answer> {
+    fn deliver(&mut self, id: u32, _clients: &mut Clients, parcel: &StoreDelivery) -> Option<Answer> {
         match self.try_deliver(id, parcel) {
             Some(answer) => {
                 self.queue.leave(id);
@@ -684,10 +684,10 @@ impl<N: Net + time::Clock, E: Write + Drop, K: Keeper + Drop, T: MailSink + Drop
         }
     }
 
-    ghost has = { HasMail T.tells T.kept };
+    ghost has = { SinkHasMail T.tells T.kept };
 
-    fn move_on(&mut self, _clients: &mut Clients, now: u64, fresh: bool) -> Option<u64> {
-        match self.carry_on(now, fresh) {
+    fn move_next(&mut self, _clients: &mut Clients, now: u64, fresh: bool) -> Option<u64> {
+        match self.try_move_next(now, fresh) {
             Some(moving) => Some(span_behind(&moving)),
             None => None,
         }

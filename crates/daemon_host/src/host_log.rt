@@ -1,26 +1,24 @@
 //! The log on standard error, the counts of its status line, and the pause after a failure of the store.
 ghost use Rattle.std.specs.Prelude.{◌≡◌, true};
-ghost use Rattle.daemonhosts.specs.Events as events;
-ghost use Rattle.daemonhosts.specs.Log.{is_filed, has_moved, store_failed};
-ghost use Rattle.daemonhosts.specs.Pauses.{IsOver};
+ghost use Rattle.daemon_host.specs.Events as events;
+ghost use Rattle.daemon_host.specs.Log.{is_delivered_answer, has_moved, moving_failed_store};
+ghost use Rattle.daemon_host.specs.Pauses.{PauseIsOver};
 
-use crate::log::{
-    has_failed, is_delivered, is_moved, of_beginning, of_delivery, of_moving, of_slow,
-};
+use crate::log::{has_failed, is_delivered, is_moved, of_beginning, of_delivery, of_moving, of_slow};
 use crate::pause::Pause;
-use keepers::cause::{FILE_IS_GONE, of_sqlite};
-use lmtp::Lookup;
-use loglines::tally::{Tally, status_line};
-use mailengine::{Answer, Refusal};
-use mailmoves::Moving;
-use mailposts::Parcel;
+use store_lock::cause::{FILE_IS_GONE, sqlite_cause};
+use lmtp_dialogue::Lookup;
+use daemon_log::tally::{StatusTally, status_line};
+use store_engine::{Answer, Refusal};
+use maildir_moves::Moving;
+use lmtp_connections::StoreDelivery;
 use octets::Octets;
-use sievedrun::fault::Fault;
-use sievedrun::trouble::{FirstTrouble, Trouble};
+use cli_run::fault::RunFault;
+use cli_run::fault_with_cause::{FirstFault, FaultWithCause};
 use sqlite::ErrorCode;
 use std::alloc::{AllocError, Global};
 use std::io::{ErrorKind, Write};
-use timeshares::Account;
+use net_shares::TimeAccount;
 
 /// An act of this many microseconds has a line of its own.
 const SLOW: u64 = 200_000;
@@ -31,7 +29,7 @@ const STATUS_SPAN: u64 = 60000;
 /// The errors, what was told on them of the store, and whether it failed; what happened since the last line `status`. Moments are
 /// in milliseconds.
 #[derive(Drop)]
-pub struct News<E: Write + Drop> {
+pub struct HostLog<E: Write + Drop> {
     alloc: Global,
     errors: E,
     /// No delivery that was made is told of, and no message that moved.
@@ -40,23 +38,23 @@ pub struct News<E: Write + Drop> {
     failed: bool,
     pause: Pause,
     /// The first trouble with the store since it was taken.
-    trouble: FirstTrouble,
-    tally: Tally,
+    trouble: FirstFault,
+    tally: StatusTally,
     /// The moment of the last line `status`, or of a minute in which nothing happened.
     told: u64,
 }
 
-impl<E: Write + Drop> News<E> {
+impl<E: Write + Drop> HostLog<E> {
     /// Nothing was told.
-    pub fn new(alloc: Global, errors: E, quiet: bool) -> News<E> {
-        News {
+    pub fn new(alloc: Global, errors: E, quiet: bool) -> HostLog<E> {
+        HostLog {
             alloc,
             errors,
             quiet,
             failed: false,
             pause: Pause::none(),
-            trouble: FirstTrouble::none(),
-            tally: Tally::none(),
+            trouble: FirstFault::none(),
+            tally: StatusTally::none(),
             told: 0,
         }
     }
@@ -83,7 +81,7 @@ impl<E: Write + Drop> News<E> {
             times.within(99),
         );
         self.tell_line(line);
-        self.tally = Tally::none();
+        self.tally = StatusTally::none();
     }
 
     /// An event that asked the store took this many microseconds.
@@ -92,7 +90,7 @@ impl<E: Write + Drop> News<E> {
     }
 
     /// An act of that kind took this many microseconds of an account's time: if that is long, it is told.
-    pub fn note_slow(&mut self, what: &[u8], account: &Account, micros: u64)
+    pub fn note_slow(&mut self, what: &[u8], account: &TimeAccount, micros: u64)
         ensures failed { self.new.failed ≡ self.old.failed }
         ensures tally { self.new.tally ≡ self.old.tally }
     {
@@ -130,14 +128,14 @@ impl<E: Write + Drop> News<E> {
     }
 
     /// Tells of trouble that ends the daemon, and gives its exit status.
-    pub fn refuse(&mut self, trouble: Trouble) -> u8 {
+    pub fn refuse(&mut self, trouble: FaultWithCause) -> u8 {
         trouble.tell(&mut self.errors);
         trouble.fault.status()
     }
 
     /// The store was taken.
     pub fn note_taken(&mut self) {
-        self.trouble = FirstTrouble::none();
+        self.trouble = FirstFault::none();
     }
 
     /// The store can't be taken: that is told, and it is left alone for a while.
@@ -176,9 +174,9 @@ impl<E: Write + Drop> News<E> {
     }
 
     /// The same of a delivery, which is told of.
-    pub fn note_delivery(&mut self, parcel: &Parcel, answer: &Answer, code: Option<ErrorCode>)
+    pub fn note_delivery(&mut self, parcel: &StoreDelivery, answer: &Answer, code: Option<ErrorCode>)
         ensures failed { self.new.failed ≡ events.failed_by (events.answers_fault answer.now) code self.old.failed }
-        ensures counted { self.new.tally.counts ≡ events.counted (is_filed answer.now) self.old.tally.counts }
+        ensures counted { self.new.tally.counts ≡ events.with_delivery (is_delivered_answer answer.now) self.old.tally.counts }
     {
         self.note_answer(answer, code);
         self.count_delivery(answer);
@@ -189,7 +187,7 @@ impl<E: Write + Drop> News<E> {
     }
 
     /// Refuses a delivery, since the file at the path is no longer that of the store, and tells so.
-    pub fn refuse_delivery(&mut self, parcel: &Parcel) -> Answer {
+    pub fn refuse_delivery(&mut self, parcel: &StoreDelivery) -> Answer {
         let answer = Answer::Refused(Refusal::Store);
         self.count_delivery(&answer);
         self.tell_line(of_delivery(self.alloc, parcel, &answer));
@@ -197,7 +195,7 @@ impl<E: Write + Drop> News<E> {
     }
 
     fn count_delivery(&mut self, answer: &Answer)
-        ensures counted { self.new.tally.counts ≡ events.counted (is_filed answer.now) self.old.tally.counts }
+        ensures counted { self.new.tally.counts ≡ events.with_delivery (is_delivered_answer answer.now) self.old.tally.counts }
         ensures failed { self.new.failed ≡ self.old.failed }
     {
         if is_delivered(answer) {
@@ -225,7 +223,7 @@ impl<E: Write + Drop> News<E> {
         code: Option<ErrorCode>,
         cause: Option<ErrorKind>,
     )
-        ensures failed { self.new.failed ≡ events.failed_by (store_failed moving.now) code self.old.failed }
+        ensures failed { self.new.failed ≡ events.failed_by (moving_failed_store moving.now) code self.old.failed }
         ensures counted { self.new.tally.counts ≡ events.moved_by (has_moved moving.now) self.old.tally.counts }
     {
         if has_failed(moving) {
@@ -248,7 +246,7 @@ impl<E: Write + Drop> News<E> {
     }
 
     fn note_success(&mut self)
-        ensures over { IsOver self.new.pause }
+        ensures over { PauseIsOver self.new.pause }
         ensures failed { self.new.failed ≡ self.old.failed }
         ensures tally { self.new.tally ≡ self.old.tally }
     {
@@ -259,9 +257,9 @@ impl<E: Write + Drop> News<E> {
         ensures failed { self.new.failed ≡ events.failed_by true code self.old.failed }
         ensures tally { self.new.tally ≡ self.old.tally }
     {
-        self.trouble.note(Trouble {
-            fault: Fault::Refused(Refusal::Store),
-            cause: code.and_then(of_sqlite),
+        self.trouble.note(FaultWithCause {
+            fault: RunFault::Refused(Refusal::Store),
+            cause: code.and_then(sqlite_cause),
         });
         self.trouble.tell(&mut self.errors);
         match code {
@@ -274,10 +272,10 @@ impl<E: Write + Drop> News<E> {
 }
 
 /// The user whose time it is, if it is one's.
-fn user_of(account: &Account) -> Option<&[u8]> {
+fn user_of(account: &TimeAccount) -> Option<&[u8]> {
     match account {
-        Account::User(name) => Some(name.as_slice()),
-        Account::Guests | Account::Senders => None,
+        TimeAccount::User(name) => Some(name.as_slice()),
+        TimeAccount::Guests | TimeAccount::Senders => None,
     }
 }
 
@@ -290,10 +288,10 @@ fn count(times: &mut u64)
 
 /// Tells of trouble with the store, and of its cause, if that is known.
 fn tell<E: Write>(errors: &mut E, refusal: Refusal, cause: Option<&'static str>) {
-    let fault = Fault::Refused(refusal);
+    let fault = RunFault::Refused(refusal);
     let cause = match refusal {
         Refusal::Store => cause,
         _ => None,
     };
-    Trouble { fault, cause }.tell(errors);
+    FaultWithCause { fault, cause }.tell(errors);
 }

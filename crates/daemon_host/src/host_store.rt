@@ -1,38 +1,38 @@
 //! A keeper, and its store while that is held.
 ghost use Rattle.std.specs.Prelude.{◌≡◌, None, IsTrue, IfErr, IfOk, IfSome, OnOk, is_some};
-ghost use Rattle.mailposts.specs.Posts.{IsFound};
-ghost use Rattle.mailengine.specs.Hosts.{IsGivenUp, Kept};
-ghost use Rattle.mailengine.specs.Terms.{terms_of};
-ghost use Rattle.sieveddaemon.specs.Desk.{delivery_of};
-ghost use Rattle.daemonhosts.specs.Held.{IsClean, StillShown, Brings, DeniesAtOnce, GivesAtOnce, Goes, HasMail, Seeks};
-ghost use Rattle.sieveddaemon.specs.Moves.{HasKept};
+ghost use Rattle.lmtp_connections.specs.Connections.{IsFinding};
+ghost use Rattle.store_engine.specs.Hosts.{IsGivenUp, SessionMap};
+ghost use Rattle.store_engine.specs.Terms.{terms_of};
+ghost use Rattle.daemon_core.specs.StoreAccess.{delivery_of};
+ghost use Rattle.daemon_host.specs.Held.{IsClean, StillShown, HostBrings, DeniesAtOnce, GivesAtOnce, HostMovesNext, SinkHasMail, Seeks};
+ghost use Rattle.daemon_core.specs.Moves.{HasKept};
 
-use keepers::{Keeper, Unavailable};
-use lmtp::Lookup;
-use mailengine::{Answer, Clients, Envelope, Event, Refusal, apply, deliver};
-use mailmoves::{Moving, Route, move_next};
-use mailposts::Parcel;
-use mailsinks::MailSink;
-use mailstore::Store;
-use sieveddaemon::account::find_account;
-use sieveexec::When;
+use store_lock::{Keeper, StoreUnavailable};
+use lmtp_dialogue::Lookup;
+use store_engine::{Answer, Clients, Envelope, Event, Refusal, apply, deliver};
+use maildir_moves::{Moving, Route, move_next};
+use lmtp_connections::StoreDelivery;
+use maildir_files::MailSink;
+use store_accounts::Store;
+use daemon_core::account::find_account;
+use sieve_exec::When;
 use sqlite::ErrorCode;
 use std::alloc::{AllocError, Global};
 use std::io::ErrorKind;
 
 /// The keeper of a store, and the store while it is held.
 #[derive(Drop)]
-pub struct HeldStore<K: Keeper + Drop, T: MailSink + Drop> {
+pub struct HostStore<K: Keeper + Drop, T: MailSink + Drop> {
     keeper: K,
     store: Option<Store<K::S>>,
     /// Who keeps the mail that moves on.
     sink: T,
 }
 
-impl<K: Keeper + Drop, T: MailSink + Drop> HeldStore<K, T> {
+impl<K: Keeper + Drop, T: MailSink + Drop> HostStore<K, T> {
     /// The store isn't held yet.
-    pub fn new(keeper: K, sink: T) -> HeldStore<K, T> {
-        HeldStore {
+    pub fn new(keeper: K, sink: T) -> HostStore<K, T> {
+        HostStore {
             keeper,
             store: None,
             sink,
@@ -45,7 +45,7 @@ impl<K: Keeper + Drop, T: MailSink + Drop> HeldStore<K, T> {
     }
 
     /// Whether the store is held.
-    pub fn is_had(&self) -> bool
+    pub fn has_store(&self) -> bool
         ensures { result ≡ is_some self.now.store }
     {
         self.store.is_some()
@@ -81,7 +81,7 @@ impl<K: Keeper + Drop, T: MailSink + Drop> HeldStore<K, T> {
     /// # Errors
     ///
     /// Those of [`Keeper::take`].
-    pub fn take(&mut self, path: &str) -> Result<(), Unavailable>
+    pub fn take(&mut self, path: &str) -> Result<(), StoreUnavailable>
         ensures denied { IfErr result (DeniesAtOnce K.refuses K.will_wait path.now) }
         ensures given { OnOk result (self.old.store ≡ None → GivesAtOnce K.gives K.will_wait path.now) }
         ensures sink { self.new.sink ≡ self.old.sink }
@@ -114,7 +114,7 @@ impl<K: Keeper + Drop, T: MailSink + Drop> HeldStore<K, T> {
     /// Applies an event to the store and the sessions, and answers it; none if the store isn't held.
     pub fn apply_event(&mut self, clients: &mut Clients, event: &Event) -> Option<Answer>
         requires { ¬ IsGivenUp event.now }
-        ensures { Brings K.S.Store K.tells K.holds event.now result self.old clients.old.sessions self.new clients.new.sessions }
+        ensures { HostBrings K.S.Store K.tells K.holds event.now result self.old clients.old.sessions self.new clients.new.sessions }
     {
         let Some(store) = &mut self.store else {
             return None;
@@ -127,7 +127,7 @@ impl<K: Keeper + Drop, T: MailSink + Drop> HeldStore<K, T> {
 
     /// Whether there is an account of that name; none if the store isn't held.
     pub fn find_account(&mut self, user: &[u8]) -> Option<Lookup>
-        ensures found { IfSome result IsFound }
+        ensures found { IfSome result IsFinding }
         ensures seeks { Seeks K.S.Store K.tells K.holds user.now result self.old self.new }
     {
         let Some(store) = &mut self.store else {
@@ -141,11 +141,11 @@ impl<K: Keeper + Drop, T: MailSink + Drop> HeldStore<K, T> {
     pub fn deliver(
         &mut self,
         alloc: Global,
-        parcel: &Parcel,
+        parcel: &StoreDelivery,
         when: When,
         default: Option<&[u8]>,
     ) -> Option<Answer>
-        ensures { (kept : Kept) → Brings K.S.Store K.tells K.holds (delivery_of parcel.now (terms_of when default.entry)) result self.old kept self.new kept }
+        ensures { (kept : SessionMap) → HostBrings K.S.Store K.tells K.holds (delivery_of parcel.now (terms_of when default.entry)) result self.old kept self.new kept }
     {
         let Ok(envelope) = envelope_of(alloc, parcel) else {
             return None;
@@ -160,10 +160,10 @@ impl<K: Keeper + Drop, T: MailSink + Drop> HeldStore<K, T> {
         }
     }
 
-    /// Has the first message of a folder move on, as [`mailmoves::move_next`] does. None if the store isn't held.
-    pub fn move_on(&mut self, route: &mut Route, now: u64, fresh: bool) -> Option<Moving>
-        ensures moves { Goes K.S.Store K.tells K.holds result self.old self.new }
-        ensures keeps { IfSome result (λ moving. HasKept (HasMail T.tells T.kept) moving self.old self.new) }
+    /// Has the first message of a folder move on, as [`maildir_moves::move_next`] does. None if the store isn't held.
+    pub fn move_next(&mut self, route: &mut Route, now: u64, fresh: bool) -> Option<Moving>
+        ensures moves { HostMovesNext K.S.Store K.tells K.holds result self.old self.new }
+        ensures keeps { IfSome result (λ moving. HasKept (SinkHasMail T.tells T.kept) moving self.old self.new) }
     {
         let Some(store) = &mut self.store else {
             return None;
@@ -172,7 +172,7 @@ impl<K: Keeper + Drop, T: MailSink + Drop> HeldStore<K, T> {
     }
 }
 
-fn envelope_of(alloc: Global, parcel: &Parcel) -> Result<Envelope, AllocError>
+fn envelope_of(alloc: Global, parcel: &StoreDelivery) -> Result<Envelope, AllocError>
     ensures { IfOk result (λ envelope. envelope ≡ record { from = parcel.now.sender; to = parcel.now.recipient }) }
 {
     Ok(Envelope {

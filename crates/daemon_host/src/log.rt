@@ -1,16 +1,16 @@
 //! Lines for whoever looks after the host, on the standard error.
 ghost use Rattle.std.specs.Prelude.{◌≡◌, IfOk, OnOk};
-ghost use Rattle.loglines.specs.Lines.{joined};
-ghost use Rattle.daemonhosts.specs.Log as said;
-ghost use Rattle.daemonhosts.specs.Log.{why_by, why_pairs, delivery_line, moved_line, stay_line, IsStayLine, IsStayBy, IsMovingLine, first_line, slow_line, user_pairs};
-ghost use Rattle.mailstore.specs.Cells.{contents};
+ghost use Rattle.daemon_log.specs.Lines.{with_pairs};
+ghost use Rattle.daemon_host.specs.Log as said;
+ghost use Rattle.daemon_host.specs.Log.{why_by, why_pairs, delivery_line, moved_line, stay_line, IsStayLine, IsStayBy, IsMovingLine, log_first_line, slow_line, user_pairs};
+ghost use Rattle.store_accounts.specs.Cells.{borrowed_octets};
 
-use keepers::cause::of_file;
-use loglines::line::{add_number, add_pair, begin, end};
-use mailengine::{Answer, Refusal};
-use mailmoves::{Moving, Stay, Why};
-use mailposts::Parcel;
-use mailsinks::{KeptMail, SinkError};
+use store_lock::cause::file_cause;
+use daemon_log::line::{add_number, add_pair, begin, end};
+use store_engine::{Answer, Refusal};
+use maildir_moves::{Moving, Stay, StayReason};
+use lmtp_connections::StoreDelivery;
+use maildir_files::{KeptMail, SinkError};
 use octets::Octets;
 use std::alloc::{AllocError, Global};
 use std::io::ErrorKind;
@@ -19,7 +19,7 @@ use std::io::ErrorKind;
 ///
 /// Lack of memory is the only error.
 pub fn of_beginning(alloc: Global, version: &[u8], pid: u32) -> Result<Octets, AllocError>
-    ensures { IfOk result (λ line. line ≡ first_line version.now pid) }
+    ensures { IfOk result (λ line. line ≡ log_first_line version.now pid) }
 {
     let mut line = begin(alloc, b"begins")?;
     add_pair(&mut line, b"version", version)?;
@@ -31,7 +31,7 @@ pub fn of_beginning(alloc: Global, version: &[u8], pid: u32) -> Result<Octets, A
 /// `refused` with a `why`. It has no text of mail, and is one line whatever the addresses have.
 ///
 /// Lack of memory is the only error. Linear in the addresses.
-pub fn of_delivery(alloc: Global, parcel: &Parcel, answer: &Answer) -> Result<Octets, AllocError>
+pub fn of_delivery(alloc: Global, parcel: &StoreDelivery, answer: &Answer) -> Result<Octets, AllocError>
     ensures { IfOk result (λ line. line ≡ delivery_line parcel.now answer.now) }
 {
     let mut line = begin(alloc, word_of(answer))?;
@@ -51,7 +51,7 @@ pub fn of_slow(
     user: Option<&[u8]>,
     millis: u64,
 ) -> Result<Octets, AllocError>
-    ensures { IfOk result (λ line. line ≡ slow_line what.now (contents user.entry) millis) }
+    ensures { IfOk result (λ line. line ≡ slow_line what.now (borrowed_octets user.entry) millis) }
 {
     let mut line = begin(alloc, b"slow")?;
     add_pair(&mut line, b"what", what)?;
@@ -61,7 +61,7 @@ pub fn of_slow(
 }
 
 fn add_user(line: &mut Octets, user: Option<&[u8]>) -> Result<(), AllocError>
-    ensures { OnOk result (line.new ≡ joined line.old (user_pairs (contents user.entry))) }
+    ensures { OnOk result (line.new ≡ with_pairs line.old (user_pairs (borrowed_octets user.entry))) }
 {
     match user {
         Some(user) => add_pair(line, b"user", user),
@@ -71,7 +71,7 @@ fn add_user(line: &mut Octets, user: Option<&[u8]>) -> Result<(), AllocError>
 
 /// Whether the message was filed.
 pub fn is_delivered(answer: &Answer) -> bool
-    ensures { result ≡ said.is_filed answer.now }
+    ensures { result ≡ said.is_delivered_answer answer.now }
 {
     match answer {
         Answer::Delivered(_) => true,
@@ -143,15 +143,15 @@ fn of_stay(alloc: Global, user: &Octets, folder: &Octets, why: &[u8]) -> Result<
 }
 
 /// Why a message stays in its folder.
-fn why_of_stay(why: Why, cause: Option<ErrorKind>) -> &'static [u8]
+fn why_of_stay(why: StayReason, cause: Option<ErrorKind>) -> &'static [u8]
     ensures { said.IsWhy why result.now }
 {
     match why {
-        Why::Name => b"name",
-        Why::Gone => b"gone",
-        Why::Store(Refusal::Memory) | Why::Sink(SinkError::Memory) => b"memory",
-        Why::Store(_) => b"store",
-        Why::Sink(_) => match cause.and_then(of_file) {
+        StayReason::Name => b"name",
+        StayReason::Gone => b"gone",
+        StayReason::Store(Refusal::Memory) | StayReason::Sink(SinkError::Memory) => b"memory",
+        StayReason::Store(_) => b"store",
+        StayReason::Sink(_) => match cause.and_then(file_cause) {
             Some(text) => text.as_bytes(),
             None => b"maildir",
         },
@@ -160,14 +160,14 @@ fn why_of_stay(why: Why, cause: Option<ErrorKind>) -> &'static [u8]
 
 /// Whether the store failed.
 pub fn has_failed(moving: &Moving) -> bool
-    ensures { result ≡ said.store_failed moving.now }
+    ensures { result ≡ said.moving_failed_store moving.now }
 {
     match moving {
         Moving::Failed(Refusal::Store) => true,
         Moving::Kept(_, Answer::Refused(Refusal::Store)) => true,
         Moving::Stays(
             Stay {
-                why: Why::Store(Refusal::Store),
+                why: StayReason::Store(Refusal::Store),
                 ..
             },
         ) => true,
@@ -186,7 +186,7 @@ pub fn is_moved(moving: &Moving) -> bool
 }
 
 fn word_of(answer: &Answer) -> &'static [u8]
-    ensures { result.now ≡ said.word_of answer.now }
+    ensures { result.now ≡ said.delivery_word answer.now }
 {
     match answer {
         Answer::Delivered(_) => b"delivered",
@@ -196,7 +196,7 @@ fn word_of(answer: &Answer) -> &'static [u8]
 
 /// Why the message was refused, if it was.
 fn add_why(line: &mut Octets, answer: &Answer) -> Result<(), AllocError>
-    ensures { OnOk result (line.new ≡ joined line.old (why_pairs answer.now)) }
+    ensures { OnOk result (line.new ≡ with_pairs line.old (why_pairs answer.now)) }
 {
     match answer {
         Answer::Refused(refusal) => add_pair(line, b"why", why_of(*refusal)),

@@ -1,6 +1,6 @@
 //! How long the store is left alone after it failed.
 ghost use Rattle.std.specs.Prelude.{◌≡◌, nat_lt};
-ghost use Rattle.daemonhosts.specs.Pauses.{IsOver, Begins};
+ghost use Rattle.daemon_host.specs.Pauses.{PauseIsOver, PauseBegins};
 
 /// For how many milliseconds after the first failure.
 const FIRST: u64 = 1000;
@@ -20,7 +20,7 @@ pub struct Pause {
 impl Pause {
     /// It may be asked for.
     pub fn none() -> Pause
-        ensures { IsOver result }
+        ensures { PauseIsOver result }
     {
         Pause {
             until: 0,
@@ -37,7 +37,7 @@ impl Pause {
 
     /// It failed: it is left alone for a second, and for twice as long after each further failure, up to a minute.
     pub fn begin(&mut self, now: u64)
-        ensures { Begins now self.old self.new }
+        ensures { PauseBegins now self.old self.new }
     {
         self.until = now.saturating_add(self.next);
         self.next = self.next.saturating_mul(2).min(LONGEST);

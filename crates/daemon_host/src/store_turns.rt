@@ -2,7 +2,7 @@
 ghost use Rattle.std.specs.Prelude.{◌≡◌, ◌==◌, [], not, filter, find, option_copied};
 ghost use Rattle.std.specs.Ordering.{nat_cmp};
 ghost use Rattle.std.specs.BTreeMap as tree;
-ghost use Rattle.daemonhosts.specs.Queue as q;
+ghost use Rattle.daemon_host.specs.Queue as q;
 
 use std::alloc::Global;
 use std::collections::BTreeMap;
@@ -14,17 +14,17 @@ const PATIENCE: u64 = 100;
 /// The numbers of connections, in the order in which they came, each once, and the moment at which each asked last. If memory is
 /// lacking for one it isn't in it, and may be served out of its order.
 #[derive(Drop)]
-pub struct Queue {
+pub struct StoreTurns {
     ids: Vec<u32>,
     asked: BTreeMap<u32, u64>,
 }
 
-impl Queue {
+impl StoreTurns {
     /// Nobody. Takes no memory.
-    pub fn new(alloc: Global) -> Queue
+    pub fn new(alloc: Global) -> StoreTurns
         ensures { result.ids.items ≡ [] }
     {
-        Queue {
+        StoreTurns {
             ids: Vec::new(alloc),
             asked: BTreeMap::new(alloc),
         }
@@ -50,7 +50,7 @@ impl Queue {
     /// One waits, and asks at that moment. It keeps its place if it has one.
     pub fn join(&mut self, id: u32, now: u64)
         ensures ids { q.Joins id self.old.ids.items self.new.ids.items }
-        ensures asked { q.Asks id now self.old.asked self.new.asked }
+        ensures asked { q.NotesAsking id now self.old.asked self.new.asked }
     {
         let _ = self.asked.insert(id, now);
         if !self.ids.contains(&id) {

@@ -1,9 +1,9 @@
 -- Lines: each is one, and no two of the same names read alike.
 use Rattle.std.proofs.Common.{◌≡◌, ℕ, Bool, true, false, not, ◌&&◌, List, [], ◌∷◌, ◌++◌, codes, refl, sym, ◌∙◌, ap, subst, append_assoc, append-nil, arith}
 use Rattle.std.specs.List.{list_all}
-use Rattle.loglines.specs.Values.{is_visible, is_octet, spelled}
-use Rattle.loglines.specs.Lines.{Pair, pair, pair_text, joined, head_of, line_of, names_of, are_right, is_printed, IsOneLine}
-use Rattle.loglines.proofs.ValueLemmas.{left, right, both, all_of, all_append, spelled_visible, spelled_same}
+use Rattle.daemon_log.specs.Values.{is_visible, is_octet, spelled}
+use Rattle.daemon_log.specs.Lines.{Pair, pair, pair_text, with_pairs, line_start, log_line_of, names_of, are_right, is_printed, IsOneLine}
+use Rattle.daemon_log.proofs.ValueLemmas.{left, right, both, all_of, all_append, spelled_visible, spelled_same}
 
 -- ---- pairs behind a front
 
@@ -11,7 +11,7 @@ abbrev pairs_text : List Pair → List ℕ
 pairs_text [] = []
 pairs_text (p ∷ pairs) = pair_text p.name p.value ++ pairs_text pairs
 
-behind_front : (front : List ℕ) (pairs : List Pair) → joined front pairs ≡ front ++ pairs_text pairs
+behind_front : (front : List ℕ) (pairs : List Pair) → with_pairs front pairs ≡ front ++ pairs_text pairs
 behind_front front [] = sym (append-nil front)
 behind_front front (p ∷ pairs) = behind_front (front ++ pair_text p.name p.value) pairs ∙ append_assoc front (pair_text p.name p.value) (pairs_text pairs)
 
@@ -34,11 +34,11 @@ pairs_printed (p ∷ pairs) is =
     (pair_printed p.name p.value (left (list_all is_visible p.name) (list_all is_octet p.value && are_right pairs) is) (left (list_all is_octet p.value) (are_right pairs) rest))
     (pairs_printed pairs (right (list_all is_octet p.value) (are_right pairs) rest))
 
-pub one_line : (word : List ℕ) (pairs : List Pair) → list_all is_visible word ≡ true → are_right pairs ≡ true → IsOneLine (line_of word pairs)
+pub one_line : (word : List ℕ) (pairs : List Pair) → list_all is_visible word ≡ true → are_right pairs ≡ true → IsOneLine (log_line_of word pairs)
 one_line word pairs p q =
-    let seen : list_all is_printed (head_of word ++ pairs_text pairs) ≡ true =
-    all_append is_printed (head_of word) (pairs_text pairs) (all_append is_printed (codes "sieved: ") word refl (printed word p)) (pairs_printed pairs q) in
-    (joined (head_of word) pairs, refl, subst (λ l. list_all is_printed l ≡ true) (sym (behind_front (head_of word) pairs)) seen)
+    let seen : list_all is_printed (line_start word ++ pairs_text pairs) ≡ true =
+    all_append is_printed (line_start word) (pairs_text pairs) (all_append is_printed (codes "sieved: ") word refl (printed word p)) (pairs_printed pairs q) in
+    (with_pairs (line_start word) pairs, refl, subst (λ l. list_all is_printed l ≡ true) (sym (behind_front (line_start word) pairs)) seen)
 
 -- ---- one reading
 
@@ -111,9 +111,9 @@ pairs_same (a ∷ pairs) (b ∷ others) p q names is =
     let rest : pairs ≡ others = pairs_same pairs others (right (list_all is_octet a.value) (are_right pairs) these) (right (list_all is_octet b.value) (are_right others) those) more parts.1 in
     ap (λ x. x ∷ pairs) (same_pair a b name parts.0) ∙ ap (λ l. b ∷ l) rest
 
-pub one_reading : (word : List ℕ) (pairs others : List Pair) → are_right pairs ≡ true → are_right others ≡ true → names_of pairs ≡ names_of others → line_of word pairs ≡ line_of word others → pairs ≡ others
+pub one_reading : (word : List ℕ) (pairs others : List Pair) → are_right pairs ≡ true → are_right others ≡ true → names_of pairs ≡ names_of others → log_line_of word pairs ≡ log_line_of word others → pairs ≡ others
 one_reading word pairs others p q names is =
     pairs_same pairs others p q names
-    (behind (head_of word) (pairs_text pairs ++ 10 ∷ []) (pairs_text others ++ 10 ∷ [])
-    (sym (append_assoc (head_of word) (pairs_text pairs) (10 ∷ [])) ∙ sym (ap (λ l. l ++ 10 ∷ []) (behind_front (head_of word) pairs)) ∙ is
-    ∙ ap (λ l. l ++ 10 ∷ []) (behind_front (head_of word) others) ∙ append_assoc (head_of word) (pairs_text others) (10 ∷ [])))
+    (behind (line_start word) (pairs_text pairs ++ 10 ∷ []) (pairs_text others ++ 10 ∷ [])
+    (sym (append_assoc (line_start word) (pairs_text pairs) (10 ∷ [])) ∙ sym (ap (λ l. l ++ 10 ∷ []) (behind_front (line_start word) pairs)) ∙ is
+    ∙ ap (λ l. l ++ 10 ∷ []) (behind_front (line_start word) others) ∙ append_assoc (line_start word) (pairs_text others) (10 ∷ [])))

@@ -1,7 +1,7 @@
 -- Values in a line: what they have, and that no two of them stand there alike.
 use Rattle.std.proofs.Common.{◌≡◌, ℕ, ◌+◌, ◌-◌, ◌*◌, ◌/◌, ◌%◌, ◌<◌, ◌≤◌, ◌==◌, nat_le, nat_lt, Bool, true, false, ◌&&◌, ◌||◌, cond, List, [], ◌∷◌, ◌++◌, refl, sym, ◌∙◌, ap, subst, append_assoc, append-nil, arith}
 use Rattle.std.specs.List.{list_all}
-use Rattle.loglines.specs.Values.{is_between, is_mark, is_plain, is_visible, is_octet, digit_of, escaped_octet, escaped, is_bare, spelled}
+use Rattle.daemon_log.specs.Values.{is_between, is_mark, is_plain, is_visible, is_octet, digit_of, escaped_octet, escaped, is_bare, spelled}
 
 pub left : (a b : Bool) → (a && b) ≡ true → a ≡ true
 left true b is = refl

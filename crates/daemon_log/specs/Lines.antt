@@ -1,7 +1,7 @@
 -- A line: `sieved: WORD NAME=VALUE NAME=VALUE ..`, and LF.
 use Rattle.std.specs.Prelude.{◌≡◌, ℕ, Bool, true, ◌&&◌, List, [], ◌∷◌, ◌++◌, map, codes}
 use Rattle.std.specs.List.{list_all, AllPass}
-use Rattle.loglines.specs.Values.{is_between, is_octet, is_visible, spelled}
+use Rattle.daemon_log.specs.Values.{is_between, is_octet, is_visible, spelled}
 
 -- a name, and its value
 pub record Pair : Type 0 where
@@ -14,16 +14,16 @@ pair name value = record { name = name; value = value }
 abbrev pub pair_text : List ℕ → List ℕ → List ℕ
 pair_text name value = 32 ∷ (name ++ 61 ∷ spelled value)
 
-abbrev pub head_of : List ℕ → List ℕ
-head_of word = codes "sieved: " ++ word
+abbrev pub line_start : List ℕ → List ℕ
+line_start word = codes "sieved: " ++ word
 
 -- a line with these pairs appended one by one
-abbrev pub joined : List ℕ → List Pair → List ℕ
-joined front [] = front
-joined front (p ∷ pairs) = joined (front ++ pair_text p.name p.value) pairs
+abbrev pub with_pairs : List ℕ → List Pair → List ℕ
+with_pairs front [] = front
+with_pairs front (p ∷ pairs) = with_pairs (front ++ pair_text p.name p.value) pairs
 
-abbrev pub line_of : List ℕ → List Pair → List ℕ
-line_of word pairs = joined (head_of word) pairs ++ 10 ∷ []
+abbrev pub log_line_of : List ℕ → List Pair → List ℕ
+log_line_of word pairs = with_pairs (line_start word) pairs ++ 10 ∷ []
 
 abbrev pub names_of : List Pair → List (List ℕ)
 names_of [] = []

@@ -1,7 +1,7 @@
 -- How long events took: counts in 32 slots of times.
 use Rattle.std.specs.Prelude.{◌≡◌, ◌≢◌, ℕ, ◌+◌, ◌*◌, ◌<◌, ◌≤◌, min, ◌==◌, Bool, true, false, List, [], ◌∷◌, take, sum, slice_index_or}
 use Rattle.std.specs.Int.{div_ceil}
-use Rattle.loglines.specs.declared.times.Times.{Times}
+use Rattle.daemon_log.specs.declared.times.Times.{Times}
 
 -- the longest time of each slot, in microseconds
 abbrev pub bounds : List ℕ
@@ -35,12 +35,12 @@ abbrev pub one_more : ℕ → ℕ
 one_more count = min (count + 1) 4294967295
 
 -- no event
-pub record HasNone (times : Times) : Type 0 where
+pub record HasNoEvents (times : Times) : Type 0 where
   pub counts : (slot : ℕ) → slice_index_or times.counts slot 0 ≡ 0
   pub total : times.total ≡ 0
 
 -- an event that took this time is counted in its slot, and in no other
-pub record Counts (micros : ℕ) (old new : Times) : Type 0 where
+pub record CountsEvent (micros : ℕ) (old new : Times) : Type 0 where
   pub slot : ℕ
   pub is : IsSlotOf micros slot
   pub here : slice_index_or new.counts slot 0 ≡ one_more (slice_index_or old.counts slot 0)
@@ -48,13 +48,13 @@ pub record Counts (micros : ℕ) (old new : Times) : Type 0 where
   pub total : new.total ≡ one_more old.total
 
 -- that percentage of a number of events, rounded up
-abbrev pub part_of : ℕ → ℕ → ℕ
-part_of total percent = div_ceil (total * percent) 100
+abbrev pub percent_of : ℕ → ℕ → ℕ
+percent_of total percent = div_ceil (total * percent) 100
 
 -- the bound of the first slot up to which that many events were counted; 0 if there were none
-abbrev pub IsWithinOf : Bool → Times → ℕ → ℕ → Type 0
-IsWithinOf true times percent micros = micros ≡ 0
-IsWithinOf false times percent micros = (slot : ℕ) × IsFirstWith times.counts (part_of times.total percent) slot × (micros ≡ bound_of slot)
+abbrev pub IsPercentileOf : Bool → Times → ℕ → ℕ → Type 0
+IsPercentileOf true times percent micros = micros ≡ 0
+IsPercentileOf false times percent micros = (slot : ℕ) × IsFirstWith times.counts (percent_of times.total percent) slot × (micros ≡ bound_of slot)
 
-abbrev pub IsWithin : Times → ℕ → ℕ → Type 0
-IsWithin times percent micros = IsWithinOf (times.total == 0) times percent micros
+abbrev pub IsPercentile : Times → ℕ → ℕ → Type 0
+IsPercentile times percent micros = IsPercentileOf (times.total == 0) times percent micros

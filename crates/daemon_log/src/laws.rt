@@ -1,8 +1,8 @@
 //! Laws of lines, each the contract of a function that does nothing.
 ghost use Rattle.std.specs.Prelude.{◌≡◌, ℕ, List, true};
 ghost use Rattle.std.specs.List.{list_all};
-ghost use Rattle.loglines.specs.Values.{is_octet, is_visible, spelled};
-ghost use Rattle.loglines.specs.Lines.{Pair, names_of, are_right, line_of, IsOneLine};
+ghost use Rattle.daemon_log.specs.Values.{is_octet, is_visible, spelled};
+ghost use Rattle.daemon_log.specs.Lines.{Pair, names_of, are_right, log_line_of, IsOneLine};
 
 /// A value as it is written in a line has no blank, no LF and no other control octet.
 pub fn visible_values()
@@ -11,11 +11,11 @@ pub fn visible_values()
 
 /// A line is one line, whatever its values contain.
 pub fn one_line()
-    ensures { (word : List ℕ) → (pairs : List Pair) → list_all is_visible word ≡ true → are_right pairs ≡ true → IsOneLine (line_of word pairs) }
+    ensures { (word : List ℕ) → (pairs : List Pair) → list_all is_visible word ≡ true → are_right pairs ≡ true → IsOneLine (log_line_of word pairs) }
 {}
 
 /// Two lines with the same names that read alike have the same values: so no value forges another value, or another pair.
 pub fn one_reading()
     ensures { (word : List ℕ) → (pairs others : List Pair) → are_right pairs ≡ true → are_right others ≡ true → names_of pairs ≡ names_of others
-        → line_of word pairs ≡ line_of word others → pairs ≡ others }
+        → log_line_of word pairs ≡ log_line_of word others → pairs ≡ others }
 {}

@@ -1,6 +1,6 @@
 //! A line, from its beginning to its end.
 ghost use Rattle.std.specs.Prelude.{◌≡◌, ◌++◌, ◌∷◌, [], IfOk, OnOk, decimal};
-ghost use Rattle.loglines.specs.Lines.{head_of, pair_text};
+ghost use Rattle.daemon_log.specs.Lines.{line_start, pair_text};
 
 use crate::value::add_value;
 use octets::{Octets, write_decimal};
@@ -8,7 +8,7 @@ use std::alloc::{AllocError, Global};
 
 /// Begins a line: `sieved: ` and a word.
 pub fn begin(alloc: Global, word: &[u8]) -> Result<Octets, AllocError>
-    ensures { IfOk result (λ line. line ≡ head_of word.now) }
+    ensures { IfOk result (λ line. line ≡ line_start word.now) }
 {
     let mut line = Octets::new(alloc);
     line.extend_from_slice(b"sieved: ")?;

@@ -1,7 +1,7 @@
 //! What happened since the last line `status`.
 ghost use Rattle.std.specs.Prelude.{IfOk, OnOk, ◌≡◌, true, codes};
-ghost use Rattle.loglines.specs.Lines.{joined, line_of};
-ghost use Rattle.loglines.specs.Tallies.{mail_pairs, client_pairs, time_pairs, pairs_of, is_no_count};
+ghost use Rattle.daemon_log.specs.Lines.{with_pairs, log_line_of};
+ghost use Rattle.daemon_log.specs.Tallies.{mail_pairs, client_pairs, time_pairs, pairs_of, is_no_count};
 
 use crate::line::{add_number, begin, end};
 use crate::times::Times;
@@ -10,7 +10,7 @@ use std::alloc::{AllocError, Global};
 
 /// How often each event happened.
 #[derive(Clone, Copy, Debug, PartialEq, Eq)]
-pub struct Counts {
+pub struct EventCounts {
     /// Messages that were delivered, one for each recipient.
     pub delivered: u64,
     /// Messages that were refused, one for each recipient.
@@ -23,12 +23,12 @@ pub struct Counts {
     pub commands: u64,
 }
 
-impl Counts {
+impl EventCounts {
     /// Nothing happened.
-    pub fn none() -> Counts
+    pub fn none() -> EventCounts
         ensures { is_no_count result ≡ true }
     {
-        Counts {
+        EventCounts {
             delivered: 0,
             refused: 0,
             moved: 0,
@@ -51,18 +51,18 @@ impl Counts {
 
 /// What happened, and how long it took. Its size is constant, whatever happens.
 #[derive(Drop)]
-pub struct Tally {
-    pub counts: Counts,
+pub struct StatusTally {
+    pub counts: EventCounts,
     pub times: Times,
 }
 
-impl Tally {
+impl StatusTally {
     /// Nothing happened.
-    pub fn none() -> Tally
+    pub fn none() -> StatusTally
         ensures { is_no_count result.counts ≡ true }
     {
-        Tally {
-            counts: Counts::none(),
+        StatusTally {
+            counts: EventCounts::none(),
             times: Times::none(),
         }
     }
@@ -75,11 +75,11 @@ impl Tally {
 /// Lack of memory.
 pub fn status_line(
     alloc: Global,
-    counts: &Counts,
+    counts: &EventCounts,
     half: u64,
     most: u64,
 ) -> Result<Octets, AllocError>
-    ensures { IfOk result (λ line. line ≡ line_of (codes "status") (pairs_of counts.now half most)) }
+    ensures { IfOk result (λ line. line ≡ log_line_of (codes "status") (pairs_of counts.now half most)) }
 {
     let mut line = begin(alloc, b"status")?;
     add_mail(&mut line, alloc, counts)?;
@@ -88,23 +88,23 @@ pub fn status_line(
     end(line)
 }
 
-fn add_mail(line: &mut Octets, alloc: Global, counts: &Counts) -> Result<(), AllocError>
-    ensures { OnOk result (line.new ≡ joined line.old (mail_pairs counts.now)) }
+fn add_mail(line: &mut Octets, alloc: Global, counts: &EventCounts) -> Result<(), AllocError>
+    ensures { OnOk result (line.new ≡ with_pairs line.old (mail_pairs counts.now)) }
 {
     add_number(line, alloc, b"delivered", counts.delivered)?;
     add_number(line, alloc, b"refused", counts.refused)?;
     add_number(line, alloc, b"moved", counts.moved)
 }
 
-fn add_clients(line: &mut Octets, alloc: Global, counts: &Counts) -> Result<(), AllocError>
-    ensures { OnOk result (line.new ≡ joined line.old (client_pairs counts.now)) }
+fn add_clients(line: &mut Octets, alloc: Global, counts: &EventCounts) -> Result<(), AllocError>
+    ensures { OnOk result (line.new ≡ with_pairs line.old (client_pairs counts.now)) }
 {
     add_number(line, alloc, b"logins_failed", counts.logins_failed)?;
     add_number(line, alloc, b"commands", counts.commands)
 }
 
 fn add_times(line: &mut Octets, alloc: Global, half: u64, most: u64) -> Result<(), AllocError>
-    ensures { OnOk result (line.new ≡ joined line.old (time_pairs half most)) }
+    ensures { OnOk result (line.new ≡ with_pairs line.old (time_pairs half most)) }
 {
     add_number(line, alloc, b"p50_us", half)?;
     add_number(line, alloc, b"p99_us", most)

@@ -1,5 +1,5 @@
 //! How long events took.
-ghost use Rattle.loglines.specs.Times.{IsSlotOf, IsFirstWith, IsWithin, HasNone, Counts};
+ghost use Rattle.daemon_log.specs.Times.{IsSlotOf, IsFirstWith, IsPercentile, HasNoEvents, CountsEvent};
 
 /// The longest time of each slot, in microseconds; the last slot also counts all that took longer.
 const BOUNDS: [u64; 32] = [
@@ -19,7 +19,7 @@ pub struct Times {
 impl Times {
     /// No event.
     pub fn none() -> Times
-        ensures { HasNone result }
+        ensures { HasNoEvents result }
     {
         Times {
             counts: [0; 32],
@@ -29,7 +29,7 @@ impl Times {
 
     /// Notes an event that took that many microseconds. Counts saturate at the greatest number of 32 bits.
     pub fn note(&mut self, micros: u64)
-        ensures { Counts micros self.old self.new }
+        ensures { CountsEvent micros self.old self.new }
     {
         let slot = slot_of(micros);
         self.counts[slot] = self.counts[slot].saturating_add(1);
@@ -39,7 +39,7 @@ impl Times {
     /// The bound, in microseconds, of the first slot up to which that percentage of the events was counted; the last slot also counts all
     /// longer ones. 0 if there were no events.
     pub fn within(&self, percent: u32) -> u64
-        ensures { IsWithin self.now percent result }
+        ensures { IsPercentile self.now percent result }
     {
         if self.total == 0 {
             return 0;

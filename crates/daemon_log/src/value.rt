@@ -1,8 +1,8 @@
 //! How a value is written in a line.
 ghost use Rattle.std.specs.Prelude.{◌≡◌, ◌<◌, ◌++◌, OnOk};
 ghost use Rattle.std.specs.List.{list_all};
-ghost use Rattle.loglines.specs.Values.{digit_of, escaped_octet, escaped, spelled};
-ghost use Rattle.loglines.specs.Values as values;
+ghost use Rattle.daemon_log.specs.Values.{digit_of, escaped_octet, escaped, spelled};
+ghost use Rattle.daemon_log.specs.Values as values;
 
 use octets::Octets;
 use std::alloc::AllocError;

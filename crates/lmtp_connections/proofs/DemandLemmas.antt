@@ -2,26 +2,26 @@
 use Rattle.std.proofs.Common.{◌≡◌, ◌∙◌, ℕ, suc, zero, ◌+◌, ◌≤◌, true, false, List, [], ◌∷◌, ◌++◌, length, take, Option, Some, None, Ok, Err, refl, sym, ap, subst, arith, length-append}
 use Rattle.std.specs.Borrow.{Bor}
 use Rattle.std.specs.Prelude.{slice_get}
-use Rattle.lmtp.specs.Copies.{IsCopy, was_delivered}
-use Rattle.lmtp.specs.Dialogues.{Asking, Sending, Dialogue}
-use Rattle.lmtp.specs.Names.{AreForms}
-use Rattle.lmtp.specs.Receivers.{StandsIn, IsDelivery, IsKept}
-use Rattle.lmtp.specs.Turns.{max_text}
-use Rattle.lmtp.specs.declared.receiver.Delivery.{Delivery}
-use Rattle.lmtp.specs.declared.reply.Reply.TheVariants.{HeaderTooLarge, MailLoop, StoreAway}
-use Rattle.lmtp.specs.declared.text.Trouble.{Trouble}
-use Rattle.lmtp.specs.declared.text.Trouble.TheVariants as trouble
-use Rattle.mailposts.specs.Posts.{Post, IsOwed, earlier, IsNew, Becomes, TooLarge, Lacked, Again, LongHeader, Circles, PutOff, has_long_header}
-use Rattle.mailposts.specs.Stands.{reply_for, Stands, Demands, IsNext, Follows, told_before, Owes}
-use Rattle.mailposts.specs.Tallies.{MayAsk, HasWaited}
-use Rattle.mailposts.specs.declared.addressee.Addressee.{Addressee}
-use Rattle.mailposts.specs.declared.addressee.Became.{Became}
-use Rattle.mailposts.specs.declared.addressee.Became.TheVariants.{Refused}
-use Rattle.mailposts.specs.declared.demand.Demand.TheVariants as demand
-use Rattle.mailposts.specs.declared.demand.Parcel.{Parcel}
-use Rattle.mailposts.specs.declared.demand.Question.{Question}
-use Rattle.mailposts.specs.declared.post.Post.{Post as Code}
-use Rattle.mailposts.specs.declared.tally.Tally.{Tally}
+use Rattle.lmtp_dialogue.specs.Copies.{IsCopy, was_delivered}
+use Rattle.lmtp_dialogue.specs.Dialogues.{Asking, Sending, Dialogue}
+use Rattle.lmtp_dialogue.specs.Names.{AreForms}
+use Rattle.lmtp_dialogue.specs.Receivers.{StandsIn, IsDelivery, IsKept}
+use Rattle.lmtp_dialogue.specs.Turns.{max_text}
+use Rattle.lmtp_dialogue.specs.declared.receiver.Delivery.{Delivery}
+use Rattle.lmtp_dialogue.specs.declared.reply.LmtpReply.TheVariants.{HeaderTooLarge, MailLoop, StoreAway}
+use Rattle.lmtp_dialogue.specs.declared.text.TextFault.{TextFault}
+use Rattle.lmtp_dialogue.specs.declared.text.TextFault.TheVariants as trouble
+use Rattle.lmtp_connections.specs.Connections.{LmtpState, IsOwed, earlier, IsNewDelivery, BecomesWithoutStore, TooLarge, Lacked, Again, LongHeader, Circles, PutOff, has_long_text_header}
+use Rattle.lmtp_connections.specs.Stands.{reply_for, ConnectionStands, Demands, IsNextForm, FormFollows, told_before, Owes}
+use Rattle.lmtp_connections.specs.Progress.{MayAskStore, HasWaited}
+use Rattle.lmtp_connections.specs.declared.addressee.Addressee.{Addressee}
+use Rattle.lmtp_connections.specs.declared.addressee.DeliveryResult.{DeliveryResult}
+use Rattle.lmtp_connections.specs.declared.addressee.DeliveryResult.TheVariants.{Refused}
+use Rattle.lmtp_connections.specs.declared.demand.Demand.TheVariants as demand
+use Rattle.lmtp_connections.specs.declared.demand.StoreDelivery.{StoreDelivery}
+use Rattle.lmtp_connections.specs.declared.demand.Question.{Question}
+use Rattle.lmtp_connections.specs.declared.connection.LmtpConnection.{LmtpConnection as Code}
+use Rattle.lmtp_connections.specs.declared.progress.LmtpProgress.{LmtpProgress}
 
 -- a list around one of its items
 split : {X : Type 0} (xs : List X) (i : ℕ) (x : X) → slice_get xs i ≡ Some x → (after : List X) × (xs ≡ take i xs ++ x ∷ after) × (length (take i xs) ≡ i)
@@ -44,20 +44,20 @@ pub put_off : (now : ℕ) (c : Code) (address : List ℕ) → AsksFor c address 
 put_off now c address asks waited = λ p stands.
     let a = asks p.dialogue stands.holds.dialogue in (subst (HasWaited now) stands.holds.tally waited, (a.0, a.1, address, a.2))
 
-next_is : (tried : ℕ) (others : List (List ℕ)) (count : ℕ) (following : Option ℕ) → count ≡ suc tried + length others → Follows tried count following → IsNext tried following others
+next_is : (tried : ℕ) (others : List (List ℕ)) (count : ℕ) (following : Option ℕ) → count ≡ suc tried + length others → FormFollows tried count following → IsNextForm tried following others
 next_is tried [] count None is follows = refl
 next_is tried (form ∷ others) count None is follows = absurd (omega (arith, is, follows))
 next_is tried [] count (Some next) is follows = absurd (omega (arith, is, follows.0, follows.1))
 next_is tried (form ∷ others) count (Some next) is follows = (follows.0, (form, others, refl))
 
 pub account : (now : ℕ) (c : Code) (question : Question) (forms : List (List ℕ)) → AsksFor c question.address → AreForms c.names question.address forms
-    → slice_get forms c.tally.tried ≡ Some question.user → Follows c.tally.tried (length forms) question.next → MayAsk now c.tally → Demands now c (demand.Account question)
+    → slice_get forms c.tally.tried ≡ Some question.user → FormFollows c.tally.tried (length forms) question.next → MayAskStore now c.tally → Demands now c (demand.Account question)
 account now c question forms asks are there follows may = λ p stands.
     let a = asks p.dialogue stands.holds.dialogue in
     let at = split forms c.tally.tried question.user there in
-    let tried : c.tally.tried ≡ p.tally.tried = ap (λ (t : Tally). t.tried) stands.holds.tally in
+    let tried : c.tally.tried ≡ p.tally.tried = ap (λ (t : LmtpProgress). t.tried) stands.holds.tally in
     let count : length forms ≡ suc c.tally.tried + length at.0 = around forms (take c.tally.tried forms) at.0 c.tally.tried question.user at.1 at.2 in (
-      subst (MayAsk now) stands.holds.tally may,
+      subst (MayAskStore now) stands.holds.tally may,
       (
         at.0,
         record {
@@ -68,7 +68,7 @@ account now c question forms asks are there follows may = λ p stands.
           forms = subst (λ n. AreForms n question.address (take c.tally.tried forms ++ question.user ∷ at.0)) stands.holds.names (subst (AreForms c.names question.address) at.1 are);
           count = at.2 ∙ tried;
         },
-        subst (λ n. IsNext n question.next at.0) tried (next_is c.tally.tried at.0 (length forms) question.next count follows),
+        subst (λ n. IsNextForm n question.next at.0) tried (next_is c.tally.tried at.0 (length forms) question.next count follows),
       ),
     )
 
@@ -78,14 +78,14 @@ abbrev pub Delivers : Code → Delivery → Type 0
 Delivers c delivery = (d : Dialogue) → StandsIn c.receiver d → IsDelivery d delivery
 
 -- to the recipient that stands there
-pub record OwesNext (c : Code) (it : Addressee) (delivery : Delivery) (p : Post) : Type 0 where
+pub record OwesNext (c : Code) (it : Addressee) (delivery : Delivery) (p : LmtpState) : Type 0 where
   pub after : List Addressee
   pub text : List ℕ
   pub is : IsOwed p (told_before c) it after delivery.sender.now text
   pub kept : IsKept text delivery.text
 
 pub owes_next : (c : Code) (it : Addressee) (delivery : Delivery) → Delivers c delivery → slice_get c.addressees.items c.tally.told ≡ Some it → it.address ≡ delivery.recipient.now
-    → (p : Post) → Stands c p → OwesNext c it delivery p
+    → (p : LmtpState) → ConnectionStands c p → OwesNext c it delivery p
 owes_next c it delivery delivers there same p stands =
     let d = delivers p.dialogue stands.holds.dialogue in
     let at = split c.addressees.items c.tally.told it there in
@@ -98,7 +98,7 @@ owes_next c it delivery delivers there same p stands =
         owed = subst (λ x. p.dialogue.phase ≡ Sending delivery.sender.now (x ∷ d.left)) (sym same) d.owed;
         first = d.first;
         addressees = sym stands.holds.addressees ∙ at.1;
-        count = at.2 ∙ ap (λ (t : Tally). t.told) stands.holds.tally;
+        count = at.2 ∙ ap (λ (t : LmtpProgress). t.told) stands.holds.tally;
       };
       kept = d.kept;
     }
@@ -110,22 +110,22 @@ module _ (now : ℕ) (c : Code) (it : Addressee) (delivery : Delivery) (delivers
       let kept : (text.now ≡ o.text) × (length o.text ≤ max_text) = subst (IsKept o.text) is o.kept in
       (o.after, subst (IsOwed p (told_before c) it o.after delivery.sender.now) (sym kept.0) o.is, subst (λ x. length x ≤ max_text) (sym kept.0) kept.1)
 
-  becomes : (trouble : Trouble) (p : Post) (text : List ℕ) → IsKept text (Err trouble) → Becomes now p (told_before c) it text (Refused (reply_for trouble))
+  becomes : (trouble : TextFault) (p : LmtpState) (text : List ℕ) → IsKept text (Err trouble) → BecomesWithoutStore now p (told_before c) it text (Refused (reply_for trouble))
   becomes trouble.TooLarge p text kept = TooLarge kept refl
   becomes trouble.Memory p text kept = Lacked refl
 
-  pub unkept : (trouble : Trouble) → delivery.text ≡ Err trouble → Demands now c (demand.Reply (Refused (reply_for trouble)))
+  pub unkept : (trouble : TextFault) → delivery.text ≡ Err trouble → Demands now c (demand.Reply (Refused (reply_for trouble)))
   unkept trouble is = λ p stands.
       let o = owes_next c it delivery delivers there same p stands in
       (told_before c, it, o.after, delivery.sender.now, o.text, o.is, becomes trouble p o.text (subst (IsKept o.text) is o.kept))
 
 module _ (now : ℕ) (c : Code) (it : Addressee) (sender text : List ℕ) (owes : Owes c it sender text) where
-  pub again : (became : Became) → earlier (told_before c) it ≡ Some became → Demands now c (demand.Reply became)
+  pub again : (became : DeliveryResult) → earlier (told_before c) it ≡ Some became → Demands now c (demand.Reply became)
   again became is = λ p stands.
       let o = owes p stands in
       (told_before c, it, o.0, sender, text, o.1, Again is)
 
-  pub too_long : has_long_header text ≡ true → Demands now c (demand.Reply (Refused HeaderTooLarge))
+  pub too_long : has_long_text_header text ≡ true → Demands now c (demand.Reply (Refused HeaderTooLarge))
   too_long is = λ p stands.
       let o = owes p stands in
       (told_before c, it, o.0, sender, text, o.1, LongHeader is refl)
@@ -135,19 +135,19 @@ module _ (now : ℕ) (c : Code) (it : Addressee) (sender text : List ℕ) (owes 
       let o = owes p stands in
       (told_before c, it, o.0, sender, text, o.1, Circles is refl)
 
-  new_one : earlier (told_before c) it ≡ None → has_long_header text ≡ false → was_delivered it.address text ≡ false → (p : Post) → Stands c p → IsNew (told_before c) it text
+  new_one : earlier (told_before c) it ≡ None → has_long_text_header text ≡ false → was_delivered it.address text ≡ false → (p : LmtpState) → ConnectionStands c p → IsNewDelivery (told_before c) it text
   new_one once headed straight p stands = record { small = (owes p stands).2; once = once; headed = headed; straight = straight }
 
-  pub puts_off : earlier (told_before c) it ≡ None → has_long_header text ≡ false → was_delivered it.address text ≡ false → HasWaited now c.tally → Demands now c (demand.Reply (Refused StoreAway))
+  pub puts_off : earlier (told_before c) it ≡ None → has_long_text_header text ≡ false → was_delivered it.address text ≡ false → HasWaited now c.tally → Demands now c (demand.Reply (Refused StoreAway))
   puts_off once headed straight waited = λ p stands.
       let o = owes p stands in
       (told_before c, it, o.0, sender, text, o.1, PutOff (new_one once headed straight p stands) (subst (HasWaited now) stands.holds.tally waited) refl)
 
-  pub delivery : earlier (told_before c) it ≡ None → has_long_header text ≡ false → was_delivered it.address text ≡ false → MayAsk now c.tally → (parcel : Parcel) → parcel.user ≡ it.user → parcel.sender ≡ sender
+  pub delivery : earlier (told_before c) it ≡ None → has_long_text_header text ≡ false → was_delivered it.address text ≡ false → MayAskStore now c.tally → (parcel : StoreDelivery) → parcel.user ≡ it.user → parcel.sender ≡ sender
       → parcel.recipient ≡ it.address → IsCopy sender it.address text parcel.message → Demands now c (demand.Delivery parcel)
   delivery once headed straight may parcel user from to copy = λ p stands.
       let o = owes p stands in (
-        subst (MayAsk now) stands.holds.tally may,
+        subst (MayAskStore now) stands.holds.tally may,
         (
           told_before c,
           it,

@@ -1,3 +1,3 @@
-pub mod Posts
+pub mod Connections
 pub mod Stands
-pub mod Tallies
+pub mod Progress

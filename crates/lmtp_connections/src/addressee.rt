@@ -1,39 +1,39 @@
 //! For whom a message is, and what became of it.
 ghost use Rattle.std.specs.Prelude.{◌≡◌, IfOk};
-ghost use Rattle.lmtp.specs.Replies.{said_of};
-ghost use Rattle.mailposts.specs.Posts as s;
+ghost use Rattle.lmtp_dialogue.specs.Replies.{outcome_line};
+ghost use Rattle.lmtp_connections.specs.Connections as s;
 
-use lmtp::{Outcome, Reply};
+use lmtp_dialogue::{DeliveryOutcome, LmtpReply};
 use octets::Octets;
 use std::alloc::{AllocError, Global};
 
 /// What became of a message for one recipient.
 #[derive(Drop)]
-pub enum Became {
+pub enum DeliveryResult {
     /// It was delivered: what is reported of that.
     Delivered(Octets),
     /// It wasn't.
-    Refused(Reply),
+    Refused(LmtpReply),
 }
 
-impl Became {
+impl DeliveryResult {
     /// The same, as it is said.
-    pub fn outcome(&self) -> Outcome<'_>
-        ensures { said_of result ≡ s.said_for self.now }
+    pub fn outcome(&self) -> DeliveryOutcome<'_>
+        ensures { outcome_line result ≡ s.said_for self.now }
     {
         match self {
-            Became::Delivered(report) => Outcome::Delivered(report.as_slice()),
-            Became::Refused(reply) => Outcome::Refused(*reply),
+            DeliveryResult::Delivered(report) => DeliveryOutcome::Delivered(report.as_slice()),
+            DeliveryResult::Refused(reply) => DeliveryOutcome::Refused(*reply),
         }
     }
 
     /// A copy. Lack of memory is the only error.
-    pub fn try_clone(&self, alloc: Global) -> Result<Became, AllocError>
+    pub fn try_clone(&self, alloc: Global) -> Result<DeliveryResult, AllocError>
         ensures { IfOk result (λ copy. copy ≡ self.now) }
     {
         match self {
-            Became::Delivered(report) => Ok(Became::Delivered(report.try_clone(alloc)?)),
-            Became::Refused(reply) => Ok(Became::Refused(*reply)),
+            DeliveryResult::Delivered(report) => Ok(DeliveryResult::Delivered(report.try_clone(alloc)?)),
+            DeliveryResult::Refused(reply) => Ok(DeliveryResult::Refused(*reply)),
         }
     }
 }
@@ -46,5 +46,5 @@ pub struct Addressee {
     /// The recipient's address, as it was written.
     pub address: Octets,
     /// What became of the message, once a reply was made after the text.
-    pub became: Option<Became>,
+    pub became: Option<DeliveryResult>,
 }

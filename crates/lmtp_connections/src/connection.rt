@@ -1,19 +1,19 @@
 //! The state of one connection.
 ghost use Rattle.std.specs.Prelude.{◌≡◌, ◌≢◌, ◌+◌, ◌<◌, ◌≤◌, List, [], ◌∷◌, ◌++◌, length, Some, IfOk, OnOk, OnErr};
-ghost use Rattle.mailposts.specs.declared.addressee.Addressee.{Addressee};
-ghost use Rattle.lmtp.specs.Receivers as receivers;
-ghost use Rattle.lmtp.specs.Replies as replies;
-ghost use Rattle.mailposts.specs.Posts as posts;
-ghost use Rattle.mailposts.specs.Posts.{Answered, Asked, Away, Brought};
-ghost use Rattle.mailposts.specs.Stands as s;
-ghost use Rattle.mailposts.specs.Tallies as tallies;
-ghost use Rattle.mailposts.specs.declared.demand.Demand.TheVariants as demands;
+ghost use Rattle.lmtp_connections.specs.declared.addressee.Addressee.{Addressee};
+ghost use Rattle.lmtp_dialogue.specs.Receivers as receivers;
+ghost use Rattle.lmtp_dialogue.specs.Replies as replies;
+ghost use Rattle.lmtp_connections.specs.Connections as posts;
+ghost use Rattle.lmtp_connections.specs.Connections.{Answered, Asked, Away, Brought};
+ghost use Rattle.lmtp_connections.specs.Stands as s;
+ghost use Rattle.lmtp_connections.specs.Progress as tallies;
+ghost use Rattle.lmtp_connections.specs.declared.demand.Demand.TheVariants as demands;
 
-use crate::addressee::{Addressee, Became};
-use crate::demand::{Parcel, Question};
-use crate::room::Room;
-use crate::tally::{Tally, Wanted};
-use lmtp::{Lookup, Names, Next, Outcome, Receiver, Stage};
+use crate::addressee::{Addressee, DeliveryResult};
+use crate::demand::{StoreDelivery, Question};
+use crate::reply_buffer::ReplyBuffer;
+use crate::progress::{LmtpProgress, Wanted};
+use lmtp_dialogue::{Lookup, Names, Next, DeliveryOutcome, Receiver, LmtpStage};
 use octets::Octets;
 use std::alloc::{AllocError, Global};
 
@@ -22,7 +22,7 @@ use std::alloc::{AllocError, Global};
 /// It knows no store: it says what is to be asked of one (`demand`), and is told what became of it. It holds what its
 /// receiver holds, and 1,000 recipients of twice 1,024 octets.
 #[derive(Drop)]
-pub struct Post {
+pub struct LmtpConnection {
     pub(crate) alloc: Global,
     pub(crate) names: Names,
     pub(crate) receiver: Receiver,
@@ -30,10 +30,10 @@ pub struct Post {
     pub(crate) comes: Wanted,
     /// The recipients that were taken, with their accounts.
     pub(crate) addressees: Vec<Addressee>,
-    pub(crate) tally: Tally,
+    pub(crate) tally: LmtpProgress,
 }
 
-impl Post {
+impl LmtpConnection {
     /// One that has just come: it is greeted, by the host's name.
     ///
     /// Lack of memory is the only error; the output then stays as it was.
@@ -43,22 +43,22 @@ impl Post {
         host: &[u8],
         now: u64,
         out: &mut Octets,
-    ) -> Result<Post, AllocError>
+    ) -> Result<LmtpConnection, AllocError>
         requires { out.old ≡ [] }
-        ensures begins { IfOk result (λ post. s.Stands post (posts.new_post names host.now now)) }
+        ensures begins { IfOk result (λ post. s.ConnectionStands post (posts.new_lmtp_state names host.now now)) }
         ensures empty { IfOk result (λ post. receivers.held_by post.receiver ≡ 0) }
-        ensures greets { OnOk result (out.new ≡ replies.greeting host.now) }
+        ensures greets { OnOk result (out.new ≡ replies.lmtp_greeting host.now) }
         ensures err { OnErr result (out.new ≡ out.old) }
     {
         let receiver = Receiver::new(alloc, host, out)?;
         let comes = wanted_for(receiver.next());
-        Ok(Post {
+        Ok(LmtpConnection {
             alloc,
             names,
             receiver,
             comes,
             addressees: Vec::new(alloc),
-            tally: Tally::fresh(now),
+            tally: LmtpProgress::fresh(now),
         })
     }
 
@@ -94,7 +94,7 @@ impl Post {
     ///
     /// Lack of memory is the only error; nothing changes then.
     pub fn hear(&mut self, now: u64, piece: &[u8]) -> Result<(), AllocError>
-        ensures hears { OnOk result (s.Hears now piece.now self.old self.new) }
+        ensures hears { OnOk result (s.ConnectionHears now piece.now self.old self.new) }
         ensures held { receivers.held_by self.new.receiver ≤ receivers.held_by self.old.receiver + length piece.now }
         ensures err { OnErr result (self.new ≡ self.old) }
     {
@@ -115,10 +115,10 @@ impl Post {
     /// Drops a text that is sent, or was, since there is no room for it: it is read to its end, and each recipient who has had no reply is
     /// told so (452). If none is sent, nothing changes. Takes no memory.
     pub fn drop_text(&mut self)
-        ensures keeps { s.Keeps self.old self.new }
+        ensures keeps { s.ConnectionKeeps self.old self.new }
         ensures dropped { receivers.IsDropped self.new.receiver.talk }
-        ensures other { self.old.receiver.talk.stage ≢ Stage.Sending → self.new ≡ self.old }
-        ensures held { s.HoldsNoMore self.old self.new }
+        ensures other { self.old.receiver.talk.stage ≢ LmtpStage.Sending → self.new ≡ self.old }
+        ensures held { s.ConnectionHoldsNoMore self.old self.new }
     {
         self.receiver.drop_text();
     }
@@ -129,8 +129,8 @@ impl Post {
     /// Lack of memory is the only error; nothing changes then.
     pub fn refuse(&mut self, now: u64, room: u64, out: &mut Octets) -> Result<bool, AllocError>
         requires out { out.old ≡ [] }
-        ensures ok { IfOk result (λ did. s.Refuses now room out.new did self.old self.new) }
-        ensures held { s.HoldsNoMore self.old self.new }
+        ensures ok { IfOk result (λ did. s.ConnectionRefuses now room out.new did self.old self.new) }
+        ensures held { s.ConnectionHoldsNoMore self.old self.new }
         ensures err { OnErr result ((self.new ≡ self.old) × (out.new ≡ out.old)) }
     {
         let did = self.receiver.refuse(room, out)?;
@@ -146,8 +146,8 @@ impl Post {
     pub fn answer(&mut self, now: u64, out: &mut Octets) -> Result<(), AllocError>
         requires out { out.old ≡ [] }
         requires line { s.Demands now self.old demands.Line }
-        ensures does { OnOk result (s.Does now Answered out.new self.old self.new) }
-        ensures held { s.HoldsNoMore self.old self.new }
+        ensures does { OnOk result (s.ConnectionDoes now Answered out.new self.old self.new) }
+        ensures held { s.ConnectionHoldsNoMore self.old self.new }
     {
         self.receiver.answer(out)?;
         self.go_on(now);
@@ -159,29 +159,29 @@ impl Post {
     /// Lack of memory is the only error.
     pub fn put_off(&mut self, now: u64) -> Result<Octets, AllocError>
         requires { s.Demands now self.old demands.PutOff }
-        ensures does { IfOk result (λ said. s.Does now Answered said self.old self.new) }
-        ensures held { s.HoldsNoMore self.old self.new }
+        ensures does { IfOk result (λ said. s.ConnectionDoes now Answered said self.old self.new) }
+        ensures held { s.ConnectionHoldsNoMore self.old self.new }
     {
-        let room = Room::new(self.alloc)?;
+        let room = ReplyBuffer::new(self.alloc)?;
         Ok(self.resolve(now, Lookup::Away, room))
     }
 
     /// The store isn't available, and is asked for again.
     pub fn await_store(&mut self, now: u64)
         requires { s.AsksIt now self.old }
-        ensures does { s.Does now Away [] self.old self.new }
-        ensures held { s.HoldsNoMore self.old self.new }
+        ensures does { s.ConnectionDoes now Away [] self.old self.new }
+        ensures held { s.ConnectionHoldsNoMore self.old self.new }
     {
         self.tally = self.tally.away(now);
     }
 
     /// The store was asked a question, and this is what was found. Returns what is said. Takes no memory.
-    pub fn answer_recipient(&mut self, now: u64, question: Question, lookup: Lookup, room: Room) -> Octets
-        requires found { posts.IsFound lookup }
+    pub fn answer_recipient(&mut self, now: u64, question: Question, lookup: Lookup, room: ReplyBuffer) -> Octets
+        requires found { posts.IsFinding lookup }
         requires asked { s.Demands now self.old (demands.Account question) }
         requires slot { s.HasSlot self.old }
-        ensures does { s.Does now (Asked question.user lookup) result self.old self.new }
-        ensures held { s.HoldsNoMore self.old self.new }
+        ensures does { s.ConnectionDoes now (Asked question.user lookup) result self.old self.new }
+        ensures held { s.ConnectionHoldsNoMore self.old self.new }
     {
         let Question {
             user,
@@ -210,7 +210,7 @@ impl Post {
     // Looks for the next form of the recipient's name.
     fn try_next(&mut self, now: u64, next: usize) -> Octets
         ensures said { result ≡ [] }
-        ensures tally { self.new.tally ≡ record (tallies.done now self.old.tally) { tried = next } }
+        ensures tally { self.new.tally ≡ record (tallies.progress_done now self.old.tally) { tried = next } }
         ensures rest { self.new ≡ record self.old { tally = self.new.tally } }
     {
         self.tally = self.tally.done(now);
@@ -219,41 +219,41 @@ impl Post {
     }
 
     // Answers the recipient.
-    fn resolve(&mut self, now: u64, lookup: Lookup, room: Room) -> Octets
+    fn resolve(&mut self, now: u64, lookup: Lookup, room: ReplyBuffer) -> Octets
         ensures resolves { s.ResolvesIt now lookup result self.old self.new }
-        ensures held { s.HoldsNoMore self.old self.new }
+        ensures held { s.ConnectionHoldsNoMore self.old self.new }
     {
         self.receiver.admit(lookup);
         self.tally.tried = 0;
         self.go_on(now);
-        room.say(Outcome::Refused(lookup.reply()))
+        room.say(DeliveryOutcome::Refused(lookup.reply()))
     }
 
     /// Makes a reply after the text without the store. Returns what is said.
     ///
     /// Lack of memory is the only error.
-    pub fn reply(&mut self, now: u64, became: Became) -> Result<Octets, AllocError>
+    pub fn reply(&mut self, now: u64, became: DeliveryResult) -> Result<Octets, AllocError>
         requires { s.Demands now self.old (demands.Reply became) }
-        ensures does { IfOk result (λ said. s.Does now Answered said self.old self.new) }
-        ensures held { s.HoldsNoMore self.old self.new }
+        ensures does { IfOk result (λ said. s.ConnectionDoes now Answered said self.old self.new) }
+        ensures held { s.ConnectionHoldsNoMore self.old self.new }
     {
-        let room = Room::new(self.alloc)?;
+        let room = ReplyBuffer::new(self.alloc)?;
         Ok(self.tell(now, became, room))
     }
 
     /// The store was to deliver a message, and this became of it. Returns what is said. Takes no memory.
-    pub fn brought(&mut self, now: u64, parcel: &Parcel, became: Became, room: Room) -> Octets
+    pub fn answer_delivery(&mut self, now: u64, parcel: &StoreDelivery, became: DeliveryResult, room: ReplyBuffer) -> Octets
         requires { s.Demands now self.old (demands.Delivery parcel.now) }
-        ensures does { s.Does now (Brought parcel.now became) result self.old self.new }
-        ensures held { s.HoldsNoMore self.old self.new }
+        ensures does { s.ConnectionDoes now (Brought parcel.now became) result self.old self.new }
+        ensures held { s.ConnectionHoldsNoMore self.old self.new }
     {
         self.tell(now, became, room)
     }
 
     // Makes the reply to the next recipient.
-    fn tell(&mut self, now: u64, became: Became, room: Room) -> Octets
+    fn tell(&mut self, now: u64, became: DeliveryResult, room: ReplyBuffer) -> Octets
         ensures tells { s.TellsIt now became result self.old self.new }
-        ensures held { s.HoldsNoMore self.old self.new }
+        ensures held { s.ConnectionHoldsNoMore self.old self.new }
     {
         let line = room.say(became.outcome());
         self.receiver.pass();
@@ -263,7 +263,7 @@ impl Post {
     }
 
     // Notes what became of the message for the next recipient.
-    fn note_became(&mut self, became: Became)
+    fn note_became(&mut self, became: DeliveryResult)
         ensures noted { s.NotesBecame became self.old self.new }
         ensures counted { self.old.tally.told < length self.old.addressees.items → self.new.tally ≡ posts.next_recipient self.old.tally }
         ensures receiver { self.new.receiver ≡ self.old.receiver }
@@ -278,7 +278,7 @@ impl Post {
 
     // What follows from what goes on in the dialogue.
     fn go_on(&mut self, now: u64)
-        ensures goes { s.GoesOn now self.old self.new }
+        ensures goes { s.ConnectionGoesOn now self.old self.new }
         ensures receiver { self.new.receiver ≡ self.old.receiver }
     {
         self.settle(now);
@@ -332,30 +332,30 @@ fn owed_by(addressees: &[Addressee], wanted: Wanted, since: u64) -> Option<u64>
 }
 
 // Whether LHLO was said.
-fn has_said_at(stage: Stage) -> bool
+fn has_said_at(stage: LmtpStage) -> bool
     ensures { result ≡ s.has_said_at stage }
 {
     match stage {
-        Stage::Greeted => false,
+        LmtpStage::Greeted => false,
         _ => true,
     }
 }
 
 // Whether a transaction is open.
-fn is_open(stage: Stage) -> bool
+fn is_open(stage: LmtpStage) -> bool
     ensures { result ≡ s.is_open_at stage }
 {
     match stage {
-        Stage::Opened | Stage::Asking | Stage::Sending => true,
-        Stage::Greeted | Stage::Ready | Stage::Over => false,
+        LmtpStage::Opened | LmtpStage::Asking | LmtpStage::Sending => true,
+        LmtpStage::Greeted | LmtpStage::Ready | LmtpStage::Over => false,
     }
 }
 
-fn is_sending(stage: Stage) -> bool
+fn is_sending(stage: LmtpStage) -> bool
     ensures { result ≡ s.is_sending_at stage }
 {
     match stage {
-        Stage::Sending => true,
+        LmtpStage::Sending => true,
         _ => false,
     }
 }

@@ -1,5 +1,5 @@
 //! What is to be done next for a connection.
-use crate::addressee::Became;
+use crate::addressee::DeliveryResult;
 use octets::Octets;
 
 /// A recipient whose account is looked for: whether there is one of that name.
@@ -15,7 +15,7 @@ pub struct Question {
 
 /// A message for one recipient.
 #[derive(Drop)]
-pub struct Parcel {
+pub struct StoreDelivery {
     /// The name of the account.
     pub user: Octets,
     /// The sender's address; empty for that of a bounce.
@@ -38,7 +38,7 @@ pub enum Demand {
     /// The store is to be asked whether there is an account of that name.
     Account(Question),
     /// A reply is to be made after the text, without the store.
-    Reply(Became),
+    Reply(DeliveryResult),
     /// A message is to be delivered by the store.
-    Delivery(Parcel),
+    Delivery(StoreDelivery),
 }

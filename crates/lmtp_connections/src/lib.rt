@@ -5,12 +5,12 @@
 pub mod addressee;
 pub mod demand;
 mod next;
-pub mod post;
-pub mod room;
-pub mod tally;
+pub mod connection;
+pub mod reply_buffer;
+pub mod progress;
 
-pub use addressee::{Addressee, Became};
-pub use demand::{Demand, Parcel, Question};
-pub use post::Post;
-pub use room::Room;
-pub use tally::{Tally, Waits, Wanted};
+pub use addressee::{Addressee, DeliveryResult};
+pub use demand::{Demand, StoreDelivery, Question};
+pub use connection::LmtpConnection;
+pub use reply_buffer::ReplyBuffer;
+pub use progress::{LmtpProgress, StoreWait, Wanted};

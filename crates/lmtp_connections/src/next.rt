@@ -1,18 +1,18 @@
 //! What is to be done next for a connection.
 ghost use Rattle.std.specs.Prelude.{◌≡◌, ◌<◌, ◌≤◌, length, find, slice_get, None, IfOk, OnOk};
 ghost use Rattle.std.specs.Option.{option_copied};
-ghost use Rattle.lmtp.specs.Dialogues.{Dialogue};
-ghost use Rattle.lmtp.specs.Copies as copies;
-ghost use Rattle.lmtp.specs.Receivers.{StandsIn, ComesNext};
-ghost use Rattle.mailposts.specs.Posts as posts;
-ghost use Rattle.mailposts.specs.Stands as s;
+ghost use Rattle.lmtp_dialogue.specs.Dialogues.{Dialogue};
+ghost use Rattle.lmtp_dialogue.specs.Copies as copies;
+ghost use Rattle.lmtp_dialogue.specs.Receivers.{StandsIn, ComesNext};
+ghost use Rattle.lmtp_connections.specs.Connections as posts;
+ghost use Rattle.lmtp_connections.specs.Stands as s;
 
-use crate::addressee::{Addressee, Became};
-use crate::demand::{Demand, Parcel, Question};
-use crate::post::Post;
-use lmtp::{Delivery, Next, Reply, Trouble, copy_for, name_forms, was_delivered};
-use mailfronts::is_header_longer;
-use mailhead::Head;
+use crate::addressee::{Addressee, DeliveryResult};
+use crate::demand::{Demand, StoreDelivery, Question};
+use crate::connection::LmtpConnection;
+use lmtp_dialogue::{Delivery, Next, LmtpReply, TextFault, copy_for, name_forms, was_delivered};
+use mail_head::is_header_longer;
+use mail_head::Head;
 use octets::Octets;
 use std::alloc::{AllocError, Global};
 
@@ -20,12 +20,12 @@ use std::alloc::{AllocError, Global};
 /// 2,200 for the two fields that a delivery has at its start. A program reads all fields of a header at once.
 const MAX_HEADER: usize = 1_046_376;
 
-impl Post {
+impl LmtpConnection {
     /// What is to be done next. Time is linear in the text that is delivered, or in the address that is asked for.
     ///
     /// Lack of memory is the only error.
     pub fn demand(&mut self, now: u64) -> Result<Demand, AllocError>
-        ensures keeps { s.Keeps self.old self.new }
+        ensures keeps { s.ConnectionKeeps self.old self.new }
         ensures receiver { self.new.receiver ≡ self.old.receiver }
         ensures slot { OnOk result (s.HasSlot self.new) }
         ensures demands { IfOk result (s.Demands now self.new) }
@@ -81,7 +81,7 @@ impl Post {
         }
         match delivery.text {
             Ok(text) => self.demand_delivery(now, addressee, delivery.sender, text),
-            Err(trouble) => Ok(Demand::Reply(Became::Refused(reply_for(trouble)))),
+            Err(trouble) => Ok(Demand::Reply(DeliveryResult::Refused(reply_for(trouble)))),
         }
     }
 
@@ -116,13 +116,13 @@ impl Post {
         ensures { IfOk result (s.Demands now self.now) }
     {
         if has_long_header(text) {
-            return Ok(Demand::Reply(Became::Refused(Reply::HeaderTooLarge)));
+            return Ok(Demand::Reply(DeliveryResult::Refused(LmtpReply::HeaderTooLarge)));
         }
         if circles(self.alloc, text, addressee.address.as_slice())? {
-            return Ok(Demand::Reply(Became::Refused(Reply::MailLoop)));
+            return Ok(Demand::Reply(DeliveryResult::Refused(LmtpReply::MailLoop)));
         }
         if !self.tally.may_ask(now) {
-            return Ok(Demand::Reply(Became::Refused(Reply::StoreAway)));
+            return Ok(Demand::Reply(DeliveryResult::Refused(LmtpReply::StoreAway)));
         }
         let parcel = parcel_for(self.alloc, addressee, sender, text)?;
         Ok(Demand::Delivery(parcel))
@@ -138,12 +138,12 @@ impl Post {
 }
 
 // What is said if the text isn't kept.
-fn reply_for(trouble: Trouble) -> Reply
+fn reply_for(trouble: TextFault) -> LmtpReply
     ensures { result ≡ s.reply_for trouble }
 {
     match trouble {
-        Trouble::TooLarge => Reply::MessageTooLarge,
-        Trouble::Memory => Reply::NoRoom,
+        TextFault::TooLarge => LmtpReply::MessageTooLarge,
+        TextFault::Memory => LmtpReply::NoRoom,
     }
 }
 
@@ -162,14 +162,14 @@ fn addressee_at(addressees: &[Addressee], at: usize) -> Option<&Addressee>
 // How many forms were asked for, if another one follows.
 fn following(tried: usize, count: usize) -> Option<usize>
     requires { tried < count }
-    ensures { s.Follows tried count result }
+    ensures { s.FormFollows tried count result }
 {
     let next = tried + 1;
     if next < count { Some(next) } else { None }
 }
 
 // What became of the message for the same recipient among those before it.
-fn earlier<'a>(before: &'a [Addressee], addressee: &Addressee) -> Option<&'a Became>
+fn earlier<'a>(before: &'a [Addressee], addressee: &Addressee) -> Option<&'a DeliveryResult>
     ensures { option_copied result ≡ posts.earlier before.now addressee.now }
 {
     match same_among(before, addressee) {
@@ -193,7 +193,7 @@ fn is_same(addressee: &Addressee, other: &Addressee) -> bool
 
 // Whether the header of a text is longer than one may be. No more octets of the text are looked at than one may have.
 fn has_long_header(text: &[u8]) -> bool
-    ensures { result ≡ posts.has_long_header text.now }
+    ensures { result ≡ posts.has_long_text_header text.now }
 {
     is_header_longer(text, MAX_HEADER)
 }
@@ -211,7 +211,7 @@ fn parcel_for(
     addressee: &Addressee,
     sender: &[u8],
     text: &[u8],
-) -> Result<Parcel, AllocError>
+) -> Result<StoreDelivery, AllocError>
     ensures user { IfOk result (λ parcel. parcel.user ≡ addressee.now.user) }
     ensures sender { IfOk result (λ parcel. parcel.sender ≡ sender.now) }
     ensures recipient { IfOk result (λ parcel. parcel.recipient ≡ addressee.now.address) }
@@ -220,7 +220,7 @@ fn parcel_for(
     let user = addressee.user.try_clone(alloc)?;
     let recipient = addressee.address.try_clone(alloc)?;
     let message = copy_for(alloc, sender, recipient.as_slice(), text)?;
-    Ok(Parcel {
+    Ok(StoreDelivery {
         user,
         sender: Octets::from_slice(alloc, sender)?,
         recipient,

@@ -1,6 +1,6 @@
 //! What a connection waits for, and since when. Moments are in milliseconds.
 ghost use Rattle.std.specs.Prelude.{◌≡◌, true, false};
-ghost use Rattle.mailposts.specs.Tallies as s;
+ghost use Rattle.lmtp_connections.specs.Progress as s;
 
 /// For how many milliseconds the store is asked for without success, for all recipients of a message together.
 const MAX_AWAY: u64 = 60000;
@@ -26,7 +26,7 @@ pub enum Wanted {
 
 /// What a connection waits for, beside its socket.
 #[derive(Clone, Copy, Debug, PartialEq, Eq)]
-pub enum Waits {
+pub enum StoreWait {
     /// Nothing.
     Nothing,
     /// The store, which wasn't available at the first moment, and is asked for again at the second.
@@ -35,12 +35,12 @@ pub enum Waits {
 
 /// How far a message has come, and the time that it took.
 #[derive(Clone, Copy, Debug, PartialEq, Eq)]
-pub struct Tally {
+pub struct LmtpProgress {
     /// How many forms of the recipient that is asked for have no account.
     pub tried: usize,
     /// How many recipients got a reply after the text.
     pub told: usize,
-    pub waits: Waits,
+    pub waits: StoreWait,
     /// How many milliseconds the store was away before, for this message.
     pub spent: u64,
     /// The moment from which on the client's silence is counted.
@@ -49,15 +49,15 @@ pub struct Tally {
     pub guest: u64,
 }
 
-impl Tally {
+impl LmtpProgress {
     /// That of a new message.
-    pub fn fresh(now: u64) -> Tally
-        ensures { result ≡ s.fresh now }
+    pub fn fresh(now: u64) -> LmtpProgress
+        ensures { result ≡ s.new_progress now }
     {
-        Tally {
+        LmtpProgress {
             tried: 0,
             told: 0,
-            waits: Waits::Nothing,
+            waits: StoreWait::Nothing,
             spent: 0,
             since: now,
             guest: now,
@@ -66,7 +66,7 @@ impl Tally {
 
     /// Whether the store may be asked: it wasn't away for too long.
     pub fn may_ask(&self, now: u64) -> bool
-        ensures may { result ≡ true → s.MayAsk now self.now }
+        ensures may { result ≡ true → s.MayAskStore now self.now }
         ensures waited { result ≡ false → s.HasWaited now self.now }
     {
         self.waited(now) < MAX_AWAY
@@ -77,8 +77,8 @@ impl Tally {
         ensures { result ≡ s.waited now self.now }
     {
         match self.waits {
-            Waits::Nothing => self.spent.min(MAX_AWAY),
-            Waits::Store(since, _) => self
+            StoreWait::Nothing => self.spent.min(MAX_AWAY),
+            StoreWait::Store(since, _) => self
                 .spent
                 .saturating_add(now.saturating_sub(since))
                 .min(MAX_AWAY),
@@ -86,13 +86,13 @@ impl Tally {
     }
 
     /// After something that was done: the store isn't waited for.
-    pub fn done(&self, now: u64) -> Tally
-        ensures { result ≡ s.done now self.now }
+    pub fn done(&self, now: u64) -> LmtpProgress
+        ensures { result ≡ s.progress_done now self.now }
     {
-        Tally {
+        LmtpProgress {
             tried: self.tried,
             told: self.told,
-            waits: Waits::Nothing,
+            waits: StoreWait::Nothing,
             spent: self.waited(now),
             since: now,
             guest: self.guest,
@@ -100,30 +100,30 @@ impl Tally {
     }
 
     /// After something that was done, while a transaction is open or none is, with a recipient that was taken or without.
-    pub fn settled(&self, now: u64, opened: bool, taken: bool) -> Tally
-        ensures { result ≡ s.settled now opened taken self.now }
+    pub fn settled(&self, now: u64, opened: bool, taken: bool) -> LmtpProgress
+        ensures { result ≡ s.progress_settled now opened taken self.now }
     {
         let mut tally = if opened {
             self.done(now)
         } else {
-            Tally::fresh(now)
+            LmtpProgress::fresh(now)
         };
         tally.guest = if taken { now } else { self.guest };
         tally
     }
 
     /// After the store's absence.
-    pub fn away(&self, now: u64) -> Tally
-        ensures { result ≡ s.away now self.now }
+    pub fn away(&self, now: u64) -> LmtpProgress
+        ensures { result ≡ s.progress_away now self.now }
     {
         let since = match self.waits {
-            Waits::Nothing => now,
-            Waits::Store(since, _) => since,
+            StoreWait::Nothing => now,
+            StoreWait::Store(since, _) => since,
         };
-        Tally {
+        LmtpProgress {
             tried: self.tried,
             told: self.told,
-            waits: Waits::Store(since, now.wrapping_add(RETRY_SPAN)),
+            waits: StoreWait::Store(since, now.wrapping_add(RETRY_SPAN)),
             spent: self.spent,
             since: self.since,
             guest: self.guest,
@@ -131,15 +131,15 @@ impl Tally {
     }
 
     /// After this many octets came. While the client sends a message's text each octet moves its deadline by a millisecond.
-    pub fn heard(&self, now: u64, sending: bool, count: usize) -> Tally
-        ensures { result ≡ s.heard now sending count self.now }
+    pub fn heard(&self, now: u64, sending: bool, count: usize) -> LmtpProgress
+        ensures { result ≡ s.progress_heard now sending count self.now }
     {
         let since = if sending {
             self.since.wrapping_add(count as u64).min(now)
         } else {
             now
         };
-        Tally {
+        LmtpProgress {
             tried: self.tried,
             told: self.told,
             waits: self.waits,
@@ -154,8 +154,8 @@ impl Tally {
         ensures { result ≡ s.due self.now }
     {
         match self.waits {
-            Waits::Nothing => self.since.wrapping_add(MAX_SILENCE),
-            Waits::Store(_, _) => u64::MAX,
+            StoreWait::Nothing => self.since.wrapping_add(MAX_SILENCE),
+            StoreWait::Store(_, _) => u64::MAX,
         }
     }
 
@@ -164,8 +164,8 @@ impl Tally {
         ensures { result ≡ s.wanted comes self.now }
     {
         match self.waits {
-            Waits::Nothing => comes,
-            Waits::Store(_, again) => Wanted::Until(again),
+            StoreWait::Nothing => comes,
+            StoreWait::Store(_, again) => Wanted::Until(again),
         }
     }
 }

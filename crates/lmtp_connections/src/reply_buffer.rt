@@ -1,9 +1,9 @@
 //! Memory for a reply, which is reserved before what is replied to is done.
 ghost use Rattle.std.specs.Prelude.{◌≡◌, ◌≤◌, ◌+◌, ◌++◌, [], length, map, take};
 ghost use Rattle.std.specs.Vec.{vec_len, vec_capacity};
-ghost use Rattle.lmtp.specs.Replies as replies;
+ghost use Rattle.lmtp_dialogue.specs.Replies as replies;
 
-use lmtp::Outcome;
+use lmtp_dialogue::DeliveryOutcome;
 use octets::{Octets, is_printable};
 use std::alloc::{AllocError, Global};
 
@@ -15,32 +15,32 @@ const MAX_REPORT: usize = 500;
 
 /// Memory for one line.
 #[derive(Drop)]
-pub struct Room {
+pub struct ReplyBuffer {
     line: Vec<u8>,
     ghost empty: { vec_len line ≡ 0 },
     ghost room: { 512 ≤ vec_capacity line },
 }
 
-impl Room {
+impl ReplyBuffer {
     /// Lack of memory is the only error.
-    pub fn new(alloc: Global) -> Result<Room, AllocError> {
-        Ok(Room {
+    pub fn new(alloc: Global) -> Result<ReplyBuffer, AllocError> {
+        Ok(ReplyBuffer {
             line: Vec::with_capacity(alloc, MAX_LINE)?,
         })
     }
 
     /// The line that tells an outcome, with CRLF. Takes no memory.
-    pub fn say(self, outcome: Outcome<'_>) -> Octets
-        ensures { result ≡ replies.said_of outcome.entry }
+    pub fn say(self, outcome: DeliveryOutcome<'_>) -> Octets
+        ensures { result ≡ replies.outcome_line outcome.entry }
     {
-        let Room { line: mut text } = self;
+        let ReplyBuffer { line: mut text } = self;
         match outcome {
-            Outcome::Delivered(report) => {
+            DeliveryOutcome::Delivered(report) => {
                 write(&mut text, b"250 2.1.5 ");
                 write_shown(&mut text, front(report, MAX_REPORT));
                 write(&mut text, b"\r\n");
             }
-            Outcome::Refused(reply) => write(&mut text, reply.line()),
+            DeliveryOutcome::Refused(reply) => write(&mut text, reply.line()),
         }
         Octets::from_vec(text)
     }
@@ -71,7 +71,7 @@ fn write(text: &mut Vec<u8>, more: &[u8])
 
 fn write_shown(text: &mut Vec<u8>, more: &[u8])
     requires { vec_len text.old + length more.now ≤ vec_capacity text.old }
-    ensures items { text.new.items ≡ text.old.items ++ map replies.shown_octet more.now }
+    ensures items { text.new.items ≡ text.old.items ++ map replies.lmtp_shown_octet more.now }
     ensures len { vec_len text.new ≡ vec_len text.old + length more.now }
     ensures capacity { vec_capacity text.new ≡ vec_capacity text.old }
 {
@@ -81,7 +81,7 @@ fn write_shown(text: &mut Vec<u8>, more: &[u8])
 }
 
 fn shown(octet: u8) -> u8
-    ensures { result ≡ replies.shown_octet octet }
+    ensures { result ≡ replies.lmtp_shown_octet octet }
 {
     if is_printable(octet) { octet } else { b'?' }
 }

@@ -3,13 +3,13 @@ use Rattle.std.proofs.Common.{◌≡◌, ℕ, ◌+◌, ◌<◌, ◌==◌, Bool, 
 use Rattle.std.proofs.Math.ListN.{drop_of_length-le}
 use Rattle.std.proofs.Math.Seq.{drop-cons}
 use Rattle.std.specs.List.{concat, list_any}
-use Rattle.mailhead.specs.Fields.{text_of, texts_of}
-use Rattle.mailhead.specs.declared.header.Field.{Field}
-use Rattle.mailhead.specs.Cuts.{CutsLogicalLine}
-use Rattle.mailhead.specs.Lines.{lines_of, logical_lines}
-use Rattle.mailhead.proofs.FoldLemmas.{logical_lines-folded}
-use Rattle.mailhead.proofs.LineLemmas.{goes_on-lines_of}
-use Rattle.lmtp.specs.Copies.{is_path_line, LeavesPaths, tells_delivery}
+use Rattle.mail_head.specs.Fields.{field_text_of, field_texts_of}
+use Rattle.mail_head.specs.declared.header.Field.{Field}
+use Rattle.mail_head.specs.Cuts.{CutsLogicalLine}
+use Rattle.mail_head.specs.Lines.{lines_of, logical_lines}
+use Rattle.mail_head.proofs.FoldLemmas.{logical_lines-folded}
+use Rattle.mail_head.proofs.LineLemmas.{goes_on-lines_of}
+use Rattle.lmtp_dialogue.specs.Copies.{is_path_line, LeavesPaths, tells_delivery}
 
 -- ---- one line comes first
 
@@ -54,29 +54,29 @@ five v w x y z start a b c d e one two three four last =
 -- ---- whether one of some fields is such a one
 
 any_there : (recipient : List ℕ) (fields : List Field) (i : ℕ) (other : Field) → i < length fields
-    → list_any (tells_delivery recipient) (texts_of (drop i fields))
-    ≡ (tells_delivery recipient (text_of (get_or fields i other)) || list_any (tells_delivery recipient) (texts_of (drop (i + 1) fields)))
+    → list_any (tells_delivery recipient) (field_texts_of (drop i fields))
+    ≡ (tells_delivery recipient (field_text_of (get_or fields i other)) || list_any (tells_delivery recipient) (field_texts_of (drop (i + 1) fields)))
 any_there recipient fields i other less =
-    ap (λ l. list_any (tells_delivery recipient) (texts_of l))
+    ap (λ l. list_any (tells_delivery recipient) (field_texts_of l))
     (drop-cons fields i other less ∙ ap (λ n. get_or fields i other ∷ drop n fields) (sym (add-one i)))
 
 -- this one is
 pub any_here : (recipient : List ℕ) (fields : List Field) (i : ℕ) (other : Field) (tells all : Bool) → i < length fields
-    → tells ≡ tells_delivery recipient (text_of (get_or fields i other)) → tells ≡ true
-    → list_any (tells_delivery recipient) (texts_of (drop i fields)) ≡ all → true ≡ all
+    → tells ≡ tells_delivery recipient (field_text_of (get_or fields i other)) → tells ≡ true
+    → list_any (tells_delivery recipient) (field_texts_of (drop i fields)) ≡ all → true ≡ all
 any_here recipient fields i other tells all less is passes so_far =
-    let here : tells_delivery recipient (text_of (get_or fields i other)) ≡ true = sym is ∙ passes in
-    sym (sym so_far ∙ (any_there recipient fields i other less ∙ ap (λ b. b || list_any (tells_delivery recipient) (texts_of (drop (i + 1) fields))) here))
+    let here : tells_delivery recipient (field_text_of (get_or fields i other)) ≡ true = sym is ∙ passes in
+    sym (sym so_far ∙ (any_there recipient fields i other less ∙ ap (λ b. b || list_any (tells_delivery recipient) (field_texts_of (drop (i + 1) fields))) here))
 
 -- this one isn't
 pub any_later : (recipient : List ℕ) (fields : List Field) (i : ℕ) (other : Field) (tells all : Bool) → i < length fields
-    → tells ≡ tells_delivery recipient (text_of (get_or fields i other)) → tells ≡ false
-    → list_any (tells_delivery recipient) (texts_of (drop i fields)) ≡ all → list_any (tells_delivery recipient) (texts_of (drop (i + 1) fields)) ≡ all
+    → tells ≡ tells_delivery recipient (field_text_of (get_or fields i other)) → tells ≡ false
+    → list_any (tells_delivery recipient) (field_texts_of (drop i fields)) ≡ all → list_any (tells_delivery recipient) (field_texts_of (drop (i + 1) fields)) ≡ all
 any_later recipient fields i other tells all less is no_more so_far =
-    let here : tells_delivery recipient (text_of (get_or fields i other)) ≡ false = sym is ∙ no_more in
-    sym (any_there recipient fields i other less ∙ ap (λ b. b || list_any (tells_delivery recipient) (texts_of (drop (i + 1) fields))) here) ∙ so_far
+    let here : tells_delivery recipient (field_text_of (get_or fields i other)) ≡ false = sym is ∙ no_more in
+    sym (any_there recipient fields i other less ∙ ap (λ b. b || list_any (tells_delivery recipient) (field_texts_of (drop (i + 1) fields))) here) ∙ so_far
 
 -- none is left
 pub any_none : (recipient : List ℕ) (fields : List Field) (i : ℕ) (all : Bool) → length fields ≤ i
-    → list_any (tells_delivery recipient) (texts_of (drop i fields)) ≡ all → false ≡ all
-any_none recipient fields i all less so_far = ap (λ l. list_any (tells_delivery recipient) (texts_of l)) (sym (drop_of_length-le fields less)) ∙ so_far
+    → list_any (tells_delivery recipient) (field_texts_of (drop i fields)) ≡ all → false ≡ all
+any_none recipient fields i all less so_far = ap (λ l. list_any (tells_delivery recipient) (field_texts_of l)) (sym (drop_of_length-le fields less)) ∙ so_far

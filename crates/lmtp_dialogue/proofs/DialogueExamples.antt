@@ -2,28 +2,28 @@
 use Rattle.std.proofs.Common.{◌≡◌, ℕ, ◌==◌, ◌&&◌, not, ◌≤◌, Bool, true, false, List, [], ◌∷◌, ◌++◌, length, Some, None, inl, inr, refl, sym, ap, ◌∙◌, subst, append_assoc, codes, lit≤}
 use Rattle.std.proofs.lemmas.List.Elements.{All-cons, All-nil}
 use Rattle.std.specs.Borrow.{Bor}
-use Rattle.lmtp.specs.Arguments.{max_size}
-use Rattle.lmtp.specs.Copies.{is_path_line, added_fields}
-use Rattle.lmtp.specs.Dialogues.{Phase, Greeted, Ready, Opened, Asking, Sending, Over, Dialogue, new_dialogue, Item, Command, LongLine, Message, IsLineItem, Spells, IsFirst, Waits}
-use Rattle.lmtp.specs.Lines.{line_end, HasNoLineEnd, IsLine}
+use Rattle.lmtp_dialogue.specs.Arguments.{max_size}
+use Rattle.lmtp_dialogue.specs.Copies.{is_path_line, added_fields}
+use Rattle.lmtp_dialogue.specs.Dialogues.{DialoguePhase, Greeted, Ready, Opened, Asking, Sending, Over, Dialogue, new_dialogue, Item, Command, LongLine, Message, IsLineItem, SpellsItem, IsNextItem, DialogueWaits}
+use Rattle.lmtp_dialogue.specs.Lines.{line_end, HasNoLineEnd, IsCrlfLine}
 use Rattle.octets.specs.Ascii.{trimmed}
-use Rattle.lmtp.specs.Names.{forms_by}
-use Rattle.lmtp.specs.Orders.{ReadsOrder}
-use Rattle.lmtp.specs.Paths.{IsPath, is_plain}
-use Rattle.lmtp.specs.Replies.{line_of, said_of}
-use Rattle.lmtp.specs.Texts.{with_end, IsText, IsSentLine, RunsFrom, place_after}
-use Rattle.lmtp.specs.Turns.{Turn, says, is_too_large, mail_turn, rcpt_turn, turn_of, IsTurn, Answers, lacks_room, Declines, reply_to, taken_by, Replies, replied, Act, Hears, Says, Tells, Reports, Talks}
-use Rattle.lmtp.specs.declared.name.Names.TheVariants.{Local, Whole}
-use Rattle.lmtp.specs.declared.order.Order.{Order}
-use Rattle.lmtp.specs.declared.order.Order.TheVariants as order
-use Rattle.lmtp.specs.declared.receiver.Lookup.{Lookup}
-use Rattle.lmtp.specs.declared.receiver.Lookup.TheVariants.{Known, Unknown}
-use Rattle.lmtp.specs.declared.reply.Outcome.{Outcome}
-use Rattle.lmtp.specs.declared.reply.Outcome.TheVariants.{Refused}
-use Rattle.lmtp.specs.declared.reply.Reply.TheVariants as reply
-use Rattle.lmtp.specs.declared.text.Place.TheVariants.{Start, Inside, Return}
-use Rattle.lmtp.proofs.NextLemmas.{runs_out}
-use Rattle.lmtp.proofs.TextLemmas.{apart, open_apart, not_none, same_first, text_ends}
+use Rattle.lmtp_dialogue.specs.Names.{forms_by}
+use Rattle.lmtp_dialogue.specs.ReadCommands.{ReadsLmtpCommand}
+use Rattle.lmtp_dialogue.specs.Paths.{IsPath, is_unquoted_octet}
+use Rattle.lmtp_dialogue.specs.Replies.{lmtp_line_of, outcome_line}
+use Rattle.lmtp_dialogue.specs.Texts.{line_with_crlf, IsSentText, IsSentLine, RunsFrom, text_state_after}
+use Rattle.lmtp_dialogue.specs.Turns.{LmtpTurn, says, is_too_large, mail_turn, rcpt_turn, command_turn, IsLineTurn, DialogueAnswers, lacks_room, Declines, lookup_reply, taken_by, DialogueReplies, replied, DialogueAct, Hears, Says, Tells, Reports, DialogueTalks}
+use Rattle.lmtp_dialogue.specs.declared.name.Names.TheVariants.{Local, Whole}
+use Rattle.lmtp_dialogue.specs.declared.command.LmtpCommand.{LmtpCommand}
+use Rattle.lmtp_dialogue.specs.declared.command.LmtpCommand.TheVariants as order
+use Rattle.lmtp_dialogue.specs.declared.receiver.Lookup.{Lookup}
+use Rattle.lmtp_dialogue.specs.declared.receiver.Lookup.TheVariants.{Known, Unknown}
+use Rattle.lmtp_dialogue.specs.declared.reply.DeliveryOutcome.{DeliveryOutcome}
+use Rattle.lmtp_dialogue.specs.declared.reply.DeliveryOutcome.TheVariants.{Refused}
+use Rattle.lmtp_dialogue.specs.declared.reply.LmtpReply.TheVariants as reply
+use Rattle.lmtp_dialogue.specs.declared.text.TextState.TheVariants.{Start, Inside, Return}
+use Rattle.lmtp_dialogue.proofs.NextLemmas.{runs_out}
+use Rattle.lmtp_dialogue.proofs.TextLemmas.{apart, open_apart, not_none, same_first, text_ends}
 
 -- ---- lines that are written out
 
@@ -52,7 +52,7 @@ no_end (octet ∷ next ∷ rest) test (f ∷ front) back same = no_end (next ∷
     rest_test : (octet next : ℕ) (rest : List ℕ) → ends_nowhere (octet ∷ next ∷ rest) ≡ true → ends_nowhere (next ∷ rest) ≡ true
     rest_test octet next rest is = and_right (not (octet == 13 && next == 10)) (ends_nowhere (next ∷ rest)) is
 
-line_is : (line : List ℕ) → ends_nowhere (line ++ 13 ∷ []) ≡ true → IsLine line
+line_is : (line : List ℕ) → ends_nowhere (line ++ 13 ∷ []) ≡ true → IsCrlfLine line
 line_is line test = no_end (line ++ 13 ∷ []) test
 
 -- ---- commands
@@ -60,7 +60,7 @@ line_is line test = no_end (line ++ 13 ∷ []) test
 abbrev lent : List ℕ → Bor (List ℕ)
 lent text = record { ref_ptr = (0, 0); now = text }
 
-hello_order : ReadsOrder (codes "LHLO a") (order.Lhlo (lent (codes "a")))
+hello_order : ReadsLmtpCommand (codes "LHLO a") (order.Lhlo (lent (codes "a")))
 hello_order = (
   record {
     word = codes "LHLO";
@@ -71,7 +71,7 @@ hello_order = (
 )
 
 -- `<x>`, of one octet that may stand outside quotation marks and is no `@`
-short_path : (octet : ℕ) → is_plain octet ≡ true → (octet == 64) ≡ false → IsPath (60 ∷ octet ∷ 62 ∷ []) (octet ∷ []) []
+short_path : (octet : ℕ) → is_unquoted_octet octet ≡ true → (octet == 64) ≡ false → IsPath (60 ∷ octet ∷ 62 ∷ []) (octet ∷ []) []
 short_path octet plain other = record {
   inner = octet ∷ 62 ∷ [];
   bare = octet ∷ 62 ∷ [];
@@ -85,7 +85,7 @@ short_path octet plain other = record {
   ends = record { is = inr (plain, tt); written = refl };
 }
 
-mail_order : ReadsOrder (codes "MAIL FROM:<c>") (order.Mail (record { from = lent (codes "c"); size = None }))
+mail_order : ReadsLmtpCommand (codes "MAIL FROM:<c>") (order.Mail (record { from = lent (codes "c"); size = None }))
 mail_order = (
   codes "FROM:<c>",
   record {
@@ -105,8 +105,8 @@ mail_order = (
   ),
 )
 
-rcpt_order : (octet : ℕ) → is_plain octet ≡ true → (octet == 64) ≡ false → codes "TO:<" ++ octet ∷ 62 ∷ [] ≡ trimmed (codes "TO:<" ++ octet ∷ 62 ∷ [])
-    → ReadsOrder (codes "RCPT TO:<" ++ octet ∷ 62 ∷ []) (order.Rcpt (lent (octet ∷ [])))
+rcpt_order : (octet : ℕ) → is_unquoted_octet octet ≡ true → (octet == 64) ≡ false → codes "TO:<" ++ octet ∷ 62 ∷ [] ≡ trimmed (codes "TO:<" ++ octet ∷ 62 ∷ [])
+    → ReadsLmtpCommand (codes "RCPT TO:<" ++ octet ∷ 62 ∷ []) (order.Rcpt (lent (octet ∷ [])))
 rcpt_order octet plain other trims = (
   codes "TO:<" ++ octet ∷ 62 ∷ [],
   record {
@@ -122,7 +122,7 @@ rcpt_order octet plain other trims = (
   },
 )
 
-data_order : ReadsOrder (codes "DATA") order.Data
+data_order : ReadsLmtpCommand (codes "DATA") order.Data
 data_order = (
   [],
   record {
@@ -133,7 +133,7 @@ data_order = (
   refl,
 )
 
-quit_order : ReadsOrder (codes "QUIT") order.Quit
+quit_order : ReadsLmtpCommand (codes "QUIT") order.Quit
 quit_order = (
   [],
   record {
@@ -146,30 +146,30 @@ quit_order = (
 
 -- ---- a line's turn
 
-abbrev stands : Phase → List ℕ → Dialogue
+abbrev stands : DialoguePhase → List ℕ → Dialogue
 stands phase unread = record { phase = phase; unread = unread }
 
-answered : (hello : List ℕ) (phase : Phase) (line rest : List ℕ) (asked : Order) → Spells phase (Command line) (with_end line) → ReadsOrder line asked
-    → Answers hello (stands phase (with_end line ++ rest)) (let t : Turn = turn_of hello phase asked in t.said) (stands (let t : Turn = turn_of hello phase asked in t.phase) rest)
+answered : (hello : List ℕ) (phase : DialoguePhase) (line rest : List ℕ) (asked : LmtpCommand) → SpellsItem phase (Command line) (line_with_crlf line) → ReadsLmtpCommand line asked
+    → DialogueAnswers hello (stands phase (line_with_crlf line ++ rest)) (let t : LmtpTurn = command_turn hello phase asked in t.said) (stands (let t : LmtpTurn = command_turn hello phase asked in t.phase) rest)
 answered hello phase line rest asked spelled reads = record {
   item = Command line;
   rest = rest;
-  turn = turn_of hello phase asked;
-  first = record { octets = with_end line; spelled = spelled; written = refl };
+  turn = command_turn hello phase asked;
+  first = record { octets = line_with_crlf line; spelled = spelled; written = refl };
   takes = (asked, reads, refl);
   told = refl;
   leaves = refl;
 }
 
-short_line : (line : List ℕ) → ends_nowhere (line ++ 13 ∷ []) ≡ true → length (with_end line) ≤ 2048 → IsLineItem (Command line) (with_end line)
+short_line : (line : List ℕ) → ends_nowhere (line ++ 13 ∷ []) ≡ true → length (line_with_crlf line) ≤ 2048 → IsLineItem (Command line) (line_with_crlf line)
 short_line line test short = (line_is line test, refl, short)
 
 -- ---- a right dialogue: of three recipients the second is unknown; of the two replies behind the text one is a refusal
 
 abbrev one_text : List ℕ
-one_text = with_end (codes "Hi") ++ with_end (codes ".")
+one_text = line_with_crlf (codes "Hi") ++ line_with_crlf (codes ".")
 
-text_is : IsText one_text (with_end (codes "Hi"))
+text_is : IsSentText one_text (line_with_crlf (codes "Hi"))
 text_is = record {
   lines = codes "Hi" ∷ [];
   each = All-cons IsSentLine (codes "Hi") [] (record {
@@ -182,36 +182,36 @@ text_is = record {
 
 -- behind DATA
 abbrev rest_of : List ℕ
-rest_of = one_text ++ with_end (codes "QUIT")
+rest_of = one_text ++ line_with_crlf (codes "QUIT")
 
-message_first : (sender : List ℕ) (left : List (List ℕ)) → IsFirst (stands (Sending sender left) rest_of) (Message (with_end (codes "Hi"))) (with_end (codes "QUIT"))
+message_first : (sender : List ℕ) (left : List (List ℕ)) → IsNextItem (stands (Sending sender left) rest_of) (Message (line_with_crlf (codes "Hi"))) (line_with_crlf (codes "QUIT"))
 message_first sender left = record { octets = one_text; spelled = text_is; written = refl }
 
 -- the envelope and the text are there: two replies, in the order of the recipients, and then QUIT is read
-replies_follow : (hello sender a b : List ℕ) (outcome : Outcome)
-    → Talks hello (stands (Sending sender (a ∷ b ∷ [])) rest_of)
-    (Reports outcome (said_of outcome) ∷ Reports (Refused reply.NoRoom) (line_of reply.NoRoom) ∷ Says (line_of reply.Goodbye) ∷ []) (stands Over [])
+replies_follow : (hello sender a b : List ℕ) (outcome : DeliveryOutcome)
+    → DialogueTalks hello (stands (Sending sender (a ∷ b ∷ [])) rest_of)
+    (Reports outcome (outcome_line outcome) ∷ Reports (Refused reply.NoRoom) (lmtp_line_of reply.NoRoom) ∷ Says (lmtp_line_of reply.Goodbye) ∷ []) (stands Over [])
 replies_follow hello sender a b outcome = (
   stands (Sending sender (b ∷ [])) rest_of,
   record {
     sender = sender;
     recipient = a;
     left = b ∷ [];
-    text = with_end (codes "Hi");
-    rest = with_end (codes "QUIT");
+    text = line_with_crlf (codes "Hi");
+    rest = line_with_crlf (codes "QUIT");
     owed = refl;
     first = message_first sender (a ∷ b ∷ []);
     told = refl;
     leaves = refl;
   },
   (
-    stands Ready (with_end (codes "QUIT")),
+    stands Ready (line_with_crlf (codes "QUIT")),
     record {
       sender = sender;
       recipient = b;
       left = [];
-      text = with_end (codes "Hi");
-      rest = with_end (codes "QUIT");
+      text = line_with_crlf (codes "Hi");
+      rest = line_with_crlf (codes "QUIT");
       owed = refl;
       first = message_first sender (b ∷ []);
       told = refl;
@@ -224,23 +224,23 @@ replies_follow hello sender a b outcome = (
 -- what the client sends, all of it at once
 abbrev sent : List ℕ
 sent =
-    with_end (codes "LHLO a") ++ (with_end (codes "MAIL FROM:<c>") ++ (with_end (codes "RCPT TO:<p>") ++ (with_end (codes "RCPT TO:<j>")
-    ++ (with_end (codes "RCPT TO:<g>") ++ (with_end (codes "DATA") ++ rest_of)))))
+    line_with_crlf (codes "LHLO a") ++ (line_with_crlf (codes "MAIL FROM:<c>") ++ (line_with_crlf (codes "RCPT TO:<p>") ++ (line_with_crlf (codes "RCPT TO:<j>")
+    ++ (line_with_crlf (codes "RCPT TO:<g>") ++ (line_with_crlf (codes "DATA") ++ rest_of)))))
 
 -- a recipient is asked for, and it is told whether there is an account
-asks : (hello sender : List ℕ) (taken : List (List ℕ)) (octet : ℕ) (lookup : Lookup) (rest : List ℕ) (acts : List Act) (e : Dialogue)
+asks : (hello sender : List ℕ) (taken : List (List ℕ)) (octet : ℕ) (lookup : Lookup) (rest : List ℕ) (acts : List DialogueAct) (e : Dialogue)
     → rcpt_turn (Opened sender taken) (octet ∷ []) ≡ record { said = []; phase = Asking sender taken (octet ∷ []) }
-    → Spells (Opened sender taken) (Command (codes "RCPT TO:<" ++ octet ∷ 62 ∷ [])) (with_end (codes "RCPT TO:<" ++ octet ∷ 62 ∷ []))
-    → ReadsOrder (codes "RCPT TO:<" ++ octet ∷ 62 ∷ []) (order.Rcpt (lent (octet ∷ [])))
-    → Talks hello (stands (Opened sender (taken_by lookup taken (octet ∷ []))) rest) acts e
-    → Talks hello (stands (Opened sender taken) (with_end (codes "RCPT TO:<" ++ octet ∷ 62 ∷ []) ++ rest)) (Says [] ∷ Tells lookup (line_of (reply_to lookup)) ∷ acts) e
+    → SpellsItem (Opened sender taken) (Command (codes "RCPT TO:<" ++ octet ∷ 62 ∷ [])) (line_with_crlf (codes "RCPT TO:<" ++ octet ∷ 62 ∷ []))
+    → ReadsLmtpCommand (codes "RCPT TO:<" ++ octet ∷ 62 ∷ []) (order.Rcpt (lent (octet ∷ [])))
+    → DialogueTalks hello (stands (Opened sender (taken_by lookup taken (octet ∷ []))) rest) acts e
+    → DialogueTalks hello (stands (Opened sender taken) (line_with_crlf (codes "RCPT TO:<" ++ octet ∷ 62 ∷ []) ++ rest)) (Says [] ∷ Tells lookup (lmtp_line_of (lookup_reply lookup)) ∷ acts) e
 asks hello sender taken octet lookup rest acts e turn spelled reads more = (
   stands (Asking sender taken (octet ∷ [])) rest,
   record {
     item = Command (codes "RCPT TO:<" ++ octet ∷ 62 ∷ []);
     rest = rest;
     turn = record { said = []; phase = Asking sender taken (octet ∷ []) };
-    first = record { octets = with_end (codes "RCPT TO:<" ++ octet ∷ 62 ∷ []); spelled = spelled; written = refl };
+    first = record { octets = line_with_crlf (codes "RCPT TO:<" ++ octet ∷ 62 ∷ []); spelled = spelled; written = refl };
     takes = (order.Rcpt (lent (octet ∷ [])), reads, sym turn);
     told = refl;
     leaves = refl;
@@ -254,19 +254,19 @@ asks hello sender taken octet lookup rest acts e turn spelled reads more = (
 
 -- what is answered up to the text
 abbrev data_on : List ℕ
-data_on = with_end (codes "DATA") ++ rest_of
+data_on = line_with_crlf (codes "DATA") ++ rest_of
 
 abbrev third_on : List ℕ
-third_on = with_end (codes "RCPT TO:<g>") ++ data_on
+third_on = line_with_crlf (codes "RCPT TO:<g>") ++ data_on
 
 abbrev second_on : List ℕ
-second_on = with_end (codes "RCPT TO:<j>") ++ third_on
+second_on = line_with_crlf (codes "RCPT TO:<j>") ++ third_on
 
 abbrev first_on : List ℕ
-first_on = with_end (codes "RCPT TO:<p>") ++ second_on
+first_on = line_with_crlf (codes "RCPT TO:<p>") ++ second_on
 
 data_taken : (hello : List ℕ)
-    → Talks hello (stands (Opened (codes "c") (codes "p" ∷ codes "g" ∷ [])) data_on) (Says (line_of reply.GoAhead) ∷ []) (stands (Sending (codes "c") (codes "p" ∷ codes "g" ∷ [])) rest_of)
+    → DialogueTalks hello (stands (Opened (codes "c") (codes "p" ∷ codes "g" ∷ [])) data_on) (Says (lmtp_line_of reply.GoAhead) ∷ []) (stands (Sending (codes "c") (codes "p" ∷ codes "g" ∷ [])) rest_of)
 data_taken hello = (
   stands (Sending (codes "c") (codes "p" ∷ codes "g" ∷ [])) rest_of,
   answered hello (Opened (codes "c") (codes "p" ∷ codes "g" ∷ [])) (codes "DATA") rest_of order.Data (short_line (codes "DATA") refl (lit≤ tt)) data_order,
@@ -276,19 +276,19 @@ data_taken hello = (
 abbrev in_text : Dialogue
 in_text = stands (Sending (codes "c") (codes "p" ∷ codes "g" ∷ [])) rest_of
 
-abbrev data_acts : List Act
-data_acts = Says (line_of reply.GoAhead) ∷ []
+abbrev data_acts : List DialogueAct
+data_acts = Says (lmtp_line_of reply.GoAhead) ∷ []
 
-abbrev third_acts : List Act
-third_acts = Says [] ∷ Tells Known (line_of reply.RecipientTaken) ∷ data_acts
+abbrev third_acts : List DialogueAct
+third_acts = Says [] ∷ Tells Known (lmtp_line_of reply.RecipientTaken) ∷ data_acts
 
-abbrev second_acts : List Act
-second_acts = Says [] ∷ Tells Unknown (line_of reply.NoSuchUser) ∷ third_acts
+abbrev second_acts : List DialogueAct
+second_acts = Says [] ∷ Tells Unknown (lmtp_line_of reply.NoSuchUser) ∷ third_acts
 
 recipients_taken : (hello : List ℕ)
-    → Talks hello (stands (Opened (codes "c") []) first_on)
-    (Says [] ∷ Tells Known (line_of reply.RecipientTaken) ∷ Says [] ∷ Tells Unknown (line_of reply.NoSuchUser) ∷ Says [] ∷ Tells Known (line_of reply.RecipientTaken)
-    ∷ Says (line_of reply.GoAhead) ∷ [])
+    → DialogueTalks hello (stands (Opened (codes "c") []) first_on)
+    (Says [] ∷ Tells Known (lmtp_line_of reply.RecipientTaken) ∷ Says [] ∷ Tells Unknown (lmtp_line_of reply.NoSuchUser) ∷ Says [] ∷ Tells Known (lmtp_line_of reply.RecipientTaken)
+    ∷ Says (lmtp_line_of reply.GoAhead) ∷ [])
     (stands (Sending (codes "c") (codes "p" ∷ codes "g" ∷ [])) rest_of)
 recipients_taken hello =
     asks hello (codes "c") [] 112 Known second_on second_acts in_text refl (short_line (codes "RCPT TO:<p>") refl (lit≤ tt)) (rcpt_order 112 refl refl refl)
@@ -297,16 +297,16 @@ recipients_taken hello =
     (data_taken hello)))
 
 envelope : (hello : List ℕ)
-    → Talks hello new_dialogue
-    (Hears sent ∷ Says hello ∷ Says (line_of reply.SenderTaken) ∷ Says [] ∷ Tells Known (line_of reply.RecipientTaken) ∷ Says [] ∷ Tells Unknown (line_of reply.NoSuchUser)
-    ∷ Says [] ∷ Tells Known (line_of reply.RecipientTaken) ∷ Says (line_of reply.GoAhead) ∷ [])
+    → DialogueTalks hello new_dialogue
+    (Hears sent ∷ Says hello ∷ Says (lmtp_line_of reply.SenderTaken) ∷ Says [] ∷ Tells Known (lmtp_line_of reply.RecipientTaken) ∷ Says [] ∷ Tells Unknown (lmtp_line_of reply.NoSuchUser)
+    ∷ Says [] ∷ Tells Known (lmtp_line_of reply.RecipientTaken) ∷ Says (lmtp_line_of reply.GoAhead) ∷ [])
     (stands (Sending (codes "c") (codes "p" ∷ codes "g" ∷ [])) rest_of)
 envelope hello = (
   stands Greeted sent,
   refl,
   (
-    stands Ready (with_end (codes "MAIL FROM:<c>") ++ first_on),
-    answered hello Greeted (codes "LHLO a") (with_end (codes "MAIL FROM:<c>") ++ first_on) (order.Lhlo (lent (codes "a"))) (short_line (codes "LHLO a") refl (lit≤ tt)) hello_order,
+    stands Ready (line_with_crlf (codes "MAIL FROM:<c>") ++ first_on),
+    answered hello Greeted (codes "LHLO a") (line_with_crlf (codes "MAIL FROM:<c>") ++ first_on) (order.Lhlo (lent (codes "a"))) (short_line (codes "LHLO a") refl (lit≤ tt)) hello_order,
     (
       stands (Opened (codes "c") []) first_on,
       answered hello Ready (codes "MAIL FROM:<c>") first_on (order.Mail (record { from = lent (codes "c"); size = None }))
@@ -319,7 +319,7 @@ envelope hello = (
 -- ---- near misses
 
 -- a reply is missing: behind the first of two one is owed to the second, and no line is read
-owed_still : (d e : Dialogue) (sender a b : List ℕ) (outcome : Outcome) (said : List ℕ) → d.phase ≡ Sending sender (a ∷ b ∷ []) → Replies d outcome said e
+owed_still : (d e : Dialogue) (sender a b : List ℕ) (outcome : DeliveryOutcome) (said : List ℕ) → d.phase ≡ Sending sender (a ∷ b ∷ []) → DialogueReplies d outcome said e
     → e.phase ≡ Sending sender (b ∷ [])
 owed_still d e sender a b outcome said is done =
     let same : Sending sender (a ∷ b ∷ []) ≡ Sending done.sender (done.recipient ∷ done.left) = sym is ∙ done.owed in
@@ -328,41 +328,41 @@ owed_still d e sender a b outcome said is done =
     ap (λ x. (let t : Dialogue = x in t.phase)) done.leaves
     ∙ (ap (λ l. (let t : Dialogue = replied done.sender l d done.rest in t.phase)) left ∙ ap (λ s. Sending s (b ∷ [])) from)
   where
-    sender_of : Phase → List ℕ
+    sender_of : DialoguePhase → List ℕ
     sender_of (Sending s l) = s
     sender_of phase = []
 
-    left_of : Phase → List (List ℕ)
+    left_of : DialoguePhase → List (List ℕ)
     left_of (Sending s (r ∷ l)) = l
     left_of phase = []
 
-not_read : (hello : List ℕ) (d e : Dialogue) (sender : List ℕ) (left : List (List ℕ)) (said : List ℕ) → d.phase ≡ Sending sender left → Answers hello d said e → ⊥
+not_read : (hello : List ℕ) (d e : Dialogue) (sender : List ℕ) (left : List (List ℕ)) (said : List ℕ) → d.phase ≡ Sending sender left → DialogueAnswers hello d said e → ⊥
 not_read hello d e sender left said is done =
-    message_only hello d.phase done.item done.first.octets done.turn (subst (λ p. Spells p done.item done.first.octets) is done.first.spelled) done.takes
+    message_only hello d.phase done.item done.first.octets done.turn (subst (λ p. SpellsItem p done.item done.first.octets) is done.first.spelled) done.takes
   where
-    message_only : (hello : List ℕ) (phase : Phase) (item : Item) (octets : List ℕ) (turn : Turn) → Spells (Sending sender left) item octets → IsTurn hello phase item turn → ⊥
+    message_only : (hello : List ℕ) (phase : DialoguePhase) (item : Item) (octets : List ℕ) (turn : LmtpTurn) → SpellsItem (Sending sender left) item octets → IsLineTurn hello phase item turn → ⊥
     message_only hello phase (Command line) octets turn spelled takes = spelled
     message_only hello phase LongLine octets turn spelled takes = spelled
     message_only hello phase (Message text) octets turn spelled takes = takes
 
 -- DATA in a pipeline, behind recipients that were all refused
 no_recipient : (hello sender rest : List ℕ)
-    → Answers hello (stands (Opened sender []) (with_end (codes "DATA") ++ rest)) (line_of reply.NoRecipient) (stands (Opened sender []) rest)
+    → DialogueAnswers hello (stands (Opened sender []) (line_with_crlf (codes "DATA") ++ rest)) (lmtp_line_of reply.NoRecipient) (stands (Opened sender []) rest)
 no_recipient hello sender rest = answered hello (Opened sender []) (codes "DATA") rest order.Data (short_line (codes "DATA") refl (lit≤ tt)) data_order
 
 -- a dot between a bare LF and CRLF: no text is whole
-no_dot : (sender : List ℕ) (left : List (List ℕ)) → Waits (stands (Sending sender left) (72 ∷ 10 ∷ 46 ∷ 13 ∷ 10 ∷ []))
+no_dot : (sender : List ℕ) (left : List (List ℕ)) → DialogueWaits (stands (Sending sender left) (72 ∷ 10 ∷ 46 ∷ 13 ∷ 10 ∷ []))
 no_dot sender left (Message text) rest first =
     let runs : RunsFrom Start (72 ∷ 10 ∷ 46 ∷ 13 ∷ 10 ∷ []) =
     (open_apart Start refl, (open_apart Inside refl, (open_apart Inside refl, (open_apart Inside refl, (open_apart Return refl, tt))))) in
     open_apart Start refl
-    (ap (place_after Start) first.written
+    (ap (text_state_after Start) first.written
     ∙ runs_out Start first.octets rest (subst (RunsFrom Start) first.written runs) (text_ends first.octets text first.spelled))
 no_dot sender left (Command line) rest first = first.spelled
 no_dot sender left LongLine rest first = first.spelled
 
 -- nor of a line that ends at a bare LF
-no_feed_line : Waits (stands Ready (codes "NOOP" ++ 10 ∷ []))
+no_feed_line : DialogueWaits (stands Ready (codes "NOOP" ++ 10 ∷ []))
 no_feed_line (Command line) rest first =
     no_end (codes "NOOP" ++ 10 ∷ []) refl line rest (first.written ∙ (ap (λ o. o ++ rest) first.spelled.1 ∙ append_assoc line line_end rest))
 no_feed_line LongLine rest first =

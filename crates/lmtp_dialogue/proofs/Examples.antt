@@ -1,22 +1,22 @@
 -- What the definitions say of a few lines and texts, and of what is near them.
 use Rattle.std.proofs.Common.{◌≡◌, true, false, [], ◌∷◌, inl, inr, refl, codes, arith}
-use Rattle.lmtp.specs.Commands.{IsWord, word_of, argument_in}
-use Rattle.lmtp.specs.Paths.{IsAddress, is_plain, is_quotable}
-use Rattle.lmtp.specs.Texts.{place_after, text_after}
-use Rattle.lmtp.specs.declared.text.Place.TheVariants.{Start, DotReturn, Inside, Ended}
-use Rattle.lmtp.specs.declared.verb.Verb.TheVariants.{Lhlo}
+use Rattle.lmtp_dialogue.specs.Commands.{IsSameWord, verb_word, argument_in}
+use Rattle.lmtp_dialogue.specs.Paths.{IsPathAddress, is_unquoted_octet, is_quoted_octet}
+use Rattle.lmtp_dialogue.specs.Texts.{text_state_after, text_after}
+use Rattle.lmtp_dialogue.specs.declared.text.TextState.TheVariants.{Start, DotReturn, Inside, Ended}
+use Rattle.lmtp_dialogue.specs.declared.verb.LmtpVerb.TheVariants.{Lhlo}
 
 -- ---- texts
 
 -- `a` CRLF `.` CRLF ends, and is `a` CRLF
-ends : place_after Start (97 ∷ 13 ∷ 10 ∷ 46 ∷ 13 ∷ 10 ∷ []) ≡ Ended
+ends : text_state_after Start (97 ∷ 13 ∷ 10 ∷ 46 ∷ 13 ∷ 10 ∷ []) ≡ Ended
 ends = refl
 
 text : text_after Start (97 ∷ 13 ∷ 10 ∷ 46 ∷ 13 ∷ 10 ∷ []) ≡ 97 ∷ 13 ∷ 10 ∷ []
 text = refl
 
 -- its first CRLF may be that of DATA
-empty : place_after Start (46 ∷ 13 ∷ 10 ∷ []) ≡ Ended
+empty : text_state_after Start (46 ∷ 13 ∷ 10 ∷ []) ≡ Ended
 empty = refl
 
 -- a dot in front of a line is taken off, one alone
@@ -24,16 +24,16 @@ dotted : text_after Start (46 ∷ 46 ∷ 120 ∷ 13 ∷ 10 ∷ 46 ∷ 13 ∷ 10 
 dotted = refl
 
 -- near misses: a dot between LFs, behind an LF, before an LF, and a dot and a CR alone end nothing
-between_feeds : place_after Start (97 ∷ 10 ∷ 46 ∷ 10 ∷ []) ≡ Inside
+between_feeds : text_state_after Start (97 ∷ 10 ∷ 46 ∷ 10 ∷ []) ≡ Inside
 between_feeds = refl
 
-behind_feed : place_after Start (97 ∷ 10 ∷ 46 ∷ 13 ∷ 10 ∷ []) ≡ Start
+behind_feed : text_state_after Start (97 ∷ 10 ∷ 46 ∷ 13 ∷ 10 ∷ []) ≡ Start
 behind_feed = refl
 
-before_feed : place_after Start (97 ∷ 13 ∷ 10 ∷ 46 ∷ 10 ∷ []) ≡ Inside
+before_feed : text_state_after Start (97 ∷ 13 ∷ 10 ∷ 46 ∷ 10 ∷ []) ≡ Inside
 before_feed = refl
 
-return_alone : place_after Start (46 ∷ 13 ∷ []) ≡ DotReturn
+return_alone : text_state_after Start (46 ∷ 13 ∷ []) ≡ DotReturn
 return_alone = refl
 
 -- a CR behind such a dot is of the text, where no LF follows
@@ -42,10 +42,10 @@ kept_return = refl
 
 -- ---- words and arguments
 
-any_case : IsWord (word_of Lhlo) (codes "lHLo")
+any_case : IsSameWord (verb_word Lhlo) (codes "lHLo")
 any_case = refl
 
-another : IsWord (word_of Lhlo) (codes "EHLO") → ⊥
+another : IsSameWord (verb_word Lhlo) (codes "EHLO") → ⊥
 another same = absurd (grind (arith, same))
 
 argument : argument_in (codes "  FROM:<a@b> ") ≡ codes "FROM:<a@b>"
@@ -53,22 +53,22 @@ argument = refl
 
 -- ---- addresses
 
-bare : IsAddress (codes "a@b")
+bare : IsPathAddress (codes "a@b")
 bare = inr (refl, inr (refl, inr (refl, tt)))
 
-quoted : IsAddress (codes "\"a >\"@b")
+quoted : IsPathAddress (codes "\"a >\"@b")
 quoted = inl (refl, inr (inr (refl, inr (inr (refl, inr (inr (refl, inl (refl, inr (refl, inr (refl, tt))))))))))
 
 -- near misses: a space and a bracket outside quotation marks
-space : is_plain 32 ≡ false
+space : is_unquoted_octet 32 ≡ false
 space = refl
 
-bracket : is_plain 62 ≡ false
+bracket : is_unquoted_octet 62 ≡ false
 bracket = refl
 
 -- an octet over 127 stands there, DEL doesn't
-wide : is_plain 195 ≡ true
+wide : is_unquoted_octet 195 ≡ true
 wide = refl
 
-delete : is_quotable 127 ≡ false
+delete : is_quoted_octet 127 ≡ false
 delete = refl

@@ -4,9 +4,9 @@ use Rattle.std.proofs.Math.Seq.{take-append_seam}
 use Rattle.std.proofs.lemmas.Bool.{cases_order}
 use Rattle.std.proofs.lemmas.List.{get_or-take, length-take, length-take-le, take-append-le, drop-append-le}
 use Rattle.memchr.specs.Find.{OccursAt, Nowhere}
-use Rattle.lmtp.specs.Lines.{line_end, HasNoLineEnd, IsFirstLine, Finds, LinesStand}
-use Rattle.lmtp.specs.declared.line.Found.{Found}
-use Rattle.lmtp.specs.declared.line.Found.TheVariants.{Need, Line, TooLong}
+use Rattle.lmtp_dialogue.specs.Lines.{line_end, HasNoLineEnd, IsFirstLine, LineFinds, LinesStand}
+use Rattle.lmtp_dialogue.specs.declared.line.Found.{Found}
+use Rattle.lmtp_dialogue.specs.declared.line.Found.TheVariants.{Need, Line, TooLong}
 
 -- ---- where a line end stands
 
@@ -116,13 +116,13 @@ none_before stream a b fits_a fits_b first second less =
     let split = splits_at (take (length front) stream) a there in
     second.whole (take a (take (length front) stream)) (drop (a + 2) (take (length front) stream)) (sym cut ∙ split)
 
-pub too_long : (stream : List ℕ) (a : ℕ) → Finds (Line a) stream → Finds TooLong stream → ⊥
+pub too_long : (stream : List ℕ) (a : ℕ) → LineFinds (Line a) stream → LineFinds TooLong stream → ⊥
 too_long stream a first second =
     let count = length-take-le 2048 stream second.1 in
     let there = occurs_less stream 2048 a (omega (arith, first.1, count)) (first_occurs stream a first.2 first.0) in
     second.0 (take a (take 2048 stream)) (drop (a + 2) (take 2048 stream)) (splits_at (take 2048 stream) a there)
 
-pub one_found : (a b : Found) (stream : List ℕ) → Finds a stream → Finds b stream → a ≡ b
+pub one_found : (a b : Found) (stream : List ℕ) → LineFinds a stream → LineFinds b stream → a ≡ b
 one_found Need Need stream first second = refl
 one_found Need (Line b) stream first second = absurd (first.0 (take b stream) (drop (b + 2) stream) second.0.written)
 one_found Need TooLong stream first second = absurd (omega (arith, first.1, second.1))
@@ -137,7 +137,7 @@ one_found TooLong Need stream first second = absurd (omega (arith, first.1, seco
 one_found TooLong (Line b) stream first second = absurd (too_long stream b second first)
 one_found TooLong TooLong stream first second = refl
 
-found_stays : (found : Found) (stream more : List ℕ) → (found ≡ Need → ⊥) → Finds found stream → Finds found (stream ++ more)
+found_stays : (found : Found) (stream more : List ℕ) → (found ≡ Need → ⊥) → LineFinds found stream → LineFinds found (stream ++ more)
 found_stays Need stream more some finds = absurd (some refl)
 found_stays (Line count) stream more some finds =
     let front = take-append-le count stream more (omega (arith, finds.2)) in

@@ -9,17 +9,17 @@ use Rattle.std.specs.Cmp.Lexicographic.{pointwise}
 use Rattle.std.specs.List.{All, list_any}
 use Rattle.std.specs.Prelude.{◌⊎◌, ◌≢◌, ◌||◌, nat_eq}
 use Rattle.octets.specs.Ascii.{lowered}
-use Rattle.lmtp.specs.Names.{HasAt, Parts, EndsLocal, unquoted, with_form, forms_of, IsForm, AreApart, FormsStand}
-use Rattle.lmtp.specs.Paths.{Stands, StepsTo}
-use Rattle.lmtp.specs.declared.path.Quoting.{Quoting}
-use Rattle.lmtp.specs.declared.path.Quoting.TheVariants.{Outside, Inside, Escaped}
-use Rattle.lmtp.proofs.PathLemmas.{take_next, behind, stands_none}
+use Rattle.lmtp_dialogue.specs.Names.{HasAt, SplitsAddress, EndsLocal, unquoted_local, with_form, forms_of, IsForm, AreFormsApart, FormsStand}
+use Rattle.lmtp_dialogue.specs.Paths.{AddressStands, AddressStepsTo}
+use Rattle.lmtp_dialogue.specs.declared.path.Quoting.{Quoting}
+use Rattle.lmtp_dialogue.specs.declared.path.Quoting.TheVariants.{Outside, Inside, Escaped}
+use Rattle.lmtp_dialogue.proofs.PathLemmas.{take_next, behind, stands_none}
 
 -- ---- the last `@` among so many octets
 
 -- one stands there outside quotation marks
 abbrev pub AtPlace : List ℕ → ℕ → Type 0
-AtPlace text j = (get_or text j 0 ≡ 64) × Stands Outside (take j text)
+AtPlace text j = (get_or text j 0 ≡ 64) × AddressStands Outside (take j text)
 
 -- there is none, or the last one stands there
 abbrev pub IsLastAt : List ℕ → ℕ → ℕ → Type 0
@@ -28,8 +28,8 @@ IsLastAt text at count =
     ⊎ ((count < at) × AtPlace text count × ((j : ℕ) → count < j → j < at → AtPlace text j → ⊥))
 
 pub record LocalSoFar (text : List ℕ) (at count : ℕ) (quoting : Quoting) : Type 0 where
-  pub forth : (more : List ℕ) → Stands quoting more → Stands Outside (take at text ++ more)
-  pub back : (more : List ℕ) → Stands Outside (take at text ++ more) → Stands quoting more
+  pub forth : (more : List ℕ) → AddressStands quoting more → AddressStands Outside (take at text ++ more)
+  pub back : (more : List ℕ) → AddressStands Outside (take at text ++ more) → AddressStands quoting more
   pub last : IsLastAt text at count
   pub within : count ≤ length text
 
@@ -41,12 +41,12 @@ local_begin text = record {
   within = omega arith;
 }
 
-outside_there : (text : List ℕ) (at count : ℕ) (quoting : Quoting) → LocalSoFar text at count quoting → Stands Outside (take at text) → quoting ≡ Outside
-outside_there text at count quoting so_far stands = stands_none quoting (so_far.back [] (subst (Stands Outside) (sym (append-nil (take at text))) stands))
+outside_there : (text : List ℕ) (at count : ℕ) (quoting : Quoting) → LocalSoFar text at count quoting → AddressStands Outside (take at text) → quoting ≡ Outside
+outside_there text at count quoting so_far stands = stands_none quoting (so_far.back [] (subst (AddressStands Outside) (sym (append-nil (take at text))) stands))
 
-here_outside : (text : List ℕ) (at count : ℕ) (quoting : Quoting) → LocalSoFar text at count quoting → quoting ≡ Outside → Stands Outside (take at text)
+here_outside : (text : List ℕ) (at count : ℕ) (quoting : Quoting) → LocalSoFar text at count quoting → quoting ≡ Outside → AddressStands Outside (take at text)
 here_outside text at count quoting so_far outside =
-    subst (Stands Outside) (append-nil (take at text)) (so_far.forth [] (subst (λ q. Stands q []) (sym outside) tt))
+    subst (AddressStands Outside) (append-nil (take at text)) (so_far.forth [] (subst (λ q. AddressStands q []) (sym outside) tt))
 
 -- one octet more
 last_more : (text : List ℕ) (at count found : ℕ) (quoting : Quoting) → LocalSoFar text at count quoting → EndsLocal count at quoting (get_or text at 0) found
@@ -81,10 +81,10 @@ found_within text at count found quoting within less (inl here) = omega (arith, 
 found_within text at count found quoting within less (inr other) = omega (arith, other.1)
 
 pub local_step : (text : List ℕ) (at count found : ℕ) (from to : Quoting) → LocalSoFar text at count from → at < length text
-    → EndsLocal count at from (get_or text at 0) found → StepsTo from (get_or text at 0) (Some to) → LocalSoFar text (at + 1) found to
+    → EndsLocal count at from (get_or text at 0) found → AddressStepsTo from (get_or text at 0) (Some to) → LocalSoFar text (at + 1) found to
 local_step text at count found from to so_far less ends steps = record {
-  forth = λ more stands. subst (Stands Outside) (sym (take_next text at more less)) (so_far.forth (get_or text at 0 ∷ more) (steps.0 more stands));
-  back = λ more stands. steps.1 more (so_far.back (get_or text at 0 ∷ more) (subst (Stands Outside) (take_next text at more less) stands));
+  forth = λ more stands. subst (AddressStands Outside) (sym (take_next text at more less)) (so_far.forth (get_or text at 0 ∷ more) (steps.0 more stands));
+  back = λ more stands. steps.1 more (so_far.back (get_or text at 0 ∷ more) (subst (AddressStands Outside) (take_next text at more less) stands));
   last = last_more text at count found from so_far ends;
   within = found_within text at count found from so_far.within less ends;
 }
@@ -95,13 +95,13 @@ local_step text at count found from to so_far less ends steps = record {
 place_of : (front back text : List ℕ) → HasAt text front back → AtPlace text (length front)
 place_of front back text has = (
   ap (λ t. get_or t (length front) 0) has.1 ∙ behind front 64 back,
-  subst (Stands Outside) (sym (ap (take (length front)) has.1 ∙ take-append_seam front (64 ∷ back))) has.0,
+  subst (AddressStands Outside) (sym (ap (take (length front)) has.1 ∙ take-append_seam front (64 ∷ back))) has.0,
 )
 
 place_within : (front back text : List ℕ) → HasAt text front back → length front < length text
 place_within front back text has = omega (arith, ap (λ (t : List ℕ). length t) has.1, length-append front (64 ∷ back))
 
-all_parts : (text : List ℕ) (count : ℕ) → IsLastAt text (length text) count → Parts text (take count text) (drop count text)
+all_parts : (text : List ℕ) (count : ℕ) → IsLastAt text (length text) count → SplitsAddress text (take count text) (drop count text)
 all_parts text count (inl none) = inl (
   ap (λ n. take n text) none.0 ∙ take-length text,
   ap (λ n. drop n text) none.0 ∙ drop-length text,
@@ -124,7 +124,7 @@ all_parts text count (inr some) =
     )
 
 -- all octets were looked at
-pub parts_at_end : (text : List ℕ) (at count : ℕ) (quoting : Quoting) → LocalSoFar text at count quoting → length text ≤ at → Parts text (take count text) (drop count text)
+pub parts_at_end : (text : List ℕ) (at count : ℕ) (quoting : Quoting) → LocalSoFar text at count quoting → length text ≤ at → SplitsAddress text (take count text) (drop count text)
 parts_at_end text at count quoting so_far all = all_parts text count (elim so_far.last [
   | inl none ↦ inl (none.0, λ j less is. none.1 j (omega (arith, all, less)) is)
   | inr some ↦ elim (cases_order count (length text)) [
@@ -141,7 +141,7 @@ parts_at_end text at count quoting so_far all = all_parts text count (elim so_fa
 
 -- no address goes on with that octet
 pub parts_from : (text : List ℕ) (at count found : ℕ) (quoting : Quoting) → LocalSoFar text at count quoting → at < length text
-    → EndsLocal count at quoting (get_or text at 0) found → StepsTo quoting (get_or text at 0) None → Parts text (take found text) (drop found text)
+    → EndsLocal count at quoting (get_or text at 0) found → AddressStepsTo quoting (get_or text at 0) None → SplitsAddress text (take found text) (drop found text)
 parts_from text at count found quoting so_far less ends steps = all_parts text found (elim (last_more text at count found quoting so_far ends) [
   | inl none ↦ inl (
     none.0,
@@ -167,24 +167,24 @@ parts_from text at count found quoting so_far less ends steps = all_parts text f
         let cut : take j text ≡ take (at + 1) text ++ drop (at + 1) (take j text) =
         sym (take-append-drop (at + 1) (take j text)) ∙ ap (λ t. t ++ drop (at + 1) (take j text)) (take-take (at + 1) j text (omega (arith, above))) in
         steps (drop (at + 1) (take j text)) (so_far.back (get_or text at 0 ∷ drop (at + 1) (take j text))
-        (subst (Stands Outside) (cut ∙ take_next text at (drop (at + 1) (take j text)) less) is.1))
+        (subst (AddressStands Outside) (cut ∙ take_next text at (drop (at + 1) (take j text)) less) is.1))
 
 -- ---- a local part without quotation marks
 
-pub none_unquoted : (quoting : Quoting) → unquoted quoting [] ≡ []
+pub none_unquoted : (quoting : Quoting) → unquoted_local quoting [] ≡ []
 none_unquoted Outside = refl
 none_unquoted Inside = refl
 none_unquoted Escaped = refl
 
-pub unquoted_step : (text more local : List ℕ) (at : ℕ) (from to : Quoting) → at < length local → ((rest : List ℕ) → more ++ unquoted to rest ≡ text ++ unquoted from (get_or local at 0 ∷ rest))
-    → text ++ unquoted from (drop at local) ≡ unquoted Outside local → more ++ unquoted to (drop (at + 1) local) ≡ unquoted Outside local
+pub unquoted_step : (text more local : List ℕ) (at : ℕ) (from to : Quoting) → at < length local → ((rest : List ℕ) → more ++ unquoted_local to rest ≡ text ++ unquoted_local from (get_or local at 0 ∷ rest))
+    → text ++ unquoted_local from (drop at local) ≡ unquoted_local Outside local → more ++ unquoted_local to (drop (at + 1) local) ≡ unquoted_local Outside local
 unquoted_step text more local at from to less one so_far =
-    one (drop (at + 1) local) ∙ (ap (λ t. text ++ unquoted from t)
+    one (drop (at + 1) local) ∙ (ap (λ t. text ++ unquoted_local from t)
     (ap (λ n. get_or local at 0 ∷ drop n local) (add-one at) ∙ sym (drop-cons local at 0 less)) ∙ so_far)
 
-pub unquoted_end : (text local : List ℕ) (at : ℕ) (quoting : Quoting) → length local ≤ at → text ++ unquoted quoting (drop at local) ≡ unquoted Outside local → text ≡ unquoted Outside local
+pub unquoted_end : (text local : List ℕ) (at : ℕ) (quoting : Quoting) → length local ≤ at → text ++ unquoted_local quoting (drop at local) ≡ unquoted_local Outside local → text ≡ unquoted_local Outside local
 unquoted_end text local at quoting all so_far =
-    sym (append-nil text) ∙ (ap (λ t. text ++ t) (sym (ap (unquoted quoting) (drop_of_length-le local all) ∙ none_unquoted quoting)) ∙ so_far)
+    sym (append-nil text) ∙ (ap (λ t. text ++ t) (sym (ap (unquoted_local quoting) (drop_of_length-le local all) ∙ none_unquoted quoting)) ∙ so_far)
 
 -- ---- the forms of a name
 
@@ -206,17 +206,17 @@ each_other (there ∷ forms) form none =
     or_parts true b is = absurd (cc is)
     or_parts false b is = (refl, is)
 
-apart_more : (forms : List (List ℕ)) (form : List ℕ) → AreApart forms → All (λ there. form ≢ there) forms → AreApart (forms ++ form ∷ [])
+apart_more : (forms : List (List ℕ)) (form : List ℕ) → AreFormsApart forms → All (λ there. form ≢ there) forms → AreFormsApart (forms ++ form ∷ [])
 apart_more [] form apart other = (All-nil (λ o. o ≢ form), tt)
 apart_more (there ∷ forms) form apart other = (
   All-append (λ o. o ≢ there) forms (form ∷ []) apart.0 (All-cons (λ o. o ≢ there) form [] (All-head (λ t. form ≢ t) there forms other) (All-nil (λ o. o ≢ there))),
   apart_more forms form apart.1 (All-tail (λ t. form ≢ t) there forms other),
 )
 
-apart_with : (forms : List (List ℕ)) (form : List ℕ) → AreApart forms → AreApart (with_form forms form)
+apart_with : (forms : List (List ℕ)) (form : List ℕ) → AreFormsApart forms → AreFormsApart (with_form forms form)
 apart_with forms form apart = by_test (list_any (λ there. pointwise nat_eq there form) forms) refl
   where
-    by_test : (test : Bool) → list_any (λ there. pointwise nat_eq there form) forms ≡ test → AreApart (with_form forms form)
+    by_test : (test : Bool) → list_any (λ there. pointwise nat_eq there form) forms ≡ test → AreFormsApart (with_form forms form)
     by_test true is = rw is apart
     by_test false is = rw is (apart_more forms form apart (each_other forms form is))
 
@@ -233,12 +233,12 @@ each_form name bare =
     each_with P _ (lowered bare) (each_with P _ bare (each_with P (name ∷ []) (lowered name) (All-cons P name [] (inl refl) (All-nil P)) (inr (inl refl))) (inr (inr (inl refl))))
     (inr (inr (inr refl)))
 
-apart_forms : (name bare : List ℕ) → AreApart (forms_of name bare)
+apart_forms : (name bare : List ℕ) → AreFormsApart (forms_of name bare)
 apart_forms name bare = apart_with _ (lowered bare) (apart_with _ bare (apart_with (name ∷ []) (lowered name) (All-nil (λ o. o ≢ name), tt)))
 
 -- ---- the parts of an address are its only ones
 
-one_parts : (address a b x y : List ℕ) → Parts address a x → Parts address b y → (a ≡ b) × (x ≡ y)
+one_parts : (address a b x y : List ℕ) → SplitsAddress address a x → SplitsAddress address b y → (a ≡ b) × (x ≡ y)
 one_parts address a b x y (inl one) (inl two) = (one.0 ∙ sym two.0, one.1 ∙ sym two.1)
 one_parts address a b x y (inl one) (inr two) = absurd (one.2 b two.0 two.2)
 one_parts address a b x y (inr one) (inl two) = absurd (two.2 a one.0 one.2)

@@ -3,27 +3,27 @@ use Rattle.std.proofs.Common.{◌≡◌, ℕ, ◌+◌, ◌<◌, ◌≤◌, Bool,
 use Rattle.std.proofs.lemmas.List.{length-take-le}
 use Rattle.std.specs.Borrow.{Bor}
 use Rattle.std.specs.Prelude.{Result}
-use Rattle.lmtp.specs.Dialogues.{Sending, Dialogue, Item, Command, LongLine, Message, IsLineItem, Spells, IsFirst, Waits}
-use Rattle.lmtp.specs.Lines.{line_end, HasNoLineEnd, IsLine, Finds}
-use Rattle.lmtp.specs.Receivers.{IsLineGone, IsGone, IsLineTaken, IsTaken, StandsIn, reads_lines, is_heard, is_line, IsKept, IsDelivery}
-use Rattle.lmtp.specs.Talks.{phase_by, item_by}
-use Rattle.lmtp.specs.Texts.{with_end, RunsFrom, place_after, text_after, EndsAt, Keeps, StandsFor, IsTextOf, after}
-use Rattle.lmtp.specs.Turns.{max_text}
-use Rattle.lmtp.specs.declared.line.Found.{Found}
-use Rattle.lmtp.specs.declared.line.Found.TheVariants.{Need, Line, TooLong}
-use Rattle.lmtp.specs.declared.receiver.Delivery.{Delivery}
-use Rattle.lmtp.specs.declared.receiver.Receiver.{Receiver}
-use Rattle.lmtp.specs.declared.receiver.Stage.TheVariants as stage
-use Rattle.lmtp.specs.declared.text.Place.{Place}
-use Rattle.lmtp.specs.declared.text.Place.TheVariants.{Start, Ended}
-use Rattle.lmtp.specs.declared.text.Text.{Text}
-use Rattle.lmtp.specs.declared.text.Trouble.{Trouble}
-use Rattle.lmtp.specs.declared.text.Trouble.TheVariants.{TooLarge, Memory}
-use Rattle.lmtp.proofs.DialogueLemmas.{one_line}
-use Rattle.lmtp.proofs.FeedLemmas.{is_text}
-use Rattle.lmtp.proofs.SkipLemmas.{agrees_itself}
-use Rattle.lmtp.proofs.StageLemmas.{reads_taken, line_gone, line_taken, spells_line, line_spelled, heard_line, owed_first}
-use Rattle.lmtp.proofs.TextLemmas.{no_end_one, text_ends}
+use Rattle.lmtp_dialogue.specs.Dialogues.{Sending, Dialogue, Item, Command, LongLine, Message, IsLineItem, SpellsItem, IsNextItem, DialogueWaits}
+use Rattle.lmtp_dialogue.specs.Lines.{line_end, HasNoLineEnd, IsCrlfLine, LineFinds}
+use Rattle.lmtp_dialogue.specs.Receivers.{IsLineGone, IsItemGone, IsLineTaken, IsItemTaken, StandsIn, reads_lines, is_heard, is_line, IsKept, IsDelivery}
+use Rattle.lmtp_dialogue.specs.Talks.{phase_by, item_by}
+use Rattle.lmtp_dialogue.specs.Texts.{line_with_crlf, RunsFrom, text_state_after, text_after, TextEndsAt, TextKeeps, TextStandsFor, IsFinishedText, after}
+use Rattle.lmtp_dialogue.specs.Turns.{max_text}
+use Rattle.lmtp_dialogue.specs.declared.line.Found.{Found}
+use Rattle.lmtp_dialogue.specs.declared.line.Found.TheVariants.{Need, Line, TooLong}
+use Rattle.lmtp_dialogue.specs.declared.receiver.Delivery.{Delivery}
+use Rattle.lmtp_dialogue.specs.declared.receiver.Receiver.{Receiver}
+use Rattle.lmtp_dialogue.specs.declared.receiver.LmtpStage.TheVariants as stage
+use Rattle.lmtp_dialogue.specs.declared.text.TextState.{TextState}
+use Rattle.lmtp_dialogue.specs.declared.text.TextState.TheVariants.{Start, Ended}
+use Rattle.lmtp_dialogue.specs.declared.text.Text.{Text}
+use Rattle.lmtp_dialogue.specs.declared.text.TextFault.{TextFault}
+use Rattle.lmtp_dialogue.specs.declared.text.TextFault.TheVariants.{TooLarge, Memory}
+use Rattle.lmtp_dialogue.proofs.DialogueLemmas.{one_line}
+use Rattle.lmtp_dialogue.proofs.FeedLemmas.{is_text}
+use Rattle.lmtp_dialogue.proofs.SkipLemmas.{agrees_itself}
+use Rattle.lmtp_dialogue.proofs.StageLemmas.{reads_taken, line_gone, line_taken, spells_line, line_spelled, heard_line, owed_first}
+use Rattle.lmtp_dialogue.proofs.TextLemmas.{no_end_one, text_ends}
 
 -- ---- a line
 
@@ -33,41 +33,41 @@ record IsLineFirst (unread : List ℕ) (item : Item) (rest : List ℕ) : Type 0 
   spelled : IsLineItem item octets
   written : unread ≡ octets ++ rest
 
-written_so : (line rest : List ℕ) → line ++ (line_end ++ rest) ≡ with_end line ++ rest
+written_so : (line rest : List ℕ) → line ++ (line_end ++ rest) ≡ line_with_crlf line ++ rest
 written_so line rest = sym (append_assoc line line_end rest)
 
-line_in_short : (count : ℕ) (unread : List ℕ) → Finds (Line count) unread → IsLineFirst unread (Command (take count unread)) (drop (count + 2) unread)
+line_in_short : (count : ℕ) (unread : List ℕ) → LineFinds (Line count) unread → IsLineFirst unread (Command (take count unread)) (drop (count + 2) unread)
 line_in_short count unread found =
     let line = take count unread in
     record {
-      octets = with_end line;
+      octets = line_with_crlf line;
       spelled = (found.0.whole, refl, omega (arith, found.1, length-append line line_end, length-take-le count unread (omega (arith, found.2))));
       written = found.0.written ∙ written_so line (drop (count + 2) unread);
     }
 
 -- of one that is too long the CRLF is held first
-line_in_long : (count : ℕ) (unread gone : List ℕ) → Finds (Line count) unread → IsLineGone true unread gone → IsLineTaken true unread
+line_in_long : (count : ℕ) (unread gone : List ℕ) → LineFinds (Line count) unread → IsLineGone true unread gone → IsLineTaken true unread
     → IsLineFirst (gone ++ unread) LongLine (drop (count + 2) unread)
 line_in_long count unread gone found is (inl last) = absurd (omega (arith, found.2, ap length last.1))
 line_in_long count unread gone found is (inr end) =
     let both = one_line (take count unread) [] (drop (count + 2) unread) end.0 found.0.whole no_line (sym found.0.written ∙ end.1) in
     record {
-      octets = with_end gone;
+      octets = line_with_crlf gone;
       spelled = (gone, is.0 (13 ∷ []) (inr (10 ∷ end.0, end.1)) (no_end_one 13), refl, omega (arith, is.2, length-append gone line_end));
       written = ap (λ t. gone ++ t) (end.1 ∙ ap (λ t. line_end ++ t) (sym both.1)) ∙ written_so gone (drop (count + 2) unread);
     }
   where
-    no_line : IsLine []
+    no_line : IsCrlfLine []
     no_line = no_end_one 13
 
-line_in : (long : Bool) (count : ℕ) (unread gone : List ℕ) → Finds (Line count) unread → IsLineGone long unread gone → IsLineTaken long unread
+line_in : (long : Bool) (count : ℕ) (unread gone : List ℕ) → LineFinds (Line count) unread → IsLineGone long unread gone → IsLineTaken long unread
     → IsLineFirst (gone ++ unread) (item_by long (take count unread)) (drop (count + 2) unread)
 line_in false count unread gone found is held =
     subst (λ g. IsLineFirst (g ++ unread) (Command (take count unread)) (drop (count + 2) unread)) (sym is) (line_in_short count unread found)
 line_in true count unread gone found is held = line_in_long count unread gone found is held
 
-pub first_line_in : (r : Receiver) (d : Dialogue) (count : ℕ) → reads_lines r.talk.stage ≡ true → StandsIn r d → Finds (Line count) r.unread
-    → IsFirst d (item_by r.long (take count r.unread)) (drop (count + 2) r.unread)
+pub first_line_in : (r : Receiver) (d : Dialogue) (count : ℕ) → reads_lines r.talk.stage ≡ true → StandsIn r d → LineFinds (Line count) r.unread
+    → IsNextItem d (item_by r.long (take count r.unread)) (drop (count + 2) r.unread)
 first_line_in r d count reads stands found =
     let takes = reads_taken r.talk.stage reads in
     let gone = stands.holds.heard.gone in
@@ -75,7 +75,7 @@ first_line_in r d count reads stands found =
     let first = line_in r.long count r.unread gone found is (line_taken r.talk.stage r.long r.talk.text r.unread takes stands.taken) in
     record {
       octets = first.octets;
-      spelled = subst (λ p. Spells p (item_by r.long (take count r.unread)) first.octets) (sym stands.holds.phase)
+      spelled = subst (λ p. SpellsItem p (item_by r.long (take count r.unread)) first.octets) (sym stands.holds.phase)
           (spells_line r.talk.stage r.talk.sender r.talk.recipients r.talk.told (item_by r.long (take count r.unread)) first.octets reads first.spelled);
       written = stands.holds.heard.written ∙ first.written;
     }
@@ -95,31 +95,31 @@ line_has_end (Message text) octets rest is none = is
 abbrev NotLine : Found → Type 0
 NotLine found = (count : ℕ) → found ≡ Line count → ⊥
 
-none_short : (found : Found) (unread : List ℕ) → NotLine found → Finds found unread → (Finds TooLong unread → ⊥) → HasNoLineEnd unread
+none_short : (found : Found) (unread : List ℕ) → NotLine found → LineFinds found unread → (LineFinds TooLong unread → ⊥) → HasNoLineEnd unread
 none_short Need unread other finds short = finds.0
 none_short (Line count) unread other finds short = absurd (other count refl)
 none_short TooLong unread other finds short = absurd (short finds)
 
-none_ended : (found : Found) (rest : List ℕ) → NotLine found → Finds found (line_end ++ rest) → ⊥
+none_ended : (found : Found) (rest : List ℕ) → NotLine found → LineFinds found (line_end ++ rest) → ⊥
 none_ended Need rest other finds = finds.0 [] rest refl
 none_ended (Line count) rest other finds = other count refl
 none_ended TooLong rest other finds = finds.0 [] (take 2046 rest) refl
 
-none_long : (found : Found) (unread gone : List ℕ) → NotLine found → Finds found unread → IsLineGone true unread gone → IsLineTaken true unread → HasNoLineEnd (gone ++ unread)
+none_long : (found : Found) (unread gone : List ℕ) → NotLine found → LineFinds found unread → IsLineGone true unread gone → IsLineTaken true unread → HasNoLineEnd (gone ++ unread)
 none_long found unread gone other finds is (inl last) = is.0 unread (agrees_itself unread) (subst HasNoLineEnd (sym last.1) (no_end_one last.0))
-none_long found unread gone other finds is (inr end) = absurd (none_ended found end.0 other (subst (Finds found) end.1 finds))
+none_long found unread gone other finds is (inr end) = absurd (none_ended found end.0 other (subst (LineFinds found) end.1 finds))
 
-none_by : (long : Bool) (found : Found) (unread gone : List ℕ) → NotLine found → Finds found unread → IsLineGone long unread gone → IsLineTaken long unread → HasNoLineEnd (gone ++ unread)
+none_by : (long : Bool) (found : Found) (unread gone : List ℕ) → NotLine found → LineFinds found unread → IsLineGone long unread gone → IsLineTaken long unread → HasNoLineEnd (gone ++ unread)
 none_by false found unread gone other finds is held = subst (λ g. HasNoLineEnd (g ++ unread)) (sym is) (none_short found unread other finds held)
 none_by true found unread gone other finds is held = none_long found unread gone other finds is held
 
-pub no_line_in : (r : Receiver) (d : Dialogue) (found : Found) → reads_lines r.talk.stage ≡ true → StandsIn r d → NotLine found → Finds found r.unread → Waits d
+pub no_line_in : (r : Receiver) (d : Dialogue) (found : Found) → reads_lines r.talk.stage ≡ true → StandsIn r d → NotLine found → LineFinds found r.unread → DialogueWaits d
 no_line_in r d found reads stands other finds = λ item rest first.
     let takes = reads_taken r.talk.stage reads in
     let gone = stands.holds.heard.gone in
     let is = line_gone r.talk.stage r.long r.talk.text r.unread gone takes stands.holds.heard.is in
     let none = none_by r.long found r.unread gone other finds is (line_taken r.talk.stage r.long r.talk.text r.unread takes stands.taken) in
-    let spelled = subst (λ p. Spells p item first.octets) stands.holds.phase first.spelled in
+    let spelled = subst (λ p. SpellsItem p item first.octets) stands.holds.phase first.spelled in
     line_has_end item first.octets rest (line_spelled r.talk.stage r.talk.sender r.talk.recipients r.talk.told item first.octets reads spelled)
     (subst HasNoLineEnd (sym stands.holds.heard.written ∙ first.written) none)
 
@@ -129,18 +129,18 @@ heard_in r d reads stands = subst (λ p. is_heard p ≡ true) (sym stands.holds.
 -- ---- a text
 
 -- where octets run up to their end, none of their fronts ends a text but all of them
-pub runs_out : (from : Place) (sent rest : List ℕ) → RunsFrom from (sent ++ rest) → EndsAt from sent → place_after from (sent ++ rest) ≡ Ended
+pub runs_out : (from : TextState) (sent rest : List ℕ) → RunsFrom from (sent ++ rest) → TextEndsAt from sent → text_state_after from (sent ++ rest) ≡ Ended
 runs_out from [] [] runs ends = ends
 runs_out from [] (octet ∷ rest) runs ends = absurd (runs.0 ends)
 runs_out from (octet ∷ sent) rest runs ends = runs_out (after from octet) sent rest runs.1 ends.1
 
-no_text : (text : Text) (gone : List ℕ) → StandsFor text gone → (text.place ≡ Ended → ⊥) → (sent rest : List ℕ) → gone ≡ sent ++ rest → EndsAt Start sent → ⊥
+no_text : (text : Text) (gone : List ℕ) → TextStandsFor text gone → (text.place ≡ Ended → ⊥) → (sent rest : List ℕ) → gone ≡ sent ++ rest → TextEndsAt Start sent → ⊥
 no_text text gone stands goes sent rest same ends =
-    goes (stands.place ∙ (ap (place_after Start) same ∙ runs_out Start sent rest (subst (RunsFrom Start) same stands.runs) ends))
+    goes (stands.place ∙ (ap (text_state_after Start) same ∙ runs_out Start sent rest (subst (RunsFrom Start) same stands.runs) ends))
 
 -- the same of an item that comes first while one is sent
 no_message : (sender : List ℕ) (left : List (List ℕ)) (item : Item) (octets rest gone : List ℕ) (text : Text)
-    → Spells (Sending sender left) item octets → StandsFor text gone → (text.place ≡ Ended → ⊥) → gone ≡ octets ++ rest → ⊥
+    → SpellsItem (Sending sender left) item octets → TextStandsFor text gone → (text.place ≡ Ended → ⊥) → gone ≡ octets ++ rest → ⊥
 no_message sender left (Message sent) octets rest gone text spelled stands goes same = no_text text gone stands goes octets rest same (text_ends octets sent spelled)
 no_message sender left (Command line) octets rest gone text spelled stands goes same = spelled
 no_message sender left LongLine octets rest gone text spelled stands goes same = spelled
@@ -150,45 +150,45 @@ pub record SendsIn (r : Receiver) (d : Dialogue) : Type 0 where
   pub phase : d.phase ≡ Sending r.talk.sender (drop r.talk.told r.talk.recipients)
   pub gone : List ℕ
   pub short : r.long ≡ false
-  pub stands : StandsFor r.talk.text gone
+  pub stands : TextStandsFor r.talk.text gone
   pub written : d.unread ≡ gone ++ r.unread
   pub taken : (r.talk.text.place ≡ Ended → ⊥) → r.unread ≡ []
 
 pub sends_in : (r : Receiver) (d : Dialogue) → r.talk.stage ≡ stage.Sending → StandsIn r d → SendsIn r d
 sends_in r d at stands =
-    let is = subst (λ a. IsGone a r.long r.talk.text r.unread stands.holds.heard.gone) at stands.holds.heard.is in
+    let is = subst (λ a. IsItemGone a r.long r.talk.text r.unread stands.holds.heard.gone) at stands.holds.heard.is in
     record {
       phase = stands.holds.phase ∙ ap (λ a. phase_by a r.talk.sender r.talk.recipients r.talk.told) at;
       gone = stands.holds.heard.gone;
       short = is.0;
       stands = is.1;
       written = stands.holds.heard.written;
-      taken = subst (λ a. IsTaken a r.long r.talk.text r.unread) at stands.taken;
+      taken = subst (λ a. IsItemTaken a r.long r.talk.text r.unread) at stands.taken;
     }
 
-pub no_text_in : (r : Receiver) (d : Dialogue) → r.talk.stage ≡ stage.Sending → StandsIn r d → (r.talk.text.place ≡ Ended → ⊥) → Waits d
+pub no_text_in : (r : Receiver) (d : Dialogue) → r.talk.stage ≡ stage.Sending → StandsIn r d → (r.talk.text.place ≡ Ended → ⊥) → DialogueWaits d
 no_text_in r d at stands goes = λ item rest first.
     let sends = sends_in r d at stands in
     no_message r.talk.sender (drop r.talk.told r.talk.recipients) item first.octets rest sends.gone r.talk.text
-    (subst (λ p. Spells p item first.octets) sends.phase first.spelled) sends.stands goes
+    (subst (λ p. SpellsItem p item first.octets) sends.phase first.spelled) sends.stands goes
     (sym (append-nil sends.gone) ∙ (ap (λ t. sends.gone ++ t) (sym (sends.taken goes)) ∙ (sym sends.written ∙ first.written)))
 
 pub sending_is_heard : (r : Receiver) (d : Dialogue) → r.talk.stage ≡ stage.Sending → StandsIn r d → is_heard d.phase ≡ true
 sending_is_heard r d at stands = subst (λ p. is_heard p ≡ true) (sym (sends_in r d at stands).phase) refl
 
-pub text_first : (r : Receiver) (d : Dialogue) (sends : SendsIn r d) → r.talk.text.place ≡ Ended → IsFirst d (Message (text_after Start sends.gone)) r.unread
+pub text_first : (r : Receiver) (d : Dialogue) (sends : SendsIn r d) → r.talk.text.place ≡ Ended → IsNextItem d (Message (text_after Start sends.gone)) r.unread
 text_first r d sends ended = record {
   octets = sends.gone;
-  spelled = subst (λ p. Spells p (Message (text_after Start sends.gone)) sends.gone) (sym sends.phase) (is_text r.talk.text sends.gone ended sends.stands);
+  spelled = subst (λ p. SpellsItem p (Message (text_after Start sends.gone)) sends.gone) (sym sends.phase) (is_text r.talk.text sends.gone ended sends.stands);
   written = sends.written;
 }
 
-kept_by : (text : Text) (gone : List ℕ) (result : Result (Bor (List ℕ)) Trouble) → StandsFor text gone → text.limit ≡ max_text → IsTextOf text result → IsKept (text_after Start gone) result
+kept_by : (text : Text) (gone : List ℕ) (result : Result (Bor (List ℕ)) TextFault) → TextStandsFor text gone → text.limit ≡ max_text → IsFinishedText text result → IsKept (text_after Start gone) result
 kept_by text gone (Ok kept) stands limit is =
-    let same : (text.kept ≡ text_after Start gone) × (length (text_after Start gone) ≤ text.limit) = subst (Keeps text (text_after Start gone)) is.0 stands.keeps in
+    let same : (text.kept ≡ text_after Start gone) × (length (text_after Start gone) ≤ text.limit) = subst (TextKeeps text (text_after Start gone)) is.0 stands.keeps in
     (is.1 ∙ same.0, subst (λ n. length (text_after Start gone) ≤ n) limit same.1)
 kept_by text gone (Err TooLarge) stands limit is =
-    let over : (text.kept ≡ []) × (text.limit < length (text_after Start gone)) = subst (Keeps text (text_after Start gone)) is stands.keeps in
+    let over : (text.kept ≡ []) × (text.limit < length (text_after Start gone)) = subst (TextKeeps text (text_after Start gone)) is stands.keeps in
     subst (λ n. n < length (text_after Start gone)) limit over.1
 kept_by text gone (Err Memory) stands limit is = tt
 
@@ -197,7 +197,7 @@ pub owed_in : (r : Receiver) (d : Dialogue) → r.talk.stage ≡ stage.Sending �
 owed_in r d at sends = sends.phase ∙ ap (Sending r.talk.sender) (owed_first r.talk.recipients r.talk.told (r.talk.owed at))
 
 delivery_of : (r : Receiver) (d : Dialogue) (delivery : Delivery) → r.talk.stage ≡ stage.Sending → SendsIn r d → r.talk.text.limit ≡ max_text → r.talk.text.place ≡ Ended
-    → delivery.sender.now ≡ r.talk.sender → delivery.recipient.now ≡ get_or r.talk.recipients r.talk.told [] → IsTextOf r.talk.text delivery.text → IsDelivery d delivery
+    → delivery.sender.now ≡ r.talk.sender → delivery.recipient.now ≡ get_or r.talk.recipients r.talk.told [] → IsFinishedText r.talk.text delivery.text → IsDelivery d delivery
 delivery_of r d delivery at sends limit ended sender recipient text =
     let left = drop (r.talk.told + 1) r.talk.recipients in
     record {
@@ -212,5 +212,5 @@ delivery_of r d delivery at sends limit ended sender recipient text =
     }
 
 pub delivery_in : (r : Receiver) (d : Dialogue) (delivery : Delivery) → r.talk.stage ≡ stage.Sending → StandsIn r d → r.talk.text.place ≡ Ended
-    → delivery.sender.now ≡ r.talk.sender → delivery.recipient.now ≡ get_or r.talk.recipients r.talk.told [] → IsTextOf r.talk.text delivery.text → IsDelivery d delivery
+    → delivery.sender.now ≡ r.talk.sender → delivery.recipient.now ≡ get_or r.talk.recipients r.talk.told [] → IsFinishedText r.talk.text delivery.text → IsDelivery d delivery
 delivery_in r d delivery at stands = delivery_of r d delivery at (sends_in r d at stands) stands.holds.limit

@@ -8,11 +8,11 @@ use Rattle.std.proofs.lemmas.List.Sums.{AllPass-from_list_all, list_all-from_All
 use Rattle.std.specs.List.{list_all, prefix_len}
 use Rattle.octets.specs.Ascii.{is_digit}
 use Rattle.octets.specs.Decimal.{Writes, number_of}
-use Rattle.lmtp.specs.Commands.{IsWord, is_unspaced}
-use Rattle.lmtp.specs.Arguments.{IsAfter, max_size, is_number, IsSize, IsParameter, Separated, or_earlier, AreParameters, NoParameters}
-use Rattle.lmtp.proofs.ArgumentLemmas.{one_after}
-use Rattle.lmtp.proofs.FrontLemmas.{and_second, Stops, all_front, stops_behind, front_is, behind_is}
-use Rattle.lmtp.proofs.TextLemmas.{first_of, others_of, same_others, not_none}
+use Rattle.lmtp_dialogue.specs.Commands.{IsSameWord, is_unspaced}
+use Rattle.lmtp_dialogue.specs.Arguments.{IsAfterWord, max_size, is_size_text, IsSizeValue, IsParameter, Separated, or_earlier, AreParameters, NoParameters}
+use Rattle.lmtp_dialogue.proofs.ArgumentLemmas.{one_after}
+use Rattle.lmtp_dialogue.proofs.FrontLemmas.{and_second, Stops, all_front, stops_behind, front_is, behind_is}
+use Rattle.lmtp_dialogue.proofs.TextLemmas.{first_of, others_of, same_others, not_none}
 
 -- ---- one parameter
 
@@ -23,19 +23,19 @@ lowered-append : (xs ys : List ℕ) → lowered (xs ++ ys) ≡ lowered xs ++ low
 lowered-append [] ys = refl
 lowered-append (x ∷ xs) ys = ap (λ t. to_ascii_lowercase x ∷ t) (lowered-append xs ys)
 
-sized : (text digits : List ℕ) → IsAfter (codes "SIZE=") text digits → lowered text ≡ codes "size=" ++ lowered digits
+sized : (text digits : List ℕ) → IsAfterWord (codes "SIZE=") text digits → lowered text ≡ codes "size=" ++ lowered digits
 sized text digits is = ap lowered is.written ∙ (lowered-append is.front digits ∙ ap (λ f. f ++ lowered digits) is.is)
 
-not_first : (text digits word : List ℕ) (octet : ℕ) → IsAfter (codes "SIZE=") text digits → IsWord word text → first_of (lowered word) ≡ octet → (octet ≡ 115 → ⊥) → ⊥
+not_first : (text digits word : List ℕ) (octet : ℕ) → IsAfterWord (codes "SIZE=") text digits → IsSameWord word text → first_of (lowered word) ≡ octet → (octet ≡ 115 → ⊥) → ⊥
 not_first text digits word octet is other at apart = apart (sym at ∙ (ap first_of (sym other) ∙ ap first_of (sized text digits is)))
 
-not_second : (text digits word : List ℕ) (octet : ℕ) → IsAfter (codes "SIZE=") text digits → IsWord word text → first_of (others_of (lowered word)) ≡ octet
+not_second : (text digits word : List ℕ) (octet : ℕ) → IsAfterWord (codes "SIZE=") text digits → IsSameWord word text → first_of (others_of (lowered word)) ≡ octet
     → (octet ≡ 105 → ⊥) → ⊥
 not_second text digits word octet is other at apart =
     apart (sym at ∙ (ap (λ t. first_of (others_of t)) (sym other) ∙ ap (λ t. first_of (others_of t)) (sized text digits is)))
 
 -- a size is none of the others
-pub not_sized : (text digits : List ℕ) → IsAfter (codes "SIZE=") text digits → IsParameter text None → ⊥
+pub not_sized : (text digits : List ℕ) → IsAfterWord (codes "SIZE=") text digits → IsParameter text None → ⊥
 not_sized text digits is other = elim other [
   | inl seven ↦ not_first text digits (codes "BODY=7BIT") 98 is seven refl (λ same. absurd (omega (arith, same)))
   | inr (inl eight) ↦ not_first text digits (codes "BODY=8BITMIME") 98 is eight refl (λ same. absurd (omega (arith, same)))
@@ -52,13 +52,13 @@ one_parameter text (Some a) (Some b) first second =
     ap Some (first.2.2 ∙ (ap (λ n. min n max_size) number ∙ sym second.2.2))
 
 -- no size where its digits write none
-pub no_size : (text digits : List ℕ) → IsAfter (codes "SIZE=") text digits → ((n : ℕ) → IsSize digits n → ⊥) → (size : Option ℕ) → IsParameter text size → ⊥
+pub no_size : (text digits : List ℕ) → IsAfterWord (codes "SIZE=") text digits → ((n : ℕ) → IsSizeValue digits n → ⊥) → (size : Option ℕ) → IsParameter text size → ⊥
 no_size text digits is none None other = not_sized text digits is other
-no_size text digits is none (Some n) other = none n (subst (λ d. IsSize d n) (one_after (codes "SIZE=") text other.0 digits other.1 is) other.2)
+no_size text digits is none (Some n) other = none n (subst (λ d. IsSizeValue d n) (one_after (codes "SIZE=") text other.0 digits other.1 is) other.2)
 
 -- ---- a size
 
-number_written : (digits : List ℕ) → is_number digits ≡ true → Writes digits (number_of digits)
+number_written : (digits : List ℕ) → is_size_text digits ≡ true → Writes digits (number_of digits)
 number_written [] is = absurd (cc is)
 number_written (digit ∷ digits) is = record {
   present = not_none digit digits;
@@ -66,7 +66,7 @@ number_written (digit ∷ digits) is = record {
   value = refl;
 }
 
-written_number : (digits : List ℕ) (n : ℕ) → Writes digits n → is_number digits ≡ true
+written_number : (digits : List ℕ) (n : ℕ) → Writes digits n → is_size_text digits ≡ true
 written_number [] n writes = absurd (writes.present refl)
 written_number (digit ∷ digits) n writes = both (some (length digits)) (list_all-from_AllPass is_digit (digit ∷ digits) writes.digits)
   where
@@ -76,7 +76,7 @@ written_number (digit ∷ digits) n writes = both (some (length digits)) (list_a
     both : {a b : Bool} → a ≡ true → b ≡ true → (a && b) ≡ true
     both {a} {b} is_a is_b = rw (is_a, is_b) refl
 
-pub size_greatest : (digits : List ℕ) → ((n : ℕ) → n < 2 ^ 64 → Writes digits n → ⊥) → is_number digits ≡ true → IsSize digits max_size
+pub size_greatest : (digits : List ℕ) → ((n : ℕ) → n < 2 ^ 64 → Writes digits n → ⊥) → is_size_text digits ≡ true → IsSizeValue digits max_size
 size_greatest digits none is =
     let writes = number_written digits is in (
       number_of digits,
@@ -88,7 +88,7 @@ size_greatest digits none is =
       ],
     )
 
-pub size_none : (digits : List ℕ) → is_number digits ≡ false → (size : ℕ) → IsSize digits size → ⊥
+pub size_none : (digits : List ℕ) → is_size_text digits ≡ false → (size : ℕ) → IsSizeValue digits size → ⊥
 size_none digits other size is = absurd (cc (sym (written_number digits is.0 is.1) ∙ other))
 
 -- ---- parameters in turn

@@ -4,9 +4,9 @@ use Rattle.std.proofs.Math.ListN.{get_or-append}
 use Rattle.std.proofs.Math.Seq.{take-append_seam}
 use Rattle.std.proofs.lemmas.Bool.{cases_order}
 use Rattle.std.proofs.lemmas.List.{take-append-drop, take-append-le}
-use Rattle.lmtp.specs.Paths.{Stands, EndsAddress, StepsTo}
-use Rattle.lmtp.specs.declared.path.Quoting.{Quoting}
-use Rattle.lmtp.specs.declared.path.Quoting.TheVariants.{Outside, Inside, Escaped}
+use Rattle.lmtp_dialogue.specs.Paths.{AddressStands, EndsAddress, AddressStepsTo}
+use Rattle.lmtp_dialogue.specs.declared.path.Quoting.{Quoting}
+use Rattle.lmtp_dialogue.specs.declared.path.Quoting.TheVariants.{Outside, Inside, Escaped}
 
 -- ---- lists
 
@@ -26,29 +26,29 @@ behind (first ∷ front) octet rest = behind front octet rest
 -- ---- so many octets of a text were looked at
 
 pub record SoFar (text : List ℕ) (at : ℕ) (quoting : Quoting) : Type 0 where
-  pub forth : (more : List ℕ) → Stands quoting more → Stands Outside (take at text ++ more)
-  pub back : (more : List ℕ) → Stands Outside (take at text ++ more) → Stands quoting more
-  pub none : (j : ℕ) → j < at → get_or text j 0 ≡ 62 → Stands Outside (take j text) → ⊥
+  pub forth : (more : List ℕ) → AddressStands quoting more → AddressStands Outside (take at text ++ more)
+  pub back : (more : List ℕ) → AddressStands Outside (take at text ++ more) → AddressStands quoting more
+  pub none : (j : ℕ) → j < at → get_or text j 0 ≡ 62 → AddressStands Outside (take j text) → ⊥
 
 pub begin : (text : List ℕ) → SoFar text 0 Outside
 begin text = record { forth = λ more stands. stands; back = λ more stands. stands; none = λ j less. absurd (omega arith) }
 
-pub stands_none : (quoting : Quoting) → Stands quoting [] → quoting ≡ Outside
+pub stands_none : (quoting : Quoting) → AddressStands quoting [] → quoting ≡ Outside
 stands_none Outside stands = refl
 stands_none Inside stands = absurd stands
 stands_none Escaped stands = absurd stands
 
 -- an address ends at a place only where quotation marks are closed
-ends_outside : (text : List ℕ) (at : ℕ) (quoting : Quoting) → SoFar text at quoting → Stands Outside (take at text) → quoting ≡ Outside
-ends_outside text at quoting so_far stands = stands_none quoting (so_far.back [] (subst (Stands Outside) (sym (append-nil (take at text))) stands))
+ends_outside : (text : List ℕ) (at : ℕ) (quoting : Quoting) → SoFar text at quoting → AddressStands Outside (take at text) → quoting ≡ Outside
+ends_outside text at quoting so_far stands = stands_none quoting (so_far.back [] (subst (AddressStands Outside) (sym (append-nil (take at text))) stands))
 
-pub step : (text : List ℕ) (at : ℕ) (from to : Quoting) → SoFar text at from → at < length text → StepsTo from (get_or text at 0) (Some to)
+pub step : (text : List ℕ) (at : ℕ) (from to : Quoting) → SoFar text at from → at < length text → AddressStepsTo from (get_or text at 0) (Some to)
     → ((from ≡ Outside) × (get_or text at 0 ≡ 62) → ⊥) → SoFar text (at + 1) to
 step text at from to so_far less steps closed = record {
-  forth = λ more stands. subst (Stands Outside) (sym (take_next text at more less)) (so_far.forth (get_or text at 0 ∷ more) (steps.0 more stands));
-  back = λ more stands. steps.1 more (so_far.back (get_or text at 0 ∷ more) (subst (Stands Outside) (take_next text at more less) stands));
+  forth = λ more stands. subst (AddressStands Outside) (sym (take_next text at more less)) (so_far.forth (get_or text at 0 ∷ more) (steps.0 more stands));
+  back = λ more stands. steps.1 more (so_far.back (get_or text at 0 ∷ more) (subst (AddressStands Outside) (take_next text at more less) stands));
   none = λ j below is stands. elim (cases_order j at) [
-    | inl same ↦ closed (ends_outside text at from so_far (subst (λ n. Stands Outside (take n text)) same stands), ap (λ n. get_or text n 0) (sym same) ∙ is)
+    | inl same ↦ closed (ends_outside text at from so_far (subst (λ n. AddressStands Outside (take n text)) same stands), ap (λ n. get_or text n 0) (sym same) ∙ is)
     | inr (inl less) ↦ so_far.none j less is stands
     | inr (inr more) ↦ absurd (omega arith)
   ];
@@ -57,7 +57,7 @@ step text at from to so_far less steps closed = record {
 pub found : (text : List ℕ) (at : ℕ) (quoting : Quoting) → SoFar text at quoting → at < length text → quoting ≡ Outside → get_or text at 0 ≡ 62
     → EndsAddress text (take at text) (drop (at + 1) text)
 found text at quoting so_far less outside is = record {
-  is = subst (Stands Outside) (append-nil (take at text)) (so_far.forth [] (subst (λ q. Stands q []) (sym outside) tt));
+  is = subst (AddressStands Outside) (append-nil (take at text)) (so_far.forth [] (subst (λ q. AddressStands q []) (sym outside) tt));
   written =
       sym (take-append-drop (at + 1) text) ∙ (take_next text at (drop (at + 1) text) less
       ∙ ap (λ o. take at text ++ (o ∷ drop (at + 1) text)) is);
@@ -72,22 +72,22 @@ front_of text address rest written = ap (take (length address)) written ∙ take
 
 ends_before : (text : List ℕ) (at : ℕ) (quoting : Quoting) → SoFar text at quoting → (address rest : List ℕ) → EndsAddress text address rest → length address < at → ⊥
 ends_before text at quoting so_far address rest ends less =
-    so_far.none (length address) less (place_of text address rest ends.written) (subst (Stands Outside) (sym (front_of text address rest ends.written)) ends.is)
+    so_far.none (length address) less (place_of text address rest ends.written) (subst (AddressStands Outside) (sym (front_of text address rest ends.written)) ends.is)
 
 pub none_at_end : (text : List ℕ) (at : ℕ) (quoting : Quoting) → SoFar text at quoting → length text ≤ at → (address rest : List ℕ) → EndsAddress text address rest → ⊥
 none_at_end text at quoting so_far all address rest ends =
     ends_before text at quoting so_far address rest ends (omega (arith, all, ap length ends.written ∙ length-append address (62 ∷ rest)))
 
-pub none_from : (text : List ℕ) (at : ℕ) (quoting : Quoting) → SoFar text at quoting → at < length text → StepsTo quoting (get_or text at 0) None
+pub none_from : (text : List ℕ) (at : ℕ) (quoting : Quoting) → SoFar text at quoting → at < length text → AddressStepsTo quoting (get_or text at 0) None
     → ((quoting ≡ Outside) × (get_or text at 0 ≡ 62) → ⊥) → (address rest : List ℕ) → EndsAddress text address rest → ⊥
 none_from text at quoting so_far less steps closed address rest ends =
     let front = front_of text address rest ends.written in
     elim (cases_order (length address) at) [
       | inl same ↦
-          let stands : Stands Outside (take at text) = subst (λ n. Stands Outside (take n text)) same (subst (Stands Outside) (sym front) ends.is) in
+          let stands : AddressStands Outside (take at text) = subst (λ n. AddressStands Outside (take n text)) same (subst (AddressStands Outside) (sym front) ends.is) in
           closed (ends_outside text at quoting so_far stands, ap (λ n. get_or text n 0) (sym same) ∙ place_of text address rest ends.written)
       | inr (inl below) ↦ ends_before text at quoting so_far address rest ends below
-      | inr (inr above) ↦ steps (drop (at + 1) address) (so_far.back (get_or text at 0 ∷ drop (at + 1) address) (subst (Stands Outside) (goes_on above) ends.is))
+      | inr (inr above) ↦ steps (drop (at + 1) address) (so_far.back (get_or text at 0 ∷ drop (at + 1) address) (subst (AddressStands Outside) (goes_on above) ends.is))
     ]
   where
     goes_on : at < length address → address ≡ take at text ++ (get_or text at 0 ∷ drop (at + 1) address)

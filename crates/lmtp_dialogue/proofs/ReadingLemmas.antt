@@ -5,26 +5,26 @@ use Rattle.std.specs.Char.{to_ascii_lowercase}
 use Rattle.std.specs.Cmp.Lexicographic.{pointwise}
 use Rattle.std.specs.Prelude.{◌⊎◌, nat_eq}
 use Rattle.octets.specs.Ascii.{trimmed}
-use Rattle.lmtp.specs.Arguments.{to_word, from_word, TakesSender, TakesRecipient, IsAddressed, or_earlier, IsParameter, AreParameters, ReadsMail, ReadsRecipient, Sends}
-use Rattle.lmtp.specs.Commands.{word_of, is_unspaced, Argues, IsCommandLine}
-use Rattle.lmtp.specs.Dialogues.{Phase, Dialogue, Item, Command, LongLine, Message}
-use Rattle.lmtp.specs.Orders.{Nothing, Something, ReadsOrder, ReadsName, ReadsSender, ReadsTarget, ReadsAlone}
-use Rattle.lmtp.specs.Paths.{IsPath, FollowsRoute}
-use Rattle.lmtp.specs.Turns.{Turn, says, hello_turn, mail_turn, rcpt_turn, turn_of, IsTurn, Answers, AnswersStand, size_of}
-use Rattle.lmtp.specs.declared.argument.ArgumentFault.{ArgumentFault}
-use Rattle.lmtp.specs.declared.argument.ArgumentFault.TheVariants.{Syntax, Address, Parameter}
-use Rattle.lmtp.specs.declared.order.Order.{Order}
-use Rattle.lmtp.specs.declared.order.Order.TheVariants as order
-use Rattle.lmtp.specs.declared.reply.Reply.TheVariants as reply
-use Rattle.lmtp.specs.declared.verb.Verb.{Verb}
-use Rattle.lmtp.specs.declared.verb.Verb.TheVariants as verb
-use Rattle.lmtp.proofs.ArgumentLemmas.{one_after, one_path}
-use Rattle.lmtp.proofs.CommandLemmas.{one_word}
-use Rattle.lmtp.proofs.DialogueLemmas.{one_item, line_stays, lookup_stays, outcome_stays}
-use Rattle.lmtp.proofs.FrontLemmas.{front_is, behind_is}
-use Rattle.lmtp.proofs.ParameterLemmas.{one_parameter, stopped, word_in, tail_in}
-use Rattle.lmtp.proofs.RouteLemmas.{one_bare}
-use Rattle.lmtp.proofs.TextLemmas.{same_others, not_none}
+use Rattle.lmtp_dialogue.specs.Arguments.{to_word, from_word, TakesSender, TakesRecipient, IsPathArgument, or_earlier, IsParameter, AreParameters, ReadsMail, ReadsRecipient, AnnouncedMail}
+use Rattle.lmtp_dialogue.specs.Commands.{verb_word, is_unspaced, HasArgument, IsCommandLine}
+use Rattle.lmtp_dialogue.specs.Dialogues.{DialoguePhase, Dialogue, Item, Command, LongLine, Message}
+use Rattle.lmtp_dialogue.specs.ReadCommands.{Nothing, Something, ReadsLmtpCommand, ReadsName, ReadsSender, ReadsTarget, ReadsAlone}
+use Rattle.lmtp_dialogue.specs.Paths.{IsPath, FollowsRoute}
+use Rattle.lmtp_dialogue.specs.Turns.{LmtpTurn, says, hello_turn, mail_turn, rcpt_turn, command_turn, IsLineTurn, DialogueAnswers, AnswersStand, announced_size}
+use Rattle.lmtp_dialogue.specs.declared.argument.ArgumentFault.{ArgumentFault}
+use Rattle.lmtp_dialogue.specs.declared.argument.ArgumentFault.TheVariants.{Syntax, Address, Parameter}
+use Rattle.lmtp_dialogue.specs.declared.command.LmtpCommand.{LmtpCommand}
+use Rattle.lmtp_dialogue.specs.declared.command.LmtpCommand.TheVariants as order
+use Rattle.lmtp_dialogue.specs.declared.reply.LmtpReply.TheVariants as reply
+use Rattle.lmtp_dialogue.specs.declared.verb.LmtpVerb.{LmtpVerb}
+use Rattle.lmtp_dialogue.specs.declared.verb.LmtpVerb.TheVariants as verb
+use Rattle.lmtp_dialogue.proofs.ArgumentLemmas.{one_after, one_path}
+use Rattle.lmtp_dialogue.proofs.CommandLemmas.{one_word}
+use Rattle.lmtp_dialogue.proofs.DialogueLemmas.{one_item, line_stays, lookup_stays, outcome_stays}
+use Rattle.lmtp_dialogue.proofs.FrontLemmas.{front_is, behind_is}
+use Rattle.lmtp_dialogue.proofs.ParameterLemmas.{one_parameter, stopped, word_in, tail_in}
+use Rattle.lmtp_dialogue.proofs.RouteLemmas.{one_bare}
+use Rattle.lmtp_dialogue.proofs.TextLemmas.{same_others, not_none}
 
 -- ---- a path and what stands behind it
 
@@ -38,7 +38,7 @@ one_rest text address rest other more first second =
     sym first.ends.written ∙ (bare ∙ (second.ends.written ∙ ap (λ a. a ++ 62 ∷ more) (sym address_is))) in
     same_others 62 62 rest more (append_cancel_left address (62 ∷ rest) (62 ∷ more) same)
 
-one_addressed : (word : List ℕ) (Takes : List ℕ → Type 0) (argument a x b y : List ℕ) → IsAddressed word Takes argument a x → IsAddressed word Takes argument b y
+one_addressed : (word : List ℕ) (Takes : List ℕ → Type 0) (argument a x b y : List ℕ) → IsPathArgument word Takes argument a x → IsPathArgument word Takes argument b y
     → (a ≡ b) × (x ≡ y)
 one_addressed word Takes argument a x b y first second =
     let path : first.path ≡ second.path = one_after word argument first.path second.path first.after second.after in
@@ -63,10 +63,10 @@ one_parameters (t ∷ ts) (u ∷ us) rest earlier size end first second =
 
 -- ---- what MAIL and RCPT are about
 
-same_mail : (a b : List ℕ) (x y : Option ℕ) → a ≡ b → x ≡ y → (let m : Sends = record { from = a; size = x } in let r : Result Sends ArgumentFault = Ok m in r) ≡ Ok (record { from = b; size = y })
+same_mail : (a b : List ℕ) (x y : Option ℕ) → a ≡ b → x ≡ y → (let m : AnnouncedMail = record { from = a; size = x } in let r : Result AnnouncedMail ArgumentFault = Ok m in r) ≡ Ok (record { from = b; size = y })
 same_mail a b x y from size = ap (λ f. Ok (record { from = f; size = x })) from ∙ ap (λ s. Ok (record { from = b; size = s })) size
 
-one_mail : (argument : List ℕ) (r s : Result Sends ArgumentFault) → ReadsMail argument r → ReadsMail argument s → r ≡ s
+one_mail : (argument : List ℕ) (r s : Result AnnouncedMail ArgumentFault) → ReadsMail argument r → ReadsMail argument s → r ≡ s
 one_mail argument (Ok m) (Ok n) first second =
     let both = one_addressed from_word TakesSender argument m.from first.0 n.from second.0 first.1 second.1 in
     let there = subst (λ t. AreParameters second.2.0 t None n.size) (sym both.1) second.2.1 in
@@ -114,14 +114,14 @@ one_recipient argument (Err Parameter) (Err Parameter) first second = refl
 abbrev is_text : List ℕ → List ℕ → Bool
 is_text word text = pointwise nat_eq word text
 
-abbrev named : List ℕ → Verb
+abbrev named : List ℕ → LmtpVerb
 named text =
     if is_text (codes "lhlo") text then verb.Lhlo else (if is_text (codes "mail") text then verb.Mail else (if is_text (codes "rcpt") text then verb.Rcpt
     else (if is_text (codes "data") text then verb.Data else (if is_text (codes "rset") text then verb.Rset else (if is_text (codes "noop") text then verb.Noop
     else (if is_text (codes "vrfy") text then verb.Vrfy else (if is_text (codes "help") text then verb.Help else (if is_text (codes "quit") text then verb.Quit
     else (if is_text (codes "helo") text then verb.Helo else verb.Ehlo)))))))))
 
-named_is : (word : Verb) → named (map to_ascii_lowercase (word_of word)) ≡ word
+named_is : (word : LmtpVerb) → named (map to_ascii_lowercase (verb_word word)) ≡ word
 named_is verb.Lhlo = refl
 named_is verb.Mail = refl
 named_is verb.Rcpt = refl
@@ -134,27 +134,27 @@ named_is verb.Quit = refl
 named_is verb.Helo = refl
 named_is verb.Ehlo = refl
 
-one_argument : (tail a b : List ℕ) → Argues tail a → Argues tail b → a ≡ b
+one_argument : (tail a b : List ℕ) → HasArgument tail a → HasArgument tail b → a ≡ b
 one_argument tail a b (inl first) (inl second) = first.1 ∙ sym second.1
 one_argument tail a b (inl first) (inr second) = absurd (not_none 32 second.0 (sym second.1 ∙ first.0))
 one_argument tail a b (inr first) (inl second) = absurd (not_none 32 first.0 (sym first.1 ∙ second.0))
 one_argument tail a b (inr first) (inr second) =
     first.2 ∙ (ap trimmed (same_others 32 32 first.0 second.0 (sym first.1 ∙ second.1)) ∙ sym second.2)
 
-one_command : (line : List ℕ) (v w : Verb) (a b : List ℕ) → IsCommandLine line v a → IsCommandLine line w b → (v ≡ w) × (a ≡ b)
+one_command : (line : List ℕ) (v w : LmtpVerb) (a b : List ℕ) → IsCommandLine line v a → IsCommandLine line w b → (v ≡ w) × (a ≡ b)
 one_command line v w a b first second =
     let word : first.word ≡ second.word = sym (one_word line first.word a first.splits) ∙ one_word line second.word b second.splits in
-    let lower : map to_ascii_lowercase (word_of v) ≡ map to_ascii_lowercase (word_of w) = sym first.is ∙ (ap (map to_ascii_lowercase) word ∙ second.is) in
+    let lower : map to_ascii_lowercase (verb_word v) ≡ map to_ascii_lowercase (verb_word w) = sym first.is ∙ (ap (map to_ascii_lowercase) word ∙ second.is) in
     let tail : first.splits.tail ≡ second.splits.tail =
     append_cancel_left first.word first.splits.tail second.splits.tail
     (sym first.splits.written ∙ (second.splits.written ∙ ap (λ x. x ++ second.splits.tail) (sym word))) in (
       sym (named_is v) ∙ (ap named lower ∙ named_is w),
-      one_argument second.splits.tail a b (subst (λ t. Argues t a) tail first.splits.argues) second.splits.argues,
+      one_argument second.splits.tail a b (subst (λ t. HasArgument t a) tail first.splits.argues) second.splits.argues,
     )
 
 -- ---- what a line asks for, by its word
 
-abbrev ReadsBy : Verb → List ℕ → Order → Type 0
+abbrev ReadsBy : LmtpVerb → List ℕ → LmtpCommand → Type 0
 ReadsBy verb.Lhlo argument o = ReadsName argument o
 ReadsBy verb.Mail argument o = ReadsSender argument o
 ReadsBy verb.Rcpt argument o = ReadsTarget argument o
@@ -167,19 +167,19 @@ ReadsBy verb.Help argument o = o ≡ order.Help
 ReadsBy verb.Helo argument o = o ≡ order.Refused reply.NotSmtp
 ReadsBy verb.Ehlo argument o = o ≡ order.Refused reply.NotSmtp
 
-record IsRead (line : List ℕ) (o : Order) : Type 0 where
-  word : Verb
+record IsRead (line : List ℕ) (o : LmtpCommand) : Type 0 where
+  word : LmtpVerb
   argument : List ℕ
   is : IsCommandLine line word argument
   reads : ReadsBy word argument o
 
-abbrev Unread : List ℕ → Order → Type 0
-Unread line o = ((word : Verb) (argument : List ℕ) → IsCommandLine line word argument → ⊥) × (o ≡ order.Refused reply.UnknownCommand)
+abbrev Unread : List ℕ → LmtpCommand → Type 0
+Unread line o = ((word : LmtpVerb) (argument : List ℕ) → IsCommandLine line word argument → ⊥) × (o ≡ order.Refused reply.UnknownCommand)
 
-as_read : (line : List ℕ) (o : Order) (word : Verb) (argument : List ℕ) → IsCommandLine line word argument → ReadsBy word argument o → Unread line o ⊎ IsRead line o
+as_read : (line : List ℕ) (o : LmtpCommand) (word : LmtpVerb) (argument : List ℕ) → IsCommandLine line word argument → ReadsBy word argument o → Unread line o ⊎ IsRead line o
 as_read line o word argument is reads = inr (record { word = word; argument = argument; is = is; reads = reads })
 
-by_line : (line : List ℕ) (o : Order) → ReadsOrder line o → Unread line o ⊎ IsRead line o
+by_line : (line : List ℕ) (o : LmtpCommand) → ReadsLmtpCommand line o → Unread line o ⊎ IsRead line o
 by_line line (order.Lhlo name) is = as_read line (order.Lhlo name) verb.Lhlo name.now is.0 (refl, is.1)
 by_line line (order.Mail mail) is = as_read line (order.Mail mail) verb.Mail is.0 is.1 is.2
 by_line line (order.Rcpt address) is = as_read line (order.Rcpt address) verb.Rcpt is.0 is.1 is.2
@@ -206,48 +206,48 @@ by_line line (order.Refused other) is = absurd is
 
 -- ---- one turn
 
-name_turn : (hello : List ℕ) (phase : Phase) (argument : List ℕ) (o : Order) → ReadsName argument o
-    → (Something argument × (turn_of hello phase o ≡ hello_turn hello)) ⊎ (Nothing argument × (turn_of hello phase o ≡ says reply.BadArgument phase))
+name_turn : (hello : List ℕ) (phase : DialoguePhase) (argument : List ℕ) (o : LmtpCommand) → ReadsName argument o
+    → (Something argument × (command_turn hello phase o ≡ hello_turn hello)) ⊎ (Nothing argument × (command_turn hello phase o ≡ says reply.BadArgument phase))
 name_turn hello phase argument (order.Lhlo name) is = inl (is.1, refl)
 name_turn hello phase argument (order.Refused reply.BadArgument) is = inr (is, refl)
 name_turn hello phase argument other is = absurd is
 
-abbrev mail_by : Phase → Result Sends ArgumentFault → Turn
+abbrev mail_by : DialoguePhase → Result AnnouncedMail ArgumentFault → LmtpTurn
 mail_by phase (Ok mail) = mail_turn phase mail.from mail.size
 mail_by phase (Err Syntax) = says reply.BadArgument phase
 mail_by phase (Err Address) = says reply.BadSender phase
 mail_by phase (Err Parameter) = says reply.BadParameter phase
 
-sender_turn : (hello : List ℕ) (phase : Phase) (argument : List ℕ) (o : Order) → ReadsSender argument o
-    → (r : Result Sends ArgumentFault) × ReadsMail argument r × (turn_of hello phase o ≡ mail_by phase r)
+sender_turn : (hello : List ℕ) (phase : DialoguePhase) (argument : List ℕ) (o : LmtpCommand) → ReadsSender argument o
+    → (r : Result AnnouncedMail ArgumentFault) × ReadsMail argument r × (command_turn hello phase o ≡ mail_by phase r)
 sender_turn hello phase argument (order.Mail mail) is = (Ok (record { from = mail.from.now; size = mail.size }), is, refl)
 sender_turn hello phase argument (order.Refused reply.BadArgument) is = (Err Syntax, is, refl)
 sender_turn hello phase argument (order.Refused reply.BadSender) is = (Err Address, is, refl)
 sender_turn hello phase argument (order.Refused reply.BadParameter) is = (Err Parameter, is, refl)
 sender_turn hello phase argument other is = absurd is
 
-abbrev rcpt_by : Phase → Result (List ℕ) ArgumentFault → Turn
+abbrev rcpt_by : DialoguePhase → Result (List ℕ) ArgumentFault → LmtpTurn
 rcpt_by phase (Ok address) = rcpt_turn phase address
 rcpt_by phase (Err Syntax) = says reply.BadArgument phase
 rcpt_by phase (Err Address) = says reply.BadRecipient phase
 rcpt_by phase (Err Parameter) = says reply.BadParameter phase
 
-target_turn : (hello : List ℕ) (phase : Phase) (argument : List ℕ) (o : Order) → ReadsTarget argument o
-    → (r : Result (List ℕ) ArgumentFault) × ReadsRecipient argument r × (turn_of hello phase o ≡ rcpt_by phase r)
+target_turn : (hello : List ℕ) (phase : DialoguePhase) (argument : List ℕ) (o : LmtpCommand) → ReadsTarget argument o
+    → (r : Result (List ℕ) ArgumentFault) × ReadsRecipient argument r × (command_turn hello phase o ≡ rcpt_by phase r)
 target_turn hello phase argument (order.Rcpt address) is = (Ok address.now, is, refl)
 target_turn hello phase argument (order.Refused reply.BadArgument) is = (Err Syntax, is, refl)
 target_turn hello phase argument (order.Refused reply.BadRecipient) is = (Err Address, is, refl)
 target_turn hello phase argument (order.Refused reply.BadParameter) is = (Err Parameter, is, refl)
 target_turn hello phase argument other is = absurd is
 
-one_alone : (argument : List ℕ) (wanted o p : Order) → ReadsAlone argument wanted o → ReadsAlone argument wanted p → o ≡ p
+one_alone : (argument : List ℕ) (wanted o p : LmtpCommand) → ReadsAlone argument wanted o → ReadsAlone argument wanted p → o ≡ p
 one_alone argument wanted o p (inl first) (inl second) = first.1 ∙ sym second.1
 one_alone argument wanted o p (inl first) (inr second) = absurd (second.0 first.0)
 one_alone argument wanted o p (inr first) (inl second) = absurd (first.0 second.0)
 one_alone argument wanted o p (inr first) (inr second) = first.1 ∙ sym second.1
 
-one_by_word : (hello : List ℕ) (phase : Phase) (word : Verb) (argument : List ℕ) (o p : Order) → ReadsBy word argument o → ReadsBy word argument p
-    → turn_of hello phase o ≡ turn_of hello phase p
+one_by_word : (hello : List ℕ) (phase : DialoguePhase) (word : LmtpVerb) (argument : List ℕ) (o p : LmtpCommand) → ReadsBy word argument o → ReadsBy word argument p
+    → command_turn hello phase o ≡ command_turn hello phase p
 one_by_word hello phase verb.Lhlo argument o p first second = elim (name_turn hello phase argument o first) [
   | inl a ↦ elim (name_turn hello phase argument p second) [ inl b ↦ a.1 ∙ sym b.1 | inr b ↦ absurd (a.0 b.0) ]
   | inr a ↦ elim (name_turn hello phase argument p second) [ inl b ↦ absurd (b.0 a.0) | inr b ↦ a.1 ∙ sym b.1 ]
@@ -260,19 +260,19 @@ one_by_word hello phase verb.Rcpt argument o p first second =
     let a = target_turn hello phase argument o first in
     let b = target_turn hello phase argument p second in
     a.2 ∙ (ap (rcpt_by phase) (one_recipient argument a.0 b.0 a.1 b.1) ∙ sym b.2)
-one_by_word hello phase verb.Data argument o p first second = ap (turn_of hello phase) (one_alone argument order.Data o p first second)
-one_by_word hello phase verb.Rset argument o p first second = ap (turn_of hello phase) (one_alone argument order.Rset o p first second)
-one_by_word hello phase verb.Quit argument o p first second = ap (turn_of hello phase) (one_alone argument order.Quit o p first second)
-one_by_word hello phase verb.Noop argument o p first second = ap (turn_of hello phase) (first ∙ sym second)
-one_by_word hello phase verb.Vrfy argument o p first second = ap (turn_of hello phase) (first ∙ sym second)
-one_by_word hello phase verb.Help argument o p first second = ap (turn_of hello phase) (first ∙ sym second)
-one_by_word hello phase verb.Helo argument o p first second = ap (turn_of hello phase) (first ∙ sym second)
-one_by_word hello phase verb.Ehlo argument o p first second = ap (turn_of hello phase) (first ∙ sym second)
+one_by_word hello phase verb.Data argument o p first second = ap (command_turn hello phase) (one_alone argument order.Data o p first second)
+one_by_word hello phase verb.Rset argument o p first second = ap (command_turn hello phase) (one_alone argument order.Rset o p first second)
+one_by_word hello phase verb.Quit argument o p first second = ap (command_turn hello phase) (one_alone argument order.Quit o p first second)
+one_by_word hello phase verb.Noop argument o p first second = ap (command_turn hello phase) (first ∙ sym second)
+one_by_word hello phase verb.Vrfy argument o p first second = ap (command_turn hello phase) (first ∙ sym second)
+one_by_word hello phase verb.Help argument o p first second = ap (command_turn hello phase) (first ∙ sym second)
+one_by_word hello phase verb.Helo argument o p first second = ap (command_turn hello phase) (first ∙ sym second)
+one_by_word hello phase verb.Ehlo argument o p first second = ap (command_turn hello phase) (first ∙ sym second)
 
-one_order : (hello : List ℕ) (phase : Phase) (line : List ℕ) (o p : Order) → ReadsOrder line o → ReadsOrder line p → turn_of hello phase o ≡ turn_of hello phase p
+one_order : (hello : List ℕ) (phase : DialoguePhase) (line : List ℕ) (o p : LmtpCommand) → ReadsLmtpCommand line o → ReadsLmtpCommand line p → command_turn hello phase o ≡ command_turn hello phase p
 one_order hello phase line o p first second = elim (by_line line o first) [
   | inl a ↦ elim (by_line line p second) [
-    | inl b ↦ ap (turn_of hello phase) (a.1 ∙ sym b.1)
+    | inl b ↦ ap (command_turn hello phase) (a.1 ∙ sym b.1)
     | inr b ↦ absurd (a.0 b.word b.argument b.is)
   ]
   | inr a ↦ elim (by_line line p second) [
@@ -286,49 +286,49 @@ one_order hello phase line o p first second = elim (by_line line o first) [
 
 -- ---- the size that is announced
 
-abbrev size_in : Result Sends ArgumentFault → Option ℕ
+abbrev size_in : Result AnnouncedMail ArgumentFault → Option ℕ
 size_in (Ok mail) = mail.size
 size_in (Err fault) = None
 
-sender_size : (argument : List ℕ) (o : Order) → ReadsSender argument o → (r : Result Sends ArgumentFault) × ReadsMail argument r × (size_of o ≡ size_in r)
+sender_size : (argument : List ℕ) (o : LmtpCommand) → ReadsSender argument o → (r : Result AnnouncedMail ArgumentFault) × ReadsMail argument r × (announced_size o ≡ size_in r)
 sender_size argument (order.Mail mail) is = (Ok (record { from = mail.from.now; size = mail.size }), is, refl)
 sender_size argument (order.Refused reply.BadArgument) is = (Err Syntax, is, refl)
 sender_size argument (order.Refused reply.BadSender) is = (Err Address, is, refl)
 sender_size argument (order.Refused reply.BadParameter) is = (Err Parameter, is, refl)
 sender_size argument other is = absurd is
 
-name_size : (argument : List ℕ) (o : Order) → ReadsName argument o → size_of o ≡ None
+name_size : (argument : List ℕ) (o : LmtpCommand) → ReadsName argument o → announced_size o ≡ None
 name_size argument (order.Lhlo name) is = refl
 name_size argument (order.Refused reply.BadArgument) is = refl
 name_size argument other is = absurd is
 
-target_size : (argument : List ℕ) (o : Order) → ReadsTarget argument o → size_of o ≡ None
+target_size : (argument : List ℕ) (o : LmtpCommand) → ReadsTarget argument o → announced_size o ≡ None
 target_size argument (order.Rcpt address) is = refl
 target_size argument (order.Refused reply.BadArgument) is = refl
 target_size argument (order.Refused reply.BadRecipient) is = refl
 target_size argument (order.Refused reply.BadParameter) is = refl
 target_size argument other is = absurd is
 
-size_by_word : (word : Verb) (argument : List ℕ) (o p : Order) → ReadsBy word argument o → ReadsBy word argument p → size_of o ≡ size_of p
+size_by_word : (word : LmtpVerb) (argument : List ℕ) (o p : LmtpCommand) → ReadsBy word argument o → ReadsBy word argument p → announced_size o ≡ announced_size p
 size_by_word verb.Lhlo argument o p first second = name_size argument o first ∙ sym (name_size argument p second)
 size_by_word verb.Mail argument o p first second =
     let a = sender_size argument o first in
     let b = sender_size argument p second in
     a.2 ∙ (ap size_in (one_mail argument a.0 b.0 a.1 b.1) ∙ sym b.2)
 size_by_word verb.Rcpt argument o p first second = target_size argument o first ∙ sym (target_size argument p second)
-size_by_word verb.Data argument o p first second = ap size_of (one_alone argument order.Data o p first second)
-size_by_word verb.Rset argument o p first second = ap size_of (one_alone argument order.Rset o p first second)
-size_by_word verb.Quit argument o p first second = ap size_of (one_alone argument order.Quit o p first second)
-size_by_word verb.Noop argument o p first second = ap size_of (first ∙ sym second)
-size_by_word verb.Vrfy argument o p first second = ap size_of (first ∙ sym second)
-size_by_word verb.Help argument o p first second = ap size_of (first ∙ sym second)
-size_by_word verb.Helo argument o p first second = ap size_of (first ∙ sym second)
-size_by_word verb.Ehlo argument o p first second = ap size_of (first ∙ sym second)
+size_by_word verb.Data argument o p first second = ap announced_size (one_alone argument order.Data o p first second)
+size_by_word verb.Rset argument o p first second = ap announced_size (one_alone argument order.Rset o p first second)
+size_by_word verb.Quit argument o p first second = ap announced_size (one_alone argument order.Quit o p first second)
+size_by_word verb.Noop argument o p first second = ap announced_size (first ∙ sym second)
+size_by_word verb.Vrfy argument o p first second = ap announced_size (first ∙ sym second)
+size_by_word verb.Help argument o p first second = ap announced_size (first ∙ sym second)
+size_by_word verb.Helo argument o p first second = ap announced_size (first ∙ sym second)
+size_by_word verb.Ehlo argument o p first second = ap announced_size (first ∙ sym second)
 
-pub one_size : (line : List ℕ) (o p : Order) → ReadsOrder line o → ReadsOrder line p → size_of o ≡ size_of p
+pub one_size : (line : List ℕ) (o p : LmtpCommand) → ReadsLmtpCommand line o → ReadsLmtpCommand line p → announced_size o ≡ announced_size p
 one_size line o p first second = elim (by_line line o first) [
   | inl a ↦ elim (by_line line p second) [
-    | inl b ↦ ap size_of (a.1 ∙ sym b.1)
+    | inl b ↦ ap announced_size (a.1 ∙ sym b.1)
     | inr b ↦ absurd (a.0 b.word b.argument b.is)
   ]
   | inr a ↦ elim (by_line line p second) [
@@ -339,18 +339,18 @@ one_size line o p first second = elim (by_line line o first) [
   ]
 ]
 
-one_turn : (hello : List ℕ) (phase : Phase) (item : Item) (s t : Turn) → IsTurn hello phase item s → IsTurn hello phase item t → s ≡ t
+one_turn : (hello : List ℕ) (phase : DialoguePhase) (item : Item) (s t : LmtpTurn) → IsLineTurn hello phase item s → IsLineTurn hello phase item t → s ≡ t
 one_turn hello phase (Command line) s t first second = first.2 ∙ (one_order hello phase line first.0 second.0 first.1 second.1 ∙ sym second.2)
 one_turn hello phase LongLine s t first second = first ∙ sym second
 one_turn hello phase (Message text) s t first second = absurd first
 
-pub one_answer : (hello : List ℕ) (d e f : Dialogue) (said other : List ℕ) → Answers hello d said e → Answers hello d other f → (said ≡ other) × (e ≡ f)
+pub one_answer : (hello : List ℕ) (d e f : Dialogue) (said other : List ℕ) → DialogueAnswers hello d said e → DialogueAnswers hello d other f → (said ≡ other) × (e ≡ f)
 one_answer hello d e f said other first second =
     let item = one_item d first.item second.item first.rest second.rest first.first second.first in
     let turn : first.turn ≡ second.turn =
-    one_turn hello d.phase second.item first.turn second.turn (subst (λ i. IsTurn hello d.phase i first.turn) item.0 first.takes) second.takes in (
-      first.told ∙ (ap (λ x. (let t : Turn = x in t.said)) turn ∙ sym second.told),
-      first.leaves ∙ (ap (λ x. (let t : Turn = x in let g : Dialogue = record { phase = t.phase; unread = first.rest } in g)) turn
+    one_turn hello d.phase second.item first.turn second.turn (subst (λ i. IsLineTurn hello d.phase i first.turn) item.0 first.takes) second.takes in (
+      first.told ∙ (ap (λ x. (let t : LmtpTurn = x in t.said)) turn ∙ sym second.told),
+      first.leaves ∙ (ap (λ x. (let t : LmtpTurn = x in let g : Dialogue = record { phase = t.phase; unread = first.rest } in g)) turn
           ∙ (ap (λ r. (let g : Dialogue = record { phase = second.turn.phase; unread = r } in g)) item.1 ∙ sym second.leaves)),
     )
 

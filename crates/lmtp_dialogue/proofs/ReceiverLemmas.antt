@@ -4,21 +4,21 @@ use Rattle.std.proofs.Math.Seq.{drop-length}
 use Rattle.std.proofs.lemmas.Bool.{cases_order}
 use Rattle.std.proofs.lemmas.List.{take-append-drop, length-take-le, append_cancel_left}
 use Rattle.std.specs.Prelude.{◌⊎◌}
-use Rattle.lmtp.specs.Dialogues.{Dialogue, given}
-use Rattle.lmtp.specs.Lines.{line_end, HasNoLineEnd, IsFirstLine, Finds, Skips}
-use Rattle.lmtp.specs.Receivers.{JoinsNone, IsLineGone, IsGone, Holds, IsLineTaken, IsTaken, StandsIn, TakesIn, takes_lines}
-use Rattle.lmtp.specs.Talks.{phase_of}
-use Rattle.lmtp.specs.Texts.{Feeds}
-use Rattle.lmtp.specs.declared.line.Found.TheVariants.{TooLong}
-use Rattle.lmtp.specs.declared.receiver.Receiver.{Receiver}
-use Rattle.lmtp.specs.declared.receiver.Stage.{Stage}
-use Rattle.lmtp.specs.declared.receiver.Stage.TheVariants as stage
-use Rattle.lmtp.specs.declared.text.Place.TheVariants.{Ended}
-use Rattle.lmtp.specs.declared.text.Text.{Text}
-use Rattle.lmtp.proofs.LineLemmas.{too_long}
-use Rattle.lmtp.proofs.SkipLemmas.{joins_more, joins_both, joins_last, joins_line}
-use Rattle.lmtp.proofs.StageLemmas.{line_gone, gone_line, taken_line}
-use Rattle.lmtp.proofs.TextLemmas.{not_none}
+use Rattle.lmtp_dialogue.specs.Dialogues.{Dialogue, dialogue_given}
+use Rattle.lmtp_dialogue.specs.Lines.{line_end, HasNoLineEnd, IsFirstLine, LineFinds, Skips}
+use Rattle.lmtp_dialogue.specs.Receivers.{JoinsNone, IsLineGone, IsItemGone, HoldsDialogue, IsLineTaken, IsItemTaken, StandsIn, ReceiverTakesIn, takes_lines}
+use Rattle.lmtp_dialogue.specs.Talks.{phase_of}
+use Rattle.lmtp_dialogue.specs.Texts.{Feeds}
+use Rattle.lmtp_dialogue.specs.declared.line.Found.TheVariants.{TooLong}
+use Rattle.lmtp_dialogue.specs.declared.receiver.Receiver.{Receiver}
+use Rattle.lmtp_dialogue.specs.declared.receiver.LmtpStage.{LmtpStage}
+use Rattle.lmtp_dialogue.specs.declared.receiver.LmtpStage.TheVariants as stage
+use Rattle.lmtp_dialogue.specs.declared.text.TextState.TheVariants.{Ended}
+use Rattle.lmtp_dialogue.specs.declared.text.Text.{Text}
+use Rattle.lmtp_dialogue.proofs.LineLemmas.{too_long}
+use Rattle.lmtp_dialogue.proofs.SkipLemmas.{joins_more, joins_both, joins_last, joins_line}
+use Rattle.lmtp_dialogue.proofs.StageLemmas.{line_gone, gone_line, taken_line}
+use Rattle.lmtp_dialogue.proofs.TextLemmas.{not_none}
 
 -- ---- octets come
 
@@ -33,7 +33,7 @@ line_gone_more : (long : Bool) (unread piece gone : List ℕ) → IsLineGone lon
 line_gone_more false unread piece gone is = is
 line_gone_more true unread piece gone is = (joins_more gone unread piece is.0, some_more unread piece is.1, is.2)
 
-gone_more : (at : Stage) (long : Bool) (text : Text) (unread piece gone : List ℕ) → IsGone at long text unread gone → IsGone at long text (unread ++ piece) gone
+gone_more : (at : LmtpStage) (long : Bool) (text : Text) (unread piece gone : List ℕ) → IsItemGone at long text unread gone → IsItemGone at long text (unread ++ piece) gone
 gone_more stage.Greeted long text unread piece gone is = line_gone_more long unread piece gone is
 gone_more stage.Ready long text unread piece gone is = line_gone_more long unread piece gone is
 gone_more stage.Opened long text unread piece gone is = line_gone_more long unread piece gone is
@@ -42,7 +42,7 @@ gone_more stage.Sending long text unread piece gone is = is
 gone_more stage.Over long text unread piece gone is = tt
 
 pub holds_more : (r s : Receiver) (piece : List ℕ) (d : Dialogue) → s.talk ≡ r.talk → s.long ≡ r.long → s.unread ≡ r.unread ++ piece
-    → StandsIn r d → Holds s (given piece d)
+    → StandsIn r d → HoldsDialogue s (dialogue_given piece d)
 holds_more r s piece d talk long unread stands = record {
   phase = rw talk stands.holds.phase;
   heard = record {
@@ -57,7 +57,7 @@ holds_more r s piece d talk long unread stands = record {
 -- ---- what is held is taken in
 
 -- behind QUIT
-pub takes_over : (r s : Receiver) → r.talk.stage ≡ stage.Over → s.talk ≡ r.talk → s.unread ≡ [] → TakesIn r s
+pub takes_over : (r s : Receiver) → r.talk.stage ≡ stage.Over → s.talk ≡ r.talk → s.unread ≡ [] → ReceiverTakesIn r s
 takes_over r s over talk none = λ d holds. record {
   holds = record {
     phase = rw talk holds.phase;
@@ -78,9 +78,9 @@ nothing_left unread count all = rw all (drop-length unread)
 
 pub takes_text : (r s : Receiver) (count : ℕ) → r.talk.stage ≡ stage.Sending → s.talk.stage ≡ stage.Sending → phase_of s.talk ≡ phase_of r.talk
     → s.long ≡ r.long → s.unread ≡ drop count r.unread → Feeds r.talk.text (take count r.unread) s.talk.text
-    → ((s.talk.text.place ≡ Ended → ⊥) → count ≡ length r.unread) → s.talk.text.limit ≡ r.talk.text.limit → TakesIn r s
+    → ((s.talk.text.place ≡ Ended → ⊥) → count ≡ length r.unread) → s.talk.text.limit ≡ r.talk.text.limit → ReceiverTakesIn r s
 takes_text r s count sends after_that phase long unread feeds whole limit = λ d holds.
-    let is = subst (λ a. IsGone a r.long r.talk.text r.unread holds.heard.gone) sends holds.heard.is in
+    let is = subst (λ a. IsItemGone a r.long r.talk.text r.unread holds.heard.gone) sends holds.heard.is in
     let gone = holds.heard.gone in
     record {
       holds = record {
@@ -102,11 +102,11 @@ pub keeps_less : (r s : Receiver) → r.talk.stage ≡ stage.Sending → s.talk.
     → s.unread ≡ r.unread → Feeds r.talk.text [] s.talk.text → s.talk.text.place ≡ r.talk.text.place → s.talk.text.limit ≡ r.talk.text.limit
     → (d : Dialogue) → StandsIn r d → StandsIn s d
 keeps_less r s sends after_that phase long unread feeds place limit = λ d stands.
-    let taken : IsTaken stage.Sending r.long r.talk.text r.unread = subst (λ a. IsTaken a r.long r.talk.text r.unread) sends stands.taken in
+    let taken : IsItemTaken stage.Sending r.long r.talk.text r.unread = subst (λ a. IsItemTaken a r.long r.talk.text r.unread) sends stands.taken in
     takes_text r s 0 sends after_that phase long unread feeds (λ goes. sym (ap (λ (u : List ℕ). length u) (taken (λ ended. goes (place ∙ ended))))) limit d stands.holds
 
 -- of a line that has as many octets as one may have, nothing
-pub takes_line : (r : Receiver) → takes_lines r.talk.stage ≡ true → r.long ≡ false → (Finds TooLong r.unread → ⊥) → TakesIn r r
+pub takes_line : (r : Receiver) → takes_lines r.talk.stage ≡ true → r.long ≡ false → (LineFinds TooLong r.unread → ⊥) → ReceiverTakesIn r r
 takes_line r takes short found = λ d holds. record {
   holds = holds;
   taken = taken_line r.talk.stage r.long r.talk.text r.unread takes (rw short found);
@@ -155,7 +155,7 @@ cuts count unread is some = elim is [
 ]
 
 -- enough octets are gone where there are too many
-enough : (count : ℕ) (unread : List ℕ) → Finds TooLong unread → Skips count unread → 2048 < count + 2
+enough : (count : ℕ) (unread : List ℕ) → LineFinds TooLong unread → Skips count unread → 2048 < count + 2
 enough count unread found is = elim is [
   | inl line ↦ elim (cases_order (count + 2) 2048) [
     | inl same ↦ absurd (too_long unread count (line.0, omega arith, line.1) found)
@@ -165,11 +165,11 @@ enough count unread found is = elim is [
   | inr none ↦ omega (arith, none.1, found.1)
 ]
 
-some_long : (unread : List ℕ) → Finds TooLong unread → unread ≡ [] → ⊥
+some_long : (unread : List ℕ) → LineFinds TooLong unread → unread ≡ [] → ⊥
 some_long unread found none = absurd (omega (arith, found.1, ap length none))
 
 -- what is gone with them
-gone_with : (long : Bool) (count : ℕ) (unread gone : List ℕ) → (long ≡ true) ⊎ Finds TooLong unread → IsLineGone long unread gone → count ≤ length unread
+gone_with : (long : Bool) (count : ℕ) (unread gone : List ℕ) → (long ≡ true) ⊎ LineFinds TooLong unread → IsLineGone long unread gone → count ≤ length unread
     → Skips count unread → IsLineGone true (drop count unread) (gone ++ take count unread) × IsLineTaken true (drop count unread)
 gone_with false count unread gone (inl same) is within skips = absurd (cc same)
 gone_with false count unread gone (inr found) is within skips =
@@ -181,8 +181,8 @@ gone_with true count unread gone why is within skips =
     let joins = joins_both gone (take count unread) (drop count unread) (subst (JoinsNone gone) (sym (take-append-drop count unread)) is.0) cut.joins in
     ((joins, cut.some, omega (arith, is.2, length-append gone (take count unread))), cut.taken)
 
-pub takes_long : (r s : Receiver) (count : ℕ) → takes_lines r.talk.stage ≡ true → (r.long ≡ true) ⊎ Finds TooLong r.unread
-    → s.talk ≡ r.talk → s.long ≡ true → s.unread ≡ drop count r.unread → count ≤ length r.unread → Skips count r.unread → TakesIn r s
+pub takes_long : (r s : Receiver) (count : ℕ) → takes_lines r.talk.stage ≡ true → (r.long ≡ true) ⊎ LineFinds TooLong r.unread
+    → s.talk ≡ r.talk → s.long ≡ true → s.unread ≡ drop count r.unread → count ≤ length r.unread → Skips count r.unread → ReceiverTakesIn r s
 takes_long r s count takes why talk long unread within skips = λ d holds.
     let gone = holds.heard.gone in
     let is = line_gone r.talk.stage r.long r.talk.text r.unread gone takes holds.heard.is in

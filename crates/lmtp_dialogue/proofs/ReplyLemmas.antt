@@ -4,16 +4,16 @@ use Rattle.std.proofs.lemmas.List.{length-take, length-map}
 use Rattle.std.proofs.lemmas.List.Folds.{list_all-append}
 use Rattle.std.specs.List.{list_all}
 use Rattle.octets.specs.Ascii.{is_printable}
-use Rattle.lmtp.specs.Lines.{line_end}
-use Rattle.lmtp.specs.Replies.{line_of, shown_octet, shown, delivered, IsOneLine, RepliesAreLines}
-use Rattle.lmtp.specs.declared.reply.Outcome.TheVariants.{Delivered, Refused}
-use Rattle.lmtp.specs.declared.reply.Reply.{Reply}
-use Rattle.lmtp.specs.declared.reply.Reply.TheVariants.{Done, SenderTaken, RecipientTaken, Unverified, GoAhead, Helped, Goodbye, UnknownCommand, NotSmtp, LineTooLong, BadArgument, BadSender, BadRecipient, OutOfOrder, NoRecipient, BadParameter, NoSuchUser, AccountClosed, MessageTooLarge, HeaderTooLarge, MailLoop, NoRoom, TooManyRecipients, StoreAway, LocalFault, Idle}
+use Rattle.lmtp_dialogue.specs.Lines.{line_end}
+use Rattle.lmtp_dialogue.specs.Replies.{lmtp_line_of, lmtp_shown_octet, lmtp_shown, delivered_reply, IsOneReplyLine, RepliesAreLines}
+use Rattle.lmtp_dialogue.specs.declared.reply.DeliveryOutcome.TheVariants.{Delivered, Refused}
+use Rattle.lmtp_dialogue.specs.declared.reply.LmtpReply.{LmtpReply}
+use Rattle.lmtp_dialogue.specs.declared.reply.LmtpReply.TheVariants.{Done, SenderTaken, RecipientTaken, Unverified, GoAhead, Helped, Goodbye, UnknownCommand, NotSmtp, LineTooLong, BadArgument, BadSender, BadRecipient, OutOfOrder, NoRecipient, BadParameter, NoSuchUser, AccountClosed, MessageTooLarge, HeaderTooLarge, MailLoop, NoRoom, TooManyRecipients, StoreAway, LocalFault, Idle}
 
-ended : (line : List ℕ) → list_all is_printable line ≡ true → length (line ++ line_end) ≤ 512 → IsOneLine (line ++ line_end)
+ended : (line : List ℕ) → list_all is_printable line ≡ true → length (line ++ line_end) ≤ 512 → IsOneReplyLine (line ++ line_end)
 ended line printable short = record { line = line; written = refl; printable = printable; short = short }
 
-one_line : (reply : Reply) → IsOneLine (line_of reply)
+one_line : (reply : LmtpReply) → IsOneReplyLine (lmtp_line_of reply)
 one_line Done = ended (codes "250 2.0.0 Ok") refl (lit≤ tt)
 one_line SenderTaken = ended (codes "250 2.1.0 Ok") refl (lit≤ tt)
 one_line RecipientTaken = ended (codes "250 2.1.5 Ok") refl (lit≤ tt)
@@ -43,23 +43,23 @@ one_line Idle = ended (codes "421 4.4.2 Idle") refl (lit≤ tt)
 
 -- ---- a report
 
-printable_by : (octet : ℕ) (test : Bool) → is_printable octet ≡ test → is_printable (shown_octet octet) ≡ true
+printable_by : (octet : ℕ) (test : Bool) → is_printable octet ≡ test → is_printable (lmtp_shown_octet octet) ≡ true
 printable_by octet true is = rw is is
 printable_by octet false is = rw is refl
 
-printable_all : (text : List ℕ) → list_all is_printable (map shown_octet text) ≡ true
+printable_all : (text : List ℕ) → list_all is_printable (map lmtp_shown_octet text) ≡ true
 printable_all [] = refl
 printable_all (octet ∷ text) = rw (printable_by octet (is_printable octet) refl) (printable_all text)
 
-pub all_shown : (most : ℕ) (text : List ℕ) → list_all is_printable (shown most text) ≡ true
+pub all_shown : (most : ℕ) (text : List ℕ) → list_all is_printable (lmtp_shown most text) ≡ true
 all_shown most text = printable_all (take most text)
 
-shown_short : (most : ℕ) (text : List ℕ) → length (shown most text) ≤ most
-shown_short most text = omega (arith, length-map (take most text) shown_octet, length-take most text)
+shown_short : (most : ℕ) (text : List ℕ) → length (lmtp_shown most text) ≤ most
+shown_short most text = omega (arith, length-map (take most text) lmtp_shown_octet, length-take most text)
 
-delivered_line : (report : List ℕ) → IsOneLine (delivered report)
+delivered_line : (report : List ℕ) → IsOneReplyLine (delivered_reply report)
 delivered_line report =
-    let text = shown 500 report in
+    let text = lmtp_shown 500 report in
     record {
       line = codes "250 2.1.5 " ++ text;
       written = sym (append_assoc (codes "250 2.1.5 ") text line_end);

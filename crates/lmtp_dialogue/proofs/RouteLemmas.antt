@@ -2,9 +2,9 @@
 use Rattle.std.proofs.Common.{◌≡◌, ℕ, true, List, [], ◌∷◌, ◌++◌, take, drop, inl, inr, refl, sym, ap, ◌∙◌, subst, append_assoc}
 use Rattle.std.proofs.lemmas.List.{take-append-drop}
 use Rattle.std.specs.List.{list_all, prefix_len}
-use Rattle.lmtp.specs.Paths.{is_hop, BeginsBare, FollowsRoute, IsPath, EndsAddress}
-use Rattle.lmtp.proofs.FrontLemmas.{all_front, behind_is}
-use Rattle.lmtp.proofs.TextLemmas.{same_others}
+use Rattle.lmtp_dialogue.specs.Paths.{is_hop, BeginsBare, FollowsRoute, IsPath, EndsAddress}
+use Rattle.lmtp_dialogue.proofs.FrontLemmas.{all_front, behind_is}
+use Rattle.lmtp_dialogue.proofs.TextLemmas.{same_others}
 
 -- behind hops and a colon stands what stands there
 colon_behind : (hops bare : List ℕ) → list_all is_hop hops ≡ true → drop (prefix_len is_hop (hops ++ 58 ∷ bare)) (hops ++ 58 ∷ bare) ≡ 58 ∷ bare

@@ -1,13 +1,13 @@
 -- A line that is too long, of which only the end is held.
 use Rattle.std.proofs.Common.{◌≡◌, ℕ, List, [], ◌∷◌, ◌++◌, inl, inr, refl, sym, ap, ◌∙◌, subst, append_assoc, append-nil}
-use Rattle.lmtp.specs.Lines.{line_end, HasNoLineEnd, IsLine}
-use Rattle.lmtp.specs.Receivers.{Agrees, JoinsNone}
-use Rattle.lmtp.proofs.TextLemmas.{same_first, same_others, not_none, none_longer}
+use Rattle.lmtp_dialogue.specs.Lines.{line_end, HasNoLineEnd, IsCrlfLine}
+use Rattle.lmtp_dialogue.specs.Receivers.{AgreesWithStream, JoinsNone}
+use Rattle.lmtp_dialogue.proofs.TextLemmas.{same_first, same_others, not_none, none_longer}
 
 -- ---- streams that begin so
 
 -- octets in front of one
-more_in_front : (u p x m : List ℕ) → u ++ p ≡ x ++ m → Agrees u x
+more_in_front : (u p x m : List ℕ) → u ++ p ≡ x ++ m → AgreesWithStream u x
 more_in_front [] p x m same = inl (x, refl)
 more_in_front (o ∷ u) p [] m same = inr (o ∷ u, refl)
 more_in_front (o ∷ u) p (a ∷ x) m same =
@@ -17,19 +17,19 @@ more_in_front (o ∷ u) p (a ∷ x) m same =
       | inr shorter ↦ inr (shorter.0, ap (λ t. o ∷ t) shorter.1 ∙ ap (λ f. f ∷ (x ++ shorter.0)) first)
     ]
 
-agrees_less : (u p x : List ℕ) → Agrees (u ++ p) x → Agrees u x
+agrees_less : (u p x : List ℕ) → AgreesWithStream (u ++ p) x → AgreesWithStream u x
 agrees_less u p x is = elim is [
   | inl longer ↦ inl (p ++ longer.0, longer.1 ∙ append_assoc u p longer.0)
   | inr shorter ↦ more_in_front u p x shorter.0 shorter.1
 ]
 
-agrees_behind : (front u x : List ℕ) → Agrees u x → Agrees (front ++ u) (front ++ x)
+agrees_behind : (front u x : List ℕ) → AgreesWithStream u x → AgreesWithStream (front ++ u) (front ++ x)
 agrees_behind front u x is = elim is [
   | inl longer ↦ inl (longer.0, ap (λ t. front ++ t) longer.1 ∙ sym (append_assoc front u longer.0))
   | inr shorter ↦ inr (shorter.0, ap (λ t. front ++ t) shorter.1 ∙ sym (append_assoc front x shorter.0))
 ]
 
-pub agrees_itself : (u : List ℕ) → Agrees u u
+pub agrees_itself : (u : List ℕ) → AgreesWithStream u u
 agrees_itself u = inl ([], sym (append-nil u))
 
 -- ---- octets that make no line end with them
@@ -69,7 +69,7 @@ joins_last front octet none x agrees = λ absent. joins_at front octet none x ag
     front_has_none : (front more : List ℕ) → HasNoLineEnd (front ++ more) → HasNoLineEnd front
     front_has_none front more none = λ f b same. none f (b ++ more) (ap (λ t. t ++ more) same ∙ append_assoc f (line_end ++ b) more)
 
-    joins_at : (front : List ℕ) (octet : ℕ) → HasNoLineEnd (front ++ octet ∷ []) → (x : List ℕ) → Agrees (octet ∷ []) x → HasNoLineEnd x → HasNoLineEnd (front ++ x)
+    joins_at : (front : List ℕ) (octet : ℕ) → HasNoLineEnd (front ++ octet ∷ []) → (x : List ℕ) → AgreesWithStream (octet ∷ []) x → HasNoLineEnd x → HasNoLineEnd (front ++ x)
     joins_at front octet none [] agrees absent = subst HasNoLineEnd (sym (append-nil front)) (front_has_none front (octet ∷ []) none)
     joins_at front octet none (o ∷ x) (inl longer) absent =
         let first = same_first o octet x longer.0 longer.1 in
@@ -81,7 +81,7 @@ joins_last front octet none x agrees = λ absent. joins_at front octet none x ag
         absurd (not_none p (x ++ shorter.0) (sym (same_others octet o [] (p ∷ x ++ shorter.0) shorter.1)))
 
 -- a line, before its CRLF
-pub joins_line : (line rest : List ℕ) → IsLine line → JoinsNone line (line_end ++ rest)
+pub joins_line : (line rest : List ℕ) → IsCrlfLine line → JoinsNone line (line_end ++ rest)
 joins_line line rest is [] agrees absent = subst HasNoLineEnd (sym (append-nil line)) (λ f b same. is f (b ++ 13 ∷ []) (ap (λ t. t ++ 13 ∷ []) same ∙ append_assoc f (line_end ++ b) (13 ∷ [])))
 joins_line line rest is (o ∷ []) (inl longer) absent = absurd (none_longer 10 [] (rest ++ longer.0) (same_others o 13 [] (10 ∷ (rest ++ longer.0)) longer.1))
 joins_line line rest is (o ∷ []) (inr shorter) absent = subst (λ f. HasNoLineEnd (line ++ f ∷ [])) (same_first 13 o (10 ∷ rest) shorter.0 shorter.1) is

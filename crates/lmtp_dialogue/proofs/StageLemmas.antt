@@ -1,16 +1,16 @@
 -- What goes on, by what is held.
 use Rattle.std.proofs.Common.{◌≡◌, ℕ, suc, zero, ◌+◌, ◌<◌, Bool, true, false, List, [], ◌∷◌, length, drop, get_or, refl, sym, ap, ◌∙◌, add-one, arith}
-use Rattle.lmtp.specs.Dialogues.{Phase, Greeted, Ready, Opened, Asking, Sending, Over, Item, IsLineItem, Spells}
-use Rattle.lmtp.specs.Receivers.{IsLineGone, IsGone, IsLineTaken, IsTaken, reads_lines, takes_lines, is_heard}
-use Rattle.lmtp.specs.Talks.{phase_by, IsSoundAt}
-use Rattle.lmtp.specs.Texts.{StandsFor}
-use Rattle.lmtp.specs.declared.receiver.Stage.{Stage}
-use Rattle.lmtp.specs.declared.receiver.Stage.TheVariants as stage
-use Rattle.lmtp.specs.declared.text.Text.{Text}
+use Rattle.lmtp_dialogue.specs.Dialogues.{DialoguePhase, Greeted, Ready, Opened, Asking, Sending, Over, Item, IsLineItem, SpellsItem}
+use Rattle.lmtp_dialogue.specs.Receivers.{IsLineGone, IsItemGone, IsLineTaken, IsItemTaken, reads_lines, takes_lines, is_heard}
+use Rattle.lmtp_dialogue.specs.Talks.{phase_by, IsSoundAt}
+use Rattle.lmtp_dialogue.specs.Texts.{TextStandsFor}
+use Rattle.lmtp_dialogue.specs.declared.receiver.LmtpStage.{LmtpStage}
+use Rattle.lmtp_dialogue.specs.declared.receiver.LmtpStage.TheVariants as stage
+use Rattle.lmtp_dialogue.specs.declared.text.Text.{Text}
 
 -- ---- lines
 
-pub reads_taken : (at : Stage) → reads_lines at ≡ true → takes_lines at ≡ true
+pub reads_taken : (at : LmtpStage) → reads_lines at ≡ true → takes_lines at ≡ true
 reads_taken stage.Greeted reads = refl
 reads_taken stage.Ready reads = refl
 reads_taken stage.Opened reads = refl
@@ -18,7 +18,7 @@ reads_taken stage.Asking reads = refl
 reads_taken stage.Sending reads = reads
 reads_taken stage.Over reads = reads
 
-pub line_gone : (at : Stage) (long : Bool) (text : Text) (unread gone : List ℕ) → takes_lines at ≡ true → IsGone at long text unread gone → IsLineGone long unread gone
+pub line_gone : (at : LmtpStage) (long : Bool) (text : Text) (unread gone : List ℕ) → takes_lines at ≡ true → IsItemGone at long text unread gone → IsLineGone long unread gone
 line_gone stage.Greeted long text unread gone takes is = is
 line_gone stage.Ready long text unread gone takes is = is
 line_gone stage.Opened long text unread gone takes is = is
@@ -26,7 +26,7 @@ line_gone stage.Asking long text unread gone takes is = is
 line_gone stage.Sending long text unread gone takes is = absurd (cc takes)
 line_gone stage.Over long text unread gone takes is = absurd (cc takes)
 
-pub gone_line : (at : Stage) (long : Bool) (text : Text) (unread gone : List ℕ) → takes_lines at ≡ true → IsLineGone long unread gone → IsGone at long text unread gone
+pub gone_line : (at : LmtpStage) (long : Bool) (text : Text) (unread gone : List ℕ) → takes_lines at ≡ true → IsLineGone long unread gone → IsItemGone at long text unread gone
 gone_line stage.Greeted long text unread gone takes is = is
 gone_line stage.Ready long text unread gone takes is = is
 gone_line stage.Opened long text unread gone takes is = is
@@ -34,7 +34,7 @@ gone_line stage.Asking long text unread gone takes is = is
 gone_line stage.Sending long text unread gone takes is = absurd (cc takes)
 gone_line stage.Over long text unread gone takes is = tt
 
-pub line_taken : (at : Stage) (long : Bool) (text : Text) (unread : List ℕ) → takes_lines at ≡ true → IsTaken at long text unread → IsLineTaken long unread
+pub line_taken : (at : LmtpStage) (long : Bool) (text : Text) (unread : List ℕ) → takes_lines at ≡ true → IsItemTaken at long text unread → IsLineTaken long unread
 line_taken stage.Greeted long text unread takes is = is
 line_taken stage.Ready long text unread takes is = is
 line_taken stage.Opened long text unread takes is = is
@@ -42,7 +42,7 @@ line_taken stage.Asking long text unread takes is = is
 line_taken stage.Sending long text unread takes is = absurd (cc takes)
 line_taken stage.Over long text unread takes is = absurd (cc takes)
 
-pub taken_line : (at : Stage) (long : Bool) (text : Text) (unread : List ℕ) → takes_lines at ≡ true → IsLineTaken long unread → IsTaken at long text unread
+pub taken_line : (at : LmtpStage) (long : Bool) (text : Text) (unread : List ℕ) → takes_lines at ≡ true → IsLineTaken long unread → IsItemTaken at long text unread
 taken_line stage.Greeted long text unread takes is = is
 taken_line stage.Ready long text unread takes is = is
 taken_line stage.Opened long text unread takes is = is
@@ -50,8 +50,8 @@ taken_line stage.Asking long text unread takes is = is
 taken_line stage.Sending long text unread takes is = absurd (cc takes)
 taken_line stage.Over long text unread takes is = absurd (cc takes)
 
-pub spells_line : (at : Stage) (sender : List ℕ) (recipients : List (List ℕ)) (told : ℕ) (item : Item) (octets : List ℕ)
-    → reads_lines at ≡ true → IsLineItem item octets → Spells (phase_by at sender recipients told) item octets
+pub spells_line : (at : LmtpStage) (sender : List ℕ) (recipients : List (List ℕ)) (told : ℕ) (item : Item) (octets : List ℕ)
+    → reads_lines at ≡ true → IsLineItem item octets → SpellsItem (phase_by at sender recipients told) item octets
 spells_line stage.Greeted sender recipients told item octets reads is = is
 spells_line stage.Ready sender recipients told item octets reads is = is
 spells_line stage.Opened sender recipients told item octets reads is = is
@@ -59,8 +59,8 @@ spells_line stage.Asking sender recipients told item octets reads is = absurd (c
 spells_line stage.Sending sender recipients told item octets reads is = absurd (cc reads)
 spells_line stage.Over sender recipients told item octets reads is = absurd (cc reads)
 
-pub line_spelled : (at : Stage) (sender : List ℕ) (recipients : List (List ℕ)) (told : ℕ) (item : Item) (octets : List ℕ)
-    → reads_lines at ≡ true → Spells (phase_by at sender recipients told) item octets → IsLineItem item octets
+pub line_spelled : (at : LmtpStage) (sender : List ℕ) (recipients : List (List ℕ)) (told : ℕ) (item : Item) (octets : List ℕ)
+    → reads_lines at ≡ true → SpellsItem (phase_by at sender recipients told) item octets → IsLineItem item octets
 line_spelled stage.Greeted sender recipients told item octets reads is = is
 line_spelled stage.Ready sender recipients told item octets reads is = is
 line_spelled stage.Opened sender recipients told item octets reads is = is
@@ -68,7 +68,7 @@ line_spelled stage.Asking sender recipients told item octets reads is = absurd (
 line_spelled stage.Sending sender recipients told item octets reads is = absurd (cc reads)
 line_spelled stage.Over sender recipients told item octets reads is = absurd (cc reads)
 
-pub heard_line : (at : Stage) (sender : List ℕ) (recipients : List (List ℕ)) (told : ℕ) → reads_lines at ≡ true → is_heard (phase_by at sender recipients told) ≡ true
+pub heard_line : (at : LmtpStage) (sender : List ℕ) (recipients : List (List ℕ)) (told : ℕ) → reads_lines at ≡ true → is_heard (phase_by at sender recipients told) ≡ true
 heard_line stage.Greeted sender recipients told reads = refl
 heard_line stage.Ready sender recipients told reads = refl
 heard_line stage.Opened sender recipients told reads = refl
@@ -77,7 +77,7 @@ heard_line stage.Sending sender recipients told reads = refl
 heard_line stage.Over sender recipients told reads = reads
 
 -- before a text nothing of one was begun
-pub fresh_text : (at : Stage) (text : Text) → takes_lines at ≡ true → IsSoundAt at text → StandsFor text []
+pub fresh_text : (at : LmtpStage) (text : Text) → takes_lines at ≡ true → IsSoundAt at text → TextStandsFor text []
 fresh_text stage.Greeted text takes sound = sound
 fresh_text stage.Ready text takes sound = sound
 fresh_text stage.Opened text takes sound = sound
@@ -85,7 +85,7 @@ fresh_text stage.Asking text takes sound = sound
 fresh_text stage.Sending text takes sound = absurd (cc takes)
 fresh_text stage.Over text takes sound = absurd (cc takes)
 
-pub sound_fresh : (at : Stage) (text : Text) → StandsFor text [] → IsSoundAt at text
+pub sound_fresh : (at : LmtpStage) (text : Text) → TextStandsFor text [] → IsSoundAt at text
 sound_fresh stage.Greeted text fresh = fresh
 sound_fresh stage.Ready text fresh = fresh
 sound_fresh stage.Opened text fresh = fresh
@@ -94,7 +94,7 @@ sound_fresh stage.Sending text fresh = tt
 sound_fresh stage.Over text fresh = fresh
 
 -- nothing is gone behind an item
-pub gone_none : (at : Stage) (text : Text) (unread : List ℕ) → StandsFor text [] → IsGone at false text unread []
+pub gone_none : (at : LmtpStage) (text : Text) (unread : List ℕ) → TextStandsFor text [] → IsItemGone at false text unread []
 gone_none stage.Greeted text unread fresh = refl
 gone_none stage.Ready text unread fresh = refl
 gone_none stage.Opened text unread fresh = refl
@@ -104,7 +104,7 @@ gone_none stage.Over text unread fresh = tt
 
 -- ---- which stage a phase has
 
-abbrev pub stage_of : Phase → Stage
+abbrev pub stage_of : DialoguePhase → LmtpStage
 stage_of Greeted = stage.Greeted
 stage_of Ready = stage.Ready
 stage_of (Opened sender taken) = stage.Opened
@@ -112,7 +112,7 @@ stage_of (Asking sender taken address) = stage.Asking
 stage_of (Sending sender left) = stage.Sending
 stage_of Over = stage.Over
 
-pub stage_by : (at : Stage) (sender : List ℕ) (recipients : List (List ℕ)) (told : ℕ) → stage_of (phase_by at sender recipients told) ≡ at
+pub stage_by : (at : LmtpStage) (sender : List ℕ) (recipients : List (List ℕ)) (told : ℕ) → stage_of (phase_by at sender recipients told) ≡ at
 stage_by stage.Greeted sender recipients told = refl
 stage_by stage.Ready sender recipients told = refl
 stage_by stage.Opened sender recipients told = refl

@@ -1,7 +1,7 @@
 -- Recipients for whom a reply is owed.
 use Rattle.std.proofs.Common.{◌≡◌, ℕ, zero, suc, ◌+◌, ◌<◌, List, [], ◌∷◌, length, drop, refl, add-one, arith}
-use Rattle.lmtp.specs.Dialogues.{Ready, Sending}
-use Rattle.lmtp.specs.Talks.{phase_replied}
+use Rattle.lmtp_dialogue.specs.Dialogues.{Ready, Sending}
+use Rattle.lmtp_dialogue.specs.Talks.{phase_replied}
 
 next_by : (sender : List ℕ) (recipients : List (List ℕ)) (told : ℕ) → suc told < length recipients
     → Sending sender (drop (suc told) recipients) ≡ phase_replied (Sending sender (drop told recipients))

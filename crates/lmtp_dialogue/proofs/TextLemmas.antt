@@ -2,51 +2,51 @@
 use Rattle.std.proofs.Common.{◌≡◌, ℕ, ◌==◌, Bool, true, false, if◌then◌else◌, List, [], ◌∷◌, ◌++◌, refl, sym, ap, ◌∙◌, append_assoc, append-nil, subst, arith}
 use Rattle.std.proofs.lemmas.List.Elements.{All-cons, All-head, All-nil, All-tail}
 use Rattle.std.specs.List.{All, flat_map}
-use Rattle.lmtp.specs.Lines.{line_end, HasNoLineEnd, IsLine}
-use Rattle.lmtp.specs.Texts.{with_end, undotted, IsSentLine, IsText, after, gained, place_after, text_after, EndsAt, TextsAgree}
-use Rattle.lmtp.specs.declared.text.Place.{Place}
-use Rattle.lmtp.specs.declared.text.Place.TheVariants.{Start, Dot, DotReturn, Inside, Return, Ended}
+use Rattle.lmtp_dialogue.specs.Lines.{line_end, HasNoLineEnd, IsCrlfLine}
+use Rattle.lmtp_dialogue.specs.Texts.{line_with_crlf, undotted, IsSentLine, IsSentText, after, gained, text_state_after, text_after, TextEndsAt, TextsAgree}
+use Rattle.lmtp_dialogue.specs.declared.text.TextState.{TextState}
+use Rattle.lmtp_dialogue.specs.declared.text.TextState.TheVariants.{Start, Dot, DotReturn, Inside, Return, Ended}
 
 -- ---- lines
 
 -- what stands behind the first octet of a line is one
-pub line_rest : (octet : ℕ) (line : List ℕ) → IsLine (octet ∷ line) → IsLine line
+pub line_rest : (octet : ℕ) (line : List ℕ) → IsCrlfLine (octet ∷ line) → IsCrlfLine line
 line_rest octet line is = λ front back same. is (octet ∷ front) back (ap (λ t. octet ∷ t) same)
 
 -- behind a CR stands no LF
-pub no_feed : (line : List ℕ) → IsLine (13 ∷ 10 ∷ line) → ⊥
+pub no_feed : (line : List ℕ) → IsCrlfLine (13 ∷ 10 ∷ line) → ⊥
 no_feed line is = is [] (line ++ 13 ∷ []) refl
 
 -- ---- from a place in a line to the next line's front
 
 -- a run over a line and what follows leads to the next line's front, and the text has this more
-record Leads (from : Place) (line gains rest : List ℕ) : Type 0 where
-  place : place_after from (line ++ (line_end ++ rest)) ≡ place_after Start rest
+record Leads (from : TextState) (line gains rest : List ℕ) : Type 0 where
+  place : text_state_after from (line ++ (line_end ++ rest)) ≡ text_state_after Start rest
   text : text_after from (line ++ (line_end ++ rest)) ≡ gains ++ (line_end ++ text_after Start rest)
-  ends : EndsAt Start rest → EndsAt from (line ++ (line_end ++ rest))
+  ends : TextEndsAt Start rest → TextEndsAt from (line ++ (line_end ++ rest))
 
 -- the text has not ended at a place
-abbrev pub is_open : Place → Bool
+abbrev pub is_open : TextState → Bool
 is_open Ended = false
 is_open place = true
 
-pub open_apart : (place : Place) → is_open place ≡ true → place ≡ Ended → ⊥
+pub open_apart : (place : TextState) → is_open place ≡ true → place ≡ Ended → ⊥
 open_apart place is same = absurd (cc (sym is ∙ ap is_open same))
 
 -- a line's end leads to the next line's front
-ends_line : (from : Place) (rest : List ℕ) → is_open from ≡ true → after from 13 ≡ Return → EndsAt Start rest → EndsAt from (line_end ++ rest)
-ends_line from rest is step next = (open_apart from is, subst (λ p. EndsAt p (10 ∷ rest)) (sym step) (open_apart Return refl, next))
+ends_line : (from : TextState) (rest : List ℕ) → is_open from ≡ true → after from 13 ≡ Return → TextEndsAt Start rest → TextEndsAt from (line_end ++ rest)
+ends_line from rest is step next = (open_apart from is, subst (λ p. TextEndsAt p (10 ∷ rest)) (sym step) (open_apart Return refl, next))
 
 -- in a line, behind a CR of it or not
-abbrev place_in : Bool → Place
+abbrev place_in : Bool → TextState
 place_in true = Return
 place_in false = Inside
 
 abbrev Goes : Bool → List ℕ → Type 0
-Goes true line = IsLine (13 ∷ line)
-Goes false line = IsLine line
+Goes true line = IsCrlfLine (13 ∷ line)
+Goes false line = IsCrlfLine line
 
-goes_line : (returned : Bool) (line : List ℕ) → Goes returned line → IsLine line
+goes_line : (returned : Bool) (line : List ℕ) → Goes returned line → IsCrlfLine line
 goes_line true line goes = line_rest 13 line goes
 goes_line false line goes = goes
 
@@ -55,8 +55,8 @@ is_the : (octet wanted : ℕ) → (octet == wanted) ≡ true → octet ≡ wante
 is_the octet wanted same = grind (arith)
 
 -- behind a CR another octet than LF follows
-other_than_feed : (octet : ℕ) (line : List ℕ) (same : Bool) → (octet == 10) ≡ same → IsLine (13 ∷ octet ∷ line) → (octet == 10) ≡ false
-other_than_feed octet line true test is = absurd (no_feed line (subst (λ o. IsLine (13 ∷ o ∷ line)) (is_the octet 10 test) is))
+other_than_feed : (octet : ℕ) (line : List ℕ) (same : Bool) → (octet == 10) ≡ same → IsCrlfLine (13 ∷ octet ∷ line) → (octet == 10) ≡ false
+other_than_feed octet line true test is = absurd (no_feed line (subst (λ o. IsCrlfLine (13 ∷ o ∷ line)) (is_the octet 10 test) is))
 other_than_feed octet line false test is = test
 
 -- one octet of a line: where it leads to, and what the text gains
@@ -72,24 +72,24 @@ gain_in : (returned : Bool) (octet : ℕ) → gained (place_in returned) octet �
 gain_in true octet = refl
 gain_in false octet = refl
 
-goes_by : (octet : ℕ) (line : List ℕ) (returned : Bool) → (octet == 13) ≡ returned → IsLine (octet ∷ line) → Goes returned line
-goes_by octet line true test is = subst (λ o. IsLine (o ∷ line)) (is_the octet 13 test) is
+goes_by : (octet : ℕ) (line : List ℕ) (returned : Bool) → (octet == 13) ≡ returned → IsCrlfLine (octet ∷ line) → Goes returned line
+goes_by octet line true test is = subst (λ o. IsCrlfLine (o ∷ line)) (is_the octet 13 test) is
 goes_by octet line false test is = line_rest octet line is
 
 goes_on : (returned : Bool) (octet : ℕ) (line : List ℕ) → Goes returned (octet ∷ line) → Goes (octet == 13) line
 goes_on returned octet line goes = goes_by octet line (octet == 13) refl (goes_line returned (octet ∷ line) goes)
 
 -- one octet more in front
-leads_on : (from to : Place) (octet : ℕ) (gains line more rest : List ℕ)
+leads_on : (from to : TextState) (octet : ℕ) (gains line more rest : List ℕ)
     → is_open from ≡ true → after from octet ≡ to → gained from octet ≡ gains → Leads to line more rest → Leads from (octet ∷ line) (gains ++ more) rest
 leads_on from to octet gains line more rest is step gain later =
     let all = line ++ (line_end ++ rest) in
     record {
-      place = ap (λ p. place_after p all) step ∙ later.place;
+      place = ap (λ p. text_state_after p all) step ∙ later.place;
       text =
           ap (λ g. g ++ text_after (after from octet) all) gain
           ∙ (ap (λ p. gains ++ text_after p all) step ∙ (ap (λ t. gains ++ t) later.text ∙ sym (append_assoc gains more (line_end ++ text_after Start rest))));
-      ends = λ next. (open_apart from is, subst (λ p. EndsAt p all) (sym step) (later.ends next));
+      ends = λ next. (open_apart from is, subst (λ p. TextEndsAt p all) (sym step) (later.ends next));
     }
 
 open_in : (returned : Bool) → is_open (place_in returned) ≡ true
@@ -106,7 +106,7 @@ inside returned (octet ∷ line) rest goes =
 -- ---- from a line's front
 
 -- behind a dot and a CR
-dot_return : (line rest : List ℕ) → IsLine (13 ∷ line) → Leads DotReturn line (13 ∷ line) rest
+dot_return : (line rest : List ℕ) → IsCrlfLine (13 ∷ line) → Leads DotReturn line (13 ∷ line) rest
 dot_return [] rest is = record { place = refl; text = refl; ends = ends_line DotReturn rest refl refl }
 dot_return (octet ∷ line) rest is =
     let other = other_than_feed octet line (octet == 10) refl is in
@@ -114,15 +114,15 @@ dot_return (octet ∷ line) rest is =
     (rw other (step_by octet (octet == 13) refl)) (rw other refl) (inside (octet == 13) line rest (goes_on true octet line is))
 
 -- behind a dot: some octet follows in the line
-dot_by : (octet : ℕ) (line rest : List ℕ) (returned : Bool) → (octet == 13) ≡ returned → IsLine (octet ∷ line) → Leads Dot (octet ∷ line) (octet ∷ line) rest
+dot_by : (octet : ℕ) (line rest : List ℕ) (returned : Bool) → (octet == 13) ≡ returned → IsCrlfLine (octet ∷ line) → Leads Dot (octet ∷ line) (octet ∷ line) rest
 dot_by octet line rest true test is =
     let same = is_the octet 13 test in
     leads_on Dot DotReturn octet [] line (octet ∷ line) rest refl (rw test refl) (rw test refl)
-    (subst (λ o. Leads DotReturn line (o ∷ line) rest) (sym same) (dot_return line rest (subst (λ o. IsLine (o ∷ line)) same is)))
+    (subst (λ o. Leads DotReturn line (o ∷ line) rest) (sym same) (dot_return line rest (subst (λ o. IsCrlfLine (o ∷ line)) same is)))
 dot_by octet line rest false test is =
     leads_on Dot Inside octet (octet ∷ []) line line rest refl (rw test refl) (rw test refl) (inside false line rest (line_rest octet line is))
 
-behind_dot : (line rest : List ℕ) → IsLine line → (line ≡ [] → ⊥) → Leads Dot line line rest
+behind_dot : (line rest : List ℕ) → IsCrlfLine line → (line ≡ [] → ⊥) → Leads Dot line line rest
 behind_dot [] rest is some = absurd (some refl)
 behind_dot (octet ∷ line) rest is some = dot_by octet line rest (octet == 13) refl is
 
@@ -145,38 +145,38 @@ front (octet ∷ line) rest is = front_by octet line rest (octet == 46) refl is
 -- ---- a text's lines lead to its end
 
 record Passes (lines : List (List ℕ)) (rest : List ℕ) : Type 0 where
-  text : text_after Start (flat_map with_end lines ++ rest) ≡ flat_map (λ line. with_end (undotted line)) lines ++ text_after Start rest
-  ends : EndsAt Start rest → EndsAt Start (flat_map with_end lines ++ rest)
+  text : text_after Start (flat_map line_with_crlf lines ++ rest) ≡ flat_map (λ line. line_with_crlf (undotted line)) lines ++ text_after Start rest
+  ends : TextEndsAt Start rest → TextEndsAt Start (flat_map line_with_crlf lines ++ rest)
 
-joined : (line more rest : List ℕ) → (with_end line ++ more) ++ rest ≡ line ++ (line_end ++ (more ++ rest))
-joined line more rest = append_assoc (with_end line) more rest ∙ append_assoc line line_end (more ++ rest)
+joined : (line more rest : List ℕ) → (line_with_crlf line ++ more) ++ rest ≡ line ++ (line_end ++ (more ++ rest))
+joined line more rest = append_assoc (line_with_crlf line) more rest ∙ append_assoc line line_end (more ++ rest)
 
 passes : (lines : List (List ℕ)) (rest : List ℕ) → All IsSentLine lines → Passes lines rest
 passes [] rest each = record { text = refl; ends = λ next. next }
 passes (line ∷ lines) rest each =
     let later = passes lines rest (All-tail IsSentLine line lines each) in
-    let here = front line (flat_map with_end lines ++ rest) (All-head IsSentLine line lines each) in
-    let same = joined line (flat_map with_end lines) rest in
+    let here = front line (flat_map line_with_crlf lines ++ rest) (All-head IsSentLine line lines each) in
+    let same = joined line (flat_map line_with_crlf lines) rest in
     record {
       text =
           ap (text_after Start) same
           ∙ (here.text ∙ (ap (λ t. undotted line ++ (line_end ++ t)) later.text
-          ∙ sym (joined (undotted line) (flat_map (λ l. with_end (undotted l)) lines) (text_after Start rest))));
-      ends = λ next. subst (EndsAt Start) (sym same) (here.ends (later.ends next));
+          ∙ sym (joined (undotted line) (flat_map (λ l. line_with_crlf (undotted l)) lines) (text_after Start rest))));
+      ends = λ next. subst (TextEndsAt Start) (sym same) (here.ends (later.ends next));
     }
 
-last_text : text_after Start (with_end (46 ∷ [])) ≡ []
+last_text : text_after Start (line_with_crlf (46 ∷ [])) ≡ []
 last_text = refl
 
-last_ends : EndsAt Start (with_end (46 ∷ []))
+last_ends : TextEndsAt Start (line_with_crlf (46 ∷ []))
 last_ends = (open_apart Start refl, (open_apart Dot refl, (open_apart DotReturn refl, refl)))
 
-pub text_ends : (sent text : List ℕ) → IsText sent text → EndsAt Start sent
-text_ends sent text is = subst (EndsAt Start) (sym is.written) ((passes is.lines (with_end (46 ∷ [])) is.each).ends last_ends)
+pub text_ends : (sent text : List ℕ) → IsSentText sent text → TextEndsAt Start sent
+text_ends sent text is = subst (TextEndsAt Start) (sym is.written) ((passes is.lines (line_with_crlf (46 ∷ [])) is.each).ends last_ends)
 
-pub text_same : (sent text : List ℕ) → IsText sent text → text_after Start sent ≡ text
+pub text_same : (sent text : List ℕ) → IsSentText sent text → text_after Start sent ≡ text
 text_same sent text is =
-    ap (text_after Start) is.written ∙ ((passes is.lines (with_end (46 ∷ [])) is.each).text ∙ (append-nil _ ∙ sym is.means))
+    ap (text_after Start) is.written ∙ ((passes is.lines (line_with_crlf (46 ∷ [])) is.each).text ∙ (append-nil _ ∙ sym is.means))
 
 -- ---- where a text ends, its lines are found
 
@@ -275,7 +275,7 @@ record Returned (line : List ℕ) : Type 0 where
   written : line ≡ before ++ 13 ∷ []
   whole : IsSentLine before
 
-abbrev Stands : Place → List ℕ → Type 0
+abbrev Stands : TextState → List ℕ → Type 0
 Stands Start line = line ≡ []
 Stands Dot line = line ≡ 46 ∷ []
 Stands DotReturn line = line ≡ 46 ∷ 13 ∷ []
@@ -284,7 +284,7 @@ Stands Return line = Returned line
 Stands Ended line = ⊥
 
 -- what the text has of it
-abbrev gains_of : Place → List ℕ → List ℕ
+abbrev gains_of : TextState → List ℕ → List ℕ
 gains_of Start line = []
 gains_of Dot line = []
 gains_of DotReturn line = []
@@ -296,8 +296,8 @@ gains_of Ended line = []
 record Found (line gains sent text : List ℕ) : Type 0 where
   lines : List (List ℕ)
   each : All IsSentLine lines
-  written : line ++ sent ≡ flat_map with_end lines ++ with_end (46 ∷ [])
-  means : gains ++ text ≡ flat_map (λ l. with_end (undotted l)) lines
+  written : line ++ sent ≡ flat_map line_with_crlf lines ++ line_with_crlf (46 ∷ [])
+  means : gains ++ text ≡ flat_map (λ l. line_with_crlf (undotted l)) lines
 
 -- one octet was taken
 found_more : (line gains more : List ℕ) (octet : ℕ) (sent text : List ℕ)
@@ -310,7 +310,7 @@ found_more line gains more octet sent text found = record {
 }
 
 -- an octet of a line leads to a place where it stands in the line so far
-record Stepped (from : Place) (line : List ℕ) (octet : ℕ) : Type 0 where
+record Stepped (from : TextState) (line : List ℕ) (octet : ℕ) : Type 0 where
   stands : Stands (after from octet) (line ++ octet ∷ [])
   gains : gains_of (after from octet) (line ++ octet ∷ []) ≡ gains_of from line ++ gained from octet
 
@@ -436,15 +436,15 @@ found_line line before sent text whole written found = record {
   lines = before ∷ found.lines;
   each = All-cons IsSentLine before found.lines whole found.each;
   written =
-      let front : line ++ 10 ∷ sent ≡ with_end before ++ sent =
+      let front : line ++ 10 ∷ sent ≡ line_with_crlf before ++ sent =
       ap (λ l. l ++ 10 ∷ sent) written ∙ (append_assoc before (13 ∷ []) (10 ∷ sent) ∙ sym (append_assoc before line_end sent)) in
-      front ∙ (ap (λ t. with_end before ++ t) found.written ∙ sym (append_assoc (with_end before) (flat_map with_end found.lines) (with_end (46 ∷ []))));
+      front ∙ (ap (λ t. line_with_crlf before ++ t) found.written ∙ sym (append_assoc (line_with_crlf before) (flat_map line_with_crlf found.lines) (line_with_crlf (46 ∷ []))));
   means =
-      let front : undotted line ++ 10 ∷ text ≡ with_end (undotted before) ++ text =
+      let front : undotted line ++ 10 ∷ text ≡ line_with_crlf (undotted before) ++ text =
       ap (λ l. undotted l ++ 10 ∷ text) written
       ∙ (ap (λ l. l ++ 10 ∷ text) (undotted_return before)
       ∙ (append_assoc (undotted before) (13 ∷ []) (10 ∷ text) ∙ sym (append_assoc (undotted before) line_end text))) in
-      front ∙ ap (λ t. with_end (undotted before) ++ t) found.means;
+      front ∙ ap (λ t. line_with_crlf (undotted before) ++ t) found.means;
 }
   where
     undotted_return : (before : List ℕ) → undotted (before ++ 13 ∷ []) ≡ undotted before ++ 13 ∷ []
@@ -452,7 +452,7 @@ found_line line before sent text whole written found = record {
     undotted_return (first ∷ before) = undotted_more (first ∷ before) 13 (not_none first before)
 
 -- one octet of a line, and what is found behind it
-found_step : (from : Place) (line : List ℕ) (octet : ℕ) (sent : List ℕ) → (step : Stepped from line octet)
+found_step : (from : TextState) (line : List ℕ) (octet : ℕ) (sent : List ℕ) → (step : Stepped from line octet)
     → Found (line ++ octet ∷ []) (gains_of (after from octet) (line ++ octet ∷ [])) sent (text_after (after from octet) sent)
     → Found line (gains_of from line) (octet ∷ sent) (text_after from (octet ∷ sent))
 found_step from line octet sent step found =
@@ -460,19 +460,19 @@ found_step from line octet sent step found =
     (subst (λ g. Found (line ++ octet ∷ []) g sent (text_after (after from octet) sent)) step.gains found)
 
 -- nothing comes behind the end
-nothing_behind : (sent : List ℕ) → EndsAt Ended sent → sent ≡ []
+nothing_behind : (sent : List ℕ) → TextEndsAt Ended sent → sent ≡ []
 nothing_behind [] ends = refl
 nothing_behind (octet ∷ sent) ends = absurd (ends.0 refl)
 
 -- what is found behind an octet, from any place and line
 abbrev Finds : List ℕ → Type 0
-Finds sent = (from : Place) (line : List ℕ) → Stands from line → EndsAt from sent → Found line (gains_of from line) sent (text_after from sent)
+Finds sent = (from : TextState) (line : List ℕ) → Stands from line → TextEndsAt from sent → Found line (gains_of from line) sent (text_after from sent)
 
 -- behind a CR of a line
-behind_return : (line : List ℕ) (octet : ℕ) (sent : List ℕ) (fed : Bool) → (octet == 10) ≡ fed → Returned line → EndsAt (after Return octet) sent → Finds sent
+behind_return : (line : List ℕ) (octet : ℕ) (sent : List ℕ) (fed : Bool) → (octet == 10) ≡ fed → Returned line → TextEndsAt (after Return octet) sent → Finds sent
     → Found line (undotted line) (octet ∷ sent) (text_after Return (octet ∷ sent))
 behind_return line octet sent true feed is ends finds =
-    subst (λ o. EndsAt (after Return o) sent → Found line (undotted line) (o ∷ sent) (text_after Return (o ∷ sent))) (sym (is_the octet 10 feed))
+    subst (λ o. TextEndsAt (after Return o) sent → Found line (undotted line) (o ∷ sent) (text_after Return (o ∷ sent))) (sym (is_the octet 10 feed))
     (λ e. found_line line is.before sent (text_after Start sent) is.whole is.written (finds Start [] refl e)) ends
 behind_return line octet sent false feed is ends finds =
     let step = returned_by line octet (octet == 13) feed refl is in
@@ -484,16 +484,16 @@ found_end sent none =
     subst (λ s. Found (46 ∷ 13 ∷ []) [] (10 ∷ s) (text_after DotReturn (10 ∷ s))) (sym none)
     (record { lines = []; each = All-nil IsSentLine; written = refl; means = refl })
 
-behind_dot_return : (octet : ℕ) (sent : List ℕ) (fed : Bool) → (octet == 10) ≡ fed → EndsAt (after DotReturn octet) sent → Finds sent
+behind_dot_return : (octet : ℕ) (sent : List ℕ) (fed : Bool) → (octet == 10) ≡ fed → TextEndsAt (after DotReturn octet) sent → Finds sent
     → Found (46 ∷ 13 ∷ []) [] (octet ∷ sent) (text_after DotReturn (octet ∷ sent))
 behind_dot_return octet sent true feed ends finds =
-    subst (λ o. EndsAt (after DotReturn o) sent → Found (46 ∷ 13 ∷ []) [] (o ∷ sent) (text_after DotReturn (o ∷ sent))) (sym (is_the octet 10 feed))
+    subst (λ o. TextEndsAt (after DotReturn o) sent → Found (46 ∷ 13 ∷ []) [] (o ∷ sent) (text_after DotReturn (o ∷ sent))) (sym (is_the octet 10 feed))
     (λ e. found_end sent (nothing_behind sent e)) ends
 behind_dot_return octet sent false feed ends finds =
     let step = dot_returned_by octet (octet == 13) feed refl in
     found_step DotReturn (46 ∷ 13 ∷ []) octet sent step (finds (after DotReturn octet) (46 ∷ 13 ∷ octet ∷ []) step.stands ends)
 
-no_stand : (from : Place) (line : List ℕ) → from ≡ Ended → Stands from line → ⊥
+no_stand : (from : TextState) (line : List ℕ) → from ≡ Ended → Stands from line → ⊥
 no_stand from line same stands = subst (λ p. Stands p line) same stands
 
 find : (sent : List ℕ) → Finds sent
@@ -515,7 +515,7 @@ find (octet ∷ sent) Inside line stands ends =
 find (octet ∷ sent) Return line stands ends = behind_return line octet sent (octet == 10) refl stands ends.1 (find sent)
 find (octet ∷ sent) Ended line stands ends = absurd stands
 
-pub text_found : (sent : List ℕ) → EndsAt Start sent → IsText sent (text_after Start sent)
+pub text_found : (sent : List ℕ) → TextEndsAt Start sent → IsSentText sent (text_after Start sent)
 text_found sent ends =
     let found = find sent Start [] refl ends in
     record { lines = found.lines; each = found.each; written = found.written; means = found.means }

@@ -4,20 +4,20 @@ use Rattle.std.specs.Borrow.{Bor}
 use Rattle.std.specs.List.{list_all}
 use Rattle.octets.specs.Ascii.{is_digit}
 use Rattle.octets.specs.Decimal.{Writes}
-use Rattle.lmtp.specs.Commands.{IsWord, is_unspaced}
-use Rattle.lmtp.specs.Paths.{IsPath}
-use Rattle.lmtp.specs.declared.argument.Mail.{Mail}
-use Rattle.lmtp.specs.declared.argument.ArgumentFault.{ArgumentFault}
-use Rattle.lmtp.specs.declared.argument.ArgumentFault.TheVariants.{Syntax, Address, Parameter}
+use Rattle.lmtp_dialogue.specs.Commands.{IsSameWord, is_unspaced}
+use Rattle.lmtp_dialogue.specs.Paths.{IsPath}
+use Rattle.lmtp_dialogue.specs.declared.argument.MailArgument.{MailArgument}
+use Rattle.lmtp_dialogue.specs.declared.argument.ArgumentFault.{ArgumentFault}
+use Rattle.lmtp_dialogue.specs.declared.argument.ArgumentFault.TheVariants.{Syntax, Address, Parameter}
 
 -- the most octets of an address: this project's own limit
 abbrev pub max_address : ℕ
 max_address = 1024
 
 -- a text that begins with a word, in upper or lower case, and what follows it
-pub record IsAfter (word text rest : List ℕ) : Type 0 where
+pub record IsAfterWord (word text rest : List ℕ) : Type 0 where
   pub front : List ℕ
-  pub is : IsWord word front
+  pub is : IsSameWord word front
   pub written : text ≡ front ++ rest
 
 -- an address that may be taken: of a sender any, of a recipient not the empty one
@@ -28,17 +28,17 @@ abbrev pub TakesRecipient : List ℕ → Type 0
 TakesRecipient address = (length address ≤ max_address) × (address ≢ [])
 
 -- `FROM:` or `TO:`, a path with such an address, and what follows it
-pub record IsAddressed (word : List ℕ) (Takes : List ℕ → Type 0) (argument address rest : List ℕ) : Type 0 where
+pub record IsPathArgument (word : List ℕ) (Takes : List ℕ → Type 0) (argument address rest : List ℕ) : Type 0 where
   pub path : List ℕ
-  pub after : IsAfter word argument path
+  pub after : IsAfterWord word argument path
   pub is : IsPath path address rest
   pub takes : Takes address
 
 -- it doesn't begin with the word; or it does, and there is no path with such an address
 abbrev pub RefusesAddress : List ℕ → (List ℕ → Type 0) → List ℕ → ArgumentFault → Type 0
-RefusesAddress word Takes argument Syntax = (path : List ℕ) → IsAfter word argument path → ⊥
+RefusesAddress word Takes argument Syntax = (path : List ℕ) → IsAfterWord word argument path → ⊥
 RefusesAddress word Takes argument Address =
-    ((path : List ℕ) × IsAfter word argument path) × ((address rest : List ℕ) → IsAddressed word Takes argument address rest → ⊥)
+    ((path : List ℕ) × IsAfterWord word argument path) × ((address rest : List ℕ) → IsPathArgument word Takes argument address rest → ⊥)
 RefusesAddress word Takes argument Parameter = ⊥
 
 -- ---- what RCPT is about
@@ -48,14 +48,14 @@ to_word = codes "TO:"
 
 -- a recipient, and nothing after its path; no parameter of RCPT is known
 abbrev pub ReadsRecipient : List ℕ → Result (List ℕ) ArgumentFault → Type 0
-ReadsRecipient argument (Ok address) = IsAddressed to_word TakesRecipient argument address []
-ReadsRecipient argument (Err Parameter) = (address rest : List ℕ) × IsAddressed to_word TakesRecipient argument address rest × (rest ≢ [])
+ReadsRecipient argument (Ok address) = IsPathArgument to_word TakesRecipient argument address []
+ReadsRecipient argument (Err Parameter) = (address rest : List ℕ) × IsPathArgument to_word TakesRecipient argument address rest × (rest ≢ [])
 ReadsRecipient argument (Err fault) = RefusesAddress to_word TakesRecipient argument fault
 
 -- the octets that a result has, without where they are
-abbrev pub octets_of : {F : Type 0} → Result (Bor (List ℕ)) F → Result (List ℕ) F
-octets_of (Ok octets) = Ok octets.now
-octets_of (Err fault) = Err fault
+abbrev pub result_octets : {F : Type 0} → Result (Bor (List ℕ)) F → Result (List ℕ) F
+result_octets (Ok octets) = Ok octets.now
+result_octets (Err fault) = Err fault
 
 -- ---- what MAIL is about
 
@@ -67,17 +67,17 @@ abbrev pub max_size : ℕ
 max_size = 18446744073709551615
 
 -- digits, and nothing else
-abbrev pub is_number : List ℕ → Bool
-is_number text = not (length text == 0) && list_all is_digit text
+abbrev pub is_size_text : List ℕ → Bool
+is_size_text text = not (length text == 0) && list_all is_digit text
 
 -- digits that write a size
-abbrev pub IsSize : List ℕ → ℕ → Type 0
-IsSize digits size = (number : ℕ) × Writes digits number × (size ≡ min number max_size)
+abbrev pub IsSizeValue : List ℕ → ℕ → Type 0
+IsSizeValue digits size = (number : ℕ) × Writes digits number × (size ≡ min number max_size)
 
 -- a parameter: the size that the message will have, in octets, or one that changes nothing here
 abbrev pub IsParameter : List ℕ → Option ℕ → Type 0
-IsParameter text (Some size) = (digits : List ℕ) × IsAfter (codes "SIZE=") text digits × IsSize digits size
-IsParameter text None = IsWord (codes "BODY=7BIT") text ⊎ (IsWord (codes "BODY=8BITMIME") text ⊎ IsWord (codes "SMTPUTF8") text)
+IsParameter text (Some size) = (digits : List ℕ) × IsAfterWord (codes "SIZE=") text digits × IsSizeValue digits size
+IsParameter text None = IsSameWord (codes "BODY=7BIT") text ⊎ (IsSameWord (codes "BODY=8BITMIME") text ⊎ IsSameWord (codes "SMTPUTF8") text)
 
 -- the later size, if there is one
 abbrev pub or_earlier : Option ℕ → Option ℕ → Option ℕ
@@ -104,18 +104,18 @@ ReadsParameters rest earlier (Ok size) = (texts : List (List ℕ)) × AreParamet
 ReadsParameters rest earlier (Err fault) = (fault ≡ Parameter) × NoParameters rest earlier
 
 -- a sender, and the size that is announced
-pub record Sends : Type 0 where
+pub record AnnouncedMail : Type 0 where
   pub from : List ℕ
   pub size : Option ℕ
 
 -- a sender and known parameters; or what is wrong first
-abbrev pub ReadsMail : List ℕ → Result Sends ArgumentFault → Type 0
+abbrev pub ReadsMail : List ℕ → Result AnnouncedMail ArgumentFault → Type 0
 ReadsMail argument (Ok mail) =
-    (rest : List ℕ) × IsAddressed from_word TakesSender argument mail.from rest × ReadsParameters rest None (Ok mail.size)
+    (rest : List ℕ) × IsPathArgument from_word TakesSender argument mail.from rest × ReadsParameters rest None (Ok mail.size)
 ReadsMail argument (Err Parameter) =
-    (address rest : List ℕ) × IsAddressed from_word TakesSender argument address rest × NoParameters rest None
+    (address rest : List ℕ) × IsPathArgument from_word TakesSender argument address rest × NoParameters rest None
 ReadsMail argument (Err fault) = RefusesAddress from_word TakesSender argument fault
 
-abbrev pub mail_of : Result Mail ArgumentFault → Result Sends ArgumentFault
-mail_of (Ok mail) = Ok (record { from = mail.from.now; size = mail.size })
-mail_of (Err fault) = Err fault
+abbrev pub announced_mail : Result MailArgument ArgumentFault → Result AnnouncedMail ArgumentFault
+announced_mail (Ok mail) = Ok (record { from = mail.from.now; size = mail.size })
+announced_mail (Err fault) = Err fault

@@ -3,44 +3,44 @@ use Rattle.std.specs.Prelude.{◌≡◌, ◌⊎◌, ℕ, ◌==◌, not, Bool, tr
 use Rattle.std.specs.Char.{to_ascii_lowercase}
 use Rattle.std.specs.List.{list_all}
 use Rattle.octets.specs.Ascii.{trimmed}
-use Rattle.lmtp.specs.declared.verb.Verb.{Verb}
-use Rattle.lmtp.specs.declared.verb.Verb.TheVariants.{Lhlo, Mail, Rcpt, Data, Rset, Noop, Vrfy, Help, Quit, Helo, Ehlo}
+use Rattle.lmtp_dialogue.specs.declared.verb.LmtpVerb.{LmtpVerb}
+use Rattle.lmtp_dialogue.specs.declared.verb.LmtpVerb.TheVariants.{Lhlo, Mail, Rcpt, Data, Rset, Noop, Vrfy, Help, Quit, Helo, Ehlo}
 
-abbrev pub word_of : Verb → List ℕ
-word_of Lhlo = codes "LHLO"
-word_of Mail = codes "MAIL"
-word_of Rcpt = codes "RCPT"
-word_of Data = codes "DATA"
-word_of Rset = codes "RSET"
-word_of Noop = codes "NOOP"
-word_of Vrfy = codes "VRFY"
-word_of Help = codes "HELP"
-word_of Quit = codes "QUIT"
-word_of Helo = codes "HELO"
-word_of Ehlo = codes "EHLO"
+abbrev pub verb_word : LmtpVerb → List ℕ
+verb_word Lhlo = codes "LHLO"
+verb_word Mail = codes "MAIL"
+verb_word Rcpt = codes "RCPT"
+verb_word Data = codes "DATA"
+verb_word Rset = codes "RSET"
+verb_word Noop = codes "NOOP"
+verb_word Vrfy = codes "VRFY"
+verb_word Help = codes "HELP"
+verb_word Quit = codes "QUIT"
+verb_word Helo = codes "HELO"
+verb_word Ehlo = codes "EHLO"
 
 -- a word, its letters in upper or lower case
-abbrev pub IsWord : List ℕ → List ℕ → Type 0
-IsWord word text = map to_ascii_lowercase text ≡ map to_ascii_lowercase word
+abbrev pub IsSameWord : List ℕ → List ℕ → Type 0
+IsSameWord word text = map to_ascii_lowercase text ≡ map to_ascii_lowercase word
 
 abbrev pub is_unspaced : ℕ → Bool
 is_unspaced octet = not (octet == 32)
 
 -- nothing after a command's word, or SP and what it is about, without blanks at its ends
-abbrev pub Argues : List ℕ → List ℕ → Type 0
-Argues tail argument = ((tail ≡ []) × (argument ≡ [])) ⊎ ((rest : List ℕ) × (tail ≡ 32 ∷ rest) × (argument ≡ trimmed rest))
+abbrev pub HasArgument : List ℕ → List ℕ → Type 0
+HasArgument tail argument = ((tail ≡ []) × (argument ≡ [])) ⊎ ((rest : List ℕ) × (tail ≡ 32 ∷ rest) × (argument ≡ trimmed rest))
 
 -- a line: its first word, and what it is about
 pub record Splits (line word argument : List ℕ) : Type 0 where
   pub tail : List ℕ
   pub written : line ≡ word ++ tail
   pub unspaced : list_all is_unspaced word ≡ true
-  pub argues : Argues tail argument
+  pub argues : HasArgument tail argument
 
 -- a line that begins with a command's word, and what it is about
-pub record IsCommandLine (line : List ℕ) (verb : Verb) (argument : List ℕ) : Type 0 where
+pub record IsCommandLine (line : List ℕ) (verb : LmtpVerb) (argument : List ℕ) : Type 0 where
   pub word : List ℕ
-  pub is : IsWord (word_of verb) word
+  pub is : IsSameWord (verb_word verb) word
   pub splits : Splits line word argument
 
 -- what follows the word, if SP comes first or nothing does

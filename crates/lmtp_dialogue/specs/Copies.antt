@@ -3,10 +3,10 @@ use Rattle.std.specs.Prelude.{◌≡◌, ℕ, Bool, true, false, ◌&&◌, nat_e
 use Rattle.std.specs.Cmp.Lexicographic.{pointwise}
 use Rattle.std.specs.List.{list_any}
 use Rattle.octets.specs.Ascii.{lowered, trimmed}
-use Rattle.mailhead.specs.Cuts.{CutsLogicalLine}
-use Rattle.mailhead.specs.Fields.{FieldText, field_of}
-use Rattle.mailhead.specs.Heads.{fields_of, unfold_of}
-use Rattle.lmtp.specs.Lines.{line_end}
+use Rattle.mail_head.specs.Cuts.{CutsLogicalLine}
+use Rattle.mail_head.specs.Fields.{FieldText, field_of}
+use Rattle.mail_head.specs.Heads.{fields_of, unfold_of}
+use Rattle.lmtp_dialogue.specs.Lines.{line_end}
 
 -- a field `Return-Path`, its name in upper or lower case (RFC 5321, section 4.4)
 abbrev pub names_path : Option FieldText → Bool
@@ -17,12 +17,12 @@ abbrev pub is_path_line : List ℕ → Bool
 is_path_line line = names_path (field_of line)
 
 -- such fields at the start of a text, and what follows them
-abbrev pub BeginsWith : List (List ℕ) → List ℕ → List ℕ → Type 0
-BeginsWith [] text rest = (rest ≡ text) × ((line after : List ℕ) → CutsLogicalLine text line after → is_path_line line ≡ true → ⊥)
-BeginsWith (path ∷ paths) text rest = (after : List ℕ) × CutsLogicalLine text path after × (is_path_line path ≡ true) × BeginsWith paths after rest
+abbrev pub BeginsWithPaths : List (List ℕ) → List ℕ → List ℕ → Type 0
+BeginsWithPaths [] text rest = (rest ≡ text) × ((line after : List ℕ) → CutsLogicalLine text line after → is_path_line line ≡ true → ⊥)
+BeginsWithPaths (path ∷ paths) text rest = (after : List ℕ) × CutsLogicalLine text path after × (is_path_line path ≡ true) × BeginsWithPaths paths after rest
 
 abbrev pub LeavesPaths : List ℕ → List ℕ → Type 0
-LeavesPaths text rest = (paths : List (List ℕ)) × BeginsWith paths text rest
+LeavesPaths text rest = (paths : List (List ℕ)) × BeginsWithPaths paths text rest
 
 -- the fields that are added: who sent it, and to whom it goes
 abbrev pub added_fields : List ℕ → List ℕ → List ℕ

@@ -4,7 +4,7 @@ pub mod Copies
 pub mod Dialogues
 pub mod Lines
 pub mod Names
-pub mod Orders
+pub mod ReadCommands
 pub mod Paths
 pub mod Receivers
 pub mod Replies

@@ -1,7 +1,7 @@
 -- Lines, which end at CRLF and nowhere else (RFC 5321, section 2.3.8).
 use Rattle.std.specs.Prelude.{◌≡◌, ◌≢◌, ◌⊎◌, ℕ, ◌+◌, ◌-◌, ◌<◌, ◌≤◌, List, [], ◌∷◌, ◌++◌, length, take, drop}
-use Rattle.lmtp.specs.declared.line.Found.{Found}
-use Rattle.lmtp.specs.declared.line.Found.TheVariants.{Need, Line, TooLong}
+use Rattle.lmtp_dialogue.specs.declared.line.Found.{Found}
+use Rattle.lmtp_dialogue.specs.declared.line.Found.TheVariants.{Need, Line, TooLong}
 
 -- CRLF
 abbrev pub line_end : List ℕ
@@ -12,12 +12,12 @@ abbrev pub HasNoLineEnd : List ℕ → Type 0
 HasNoLineEnd text = (front back : List ℕ) → text ≡ front ++ (line_end ++ back) → ⊥
 
 -- a line without its CRLF: followed by a CR it has no CRLF. A CR or an LF alone is an octet of the line
-abbrev pub IsLine : List ℕ → Type 0
-IsLine line = HasNoLineEnd (line ++ 13 ∷ [])
+abbrev pub IsCrlfLine : List ℕ → Type 0
+IsCrlfLine line = HasNoLineEnd (line ++ 13 ∷ [])
 
 -- the octets before the first line end of a stream, and what follows it
 pub record IsFirstLine (stream line rest : List ℕ) : Type 0 where
-  pub whole : IsLine line
+  pub whole : IsCrlfLine line
   pub written : stream ≡ line ++ (line_end ++ rest)
 
 -- ---- command lines
@@ -27,10 +27,10 @@ abbrev pub max_line : ℕ
 max_line = 2048
 
 -- what comes first in a stream of command lines: no whole line yet, the octets of one, or more than a line may have
-abbrev pub Finds : Found → List ℕ → Type 0
-Finds Need stream = HasNoLineEnd stream × (length stream < max_line)
-Finds (Line count) stream = IsFirstLine stream (take count stream) (drop (count + 2) stream) × (count + 2 ≤ max_line) × (count + 2 ≤ length stream)
-Finds TooLong stream = HasNoLineEnd (take max_line stream) × (max_line ≤ length stream)
+abbrev pub LineFinds : Found → List ℕ → Type 0
+LineFinds Need stream = HasNoLineEnd stream × (length stream < max_line)
+LineFinds (Line count) stream = IsFirstLine stream (take count stream) (drop (count + 2) stream) × (count + 2 ≤ max_line) × (count + 2 ≤ length stream)
+LineFinds TooLong stream = HasNoLineEnd (take max_line stream) × (max_line ≤ length stream)
 
 -- this many octets of a line that is too long are dropped: those before its CRLF, or all but the last one, which may be a CR
 abbrev pub Skips : ℕ → List ℕ → Type 0
@@ -38,5 +38,5 @@ Skips count stream = (IsFirstLine stream (take count stream) (drop (count + 2) s
 
 -- each stream has one first line or none, whatever follows
 pub record LinesStand : Type 0 where
-  pub one : (a b : Found) (stream : List ℕ) → Finds a stream → Finds b stream → a ≡ b
-  pub stays : (found : Found) (stream more : List ℕ) → found ≢ Need → Finds found stream → Finds found (stream ++ more)
+  pub one : (a b : Found) (stream : List ℕ) → LineFinds a stream → LineFinds b stream → a ≡ b
+  pub stays : (found : Found) (stream more : List ℕ) → found ≢ Need → LineFinds found stream → LineFinds found (stream ++ more)

@@ -3,31 +3,31 @@ use Rattle.std.specs.Prelude.{◌≡◌, ◌≢◌, ◌⊎◌, ℕ, ◌==◌, �
 use Rattle.std.specs.Cmp.Lexicographic.{pointwise}
 use Rattle.std.specs.List.{All, list_any, prefix_len}
 use Rattle.octets.specs.Ascii.{lowered}
-use Rattle.lmtp.specs.Paths.{IsAddress}
-use Rattle.lmtp.specs.declared.name.Names.{Names}
-use Rattle.lmtp.specs.declared.name.Names.TheVariants.{Local, Whole}
-use Rattle.lmtp.specs.declared.path.Quoting.{Quoting}
-use Rattle.lmtp.specs.declared.path.Quoting.TheVariants.{Outside, Inside, Escaped}
+use Rattle.lmtp_dialogue.specs.Paths.{IsPathAddress}
+use Rattle.lmtp_dialogue.specs.declared.name.Names.{Names}
+use Rattle.lmtp_dialogue.specs.declared.name.Names.TheVariants.{Local, Whole}
+use Rattle.lmtp_dialogue.specs.declared.path.Quoting.{Quoting}
+use Rattle.lmtp_dialogue.specs.declared.path.Quoting.TheVariants.{Outside, Inside, Escaped}
 
 -- ---- the parts of an address (RFC 5321, section 4.1.2)
 
 -- an `@` outside quotation marks, with what comes before it and after it
 abbrev pub HasAt : List ℕ → List ℕ → List ℕ → Type 0
-HasAt address front back = IsAddress front × (address ≡ front ++ 64 ∷ back)
+HasAt address front back = IsPathAddress front × (address ≡ front ++ 64 ∷ back)
 
 -- there is none, and the address is the local part; or the last one comes after it
-abbrev pub Parts : List ℕ → List ℕ → List ℕ → Type 0
-Parts address local tail =
+abbrev pub SplitsAddress : List ℕ → List ℕ → List ℕ → Type 0
+SplitsAddress address local tail =
     ((local ≡ address) × (tail ≡ []) × ((front back : List ℕ) → HasAt address front back → ⊥))
     ⊎ ((domain : List ℕ) × (tail ≡ 64 ∷ domain) × HasAt address local domain × ((front back : List ℕ) → HasAt address front back → length front ≤ length local))
 
 -- what a local part means: its octets without quotation marks, and without the backslashes between them
-abbrev pub unquoted : Quoting → List ℕ → List ℕ
-unquoted quoting [] = []
-unquoted Outside (octet ∷ rest) = if octet == 34 then unquoted Inside rest else octet ∷ unquoted Outside rest
-unquoted Inside (octet ∷ rest) =
-    if octet == 34 then unquoted Outside rest else (if octet == 92 then unquoted Escaped rest else octet ∷ unquoted Inside rest)
-unquoted Escaped (octet ∷ rest) = octet ∷ unquoted Inside rest
+abbrev pub unquoted_local : Quoting → List ℕ → List ℕ
+unquoted_local quoting [] = []
+unquoted_local Outside (octet ∷ rest) = if octet == 34 then unquoted_local Inside rest else octet ∷ unquoted_local Outside rest
+unquoted_local Inside (octet ∷ rest) =
+    if octet == 34 then unquoted_local Outside rest else (if octet == 92 then unquoted_local Escaped rest else octet ∷ unquoted_local Inside rest)
+unquoted_local Escaped (octet ∷ rest) = octet ∷ unquoted_local Inside rest
 
 -- ---- the forms of a name
 
@@ -48,7 +48,7 @@ forms_of name bare = with_form (with_form (with_form (name ∷ []) (lowered name
 
 -- by the local part, or by the address as it is written
 abbrev pub local_forms : List ℕ → List (List ℕ)
-local_forms local = let text = unquoted Outside local in forms_of text (without_detail text)
+local_forms local = let text = unquoted_local Outside local in forms_of text (without_detail text)
 
 abbrev pub whole_forms : List ℕ → List ℕ → List (List ℕ)
 whole_forms local tail = forms_of (local ++ tail) (without_detail local ++ tail)
@@ -58,7 +58,7 @@ forms_by Local local tail = local_forms local
 forms_by Whole local tail = whole_forms local tail
 
 abbrev pub AreForms : Names → List ℕ → List (List ℕ) → Type 0
-AreForms names address forms = (local tail : List ℕ) × Parts address local tail × (forms ≡ forms_by names local tail)
+AreForms names address forms = (local tail : List ℕ) × SplitsAddress address local tail × (forms ≡ forms_by names local tail)
 
 -- ---- laws
 
@@ -67,15 +67,15 @@ abbrev pub IsForm : List ℕ → List ℕ → List ℕ → Type 0
 IsForm name bare form = (form ≡ name) ⊎ ((form ≡ lowered name) ⊎ ((form ≡ bare) ⊎ (form ≡ lowered bare)))
 
 -- no form comes again after itself
-abbrev pub AreApart : List (List ℕ) → Type 0
-AreApart [] = Unit {0}
-AreApart (form ∷ others) = (All (λ other. other ≢ form) others) × AreApart others
+abbrev pub AreFormsApart : List (List ℕ) → Type 0
+AreFormsApart [] = Unit {0}
+AreFormsApart (form ∷ others) = (All (λ other. other ≢ form) others) × AreFormsApart others
 
 -- each is one of the four, all four are there, the first first, and none twice
 pub record FormsStand : Type 0 where
-  pub parts : (address a b x y : List ℕ) → Parts address a x → Parts address b y → (a ≡ b) × (x ≡ y)
+  pub parts : (address a b x y : List ℕ) → SplitsAddress address a x → SplitsAddress address b y → (a ≡ b) × (x ≡ y)
   pub each : (name bare : List ℕ) → All (IsForm name bare) (forms_of name bare)
-  pub apart : (name bare : List ℕ) → AreApart (forms_of name bare)
+  pub apart : (name bare : List ℕ) → AreFormsApart (forms_of name bare)
 
 -- ---- how the parts are found
 

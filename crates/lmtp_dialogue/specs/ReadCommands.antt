@@ -1,18 +1,18 @@
 -- What a command line asks for, or how it is refused whatever came before it.
 use Rattle.std.specs.Prelude.{◌≡◌, ◌≢◌, ◌⊎◌, ℕ, List, [], Ok, Err}
-use Rattle.lmtp.specs.Arguments.{ReadsMail, ReadsRecipient}
-use Rattle.lmtp.specs.Commands.{IsCommandLine}
-use Rattle.lmtp.specs.declared.argument.ArgumentFault.TheVariants.{Syntax, Address, Parameter}
-use Rattle.lmtp.specs.declared.order.Order.{Order}
-use Rattle.lmtp.specs.declared.order.Order.TheVariants as order
-use Rattle.lmtp.specs.declared.reply.Reply.{Reply}
-use Rattle.lmtp.specs.declared.reply.Reply.TheVariants as reply
-use Rattle.lmtp.specs.declared.verb.Verb.{Verb}
-use Rattle.lmtp.specs.declared.verb.Verb.TheVariants as verb
+use Rattle.lmtp_dialogue.specs.Arguments.{ReadsMail, ReadsRecipient}
+use Rattle.lmtp_dialogue.specs.Commands.{IsCommandLine}
+use Rattle.lmtp_dialogue.specs.declared.argument.ArgumentFault.TheVariants.{Syntax, Address, Parameter}
+use Rattle.lmtp_dialogue.specs.declared.command.LmtpCommand.{LmtpCommand}
+use Rattle.lmtp_dialogue.specs.declared.command.LmtpCommand.TheVariants as order
+use Rattle.lmtp_dialogue.specs.declared.reply.LmtpReply.{LmtpReply}
+use Rattle.lmtp_dialogue.specs.declared.reply.LmtpReply.TheVariants as reply
+use Rattle.lmtp_dialogue.specs.declared.verb.LmtpVerb.{LmtpVerb}
+use Rattle.lmtp_dialogue.specs.declared.verb.LmtpVerb.TheVariants as verb
 
 -- the line is that command, about something
-abbrev pub Says : List ℕ → Verb → (List ℕ → Type 0) → Type 0
-Says line word About = (argument : List ℕ) × IsCommandLine line word argument × About argument
+abbrev pub SaysCommand : List ℕ → LmtpVerb → (List ℕ → Type 0) → Type 0
+SaysCommand line word About = (argument : List ℕ) × IsCommandLine line word argument × About argument
 
 abbrev pub Anything : List ℕ → Type 0
 Anything argument = Unit {0}
@@ -26,52 +26,52 @@ Something argument = argument ≢ []
 -- something follows the word that may not: no name, something where nothing may follow, or neither `FROM:` nor `TO:`
 abbrev pub MisArgues : List ℕ → Type 0
 MisArgues line =
-    Says line verb.Lhlo Nothing
-    ⊎ (Says line verb.Data Something ⊎ (Says line verb.Rset Something ⊎ (Says line verb.Quit Something
-    ⊎ (Says line verb.Mail (λ a. ReadsMail a (Err Syntax)) ⊎ Says line verb.Rcpt (λ a. ReadsRecipient a (Err Syntax))))))
+    SaysCommand line verb.Lhlo Nothing
+    ⊎ (SaysCommand line verb.Data Something ⊎ (SaysCommand line verb.Rset Something ⊎ (SaysCommand line verb.Quit Something
+    ⊎ (SaysCommand line verb.Mail (λ a. ReadsMail a (Err Syntax)) ⊎ SaysCommand line verb.Rcpt (λ a. ReadsRecipient a (Err Syntax))))))
 
-abbrev pub IsRefused : List ℕ → Reply → Type 0
-IsRefused line reply.UnknownCommand = (word : Verb) (argument : List ℕ) → IsCommandLine line word argument → ⊥
-IsRefused line reply.NotSmtp = Says line verb.Helo Anything ⊎ Says line verb.Ehlo Anything
-IsRefused line reply.BadArgument = MisArgues line
-IsRefused line reply.BadSender = Says line verb.Mail (λ a. ReadsMail a (Err Address))
-IsRefused line reply.BadRecipient = Says line verb.Rcpt (λ a. ReadsRecipient a (Err Address))
-IsRefused line reply.BadParameter = Says line verb.Mail (λ a. ReadsMail a (Err Parameter)) ⊎ Says line verb.Rcpt (λ a. ReadsRecipient a (Err Parameter))
-IsRefused line other = ⊥
+abbrev pub IsCommandRefused : List ℕ → LmtpReply → Type 0
+IsCommandRefused line reply.UnknownCommand = (word : LmtpVerb) (argument : List ℕ) → IsCommandLine line word argument → ⊥
+IsCommandRefused line reply.NotSmtp = SaysCommand line verb.Helo Anything ⊎ SaysCommand line verb.Ehlo Anything
+IsCommandRefused line reply.BadArgument = MisArgues line
+IsCommandRefused line reply.BadSender = SaysCommand line verb.Mail (λ a. ReadsMail a (Err Address))
+IsCommandRefused line reply.BadRecipient = SaysCommand line verb.Rcpt (λ a. ReadsRecipient a (Err Address))
+IsCommandRefused line reply.BadParameter = SaysCommand line verb.Mail (λ a. ReadsMail a (Err Parameter)) ⊎ SaysCommand line verb.Rcpt (λ a. ReadsRecipient a (Err Parameter))
+IsCommandRefused line other = ⊥
 
-abbrev pub ReadsOrder : List ℕ → Order → Type 0
-ReadsOrder line (order.Lhlo name) = IsCommandLine line verb.Lhlo name.now × Something name.now
-ReadsOrder line (order.Mail mail) = Says line verb.Mail (λ a. ReadsMail a (Ok (record { from = mail.from.now; size = mail.size })))
-ReadsOrder line (order.Rcpt address) = Says line verb.Rcpt (λ a. ReadsRecipient a (Ok address.now))
-ReadsOrder line order.Data = Says line verb.Data Nothing
-ReadsOrder line order.Rset = Says line verb.Rset Nothing
-ReadsOrder line order.Noop = Says line verb.Noop Anything
-ReadsOrder line order.Vrfy = Says line verb.Vrfy Anything
-ReadsOrder line order.Help = Says line verb.Help Anything
-ReadsOrder line order.Quit = Says line verb.Quit Nothing
-ReadsOrder line (order.Refused reply) = IsRefused line reply
+abbrev pub ReadsLmtpCommand : List ℕ → LmtpCommand → Type 0
+ReadsLmtpCommand line (order.Lhlo name) = IsCommandLine line verb.Lhlo name.now × Something name.now
+ReadsLmtpCommand line (order.Mail mail) = SaysCommand line verb.Mail (λ a. ReadsMail a (Ok (record { from = mail.from.now; size = mail.size })))
+ReadsLmtpCommand line (order.Rcpt address) = SaysCommand line verb.Rcpt (λ a. ReadsRecipient a (Ok address.now))
+ReadsLmtpCommand line order.Data = SaysCommand line verb.Data Nothing
+ReadsLmtpCommand line order.Rset = SaysCommand line verb.Rset Nothing
+ReadsLmtpCommand line order.Noop = SaysCommand line verb.Noop Anything
+ReadsLmtpCommand line order.Vrfy = SaysCommand line verb.Vrfy Anything
+ReadsLmtpCommand line order.Help = SaysCommand line verb.Help Anything
+ReadsLmtpCommand line order.Quit = SaysCommand line verb.Quit Nothing
+ReadsLmtpCommand line (order.Refused reply) = IsCommandRefused line reply
 
 -- ---- what follows a command's word
 
-abbrev pub ReadsName : List ℕ → Order → Type 0
+abbrev pub ReadsName : List ℕ → LmtpCommand → Type 0
 ReadsName argument (order.Lhlo name) = (name.now ≡ argument) × Something argument
 ReadsName argument (order.Refused reply.BadArgument) = Nothing argument
 ReadsName argument other = ⊥
 
-abbrev pub ReadsSender : List ℕ → Order → Type 0
+abbrev pub ReadsSender : List ℕ → LmtpCommand → Type 0
 ReadsSender argument (order.Mail mail) = ReadsMail argument (Ok (record { from = mail.from.now; size = mail.size }))
 ReadsSender argument (order.Refused reply.BadArgument) = ReadsMail argument (Err Syntax)
 ReadsSender argument (order.Refused reply.BadSender) = ReadsMail argument (Err Address)
 ReadsSender argument (order.Refused reply.BadParameter) = ReadsMail argument (Err Parameter)
 ReadsSender argument other = ⊥
 
-abbrev pub ReadsTarget : List ℕ → Order → Type 0
+abbrev pub ReadsTarget : List ℕ → LmtpCommand → Type 0
 ReadsTarget argument (order.Rcpt address) = ReadsRecipient argument (Ok address.now)
 ReadsTarget argument (order.Refused reply.BadArgument) = ReadsRecipient argument (Err Syntax)
 ReadsTarget argument (order.Refused reply.BadRecipient) = ReadsRecipient argument (Err Address)
 ReadsTarget argument (order.Refused reply.BadParameter) = ReadsRecipient argument (Err Parameter)
 ReadsTarget argument other = ⊥
 
-abbrev pub ReadsAlone : List ℕ → Order → Order → Type 0
+abbrev pub ReadsAlone : List ℕ → LmtpCommand → LmtpCommand → Type 0
 ReadsAlone argument wanted result =
     (Nothing argument × (result ≡ wanted)) ⊎ (Something argument × (result ≡ order.Refused reply.BadArgument))

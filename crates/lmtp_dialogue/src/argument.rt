@@ -2,7 +2,7 @@
 ghost use Rattle.std.specs.Prelude.{◌≡◌, ◌↔◌, ◌≤◌, ℕ, List, Option, None, IsTrue, IfSome, IfNone, IfOk, IfErr, Ok, Err, length};
 ghost use Rattle.std.specs.List.{list_all};
 ghost use Rattle.octets.specs.Ascii.{is_digit};
-ghost use Rattle.lmtp.specs.Arguments as s;
+ghost use Rattle.lmtp_dialogue.specs.Arguments as s;
 
 use crate::path::{read_path, strip};
 use crate::verb::word_length;
@@ -24,7 +24,7 @@ pub enum ArgumentFault {
 
 /// The recipient that RCPT is about. One pass; takes no memory.
 pub fn read_recipient(argument: &[u8]) -> Result<&[u8], ArgumentFault>
-    ensures { s.ReadsRecipient argument.now (s.octets_of result) }
+    ensures { s.ReadsRecipient argument.now (s.result_octets result) }
 {
     let Some(text) = after_word(argument, b"TO:") else {
         return Err(ArgumentFault::Syntax);
@@ -44,7 +44,7 @@ pub fn read_recipient(argument: &[u8]) -> Result<&[u8], ArgumentFault>
 
 /// What MAIL is about.
 #[derive(Clone, Copy)]
-pub struct Mail<'a> {
+pub struct MailArgument<'a> {
     /// The sender's address; empty for that of a bounce.
     pub from: &'a [u8],
     /// How many octets the message will have, if that is announced (RFC 1870).
@@ -52,8 +52,8 @@ pub struct Mail<'a> {
 }
 
 /// What MAIL is about. One pass; takes no memory.
-pub fn read_mail(argument: &[u8]) -> Result<Mail<'_>, ArgumentFault>
-    ensures { s.ReadsMail argument.now (s.mail_of result) }
+pub fn read_mail(argument: &[u8]) -> Result<MailArgument<'_>, ArgumentFault>
+    ensures { s.ReadsMail argument.now (s.announced_mail result) }
 {
     let Some(text) = after_word(argument, b"FROM:") else {
         return Err(ArgumentFault::Syntax);
@@ -65,7 +65,7 @@ pub fn read_mail(argument: &[u8]) -> Result<Mail<'_>, ArgumentFault>
         return Err(ArgumentFault::Address);
     }
     match read_parameters(path.rest) {
-        Ok(size) => Ok(Mail {
+        Ok(size) => Ok(MailArgument {
             from: path.address,
             size,
         }),
@@ -125,8 +125,8 @@ fn read_parameter(text: &[u8]) -> Result<Option<u64>, ArgumentFault>
 
 // The size that digits write; one of 2^64 or more counts as the greatest.
 fn parse_size(digits: &[u8]) -> Option<u64>
-    ensures found { IfSome result (λ size. s.IsSize digits.now size) }
-    ensures none { IfNone result ((size : ℕ) → s.IsSize digits.now size → ⊥) }
+    ensures found { IfSome result (λ size. s.IsSizeValue digits.now size) }
+    ensures none { IfNone result ((size : ℕ) → s.IsSizeValue digits.now size → ⊥) }
 {
     if let Some(size) = parse_decimal(digits) {
         return Some(size);
@@ -140,7 +140,7 @@ fn parse_size(digits: &[u8]) -> Option<u64>
 
 // Whether they are digits, and nothing else.
 fn is_number(text: &[u8]) -> bool
-    ensures { result ≡ s.is_number text.now }
+    ensures { result ≡ s.is_size_text text.now }
 {
     !text.is_empty() && all_digits(text)
 }
@@ -160,8 +160,8 @@ fn takes_recipient(address: &[u8]) -> bool
 
 // What follows a word at the start, whose letters may be in upper or lower case.
 fn after_word<'a>(text: &'a [u8], word: &[u8]) -> Option<&'a [u8]>
-    ensures found { IfSome result (λ rest. s.IsAfter word.now text.now rest.now) }
-    ensures none { IfNone result ((rest : List ℕ) → s.IsAfter word.now text.now rest → ⊥) }
+    ensures found { IfSome result (λ rest. s.IsAfterWord word.now text.now rest.now) }
+    ensures none { IfNone result ((rest : List ℕ) → s.IsAfterWord word.now text.now rest → ⊥) }
 {
     if text.len() < word.len() {
         return None;

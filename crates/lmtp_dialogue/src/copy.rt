@@ -1,9 +1,9 @@
 //! What is delivered to a recipient, and whether it was.
 ghost use Rattle.std.specs.Prelude.{◌≡◌, ◌++◌, IfOk, OnOk};
-ghost use Rattle.lmtp.specs.Copies as s;
-ghost use Rattle.mailhead.specs.Fields.{text_of};
+ghost use Rattle.lmtp_dialogue.specs.Copies as s;
+ghost use Rattle.mail_head.specs.Fields.{field_text_of};
 
-use mailhead::{Field, Head, logical_line, read_field, unfolded};
+use mail_head::{Field, Head, logical_line, read_field, unfold_value};
 use octets::{Octets, trim_blanks};
 use std::alloc::{AllocError, Global};
 
@@ -78,11 +78,11 @@ pub fn was_delivered(alloc: Global, head: &Head<'_>, recipient: &[u8]) -> Result
 }
 
 fn tells_delivery(alloc: Global, field: &Field<'_>, recipient: &[u8]) -> Result<bool, AllocError>
-    ensures { IfOk result (λ tells. tells ≡ s.tells_delivery recipient.now (text_of field.now)) }
+    ensures { IfOk result (λ tells. tells ≡ s.tells_delivery recipient.now (field_text_of field.now)) }
 {
     if !field.name.eq_ignore_ascii_case(b"delivered-to") {
         return Ok(false);
     }
-    let value = unfolded(alloc, field.raw)?;
+    let value = unfold_value(alloc, field.raw)?;
     Ok(trim_blanks(value.as_slice()).eq_ignore_ascii_case(recipient))
 }

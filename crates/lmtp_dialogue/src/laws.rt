@@ -1,10 +1,10 @@
 //! Laws of the definitions, each the contract of a function that does nothing.
-ghost use Rattle.lmtp.specs.Dialogues.{ItemsStand};
-ghost use Rattle.lmtp.specs.Lines.{LinesStand};
-ghost use Rattle.lmtp.specs.Names.{FormsStand};
-ghost use Rattle.lmtp.specs.Replies.{HostsFaultsPass, RepliesAreLines};
-ghost use Rattle.lmtp.specs.Texts.{TextsAgree};
-ghost use Rattle.lmtp.specs.Turns.{AnswersStand};
+ghost use Rattle.lmtp_dialogue.specs.Dialogues.{ItemsStand};
+ghost use Rattle.lmtp_dialogue.specs.Lines.{LinesStand};
+ghost use Rattle.lmtp_dialogue.specs.Names.{FormsStand};
+ghost use Rattle.lmtp_dialogue.specs.Replies.{HostsFaultsPass, RepliesAreLines};
+ghost use Rattle.lmtp_dialogue.specs.Texts.{TextsAgree};
+ghost use Rattle.lmtp_dialogue.specs.Turns.{AnswersStand};
 
 /// A text by its lines and a text octet by octet are the same: where it ends, and what it is.
 pub fn texts_agree()

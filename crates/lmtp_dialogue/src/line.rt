@@ -1,6 +1,6 @@
 //! Command lines.
 ghost use Rattle.std.specs.Prelude.{◌≤◌, length};
-ghost use Rattle.lmtp.specs.Lines.{Finds, Skips};
+ghost use Rattle.lmtp_dialogue.specs.Lines.{LineFinds, Skips};
 
 use memchr::memmem;
 
@@ -19,8 +19,8 @@ pub enum Found {
 }
 
 /// What comes first in the octets of a client. Looks at 2,048 of them at most; takes no memory.
-pub fn first_line(octets: &[u8]) -> Found
-    ensures { Finds result octets.now }
+pub fn find_line(octets: &[u8]) -> Found
+    ensures { LineFinds result octets.now }
 {
     let most = octets.len().min(MAX_LINE);
     match memmem::find(&octets[..most], b"\r\n") {

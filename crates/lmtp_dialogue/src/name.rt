@@ -1,7 +1,7 @@
 //! The names under which the account of a recipient is looked for.
 ghost use Rattle.std.specs.Prelude.{◌≡◌, ◌≤◌, ◌++◌, ℕ, List, ◌∷◌, length, take, drop, IfOk, OnOk};
-ghost use Rattle.lmtp.specs.Names as s;
-ghost use Rattle.lmtp.specs.declared.path.Quoting.TheVariants.{Outside as outside};
+ghost use Rattle.lmtp_dialogue.specs.Names as s;
+ghost use Rattle.lmtp_dialogue.specs.declared.path.Quoting.TheVariants.{Outside as outside};
 
 use crate::path::Quoting;
 use octets::{Octets, Texts, lowered};
@@ -91,7 +91,7 @@ fn bare_length(text: &[u8]) -> usize
 
 // A local part without its quotation marks, and without the backslashes between them.
 fn unquoted(alloc: Global, local: &[u8]) -> Result<Octets, AllocError>
-    ensures { IfOk result (λ text. text ≡ s.unquoted outside local.now) }
+    ensures { IfOk result (λ text. text ≡ s.unquoted_local outside local.now) }
 {
     let mut text = Octets::new(alloc);
     let mut quoting = Quoting::Outside;
@@ -102,7 +102,7 @@ fn unquoted(alloc: Global, local: &[u8]) -> Result<Octets, AllocError>
 }
 
 fn add_unquoted(text: &mut Octets, quoting: Quoting, octet: u8) -> Result<Quoting, AllocError>
-    ensures { IfOk result (λ next. (rest : List ℕ) → text.new ++ s.unquoted next rest ≡ text.old ++ s.unquoted quoting (octet ∷ rest)) }
+    ensures { IfOk result (λ next. (rest : List ℕ) → text.new ++ s.unquoted_local next rest ≡ text.old ++ s.unquoted_local quoting (octet ∷ rest)) }
 {
     match (quoting, octet) {
         (Quoting::Outside, b'"') => Ok(Quoting::Inside),
@@ -122,7 +122,7 @@ fn add_unquoted(text: &mut Octets, quoting: Quoting, octet: u8) -> Result<Quotin
 // How many octets the local part has: up to the last `@` outside quotation marks, or all.
 fn local_length(address: &[u8]) -> usize
     ensures within { result ≤ length address.now }
-    ensures parts { s.Parts address.now (take result address.now) (drop result address.now) }
+    ensures parts { s.SplitsAddress address.now (take result address.now) (drop result address.now) }
 {
     let mut quoting = Quoting::Outside;
     let mut count = address.len();

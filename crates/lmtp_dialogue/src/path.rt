@@ -1,8 +1,8 @@
 //! Paths: the addresses of MAIL and RCPT.
 ghost use Rattle.std.specs.Prelude.{◌≡◌, ◌↔◌, ◌≤◌, ◌+◌, ◌∷◌, ℕ, List, IsTrue, IfSome, IfNone, length, take, drop};
 ghost use Rattle.std.specs.List.{prefix_len};
-ghost use Rattle.lmtp.specs.declared.path.Quoting.TheVariants.{Outside as outside};
-ghost use Rattle.lmtp.specs.Paths as s;
+ghost use Rattle.lmtp_dialogue.specs.declared.path.Quoting.TheVariants.{Outside as outside};
+ghost use Rattle.lmtp_dialogue.specs.Paths as s;
 
 /// Whether the next octet of an address is between quotation marks.
 #[derive(Clone, Copy, Debug, PartialEq, Eq)]
@@ -28,7 +28,7 @@ impl Quoting {
 
     // The state after this octet; none if this octet may not come here.
     pub(crate) fn after(self, octet: u8) -> Option<Quoting>
-        ensures { s.StepsTo self octet result }
+        ensures { s.AddressStepsTo self octet result }
     {
         match (self, octet) {
             (Quoting::Outside, b'"') => Some(Quoting::Inside),
@@ -43,14 +43,14 @@ impl Quoting {
 
 // A printable octet, or one over 127.
 fn is_shown(octet: u8) -> bool
-    ensures { result ≡ s.is_shown octet }
+    ensures { result ≡ s.is_address_octet octet }
 {
     octet >= 32 && octet != 127
 }
 
 // An octet that may be outside quotation marks.
 fn is_plain(octet: u8) -> bool
-    ensures { result ≡ s.is_plain octet }
+    ensures { result ≡ s.is_unquoted_octet octet }
 {
     is_shown(octet) && !matches!(octet, b' ' | b'"' | b'<' | b'>' | b'\\')
 }

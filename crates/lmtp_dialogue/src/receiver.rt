@@ -1,23 +1,23 @@
 //! The server's side of a dialogue.
 ghost use Rattle.std.specs.Prelude.{◌≡◌, ◌≢◌, ◌⊎◌, ◌↔◌, ◌+◌, ◌≤◌, length, ◌++◌, true, IsTrue, IfOk, OnOk, OnErr};
-ghost use Rattle.lmtp.specs.Dialogues.{Dialogue, new_dialogue};
-ghost use Rattle.lmtp.specs.Lines.{Finds};
-ghost use Rattle.lmtp.specs.Receivers as s;
-ghost use Rattle.lmtp.specs.Replies as r;
-ghost use Rattle.lmtp.specs.Turns.{Answers, Resolves, Replies, reply_to, lacks_room, size_of as spec_size};
+ghost use Rattle.lmtp_dialogue.specs.Dialogues.{Dialogue, new_dialogue};
+ghost use Rattle.lmtp_dialogue.specs.Lines.{LineFinds};
+ghost use Rattle.lmtp_dialogue.specs.Receivers as s;
+ghost use Rattle.lmtp_dialogue.specs.Replies as r;
+ghost use Rattle.lmtp_dialogue.specs.Turns.{DialogueAnswers, Resolves, DialogueReplies, lookup_reply, lacks_room, announced_size as spec_size};
 
-use crate::line::{Found, first_line, skip_line};
-use crate::order::{Order, read_order};
+use crate::line::{Found, find_line, skip_line};
+use crate::command::{LmtpCommand, read_lmtp_command};
 use crate::recipients::Recipients;
-use crate::reply::{Outcome, Reply, capabilities, greeting};
+use crate::reply::{DeliveryOutcome, LmtpReply, capabilities, greeting};
 use crate::talk::{MAX_TEXT, Talk};
-use crate::text::{Text, Trouble};
+use crate::text::{Text, TextFault};
 use octets::{Octets, Pending};
 use std::alloc::{AllocError, Global};
 
 /// What goes on in a dialogue.
 #[derive(Clone, Copy, Debug, PartialEq, Eq)]
-pub enum Stage {
+pub enum LmtpStage {
     /// The client hasn't said LHLO.
     Greeted,
     /// No transaction is open.
@@ -54,7 +54,7 @@ pub struct Delivery<'a> {
     pub sender: &'a [u8],
     pub recipient: &'a [u8],
     /// The text, or why it isn't kept.
-    pub text: Result<&'a [u8], Trouble>,
+    pub text: Result<&'a [u8], TextFault>,
 }
 
 /// What comes next in a dialogue.
@@ -87,15 +87,15 @@ pub struct Receiver {
 
 impl Lookup {
     /// What a recipient is answered.
-    pub fn reply(self) -> Reply
-        ensures { result ≡ reply_to self }
+    pub fn reply(self) -> LmtpReply
+        ensures { result ≡ lookup_reply self }
     {
         match self {
-            Lookup::Known => Reply::RecipientTaken,
-            Lookup::Unknown => Reply::NoSuchUser,
-            Lookup::Away => Reply::StoreAway,
-            Lookup::Fault => Reply::LocalFault,
-            Lookup::NoRoom => Reply::NoRoom,
+            Lookup::Known => LmtpReply::RecipientTaken,
+            Lookup::Unknown => LmtpReply::NoSuchUser,
+            Lookup::Away => LmtpReply::StoreAway,
+            Lookup::Fault => LmtpReply::LocalFault,
+            Lookup::NoRoom => LmtpReply::NoRoom,
         }
     }
 }
@@ -108,8 +108,8 @@ impl Receiver {
     pub fn new(alloc: Global, host: &[u8], out: &mut Octets) -> Result<Receiver, AllocError>
         ensures begins { IfOk result (λ receiver. s.StandsIn receiver new_dialogue) }
         ensures empty { IfOk result (λ receiver. s.held_by receiver ≡ 0) }
-        ensures hello { IfOk result (λ receiver. receiver.talk.hello ≡ r.capabilities host.now) }
-        ensures greets { OnOk result (out.new ≡ out.old ++ r.greeting host.now) }
+        ensures hello { IfOk result (λ receiver. receiver.talk.hello ≡ r.lmtp_capabilities host.now) }
+        ensures greets { OnOk result (out.new ≡ out.old ++ r.lmtp_greeting host.now) }
         ensures err { OnErr result (out.new ≡ out.old) }
     {
         let hello = capabilities(alloc, host)?;
@@ -121,7 +121,7 @@ impl Receiver {
             talk: Talk {
                 alloc,
                 hello,
-                stage: Stage::Greeted,
+                stage: LmtpStage::Greeted,
                 sender: Octets::new(alloc),
                 recipients: Recipients::new(alloc),
                 told: 0,
@@ -134,7 +134,7 @@ impl Receiver {
     ///
     /// Lack of memory is the only error; nothing changes then. Time is linear in the octets of the piece, and in those that are unread.
     pub fn give(&mut self, piece: &[u8]) -> Result<(), AllocError>
-        ensures hears { OnOk result (s.Hears self.old piece.now self.new) }
+        ensures hears { OnOk result (s.ReceiverHears self.old piece.now self.new) }
         ensures held { s.held_by self.new ≤ s.held_by self.old + length piece.now }
         ensures hello { self.new.talk.hello ≡ self.old.talk.hello }
         ensures err { OnErr result (self.new ≡ self.old) }
@@ -149,10 +149,10 @@ impl Receiver {
         ensures { (d : Dialogue) → s.StandsIn self.now d → s.ComesNext d result }
     {
         match self.talk.stage {
-            Stage::Over => Next::Over,
-            Stage::Asking => Next::Recipient(self.talk.asked()),
-            Stage::Sending => self.next_delivery(),
-            Stage::Greeted | Stage::Ready | Stage::Opened => self.next_line(),
+            LmtpStage::Over => Next::Over,
+            LmtpStage::Asking => Next::Recipient(self.talk.asked()),
+            LmtpStage::Sending => self.next_delivery(),
+            LmtpStage::Greeted | LmtpStage::Ready | LmtpStage::Opened => self.next_line(),
         }
     }
 
@@ -160,14 +160,14 @@ impl Receiver {
         requires { s.reads_lines self.now.talk.stage ≡ true }
         ensures { (d : Dialogue) → s.StandsIn self.now d → s.ComesNext d result }
     {
-        match first_line(self.unread.as_slice()) {
+        match find_line(self.unread.as_slice()) {
             Found::Line(_) => Next::Line,
             _ => Next::Need,
         }
     }
 
     fn next_delivery(&self) -> Next<'_>
-        requires { self.now.talk.stage ≡ Stage.Sending }
+        requires { self.now.talk.stage ≡ LmtpStage.Sending }
         ensures { (d : Dialogue) → s.StandsIn self.now d → s.ComesNext d result }
     {
         if !self.talk.text.has_ended() {
@@ -180,27 +180,27 @@ impl Receiver {
     ///
     /// Lack of memory is the only error; nothing changes then.
     pub fn answer(&mut self, out: &mut Octets) -> Result<(), AllocError>
-        ensures ok { OnOk result (s.Goes (Answers self.old.talk.hello) self.old self.new out.old out.new) }
+        ensures ok { OnOk result (s.ReceiverGoes (DialogueAnswers self.old.talk.hello) self.old self.new out.old out.new) }
         ensures line { OnOk result (s.SaysNext self.old self.new out.old out.new) }
         ensures hello { self.new.talk.hello ≡ self.old.talk.hello }
-        ensures held { s.HoldsNoMore self.old self.new }
+        ensures held { s.ReceiverHoldsNoMore self.old self.new }
         ensures err { OnErr result ((self.new ≡ self.old) × (out.new ≡ out.old)) }
     {
         match self.talk.stage {
-            Stage::Greeted | Stage::Ready | Stage::Opened => self.answer_line(out),
-            Stage::Asking | Stage::Sending | Stage::Over => Ok(()),
+            LmtpStage::Greeted | LmtpStage::Ready | LmtpStage::Opened => self.answer_line(out),
+            LmtpStage::Asking | LmtpStage::Sending | LmtpStage::Over => Ok(()),
         }
     }
 
     fn answer_line(&mut self, out: &mut Octets) -> Result<(), AllocError>
         requires { s.reads_lines self.old.talk.stage ≡ true }
-        ensures ok { OnOk result (s.Goes (Answers self.old.talk.hello) self.old self.new out.old out.new) }
+        ensures ok { OnOk result (s.ReceiverGoes (DialogueAnswers self.old.talk.hello) self.old self.new out.old out.new) }
         ensures line { OnOk result (s.SaysNext self.old self.new out.old out.new) }
         ensures hello { self.new.talk.hello ≡ self.old.talk.hello }
-        ensures held { s.HoldsNoMore self.old self.new }
+        ensures held { s.ReceiverHoldsNoMore self.old self.new }
         ensures err { OnErr result ((self.new ≡ self.old) × (out.new ≡ out.old)) }
     {
-        let Found::Line(count) = first_line(self.unread.as_slice()) else {
+        let Found::Line(count) = find_line(self.unread.as_slice()) else {
             return Ok(());
         };
         self.talk
@@ -217,31 +217,31 @@ impl Receiver {
     ///
     /// Lack of memory is the only error; nothing changes then.
     pub fn refuse(&mut self, room: u64, out: &mut Octets) -> Result<bool, AllocError>
-        ensures ok { IfOk result (λ did. s.Refuses room self.old self.new out.old out.new did) }
+        ensures ok { IfOk result (λ did. s.ReceiverRefuses room self.old self.new out.old out.new did) }
         ensures hello { self.new.talk.hello ≡ self.old.talk.hello }
-        ensures held { s.HoldsNoMore self.old self.new }
+        ensures held { s.ReceiverHoldsNoMore self.old self.new }
         ensures err { OnErr result ((self.new ≡ self.old) × (out.new ≡ out.old)) }
     {
         match self.talk.stage {
-            Stage::Ready => self.refuse_line(room, out),
+            LmtpStage::Ready => self.refuse_line(room, out),
             _ => Ok(false),
         }
     }
 
     fn refuse_line(&mut self, room: u64, out: &mut Octets) -> Result<bool, AllocError>
-        requires { self.old.talk.stage ≡ Stage.Ready }
-        ensures ok { IfOk result (λ did. s.Refuses room self.old self.new out.old out.new did) }
+        requires { self.old.talk.stage ≡ LmtpStage.Ready }
+        ensures ok { IfOk result (λ did. s.ReceiverRefuses room self.old self.new out.old out.new did) }
         ensures hello { self.new.talk.hello ≡ self.old.talk.hello }
-        ensures held { s.HoldsNoMore self.old self.new }
+        ensures held { s.ReceiverHoldsNoMore self.old self.new }
         ensures err { OnErr result ((self.new ≡ self.old) × (out.new ≡ out.old)) }
     {
-        let Found::Line(count) = first_line(self.unread.as_slice()) else {
+        let Found::Line(count) = find_line(self.unread.as_slice()) else {
             return Ok(false);
         };
         if !self.is_over(count, room) {
             return Ok(false);
         }
-        out.extend_from_slice(Reply::NoRoom.line())?;
+        out.extend_from_slice(LmtpReply::NoRoom.line())?;
         self.unread.drop_front(count + 2);
         self.take_in();
         Ok(true)
@@ -250,12 +250,12 @@ impl Receiver {
     // Whether the line of this many octets that comes next is a MAIL for whose size there is no room.
     fn is_over(&self, count: usize, room: u64) -> bool
         requires { count ≤ length self.now.unread }
-        ensures { s.IsOver room self.now count result }
+        ensures { s.IsOverRoom room self.now count result }
     {
         if self.long {
             return false;
         }
-        let order = read_order(&self.unread.as_slice()[..count]);
+        let order = read_lmtp_command(&self.unread.as_slice()[..count]);
         is_over_room(size_of(order), room)
     }
 
@@ -263,13 +263,13 @@ impl Receiver {
     ///
     /// Lack of memory is the only error; nothing changes then.
     pub fn resolve(&mut self, lookup: Lookup, out: &mut Octets) -> Result<(), AllocError>
-        ensures ok { OnOk result (s.Goes (λ d. Resolves d lookup) self.old self.new out.old out.new) }
+        ensures ok { OnOk result (s.ReceiverGoes (λ d. Resolves d lookup) self.old self.new out.old out.new) }
         ensures hello { self.new.talk.hello ≡ self.old.talk.hello }
-        ensures held { s.HoldsNoMore self.old self.new }
+        ensures held { s.ReceiverHoldsNoMore self.old self.new }
         ensures err { OnErr result ((self.new ≡ self.old) × (out.new ≡ out.old)) }
     {
         match self.talk.stage {
-            Stage::Asking => {
+            LmtpStage::Asking => {
                 self.talk.resolve(lookup, out)?;
                 Ok(())
             }
@@ -279,12 +279,12 @@ impl Receiver {
 
     /// The same, but the caller says the line, which `Lookup::reply` gives. Takes no memory, so that it can be reserved before asking.
     pub fn admit(&mut self, lookup: Lookup)
-        ensures goes { s.Admits lookup self.old self.new }
+        ensures goes { s.ReceiverAdmits lookup self.old self.new }
         ensures hello { self.new.talk.hello ≡ self.old.talk.hello }
-        ensures held { s.HoldsNoMore self.old self.new }
+        ensures held { s.ReceiverHoldsNoMore self.old self.new }
     {
         match self.talk.stage {
-            Stage::Asking => self.talk.admit(lookup),
+            LmtpStage::Asking => self.talk.admit(lookup),
             _ => {}
         }
     }
@@ -293,23 +293,23 @@ impl Receiver {
     /// After the last one the message is dropped.
     ///
     /// Lack of memory is the only error; nothing changes then.
-    pub fn report(&mut self, outcome: Outcome<'_>, out: &mut Octets) -> Result<(), AllocError>
-        ensures ok { OnOk result (s.Goes (λ d. Replies d outcome.entry) self.old self.new out.old out.new) }
+    pub fn report(&mut self, outcome: DeliveryOutcome<'_>, out: &mut Octets) -> Result<(), AllocError>
+        ensures ok { OnOk result (s.ReceiverGoes (λ d. DialogueReplies d outcome.entry) self.old self.new out.old out.new) }
         ensures hello { self.new.talk.hello ≡ self.old.talk.hello }
-        ensures held { s.HoldsNoMore self.old self.new }
+        ensures held { s.ReceiverHoldsNoMore self.old self.new }
         ensures err { OnErr result ((self.new ≡ self.old) × (out.new ≡ out.old)) }
     {
         match self.talk.stage {
-            Stage::Sending => self.report_next(outcome, out),
+            LmtpStage::Sending => self.report_next(outcome, out),
             _ => Ok(()),
         }
     }
 
-    fn report_next(&mut self, outcome: Outcome<'_>, out: &mut Octets) -> Result<(), AllocError>
-        requires { self.old.talk.stage ≡ Stage.Sending }
-        ensures ok { OnOk result (s.Goes (λ d. Replies d outcome.entry) self.old self.new out.old out.new) }
+    fn report_next(&mut self, outcome: DeliveryOutcome<'_>, out: &mut Octets) -> Result<(), AllocError>
+        requires { self.old.talk.stage ≡ LmtpStage.Sending }
+        ensures ok { OnOk result (s.ReceiverGoes (λ d. DialogueReplies d outcome.entry) self.old self.new out.old out.new) }
         ensures hello { self.new.talk.hello ≡ self.old.talk.hello }
-        ensures held { s.HoldsNoMore self.old self.new }
+        ensures held { s.ReceiverHoldsNoMore self.old self.new }
         ensures err { OnErr result ((self.new ≡ self.old) × (out.new ≡ out.old)) }
     {
         if !self.talk.text.has_ended() {
@@ -320,24 +320,24 @@ impl Receiver {
         Ok(())
     }
 
-    /// A reply was made for the recipient to whom the message is to be delivered next: the caller says it, as `Outcome::line` gives it.
+    /// A reply was made for the recipient to whom the message is to be delivered next: the caller says it, as `DeliveryOutcome::line` gives it.
     /// If there is none, nothing changes. Takes no memory, so that it can be reserved before the message is delivered.
     pub fn pass(&mut self)
-        ensures goes { s.Passes self.old self.new }
+        ensures goes { s.ReceiverPasses self.old self.new }
         ensures hello { self.new.talk.hello ≡ self.old.talk.hello }
-        ensures held { s.HoldsNoMore self.old self.new }
+        ensures held { s.ReceiverHoldsNoMore self.old self.new }
     {
         match self.talk.stage {
-            Stage::Sending => self.pass_next(),
+            LmtpStage::Sending => self.pass_next(),
             _ => {}
         }
     }
 
     fn pass_next(&mut self)
-        requires { self.old.talk.stage ≡ Stage.Sending }
-        ensures goes { s.Passes self.old self.new }
+        requires { self.old.talk.stage ≡ LmtpStage.Sending }
+        ensures goes { s.ReceiverPasses self.old self.new }
         ensures hello { self.new.talk.hello ≡ self.old.talk.hello }
-        ensures held { s.HoldsNoMore self.old self.new }
+        ensures held { s.ReceiverHoldsNoMore self.old self.new }
     {
         if !self.talk.text.has_ended() {
             return;
@@ -351,12 +351,12 @@ impl Receiver {
     pub fn drop_text(&mut self)
         ensures stands { (d : Dialogue) → s.StandsIn self.old d → s.StandsIn self.new d }
         ensures dropped { s.IsDropped self.new.talk }
-        ensures other { self.old.talk.stage ≢ Stage.Sending → self.new ≡ self.old }
+        ensures other { self.old.talk.stage ≢ LmtpStage.Sending → self.new ≡ self.old }
         ensures hello { self.new.talk.hello ≡ self.old.talk.hello }
-        ensures held { s.HoldsNoMore self.old self.new }
+        ensures held { s.ReceiverHoldsNoMore self.old self.new }
     {
         match self.talk.stage {
-            Stage::Sending => self.talk.text.give_up(),
+            LmtpStage::Sending => self.talk.text.give_up(),
             _ => {}
         }
     }
@@ -369,7 +369,7 @@ impl Receiver {
     }
 
     /// What goes on.
-    pub fn stage(&self) -> Stage
+    pub fn stage(&self) -> LmtpStage
         ensures { result ≡ self.now.talk.stage }
     {
         self.talk.stage
@@ -377,22 +377,22 @@ impl Receiver {
 
     // Takes in what can't wait: octets of a text, those of a line that is too long, and what comes after QUIT.
     fn take_in(&mut self)
-        ensures takes { s.TakesIn self.old self.new }
+        ensures takes { s.ReceiverTakesIn self.old self.new }
         ensures talk { self.new.talk.hello ≡ self.old.talk.hello }
-        ensures held { s.HoldsNoMore self.old self.new }
+        ensures held { s.ReceiverHoldsNoMore self.old self.new }
     {
         match self.talk.stage {
-            Stage::Sending => self.feed_text(),
-            Stage::Over => self.unread.drop_front(self.unread.len()),
+            LmtpStage::Sending => self.feed_text(),
+            LmtpStage::Over => self.unread.drop_front(self.unread.len()),
             _ => self.skip_long(),
         }
     }
 
     fn feed_text(&mut self)
-        requires { self.old.talk.stage ≡ Stage.Sending }
-        ensures takes { s.TakesIn self.old self.new }
+        requires { self.old.talk.stage ≡ LmtpStage.Sending }
+        ensures takes { s.ReceiverTakesIn self.old self.new }
         ensures talk { self.new.talk.hello ≡ self.old.talk.hello }
-        ensures held { s.HoldsNoMore self.old self.new }
+        ensures held { s.ReceiverHoldsNoMore self.old self.new }
     {
         let taken = self.talk.text.feed(self.unread.as_slice());
         self.unread.drop_front(taken);
@@ -400,9 +400,9 @@ impl Receiver {
 
     fn skip_long(&mut self)
         requires { s.takes_lines self.old.talk.stage ≡ true }
-        ensures takes { s.TakesIn self.old self.new }
+        ensures takes { s.ReceiverTakesIn self.old self.new }
         ensures talk { self.new.talk.hello ≡ self.old.talk.hello }
-        ensures held { s.HoldsNoMore self.old self.new }
+        ensures held { s.ReceiverHoldsNoMore self.old self.new }
     {
         if self.long {
             self.drop_line();
@@ -414,10 +414,10 @@ impl Receiver {
     // Drops octets of a line that is too long.
     fn drop_line(&mut self)
         requires lines { s.takes_lines self.old.talk.stage ≡ true }
-        requires long { (self.old.long ≡ true) ⊎ Finds Found.TooLong self.old.unread }
-        ensures takes { s.TakesIn self.old self.new }
+        requires long { (self.old.long ≡ true) ⊎ LineFinds Found.TooLong self.old.unread }
+        ensures takes { s.ReceiverTakesIn self.old self.new }
         ensures talk { self.new.talk.hello ≡ self.old.talk.hello }
-        ensures held { s.HoldsNoMore self.old self.new }
+        ensures held { s.ReceiverHoldsNoMore self.old self.new }
     {
         self.long = true;
         let count = skip_line(self.unread.as_slice());
@@ -427,20 +427,20 @@ impl Receiver {
 
 // Whether the line that comes first has more octets than one may have.
 fn is_too_long(octets: &[u8]) -> bool
-    ensures { IsTrue result ↔ Finds Found.TooLong octets.now }
+    ensures { IsTrue result ↔ LineFinds Found.TooLong octets.now }
 {
-    match first_line(octets) {
+    match find_line(octets) {
         Found::TooLong => true,
         _ => false,
     }
 }
 
 // The size that a MAIL announces.
-fn size_of(order: Order<'_>) -> Option<u64>
+fn size_of(order: LmtpCommand<'_>) -> Option<u64>
     ensures { result ≡ spec_size order.entry }
 {
     match order {
-        Order::Mail(mail) => mail.size,
+        LmtpCommand::Mail(mail) => mail.size,
         _ => None,
     }
 }

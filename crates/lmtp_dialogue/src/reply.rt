@@ -1,6 +1,6 @@
 //! What is answered.
 ghost use Rattle.std.specs.Prelude.{◌≡◌, IfOk, map, take};
-ghost use Rattle.lmtp.specs.Replies as s;
+ghost use Rattle.lmtp_dialogue.specs.Replies as s;
 
 use octets::{Octets, is_printable};
 use std::alloc::{AllocError, Global};
@@ -17,7 +17,7 @@ const ANNOUNCED: &[u8] =
 
 /// An answer of one line (RFC 5321, section 4.2).
 #[derive(Clone, Copy, Debug, PartialEq, Eq)]
-pub enum Reply {
+pub enum LmtpReply {
     /// To RSET and NOOP.
     Done,
     /// To MAIL.
@@ -72,66 +72,66 @@ pub enum Reply {
     Idle,
 }
 
-impl Reply {
+impl LmtpReply {
     /// Its octets, with CRLF.
     pub fn line(self) -> &'static [u8]
-        ensures { result.now ≡ s.line_of self }
+        ensures { result.now ≡ s.lmtp_line_of self }
     {
         match self {
-            Reply::Done => b"250 2.0.0 Ok\r\n",
-            Reply::SenderTaken => b"250 2.1.0 Ok\r\n",
-            Reply::RecipientTaken => b"250 2.1.5 Ok\r\n",
-            Reply::Unverified => b"252 2.5.0 Not verified\r\n",
-            Reply::GoAhead => b"354 End with a dot on a line of its own\r\n",
-            Reply::Helped => b"214 2.0.0 See RFC 2033\r\n",
-            Reply::Goodbye => b"221 2.0.0 Bye\r\n",
-            Reply::UnknownCommand => b"500 5.5.1 No such command\r\n",
-            Reply::NotSmtp => b"500 5.5.1 This is LMTP, say LHLO\r\n",
-            Reply::LineTooLong => b"500 5.5.2 Line too long\r\n",
-            Reply::BadArgument => b"501 5.5.4 Bad argument\r\n",
-            Reply::BadSender => b"501 5.1.7 Bad sender address\r\n",
-            Reply::BadRecipient => b"501 5.1.3 Bad recipient address\r\n",
-            Reply::OutOfOrder => b"503 5.5.1 Command out of order\r\n",
-            Reply::NoRecipient => b"503 5.5.1 No recipient\r\n",
-            Reply::BadParameter => b"555 5.5.4 Parameter not known\r\n",
-            Reply::NoSuchUser => b"550 5.1.1 No such user\r\n",
-            Reply::AccountClosed => b"451 4.2.1 Account is closed, try later\r\n",
-            Reply::MessageTooLarge => b"552 5.3.4 Message too large\r\n",
-            Reply::HeaderTooLarge => b"552 5.3.4 Header too large\r\n",
-            Reply::MailLoop => b"554 5.4.6 Mail loop\r\n",
-            Reply::NoRoom => b"452 4.3.1 Out of memory, try later\r\n",
-            Reply::TooManyRecipients => b"452 4.5.3 Too many recipients\r\n",
-            Reply::StoreAway => b"451 4.3.2 Store is busy, try later\r\n",
-            Reply::LocalFault => b"451 4.3.0 Local fault, try later\r\n",
-            Reply::Idle => b"421 4.4.2 Idle\r\n",
+            LmtpReply::Done => b"250 2.0.0 Ok\r\n",
+            LmtpReply::SenderTaken => b"250 2.1.0 Ok\r\n",
+            LmtpReply::RecipientTaken => b"250 2.1.5 Ok\r\n",
+            LmtpReply::Unverified => b"252 2.5.0 Not verified\r\n",
+            LmtpReply::GoAhead => b"354 End with a dot on a line of its own\r\n",
+            LmtpReply::Helped => b"214 2.0.0 See RFC 2033\r\n",
+            LmtpReply::Goodbye => b"221 2.0.0 Bye\r\n",
+            LmtpReply::UnknownCommand => b"500 5.5.1 No such command\r\n",
+            LmtpReply::NotSmtp => b"500 5.5.1 This is LMTP, say LHLO\r\n",
+            LmtpReply::LineTooLong => b"500 5.5.2 Line too long\r\n",
+            LmtpReply::BadArgument => b"501 5.5.4 Bad argument\r\n",
+            LmtpReply::BadSender => b"501 5.1.7 Bad sender address\r\n",
+            LmtpReply::BadRecipient => b"501 5.1.3 Bad recipient address\r\n",
+            LmtpReply::OutOfOrder => b"503 5.5.1 Command out of order\r\n",
+            LmtpReply::NoRecipient => b"503 5.5.1 No recipient\r\n",
+            LmtpReply::BadParameter => b"555 5.5.4 Parameter not known\r\n",
+            LmtpReply::NoSuchUser => b"550 5.1.1 No such user\r\n",
+            LmtpReply::AccountClosed => b"451 4.2.1 Account is closed, try later\r\n",
+            LmtpReply::MessageTooLarge => b"552 5.3.4 Message too large\r\n",
+            LmtpReply::HeaderTooLarge => b"552 5.3.4 Header too large\r\n",
+            LmtpReply::MailLoop => b"554 5.4.6 Mail loop\r\n",
+            LmtpReply::NoRoom => b"452 4.3.1 Out of memory, try later\r\n",
+            LmtpReply::TooManyRecipients => b"452 4.5.3 Too many recipients\r\n",
+            LmtpReply::StoreAway => b"451 4.3.2 Store is busy, try later\r\n",
+            LmtpReply::LocalFault => b"451 4.3.0 Local fault, try later\r\n",
+            LmtpReply::Idle => b"421 4.4.2 Idle\r\n",
         }
     }
 }
 
 /// What became of a message for one recipient.
 #[derive(Clone, Copy)]
-pub enum Outcome<'a> {
+pub enum DeliveryOutcome<'a> {
     /// It was delivered: what is reported of that. It is shown in one line of at most 512 octets, with `?` for each octet that isn't
     /// printable ASCII.
     Delivered(&'a [u8]),
     /// It wasn't.
-    Refused(Reply),
+    Refused(LmtpReply),
 }
 
-impl Outcome<'_> {
+impl DeliveryOutcome<'_> {
     /// The line that tells it, with CRLF. Lack of memory is the only error.
     pub fn line(self, alloc: Global) -> Result<Octets, AllocError>
-        ensures { IfOk result (λ line. line ≡ s.said_of self.entry) }
+        ensures { IfOk result (λ line. line ≡ s.outcome_line self.entry) }
     {
         match self {
-            Outcome::Delivered(report) => delivered(alloc, report),
-            Outcome::Refused(reply) => Octets::from_slice(alloc, reply.line()),
+            DeliveryOutcome::Delivered(report) => delivered(alloc, report),
+            DeliveryOutcome::Refused(reply) => Octets::from_slice(alloc, reply.line()),
         }
     }
 }
 
 fn delivered(alloc: Global, report: &[u8]) -> Result<Octets, AllocError>
-    ensures { IfOk result (λ line. line ≡ s.delivered report.now) }
+    ensures { IfOk result (λ line. line ≡ s.delivered_reply report.now) }
 {
     let shown = shown(alloc, MAX_REPORT, report)?;
     let mut line = Octets::from_slice(alloc, b"250 2.1.5 ")?;
@@ -142,7 +142,7 @@ fn delivered(alloc: Global, report: &[u8]) -> Result<Octets, AllocError>
 
 /// What a client is greeted with.
 pub fn greeting(alloc: Global, host: &[u8]) -> Result<Octets, AllocError>
-    ensures { IfOk result (λ line. line ≡ s.greeting host.now) }
+    ensures { IfOk result (λ line. line ≡ s.lmtp_greeting host.now) }
 {
     let shown = shown(alloc, MAX_HOST, host)?;
     let mut line = Octets::from_slice(alloc, b"220 ")?;
@@ -153,7 +153,7 @@ pub fn greeting(alloc: Global, host: &[u8]) -> Result<Octets, AllocError>
 
 /// What is said to LHLO.
 pub fn capabilities(alloc: Global, host: &[u8]) -> Result<Octets, AllocError>
-    ensures { IfOk result (λ lines. lines ≡ s.capabilities host.now) }
+    ensures { IfOk result (λ lines. lines ≡ s.lmtp_capabilities host.now) }
 {
     let shown = shown(alloc, MAX_HOST, host)?;
     let mut lines = Octets::from_slice(alloc, b"250-")?;
@@ -164,7 +164,7 @@ pub fn capabilities(alloc: Global, host: &[u8]) -> Result<Octets, AllocError>
 
 // At most this many octets of a text, with `?` for each that isn't printable.
 fn shown(alloc: Global, most: usize, text: &[u8]) -> Result<Octets, AllocError>
-    ensures { IfOk result (λ shown. shown ≡ s.shown most text.now) }
+    ensures { IfOk result (λ shown. shown ≡ s.lmtp_shown most text.now) }
 {
     printable(alloc, front(text, most))
 }
@@ -180,14 +180,14 @@ fn front(text: &[u8], most: usize) -> &[u8]
 }
 
 fn printable(alloc: Global, text: &[u8]) -> Result<Octets, AllocError>
-    ensures { IfOk result (λ shown. shown ≡ map s.shown_octet text.now) }
+    ensures { IfOk result (λ shown. shown ≡ map s.lmtp_shown_octet text.now) }
 {
     let octets = text.iter().map(|octet| shown_octet(*octet)).collect(alloc)?;
     Ok(Octets::from_vec(octets))
 }
 
 fn shown_octet(octet: u8) -> u8
-    ensures { result ≡ s.shown_octet octet }
+    ensures { result ≡ s.lmtp_shown_octet octet }
 {
     if is_printable(octet) { octet } else { b'?' }
 }

@@ -1,13 +1,13 @@
 //! What goes on in a dialogue, apart from what its client has sent: what a command does.
 ghost use Rattle.std.specs.Prelude.{◌≡◌, ◌<◌, length};
-ghost use Rattle.lmtp.specs.declared.receiver.Stage.TheVariants.{Asking as asking, Sending as sending};
-ghost use Rattle.lmtp.specs.Turns.{is_too_large as too_large};
+ghost use Rattle.lmtp_dialogue.specs.declared.receiver.LmtpStage.TheVariants.{Asking as asking, Sending as sending};
+ghost use Rattle.lmtp_dialogue.specs.Turns.{is_too_large as too_large};
 
-use crate::argument::Mail;
-use crate::order::{Order, read_order};
-use crate::receiver::{Delivery, Lookup, Stage};
+use crate::argument::MailArgument;
+use crate::command::{LmtpCommand, read_lmtp_command};
+use crate::receiver::{Delivery, Lookup, LmtpStage};
 use crate::recipients::Recipients;
-use crate::reply::{Outcome, Reply};
+use crate::reply::{DeliveryOutcome, LmtpReply};
 use crate::text::Text;
 use octets::Octets;
 use std::alloc::{AllocError, Global};
@@ -24,7 +24,7 @@ pub struct Talk {
     pub(crate) alloc: Global,
     /// What is said to LHLO.
     pub(crate) hello: Octets,
-    pub(crate) stage: Stage,
+    pub(crate) stage: LmtpStage,
     /// The sender of the transaction that is open, or of the message that is sent.
     pub(crate) sender: Octets,
     /// Its recipients that were taken, and after them the one that is asked for.
@@ -40,35 +40,35 @@ pub struct Talk {
 
 impl Talk {
     ghost use Rattle.std.specs.Prelude.{◌≡◌, ◌<◌, ◌-◌, [], length, slice_index_or, OnOk, OnErr};
-    ghost use Rattle.lmtp.specs.Replies.{said_of};
-    ghost use Rattle.lmtp.specs.Talks as s;
-    ghost use Rattle.lmtp.specs.Texts.{IsTextOf};
-    ghost use Rattle.lmtp.specs.Turns.{says, turn_of, hello_turn, opened_turn, mail_turn, asked_for, rcpt_turn, data_turn, reset_turn, quit_turn, phase_reset};
+    ghost use Rattle.lmtp_dialogue.specs.Replies.{outcome_line};
+    ghost use Rattle.lmtp_dialogue.specs.Talks as s;
+    ghost use Rattle.lmtp_dialogue.specs.Texts.{IsFinishedText};
+    ghost use Rattle.lmtp_dialogue.specs.Turns.{says, command_turn, hello_turn, opened_turn, mail_turn, asked_for, rcpt_turn, data_turn, reset_turn, quit_turn, phase_reset};
 
     /// Obeys a command, and answers it if nothing has to be asked first.
     ///
     /// Lack of memory is the only error; nothing changes then.
-    pub fn obey(&mut self, order: Order<'_>, out: &mut Octets) -> Result<(), AllocError>
-        ensures ok { OnOk result (s.Obeys (turn_of self.old.hello (s.phase_of self.old) order.entry) self.old self.new out.old out.new) }
+    pub fn obey(&mut self, order: LmtpCommand<'_>, out: &mut Octets) -> Result<(), AllocError>
+        ensures ok { OnOk result (s.TalkObeys (command_turn self.old.hello (s.phase_of self.old) order.entry) self.old self.new out.old out.new) }
         ensures err { OnErr result (s.IsSame self.old self.new out.old out.new) }
     {
         match order {
-            Order::Lhlo(_) => self.hail(out),
-            Order::Mail(mail) => self.open(mail, out),
-            Order::Rcpt(address) => self.ask(address, out),
-            Order::Data => self.begin_text(out),
-            Order::Rset => self.reset(out),
-            Order::Noop => self.say(Reply::Done, out),
-            Order::Vrfy => self.say(Reply::Unverified, out),
-            Order::Help => self.say(Reply::Helped, out),
-            Order::Quit => self.quit(out),
-            Order::Refused(reply) => self.say(reply, out),
+            LmtpCommand::Lhlo(_) => self.hail(out),
+            LmtpCommand::Mail(mail) => self.open(mail, out),
+            LmtpCommand::Rcpt(address) => self.ask(address, out),
+            LmtpCommand::Data => self.begin_text(out),
+            LmtpCommand::Rset => self.reset(out),
+            LmtpCommand::Noop => self.say(LmtpReply::Done, out),
+            LmtpCommand::Vrfy => self.say(LmtpReply::Unverified, out),
+            LmtpCommand::Help => self.say(LmtpReply::Helped, out),
+            LmtpCommand::Quit => self.quit(out),
+            LmtpCommand::Refused(reply) => self.say(reply, out),
         }
     }
 
     // Says a line; nothing else happens.
-    pub fn say(&mut self, reply: Reply, out: &mut Octets) -> Result<(), AllocError>
-        ensures ok { OnOk result (s.Obeys (says reply (s.phase_of self.old)) self.old self.new out.old out.new) }
+    pub fn say(&mut self, reply: LmtpReply, out: &mut Octets) -> Result<(), AllocError>
+        ensures ok { OnOk result (s.TalkObeys (says reply (s.phase_of self.old)) self.old self.new out.old out.new) }
         ensures err { OnErr result (s.IsSame self.old self.new out.old out.new) }
     {
         out.extend_from_slice(reply.line())
@@ -81,111 +81,111 @@ impl Talk {
     {
         self.recipients.truncate(0);
         match self.stage {
-            Stage::Greeted => {}
-            _ => self.stage = Stage::Ready,
+            LmtpStage::Greeted => {}
+            _ => self.stage = LmtpStage::Ready,
         }
     }
 
     fn hail(&mut self, out: &mut Octets) -> Result<(), AllocError>
-        ensures ok { OnOk result (s.Obeys (hello_turn self.old.hello) self.old self.new out.old out.new) }
+        ensures ok { OnOk result (s.TalkObeys (hello_turn self.old.hello) self.old self.new out.old out.new) }
         ensures err { OnErr result (s.IsSame self.old self.new out.old out.new) }
     {
         out.extend_from_slice(self.hello.as_slice())?;
         self.recipients.truncate(0);
-        self.stage = Stage::Ready;
+        self.stage = LmtpStage::Ready;
         Ok(())
     }
 
     fn reset(&mut self, out: &mut Octets) -> Result<(), AllocError>
-        ensures ok { OnOk result (s.Obeys (reset_turn (s.phase_of self.old)) self.old self.new out.old out.new) }
+        ensures ok { OnOk result (s.TalkObeys (reset_turn (s.phase_of self.old)) self.old self.new out.old out.new) }
         ensures err { OnErr result (s.IsSame self.old self.new out.old out.new) }
     {
-        out.extend_from_slice(Reply::Done.line())?;
+        out.extend_from_slice(LmtpReply::Done.line())?;
         self.drop_mail();
         Ok(())
     }
 
     fn quit(&mut self, out: &mut Octets) -> Result<(), AllocError>
-        ensures ok { OnOk result (s.Obeys quit_turn self.old self.new out.old out.new) }
+        ensures ok { OnOk result (s.TalkObeys quit_turn self.old self.new out.old out.new) }
         ensures err { OnErr result (s.IsSame self.old self.new out.old out.new) }
     {
-        out.extend_from_slice(Reply::Goodbye.line())?;
-        self.stage = Stage::Over;
+        out.extend_from_slice(LmtpReply::Goodbye.line())?;
+        self.stage = LmtpStage::Over;
         Ok(())
     }
 
-    fn open(&mut self, mail: Mail<'_>, out: &mut Octets) -> Result<(), AllocError>
-        ensures ok { OnOk result (s.Obeys (mail_turn (s.phase_of self.old) mail.entry.from.now mail.entry.size) self.old self.new out.old out.new) }
+    fn open(&mut self, mail: MailArgument<'_>, out: &mut Octets) -> Result<(), AllocError>
+        ensures ok { OnOk result (s.TalkObeys (mail_turn (s.phase_of self.old) mail.entry.from.now mail.entry.size) self.old self.new out.old out.new) }
         ensures err { OnErr result (s.IsSame self.old self.new out.old out.new) }
     {
         match self.stage {
-            Stage::Ready if is_too_large(mail.size) => self.say(Reply::MessageTooLarge, out),
-            Stage::Ready => self.begin(mail.from, out),
-            _ => self.say(Reply::OutOfOrder, out),
+            LmtpStage::Ready if is_too_large(mail.size) => self.say(LmtpReply::MessageTooLarge, out),
+            LmtpStage::Ready => self.begin(mail.from, out),
+            _ => self.say(LmtpReply::OutOfOrder, out),
         }
     }
 
     // Begins a transaction.
     fn begin(&mut self, sender: &[u8], out: &mut Octets) -> Result<(), AllocError>
-        ensures ok { OnOk result (s.Obeys (opened_turn sender.now) self.old self.new out.old out.new) }
+        ensures ok { OnOk result (s.TalkObeys (opened_turn sender.now) self.old self.new out.old out.new) }
         ensures err { OnErr result (s.IsSame self.old self.new out.old out.new) }
     {
         let sender = Octets::from_slice(self.alloc, sender)?;
-        out.extend_from_slice(Reply::SenderTaken.line())?;
+        out.extend_from_slice(LmtpReply::SenderTaken.line())?;
         self.sender = sender;
         self.recipients.truncate(0);
-        self.stage = Stage::Opened;
+        self.stage = LmtpStage::Opened;
         Ok(())
     }
 
     fn ask(&mut self, address: &[u8], out: &mut Octets) -> Result<(), AllocError>
-        ensures ok { OnOk result (s.Obeys (rcpt_turn (s.phase_of self.old) address.now) self.old self.new out.old out.new) }
+        ensures ok { OnOk result (s.TalkObeys (rcpt_turn (s.phase_of self.old) address.now) self.old self.new out.old out.new) }
         ensures err { OnErr result (s.IsSame self.old self.new out.old out.new) }
     {
         match self.stage {
-            Stage::Opened if self.recipients.len() >= MAX_RECIPIENTS => self.say(
-                Reply::TooManyRecipients,
+            LmtpStage::Opened if self.recipients.len() >= MAX_RECIPIENTS => self.say(
+                LmtpReply::TooManyRecipients,
                 out,
             ),
-            Stage::Opened => self.wait_for(address),
-            _ => self.say(Reply::OutOfOrder, out),
+            LmtpStage::Opened => self.wait_for(address),
+            _ => self.say(LmtpReply::OutOfOrder, out),
         }
     }
 
     // Asks whether there is an account for one more recipient.
     fn wait_for(&mut self, address: &[u8]) -> Result<(), AllocError>
-        requires opened { self.old.stage ≡ Stage.Opened }
+        requires opened { self.old.stage ≡ LmtpStage.Opened }
         ensures ok { OnOk result (s.phase_of self.new ≡ asked_for (s.phase_of self.old) address.now) }
         ensures same { OnOk result ((self.new.hello ≡ self.old.hello) × (self.new.text ≡ self.old.text)) }
         ensures err { OnErr result (self.new ≡ self.old) }
     {
         let address = Octets::from_slice(self.alloc, address)?;
         self.recipients.push(address)?;
-        self.stage = Stage::Asking;
+        self.stage = LmtpStage::Asking;
         Ok(())
     }
 
     fn begin_text(&mut self, out: &mut Octets) -> Result<(), AllocError>
-        ensures ok { OnOk result (s.Obeys (data_turn (s.phase_of self.old)) self.old self.new out.old out.new) }
+        ensures ok { OnOk result (s.TalkObeys (data_turn (s.phase_of self.old)) self.old self.new out.old out.new) }
         ensures err { OnErr result (s.IsSame self.old self.new out.old out.new) }
     {
         match self.stage {
-            Stage::Opened if self.recipients.len() == 0 => self.say(Reply::NoRecipient, out),
-            Stage::Opened => self.go_ahead(out),
-            _ => self.say(Reply::OutOfOrder, out),
+            LmtpStage::Opened if self.recipients.len() == 0 => self.say(LmtpReply::NoRecipient, out),
+            LmtpStage::Opened => self.go_ahead(out),
+            _ => self.say(LmtpReply::OutOfOrder, out),
         }
     }
 
     // A text is sent from here on.
     fn go_ahead(&mut self, out: &mut Octets) -> Result<(), AllocError>
-        requires opened { self.old.stage ≡ Stage.Opened }
+        requires opened { self.old.stage ≡ LmtpStage.Opened }
         requires some { 0 < length self.old.recipients }
-        ensures ok { OnOk result (s.Obeys (data_turn (s.phase_of self.old)) self.old self.new out.old out.new) }
+        ensures ok { OnOk result (s.TalkObeys (data_turn (s.phase_of self.old)) self.old self.new out.old out.new) }
         ensures err { OnErr result (s.IsSame self.old self.new out.old out.new) }
     {
-        out.extend_from_slice(Reply::GoAhead.line())?;
+        out.extend_from_slice(LmtpReply::GoAhead.line())?;
         self.told = 0;
-        self.stage = Stage::Sending;
+        self.stage = LmtpStage::Sending;
         Ok(())
     }
 
@@ -195,9 +195,9 @@ impl Talk {
         ensures err { OnErr result (s.IsSame self.old self.new out.old out.new) }
     {
         if long {
-            self.say(Reply::LineTooLong, out)
+            self.say(LmtpReply::LineTooLong, out)
         } else {
-            self.obey(read_order(line), out)
+            self.obey(read_lmtp_command(line), out)
         }
     }
 
@@ -205,9 +205,9 @@ impl Talk {
     ///
     /// Lack of memory is the only error; nothing changes then.
     pub fn resolve(&mut self, lookup: Lookup, out: &mut Octets) -> Result<(), AllocError>
-        requires asked { self.old.stage ≡ Stage.Asking }
+        requires asked { self.old.stage ≡ LmtpStage.Asking }
         requires some { 0 < length self.old.recipients }
-        ensures ok { OnOk result (s.Obeys (s.resolved_turn (s.phase_of self.old) lookup) self.old self.new out.old out.new) }
+        ensures ok { OnOk result (s.TalkObeys (s.resolved_turn (s.phase_of self.old) lookup) self.old self.new out.old out.new) }
         ensures err { OnErr result (s.IsSame self.old self.new out.old out.new) }
     {
         out.extend_from_slice(lookup.reply().line())?;
@@ -217,24 +217,24 @@ impl Talk {
 
     /// The same, but the caller says the line.
     pub fn admit(&mut self, lookup: Lookup)
-        requires asked { self.old.stage ≡ Stage.Asking }
+        requires asked { self.old.stage ≡ LmtpStage.Asking }
         requires some { 0 < length self.old.recipients }
-        ensures { s.Does (s.resolved_turn (s.phase_of self.old) lookup) self.old self.new }
+        ensures { s.TalkDoes (s.resolved_turn (s.phase_of self.old) lookup) self.old self.new }
     {
         match lookup {
             Lookup::Known => {}
             _ => self.recipients.truncate(self.recipients.len() - 1),
         }
-        self.stage = Stage::Opened;
+        self.stage = LmtpStage::Opened;
     }
 
     /// Makes a reply after the text, for the next recipient to whom one is owed.
     ///
     /// Lack of memory is the only error; nothing changes then.
-    pub fn report(&mut self, outcome: Outcome<'_>, out: &mut Octets) -> Result<(), AllocError>
-        requires sends { self.old.stage ≡ Stage.Sending }
+    pub fn report(&mut self, outcome: DeliveryOutcome<'_>, out: &mut Octets) -> Result<(), AllocError>
+        requires sends { self.old.stage ≡ LmtpStage.Sending }
         requires owed { self.old.told < length self.old.recipients }
-        ensures ok { OnOk result (s.Reports self.old self.new (said_of outcome.entry) out.old out.new) }
+        ensures ok { OnOk result (s.TalkReports self.old self.new (outcome_line outcome.entry) out.old out.new) }
         ensures err { OnErr result (s.IsSame self.old self.new out.old out.new) }
     {
         let line = outcome.line(self.alloc)?;
@@ -245,9 +245,9 @@ impl Talk {
 
     /// A reply was made after the text, for the next recipient to whom one is owed.
     pub fn pass(&mut self)
-        requires sends { self.old.stage ≡ Stage.Sending }
+        requires sends { self.old.stage ≡ LmtpStage.Sending }
         requires owed { self.old.told < length self.old.recipients }
-        ensures { s.Passes self.old self.new }
+        ensures { s.PassesReply self.old self.new }
     {
         let count = self.recipients.len();
         let told = self.told + 1;
@@ -264,7 +264,7 @@ impl Talk {
     {
         self.text = Text::new(self.alloc, MAX_TEXT);
         self.recipients.truncate(0);
-        self.stage = Stage::Ready;
+        self.stage = LmtpStage::Ready;
     }
 
     /// The recipient that is asked for.
@@ -280,7 +280,7 @@ impl Talk {
         requires { self.now.told < length self.now.recipients }
         ensures sender { result.sender.now ≡ self.now.sender }
         ensures recipient { result.recipient.now ≡ slice_index_or self.now.recipients self.now.told [] }
-        ensures text { IsTextOf self.now.text result.text }
+        ensures text { IsFinishedText self.now.text result.text }
     {
         Delivery {
             sender: self.sender.as_slice(),

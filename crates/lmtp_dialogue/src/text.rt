@@ -1,7 +1,7 @@
 //! The text of a message.
 ghost use Rattle.std.specs.Prelude.{if◌then◌else◌, ◌≡◌, ◌≢◌, ◌↔◌, ℕ, ◌==◌, true, ◌+◌, ◌^◌, ◌<◌, ◌≤◌, ◌++◌, ◌∷◌, [], List, Some, length, take, slice_index, IsSome, IsTrue};
-ghost use Rattle.lmtp.specs.declared.text.Place.TheVariants.{Ended as ended};
-ghost use Rattle.lmtp.specs.Texts as s;
+ghost use Rattle.lmtp_dialogue.specs.declared.text.TextState.TheVariants.{Ended as ended};
+ghost use Rattle.lmtp_dialogue.specs.Texts as s;
 
 use memchr::memchr;
 use octets::Octets;
@@ -9,7 +9,7 @@ use std::alloc::Global;
 
 /// Where the next octet of a text is.
 #[derive(Clone, Copy, Debug, PartialEq, Eq)]
-pub enum Place {
+pub enum TextState {
     /// At the start of a line.
     Start,
     /// After a dot at the start of a line.
@@ -26,7 +26,7 @@ pub enum Place {
 
 /// Why a text isn't kept.
 #[derive(Clone, Copy, Debug, PartialEq, Eq)]
-pub enum Trouble {
+pub enum TextFault {
     /// It has more octets than the limit.
     TooLarge,
     /// There was no memory for it.
@@ -38,8 +38,8 @@ pub enum Trouble {
 #[derive(Drop)]
 pub struct Text {
     pub(crate) kept: Octets,
-    pub(crate) place: Place,
-    pub(crate) trouble: Option<Trouble>,
+    pub(crate) place: TextState,
+    pub(crate) trouble: Option<TextFault>,
     pub(crate) limit: usize,
     alloc: Global,
 }
@@ -47,13 +47,13 @@ pub struct Text {
 impl Text {
     /// A text of at most this many octets, before the first one. Takes no memory.
     pub fn new(alloc: Global, limit: usize) -> Text
-        ensures stands { s.StandsFor result [] }
+        ensures stands { s.TextStandsFor result [] }
         ensures empty { s.held_text result ≡ 0 }
         ensures limit { result.limit ≡ limit }
     {
         Text {
             kept: Octets::new(alloc),
-            place: Place::Start,
+            place: TextState::Start,
             trouble: None,
             limit,
             alloc,
@@ -65,7 +65,7 @@ impl Text {
         ensures { IsTrue result ↔ (self.now.place ≡ ended) }
     {
         match self.place {
-            Place::Ended => true,
+            TextState::Ended => true,
             _ => false,
         }
     }
@@ -84,7 +84,7 @@ impl Text {
         ensures small { result ≤ 1 }
     {
         match self.place {
-            Place::DotReturn => 1,
+            TextState::DotReturn => 1,
             _ => 0,
         }
     }
@@ -112,8 +112,8 @@ impl Text {
     }
 
     /// What is kept of it so far, or why it isn't. Takes no memory.
-    pub fn kept(&self) -> Result<&[u8], Trouble>
-        ensures { s.IsTextOf self.now result }
+    pub fn kept(&self) -> Result<&[u8], TextFault>
+        ensures { s.IsFinishedText self.now result }
     {
         match self.trouble {
             None => Ok(self.kept.as_slice()),
@@ -126,9 +126,9 @@ impl Text {
     /// # Errors
     ///
     /// Why it isn't kept.
-    pub fn finish(self) -> Result<Octets, Trouble>
+    pub fn finish(self) -> Result<Octets, TextFault>
         requires { self.place ≡ ended }
-        ensures { (sent : List ℕ) → s.StandsFor self sent → s.Finishes self.limit sent result }
+        ensures { (sent : List ℕ) → s.TextStandsFor self sent → s.TextFinishes self.limit sent result }
     {
         match self.trouble {
             None => Ok(self.kept),
@@ -164,7 +164,7 @@ impl Text {
         ensures place { self.new.place ≡ self.old.place }
         ensures limit { self.new.limit ≡ self.old.limit }
     {
-        let Place::Inside = self.place else {
+        let TextState::Inside = self.place else {
             return 0;
         };
         let count = run_length(octets);
@@ -185,25 +185,25 @@ impl Text {
 
     // Appends to the text what it has more after this octet.
     fn gain(&mut self, octet: u8)
-        ensures keeps { (text : List ℕ) → s.Keeps self.old text self.old.trouble → s.Keeps self.new (text ++ s.gained self.old.place octet) self.new.trouble }
+        ensures keeps { (text : List ℕ) → s.TextKeeps self.old text self.old.trouble → s.TextKeeps self.new (text ++ s.gained self.old.place octet) self.new.trouble }
         ensures held { length self.new.kept + s.put_by (s.after self.old.place octet) ≤ s.held_text self.old + 1 }
         ensures place { self.new.place ≡ self.old.place }
         ensures limit { self.new.limit ≡ self.old.limit }
     {
         match self.place {
-            Place::Start => self.append_unless(octet, b'.'),
-            Place::Dot => self.append_unless(octet, b'\r'),
-            Place::DotReturn if octet == b'\n' => {}
-            Place::DotReturn => self.append(&[b'\r', octet]),
-            Place::Inside => self.append(&[octet]),
-            Place::Return => self.append(&[octet]),
-            Place::Ended => {}
+            TextState::Start => self.append_unless(octet, b'.'),
+            TextState::Dot => self.append_unless(octet, b'\r'),
+            TextState::DotReturn if octet == b'\n' => {}
+            TextState::DotReturn => self.append(&[b'\r', octet]),
+            TextState::Inside => self.append(&[octet]),
+            TextState::Return => self.append(&[octet]),
+            TextState::Ended => {}
         }
     }
 
     // Appends an octet to the text, unless it is that one.
     fn append_unless(&mut self, octet: u8, but: u8)
-        ensures keeps { (text : List ℕ) → s.Keeps self.old text self.old.trouble → s.Keeps self.new (text ++ (if octet == but then [] else octet ∷ [])) self.new.trouble }
+        ensures keeps { (text : List ℕ) → s.TextKeeps self.old text self.old.trouble → s.TextKeeps self.new (text ++ (if octet == but then [] else octet ∷ [])) self.new.trouble }
         ensures held { length self.new.kept ≤ length self.old.kept + (if octet == but then 0 else 1) }
         ensures place { self.new.place ≡ self.old.place }
         ensures limit { self.new.limit ≡ self.old.limit }
@@ -215,7 +215,7 @@ impl Text {
 
     // Appends octets to the text, or drops it.
     fn append(&mut self, octets: &[u8])
-        ensures keeps { (text : List ℕ) → s.Keeps self.old text self.old.trouble → s.Keeps self.new (text ++ octets.now) self.new.trouble }
+        ensures keeps { (text : List ℕ) → s.TextKeeps self.old text self.old.trouble → s.TextKeeps self.new (text ++ octets.now) self.new.trouble }
         ensures held { length self.new.kept ≤ length self.old.kept + length octets.now }
         ensures place { self.new.place ≡ self.old.place }
         ensures limit { self.new.limit ≡ self.old.limit }
@@ -224,27 +224,27 @@ impl Text {
             return;
         }
         if octets.len() > self.limit.saturating_sub(self.kept.len()) {
-            self.drop_text(Trouble::TooLarge);
+            self.drop_text(TextFault::TooLarge);
         } else if self.kept.extend_from_slice(octets).is_err() {
-            self.drop_text(Trouble::Memory);
+            self.drop_text(TextFault::Memory);
         }
     }
 
     // Drops the text: there is no memory for it, if there was no other trouble before.
     pub(crate) fn give_up(&mut self)
-        ensures keeps { (text : List ℕ) → s.Keeps self.old text self.old.trouble → s.Keeps self.new text self.new.trouble }
+        ensures keeps { (text : List ℕ) → s.TextKeeps self.old text self.old.trouble → s.TextKeeps self.new text self.new.trouble }
         ensures dropped { (self.new.kept ≡ []) × IsSome self.new.trouble }
         ensures place { self.new.place ≡ self.old.place }
         ensures limit { self.new.limit ≡ self.old.limit }
     {
         match self.trouble {
-            None => self.drop_text(Trouble::Memory),
+            None => self.drop_text(TextFault::Memory),
             Some(trouble) => self.drop_text(trouble),
         }
     }
 
     // Drops the text.
-    fn drop_text(&mut self, trouble: Trouble)
+    fn drop_text(&mut self, trouble: TextFault)
         ensures kept { self.new.kept ≡ [] }
         ensures trouble { self.new.trouble ≡ Some trouble }
         ensures place { self.new.place ≡ self.old.place }
@@ -266,18 +266,18 @@ fn run_length(octets: &[u8]) -> usize
     }
 }
 
-impl Place {
+impl TextState {
     // Where the next octet is, after this one.
-    fn after(self, octet: u8) -> Place
+    fn after(self, octet: u8) -> TextState
         ensures { result ≡ s.after self octet }
     {
         match (self, octet) {
-            (Place::Ended, _) | (Place::DotReturn, b'\n') => Place::Ended,
-            (Place::Return, b'\n') => Place::Start,
-            (Place::Start, b'.') => Place::Dot,
-            (Place::Dot, b'\r') => Place::DotReturn,
-            (_, b'\r') => Place::Return,
-            _ => Place::Inside,
+            (TextState::Ended, _) | (TextState::DotReturn, b'\n') => TextState::Ended,
+            (TextState::Return, b'\n') => TextState::Start,
+            (TextState::Start, b'.') => TextState::Dot,
+            (TextState::Dot, b'\r') => TextState::DotReturn,
+            (_, b'\r') => TextState::Return,
+            _ => TextState::Inside,
         }
     }
 }

@@ -1,14 +1,14 @@
 //! The commands' words.
 ghost use Rattle.std.specs.Prelude.{◌≡◌, ◌≤◌, ℕ, List, IfSome, IfNone, length};
 ghost use Rattle.std.specs.List.{prefix_len};
-ghost use Rattle.lmtp.specs.declared.verb.Verb.{Verb as VerbValue};
-ghost use Rattle.lmtp.specs.Commands as s;
+ghost use Rattle.lmtp_dialogue.specs.declared.verb.LmtpVerb.{LmtpVerb as VerbValue};
+ghost use Rattle.lmtp_dialogue.specs.Commands as s;
 
 use octets::trim_blanks;
 
 /// The word of a command (RFC 5321, section 4.1.1; RFC 2033, section 4.1). `HELO` and `EHLO` are SMTP's; LMTP doesn't have them.
 #[derive(Clone, Copy, Debug, PartialEq, Eq)]
-pub enum Verb {
+pub enum LmtpVerb {
     Lhlo,
     Mail,
     Rcpt,
@@ -24,20 +24,20 @@ pub enum Verb {
 
 /// A command's word, and what follows it.
 #[derive(Clone, Copy)]
-pub struct CommandLine<'a> {
-    pub verb: Verb,
+pub struct LmtpCommandLine<'a> {
+    pub verb: LmtpVerb,
     /// What follows the word, without blanks at its ends.
     pub argument: &'a [u8],
 }
 
 /// The command that a line is, without its CRLF; none if its first word is none. One pass; takes no memory.
-pub fn read_line(line: &[u8]) -> Option<CommandLine<'_>>
+pub fn read_line(line: &[u8]) -> Option<LmtpCommandLine<'_>>
     ensures found { IfSome result (λ command. s.IsCommandLine line.now command.verb command.argument.now) }
     ensures none { IfNone result ((verb : VerbValue) (argument : List ℕ) → s.IsCommandLine line.now verb argument → ⊥) }
 {
     let count = word_length(line);
     match verb_of(&line[..count]) {
-        Some(verb) => Some(CommandLine {
+        Some(verb) => Some(LmtpCommandLine {
             verb,
             argument: argument_of(&line[count..]),
         }),
@@ -63,42 +63,42 @@ fn argument_of(tail: &[u8]) -> &[u8]
     }
 }
 
-fn verb_of(word: &[u8]) -> Option<Verb>
-    ensures found { IfSome result (λ verb. s.IsWord (s.word_of verb) word.now) }
-    ensures none { IfNone result ((verb : VerbValue) → s.IsWord (s.word_of verb) word.now → ⊥) }
+fn verb_of(word: &[u8]) -> Option<LmtpVerb>
+    ensures found { IfSome result (λ verb. s.IsSameWord (s.verb_word verb) word.now) }
+    ensures none { IfNone result ((verb : VerbValue) → s.IsSameWord (s.verb_word verb) word.now → ⊥) }
 {
     if word.eq_ignore_ascii_case(b"LHLO") {
-        return Some(Verb::Lhlo);
+        return Some(LmtpVerb::Lhlo);
     }
     if word.eq_ignore_ascii_case(b"MAIL") {
-        return Some(Verb::Mail);
+        return Some(LmtpVerb::Mail);
     }
     if word.eq_ignore_ascii_case(b"RCPT") {
-        return Some(Verb::Rcpt);
+        return Some(LmtpVerb::Rcpt);
     }
     if word.eq_ignore_ascii_case(b"DATA") {
-        return Some(Verb::Data);
+        return Some(LmtpVerb::Data);
     }
     if word.eq_ignore_ascii_case(b"RSET") {
-        return Some(Verb::Rset);
+        return Some(LmtpVerb::Rset);
     }
     if word.eq_ignore_ascii_case(b"NOOP") {
-        return Some(Verb::Noop);
+        return Some(LmtpVerb::Noop);
     }
     if word.eq_ignore_ascii_case(b"VRFY") {
-        return Some(Verb::Vrfy);
+        return Some(LmtpVerb::Vrfy);
     }
     if word.eq_ignore_ascii_case(b"HELP") {
-        return Some(Verb::Help);
+        return Some(LmtpVerb::Help);
     }
     if word.eq_ignore_ascii_case(b"QUIT") {
-        return Some(Verb::Quit);
+        return Some(LmtpVerb::Quit);
     }
     if word.eq_ignore_ascii_case(b"HELO") {
-        return Some(Verb::Helo);
+        return Some(LmtpVerb::Helo);
     }
     if word.eq_ignore_ascii_case(b"EHLO") {
-        return Some(Verb::Ehlo);
+        return Some(LmtpVerb::Ehlo);
     }
     None
 }

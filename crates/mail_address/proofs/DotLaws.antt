@@ -3,14 +3,14 @@ use Rattle.std.proofs.Common.{◌≡◌, ℕ, Bool, true, false, cond, ◌==◌,
 use Rattle.std.proofs.lemmas.Bool.{eqb-true}
 use Rattle.std.proofs.lemmas.List.{append-nil}
 use Rattle.octets.proofs.Lists.{fork}
-use Rattle.addrparts.specs.Pieces.{is_atom, AreAtoms}
-use Rattle.addrparts.specs.Spelling.{IsAtomText, AreDotted, IsDotAtom, is_dotted, is_dot_atom}
+use Rattle.mail_address.specs.Pieces.{is_atom_octet, AreAtoms}
+use Rattle.mail_address.specs.Spelling.{IsAtomText, AreDotted, IsDotAtom, is_dotted, is_dot_atom}
 
 -- no dot stands in an atom
-no_dot : (octet : ℕ) → is_atom octet ≡ true → (octet == 46) ≡ false
+no_dot : (octet : ℕ) → is_atom_octet octet ≡ true → (octet == 46) ≡ false
 no_dot octet atom = way (octet == 46) refl where
   way : (test : Bool) → (octet == 46) ≡ test → test ≡ false
-  way true is = absurd (cc (sym atom ∙ ap is_atom (eqb-true octet 46 is)))
+  way true is = absurd (cc (sym atom ∙ ap is_atom_octet (eqb-true octet 46 is)))
   way false is = refl
 
 both : (a b : Bool) → (a && b) ≡ true → (a ≡ true) × (b ≡ true)
@@ -18,7 +18,7 @@ both true b is = (refl, is)
 both false b is = absurd (cc is)
 
 -- an octet before the first atom
-onto_first : (octet : ℕ) (atoms : List (List ℕ)) (text : List ℕ) → is_atom octet ≡ true → AreDotted atoms text → IsDotAtom (octet ∷ text)
+onto_first : (octet : ℕ) (atoms : List (List ℕ)) (text : List ℕ) → is_atom_octet octet ≡ true → AreDotted atoms text → IsDotAtom (octet ∷ text)
 onto_first octet [] text atom dotted = absurd dotted
 onto_first octet (first ∷ []) text atom (is, spelled) = record {
   atoms = (octet ∷ first) ∷ [];
@@ -30,7 +30,7 @@ onto_first octet (first ∷ (next ∷ more)) text atom (rest, (is, (spelled, dot
 }
 
 -- an octet and a dot before atoms
-before_dot : (octet : ℕ) (atoms : List (List ℕ)) (text : List ℕ) → is_atom octet ≡ true → AreDotted atoms text → IsDotAtom (octet ∷ (46 ∷ text))
+before_dot : (octet : ℕ) (atoms : List (List ℕ)) (text : List ℕ) → is_atom_octet octet ≡ true → AreDotted atoms text → IsDotAtom (octet ∷ (46 ∷ text))
 before_dot octet [] text atom dotted = absurd dotted
 before_dot octet (first ∷ more) text atom dotted = record {
   atoms = (octet ∷ []) ∷ (first ∷ more);
@@ -40,28 +40,28 @@ before_dot octet (first ∷ more) text atom dotted = record {
 -- what is read is atoms with dots between
 mutual
   -- after an octet of an atom
-  after_octet : (octet : ℕ) (text : List ℕ) → is_atom octet ≡ true → is_dotted false text ≡ true → IsDotAtom (octet ∷ text)
+  after_octet : (octet : ℕ) (text : List ℕ) → is_atom_octet octet ≡ true → is_dotted false text ≡ true → IsDotAtom (octet ∷ text)
   after_octet octet [] atom read = record {
     atoms = (octet ∷ []) ∷ [];
     dotted = (record { present = λ none. absurd (cc none); octets = (atom, tt) }, refl);
   }
-  after_octet octet (next ∷ more) atom read = elim (fork (next == 46) (not false && is_dotted true more) (is_atom next && is_dotted false more) true read) [
+  after_octet octet (next ∷ more) atom read = elim (fork (next == 46) (not false && is_dotted true more) (is_atom_octet next && is_dotted false more) true read) [
     | inl dot ↦
         let rest = dotted_is more dot.1 in
         let found = before_dot octet rest.atoms more atom rest.dotted in
         subst (λ x. IsDotAtom (octet ∷ (x ∷ more))) (sym (eqb-true next 46 dot.0)) found
     | inr other ↦
-        let parts = both (is_atom next) (is_dotted false more) other.1 in
+        let parts = both (is_atom_octet next) (is_dotted false more) other.1 in
         let rest = after_octet next more parts.0 parts.1 in
         onto_first octet rest.atoms (next ∷ more) atom rest.dotted
   ]
 
   pub dotted_is : (text : List ℕ) → is_dot_atom text ≡ true → IsDotAtom text
   dotted_is [] read = absurd (cc read)
-  dotted_is (octet ∷ more) read = elim (fork (octet == 46) (not true && is_dotted true more) (is_atom octet && is_dotted false more) true read) [
+  dotted_is (octet ∷ more) read = elim (fork (octet == 46) (not true && is_dotted true more) (is_atom_octet octet && is_dotted false more) true read) [
     | inl dot ↦ let bad : false ≡ true = dot.1 in absurd cc
     | inr other ↦
-        let parts = both (is_atom octet) (is_dotted false more) other.1 in
+        let parts = both (is_atom_octet octet) (is_dotted false more) other.1 in
         after_octet octet more parts.0 parts.1
   ]
 
@@ -71,9 +71,9 @@ second true x y is = absurd (cc is)
 second false x y is = refl
 
 -- reading passes an octet of an atom
-octet_passed : (due : Bool) (octet : ℕ) (rest : List ℕ) → is_atom octet ≡ true → is_dotted due (octet ∷ rest) ≡ is_dotted false rest
+octet_passed : (due : Bool) (octet : ℕ) (rest : List ℕ) → is_atom_octet octet ≡ true → is_dotted due (octet ∷ rest) ≡ is_dotted false rest
 octet_passed due octet rest is =
-    second (octet == 46) (not due && is_dotted true rest) (is_atom octet && is_dotted false rest) (no_dot octet is) ∙ ap (λ a. a && is_dotted false rest) is
+    second (octet == 46) (not due && is_dotted true rest) (is_atom_octet octet && is_dotted false rest) (no_dot octet is) ∙ ap (λ a. a && is_dotted false rest) is
 
 -- and an atom
 atom_passed : (due : Bool) (octet : ℕ) (atom rest : List ℕ) → AreAtoms (octet ∷ atom) → is_dotted due (octet ∷ (atom ++ rest)) ≡ is_dotted false rest

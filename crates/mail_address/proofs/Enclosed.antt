@@ -2,24 +2,24 @@
 use Rattle.std.proofs.Common.{◌≡◌, ℕ, zero, suc, ◌==◌, true, false, List, [], ◌∷◌, ◌++◌, length, Some, refl, ap, ◌∙◌, inl, inr, eq-eqb, arith}
 use Rattle.std.proofs.lemmas.Bool.{eqb-true}
 use Rattle.octets.proofs.Lists.{fork, some_is}
-use Rattle.addrparts.specs.Pieces.{Inner, Plain, Pair, written, IsInside, Notes, End, Note, Nested, noted, AreNotes}
-use Rattle.addrparts.specs.Reading.{after_close, after_comment}
-use Rattle.addrparts.proofs.Scanning.{at_backslash, at_opening, at_other}
+use Rattle.mail_address.specs.Pieces.{Inner, Plain, Pair, inner_before, IsInside, CommentContent, End, Note, Nested, comment_before, IsCommentContent}
+use Rattle.mail_address.specs.Reading.{after_close, after_comment}
+use Rattle.mail_address.proofs.Scanning.{at_backslash, at_opening, at_other}
 
 -- what follows may be written apart
-pub written-append : (inside : List Inner) (end rest : List ℕ) → written inside end ++ rest ≡ written inside (end ++ rest)
+pub written-append : (inside : List Inner) (end rest : List ℕ) → inner_before inside end ++ rest ≡ inner_before inside (end ++ rest)
 written-append [] end rest = refl
 written-append (Plain octet ∷ more) end rest = ap (λ s. octet ∷ s) (written-append more end rest)
 written-append (Pair octet ∷ more) end rest = ap (λ s. 92 ∷ (octet ∷ s)) (written-append more end rest)
 
-pub noted-append : (notes : Notes) (end rest : List ℕ) → noted notes end ++ rest ≡ noted notes (end ++ rest)
+pub noted-append : (notes : CommentContent) (end rest : List ℕ) → comment_before notes end ++ rest ≡ comment_before notes (end ++ rest)
 noted-append End end rest = refl
 noted-append (Note (Plain octet) more) end rest = ap (λ s. octet ∷ s) (noted-append more end rest)
 noted-append (Note (Pair octet) more) end rest = ap (λ s. 92 ∷ (octet ∷ s)) (noted-append more end rest)
-noted-append (Nested inner more) end rest = ap (λ s. 40 ∷ s) (noted-append inner (41 ∷ noted more end) rest ∙ ap (λ s. noted inner (41 ∷ s)) (noted-append more end rest))
+noted-append (Nested inner more) end rest = ap (λ s. 40 ∷ s) (noted-append inner (41 ∷ comment_before more end) rest ∙ ap (λ s. comment_before inner (41 ∷ s)) (noted-append more end rest))
 
 -- what is written so is scanned to its end
-pub after-again : (close : ℕ) (inside : List Inner) (rest : List ℕ) → (92 == close) ≡ false → IsInside close inside → after_close close false (written inside (close ∷ rest)) ≡ Some rest
+pub after-again : (close : ℕ) (inside : List Inner) (rest : List ℕ) → (92 == close) ≡ false → IsInside close inside → after_close close false (inner_before inside (close ∷ rest)) ≡ Some rest
 after-again close [] rest other plain = let same : (close == close) ≡ true = eq-eqb close close refl in rw same
 after-again close (Plain octet ∷ more) rest other plain = rw (plain.0, plain.1.0) (after-again close more rest other plain.1.1)
 after-again close (Pair octet ∷ more) rest other plain = rw other (after-again close more rest other plain)
@@ -28,7 +28,7 @@ after-again close (Pair octet ∷ more) rest other plain = rw other (after-again
 pub record IsScanned (close : ℕ) (text rest : List ℕ) : Type 0 where
   pub inside : List Inner
   pub plain : IsInside close inside
-  pub is : text ≡ written inside (close ∷ rest)
+  pub is : text ≡ inner_before inside (close ∷ rest)
 
 scanned-plain : (close octet : ℕ) (more rest : List ℕ) → (octet == close) ≡ false → (octet == 92) ≡ false → IsScanned close more rest → IsScanned close (octet ∷ more) rest
 scanned-plain close octet more rest within other scanned = record { inside = Plain octet ∷ scanned.inside; plain = (within, (other, scanned.plain)); is = ap (λ s. octet ∷ s) scanned.is }
@@ -57,32 +57,32 @@ after-is close (octet ∷ (next ∷ more)) rest found =
     ]
 
 -- the inside of a comment is passed over
-pub noted-passed : (depth : ℕ) (notes : Notes) (rest : List ℕ) → AreNotes notes → after_comment depth false (noted notes rest) ≡ after_comment depth false rest
+pub noted-passed : (depth : ℕ) (notes : CommentContent) (rest : List ℕ) → IsCommentContent notes → after_comment depth false (comment_before notes rest) ≡ after_comment depth false rest
 noted-passed depth End rest plain = refl
-noted-passed depth (Note (Plain octet) more) rest plain = at_other depth octet (noted more rest) plain.0 plain.1.0 plain.1.1.0 ∙ noted-passed depth more rest plain.1.1.1
-noted-passed depth (Note (Pair octet) more) rest plain = at_backslash depth 92 (octet ∷ noted more rest) refl ∙ noted-passed depth more rest plain
-noted-passed depth (Nested inner more) rest plain = at_opening depth 40 (noted inner (41 ∷ noted more rest)) refl refl ∙ noted-passed (suc depth) inner (41 ∷ noted more rest) plain.0 ∙ noted-passed depth more rest plain.1
+noted-passed depth (Note (Plain octet) more) rest plain = at_other depth octet (comment_before more rest) plain.0 plain.1.0 plain.1.1.0 ∙ noted-passed depth more rest plain.1.1.1
+noted-passed depth (Note (Pair octet) more) rest plain = at_backslash depth 92 (octet ∷ comment_before more rest) refl ∙ noted-passed depth more rest plain
+noted-passed depth (Nested inner more) rest plain = at_opening depth 40 (comment_before inner (41 ∷ comment_before more rest)) refl refl ∙ noted-passed (suc depth) inner (41 ∷ comment_before more rest) plain.0 ∙ noted-passed depth more rest plain.1
 
 -- a comment is scanned to its end
-pub comment-again : (notes : Notes) (rest : List ℕ) → AreNotes notes → after_comment 0 false (noted notes (41 ∷ rest)) ≡ Some rest
+pub comment-again : (notes : CommentContent) (rest : List ℕ) → IsCommentContent notes → after_comment 0 false (comment_before notes (41 ∷ rest)) ≡ Some rest
 comment-again notes rest plain = noted-passed 0 notes (41 ∷ rest) plain
 
 -- the ends of the comments that are open
-abbrev closed_by : List Notes → List ℕ → List ℕ
+abbrev closed_by : List CommentContent → List ℕ → List ℕ
 closed_by [] rest = rest
-closed_by (outer ∷ more) rest = noted outer (41 ∷ closed_by more rest)
+closed_by (outer ∷ more) rest = comment_before outer (41 ∷ closed_by more rest)
 
-abbrev All-notes : List Notes → Type 0
+abbrev All-notes : List CommentContent → Type 0
 All-notes [] = Unit {0}
-All-notes (outer ∷ more) = AreNotes outer × All-notes more
+All-notes (outer ∷ more) = IsCommentContent outer × All-notes more
 
 record IsUnwound (depth : ℕ) (text rest : List ℕ) : Type 0 where
-  notes : Notes
-  outer : List Notes
+  notes : CommentContent
+  outer : List CommentContent
   deep : length outer ≡ depth
-  plain : AreNotes notes
+  plain : IsCommentContent notes
   others : All-notes outer
-  is : text ≡ noted notes (41 ∷ closed_by outer rest)
+  is : text ≡ comment_before notes (41 ∷ closed_by outer rest)
 
 unwound-plain : (depth octet : ℕ) (more rest : List ℕ) → (octet == 92) ≡ false → (octet == 40) ≡ false → (octet == 41) ≡ false → IsUnwound depth more rest → IsUnwound depth (octet ∷ more) rest
 unwound-plain depth octet more rest a b d u = record { notes = Note (Plain octet) u.notes; outer = u.outer; deep = u.deep; plain = (a, (b, (d, u.plain))); others = u.others; is = ap (λ s. octet ∷ s) u.is }
@@ -90,7 +90,7 @@ unwound-plain depth octet more rest a b d u = record { notes = Note (Plain octet
 unwound-pair : (depth slash octet : ℕ) (more rest : List ℕ) → (slash == 92) ≡ true → IsUnwound depth more rest → IsUnwound depth (slash ∷ (octet ∷ more)) rest
 unwound-pair depth slash octet more rest is u = record { notes = Note (Pair octet) u.notes; outer = u.outer; deep = u.deep; plain = u.plain; others = u.others; is = ap (λ b. b ∷ (octet ∷ more)) (eqb-true slash 92 is) ∙ ap (λ s. 92 ∷ (octet ∷ s)) u.is }
 
-nest : (depth octet : ℕ) (more rest : List ℕ) → (octet == 40) ≡ true → (notes : Notes) (outer : List Notes) → length outer ≡ suc depth → AreNotes notes → All-notes outer → more ≡ noted notes (41 ∷ closed_by outer rest) → IsUnwound depth (octet ∷ more) rest
+nest : (depth octet : ℕ) (more rest : List ℕ) → (octet == 40) ≡ true → (notes : CommentContent) (outer : List CommentContent) → length outer ≡ suc depth → IsCommentContent notes → All-notes outer → more ≡ comment_before notes (41 ∷ closed_by outer rest) → IsUnwound depth (octet ∷ more) rest
 nest depth octet more rest is notes [] deep plain others same = absurd (omega arith)
 nest depth octet more rest is notes (first ∷ outer) deep plain others same = record { notes = Nested notes first; outer = outer; deep = omega arith; plain = (plain, others.0); others = others.1; is = ap (λ b. b ∷ more) (eqb-true octet 40 is) ∙ ap (λ s. 40 ∷ s) same }
 
@@ -140,11 +140,11 @@ unwound (suc depth) (octet ∷ (next ∷ more)) rest found =
 
 -- the inside of a comment up to its end, and what follows
 pub record IsNoted (text rest : List ℕ) : Type 0 where
-  pub notes : Notes
-  pub plain : AreNotes notes
-  pub is : text ≡ noted notes (41 ∷ rest)
+  pub notes : CommentContent
+  pub plain : IsCommentContent notes
+  pub is : text ≡ comment_before notes (41 ∷ rest)
 
-noted-flat : (text rest : List ℕ) (notes : Notes) (outer : List Notes) → length outer ≡ 0 → AreNotes notes → text ≡ noted notes (41 ∷ closed_by outer rest) → IsNoted text rest
+noted-flat : (text rest : List ℕ) (notes : CommentContent) (outer : List CommentContent) → length outer ≡ 0 → IsCommentContent notes → text ≡ comment_before notes (41 ∷ closed_by outer rest) → IsNoted text rest
 noted-flat text rest notes [] flat plain is = record { notes = notes; plain = plain; is = is }
 noted-flat text rest notes (first ∷ outer) flat plain is = absurd (omega arith)
 

@@ -2,27 +2,27 @@
 use Rattle.std.proofs.Common.{◌≡◌, ℕ, true, false, Some, None, List, [], ◌∷◌, drop, get_or, refl, ap, ◌∙◌, inl, inr, arith}
 use Rattle.std.proofs.lemmas.Bool.{false≢true, true≢false}
 use Rattle.std.proofs.lemmas.Option.{none-some}
-use Rattle.addrparts.specs.declared.scanner.Kind.{Kind}
-use Rattle.addrparts.specs.declared.scanner.Kind.TheVariants as K
-use Rattle.addrparts.specs.declared.address.Addr.{Addr}
-use Rattle.addrparts.specs.Pieces.{Piece, is_atom, Plain, Pair, IsEnclosed, IsQuotedWord, End, Note, Nested, IsComment}
-use Rattle.addrparts.specs.Parts.{IsUncut, AreParts, IsWord, IsAtom, Dotted, Gives, AreAddresses}
-use Rattle.addrparts.specs.Outbound.{is_shown, is_fit, BeginsWithWord, IsOutbound, IsBareAddress}
-use Rattle.addrparts.specs.Spelling.{is_dot_atom, spelling, all_of, IsDomain}
-use Rattle.addrparts.specs.Reading.{after_close, after_comment, pieces, addrs, outbound, bare}
-use Rattle.addrparts.proofs.Enclosed.{after-again, comment-again}
-use Rattle.addrparts.proofs.Quotes.{quoted-value}
-use Rattle.addrparts.proofs.Lists.{addrs-only}
-use Rattle.addrparts.proofs.Outbounds.{outbound-again, bare-found}
+use Rattle.mail_address.specs.declared.scanner.AddrPieceKind.{AddrPieceKind}
+use Rattle.mail_address.specs.declared.scanner.AddrPieceKind.TheVariants as K
+use Rattle.mail_address.specs.declared.address.Addr.{Addr}
+use Rattle.mail_address.specs.Pieces.{AddrPiece, is_atom_octet, Plain, Pair, IsEnclosed, IsQuotedWord, End, Note, Nested, IsComment}
+use Rattle.mail_address.specs.Parts.{IsUncut, AreParts, IsWordToken, IsAtom, Dotted, PartGives, AreAddresses}
+use Rattle.mail_address.specs.Outbound.{is_no_control, is_fit, BeginsWithWord, IsOutbound, IsBareAddress}
+use Rattle.mail_address.specs.Spelling.{is_dot_atom, address_spelling, unquoted_address, IsDomain}
+use Rattle.mail_address.specs.Reading.{after_close, after_comment, pieces, addrs, outbound, bare}
+use Rattle.mail_address.proofs.Enclosed.{after-again, comment-again}
+use Rattle.mail_address.proofs.Quotes.{quoted-value}
+use Rattle.mail_address.proofs.Lists.{addrs-only}
+use Rattle.mail_address.proofs.Outbounds.{outbound-again, bare-found}
 
-abbrev piece : Kind → List ℕ → Piece
+abbrev piece : AddrPieceKind → List ℕ → AddrPiece
 piece kind text = record { kind = kind; text = text }
 
 abbrev address : List ℕ → List ℕ → Addr
 address local domain = record { local = local; domain = domain }
 
 -- an octet of UTF-8 stands in an atom, a dot and DEL don't
-atom_octets : (is_atom 195 ≡ true) × ((is_atom 46 ≡ false) × (is_atom 127 ≡ false))
+atom_octets : (is_atom_octet 195 ≡ true) × ((is_atom_octet 46 ≡ false) × (is_atom_octet 127 ≡ false))
 atom_octets = (refl, (refl, refl))
 
 -- `"\""` is closed
@@ -76,7 +76,7 @@ comma_outside : IsUncut false (piece K.Comma [] ∷ []) → ⊥
 comma_outside uncut = true≢false uncut.0
 
 -- `a."b"` are words with a dot between
-dotted_words : Dotted IsWord (piece K.Atom (97 ∷ []) ∷ piece K.Dot (46 ∷ []) ∷ piece K.Quoted (34 ∷ 98 ∷ 34 ∷ []) ∷ []) (97 ∷ 46 ∷ 98 ∷ [])
+dotted_words : Dotted IsWordToken (piece K.Atom (97 ∷ []) ∷ piece K.Dot (46 ∷ []) ∷ piece K.Quoted (34 ∷ 98 ∷ 34 ∷ []) ∷ []) (97 ∷ 46 ∷ 98 ∷ [])
 dotted_words = (97 ∷ [], 98 ∷ [], refl, refl, refl, refl)
 
 -- a domain has no quoted string
@@ -84,14 +84,14 @@ quoted_domain : Dotted IsAtom (piece K.Quoted (34 ∷ 98 ∷ 34 ∷ []) ∷ []) 
 quoted_domain dotted = dotted
 
 -- `a@b` as a part
-spec_part : Gives (record { tokens = piece K.Atom (97 ∷ []) ∷ piece K.At (64 ∷ []) ∷ piece K.Atom (98 ∷ []) ∷ []; ending = Some K.Comma }) (address (97 ∷ []) (98 ∷ []))
+spec_part : PartGives (record { tokens = piece K.Atom (97 ∷ []) ∷ piece K.At (64 ∷ []) ∷ piece K.Atom (98 ∷ []) ∷ []; ending = Some K.Comma }) (address (97 ∷ []) (98 ∷ []))
 spec_part = record {
   no_name = λ is. cc;
   shape = inl (record { local = piece K.Atom (97 ∷ []) ∷ []; at = piece K.At (64 ∷ []); domain = piece K.Atom (98 ∷ []) ∷ []; cut = refl; mark = refl; words = refl; host = inl refl });
 }
 
 -- before a colon it gives nothing
-group_part : (tokens : List Piece) (found : Addr) → Gives (record { tokens = tokens; ending = Some K.Colon }) found → ⊥
+group_part : (tokens : List AddrPiece) (found : Addr) → PartGives (record { tokens = tokens; ending = Some K.Colon }) found → ⊥
 group_part tokens found gives = gives.no_name refl
 
 -- `<@r:c@d>` is c at d: the route is passed over
@@ -105,7 +105,7 @@ unfolding addrs pieces
 two_at_signs found are = addrs-only (97 ∷ 64 ∷ 64 ∷ 98 ∷ []) found are
 
 -- SP and 126 are shown, TAB and DEL are not
-shown_octets : (is_fit (32 ∷ 126 ∷ []) ≡ true) × ((is_shown 9 ≡ false) × (is_shown 127 ≡ false))
+shown_octets : (is_fit (32 ∷ 126 ∷ []) ≡ true) × ((is_no_control 9 ≡ false) × (is_no_control 127 ≡ false))
 shown_octets = (refl, (refl, refl))
 
 -- a display name may begin with a blank, and not with a dot
@@ -140,7 +140,7 @@ dot_atoms : (is_dot_atom (97 ∷ 46 ∷ 98 ∷ []) ≡ true) × ((is_dot_atom (9
 dot_atoms = (refl, (refl, (refl, (refl, refl))))
 
 -- a quotation mark is quoted in a spelling, and not in `all`
-mark_spelled : (spelling (address (34 ∷ []) (98 ∷ [])) ≡ 34 ∷ 92 ∷ 34 ∷ 34 ∷ 64 ∷ 98 ∷ []) × (all_of (address (34 ∷ []) (98 ∷ [])) ≡ 34 ∷ 64 ∷ 98 ∷ [])
+mark_spelled : (address_spelling (address (34 ∷ []) (98 ∷ [])) ≡ 34 ∷ 92 ∷ 34 ∷ 34 ∷ 64 ∷ 98 ∷ []) × (unquoted_address (address (34 ∷ []) (98 ∷ [])) ≡ 34 ∷ 64 ∷ 98 ∷ [])
 mark_spelled = (refl, refl)
 
 -- `[1]` is a domain

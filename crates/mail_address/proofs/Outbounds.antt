@@ -5,91 +5,91 @@ use Rattle.std.proofs.lemmas.List.{take_at}
 use Rattle.std.proofs.lemmas.Bool.{false≢true, cases_Bool}
 use Rattle.octets.proofs.Lists.{fork, some_pair}
 use Rattle.octets.specs.Ascii.{trimmed}
-use Rattle.addrparts.specs.declared.scanner.Kind.{Kind}
-use Rattle.addrparts.specs.declared.scanner.Kind.TheVariants as K
-use Rattle.addrparts.specs.declared.draft.Place.TheVariants as P
-use Rattle.addrparts.specs.declared.draft.Draft.{Draft}
-use Rattle.addrparts.specs.declared.address.Addr.{Addr}
-use Rattle.addrparts.specs.Pieces.{Piece, Cut, unquoted}
-use Rattle.addrparts.specs.Parts.{is_token, tokens, Each, IsSpec, IsNamed}
-use Rattle.addrparts.specs.Outbound.{is_fit, is_no_comment, is_phrase, BeginsWithWord, IsBare, IsPhrased, IsOutbound, IsBareAddress}
-use Rattle.addrparts.specs.Drafts.{start, start_at, taken, outcome}
-use Rattle.addrparts.specs.Reading.{addr_spec_only, opening, with_display, outbound_at, outbound_fit, outbound, bare, pieces}
-use Rattle.addrparts.proofs.Cuts.{cut-only, cut-all}
-use Rattle.addrparts.proofs.PartLemmas.{runs, Each-append, is_inner, spec-inner, bare-again, inside-again}
-use Rattle.addrparts.proofs.Shapes.{shape-is, closed-is}
-use Rattle.addrparts.proofs.Lists.{tokens-each}
+use Rattle.mail_address.specs.declared.scanner.AddrPieceKind.{AddrPieceKind}
+use Rattle.mail_address.specs.declared.scanner.AddrPieceKind.TheVariants as K
+use Rattle.mail_address.specs.declared.draft.BracketState.TheVariants as P
+use Rattle.mail_address.specs.declared.draft.Draft.{Draft}
+use Rattle.mail_address.specs.declared.address.Addr.{Addr}
+use Rattle.mail_address.specs.Pieces.{AddrPiece, Cut, unquoted_text}
+use Rattle.mail_address.specs.Parts.{is_token, tokens, Each, IsAddrSpec, IsNameAddr}
+use Rattle.mail_address.specs.Outbound.{is_fit, is_no_comment, is_phrase, BeginsWithWord, IsBare, IsPhrased, IsOutbound, IsBareAddress}
+use Rattle.mail_address.specs.Drafts.{empty_draft, empty_draft_at, after_token, draft_address}
+use Rattle.mail_address.specs.Reading.{addr_spec_only, display_opening, with_display, outbound_at, outbound_fit, outbound, bare, pieces}
+use Rattle.mail_address.proofs.Cuts.{cut-only, cut-all}
+use Rattle.mail_address.proofs.PartLemmas.{runs, Each-append, is_inner, spec-inner, bare-again, inside-again}
+use Rattle.mail_address.proofs.Shapes.{shape-is, closed-is}
+use Rattle.mail_address.proofs.Lists.{tokens-each}
 
 -- the piece opens no bracket
-abbrev is_no_less : Kind → Bool
+abbrev is_no_less : AddrPieceKind → Bool
 is_no_less K.Less = false
 is_no_less _ = true
 
 -- without comment and opening bracket a text is read as its tokens are
-addr_spec_only-step : (d : Draft) (kind : Kind) (text : List ℕ) (more : List Piece) → is_no_comment kind ≡ true → is_no_less kind ≡ true → addr_spec_only d ((record { kind = kind; text = text }) ∷ more) ≡ addr_spec_only (taken d kind text) more
+addr_spec_only-step : (d : Draft) (kind : AddrPieceKind) (text : List ℕ) (more : List AddrPiece) → is_no_comment kind ≡ true → is_no_less kind ≡ true → addr_spec_only d ((record { kind = kind; text = text }) ∷ more) ≡ addr_spec_only (after_token d kind text) more
 addr_spec_only-step d K.Comment text more plain closed = absurd (false≢true plain)
 addr_spec_only-step d K.Less text more plain closed = absurd (false≢true closed)
 addr_spec_only-step d _ text more plain closed = refl
 
-blank-taken : (d : Draft) (kind : Kind) (text : List ℕ) → is_token kind ≡ false → taken d kind text ≡ d
+blank-taken : (d : Draft) (kind : AddrPieceKind) (text : List ℕ) → is_token kind ≡ false → after_token d kind text ≡ d
 blank-taken d K.Blank text gap = refl
 blank-taken d K.Comment text gap = refl
 blank-taken d _ text gap = absurd (false≢true (sym gap))
 
-addr_spec_only-tokens : (all : List Piece) (d : Draft) → Each is_no_comment all → Each is_no_less all → addr_spec_only d all ≡ outcome (runs d (tokens all))
+addr_spec_only-tokens : (all : List AddrPiece) (d : Draft) → Each is_no_comment all → Each is_no_less all → addr_spec_only d all ≡ draft_address (runs d (tokens all))
 addr_spec_only-tokens [] d plain closed = refl
 addr_spec_only-tokens (piece ∷ more) d plain closed = elim (cases_Bool (is_token piece.kind)) [
-  | inl token ↦ addr_spec_only-step d piece.kind piece.text more plain.0 closed.0 ∙ addr_spec_only-tokens more (taken d piece.kind piece.text) plain.1 closed.1 ∙ ap (λ b. outcome (runs d (cond b (piece ∷ tokens more) (tokens more)))) (sym token)
-  | inr gap ↦ addr_spec_only-step d piece.kind piece.text more plain.0 closed.0 ∙ ap (λ e. addr_spec_only e more) (blank-taken d piece.kind piece.text gap) ∙ addr_spec_only-tokens more d plain.1 closed.1 ∙ ap (λ b. outcome (runs d (cond b (piece ∷ tokens more) (tokens more)))) (sym gap)
+  | inl token ↦ addr_spec_only-step d piece.kind piece.text more plain.0 closed.0 ∙ addr_spec_only-tokens more (after_token d piece.kind piece.text) plain.1 closed.1 ∙ ap (λ b. draft_address (runs d (cond b (piece ∷ tokens more) (tokens more)))) (sym token)
+  | inr gap ↦ addr_spec_only-step d piece.kind piece.text more plain.0 closed.0 ∙ ap (λ e. addr_spec_only e more) (blank-taken d piece.kind piece.text gap) ∙ addr_spec_only-tokens more d plain.1 closed.1 ∙ ap (λ b. draft_address (runs d (cond b (piece ∷ tokens more) (tokens more)))) (sym gap)
 ]
 
 -- what is read so has no comment and opens no bracket
-record IsSole (d : Draft) (all : List Piece) (address : Addr) : Type 0 where
+record IsSole (d : Draft) (all : List AddrPiece) (address : Addr) : Type 0 where
   plain : Each is_no_comment all
   closed : Each is_no_less all
 
-addr_spec_only-first : (d : Draft) (kind : Kind) (text : List ℕ) (more : List Piece) (address : Addr) → ((e : Draft) → addr_spec_only e more ≡ Some address → IsSole e more address) → addr_spec_only d ((record { kind = kind; text = text }) ∷ more) ≡ Some address → IsSole d ((record { kind = kind; text = text }) ∷ more) address
+addr_spec_only-first : (d : Draft) (kind : AddrPieceKind) (text : List ℕ) (more : List AddrPiece) (address : Addr) → ((e : Draft) → addr_spec_only e more ≡ Some address → IsSole e more address) → addr_spec_only d ((record { kind = kind; text = text }) ∷ more) ≡ Some address → IsSole d ((record { kind = kind; text = text }) ∷ more) address
 addr_spec_only-first d K.Comment text more address rec is = absurd (cc)
 addr_spec_only-first d K.Less text more address rec is = absurd (cc)
-addr_spec_only-first d kind text more address rec is = let s = rec (taken d kind text) is in record { plain = (refl, s.plain); closed = (refl, s.closed) }
+addr_spec_only-first d kind text more address rec is = let s = rec (after_token d kind text) is in record { plain = (refl, s.plain); closed = (refl, s.closed) }
 
-addr_spec_only-is : (all : List Piece) (d : Draft) (address : Addr) → addr_spec_only d all ≡ Some address → IsSole d all address
+addr_spec_only-is : (all : List AddrPiece) (d : Draft) (address : Addr) → addr_spec_only d all ≡ Some address → IsSole d all address
 addr_spec_only-is [] d address is = record { plain = tt; closed = tt }
 addr_spec_only-is (piece ∷ more) d address is = addr_spec_only-first d piece.kind piece.text more address (λ e rest. addr_spec_only-is more e address rest) is
 
 -- tokens of an addr-spec open no bracket
-inner-closed : (kind : Kind) → is_inner kind ≡ true → is_no_less kind ≡ true
+inner-closed : (kind : AddrPieceKind) → is_inner kind ≡ true → is_no_less kind ≡ true
 inner-closed K.Less inner = absurd (false≢true inner)
 inner-closed _ inner = refl
 
-gap-closed : (kind : Kind) → is_token kind ≡ false → is_no_less kind ≡ true
+gap-closed : (kind : AddrPieceKind) → is_token kind ≡ false → is_no_less kind ≡ true
 gap-closed K.Less gap = absurd (false≢true (sym gap))
 gap-closed _ gap = refl
 
-tokens-closed : (all : List Piece) → Each is_no_less (tokens all) → Each is_no_less all
+tokens-closed : (all : List AddrPiece) → Each is_no_less (tokens all) → Each is_no_less all
 tokens-closed [] closed = tt
 tokens-closed (piece ∷ more) closed = elim (cases_Bool (is_token piece.kind)) [
   | inl token ↦ let both = (subst (λ b. Each is_no_less (cond b (piece ∷ tokens more) (tokens more))) token closed) in (both.0, tokens-closed more both.1)
   | inr gap ↦ (gap-closed piece.kind gap, tokens-closed more (subst (λ b. Each is_no_less (cond b (piece ∷ tokens more) (tokens more))) gap closed))
 ]
 
-closed-tokens : (all : List Piece) → Each is_no_less all → Each is_no_less (tokens all)
+closed-tokens : (all : List AddrPiece) → Each is_no_less all → Each is_no_less (tokens all)
 closed-tokens [] closed = tt
 closed-tokens (piece ∷ more) closed = elim (cases_Bool (is_token piece.kind)) [
   | inl token ↦ subst (λ b. Each is_no_less (cond b (piece ∷ tokens more) (tokens more))) (sym token) (closed.0, closed-tokens more closed.1)
   | inr gap ↦ subst (λ b. Each is_no_less (cond b (piece ∷ tokens more) (tokens more))) (sym gap) (closed-tokens more closed.1)
 ]
 
-Each-weaker : (test other : Kind → Bool) → ((kind : Kind) → test kind ≡ true → other kind ≡ true) → (all : List Piece) → Each test all → Each other all
+Each-weaker : (test other : AddrPieceKind → Bool) → ((kind : AddrPieceKind) → test kind ≡ true → other kind ≡ true) → (all : List AddrPiece) → Each test all → Each other all
 Each-weaker test other implies [] each = tt
 Each-weaker test other implies (piece ∷ more) each = (implies piece.kind each.0, Each-weaker test other implies more each.1)
 
 -- without an opening bracket there is no display name
-opening-none : (seen : Bool) (at : ℕ) (all : List Piece) → Each is_no_less all → opening seen at all ≡ None
+opening-none : (seen : Bool) (at : ℕ) (all : List AddrPiece) → Each is_no_less all → display_opening seen at all ≡ None
 opening-none seen at [] closed = refl
 opening-none seen at (piece ∷ more) closed = by_kind piece.kind piece.text seen closed.0 (opening-none seen (at + length piece.text) more closed.1) (opening-none true (at + length piece.text) more closed.1)
   where
-    by_kind : (kind : Kind) (text : List ℕ) (seen' : Bool) → is_no_less kind ≡ true → opening seen' (at + length text) more ≡ None → opening true (at + length text) more ≡ None → opening seen' at ((record { kind = kind; text = text }) ∷ more) ≡ None
+    by_kind : (kind : AddrPieceKind) (text : List ℕ) (seen' : Bool) → is_no_less kind ≡ true → display_opening seen' (at + length text) more ≡ None → display_opening true (at + length text) more ≡ None → display_opening seen' at ((record { kind = kind; text = text }) ∷ more) ≡ None
     by_kind K.Less text seen' plain same word = absurd (false≢true plain)
     by_kind K.Blank text seen' plain same word = same
     by_kind K.Atom text seen' plain same word = word
@@ -99,12 +99,12 @@ opening-none seen at (piece ∷ more) closed = by_kind piece.kind piece.text see
     by_kind _ text seen' plain same word = refl
 
 -- an addr-spec opens no bracket
-spec-closed : (all : List Piece) (address : Addr) → IsSpec (tokens all) address → Each is_no_less all
+spec-closed : (all : List AddrPiece) (address : Addr) → IsAddrSpec (tokens all) address → Each is_no_less all
 spec-closed all address spec = tokens-closed all (Each-weaker is_inner is_no_less inner-closed (tokens all) (spec-inner (tokens all) address spec))
 
 -- an addr-spec alone is read as one
-spec-read : (all : List Piece) (address : Addr) → Each is_no_comment all → IsSpec (tokens all) address → addr_spec_only start all ≡ Some address
-spec-read all address plain spec = addr_spec_only-tokens all start plain (spec-closed all address spec) ∙ bare-again (tokens all) address spec
+spec-read : (all : List AddrPiece) (address : Addr) → Each is_no_comment all → IsAddrSpec (tokens all) address → addr_spec_only empty_draft all ≡ Some address
+spec-read all address plain spec = addr_spec_only-tokens all empty_draft plain (spec-closed all address spec) ∙ bare-again (tokens all) address spec
 
 bare-read : (text display_name : List ℕ) (address : Addr) → Each is_no_comment (pieces text) → IsBare (pieces text) display_name address → outbound_fit text ≡ Some (display_name, address)
 bare-read text display_name address plain bare =
@@ -115,46 +115,46 @@ bare-read text display_name address plain bare =
     shown d a = Some (d, a)
 
 -- the texts of pieces, one after the other
-abbrev pub texts : List Piece → List ℕ
+abbrev pub texts : List AddrPiece → List ℕ
 texts all = flat_map (λ piece. piece.text) all
 
-texts-append : (front back : List Piece) → texts (front ++ back) ≡ texts front ++ texts back
+texts-append : (front back : List AddrPiece) → texts (front ++ back) ≡ texts front ++ texts back
 texts-append [] back = refl
 texts-append (piece ∷ more) back = ap (λ t. piece.text ++ t) (texts-append more back) ∙ sym (append_assoc piece.text (texts more) (texts back))
 
-cut-texts : (value : List ℕ) (cut : List Piece) → Cut value cut → value ≡ texts cut
+cut-texts : (value : List ℕ) (cut : List AddrPiece) → Cut value cut → value ≡ texts cut
 cut-texts value [] none = none
 cut-texts value (piece ∷ more) (rest, (is, (shape, others))) = is ∙ ap (λ t. piece.text ++ t) (cut-texts rest more others)
 
 -- words and dots are passed up to the bracket
-abbrev here : ℕ → List Piece → Option (ℕ × List Piece)
+abbrev here : ℕ → List AddrPiece → Option (ℕ × List AddrPiece)
 here at others = Some (at, others)
 
-opening-words : (phrase : List Piece) (at : ℕ) (less : Piece) (others : List Piece) → less.kind ≡ K.Less → Each is_phrase phrase → opening true at (phrase ++ less ∷ others) ≡ here (at + length (texts phrase)) others
-opening-words [] at less others opens words = ap (λ k. opening true at ((record { kind = k; text = less.text }) ∷ others)) opens ∙ ap (λ n. here n others) (omega arith)
+opening-words : (phrase : List AddrPiece) (at : ℕ) (less : AddrPiece) (others : List AddrPiece) → less.kind ≡ K.Less → Each is_phrase phrase → display_opening true at (phrase ++ less ∷ others) ≡ here (at + length (texts phrase)) others
+opening-words [] at less others opens words = ap (λ k. display_opening true at ((record { kind = k; text = less.text }) ∷ others)) opens ∙ ap (λ n. here n others) (omega arith)
 opening-words (piece ∷ more) at less others opens words = by_kind piece.kind words.0 ∙ opening-words more (at + length piece.text) less others opens words.1 ∙ ap (λ n. here n others) (omega (arith, length-append piece.text (texts more)))
   where
-    by_kind : (kind : Kind) → is_phrase kind ≡ true → opening true at ((record { kind = kind; text = piece.text }) ∷ (more ++ less ∷ others)) ≡ opening true (at + length piece.text) (more ++ less ∷ others)
+    by_kind : (kind : AddrPieceKind) → is_phrase kind ≡ true → display_opening true at ((record { kind = kind; text = piece.text }) ∷ (more ++ less ∷ others)) ≡ display_opening true (at + length piece.text) (more ++ less ∷ others)
     by_kind K.Blank is = refl
     by_kind K.Atom is = refl
     by_kind K.Quoted is = refl
     by_kind K.Dot is = refl
     by_kind _ is = absurd (false≢true is)
 
-opening-phrase : (phrase : List Piece) (at : ℕ) (less : Piece) (others : List Piece) → less.kind ≡ K.Less → Each is_phrase phrase → BeginsWithWord phrase → opening false at (phrase ++ less ∷ others) ≡ here (at + length (texts phrase)) others
+opening-phrase : (phrase : List AddrPiece) (at : ℕ) (less : AddrPiece) (others : List AddrPiece) → less.kind ≡ K.Less → Each is_phrase phrase → BeginsWithWord phrase → display_opening false at (phrase ++ less ∷ others) ≡ here (at + length (texts phrase)) others
 opening-phrase [] at less others opens words begins = absurd begins
 opening-phrase (piece ∷ more) at less others opens words begins = by_kind piece.kind words.0 begins (λ word. opening-phrase more (at + length piece.text) less others opens words.1 word)
   where
     long : at + length piece.text + length (texts more) ≡ at + length (texts (piece ∷ more))
     long = omega (arith, length-append piece.text (texts more))
 
-    by_kind : (kind : Kind) → is_phrase kind ≡ true → BeginsWithWord ((record { kind = kind; text = piece.text }) ∷ more) → (BeginsWithWord more → opening false (at + length piece.text) (more ++ less ∷ others) ≡ here (at + length piece.text + length (texts more)) others) → opening false at ((record { kind = kind; text = piece.text }) ∷ (more ++ less ∷ others)) ≡ here (at + length (texts (piece ∷ more))) others
+    by_kind : (kind : AddrPieceKind) → is_phrase kind ≡ true → BeginsWithWord ((record { kind = kind; text = piece.text }) ∷ more) → (BeginsWithWord more → display_opening false (at + length piece.text) (more ++ less ∷ others) ≡ here (at + length piece.text + length (texts more)) others) → display_opening false at ((record { kind = kind; text = piece.text }) ∷ (more ++ less ∷ others)) ≡ here (at + length (texts (piece ∷ more))) others
     by_kind K.Blank is word rec = rec word ∙ ap (λ n. here n others) long
     by_kind K.Atom is word rec = opening-words more (at + length piece.text) less others opens words.1 ∙ ap (λ n. here n others) long
     by_kind K.Quoted is word rec = opening-words more (at + length piece.text) less others opens words.1 ∙ ap (λ n. here n others) long
     by_kind _ is word rec = absurd word
 
-Each-back : (test : Kind → Bool) (front back : List Piece) → Each test (front ++ back) → Each test back
+Each-back : (test : AddrPieceKind → Bool) (front back : List AddrPiece) → Each test (front ++ back) → Each test back
 Each-back test [] back all = all
 Each-back test (token ∷ more) back all = Each-back test more back all.1
 
@@ -163,11 +163,11 @@ phrased-read : (text display_name : List ℕ) (address : Addr) → text ≡ text
 phrased-read text display_name address whole plain p =
     let n = length (texts p.phrase) in
     let before : take n text ≡ texts p.phrase = ap (take n) (whole ∙ ap texts p.cut ∙ texts-append p.phrase (p.less ∷ p.others)) ∙ take_at (texts p.phrase) (texts (p.less ∷ p.others)) n refl in
-    let found : opening false 0 (pieces text) ≡ here n p.others = ap (opening false 0) p.cut ∙ opening-phrase p.phrase 0 p.less p.others p.opens p.words p.begins ∙ ap (λ m. here m p.others) (omega arith) in
+    let found : display_opening false 0 (pieces text) ≡ here n p.others = ap (display_opening false 0) p.cut ∙ opening-phrase p.phrase 0 p.less p.others p.opens p.words p.begins ∙ ap (λ m. here m p.others) (omega arith) in
     let plain' : Each is_no_comment p.others = (Each-back is_no_comment p.phrase (p.less ∷ p.others) (subst (Each is_no_comment) p.cut plain)).1 in
     let closed : Each is_no_less p.others = tokens-closed p.others (subst (Each is_no_less) (sym p.rest) (Each-append is_no_less p.inside (p.greater ∷ []) (Each-weaker is_inner is_no_less inner-closed p.inside (spec-inner p.inside address p.spec)) (ap is_no_less p.closes, tt))) in
-    let read : addr_spec_only (start_at P.Inside) p.others ≡ Some address = addr_spec_only-tokens p.others (start_at P.Inside) plain' closed ∙ ap (λ ts. outcome (runs (start_at P.Inside) ts)) p.rest ∙ inside-again p.inside address p.greater p.closes p.spec in
-    ap (outbound_at text) found ∙ ap (with_display (unquoted (trimmed (take n text)))) read ∙ ap (λ t. shown (unquoted (trimmed t)) address) before ∙ ap (λ d. shown d address) (sym p.shown)
+    let read : addr_spec_only (empty_draft_at P.Inside) p.others ≡ Some address = addr_spec_only-tokens p.others (empty_draft_at P.Inside) plain' closed ∙ ap (λ ts. draft_address (runs (empty_draft_at P.Inside) ts)) p.rest ∙ inside-again p.inside address p.greater p.closes p.spec in
+    ap (outbound_at text) found ∙ ap (with_display (unquoted_text (trimmed (take n text)))) read ∙ ap (λ t. shown (unquoted_text (trimmed t)) address) before ∙ ap (λ d. shown d address) (sym p.shown)
   where
     shown : List ℕ → Addr → Option (List ℕ × Addr)
     shown d a = Some (d, a)
@@ -184,16 +184,16 @@ outbound-again text display_name address o =
     ])
 
 -- words and dots up to a bracket, and what stands after it
-record IsOpening (seen : Bool) (at : ℕ) (all : List Piece) (n : ℕ) (others : List Piece) : Type 0 where
-  phrase : List Piece
-  less : Piece
+record IsOpening (seen : Bool) (at : ℕ) (all : List AddrPiece) (n : ℕ) (others : List AddrPiece) : Type 0 where
+  phrase : List AddrPiece
+  less : AddrPiece
   cut : all ≡ phrase ++ less ∷ others
   opens : less.kind ≡ K.Less
   words : Each is_phrase phrase
   begins : (seen ≡ true) ⊎ BeginsWithWord phrase
   long : at + length (texts phrase) ≡ n
 
-opening-more : (seen seen' : Bool) (at : ℕ) (piece : Piece) (more : List Piece) (n : ℕ) (others : List Piece) → is_phrase piece.kind ≡ true → ((phrase : List Piece) → (seen' ≡ true) ⊎ BeginsWithWord phrase → (seen ≡ true) ⊎ BeginsWithWord (piece ∷ phrase)) → IsOpening seen' (at + length piece.text) more n others → IsOpening seen at (piece ∷ more) n others
+opening-more : (seen seen' : Bool) (at : ℕ) (piece : AddrPiece) (more : List AddrPiece) (n : ℕ) (others : List AddrPiece) → is_phrase piece.kind ≡ true → ((phrase : List AddrPiece) → (seen' ≡ true) ⊎ BeginsWithWord phrase → (seen ≡ true) ⊎ BeginsWithWord (piece ∷ phrase)) → IsOpening seen' (at + length piece.text) more n others → IsOpening seen at (piece ∷ more) n others
 opening-more seen seen' at piece more n others is begins o = record {
   phrase = piece ∷ o.phrase;
   less = o.less;
@@ -204,16 +204,16 @@ opening-more seen seen' at piece more n others is begins o = record {
   long = omega (arith, length-append piece.text (texts o.phrase), o.long);
 }
 
-opening-here : (at : ℕ) (text : List ℕ) (more : List Piece) (n : ℕ) (others : List Piece) → here at more ≡ here n others → IsOpening true at ((record { kind = K.Less; text = text }) ∷ more) n others
+opening-here : (at : ℕ) (text : List ℕ) (more : List AddrPiece) (n : ℕ) (others : List AddrPiece) → here at more ≡ here n others → IsOpening true at ((record { kind = K.Less; text = text }) ∷ more) n others
 opening-here at text more n others is =
     let both = some_pair (at, more) (n, others) is in
     record { phrase = []; less = record { kind = K.Less; text = text }; cut = ap (λ ps. (record { kind = K.Less; text = text }) ∷ ps) both.1; opens = refl; words = tt; begins = inl refl; long = omega (arith, both.0) }
 
-opening-is : (seen : Bool) (at : ℕ) (all : List Piece) (n : ℕ) (others : List Piece) → opening seen at all ≡ here n others → IsOpening seen at all n others
+opening-is : (seen : Bool) (at : ℕ) (all : List AddrPiece) (n : ℕ) (others : List AddrPiece) → display_opening seen at all ≡ here n others → IsOpening seen at all n others
 opening-is seen at [] n others is = absurd (cc)
 opening-is seen at (piece ∷ more) n others is = by_kind piece.kind piece.text seen (λ s rest. opening-is s (at + length piece.text) more n others rest) is
   where
-    by_kind : (kind : Kind) (text : List ℕ) (s : Bool) → ((s' : Bool) → opening s' (at + length text) more ≡ here n others → IsOpening s' (at + length text) more n others) → opening s at ((record { kind = kind; text = text }) ∷ more) ≡ here n others → IsOpening s at ((record { kind = kind; text = text }) ∷ more) n others
+    by_kind : (kind : AddrPieceKind) (text : List ℕ) (s : Bool) → ((s' : Bool) → display_opening s' (at + length text) more ≡ here n others → IsOpening s' (at + length text) more n others) → display_opening s at ((record { kind = kind; text = text }) ∷ more) ≡ here n others → IsOpening s at ((record { kind = kind; text = text }) ∷ more) n others
     by_kind K.Blank text s rec found = opening-more s s at (record { kind = K.Blank; text = text }) more n others refl (λ phrase begins. begins) (rec s found)
     by_kind K.Atom text s rec found = opening-more s true at (record { kind = K.Atom; text = text }) more n others refl (λ phrase begins. inr tt) (rec true found)
     by_kind K.Quoted text s rec found = opening-more s true at (record { kind = K.Quoted; text = text }) more n others refl (λ phrase begins. inr tt) (rec true found)
@@ -234,45 +234,45 @@ shown-is display_name (Some found) shown address is =
     let both = some_pair (display_name, found) (shown, address) is in
     record { found = ap Some both.1; same = sym both.0 }
 
-no-less : (front back : List Piece) (less : Piece) → less.kind ≡ K.Less → Each is_no_less (front ++ less ∷ back) → ⊥
+no-less : (front back : List AddrPiece) (less : AddrPiece) → less.kind ≡ K.Less → Each is_no_less (front ++ less ∷ back) → ⊥
 no-less front back less is closed = false≢true (sym (ap is_no_less is) ∙ (Each-back is_no_less front (less ∷ back) closed).0)
 
-bare-shape : (all : List Piece) (address : Addr) → Each is_no_less (tokens all) → IsSpec (tokens all) address ⊎ IsNamed (tokens all) address → IsSpec (tokens all) address
+bare-shape : (all : List AddrPiece) (address : Addr) → Each is_no_less (tokens all) → IsAddrSpec (tokens all) address ⊎ IsNameAddr (tokens all) address → IsAddrSpec (tokens all) address
 bare-shape all address closed (inl spec) = spec
 bare-shape all address closed (inr n) = absurd (no-less n.display_name (n.inside ++ n.greater ∷ []) n.less n.opens (subst (Each is_no_less) n.cut closed))
 
 -- what is read alone is an addr-spec
-record IsAlone (all : List Piece) (address : Addr) : Type 0 where
+record IsAlone (all : List AddrPiece) (address : Addr) : Type 0 where
   plain : Each is_no_comment all
-  spec : IsSpec (tokens all) address
+  spec : IsAddrSpec (tokens all) address
 
-alone-is : (all : List Piece) (address : Addr) → addr_spec_only start all ≡ Some address → IsAlone all address
+alone-is : (all : List AddrPiece) (address : Addr) → addr_spec_only empty_draft all ≡ Some address → IsAlone all address
 alone-is all address found =
-    let read = addr_spec_only-is all start address found in
-    let outcome-is : outcome (runs start (tokens all)) ≡ Some address = sym (addr_spec_only-tokens all start read.plain read.closed) ∙ found in
+    let read = addr_spec_only-is all empty_draft address found in
+    let outcome-is : draft_address (runs empty_draft (tokens all)) ≡ Some address = sym (addr_spec_only-tokens all empty_draft read.plain read.closed) ∙ found in
     record { plain = read.plain; spec = bare-shape all address (closed-tokens all read.closed) (shape-is (tokens all) address (tokens-each all) outcome-is) }
 
-bare-is : (text shown : List ℕ) (address : Addr) → is_fit text ≡ true → with_display [] (addr_spec_only start (pieces text)) ≡ Some (shown, address) → IsOutbound text shown address
+bare-is : (text shown : List ℕ) (address : Addr) → is_fit text ≡ true → with_display [] (addr_spec_only empty_draft (pieces text)) ≡ Some (shown, address) → IsOutbound text shown address
 bare-is text shown address fit is =
-    let s = shown-is [] (addr_spec_only start (pieces text)) shown address is in
+    let s = shown-is [] (addr_spec_only empty_draft (pieces text)) shown address is in
     let alone = alone-is (pieces text) address s.found in
     record { fit = fit; pieces = pieces text; cut = cut-all text; no_comment = alone.plain; shape = inl (record { spec = alone.spec; shown = s.same }) }
 
-phrase-plain : (kind : Kind) → is_phrase kind ≡ true → is_no_comment kind ≡ true
+phrase-plain : (kind : AddrPieceKind) → is_phrase kind ≡ true → is_no_comment kind ≡ true
 phrase-plain K.Comment is = absurd (false≢true is)
 phrase-plain _ is = refl
 
-with-word : (phrase : List Piece) → (false ≡ true) ⊎ BeginsWithWord phrase → BeginsWithWord phrase
+with-word : (phrase : List AddrPiece) → (false ≡ true) ⊎ BeginsWithWord phrase → BeginsWithWord phrase
 with-word phrase (inl seen) = absurd (false≢true seen)
 with-word phrase (inr word) = word
 
-phrased-is : (text shown : List ℕ) (address : Addr) (n : ℕ) (others : List Piece) → is_fit text ≡ true → opening false 0 (pieces text) ≡ here n others → with_display (unquoted (trimmed (take n text))) (addr_spec_only (start_at P.Inside) others) ≡ Some (shown, address) → IsOutbound text shown address
+phrased-is : (text shown : List ℕ) (address : Addr) (n : ℕ) (others : List AddrPiece) → is_fit text ≡ true → display_opening false 0 (pieces text) ≡ here n others → with_display (unquoted_text (trimmed (take n text))) (addr_spec_only (empty_draft_at P.Inside) others) ≡ Some (shown, address) → IsOutbound text shown address
 phrased-is text shown address n others fit found is =
     let all = pieces text in
     let o = opening-is false 0 all n others found in
-    let s = shown-is (unquoted (trimmed (take n text))) (addr_spec_only (start_at P.Inside) others) shown address is in
-    let read = addr_spec_only-is others (start_at P.Inside) address s.found in
-    let outcome-is : outcome (runs (start_at P.Inside) (tokens others)) ≡ Some address = sym (addr_spec_only-tokens others (start_at P.Inside) read.plain read.closed) ∙ s.found in
+    let s = shown-is (unquoted_text (trimmed (take n text))) (addr_spec_only (empty_draft_at P.Inside) others) shown address is in
+    let read = addr_spec_only-is others (empty_draft_at P.Inside) address s.found in
+    let outcome-is : draft_address (runs (empty_draft_at P.Inside) (tokens others)) ≡ Some address = sym (addr_spec_only-tokens others (empty_draft_at P.Inside) read.plain read.closed) ∙ s.found in
     let c = closed-is (tokens others) address (tokens-each others) outcome-is in
     let long : length (texts o.phrase) ≡ n = omega (arith, o.long) in
     let before : take n text ≡ texts o.phrase = ap (take n) (cut-texts text all (cut-all text) ∙ ap texts o.cut ∙ texts-append o.phrase (o.less ∷ others)) ∙ take_at (texts o.phrase) (texts (o.less ∷ others)) n long in
@@ -295,11 +295,11 @@ phrased-is text shown address n others fit found is =
         rest = c.cut;
         closes = c.closes;
         spec = c.spec;
-        shown = s.same ∙ ap (λ t. unquoted (trimmed t)) before;
+        shown = s.same ∙ ap (λ t. unquoted_text (trimmed t)) before;
       });
     }
 
-fit-is : (text shown : List ℕ) (address : Addr) (found : Option (ℕ × List Piece)) → is_fit text ≡ true → opening false 0 (pieces text) ≡ found → outbound_at text found ≡ Some (shown, address) → IsOutbound text shown address
+fit-is : (text shown : List ℕ) (address : Addr) (found : Option (ℕ × List AddrPiece)) → is_fit text ≡ true → display_opening false 0 (pieces text) ≡ found → outbound_at text found ≡ Some (shown, address) → IsOutbound text shown address
 fit-is text shown address None fit same is = bare-is text shown address fit is
 fit-is text shown address (Some (n, others)) fit same is = phrased-is text shown address n others fit same is
 
@@ -307,7 +307,7 @@ fit-is text shown address (Some (n, others)) fit same is = phrased-is text shown
 pub outbound-is : (text display_name : List ℕ) (address : Addr) → outbound text ≡ Some (display_name, address) → IsOutbound text display_name address
 unfolding outbound
 outbound-is text display_name address is = elim (fork (is_fit text) (outbound_fit text) None (Some (display_name, address)) is) [
-  | inl p ↦ fit-is text display_name address (opening false 0 (pieces text)) p.0 refl p.1
+  | inl p ↦ fit-is text display_name address (display_opening false 0 (pieces text)) p.0 refl p.1
   | inr p ↦ absurd (cc)
 ]
 
@@ -326,13 +326,13 @@ pub bare-found : (text : List ℕ) (address : Addr) → IsBareAddress text addre
 unfolding bare
 bare-found text address b =
     let same = cut-only text b.pieces b.cut in
-    ap (λ fit. cond fit (addr_spec_only start (pieces text)) None) b.fit
-    ∙ spec-read (pieces text) address (subst (Each is_no_comment) (sym same) b.no_comment) (subst (λ all. IsSpec (tokens all) address) (sym same) b.spec)
+    ap (λ fit. cond fit (addr_spec_only empty_draft (pieces text)) None) b.fit
+    ∙ spec-read (pieces text) address (subst (Each is_no_comment) (sym same) b.no_comment) (subst (λ all. IsAddrSpec (tokens all) address) (sym same) b.spec)
 
 -- and what is read without display name is a text's address
 pub bare-named : (text : List ℕ) (address : Addr) → bare text ≡ Some address → IsBareAddress text address
 unfolding bare
-bare-named text address is = elim (fork (is_fit text) (addr_spec_only start (pieces text)) None (Some address) is) [
+bare-named text address is = elim (fork (is_fit text) (addr_spec_only empty_draft (pieces text)) None (Some address) is) [
   | inl p ↦ let alone = alone-is (pieces text) address p.1 in record { fit = p.0; pieces = pieces text; cut = cut-all text; no_comment = alone.plain; spec = alone.spec }
   | inr p ↦ absurd (cc)
 ]

@@ -2,7 +2,7 @@
 use Rattle.std.proofs.Common.{◌≡◌, ℕ, zero, suc, ◌+◌, ◌-◌, ◌<◌, ◌==◌, true, false, Some, List, ◌∷◌, drop, get_or, length, refl, ap, ◌∙◌, eq-eqb, sub-one}
 use Rattle.std.proofs.lemmas.List.{drop_more}
 use Rattle.std.proofs.lemmas.Bool.{ne_eqb}
-use Rattle.addrparts.specs.Reading.{after_close, after_comment}
+use Rattle.mail_address.specs.Reading.{after_close, after_comment}
 
 pub at_backslash : (depth octet : ℕ) (more : List ℕ) → (octet == 92) ≡ true → after_comment depth false (octet ∷ more) ≡ after_comment depth true more
 at_backslash zero octet more slash = rw slash

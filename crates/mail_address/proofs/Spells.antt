@@ -4,49 +4,49 @@ use Rattle.std.proofs.lemmas.List.{append-nil}
 use Rattle.std.proofs.lemmas.List.Elements.{All-nil, All-cons, All-append}
 use Rattle.std.proofs.lemmas.Bool.{false≢true, cases_Bool, and_parts, or_parts, eqb-true}
 use Rattle.octets.proofs.Lists.{fork}
-use Rattle.addrparts.specs.declared.scanner.Kind.{Kind}
-use Rattle.addrparts.specs.declared.scanner.Kind.TheVariants as K
-use Rattle.addrparts.specs.declared.address.Addr.{Addr}
-use Rattle.addrparts.specs.Pieces.{Piece, is_atom, Inner, Plain, Pair, written, IsInside, IsEnclosed, AreAtoms, IsNoAtom, IsShape, Cut, unquoted_from}
-use Rattle.addrparts.specs.Parts.{is_token, tokens, Each, IsWord, IsAtom, Dotted, IsLiteral, IsSpec, IsRouted, Part, AreParts, Gives, Answers, Collects, AreAddresses}
-use Rattle.addrparts.specs.Outbound.{is_fit, is_no_comment, IsOutbound, IsBareAddress}
-use Rattle.addrparts.specs.Spelling.{is_dotted, is_dot_atom, escaped, quoted, local_spelling, spelling, IsDomain}
-use Rattle.addrparts.proofs.PartLemmas.{is_inner, spec-inner}
-use Rattle.addrparts.proofs.Outbounds.{bare-outbound}
+use Rattle.mail_address.specs.declared.scanner.AddrPieceKind.{AddrPieceKind}
+use Rattle.mail_address.specs.declared.scanner.AddrPieceKind.TheVariants as K
+use Rattle.mail_address.specs.declared.address.Addr.{Addr}
+use Rattle.mail_address.specs.Pieces.{AddrPiece, is_atom_octet, Inner, Plain, Pair, inner_before, IsInside, IsEnclosed, AreAtoms, IsNoAtom, IsAddrPieceShape, Cut, unquoted_from}
+use Rattle.mail_address.specs.Parts.{is_token, tokens, Each, IsWordToken, IsAtom, Dotted, IsDomainLiteral, IsAddrSpec, IsRouteAddr, Part, AreParts, PartGives, PartAnswers, Collects, AreAddresses}
+use Rattle.mail_address.specs.Outbound.{is_fit, is_no_comment, IsOutbound, IsBareAddress}
+use Rattle.mail_address.specs.Spelling.{is_dotted, is_dot_atom, with_quoted_pairs, quoted, local_spelling, address_spelling, IsDomain}
+use Rattle.mail_address.proofs.PartLemmas.{is_inner, spec-inner}
+use Rattle.mail_address.proofs.Outbounds.{bare-outbound}
 
 -- each piece has its shape, whatever followed it
-abbrev pub Shaped : List Piece → Type 0
+abbrev pub Shaped : List AddrPiece → Type 0
 Shaped [] = Unit {0}
-Shaped (piece ∷ more) = ((after : List ℕ) × IsShape piece.kind piece.text after) × Shaped more
+Shaped (piece ∷ more) = ((after : List ℕ) × IsAddrPieceShape piece.kind piece.text after) × Shaped more
 
-cut-shaped : (value : List ℕ) (all : List Piece) → Cut value all → Shaped all
+cut-shaped : (value : List ℕ) (all : List AddrPiece) → Cut value all → Shaped all
 cut-shaped value [] cut = tt
 cut-shaped value (piece ∷ more) (rest, (is, (shape, others))) = ((rest, shape), cut-shaped rest more others)
 
-tokens-shaped : (all : List Piece) → Shaped all → Shaped (tokens all)
+tokens-shaped : (all : List AddrPiece) → Shaped all → Shaped (tokens all)
 tokens-shaped [] shaped = tt
 tokens-shaped (piece ∷ more) shaped = elim (cases_Bool (is_token piece.kind)) [
   | inl token ↦ subst (λ b. Shaped (cond b (piece ∷ tokens more) (tokens more))) (sym token) (shaped.0, tokens-shaped more shaped.1)
   | inr gap ↦ subst (λ b. Shaped (cond b (piece ∷ tokens more) (tokens more))) (sym gap) (tokens-shaped more shaped.1)
 ]
 
-shaped-front : (front back : List Piece) → Shaped (front ++ back) → Shaped front
+shaped-front : (front back : List AddrPiece) → Shaped (front ++ back) → Shaped front
 shaped-front [] back shaped = tt
 shaped-front (piece ∷ more) back shaped = (shaped.0, shaped-front more back shaped.1)
 
-shaped-back : (front back : List Piece) → Shaped (front ++ back) → Shaped back
+shaped-back : (front back : List AddrPiece) → Shaped (front ++ back) → Shaped back
 shaped-back [] back shaped = shaped
 shaped-back (piece ∷ more) back shaped = shaped-back more back shaped.1
 
 -- no dot stands in an atom
-atom-no_dot : (octet : ℕ) → is_atom octet ≡ true → (octet == 46) ≡ false
+atom-no_dot : (octet : ℕ) → is_atom_octet octet ≡ true → (octet == 46) ≡ false
 atom-no_dot octet atom = elim (cases_Bool (octet == 46)) [
-  | inl dot ↦ absurd (false≢true (sym (ap is_atom (eqb-true octet 46 dot)) ∙ atom))
+  | inl dot ↦ absurd (false≢true (sym (ap is_atom_octet (eqb-true octet 46 dot)) ∙ atom))
   | inr other ↦ other
 ]
 
-run-more : (due : Bool) (octet : ℕ) (more : List ℕ) → is_atom octet ≡ true → is_dotted due (octet ∷ more) ≡ is_dotted false more
-run-more due octet more atom = ap (λ b. cond b (not due && is_dotted true more) (is_atom octet && is_dotted false more)) (atom-no_dot octet atom) ∙ ap (λ b. b && is_dotted false more) atom
+run-more : (due : Bool) (octet : ℕ) (more : List ℕ) → is_atom_octet octet ≡ true → is_dotted due (octet ∷ more) ≡ is_dotted false more
+run-more due octet more atom = ap (λ b. cond b (not due && is_dotted true more) (is_atom_octet octet && is_dotted false more)) (atom-no_dot octet atom) ∙ ap (λ b. b && is_dotted false more) atom
 
 run-passed : (run rest : List ℕ) → AreAtoms run → is_dotted false (run ++ rest) ≡ is_dotted false rest
 run-passed [] rest atoms = refl
@@ -57,11 +57,11 @@ atom-passed due [] rest some atoms = absurd (some refl)
 atom-passed due (octet ∷ run) rest some atoms = run-more due octet (run ++ rest) atoms.0 ∙ run-passed run rest atoms.1
 
 -- atoms with dots between are so as text
-atom-text : (kind : Kind) (text value after : List ℕ) → IsShape kind text after → IsAtom kind text value → (value ≡ text) × ((text ≡ [] → ⊥) × AreAtoms text)
+atom-text : (kind : AddrPieceKind) (text value after : List ℕ) → IsAddrPieceShape kind text after → IsAtom kind text value → (value ≡ text) × ((text ≡ [] → ⊥) × AreAtoms text)
 atom-text K.Atom text value after shape is = (is, (shape.0, shape.1.0))
 atom-text _ text value after shape is = absurd is
 
-dotted-text : (all : List Piece) (value : List ℕ) → Shaped all → Dotted IsAtom all value → is_dot_atom value ≡ true
+dotted-text : (all : List AddrPiece) (value : List ℕ) → Shaped all → Dotted IsAtom all value → is_dot_atom value ≡ true
 dotted-text [] value shaped dotted = absurd dotted
 dotted-text (atom ∷ []) value shaped dotted =
     let a = atom-text atom.kind atom.text value shaped.0.0 shaped.0.1 dotted in
@@ -70,17 +70,17 @@ dotted-text (atom ∷ (dot ∷ more)) value shaped dotted =
     let a = atom-text atom.kind atom.text dotted.0 shaped.0.0 shaped.0.1 dotted.2 in
     ap is_dot_atom (dotted.5 ∙ ap (λ f. f ++ 46 ∷ dotted.1) a.0) ∙ atom-passed true atom.text (46 ∷ dotted.1) a.1.0 a.1.1 ∙ dotted-text more dotted.1 shaped.1.1 dotted.4
 
-literal-text : (kind : Kind) (text after : List ℕ) → kind ≡ K.Literal → IsShape kind text after → IsEnclosed 91 93 text
-literal-text kind text after is shape = subst (λ k. IsShape k text after) is shape
+literal-text : (kind : AddrPieceKind) (text after : List ℕ) → kind ≡ K.Literal → IsAddrPieceShape kind text after → IsEnclosed 91 93 text
+literal-text kind text after is shape = subst (λ k. IsAddrPieceShape k text after) is shape
 
-host-domain : (all : List Piece) (value : List ℕ) → Shaped all → Dotted IsAtom all value ⊎ IsLiteral all value → IsDomain value
+host-domain : (all : List AddrPiece) (value : List ℕ) → Shaped all → Dotted IsAtom all value ⊎ IsDomainLiteral all value → IsDomain value
 host-domain all value shaped (inl atoms) = inl (dotted-text all value shaped atoms)
 host-domain all value shaped (inr l) =
     let here : Shaped (l.literal ∷ []) = subst Shaped l.alone shaped in
     inr (subst (IsEnclosed 91 93) (sym l.text) (literal-text l.literal.kind l.literal.text here.0.0 l.kind here.0.1))
 
 -- the domain of an addr-spec is one
-spec-domain : (all : List Piece) (address : Addr) → Shaped all → IsSpec all address → IsDomain address.domain
+spec-domain : (all : List AddrPiece) (address : Addr) → Shaped all → IsAddrSpec all address → IsDomain address.domain
 spec-domain all address shaped spec = host-domain spec.domain address.domain (shaped-back spec.local (spec.at ∷ spec.domain) (subst Shaped spec.cut shaped)).1 spec.host
 
 pub outbound-domain : (text display_name : List ℕ) (address : Addr) → IsOutbound text display_name address → IsDomain address.domain
@@ -93,10 +93,10 @@ outbound-domain text display_name address o =
           spec-domain p.inside address (shaped-front p.inside (p.greater ∷ []) (subst Shaped p.rest (tokens-shaped p.others after))) p.spec
     ]
 
-routed-domain : (all : List Piece) (address : Addr) → Shaped all → IsRouted all address → IsDomain address.domain
+routed-domain : (all : List AddrPiece) (address : Addr) → Shaped all → IsRouteAddr all address → IsDomain address.domain
 routed-domain all address shaped r = spec-domain r.others address (shaped-back r.route (r.colon ∷ r.others) (subst Shaped r.cut shaped).1).1 r.spec
 
-gives-domain : (part : Part) (address : Addr) → Shaped part.tokens → Gives part address → IsDomain address.domain
+gives-domain : (part : Part) (address : Addr) → Shaped part.tokens → PartGives part address → IsDomain address.domain
 gives-domain part address shaped gives = elim gives.shape [
   | inl spec ↦ spec-domain part.tokens address shaped spec
   | inr n ↦
@@ -108,7 +108,7 @@ gives-domain part address shaped gives = elim gives.shape [
 abbrev pub HasDomain : Addr → Type 0
 HasDomain address = IsDomain address.domain
 
-answer-domain : (part : Part) (answer : Option Addr) → Shaped part.tokens → Answers part answer → All HasDomain (option_to_list answer)
+answer-domain : (part : Part) (answer : Option Addr) → Shaped part.tokens → PartAnswers part answer → All HasDomain (option_to_list answer)
 answer-domain part None shaped answers = All-nil HasDomain
 answer-domain part (Some address) shaped gives = All-cons HasDomain address [] (gives-domain part address shaped gives) (All-nil HasDomain)
 
@@ -116,7 +116,7 @@ Shaped-parts : List Part → Type 0
 Shaped-parts [] = Unit {0}
 Shaped-parts (part ∷ more) = Shaped part.tokens × Shaped-parts more
 
-parts-shaped : (parts : List Part) (all : List Piece) → Shaped all → AreParts all parts → Shaped-parts parts
+parts-shaped : (parts : List Part) (all : List AddrPiece) → Shaped all → AreParts all parts → Shaped-parts parts
 unfolding Shaped-parts
 parts-shaped [] all shaped parts = absurd parts
 parts-shaped (part ∷ []) all shaped parts = (subst Shaped parts.0 shaped, tt)
@@ -136,26 +136,26 @@ addresses-domain value found are = collects-domain are.parts found (parts-shaped
 
 -- atoms with dots between, as pieces that anything but an atom may follow
 record IsJoined (text : List ℕ) : Type 0 where
-  pieces : List Piece
+  pieces : List AddrPiece
   dotted : Dotted IsAtom pieces text
-  cut : (rest : List ℕ) (more : List Piece) → IsNoAtom rest → Cut rest more → Cut (text ++ rest) (pieces ++ more)
+  cut : (rest : List ℕ) (more : List AddrPiece) → IsNoAtom rest → Cut rest more → Cut (text ++ rest) (pieces ++ more)
 
 -- what may stand after the first octet of an atom
 data Continued (text : List ℕ) : Type 0 where
   Ends : AreAtoms text → Continued text
   Goes : (run others : List ℕ) → AreAtoms run → text ≡ run ++ 46 ∷ others → IsJoined others → Continued text
 
-continued-more : (octet : ℕ) (more : List ℕ) → is_atom octet ≡ true → Continued more → Continued (octet ∷ more)
+continued-more : (octet : ℕ) (more : List ℕ) → is_atom_octet octet ≡ true → Continued more → Continued (octet ∷ more)
 continued-more octet more atom (Ends atoms) = Ends (atom, atoms)
 continued-more octet more atom (Goes run others atoms is joined) = Goes (octet ∷ run) others (atom, atoms) (ap (λ s. octet ∷ s) is) joined
 
-atom-piece : List ℕ → Piece
+atom-piece : List ℕ → AddrPiece
 atom-piece text = record { kind = K.Atom; text = text }
 
-dot-piece : Piece
+dot-piece : AddrPiece
 dot-piece = record { kind = K.Dot; text = 46 ∷ [] }
 
-joined-first : (octet : ℕ) (more : List ℕ) → is_atom octet ≡ true → Continued more → IsJoined (octet ∷ more)
+joined-first : (octet : ℕ) (more : List ℕ) → is_atom_octet octet ≡ true → Continued more → IsJoined (octet ∷ more)
 unfolding atom-piece dot-piece
 joined-first octet more atom (Ends atoms) = record {
   pieces = atom-piece (octet ∷ more) ∷ [];
@@ -187,22 +187,22 @@ cut-up [] = record { within = λ is. Ends tt; due = λ is. absurd (false≢true 
 cut-up (octet ∷ more) =
     let rest = cut-up more in
     record {
-      within = λ is. elim (fork (octet == 46) (true && is_dotted true more) (is_atom octet && is_dotted false more) true is) [
+      within = λ is. elim (fork (octet == 46) (true && is_dotted true more) (is_atom_octet octet && is_dotted false more) true is) [
         | inl p ↦ Goes [] more tt (ap (λ b. b ∷ more) (eqb-true octet 46 p.0)) (rest.due p.1)
-        | inr p ↦ let both = and_parts (is_atom octet) (is_dotted false more) p.1 in continued-more octet more both.0 (rest.within both.1)
+        | inr p ↦ let both = and_parts (is_atom_octet octet) (is_dotted false more) p.1 in continued-more octet more both.0 (rest.within both.1)
       ];
-      due = λ is. elim (fork (octet == 46) (false && is_dotted true more) (is_atom octet && is_dotted false more) true is) [
+      due = λ is. elim (fork (octet == 46) (false && is_dotted true more) (is_atom_octet octet && is_dotted false more) true is) [
         | inl p ↦ absurd (false≢true p.1)
-        | inr p ↦ let both = and_parts (is_atom octet) (is_dotted false more) p.1 in joined-first octet more both.0 (rest.within both.1)
+        | inr p ↦ let both = and_parts (is_atom_octet octet) (is_dotted false more) p.1 in joined-first octet more both.0 (rest.within both.1)
       ];
     }
 
 -- atoms are words
-atom-word : (kind : Kind) (text value : List ℕ) → IsAtom kind text value → IsWord kind text value
+atom-word : (kind : AddrPieceKind) (text value : List ℕ) → IsAtom kind text value → IsWordToken kind text value
 atom-word K.Atom text value is = is
 atom-word _ text value is = absurd is
 
-dotted-words : (all : List Piece) (value : List ℕ) → Dotted IsAtom all value → Dotted IsWord all value
+dotted-words : (all : List AddrPiece) (value : List ℕ) → Dotted IsAtom all value → Dotted IsWordToken all value
 dotted-words [] value dotted = absurd dotted
 dotted-words (atom ∷ []) value dotted = atom-word atom.kind atom.text value dotted
 dotted-words (atom ∷ (dot ∷ more)) value dotted = (dotted.0, dotted.1, atom-word atom.kind atom.text dotted.0 dotted.2, dotted.3, dotted-words more dotted.1 dotted.4, dotted.5)
@@ -212,12 +212,12 @@ escapes : List ℕ → List Inner
 escapes [] = []
 escapes (octet ∷ more) = cond (octet == 34 || octet == 92) (Pair octet) (Plain octet) ∷ escapes more
 
-escapes-written : (text : List ℕ) → escaped text ++ 34 ∷ [] ≡ written (escapes text) (34 ∷ [])
+escapes-written : (text : List ℕ) → with_quoted_pairs text ++ 34 ∷ [] ≡ inner_before (escapes text) (34 ∷ [])
 unfolding escapes
 escapes-written [] = refl
 escapes-written (octet ∷ more) = elim (cases_Bool (octet == 34 || octet == 92)) [
-  | inl yes' ↦ ap (λ b. cond b (92 ∷ (octet ∷ escaped more)) (octet ∷ escaped more) ++ 34 ∷ []) yes' ∙ ap (λ s. 92 ∷ (octet ∷ s)) (escapes-written more) ∙ ap (λ b. written (cond b (Pair octet) (Plain octet) ∷ escapes more) (34 ∷ [])) (sym yes')
-  | inr no' ↦ ap (λ b. cond b (92 ∷ (octet ∷ escaped more)) (octet ∷ escaped more) ++ 34 ∷ []) no' ∙ ap (λ s. octet ∷ s) (escapes-written more) ∙ ap (λ b. written (cond b (Pair octet) (Plain octet) ∷ escapes more) (34 ∷ [])) (sym no')
+  | inl yes' ↦ ap (λ b. cond b (92 ∷ (octet ∷ with_quoted_pairs more)) (octet ∷ with_quoted_pairs more) ++ 34 ∷ []) yes' ∙ ap (λ s. 92 ∷ (octet ∷ s)) (escapes-written more) ∙ ap (λ b. inner_before (cond b (Pair octet) (Plain octet) ∷ escapes more) (34 ∷ [])) (sym yes')
+  | inr no' ↦ ap (λ b. cond b (92 ∷ (octet ∷ with_quoted_pairs more)) (octet ∷ with_quoted_pairs more) ++ 34 ∷ []) no' ∙ ap (λ s. octet ∷ s) (escapes-written more) ∙ ap (λ b. inner_before (cond b (Pair octet) (Plain octet) ∷ escapes more) (34 ∷ [])) (sym no')
 ]
 
 escapes-inside : (text : List ℕ) → IsInside 34 (escapes text)
@@ -228,23 +228,23 @@ escapes-inside (octet ∷ more) = elim (cases_Bool (octet == 34 || octet == 92))
   | inr no' ↦ let both = or_parts (octet == 34) (octet == 92) no' in subst (λ b. IsInside 34 (cond b (Pair octet) (Plain octet) ∷ escapes more)) (sym no') (both.0, (both.1, escapes-inside more))
 ]
 
-escaped-unquoted : (text : List ℕ) → unquoted_from false (escaped text ++ 34 ∷ []) ≡ text
+escaped-unquoted : (text : List ℕ) → unquoted_from false (with_quoted_pairs text ++ 34 ∷ []) ≡ text
 escaped-unquoted [] = refl
 escaped-unquoted (octet ∷ more) = elim (cases_Bool (octet == 34 || octet == 92)) [
-  | inl yes' ↦ ap (λ b. unquoted_from false (cond b (92 ∷ (octet ∷ escaped more)) (octet ∷ escaped more) ++ 34 ∷ [])) yes' ∙ ap (λ s. octet ∷ s) (escaped-unquoted more)
+  | inl yes' ↦ ap (λ b. unquoted_from false (cond b (92 ∷ (octet ∷ with_quoted_pairs more)) (octet ∷ with_quoted_pairs more) ++ 34 ∷ [])) yes' ∙ ap (λ s. octet ∷ s) (escaped-unquoted more)
   | inr no' ↦
       let both = or_parts (octet == 34) (octet == 92) no' in
-      ap (λ b. unquoted_from false (cond b (92 ∷ (octet ∷ escaped more)) (octet ∷ escaped more) ++ 34 ∷ [])) no'
-      ∙ ap (λ b. cond b (unquoted_from true (escaped more ++ 34 ∷ [])) (cond (octet == 34) (unquoted_from false (escaped more ++ 34 ∷ [])) (octet ∷ unquoted_from false (escaped more ++ 34 ∷ [])))) both.1
-      ∙ ap (λ b. cond b (unquoted_from false (escaped more ++ 34 ∷ [])) (octet ∷ unquoted_from false (escaped more ++ 34 ∷ []))) both.0
+      ap (λ b. unquoted_from false (cond b (92 ∷ (octet ∷ with_quoted_pairs more)) (octet ∷ with_quoted_pairs more) ++ 34 ∷ [])) no'
+      ∙ ap (λ b. cond b (unquoted_from true (with_quoted_pairs more ++ 34 ∷ [])) (cond (octet == 34) (unquoted_from false (with_quoted_pairs more ++ 34 ∷ [])) (octet ∷ unquoted_from false (with_quoted_pairs more ++ 34 ∷ [])))) both.1
+      ∙ ap (λ b. cond b (unquoted_from false (with_quoted_pairs more ++ 34 ∷ [])) (octet ∷ unquoted_from false (with_quoted_pairs more ++ 34 ∷ []))) both.0
       ∙ ap (λ s. octet ∷ s) (escaped-unquoted more)
 ]
 
 -- the local part as it is spelled, as pieces that anything but an atom may follow
 record IsLocal (local text : List ℕ) : Type 0 where
-  pieces : List Piece
-  words : Dotted IsWord pieces local
-  cut : (rest : List ℕ) (more : List Piece) → IsNoAtom rest → Cut rest more → Cut (text ++ rest) (pieces ++ more)
+  pieces : List AddrPiece
+  words : Dotted IsWordToken pieces local
+  cut : (rest : List ℕ) (more : List AddrPiece) → IsNoAtom rest → Cut rest more → Cut (text ++ rest) (pieces ++ more)
 
 quoted-local : (local : List ℕ) → IsLocal local (quoted local)
 quoted-local local = record {
@@ -263,8 +263,8 @@ local-is local = elim (cases_Bool (is_dot_atom local)) [
 
 -- a domain as pieces
 record IsHost (domain : List ℕ) : Type 0 where
-  pieces : List Piece
-  host : Dotted IsAtom pieces domain ⊎ IsLiteral pieces domain
+  pieces : List AddrPiece
+  host : Dotted IsAtom pieces domain ⊎ IsDomainLiteral pieces domain
   cut : Cut domain pieces
 
 host-is : (domain : List ℕ) → IsDomain domain → IsHost domain
@@ -282,52 +282,52 @@ host-is domain (inr literal) = record {
 }
 
 -- an addr-spec has neither blanks nor comments
-inner-token : (kind : Kind) → is_inner kind ≡ true → is_token kind ≡ true
+inner-token : (kind : AddrPieceKind) → is_inner kind ≡ true → is_token kind ≡ true
 inner-token K.Blank inner = absurd (false≢true inner)
 inner-token K.Comment inner = absurd (false≢true inner)
 inner-token _ inner = refl
 
-inner-plain : (kind : Kind) → is_inner kind ≡ true → is_no_comment kind ≡ true
+inner-plain : (kind : AddrPieceKind) → is_inner kind ≡ true → is_no_comment kind ≡ true
 inner-plain K.Comment inner = absurd (false≢true inner)
 inner-plain _ inner = refl
 
-inner-tokens : (all : List Piece) → Each is_inner all → tokens all ≡ all
+inner-tokens : (all : List AddrPiece) → Each is_inner all → tokens all ≡ all
 inner-tokens [] inner = refl
 inner-tokens (piece ∷ more) inner = ap (λ b. cond b (piece ∷ tokens more) (tokens more)) (inner-token piece.kind inner.0) ∙ ap (λ ps. piece ∷ ps) (inner-tokens more inner.1)
 
-inner-no_comment : (all : List Piece) → Each is_inner all → Each is_no_comment all
+inner-no_comment : (all : List AddrPiece) → Each is_inner all → Each is_no_comment all
 inner-no_comment [] inner = tt
 inner-no_comment (piece ∷ more) inner = (inner-plain piece.kind inner.0, inner-no_comment more inner.1)
 
 -- what is spelled is the address, without display name, if it is fit
-spelling-bare : (address : Addr) → IsDomain address.domain → is_fit (spelling address) ≡ true → IsBareAddress (spelling address) address
+spelling-bare : (address : Addr) → IsDomain address.domain → is_fit (address_spelling address) ≡ true → IsBareAddress (address_spelling address) address
 spelling-bare address domain fit =
     let l = local-is address.local in
     let h = host-is address.domain domain in
-    let at : Piece = record { kind = K.At; text = 64 ∷ [] } in
+    let at : AddrPiece = record { kind = K.At; text = 64 ∷ [] } in
     let all = l.pieces ++ at ∷ h.pieces in
-    let spec : IsSpec all address = record { local = l.pieces; at = at; domain = h.pieces; cut = refl; mark = refl; words = l.words; host = h.host } in
+    let spec : IsAddrSpec all address = record { local = l.pieces; at = at; domain = h.pieces; cut = refl; mark = refl; words = l.words; host = h.host } in
     let inner : Each is_inner all = spec-inner all address spec in
     record {
       fit = fit;
       pieces = all;
       cut = l.cut (64 ∷ address.domain) (at ∷ h.pieces) refl (address.domain, (refl, (record { octet = 64; alone = refl; begins = refl }, h.cut)));
       no_comment = inner-no_comment all inner;
-      spec = subst (λ ps. IsSpec ps address) (sym (inner-tokens all inner)) spec;
+      spec = subst (λ ps. IsAddrSpec ps address) (sym (inner-tokens all inner)) spec;
     }
 
-spelling-fit : (address : Addr) (text : List ℕ) → text ≡ spelling address → IsDomain address.domain × (is_fit text ≡ true) → IsBareAddress text address
+spelling-fit : (address : Addr) (text : List ℕ) → text ≡ address_spelling address → IsDomain address.domain × (is_fit text ≡ true) → IsBareAddress text address
 spelling-fit address text is both = subst (λ t. IsBareAddress t address) (sym is) (spelling-bare address both.0 (subst (λ t. is_fit t ≡ true) is both.1))
 
 -- the two facts under which a spelling is its address, and that it is only then
-pub spelling-alone : (address : Addr) (text : List ℕ) → text ≡ spelling address → (IsBareAddress text address → IsDomain address.domain × (is_fit text ≡ true)) × (IsDomain address.domain × (is_fit text ≡ true) → IsBareAddress text address)
+pub spelling-alone : (address : Addr) (text : List ℕ) → text ≡ address_spelling address → (IsBareAddress text address → IsDomain address.domain × (is_fit text ≡ true)) × (IsDomain address.domain × (is_fit text ≡ true) → IsBareAddress text address)
 spelling-alone address text is = (
   λ b. (outbound-domain text [] address (bare-outbound text address b), b.fit),
   spelling-fit address text is,
 )
 
 -- the same of the address that it names
-pub spelling-law : (address : Addr) (text : List ℕ) → text ≡ spelling address → (IsOutbound text [] address → IsDomain address.domain × (is_fit text ≡ true)) × (IsDomain address.domain × (is_fit text ≡ true) → IsOutbound text [] address)
+pub spelling-law : (address : Addr) (text : List ℕ) → text ≡ address_spelling address → (IsOutbound text [] address → IsDomain address.domain × (is_fit text ≡ true)) × (IsDomain address.domain × (is_fit text ≡ true) → IsOutbound text [] address)
 spelling-law address text is = (
   λ o. (outbound-domain text [] address o, o.fit),
   λ both. bare-outbound text address (spelling-fit address text is both),

@@ -3,15 +3,15 @@
 use Rattle.std.specs.Prelude.{◌≡◌, ℕ, suc, zero, ◌+◌, ◌-◌, ◌<◌, ◌==◌, ◌&&◌, Bool, true, false, if◌then◌else◌, Option, Some, None, option_map, option_to_list, length, take, drop, List, [], ◌∷◌, ◌++◌}
 use Rattle.std.specs.List.{prefix_len}
 use Rattle.octets.specs.Ascii.{trimmed}
-use Rattle.addrparts.specs.declared.scanner.Kind.{Kind}
-use Rattle.addrparts.specs.declared.scanner.Kind.TheVariants as K
-use Rattle.addrparts.specs.declared.draft.Place.TheVariants as P
-use Rattle.addrparts.specs.declared.draft.Draft.{Draft}
-use Rattle.addrparts.specs.declared.address.Addr.{Addr}
-use Rattle.addrparts.specs.Pieces.{Piece, kind_of, is_atom, unquoted}
-use Rattle.addrparts.specs.Parts.{is_separator}
-use Rattle.addrparts.specs.Outbound.{is_fit}
-use Rattle.addrparts.specs.Drafts.{start_at, start, taken, is_outside, outcome, given}
+use Rattle.mail_address.specs.declared.scanner.AddrPieceKind.{AddrPieceKind}
+use Rattle.mail_address.specs.declared.scanner.AddrPieceKind.TheVariants as K
+use Rattle.mail_address.specs.declared.draft.BracketState.TheVariants as P
+use Rattle.mail_address.specs.declared.draft.Draft.{Draft}
+use Rattle.mail_address.specs.declared.address.Addr.{Addr}
+use Rattle.mail_address.specs.Pieces.{AddrPiece, piece_kind_of, is_atom_octet, unquoted_text}
+use Rattle.mail_address.specs.Parts.{is_separator}
+use Rattle.mail_address.specs.Outbound.{is_fit}
+use Rattle.mail_address.specs.Drafts.{empty_draft_at, empty_draft, after_token, is_outside, draft_address, part_address}
 
 -- what follows the first closing octet that no backslash escapes; whether a backslash precedes the text
 abbrev pub after_close : ℕ → Bool → List ℕ → Option (List ℕ)
@@ -42,23 +42,23 @@ abbrev pub len_before : List ℕ → Option (List ℕ) → Option ℕ
 len_before text rest = option_map (λ found. length text - length found) rest
 
 -- the kind and the length of a piece that is closed after that many more octets, or is bad up to the end
-abbrev pub closed : Kind → List ℕ → Option ℕ → Kind × ℕ
+abbrev pub closed : AddrPieceKind → List ℕ → Option ℕ → AddrPieceKind × ℕ
 closed kind others (Some len) = (kind, 1 + len)
 closed kind others None = (K.Bad, 1 + length others)
 
 -- the kind of the first piece, and its length, if these octets follow its first one
-abbrev pub front_of : Kind → List ℕ → Kind × ℕ
-front_of K.Atom others = (K.Atom, 1 + prefix_len is_atom others)
+abbrev pub front_of : AddrPieceKind → List ℕ → AddrPieceKind × ℕ
+front_of K.Atom others = (K.Atom, 1 + prefix_len is_atom_octet others)
 front_of K.Quoted others = closed K.Quoted others (len_before others (after_close 34 false others))
 front_of K.Literal others = closed K.Literal others (len_before others (after_close 93 false others))
 front_of K.Comment others = closed K.Comment others (len_before others (after_comment 0 false others))
 front_of kind others = (kind, 1)
 
-abbrev pub front : ℕ → List ℕ → Kind × ℕ
-front octet others = front_of (kind_of octet) others
+abbrev pub front : ℕ → List ℕ → AddrPieceKind × ℕ
+front octet others = front_of (piece_kind_of octet) others
 
 -- the pieces of a text of at most that many octets
-abbrev pub pieces_within : ℕ → List ℕ → List Piece
+abbrev pub pieces_within : ℕ → List ℕ → List AddrPiece
 pieces_within zero text = []
 pieces_within (suc more) [] = []
 pieces_within (suc more) (octet ∷ others) =
@@ -66,43 +66,43 @@ pieces_within (suc more) (octet ∷ others) =
     ∷ pieces_within more (drop (front octet others).1 (octet ∷ others))
 
 -- the pieces of a text
-unfoldable pub pieces : List ℕ → List Piece
+unfoldable pub pieces : List ℕ → List AddrPiece
 pieces text = pieces_within (length text) text
 
 -- a piece is the first in a text, and this text follows
-pub record IsNext (text : List ℕ) (kind : Kind) (first : List ℕ) (rest : List ℕ) : Type 0 where
+pub record IsNextAddrPiece (text : List ℕ) (kind : AddrPieceKind) (first : List ℕ) (rest : List ℕ) : Type 0 where
   pub shorter : length rest < length text
   pub cut : text ≡ first ++ rest
   pub pieces : pieces text ≡ (record { kind = kind; text = first }) ∷ pieces rest
 
 -- the addresses of the parts that end among these pieces
-abbrev pub collected : Draft → List Piece → List Addr
-collected draft [] = option_to_list (outcome draft)
+abbrev pub collected : Draft → List AddrPiece → List Addr
+collected draft [] = option_to_list (draft_address draft)
 collected draft (piece ∷ more) =
     if is_separator piece.kind && is_outside draft.place
-    then option_to_list (given draft piece.kind) ++ collected start more
-    else collected (taken draft piece.kind piece.text) more
+    then option_to_list (part_address draft piece.kind) ++ collected empty_draft more
+    else collected (after_token draft piece.kind piece.text) more
 
 -- the addresses of a value
 unfoldable pub addrs : List ℕ → List Addr
-addrs value = collected start (pieces value)
+addrs value = collected empty_draft (pieces value)
 
 -- the address of a part without comments that opens no further bracket
-abbrev pub addr_spec_only : Draft → List Piece → Option Addr
-addr_spec_only draft [] = outcome draft
-addr_spec_only draft (piece ∷ more) = addr_spec_at piece.kind (addr_spec_only (taken draft piece.kind piece.text) more)
+abbrev pub addr_spec_only : Draft → List AddrPiece → Option Addr
+addr_spec_only draft [] = draft_address draft
+addr_spec_only draft (piece ∷ more) = addr_spec_at piece.kind (addr_spec_only (after_token draft piece.kind piece.text) more)
   where
-    addr_spec_at : Kind → Option Addr → Option Addr
+    addr_spec_at : AddrPieceKind → Option Addr → Option Addr
     addr_spec_at K.Comment _ = None
     addr_spec_at K.Less _ = None
     addr_spec_at _ others = others
 
 -- how many octets precede the bracket after the words of a display name, and the pieces after it; whether a word was seen
-abbrev pub opening : Bool → ℕ → List Piece → Option (ℕ × List Piece)
-opening seen at [] = None
-opening seen at (piece ∷ more) = opening_at piece.kind seen (at, more) (opening seen (at + length piece.text) more) (opening true (at + length piece.text) more)
+abbrev pub display_opening : Bool → ℕ → List AddrPiece → Option (ℕ × List AddrPiece)
+display_opening seen at [] = None
+display_opening seen at (piece ∷ more) = opening_at piece.kind seen (at, more) (display_opening seen (at + length piece.text) more) (display_opening true (at + length piece.text) more)
   where
-    opening_at : Kind → Bool → ℕ × List Piece → Option (ℕ × List Piece) → Option (ℕ × List Piece) → Option (ℕ × List Piece)
+    opening_at : AddrPieceKind → Bool → ℕ × List AddrPiece → Option (ℕ × List AddrPiece) → Option (ℕ × List AddrPiece) → Option (ℕ × List AddrPiece)
     opening_at K.Blank seen here same word = same
     opening_at K.Atom seen here same word = word
     opening_at K.Quoted seen here same word = word
@@ -115,13 +115,13 @@ abbrev pub with_display : List ℕ → Option Addr → Option (List ℕ × Addr)
 with_display display_name found = option_map (λ address. (display_name, address)) found
 
 -- the display name and the address after what opens them
-abbrev pub outbound_at : List ℕ → Option (ℕ × List Piece) → Option (List ℕ × Addr)
-outbound_at text None = with_display [] (addr_spec_only start (pieces text))
-outbound_at text (Some (at, after)) = with_display (unquoted (trimmed (take at text))) (addr_spec_only (start_at P.Inside) after)
+abbrev pub outbound_at : List ℕ → Option (ℕ × List AddrPiece) → Option (List ℕ × Addr)
+outbound_at text None = with_display [] (addr_spec_only empty_draft (pieces text))
+outbound_at text (Some (at, after)) = with_display (unquoted_text (trimmed (take at text))) (addr_spec_only (empty_draft_at P.Inside) after)
 
 -- the display name and the address of a text that is fit
 abbrev pub outbound_fit : List ℕ → Option (List ℕ × Addr)
-outbound_fit text = outbound_at text (opening false 0 (pieces text))
+outbound_fit text = outbound_at text (display_opening false 0 (pieces text))
 
 -- the display name and the address that a text names
 unfoldable pub outbound : List ℕ → Option (List ℕ × Addr)
@@ -129,4 +129,4 @@ outbound text = if is_fit text then outbound_fit text else None
 
 -- the address that a text is, without display name
 unfoldable pub bare : List ℕ → Option Addr
-bare text = if is_fit text then addr_spec_only start (pieces text) else None
+bare text = if is_fit text then addr_spec_only empty_draft (pieces text) else None

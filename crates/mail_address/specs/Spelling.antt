@@ -1,7 +1,7 @@
 -- How an address is written.
 use Rattle.std.specs.Prelude.{◌≡◌, ◌≢◌, ℕ, ◌==◌, ◌||◌, ◌&&◌, ◌⊎◌, not, Bool, true, false, if◌then◌else◌, List, [], ◌∷◌, ◌++◌}
-use Rattle.addrparts.specs.declared.address.Addr.{Addr}
-use Rattle.addrparts.specs.Pieces.{is_atom, AreAtoms, IsEnclosed}
+use Rattle.mail_address.specs.declared.address.Addr.{Addr}
+use Rattle.mail_address.specs.Pieces.{is_atom_octet, AreAtoms, IsEnclosed}
 
 -- an atom: one or more octets that may be in one (RFC 5322, 3.2.3)
 pub record IsAtomText (text : List ℕ) : Type 0 where
@@ -24,32 +24,32 @@ abbrev pub is_dotted : Bool → List ℕ → Bool
 is_dotted due [] = not due
 is_dotted due (octet ∷ more) =
     if octet == 46 then not due && is_dotted true more
-    else is_atom octet && is_dotted false more
+    else is_atom_octet octet && is_dotted false more
 
 -- whether a text is in IsDotAtom
 abbrev pub is_dot_atom : List ℕ → Bool
 is_dot_atom text = is_dotted true text
 
 -- a backslash before each quotation mark and backslash
-abbrev pub escaped : List ℕ → List ℕ
-escaped [] = []
-escaped (octet ∷ more) = if octet == 34 || octet == 92 then 92 ∷ (octet ∷ escaped more) else octet ∷ escaped more
+abbrev pub with_quoted_pairs : List ℕ → List ℕ
+with_quoted_pairs [] = []
+with_quoted_pairs (octet ∷ more) = if octet == 34 || octet == 92 then 92 ∷ (octet ∷ with_quoted_pairs more) else octet ∷ with_quoted_pairs more
 
 -- in quotation marks
 abbrev pub quoted : List ℕ → List ℕ
-quoted text = 34 ∷ (escaped text ++ 34 ∷ [])
+quoted text = 34 ∷ (with_quoted_pairs text ++ 34 ∷ [])
 
 -- the local part as it is if it is atoms with dots between them, otherwise as a quoted string
 abbrev pub local_spelling : List ℕ → List ℕ
 local_spelling local = if is_dot_atom local then local else quoted local
 
 -- the local part, `@` and the domain
-abbrev pub spelling : Addr → List ℕ
-spelling address = local_spelling address.local ++ 64 ∷ address.domain
+abbrev pub address_spelling : Addr → List ℕ
+address_spelling address = local_spelling address.local ++ 64 ∷ address.domain
 
 -- the address with nothing quoted
-abbrev pub all_of : Addr → List ℕ
-all_of address = address.local ++ 64 ∷ address.domain
+abbrev pub unquoted_address : Addr → List ℕ
+unquoted_address address = address.local ++ 64 ∷ address.domain
 
 -- atoms with dots between them, or a domain literal (RFC 5322, 3.4.1)
 abbrev pub IsDomain : List ℕ → Type 0

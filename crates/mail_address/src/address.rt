@@ -1,7 +1,7 @@
 //! One address, and how it is written.
 ghost use Rattle.std.specs.Prelude.{◌≡◌, ◌↔◌, [], ◌++◌, IsTrue, IfOk, OnOk};
-ghost use Rattle.addrparts.specs.Spelling as spec;
-ghost use Rattle.addrparts.specs.Outbound as outbound;
+ghost use Rattle.mail_address.specs.Spelling as spec;
+ghost use Rattle.mail_address.specs.Outbound as outbound;
 
 use crate::scanner;
 use octets::Octets;
@@ -20,7 +20,7 @@ pub struct Addr {
 impl Addr {
     /// Returns the local part, `@` and the domain, with nothing quoted. One copy.
     pub fn all(&self, alloc: Global) -> Result<Octets, AllocError>
-        ensures { IfOk result (λ text. text ≡ spec.all_of self.now) }
+        ensures { IfOk result (λ text. text ≡ spec.unquoted_address self.now) }
     {
         let local = self.local.as_slice();
         let domain = self.domain.as_slice();
@@ -65,7 +65,7 @@ pub fn quote(out: &mut Octets, text: &[u8]) -> Result<(), AllocError>
 }
 
 fn escape(out: &mut Octets, text: &[u8]) -> Result<(), AllocError>
-    ensures { OnOk result (out.new ≡ out.old ++ spec.escaped text.now) }
+    ensures { OnOk result (out.new ≡ out.old ++ spec.with_quoted_pairs text.now) }
 {
     for octet in text {
         if *octet == b'"' || *octet == b'\\' {
@@ -81,8 +81,8 @@ fn escape(out: &mut Octets, text: &[u8]) -> Result<(), AllocError>
 ///
 /// `sieve_address` reads it back, with an empty display name, and so does `bare_address`, exactly if the domain is valid and what is
 /// written is within the limits. Linear in the address' length; takes memory only for the result.
-pub fn spell(alloc: Global, address: &Addr) -> Result<Octets, AllocError>
-    ensures spelled { IfOk result (λ text. text ≡ spec.spelling address.now) }
+pub fn spell_address(alloc: Global, address: &Addr) -> Result<Octets, AllocError>
+    ensures spelled { IfOk result (λ text. text ≡ spec.address_spelling address.now) }
     ensures again { IfOk result (λ text. outbound.IsOutbound text [] address.now
         ↔ (spec.IsDomain address.now.domain × IsTrue (outbound.is_fit text))) }
     ensures bare { IfOk result (λ text. outbound.IsBareAddress text address.now

@@ -1,15 +1,15 @@
 //! The address that a part of a list gives, as far as its tokens have been read.
 ghost use Rattle.std.specs.Prelude.{◌≡◌, ◌++◌, IfOk, OnOk};
-ghost use Rattle.addrparts.specs.Drafts as drafts;
+ghost use Rattle.mail_address.specs.Drafts as drafts;
 
 use crate::address::Addr;
 use crate::pieces::Pieces;
-use crate::scanner::Kind;
+use crate::scanner::AddrPieceKind;
 use std::alloc::{AllocError, Global};
 
 /// Where in its part the next token is.
 #[derive(Clone, Copy)]
-pub enum Place {
+pub enum BracketState {
     /// Before any angle bracket: in a display name, or in an address without brackets.
     Front,
     /// Right after an opening bracket, where a route may begin.
@@ -24,7 +24,7 @@ pub enum Place {
 
 /// How much of an addr-spec has been read.
 #[derive(Clone, Copy)]
-pub enum Stage {
+pub enum AddrSpecState {
     Start,
     /// After a word of the local part.
     Word,
@@ -45,39 +45,39 @@ pub enum Stage {
 /// A part of a list, as far as it has been read.
 #[derive(Drop)]
 pub struct Draft<'a> {
-    pub place: Place,
-    pub stage: Stage,
+    pub place: BracketState,
+    pub stage: AddrSpecState,
     pub local: Pieces<'a>,
     pub domain: Pieces<'a>,
 }
 
-fn stage_after(stage: Stage, kind: Kind) -> Stage
-    ensures { result ≡ drafts.stage_after stage kind }
+fn stage_after(stage: AddrSpecState, kind: AddrPieceKind) -> AddrSpecState
+    ensures { result ≡ drafts.spec_state_after stage kind }
 {
     match stage {
-        Stage::Start | Stage::Dot => match kind {
-            Kind::Atom | Kind::Quoted => Stage::Word,
-            _ => Stage::Wrong,
+        AddrSpecState::Start | AddrSpecState::Dot => match kind {
+            AddrPieceKind::Atom | AddrPieceKind::Quoted => AddrSpecState::Word,
+            _ => AddrSpecState::Wrong,
         },
-        Stage::Word => match kind {
-            Kind::Dot => Stage::Dot,
-            Kind::At => Stage::At,
-            _ => Stage::Wrong,
+        AddrSpecState::Word => match kind {
+            AddrPieceKind::Dot => AddrSpecState::Dot,
+            AddrPieceKind::At => AddrSpecState::At,
+            _ => AddrSpecState::Wrong,
         },
-        Stage::At => match kind {
-            Kind::Atom => Stage::Name,
-            Kind::Literal => Stage::Literal,
-            _ => Stage::Wrong,
+        AddrSpecState::At => match kind {
+            AddrPieceKind::Atom => AddrSpecState::Name,
+            AddrPieceKind::Literal => AddrSpecState::Literal,
+            _ => AddrSpecState::Wrong,
         },
-        Stage::Name => match kind {
-            Kind::Dot => Stage::NameDot,
-            _ => Stage::Wrong,
+        AddrSpecState::Name => match kind {
+            AddrPieceKind::Dot => AddrSpecState::NameDot,
+            _ => AddrSpecState::Wrong,
         },
-        Stage::NameDot => match kind {
-            Kind::Atom => Stage::Name,
-            _ => Stage::Wrong,
+        AddrSpecState::NameDot => match kind {
+            AddrPieceKind::Atom => AddrSpecState::Name,
+            _ => AddrSpecState::Wrong,
         },
-        Stage::Literal | Stage::Wrong => Stage::Wrong,
+        AddrSpecState::Literal | AddrSpecState::Wrong => AddrSpecState::Wrong,
     }
 }
 
@@ -85,30 +85,30 @@ fn stage_after(stage: Stage, kind: Kind) -> Stage
 fn append<'a>(
     alloc: Global,
     out: &mut Pieces<'a>,
-    kind: Kind,
+    kind: AddrPieceKind,
     text: &[u8],
     from: &'a [u8],
 ) -> Result<(), AllocError>
-    ensures { OnOk result (out.new ≡ out.old ++ drafts.value_of kind text.now) }
+    ensures { OnOk result (out.new ≡ out.old ++ drafts.token_value kind text.now) }
 {
     match kind {
-        Kind::Quoted => out.add_unquoted(alloc, text),
-        Kind::Dot => out.add(alloc, b".", from),
+        AddrPieceKind::Quoted => out.add_unquoted(alloc, text),
+        AddrPieceKind::Dot => out.add(alloc, b".", from),
         _ => out.add(alloc, text, from),
     }
 }
 
 impl<'a> Draft<'a> {
-    ghost use Rattle.addrparts.specs.declared.draft.Place.TheVariants as P;
-    ghost use Rattle.addrparts.specs.declared.draft.Stage.TheVariants as S;
+    ghost use Rattle.mail_address.specs.declared.draft.BracketState.TheVariants as P;
+    ghost use Rattle.mail_address.specs.declared.draft.AddrSpecState.TheVariants as S;
 
     /// Nothing has been read yet. Takes no memory.
-    pub(crate) fn new(alloc: Global, place: Place) -> Draft<'a>
-        ensures { result ≡ drafts.start_at place }
+    pub(crate) fn new(alloc: Global, place: BracketState) -> Draft<'a>
+        ensures { result ≡ drafts.empty_draft_at place }
     {
         Draft {
             place,
-            stage: Stage::Start,
+            stage: AddrSpecState::Start,
             local: Pieces::new(alloc),
             domain: Pieces::new(alloc),
         }
@@ -119,17 +119,17 @@ impl<'a> Draft<'a> {
         ensures { result ≡ drafts.is_outside self.now.place }
     {
         match self.place {
-            Place::Front | Place::After => true,
+            BracketState::Front | BracketState::After => true,
             _ => false,
         }
     }
 
     /// Begins anew after an opening bracket.
     fn open(&mut self)
-        ensures { self.new ≡ drafts.start_at P.Open }
+        ensures { self.new ≡ drafts.empty_draft_at P.Open }
     {
-        self.place = Place::Open;
-        self.stage = Stage::Start;
+        self.place = BracketState::Open;
+        self.stage = AddrSpecState::Start;
         self.local.clear();
         self.domain.clear();
     }
@@ -138,16 +138,16 @@ impl<'a> Draft<'a> {
     fn read(
         &mut self,
         alloc: Global,
-        kind: Kind,
+        kind: AddrPieceKind,
         text: &[u8],
         from: &'a [u8],
     ) -> Result<(), AllocError>
-        ensures { OnOk result (self.new ≡ drafts.read self.old kind text.now) }
+        ensures { OnOk result (self.new ≡ drafts.after_spec_token self.old kind text.now) }
     {
         self.stage = stage_after(self.stage, kind);
         match self.stage {
-            Stage::Word | Stage::Dot => append(alloc, &mut self.local, kind, text, from),
-            Stage::Name | Stage::NameDot | Stage::Literal => append(
+            AddrSpecState::Word | AddrSpecState::Dot => append(alloc, &mut self.local, kind, text, from),
+            AddrSpecState::Name | AddrSpecState::NameDot | AddrSpecState::Literal => append(
                 alloc,
                 &mut self.domain,
                 kind,
@@ -162,49 +162,49 @@ impl<'a> Draft<'a> {
     fn take_at(
         &mut self,
         alloc: Global,
-        kind: Kind,
+        kind: AddrPieceKind,
         text: &[u8],
         from: &'a [u8],
     ) -> Result<(), AllocError>
-        ensures { OnOk result (self.new ≡ drafts.take_at self.old.place self.old kind text.now) }
+        ensures { OnOk result (self.new ≡ drafts.after_token_at self.old.place self.old kind text.now) }
     {
         match self.place {
-            Place::Front => match kind {
-                Kind::Less => self.open(),
-                Kind::Greater => self.reject(Place::After),
+            BracketState::Front => match kind {
+                AddrPieceKind::Less => self.open(),
+                AddrPieceKind::Greater => self.reject(BracketState::After),
                 _ => self.read(alloc, kind, text, from)?,
             },
-            Place::Open => match kind {
-                Kind::At => self.place = Place::Route,
-                Kind::Greater => self.place = Place::After,
+            BracketState::Open => match kind {
+                AddrPieceKind::At => self.place = BracketState::Route,
+                AddrPieceKind::Greater => self.place = BracketState::After,
                 _ => {
-                    self.place = Place::Inside;
+                    self.place = BracketState::Inside;
                     self.read(alloc, kind, text, from)?;
                 }
             },
-            Place::Route => match kind {
-                Kind::Colon => self.place = Place::Inside,
-                Kind::Greater => self.place = Place::After,
+            BracketState::Route => match kind {
+                AddrPieceKind::Colon => self.place = BracketState::Inside,
+                AddrPieceKind::Greater => self.place = BracketState::After,
                 _ => {}
             },
-            Place::Inside => match kind {
-                Kind::Greater => self.place = Place::After,
+            BracketState::Inside => match kind {
+                AddrPieceKind::Greater => self.place = BracketState::After,
                 _ => self.read(alloc, kind, text, from)?,
             },
-            Place::After => match kind {
-                Kind::Less => self.reject(Place::Inside),
-                _ => self.reject(Place::After),
+            BracketState::After => match kind {
+                AddrPieceKind::Less => self.reject(BracketState::Inside),
+                _ => self.reject(BracketState::After),
             },
         }
         Ok(())
     }
 
     /// Notes that this part can't give an address any more.
-    fn reject(&mut self, place: Place)
+    fn reject(&mut self, place: BracketState)
         ensures { self.new ≡ record self.old { place = place; stage = S.Wrong } }
     {
         self.place = place;
-        self.stage = Stage::Wrong;
+        self.stage = AddrSpecState::Wrong;
     }
 
     /// Reads a token that doesn't end the part. Blanks and comments change nothing.
@@ -213,14 +213,14 @@ impl<'a> Draft<'a> {
     pub(crate) fn take(
         &mut self,
         alloc: Global,
-        kind: Kind,
+        kind: AddrPieceKind,
         text: &[u8],
         from: &'a [u8],
     ) -> Result<(), AllocError>
-        ensures { OnOk result (self.new ≡ drafts.taken self.old kind text.now) }
+        ensures { OnOk result (self.new ≡ drafts.after_token self.old kind text.now) }
     {
         match kind {
-            Kind::Blank | Kind::Comment => Ok(()),
+            AddrPieceKind::Blank | AddrPieceKind::Comment => Ok(()),
             _ => self.take_at(alloc, kind, text, from),
         }
     }
@@ -230,14 +230,14 @@ impl<'a> Draft<'a> {
         ensures { result ≡ drafts.is_whole self.now }
     {
         match self.stage {
-            Stage::Name | Stage::Literal => self.is_outside(),
+            AddrSpecState::Name | AddrSpecState::Literal => self.is_outside(),
             _ => false,
         }
     }
 
     /// The address that the part gives, if it ends here.
     fn address(&self, alloc: Global) -> Result<Option<Addr>, AllocError>
-        ensures { IfOk result (λ found. found ≡ drafts.outcome self.now) }
+        ensures { IfOk result (λ found. found ≡ drafts.draft_address self.now) }
     {
         if !self.is_whole() {
             return Ok(None);
@@ -250,16 +250,16 @@ impl<'a> Draft<'a> {
 
     /// Begins the next part.
     pub(crate) fn restart(&mut self)
-        ensures { self.new ≡ drafts.start }
+        ensures { self.new ≡ drafts.empty_draft }
     {
         self.open();
-        self.place = Place::Front;
+        self.place = BracketState::Front;
     }
 
     /// Returns the address that the part gives if it ends here, and begins the next part.
     pub(crate) fn finish(&mut self, alloc: Global) -> Result<Option<Addr>, AllocError>
-        ensures found { IfOk result (λ found. found ≡ drafts.outcome self.old) }
-        ensures anew { OnOk result (self.new ≡ drafts.start) }
+        ensures found { IfOk result (λ found. found ≡ drafts.draft_address self.old) }
+        ensures anew { OnOk result (self.new ≡ drafts.empty_draft) }
     {
         let found = self.address(alloc)?;
         self.restart();

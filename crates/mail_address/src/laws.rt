@@ -1,16 +1,16 @@
 //! Laws of the definitions, each the contract of a function that does nothing.
 ghost use Rattle.std.specs.Prelude.{◌≡◌, ◌↔◌, ℕ, List, [], Some, true};
-ghost use Rattle.addrparts.specs.declared.address.Addr.{Addr};
-ghost use Rattle.addrparts.specs.Outbound.{IsOutbound, IsBareAddress};
-ghost use Rattle.addrparts.specs.Parts.{AreAddresses};
-ghost use Rattle.addrparts.specs.Pieces.{Piece, Cut, IsEnclosed, IsQuotedWord, unquoted};
-ghost use Rattle.addrparts.specs.Spelling.{IsDotAtom, is_dot_atom};
-ghost use Rattle.addrparts.specs.Reading.{pieces, addrs, outbound, bare};
+ghost use Rattle.mail_address.specs.declared.address.Addr.{Addr};
+ghost use Rattle.mail_address.specs.Outbound.{IsOutbound, IsBareAddress};
+ghost use Rattle.mail_address.specs.Parts.{AreAddresses};
+ghost use Rattle.mail_address.specs.Pieces.{AddrPiece, Cut, IsEnclosed, IsQuotedWord, unquoted_text};
+ghost use Rattle.mail_address.specs.Spelling.{IsDotAtom, is_dot_atom};
+ghost use Rattle.mail_address.specs.Reading.{pieces, addrs, outbound, bare};
 
 /// A value is cut into pieces in exactly one way.
 pub fn pieces_of_a_value()
     ensures found { (value : List ℕ) → Cut value (pieces value) }
-    ensures only { (value : List ℕ) (cut : List Piece) → Cut value cut → cut ≡ pieces value }
+    ensures only { (value : List ℕ) (cut : List AddrPiece) → Cut value cut → cut ≡ pieces value }
 {}
 
 /// A text is read as atoms with dots between them exactly if it is that.
@@ -20,7 +20,7 @@ pub fn atoms_with_dots()
 
 /// A quoted string has exactly one value, that of its octets and pairs.
 pub fn value_of_a_quoted_string()
-    ensures { (text value : List ℕ) → IsQuotedWord text value ↔ (IsEnclosed 34 34 text × (value ≡ unquoted text)) }
+    ensures { (text value : List ℕ) → IsQuotedWord text value ↔ (IsEnclosed 34 34 text × (value ≡ unquoted_text text)) }
 {}
 
 /// A value has exactly one list of addresses.

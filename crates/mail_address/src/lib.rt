@@ -14,6 +14,6 @@ pub mod outbound;
 mod pieces;
 mod scanner;
 
-pub use address::{Addr, quote, spell};
+pub use address::{Addr, quote, spell_address};
 pub use list::addresses;
 pub use outbound::{bare_address, sieve_address};

@@ -1,21 +1,21 @@
 //! The addresses of a list.
 ghost use Rattle.std.specs.Prelude.{◌≡◌, ◌++◌, List, IfOk, OnOk, All, option_to_list};
-ghost use Rattle.addrparts.specs.declared.address.Addr.{Addr};
-ghost use Rattle.addrparts.specs.Parts as spec;
-ghost use Rattle.addrparts.specs.Drafts as drafts;
-ghost use Rattle.addrparts.specs.Reading as reading;
-ghost use Rattle.addrparts.specs.Spelling.{IsDomain};
+ghost use Rattle.mail_address.specs.declared.address.Addr.{Addr};
+ghost use Rattle.mail_address.specs.Parts as spec;
+ghost use Rattle.mail_address.specs.Drafts as drafts;
+ghost use Rattle.mail_address.specs.Reading as reading;
+ghost use Rattle.mail_address.specs.Spelling.{IsDomain};
 
 use crate::address::Addr;
-use crate::draft::{Draft, Place};
-use crate::scanner::{Kind, next_token};
+use crate::draft::{Draft, BracketState};
+use crate::scanner::{AddrPieceKind, next_token};
 use std::alloc::{AllocError, Global};
 
-fn is_separator(kind: Kind) -> bool
+fn is_separator(kind: AddrPieceKind) -> bool
     ensures { result ≡ spec.is_separator kind }
 {
     match kind {
-        Kind::Comma | Kind::Colon | Kind::Semicolon => true,
+        AddrPieceKind::Comma | AddrPieceKind::Colon | AddrPieceKind::Semicolon => true,
         _ => false,
     }
 }
@@ -35,13 +35,13 @@ fn push_some(found: &mut Vec<Addr>, address: Option<Addr>) -> Result<(), AllocEr
 fn end_part(
     alloc: Global,
     draft: &mut Draft<'_>,
-    mark: Kind,
+    mark: AddrPieceKind,
     found: &mut Vec<Addr>,
 ) -> Result<(), AllocError>
-    ensures given { OnOk result (found.new.items ≡ found.old.items ++ option_to_list (drafts.given draft.old mark)) }
-    ensures anew { OnOk result (draft.new ≡ drafts.start) }
+    ensures given { OnOk result (found.new.items ≡ found.old.items ++ option_to_list (drafts.part_address draft.old mark)) }
+    ensures anew { OnOk result (draft.new ≡ drafts.empty_draft) }
 {
-    if let Kind::Colon = mark {
+    if let AddrPieceKind::Colon = mark {
         draft.restart();
         return Ok(());
     }
@@ -60,7 +60,7 @@ pub fn addresses(alloc: Global, value: &[u8]) -> Result<Vec<Addr>, AllocError>
     ensures domains { IfOk result (λ found. All (λ address. IsDomain address.domain) found.items) }
 {
     let mut found = Vec::new(alloc);
-    let mut draft = Draft::new(alloc, Place::Front);
+    let mut draft = Draft::new(alloc, BracketState::Front);
     let mut rest = value;
     while let Some((token, after)) = next_token(rest) {
         if is_separator(token.kind) && draft.is_outside() {

@@ -1,16 +1,16 @@
 //! The address that a script or a command names.
 ghost use Rattle.std.specs.Prelude.{◌≡◌, ℕ, ◌≤◌, false, List, length, IfOk, IfSome, MatchOption, Some, None};
-ghost use Rattle.addrparts.specs.declared.address.Addr.{Addr};
+ghost use Rattle.mail_address.specs.declared.address.Addr.{Addr};
 ghost use Rattle.std.specs.List.{list_all};
-ghost use Rattle.addrparts.specs.Outbound as spec;
-ghost use Rattle.addrparts.specs.Drafts as drafts;
-ghost use Rattle.addrparts.specs.Reading as reading;
-ghost use Rattle.addrparts.specs.Spelling.{IsDomain};
+ghost use Rattle.mail_address.specs.Outbound as spec;
+ghost use Rattle.mail_address.specs.Drafts as drafts;
+ghost use Rattle.mail_address.specs.Reading as reading;
+ghost use Rattle.mail_address.specs.Spelling.{IsDomain};
 
 use crate::address::Addr;
-use crate::draft::{Draft, Place};
+use crate::draft::{Draft, BracketState};
 use crate::pieces::unquote;
-use crate::scanner::{Kind, next_token};
+use crate::scanner::{AddrPieceKind, next_token};
 use octets::{Octets, trim_blanks};
 use std::alloc::{AllocError, Global};
 
@@ -19,13 +19,13 @@ pub const MAX_LEN: usize = 512;
 
 /// Whether the octet isn't a control character.
 fn is_shown(octet: u8) -> bool
-    ensures { result ≡ spec.is_shown octet }
+    ensures { result ≡ spec.is_no_control octet }
 {
     32 <= octet && octet != 127
 }
 
 fn all_shown(text: &[u8]) -> bool
-    ensures { result ≡ list_all spec.is_shown text.now }
+    ensures { result ≡ list_all spec.is_no_control text.now }
 {
     text.iter().all(|octet| is_shown(*octet))
 }
@@ -39,7 +39,7 @@ fn is_fit(text: &[u8]) -> bool
 
 /// The place of the `<` after a display name, which is one or more words, perhaps with dots after the first, and what follows it.
 fn opening(text: &[u8]) -> Option<(usize, &[u8])>
-    ensures is { let opens = reading.opening false 0 (reading.pieces text.now) in
+    ensures is { let opens = reading.display_opening false 0 (reading.pieces text.now) in
         MatchOption result (opens ≡ None) (λ r. opens ≡ Some (r.0, reading.pieces r.1.now)) }
     ensures within { IfSome result (λ r. r.0 ≤ length text.now) }
 {
@@ -48,10 +48,10 @@ fn opening(text: &[u8]) -> Option<(usize, &[u8])>
     let mut rest = text;
     while let Some((token, after)) = next_token(rest) {
         match token.kind {
-            Kind::Blank => {}
-            Kind::Atom | Kind::Quoted => seen = true,
-            Kind::Dot if seen => {}
-            Kind::Less if seen => return Some((at, after)),
+            AddrPieceKind::Blank => {}
+            AddrPieceKind::Atom | AddrPieceKind::Quoted => seen = true,
+            AddrPieceKind::Dot if seen => {}
+            AddrPieceKind::Less if seen => return Some((at, after)),
             _ => return None,
         }
         at += token.text.len();
@@ -61,14 +61,14 @@ fn opening(text: &[u8]) -> Option<(usize, &[u8])>
 }
 
 /// The addr-spec that the text is, or that precedes a `>` at its end.
-fn addr_spec_only(alloc: Global, place: Place, text: &[u8]) -> Result<Option<Addr>, AllocError>
-    ensures { IfOk result (λ found. found ≡ reading.addr_spec_only (drafts.start_at place) (reading.pieces text.now)) }
+fn addr_spec_only(alloc: Global, place: BracketState, text: &[u8]) -> Result<Option<Addr>, AllocError>
+    ensures { IfOk result (λ found. found ≡ reading.addr_spec_only (drafts.empty_draft_at place) (reading.pieces text.now)) }
 {
     let mut draft = Draft::new(alloc, place);
     let mut rest = text;
     while let Some((token, after)) = next_token(rest) {
         match token.kind {
-            Kind::Comment | Kind::Less => return Ok(None),
+            AddrPieceKind::Comment | AddrPieceKind::Less => return Ok(None),
             _ => draft.take(alloc, token.kind, token.text, rest)?,
         }
         rest = after;
@@ -82,11 +82,11 @@ fn read_fit(alloc: Global, text: &[u8]) -> Result<Option<(Octets, Addr)>, AllocE
 {
     let mut display_name = Octets::new(alloc);
     let found = match opening(text) {
-        None => addr_spec_only(alloc, Place::Front, text)?,
+        None => addr_spec_only(alloc, BracketState::Front, text)?,
         Some((at, after)) => {
             let (before, _) = text.split_at(at);
             unquote(&mut display_name, trim_blanks(before))?;
-            addr_spec_only(alloc, Place::Inside, after)?
+            addr_spec_only(alloc, BracketState::Inside, after)?
         }
     };
     Ok(found.map(|address| (display_name, address)))
@@ -128,5 +128,5 @@ pub fn bare_address(alloc: Global, text: &[u8]) -> Result<Option<Addr>, AllocErr
     if !is_fit(text) {
         return Ok(None);
     }
-    addr_spec_only(alloc, Place::Front, text)
+    addr_spec_only(alloc, BracketState::Front, text)
 }

@@ -1,6 +1,6 @@
 //! Octets that are assembled from pieces of a value.
 ghost use Rattle.std.specs.Prelude.{◌≡◌, ◌+◌, ◌≤◌, [], ◌++◌, length, take, IsTrue, IfOk, OnOk};
-ghost use Rattle.addrparts.specs.Pieces as spec;
+ghost use Rattle.mail_address.specs.Pieces as spec;
 
 use octets::Octets;
 use std::alloc::{AllocError, Global};
@@ -33,7 +33,7 @@ impl<'a> Model for Pieces<'a> {
 
 /// Appends the text without its quotation marks, and with each quoted pair replaced by its octet. Reads the text once.
 pub(crate) fn unquote(out: &mut Octets, text: &[u8]) -> Result<(), AllocError>
-    ensures { OnOk result (out.new ≡ out.old ++ spec.unquoted text.now) }
+    ensures { OnOk result (out.new ≡ out.old ++ spec.unquoted_text text.now) }
 {
     let mut escaped = false;
     for octet in text {
@@ -115,7 +115,7 @@ impl<'a> Pieces<'a> {
 
     /// Appends the value of a quoted string.
     pub(crate) fn add_unquoted(&mut self, alloc: Global, text: &[u8]) -> Result<(), AllocError>
-        ensures { OnOk result (self.new ≡ self.old ++ spec.unquoted text.now) }
+        ensures { OnOk result (self.new ≡ self.old ++ spec.unquoted_text text.now) }
     {
         if !self.is_copied {
             let (run, _) = self.from.split_at(self.len);

@@ -1,12 +1,12 @@
 //! The pieces of a value, from the beginning.
 ghost use Rattle.std.specs.Prelude.{◌≡◌, ℕ, false, ◌+◌, ◌<◌, ◌≤◌, [], length, MatchOption, IfSome};
 ghost use Rattle.std.specs.List.{prefix_len};
-ghost use Rattle.addrparts.specs.Pieces as spec;
-ghost use Rattle.addrparts.specs.Reading as reading;
+ghost use Rattle.mail_address.specs.Pieces as spec;
+ghost use Rattle.mail_address.specs.Reading as reading;
 
 /// What a piece of a value is.
 #[derive(Clone, Copy)]
-pub enum Kind {
+pub enum AddrPieceKind {
     /// Octets of no other kind, as many as follow each other.
     Atom,
     /// A quoted string with its quotation marks.
@@ -37,30 +37,30 @@ pub enum Kind {
 
 /// A piece of a value as it is written.
 #[derive(Clone, Copy)]
-pub struct Token<'a> {
-    pub kind: Kind,
+pub struct AddrToken<'a> {
+    pub kind: AddrPieceKind,
     pub text: &'a [u8],
 }
 
 /// The kind of piece that begins with this octet.
-fn kind_of(octet: u8) -> Kind
-    ensures { result ≡ spec.kind_of octet }
+fn kind_of(octet: u8) -> AddrPieceKind
+    ensures { result ≡ spec.piece_kind_of octet }
 {
     match octet {
-        b'"' => Kind::Quoted,
-        b'(' => Kind::Comment,
-        b'[' => Kind::Literal,
-        b'<' => Kind::Less,
-        b'>' => Kind::Greater,
-        b'@' => Kind::At,
-        b',' => Kind::Comma,
-        b':' => Kind::Colon,
-        b';' => Kind::Semicolon,
-        b'.' => Kind::Dot,
-        b' ' | b'\t' => Kind::Blank,
-        b')' | b']' | b'\\' | 127 => Kind::Bad,
-        0..=32 => Kind::Bad,
-        _ => Kind::Atom,
+        b'"' => AddrPieceKind::Quoted,
+        b'(' => AddrPieceKind::Comment,
+        b'[' => AddrPieceKind::Literal,
+        b'<' => AddrPieceKind::Less,
+        b'>' => AddrPieceKind::Greater,
+        b'@' => AddrPieceKind::At,
+        b',' => AddrPieceKind::Comma,
+        b':' => AddrPieceKind::Colon,
+        b';' => AddrPieceKind::Semicolon,
+        b'.' => AddrPieceKind::Dot,
+        b' ' | b'\t' => AddrPieceKind::Blank,
+        b')' | b']' | b'\\' | 127 => AddrPieceKind::Bad,
+        0..=32 => AddrPieceKind::Bad,
+        _ => AddrPieceKind::Atom,
     }
 }
 
@@ -82,7 +82,7 @@ static ATOM_OCTETS: [u8; 256] = *b"\
 /// Whether the octet may be in an atom. One look into a table.
 #[inline(always)]
 pub(crate) fn is_atom(octet: u8) -> bool
-    ensures { result ≡ spec.is_atom octet }
+    ensures { result ≡ spec.is_atom_octet octet }
 {
     ATOM_OCTETS[octet as usize] != b','
 }
@@ -129,49 +129,49 @@ fn comment_len(inside: &[u8]) -> Option<usize>
 
 #[inline(always)]
 fn atom_len(text: &[u8]) -> usize
-    ensures is { result ≡ prefix_len spec.is_atom text.now }
+    ensures is { result ≡ prefix_len spec.is_atom_octet text.now }
     ensures within { result ≤ length text.now }
 {
     text.iter().take_while(|octet| is_atom(**octet)).count()
 }
 
 /// A piece that is closed after that many more octets, or is bad up to the end.
-fn closed(kind: Kind, others: &[u8], len: Option<usize>) -> (Kind, usize)
+fn closed(kind: AddrPieceKind, others: &[u8], len: Option<usize>) -> (AddrPieceKind, usize)
     requires { IfSome len (λ n. n ≤ length others.now) }
     ensures { result ≡ reading.closed kind others.now len }
 {
     match len {
         Some(len) => (kind, 1 + len),
-        None => (Kind::Bad, 1 + others.len()),
+        None => (AddrPieceKind::Bad, 1 + others.len()),
     }
 }
 
 /// The kind of the piece that begins with this octet, and how many octets it has.
 #[inline(always)]
-fn first_piece(first: u8, others: &[u8]) -> (Kind, usize)
+fn first_piece(first: u8, others: &[u8]) -> (AddrPieceKind, usize)
     ensures is { result ≡ reading.front first others.now }
     ensures some { 0 < result.1 }
     ensures within { result.1 ≤ 1 + length others.now }
 {
     if is_atom(first) {
-        return (Kind::Atom, 1 + atom_len(others));
+        return (AddrPieceKind::Atom, 1 + atom_len(others));
     }
     let kind = kind_of(first);
     match kind {
-        Kind::Quoted => closed(kind, others, enclosed_len(others, b'"')),
-        Kind::Literal => closed(kind, others, enclosed_len(others, b']')),
-        Kind::Comment => closed(kind, others, comment_len(others)),
+        AddrPieceKind::Quoted => closed(kind, others, enclosed_len(others, b'"')),
+        AddrPieceKind::Literal => closed(kind, others, enclosed_len(others, b']')),
+        AddrPieceKind::Comment => closed(kind, others, comment_len(others)),
         _ => (kind, 1),
     }
 }
 
 /// The first piece of a text, and what follows it.
 #[inline(always)]
-pub(crate) fn next_token(text: &[u8]) -> Option<(Token<'_>, &[u8])>
-    ensures { MatchOption result (reading.pieces text.now ≡ []) (λ r. reading.IsNext text.now r.0.kind r.0.text.now r.1.now) }
+pub(crate) fn next_token(text: &[u8]) -> Option<(AddrToken<'_>, &[u8])>
+    ensures { MatchOption result (reading.pieces text.now ≡ []) (λ r. reading.IsNextAddrPiece text.now r.0.kind r.0.text.now r.1.now) }
 {
     let (first, others) = text.split_first()?;
     let (kind, len) = first_piece(*first, others);
     let (text, rest) = text.split_at(len);
-    Some((Token { kind, text }, rest))
+    Some((AddrToken { kind, text }, rest))
 }

@@ -7,8 +7,8 @@ use Rattle.jiff_core.specs.Date.{epoch_day}
 use Rattle.jiff_core.proofs.SignedLemmas.{signed_arith}
 use Rattle.jiff_core.proofs.CalendarLemmas.{days_from_civil-day_count, day_count-epoch, day_count-lt_year}
 use Rattle.jiff_core.proofs.DateLemmas.{civil, epoch_day_range, epoch_day_injective}
-use Rattle.maildates.specs.declared.date_time.DateTime.{DateTime}
-use Rattle.maildates.specs.DateTimes.{IsDateTime, IsZone, IsClock, IsSameMoment, local_minutes}
+use Rattle.mail_dates.specs.declared.date_time.DateTime.{DateTime}
+use Rattle.mail_dates.specs.DateTimes.{IsDateTime, IsZone, IsClock, IsSameMoment, local_minutes}
 
 -- a date's day as jiff has it
 unfoldable pub date_of : (date : DateTime) → IsDateTime date → Date

@@ -2,15 +2,15 @@
 use Rattle.std.proofs.Common.{◌≡◌, ℕ, Some, None, [], refl, ℤ, pos, neg_ℤ, arith, rules}
 use Rattle.std.specs.Prelude.{codes}
 use Rattle.jiff_core.specs.Calendar.{IsCivilDate, days_from_civil, day_count, days_of_years, days_of_months, weekday_number}
-use Rattle.maildates.specs.declared.date_time.DateTime.{DateTime}
-use Rattle.maildates.specs.declared.part.DatePart.TheVariants as P
-use Rattle.maildates.specs.DateTexts.{IsDateText}
-use Rattle.maildates.specs.Pieces.{goes_on}
-use Rattle.maildates.specs.Words.{number_in, two_digits, day_of, year_of, is_named, month_of, weekday_of, mark_of}
-use Rattle.maildates.specs.Zones.{offset_of, numeric_of, hours_west, named_of, zone_of}
-use Rattle.maildates.specs.Reading.{next_state, after_gap, cut, piece, reads, after_name, day_from, second_from, time_from, parts_from}
-use Rattle.maildates.specs.Parts.{part_text, part_named}
-use Rattle.maildates.proofs.ReadingLaws.{read_is, unread_is, only_text}
+use Rattle.mail_dates.specs.declared.date_time.DateTime.{DateTime}
+use Rattle.mail_dates.specs.declared.part.DatePart.TheVariants as P
+use Rattle.mail_dates.specs.DateTexts.{IsDateText}
+use Rattle.mail_dates.specs.Pieces.{goes_on}
+use Rattle.mail_dates.specs.Words.{number_in, two_digits, day_of, year_of, is_named, month_of, weekday_of, mark_of}
+use Rattle.mail_dates.specs.Zones.{offset_of, numeric_of, hours_west, named_of, zone_of}
+use Rattle.mail_dates.specs.Reading.{next_state, after_gap, cut, piece, reads, after_name, day_from, second_from, time_from, parts_from}
+use Rattle.mail_dates.specs.Parts.{part_text, part_named}
+use Rattle.mail_dates.proofs.ReadingLaws.{read_is, unread_is, only_text}
 
 abbrev date : ℕ → ℕ → ℕ → ℕ → ℕ → ℕ → ℤ → DateTime
 date y m d h mi s z = record { year = y; month = m; day = d; hour = h; minute = mi; second = s; zone = z }

@@ -9,14 +9,14 @@ use Rattle.jiff_core.specs.Calendar.{IsCivilDate, days_in_month}
 use Rattle.jiff_core.proofs.SignedLemmas.{signed_arith}
 use Rattle.jiff_core.proofs.CalendarLemmas.{days_in_month_bounds}
 use Rattle.octets.proofs.Lists.{some_is}
-use Rattle.maildates.specs.declared.date_time.DateTime.{DateTime}
-use Rattle.maildates.specs.DateTimes.{IsDateTime, IsZone, IsMoment, IsSameMoment, utc_minutes}
-use Rattle.maildates.specs.DateTexts.{IsDateText}
-use Rattle.maildates.specs.Reading.{piece, parts_from}
-use Rattle.maildates.specs.Finding.{is_civil, is_over, date_of, some_below, some_date, same_moment_passes, moment_passes}
-use Rattle.maildates.proofs.PieceLaws.{over_exact}
-use Rattle.maildates.proofs.ReadingLaws.{parts_is, text_of, only_text, no_text}
-use Rattle.maildates.proofs.WordLemmas.{then_some}
+use Rattle.mail_dates.specs.declared.date_time.DateTime.{DateTime}
+use Rattle.mail_dates.specs.DateTimes.{IsDateTime, IsZone, IsMoment, IsSameMoment, utc_minutes}
+use Rattle.mail_dates.specs.DateTexts.{IsDateText}
+use Rattle.mail_dates.specs.Reading.{piece, parts_from}
+use Rattle.mail_dates.specs.Finding.{is_civil, has_no_piece, date_of, some_below, some_date, same_moment_passes, moment_passes}
+use Rattle.mail_dates.proofs.PieceLaws.{over_exact}
+use Rattle.mail_dates.proofs.ReadingLaws.{parts_is, text_of, only_text, no_text}
+use Rattle.mail_dates.proofs.WordLemmas.{then_some}
 
 -- ---- dates of the calendar
 
@@ -28,12 +28,12 @@ civil_decides year month day =
     (λ civil. (omega (arith, signed_arith, civil.0), ((omega (arith, civil.1), omega (arith, civil.1)), (omega (arith, civil.2), omega (arith, civil.2)))))
     (Decides-and _ _ (Decides-ltb year 10000) (Decides-and _ _ (Decides-and _ _ (Decides-ltb 0 month) (Decides-ltb month 13)) (Decides-and _ _ (Decides-ltb 0 day) (Decides-ltb day (suc (days_in_month (pos year) month))))))
 
-over_decides : (text : List ℕ) → Decides (is_over (piece text)) (piece text ≡ Some ([], []))
+over_decides : (text : List ℕ) → Decides (has_no_piece (piece text)) (piece text ≡ Some ([], []))
 over_decides text = split (piece text) refl
   where
-    split : (found : Option (List ℕ × List ℕ)) → piece text ≡ found → Decides (is_over (piece text)) (piece text ≡ Some ([], []))
-    split None none = subst (λ (o : Option (List ℕ × List ℕ)). Decides (is_over o) (o ≡ Some ([], []))) (sym none) ((λ h. absurd (cc h)), (λ same. absurd (cc same)))
-    split (Some first) some = subst (λ (b : Bool). Decides b (piece text ≡ Some ([], []))) (sym (ap is_over some)) (over_exact text first.0 first.1 (length first.0 == 0) some refl)
+    split : (found : Option (List ℕ × List ℕ)) → piece text ≡ found → Decides (has_no_piece (piece text)) (piece text ≡ Some ([], []))
+    split None none = subst (λ (o : Option (List ℕ × List ℕ)). Decides (has_no_piece o) (o ≡ Some ([], []))) (sym none) ((λ h. absurd (cc h)), (λ same. absurd (cc same)))
+    split (Some first) some = subst (λ (b : Bool). Decides b (piece text ≡ Some ([], []))) (sym (ap has_no_piece some)) (over_exact text first.0 first.1 (length first.0 == 0) some refl)
 
 -- what is found is there, and what is there is found
 picked : (test : Bool) (date found : DateTime) → cond test (Some date) None ≡ Some found → (test ≡ true) × (date ≡ found)
@@ -45,7 +45,7 @@ unfolding date_of
 date_of_is text date found =
     let parts = then_some _ (parts_from text) date found in
     let r = parts.0 in
-    let chosen = picked (is_over (piece r.1) && is_civil r.0.year r.0.month r.0.day) r.0 date parts.1.1 in
+    let chosen = picked (has_no_piece (piece r.1) && is_civil r.0.year r.0.month r.0.day) r.0 date parts.1.1 in
     let both = (Decides-and _ _ (over_decides r.1) (civil_decides r.0.year r.0.month r.0.day)).0 chosen.0 in
     subst (λ (d : DateTime). IsDateText text d) chosen.1 (text_of text r.0 r.1 (parts_is text r.0 r.1 parts.1.0) both.0 both.1)
 
@@ -53,12 +53,12 @@ pub date_of_again : (text : List ℕ) (date : DateTime) → IsDateText text date
 unfolding date_of
 date_of_again text date is = split (parts_from text) refl
   where
-    split : (found : Option (DateTime × List ℕ)) → parts_from text ≡ found → option_and_then (λ (r : DateTime × List ℕ). cond (is_over (piece r.1) && is_civil r.0.year r.0.month r.0.day) (Some r.0) None) (parts_from text) ≡ Some date
+    split : (found : Option (DateTime × List ℕ)) → parts_from text ≡ found → option_and_then (λ (r : DateTime × List ℕ). cond (has_no_piece (piece r.1) && is_civil r.0.year r.0.month r.0.day) (Some r.0) None) (parts_from text) ≡ Some date
     split None none = absurd (no_text text date none is)
     split (Some r) some =
         let only = only_text text r.0 r.1 date some is in
         let passes = (Decides-and _ _ (over_decides r.1) (civil_decides r.0.year r.0.month r.0.day)).1 (only.1.0, only.1.1) in
-        ap (option_and_then (λ (r : DateTime × List ℕ). cond (is_over (piece r.1) && is_civil r.0.year r.0.month r.0.day) (Some r.0) None)) some
+        ap (option_and_then (λ (r : DateTime × List ℕ). cond (has_no_piece (piece r.1) && is_civil r.0.year r.0.month r.0.day) (Some r.0) None)) some
         ∙ (ap (λ (b : Bool). cond b (Some r.0) None) passes ∙ ap Some only.0)
 
 -- ---- some date passes

@@ -3,9 +3,9 @@ use Rattle.std.proofs.Common.{◌≡◌, ℕ, zero, suc, ◌+◌, ◌-◌, ◌<�
 use Rattle.std.proofs.lemmas.List.{drop_more, drop_all, take_rest}
 use Rattle.std.proofs.lemmas.Bool.{eqb-true, ne_eqb}
 use Rattle.octets.proofs.Lists.{some_is}
-use Rattle.addrparts.specs.Pieces.{Plain, Pair, Notes, End, Note, Nested, noted, AreNotes}
-use Rattle.maildates.specs.Gaps.{Gap, Nothing, Space, Remark, spaced, IsGap, is_space, opens_gap}
-use Rattle.maildates.specs.Reading.{after_gap, next_state}
+use Rattle.mail_address.specs.Pieces.{Plain, Pair, CommentContent, End, Note, Nested, comment_before, IsCommentContent}
+use Rattle.mail_dates.specs.Gaps.{Gap, Nothing, Space, Remark, gap_before, IsDateGap, is_space, opens_gap}
+use Rattle.mail_dates.specs.Reading.{after_gap, next_state}
 
 -- nothing but a gap's end stands here
 abbrev pub IsStart : List ℕ → Type 0
@@ -65,32 +65,32 @@ at_plain : (depth octet : ℕ) (more : List ℕ) → (octet == 92) ≡ false →
 unfolding after_gap next_state
 at_plain depth octet more slash opens closes = rw (deep depth, slash, opens, closes) refl
 
-notes_passed : (depth : ℕ) (notes : Notes) (rest : List ℕ) → AreNotes notes → after_gap (suc depth) false (noted notes rest) ≡ after_gap (suc depth) false rest
+notes_passed : (depth : ℕ) (notes : CommentContent) (rest : List ℕ) → IsCommentContent notes → after_gap (suc depth) false (comment_before notes rest) ≡ after_gap (suc depth) false rest
 notes_passed depth End rest plain = refl
-notes_passed depth (Note (Plain octet) more) rest plain = at_plain depth octet (noted more rest) plain.0 plain.1.0 plain.1.1.0 ∙ notes_passed depth more rest plain.1.1.1
-notes_passed depth (Note (Pair octet) more) rest plain = at_pair depth octet (noted more rest) ∙ notes_passed depth more rest plain
-notes_passed depth (Nested inner more) rest plain = at_opening (suc depth) (noted inner (41 ∷ noted more rest)) ∙ notes_passed (suc depth) inner (41 ∷ noted more rest) plain.0 ∙ at_closing (suc depth) (noted more rest) ∙ notes_passed depth more rest plain.1
+notes_passed depth (Note (Plain octet) more) rest plain = at_plain depth octet (comment_before more rest) plain.0 plain.1.0 plain.1.1.0 ∙ notes_passed depth more rest plain.1.1.1
+notes_passed depth (Note (Pair octet) more) rest plain = at_pair depth octet (comment_before more rest) ∙ notes_passed depth more rest plain
+notes_passed depth (Nested inner more) rest plain = at_opening (suc depth) (comment_before inner (41 ∷ comment_before more rest)) ∙ notes_passed (suc depth) inner (41 ∷ comment_before more rest) plain.0 ∙ at_closing (suc depth) (comment_before more rest) ∙ notes_passed depth more rest plain.1
 
-gap_passed : (gap : Gap) (rest : List ℕ) → IsGap gap → after_gap 0 false (spaced gap rest) ≡ after_gap 0 false rest
+gap_passed : (gap : Gap) (rest : List ℕ) → IsDateGap gap → after_gap 0 false (gap_before gap rest) ≡ after_gap 0 false rest
 gap_passed Nothing rest is = refl
-gap_passed (Space octet more) rest is = at_space octet (spaced more rest) is.0 ∙ gap_passed more rest is.1
-gap_passed (Remark notes more) rest is = at_opening 0 (noted notes (41 ∷ spaced more rest)) ∙ notes_passed 0 notes (41 ∷ spaced more rest) is.0 ∙ at_closing 0 (spaced more rest) ∙ gap_passed more rest is.1
+gap_passed (Space octet more) rest is = at_space octet (gap_before more rest) is.0 ∙ gap_passed more rest is.1
+gap_passed (Remark notes more) rest is = at_opening 0 (comment_before notes (41 ∷ gap_before more rest)) ∙ notes_passed 0 notes (41 ∷ gap_before more rest) is.0 ∙ at_closing 0 (gap_before more rest) ∙ gap_passed more rest is.1
 
 -- a gap is passed over
-pub gap_again : (gap : Gap) (rest : List ℕ) → IsGap gap → IsStart rest → after_gap 0 false (spaced gap rest) ≡ Some rest
+pub gap_again : (gap : Gap) (rest : List ℕ) → IsDateGap gap → IsStart rest → after_gap 0 false (gap_before gap rest) ≡ Some rest
 gap_again gap rest is start = gap_passed gap rest is ∙ at_start rest start
 
 -- a gap, and what follows it
 pub record IsLed (text rest : List ℕ) : Type 0 where
   pub gap : Gap
-  pub is_gap : IsGap gap
+  pub is_gap : IsDateGap gap
   pub starts : IsStart rest
-  pub spelled : text ≡ spaced gap rest
+  pub spelled : text ≡ gap_before gap rest
 
 -- the ends of that many comments, and then a gap
 abbrev Leads : ℕ → List ℕ → List ℕ → Type 0
 Leads zero text rest = IsLed text rest
-Leads (suc depth) text rest = (notes : Notes) × ((after : List ℕ) × (AreNotes notes × ((text ≡ noted notes (41 ∷ after)) × Leads depth after rest)))
+Leads (suc depth) text rest = (notes : CommentContent) × ((after : List ℕ) × (IsCommentContent notes × ((text ≡ comment_before notes (41 ∷ after)) × Leads depth after rest)))
 
 led_end : (rest : List ℕ) → IsStart rest → IsLed rest rest
 led_end rest start = record { gap = Nothing; is_gap = tt; starts = start; spelled = refl }
@@ -100,7 +100,7 @@ led_space octet more rest is led = record { gap = Space octet led.gap; is_gap = 
 
 led_remark : (more rest : List ℕ) → Leads 1 more rest → IsLed (40 ∷ more) rest
 led_remark more rest (notes, (after, (plain, (is, led)))) =
-    record { gap = Remark notes led.gap; is_gap = (plain, led.is_gap); starts = led.starts; spelled = ap (λ s. 40 ∷ s) (is ∙ ap (λ s. noted notes (41 ∷ s)) led.spelled) }
+    record { gap = Remark notes led.gap; is_gap = (plain, led.is_gap); starts = led.starts; spelled = ap (λ s. 40 ∷ s) (is ∙ ap (λ s. comment_before notes (41 ∷ s)) led.spelled) }
 
 leads_plain : (depth octet : ℕ) (more rest : List ℕ) → (octet == 92) ≡ false → (octet == 40) ≡ false → (octet == 41) ≡ false → Leads (suc depth) more rest → Leads (suc depth) (octet ∷ more) rest
 leads_plain depth octet more rest a b d (notes, (after, (plain, (is, led)))) = (Note (Plain octet) notes, (after, ((a, (b, (d, plain))), (ap (λ s. octet ∷ s) is, led))))
@@ -110,7 +110,7 @@ leads_pair depth octet more rest (notes, (after, (plain, (is, led)))) = (Note (P
 
 leads_open : (depth : ℕ) (more rest : List ℕ) → Leads (suc (suc depth)) more rest → Leads (suc depth) (40 ∷ more) rest
 leads_open depth more rest (notes, (after, (plain, (is, (others, (end, (plains, (same, led)))))))) =
-    (Nested notes others, (end, ((plain, plains), (ap (λ s. 40 ∷ s) (is ∙ ap (λ s. noted notes (41 ∷ s)) same), led))))
+    (Nested notes others, (end, ((plain, plains), (ap (λ s. 40 ∷ s) (is ∙ ap (λ s. comment_before notes (41 ∷ s)) same), led))))
 
 leads_close : (depth : ℕ) (more rest : List ℕ) → Leads depth more rest → Leads (suc depth) (41 ∷ more) rest
 leads_close depth more rest led = (End, (more, (tt, (refl, led))))

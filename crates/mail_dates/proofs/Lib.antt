@@ -1,1 +1,10 @@
+pub mod GapLaws
+pub mod PieceLaws
+pub mod WordLemmas
+pub mod ReadingLaws
+pub mod ClockLemmas
+pub mod DateExamples
+pub mod ZoneLaws
+pub mod MomentLaws
+pub mod FindingLaws
 pub mod RuleLemmas

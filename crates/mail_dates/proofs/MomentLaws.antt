@@ -4,9 +4,9 @@ use Rattle.jiff_core.specs.Calendar.{days_from_civil}
 use Rattle.jiff_core.specs.Date.{epoch_day}
 use Rattle.jiff_core.proofs.SignedLemmas.{signed_arith}
 use Rattle.jiff_core.proofs.DateLemmas.{epoch_day_range, epoch_day_injective}
-use Rattle.maildates.specs.declared.date_time.DateTime.{DateTime}
-use Rattle.maildates.specs.DateTimes.{IsDateTime, IsMoment, IsSameMoment, local_minutes, utc_minutes}
-use Rattle.maildates.proofs.ClockLemmas.{date_of, nonnegative, scale, clock_parts}
+use Rattle.mail_dates.specs.declared.date_time.DateTime.{DateTime}
+use Rattle.mail_dates.specs.DateTimes.{IsDateTime, IsMoment, IsSameMoment, local_minutes, utc_minutes}
+use Rattle.mail_dates.proofs.ClockLemmas.{date_of, nonnegative, scale, clock_parts}
 
 -- the minutes by a date's clock
 clock_of : (date : DateTime) → IsDateTime date → (minutes : ℕ) × (local_minutes date +ℤ pos 6_295_085_280 ≡ pos minutes)

@@ -7,10 +7,10 @@ use Rattle.std.proofs.Math.Seq.{take-append_seam, drop-append_seam}
 use Rattle.std.proofs.lemmas.Bool.{ne_eqb, false≢true}
 use Rattle.std.specs.Bool.{IsTrue}
 use Rattle.octets.proofs.Lists.{some_pair}
-use Rattle.maildates.specs.Gaps.{spaced}
-use Rattle.maildates.specs.Pieces.{goes_on, IsEnd, IsShape, IsPiece}
-use Rattle.maildates.specs.Reading.{after_gap, cut, piece}
-use Rattle.maildates.proofs.GapLaws.{IsStart, IsLed, gap_again, gap_is}
+use Rattle.mail_dates.specs.Gaps.{gap_before}
+use Rattle.mail_dates.specs.Pieces.{goes_on, IsPieceEnd, IsDatePieceShape, IsDatePiece}
+use Rattle.mail_dates.specs.Reading.{after_gap, cut, piece}
+use Rattle.mail_dates.proofs.GapLaws.{IsStart, IsLed, gap_again, gap_is}
 
 one-add : (n : ℕ) → 1 + n ≡ suc n
 one-add n = omega arith
@@ -20,7 +20,7 @@ pub both_true : (a b : Bool) → (a && b) ≡ true → (a ≡ true) × (b ≡ tr
 both_true true b is = (refl, is)
 both_true false b is = absurd (cc)
 
-run_len : (first : ℕ) (more after : List ℕ) → list_all (goes_on first) more ≡ true → IsEnd first after → prefix_len (goes_on first) (more ++ after) ≡ length more
+run_len : (first : ℕ) (more after : List ℕ) → list_all (goes_on first) more ≡ true → IsPieceEnd first after → prefix_len (goes_on first) (more ++ after) ≡ length more
 run_len first [] [] all end = refl
 run_len first [] (octet ∷ after) all end = rw end refl
 run_len first (octet ∷ more) after all end =
@@ -32,8 +32,8 @@ passes_at : (first octet : ℕ) (more : List ℕ) (test : Bool) → goes_on firs
 passes_at first octet more true is others = rw (one-add (prefix_len (goes_on first) more), is) others
 passes_at first octet more false is others = refl
 
-ends_at : (first octet : ℕ) (more : List ℕ) (test : Bool) → goes_on first octet ≡ test → IsEnd first (drop (prefix_len (goes_on first) more) more)
-    → IsEnd first (drop (cond test (1 + prefix_len (goes_on first) more) 0) (octet ∷ more))
+ends_at : (first octet : ℕ) (more : List ℕ) (test : Bool) → goes_on first octet ≡ test → IsPieceEnd first (drop (prefix_len (goes_on first) more) more)
+    → IsPieceEnd first (drop (cond test (1 + prefix_len (goes_on first) more) 0) (octet ∷ more))
 ends_at first octet more true is others = rw (one-add (prefix_len (goes_on first) more)) others
 ends_at first octet more false is others = is
 
@@ -41,22 +41,22 @@ run_passes : (first : ℕ) (others : List ℕ) → list_all (goes_on first) (tak
 run_passes first [] = refl
 run_passes first (octet ∷ more) = passes_at first octet more (goes_on first octet) refl (run_passes first more)
 
-run_ends : (first : ℕ) (others : List ℕ) → IsEnd first (drop (prefix_len (goes_on first) others) others)
+run_ends : (first : ℕ) (others : List ℕ) → IsPieceEnd first (drop (prefix_len (goes_on first) others) others)
 run_ends first [] = tt
 run_ends first (octet ∷ more) = ends_at first octet more (goes_on first octet) refl (run_ends first more)
 
-cut_again : (word after : List ℕ) → IsShape word after → cut (word ++ after) ≡ (word, after)
+cut_again : (word after : List ℕ) → IsDatePieceShape word after → cut (word ++ after) ≡ (word, after)
 unfolding cut
 cut_again [] after shape = rw shape refl
 cut_again (first ∷ more) after shape =
     let n = run_len first more after shape.1.0 shape.1.1 in
     rw n (rw (take-append_seam more after, drop-append_seam more after) refl)
 
-start_of : (word after : List ℕ) → IsShape word after → IsStart (word ++ after)
+start_of : (word after : List ℕ) → IsDatePieceShape word after → IsStart (word ++ after)
 start_of [] after shape = rw shape tt
 start_of (first ∷ more) after shape = shape.0
 
-cut_shape : (text : List ℕ) → IsStart text → IsShape (cut text).0 (cut text).1
+cut_shape : (text : List ℕ) → IsStart text → IsDatePieceShape (cut text).0 (cut text).1
 unfolding cut
 cut_shape [] start = refl
 cut_shape (first ∷ more) start = (start, (run_passes first more, run_ends first more))
@@ -67,24 +67,24 @@ cut_joined [] = refl
 cut_joined (first ∷ more) = ap (λ s. first ∷ s) (take-append-drop (prefix_len (goes_on first) more) more)
 
 -- the piece that stands there is found
-pub piece_again : (text word after : List ℕ) → IsPiece text word after → piece text ≡ Some (word, after)
+pub piece_again : (text word after : List ℕ) → IsDatePiece text word after → piece text ≡ Some (word, after)
 unfolding piece
 piece_again text word after is =
     let found : after_gap 0 false text ≡ Some (word ++ after) = rw is.spelled (gap_again is.gap (word ++ after) is.is_gap (start_of word after is.shaped)) in
     rw found (ap Some (cut_again word after is.shaped))
 
-piece_cut : (text rest : List ℕ) → IsLed text rest → IsPiece text (cut rest).0 (cut rest).1
-piece_cut text rest led = record { gap = led.gap; is_gap = led.is_gap; shaped = cut_shape rest led.starts; spelled = led.spelled ∙ ap (spaced led.gap) (sym (cut_joined rest)) }
+piece_cut : (text rest : List ℕ) → IsLed text rest → IsDatePiece text (cut rest).0 (cut rest).1
+piece_cut text rest led = record { gap = led.gap; is_gap = led.is_gap; shaped = cut_shape rest led.starts; spelled = led.spelled ∙ ap (gap_before led.gap) (sym (cut_joined rest)) }
 
-piece_from : (text word after : List ℕ) (rest : Option (List ℕ)) → after_gap 0 false text ≡ rest → option_map cut rest ≡ Some (word, after) → IsPiece text word after
+piece_from : (text word after : List ℕ) (rest : Option (List ℕ)) → after_gap 0 false text ≡ rest → option_map cut rest ≡ Some (word, after) → IsDatePiece text word after
 piece_from text word after None is found = absurd (cc)
 piece_from text word after (Some rest) is found =
     let both = some_pair (cut rest) (word, after) found in
     let here = piece_cut text rest (gap_is text rest is) in
-    subst (λ (a : List ℕ). IsPiece text word a) both.1 (subst (λ (w : List ℕ). IsPiece text w (cut rest).1) both.0 here)
+    subst (λ (a : List ℕ). IsDatePiece text word a) both.1 (subst (λ (w : List ℕ). IsDatePiece text w (cut rest).1) both.0 here)
 
 -- the piece that is found stands there
-pub piece_is : (text word after : List ℕ) → piece text ≡ Some (word, after) → IsPiece text word after
+pub piece_is : (text word after : List ℕ) → piece text ≡ Some (word, after) → IsDatePiece text word after
 unfolding piece
 piece_is text word after found = piece_from text word after (after_gap 0 false text) refl found
 

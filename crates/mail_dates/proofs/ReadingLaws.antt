@@ -5,25 +5,25 @@ use Rattle.std.proofs.lemmas.Bool.{eqb-true}
 use Rattle.std.proofs.lemmas.Bool.Decides.{nat_tests}
 use Rattle.std.specs.Char.{eq_ignore_ascii_case}
 use Rattle.octets.proofs.Lists.{some_is, some_pair, fork}
-use Rattle.maildates.proofs.WordLemmas.{map_some, then_some, two_within, year_within, zone_within}
-use Rattle.maildates.specs.declared.reading.Day.{Day}
-use Rattle.maildates.specs.declared.reading.Time.{Time}
-use Rattle.maildates.specs.declared.date_time.DateTime.{DateTime}
-use Rattle.maildates.specs.Pieces.{IsPiece}
-use Rattle.maildates.specs.Words.{day_of, month_of, year_of, weekday_of, two_digits, mark_of, is_named}
-use Rattle.maildates.specs.Zones.{zone_of, numeric_of}
+use Rattle.mail_dates.proofs.WordLemmas.{map_some, then_some, two_within, year_within, zone_within}
+use Rattle.mail_dates.specs.declared.reading.Day.{Day}
+use Rattle.mail_dates.specs.declared.reading.Time.{Time}
+use Rattle.mail_dates.specs.declared.date_time.DateTime.{DateTime}
+use Rattle.mail_dates.specs.Pieces.{IsDatePiece}
+use Rattle.mail_dates.specs.Words.{day_of, month_of, year_of, weekday_of, two_digits, mark_of, is_named}
+use Rattle.mail_dates.specs.Zones.{zone_of, numeric_of}
 use Rattle.jiff_core.specs.Calendar.{IsCivilDate}
-use Rattle.maildates.specs.DateTimes.{IsDateTime}
-use Rattle.maildates.specs.DateTexts.{Reads, IsDayName, IsDate, IsSecond, IsTime, IsDateText}
-use Rattle.maildates.specs.Reading.{piece, after_gap, cut, reads, name_then, after_name, day_from, colon_then, second_from, time_from, joined, parts_from}
-use Rattle.maildates.proofs.PieceLaws.{piece_is, piece_again}
+use Rattle.mail_dates.specs.DateTimes.{IsDateTime}
+use Rattle.mail_dates.specs.DateTexts.{ReadsPiece, IsDayName, IsDate, IsSecond, IsTime, IsDateText}
+use Rattle.mail_dates.specs.Reading.{piece, after_gap, cut, reads, name_then, after_name, day_from, colon_then, second_from, time_from, date_time_of, parts_from}
+use Rattle.mail_dates.proofs.PieceLaws.{piece_is, piece_again}
 
 -- what a piece means is read
-pub reads_again : {A : Type 0} (means : List ℕ → Option A) (text : List ℕ) (value : A) (rest : List ℕ) → Reads means text value rest → reads means text ≡ Some (value, rest)
+pub reads_again : {A : Type 0} (means : List ℕ → Option A) (text : List ℕ) (value : A) (rest : List ℕ) → ReadsPiece means text value rest → reads means text ≡ Some (value, rest)
 unfolding reads
 reads_again means text value rest is = rw (piece_again text is.word rest is.cut, is.is) refl
 
-pub reads_is : {A : Type 0} (means : List ℕ → Option A) (text : List ℕ) (value : A) (rest : List ℕ) → reads means text ≡ Some (value, rest) → Reads means text value rest
+pub reads_is : {A : Type 0} (means : List ℕ → Option A) (text : List ℕ) (value : A) (rest : List ℕ) → reads means text ≡ Some (value, rest) → ReadsPiece means text value rest
 unfolding reads
 reads_is means text value rest found =
     let one = then_some (λ p. option_map (λ v. (v, p.1)) (means p.0)) (piece text) (value, rest) found in
@@ -31,7 +31,7 @@ reads_is means text value rest found =
     let after : one.0.1 ≡ rest = ap (λ r. r.1) two.1.1 in
     record {
       word = one.0.0;
-      cut = subst (λ (r : List ℕ). IsPiece text one.0.0 r) after (piece_is text one.0.0 one.0.1 one.1.0);
+      cut = subst (λ (r : List ℕ). IsDatePiece text one.0.0 r) after (piece_is text one.0.0 one.0.1 one.1.0);
       is = two.1.0 ∙ ap (λ r. Some r.0) two.1.1;
     }
 
@@ -75,7 +75,7 @@ zone_no_colon (octet ∷ []) zone is = elim (fork (octet == 58) (Some 58) None (
 ]
 zone_no_colon (octet ∷ (next ∷ more)) zone is = refl
 
-none_read : {A B : Type 0} (means : List ℕ → Option A) (other : List ℕ → Option B) (text : List ℕ) (value : A) (rest : List ℕ) → Reads means text value rest
+none_read : {A B : Type 0} (means : List ℕ → Option A) (other : List ℕ → Option B) (text : List ℕ) (value : A) (rest : List ℕ) → ReadsPiece means text value rest
     → ((word : List ℕ) → means word ≡ Some value → other word ≡ None) → reads other text ≡ None
 unfolding reads
 none_read means other text value rest is never = rw (piece_again text is.word rest is.cut, never is.word is.is) refl
@@ -83,7 +83,7 @@ none_read means other text value rest is never = rw (piece_again text is.word re
 name_again : (text start : List ℕ) (year month day : ℕ) (rest : List ℕ) → (start ≡ text) ⊎ IsDayName text start → IsDate start year month day rest → after_name text ≡ Some start
 unfolding after_name
 name_again text start year month day rest (inl same) date =
-    let here : Reads day_of text day date.after_day = subst (λ (t : List ℕ). Reads day_of t day date.after_day) same date.day_is in
+    let here : ReadsPiece day_of text day date.after_day = subst (λ (t : List ℕ). ReadsPiece day_of t day date.after_day) same date.day_is in
     rw (none_read day_of weekday_of text day date.after_day here (λ w e. number_no_name w day e)) (ap Some (sym same))
 name_again text start year month day rest (inr name) date =
     rw (reads_again weekday_of text name.weekday name.after name.name) (rw (reads_again (mark_of 44) name.after 44 start name.comma) refl)
@@ -95,12 +95,12 @@ mark_value mark (octet ∷ []) value is = elim (fork (octet == mark) (Some mark)
 mark_value mark (octet ∷ (next ∷ more)) value is = absurd (cc)
 
 -- a mark that is read is that mark
-mark_is : (mark : ℕ) (text : List ℕ) (value : ℕ) (found rest : List ℕ) → reads (mark_of mark) text ≡ Some (value, found) → found ≡ rest → Reads (mark_of mark) text mark rest
+mark_is : (mark : ℕ) (text : List ℕ) (value : ℕ) (found rest : List ℕ) → reads (mark_of mark) text ≡ Some (value, found) → found ≡ rest → ReadsPiece (mark_of mark) text mark rest
 mark_is mark text value found rest is same =
     let here = reads_is (mark_of mark) text value found is in
     record {
       word = here.word;
-      cut = subst (λ (r : List ℕ). IsPiece text here.word r) same here.cut;
+      cut = subst (λ (r : List ℕ). IsDatePiece text here.word r) same here.cut;
       is = here.is ∙ ap Some (mark_value mark here.word value here.is);
     }
 
@@ -139,11 +139,11 @@ day_is text day rest found =
     let y = map_some _ (reads year_of m.0.1) (day, rest) m.1.1 in
     day_of_parts text day rest d.0.0 d.0.1 m.0.0 m.0.1 y.0.0 y.0.1 d.1.0 m.1.0 y.1.0 y.1.1
 
-second_again : (text : List ℕ) (second : ℕ) (rest : List ℕ) (zone : ℤ) (end : List ℕ) → ((second ≡ 0) × (rest ≡ text)) ⊎ IsSecond text second rest → Reads zone_of rest zone end
+second_again : (text : List ℕ) (second : ℕ) (rest : List ℕ) (zone : ℤ) (end : List ℕ) → ((second ≡ 0) × (rest ≡ text)) ⊎ IsSecond text second rest → ReadsPiece zone_of rest zone end
     → second_from text ≡ Some (second, rest)
 unfolding second_from
 second_again text second rest zone end (inl none) is =
-    let here : Reads zone_of text zone end = subst (λ (t : List ℕ). Reads zone_of t zone end) none.1 is in
+    let here : ReadsPiece zone_of text zone end = subst (λ (t : List ℕ). ReadsPiece zone_of t zone end) none.1 is in
     rw (none_read zone_of (mark_of 58) text zone end here (λ w e. zone_no_colon w zone e), none.0, none.1) refl
 second_again text second rest zone end (inr some) is =
     rw (reads_again (mark_of 58) text 58 some.after some.colon) (reads_again (two_digits 60) some.after second rest some.second_is)
@@ -163,7 +163,7 @@ second_is : (text : List ℕ) (second : ℕ) (rest : List ℕ) → second_from t
 unfolding second_from
 second_is text second rest found = second_then text second rest (reads (mark_of 58) text) refl found
 
-time_again : (text : List ℕ) (hour minute second : ℕ) (rest : List ℕ) (zone : ℤ) (end : List ℕ) → IsTime text hour minute second rest → Reads zone_of rest zone end
+time_again : (text : List ℕ) (hour minute second : ℕ) (rest : List ℕ) (zone : ℤ) (end : List ℕ) → IsTime text hour minute second rest → ReadsPiece zone_of rest zone end
     → time_from text ≡ Some (record { hour = hour; minute = minute; second = second }, rest)
 unfolding time_from
 time_again text hour minute second rest zone end is there =
@@ -204,7 +204,7 @@ pub record IsParts (text : List ℕ) (date : DateTime) (rest : List ℕ) : Type 
   pub day_name : (start ≡ text) ⊎ IsDayName text start
   pub date_is : IsDate start date.year date.month date.day after_date
   pub time_is : IsTime after_date date.hour date.minute date.second after_time
-  pub zone_is : Reads zone_of after_time date.zone rest
+  pub zone_is : ReadsPiece zone_of after_time date.zone rest
 
 pub parts_again : (text : List ℕ) (date : DateTime) → (is : IsDateText text date) → parts_from text ≡ Some (date, is.after_zone)
 unfolding parts_from
@@ -216,7 +216,7 @@ parts_again text date is =
 
 parts_of : (text : List ℕ) (date : DateTime) (rest start : List ℕ) (day : Day) (ds : List ℕ) (time : Time) (ts : List ℕ) (zone : ℤ) (zs : List ℕ)
     → after_name text ≡ Some start → day_from start ≡ Some (day, ds) → time_from ds ≡ Some (time, ts) → reads zone_of ts ≡ Some (zone, zs)
-    → (let made : DateTime × List ℕ = (joined day time zone, zs) in made ≡ (date, rest)) → IsParts text date rest
+    → (let made : DateTime × List ℕ = (date_time_of day time zone, zs) in made ≡ (date, rest)) → IsParts text date rest
 parts_of text date rest start day ds time ts zone zs a b c d made =
     subst (λ (p : DateTime × List ℕ). IsParts text p.0 p.1) made
     (record {

@@ -7,7 +7,7 @@ use Rattle.jiff_tz.specs.Year.{year_of_nanos}
 use Rattle.jiff_tz.specs.PosixText.{DstText, TzText, dst_view, tz_view}
 use Rattle.jiff_tz.specs.declared.posix.Dst.{Dst}
 use Rattle.jiff_tz.specs.declared.posix.TimeZone.{TimeZone}
-use Rattle.hostzones.specs.Offsets.{IsWhole, AreWhole}
+use Rattle.mail_dates.specs.Offsets.{IsWhole, AreWhole}
 
 -- where the text of daylight saving time is of whole minutes, so is the time
 pub daylight_whole : (o : Option Dst) → ForSome (option_map dst_view o) (λ read. IsWhole read.seconds) → ForSome o (λ dst. IsWhole dst.offset.seconds)

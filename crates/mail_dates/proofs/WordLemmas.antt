@@ -4,14 +4,14 @@ use Rattle.std.specs.Prelude.{codes}
 use Rattle.std.specs.Option.{option_map, option_and_then}
 use Rattle.jiff_core.proofs.SignedLemmas.{signed_arith}
 use Rattle.octets.proofs.Lists.{some_is, fork}
-use Rattle.maildates.specs.Zones.{offset_of, numeric_of, hours_west, named_of, zone_of}
-use Rattle.maildates.specs.DateTimes.{IsZone}
+use Rattle.mail_dates.specs.Zones.{offset_of, numeric_of, hours_west, named_of, zone_of}
+use Rattle.mail_dates.specs.DateTimes.{IsZone}
 use Rattle.std.proofs.lemmas.List.Sums.{AllPass-from_list_all, list_all-from_AllPass}
 use Rattle.std.proofs.lemmas.Bool.{cases_lt}
 use Rattle.std.proofs.lemmas.Bool.Decides.{nat_tests}
 use Rattle.octets.specs.Ascii.{is_digit, is_letter}
 use Rattle.octets.specs.Decimal.{Writes, number_of}
-use Rattle.maildates.specs.Words.{number_in, is_number, two_digits, year_of, in_century, is_named}
+use Rattle.mail_dates.specs.Words.{number_in, is_digits, two_digits, year_of, in_century, is_named}
 
 pub map_some : {A B : Type 0} (f : A → B) (o : Option A) (y : B) → option_map f o ≡ Some y → (x : A) × ((o ≡ Some x) × (f x ≡ y))
 map_some f None y found = absurd (cc)
@@ -21,11 +21,11 @@ pub then_some : {A B : Type 0} (f : A → Option B) (o : Option A) (y : B) → o
 then_some f None y found = absurd (cc)
 then_some f (Some x) y found = (x, (refl, found))
 
-digits_write : (word : List ℕ) → is_number word ≡ true → Writes word (number_of word)
+digits_write : (word : List ℕ) → is_digits word ≡ true → Writes word (number_of word)
 digits_write [] is = absurd (cc)
 digits_write (first ∷ more) is = record { present = λ e. absurd (cc); digits = AllPass-from_list_all is_digit (first ∷ more) is; value = refl }
 
-written_digits : (word : List ℕ) (n : ℕ) → Writes word n → is_number word ≡ true
+written_digits : (word : List ℕ) (n : ℕ) → Writes word n → is_digits word ≡ true
 written_digits [] n is = absurd (is.present refl)
 written_digits (first ∷ more) n is = list_all-from_AllPass is_digit (first ∷ more) is.digits
 
@@ -40,19 +40,19 @@ number_past limit n word is past = rw (written_digits word n is, is.value) (grin
 past : (limit n : ℕ) (o : Option ℕ) → limit < n → None ≡ cond (nat_le n limit) o None
 past limit n o far = grind (arith, nat_tests)
 
-none_of : (test : Bool) (limit : ℕ) (word : List ℕ) → test ≡ is_number word → limit < 2 ^ 64 → ((n : ℕ) → n < 2 ^ 64 → Writes word n → ⊥) → None ≡ cond (test && nat_le (number_of word) limit) (Some (number_of word)) None
+none_of : (test : Bool) (limit : ℕ) (word : List ℕ) → test ≡ is_digits word → limit < 2 ^ 64 → ((n : ℕ) → n < 2 ^ 64 → Writes word n → ⊥) → None ≡ cond (test && nat_le (number_of word) limit) (Some (number_of word)) None
 none_of false limit word is small never = refl
 none_of true limit word is small never = let w = digits_write word (sym is) in past limit (number_of word) (Some (number_of word)) (elim (cases_lt limit (number_of word)) [ inl far ↦ far | inr near ↦ absurd (never (number_of word) (omega arith) w) ])
 
 pub number_none : (limit : ℕ) (word : List ℕ) → limit < 2 ^ 64 → ((n : ℕ) → n < 2 ^ 64 → Writes word n → ⊥) → None ≡ number_in limit word
 unfolding number_in
-number_none limit word small never = none_of (is_number word) limit word refl small never
+number_none limit word small never = none_of (is_digits word) limit word refl small never
 
 -- numbers are within their limits
 number_within : (limit n : ℕ) (word : List ℕ) → number_in limit word ≡ Some n → n ≤ limit
 unfolding number_in
 number_within limit n word is =
-    elim (fork (is_number word && nat_le (number_of word) limit) (Some (number_of word)) None (Some n) is) [
+    elim (fork (is_digits word && nat_le (number_of word) limit) (Some (number_of word)) None (Some n) is) [
       | inl p ↦ grind (arith, nat_tests)
       | inr p ↦ absurd (cc)
     ]

@@ -7,10 +7,10 @@ use Rattle.std.proofs.lemmas.Bool.Decides.{nat_tests}
 use Rattle.octets.specs.Ascii.{is_digit}
 use Rattle.octets.specs.Decimal.{number_of}
 use Rattle.octets.proofs.Lists.{some_is, fork}
-use Rattle.maildates.specs.Words.{number_in, is_number, two_digits}
-use Rattle.maildates.specs.Zones.{offset_of, numeric_of, digits, IsOffset}
-use Rattle.maildates.proofs.PieceLaws.{both_true}
-use Rattle.maildates.proofs.WordLemmas.{map_some, then_some}
+use Rattle.mail_dates.specs.Words.{number_in, is_digits, two_digits}
+use Rattle.mail_dates.specs.Zones.{offset_of, numeric_of, digits, IsOffset}
+use Rattle.mail_dates.proofs.PieceLaws.{both_true}
+use Rattle.mail_dates.proofs.WordLemmas.{map_some, then_some}
 
 is_digit_of : (k : ℕ) → k < 10 → is_digit (48 + k) ≡ true
 is_digit_of k small = grind (arith, nat_tests)
@@ -49,9 +49,9 @@ unfolding two_digits number_in
 two_is limit n [] small is = absurd (cc)
 two_is limit n (a ∷ []) small is = absurd (cc)
 two_is limit n (a ∷ (b ∷ [])) small is =
-    elim (fork (is_number (a ∷ (b ∷ [])) && nat_le (number_of (a ∷ (b ∷ []))) limit) (Some (number_of (a ∷ (b ∷ [])))) None (Some n) is) [
+    elim (fork (is_digits (a ∷ (b ∷ [])) && nat_le (number_of (a ∷ (b ∷ []))) limit) (Some (number_of (a ∷ (b ∷ [])))) None (Some n) is) [
       | inl p ↦
-          let both = both_true (is_number (a ∷ (b ∷ []))) (nat_le (number_of (a ∷ (b ∷ []))) limit) p.0 in
+          let both = both_true (is_digits (a ∷ (b ∷ []))) (nat_le (number_of (a ∷ (b ∷ []))) limit) p.0 in
           let number : number_of (a ∷ (b ∷ [])) ≡ n = some_is (number_of (a ∷ (b ∷ []))) n p.1 in
           let within : n ≤ limit = subst (λ (k : ℕ). k ≤ limit) number (true_le (number_of (a ∷ (b ∷ []))) limit both.1) in
           (two_word limit n a b small both.0 number within, within)

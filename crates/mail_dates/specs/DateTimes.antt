@@ -1,7 +1,7 @@
 -- What a date and time is, and which moment it is.
 use Rattle.std.specs.Prelude.{◌≡◌, ℕ, ◌+◌, ◌*◌, ◌/◌, ◌%◌, ◌<◌, ◌≤◌, ℤ, pos, ◌+ℤ◌, ◌-ℤ◌, ◌*ℤ◌, neg_ℤ}
 use Rattle.jiff_core.specs.Calendar.{IsCivilDate, days_from_civil, IsBetween}
-use Rattle.maildates.specs.declared.date_time.DateTime.{DateTime}
+use Rattle.mail_dates.specs.declared.date_time.DateTime.{DateTime}
 
 -- minutes east of UTC, less than a day
 abbrev pub IsZone : ℤ → Type 0

@@ -3,9 +3,9 @@ use Rattle.std.specs.Prelude.{ℕ, zero, suc, ◌==◌, ◌&&◌, ◌||◌, nat_
 use Rattle.std.specs.Ordering.{int_eq}
 use Rattle.std.specs.Option.{option_and_then}
 use Rattle.jiff_core.specs.Calendar.{days_in_month}
-use Rattle.maildates.specs.declared.date_time.DateTime.{DateTime}
-use Rattle.maildates.specs.DateTimes.{utc_minutes}
-use Rattle.maildates.specs.Reading.{piece, parts_from}
+use Rattle.mail_dates.specs.declared.date_time.DateTime.{DateTime}
+use Rattle.mail_dates.specs.DateTimes.{utc_minutes}
+use Rattle.mail_dates.specs.Reading.{piece, parts_from}
 
 -- whether the calendar has this day, of a year from 0 on
 unfoldable pub is_civil : ℕ → ℕ → ℕ → Bool
@@ -13,13 +13,13 @@ is_civil year month day =
     nat_lt year 10000 && ((nat_lt 0 month && nat_lt month 13) && (nat_lt 0 day && nat_lt day (suc (days_in_month (pos year) month))))
 
 -- whether no piece is left
-abbrev pub is_over : Option (List ℕ × List ℕ) → Bool
-is_over None = false
-is_over (Some first) = length first.0 == 0
+abbrev pub has_no_piece : Option (List ℕ × List ℕ) → Bool
+has_no_piece None = false
+has_no_piece (Some first) = length first.0 == 0
 
 -- the date that a text reads as
 unfoldable pub date_of : List ℕ → Option DateTime
-date_of text = option_and_then (λ r. cond (is_over (piece r.1) && is_civil r.0.year r.0.month r.0.day) (Some r.0) None) (parts_from text)
+date_of text = option_and_then (λ r. cond (has_no_piece (piece r.1) && is_civil r.0.year r.0.month r.0.day) (Some r.0) None) (parts_from text)
 
 -- whether some number below this one passes
 unfoldable pub some_below : ℕ → (ℕ → Bool) → Bool

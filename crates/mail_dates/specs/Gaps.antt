@@ -1,6 +1,6 @@
 -- What may be between the parts of a date's text: blanks, line ends and comments (RFC 5322, 3.2.2: CFWS).
 use Rattle.std.specs.Prelude.{◌≡◌, ℕ, ◌==◌, ◌||◌, Bool, true, List, ◌∷◌}
-use Rattle.addrparts.specs.Pieces.{Notes, noted, AreNotes}
+use Rattle.mail_address.specs.Pieces.{CommentContent, comment_before, IsCommentContent}
 
 -- SP, TAB, CR or LF
 abbrev pub is_space : ℕ → Bool
@@ -14,16 +14,16 @@ opens_gap octet = is_space octet || octet == 40
 pub data Gap : Type 0 where
   Nothing : Gap
   Space : ℕ → Gap → Gap
-  Remark : Notes → Gap → Gap
+  Remark : CommentContent → Gap → Gap
 
 -- a gap, written before a text
-abbrev pub spaced : Gap → List ℕ → List ℕ
-spaced Nothing after = after
-spaced (Space octet more) after = octet ∷ spaced more after
-spaced (Remark notes more) after = 40 ∷ noted notes (41 ∷ spaced more after)
+abbrev pub gap_before : Gap → List ℕ → List ℕ
+gap_before Nothing after = after
+gap_before (Space octet more) after = octet ∷ gap_before more after
+gap_before (Remark notes more) after = 40 ∷ comment_before notes (41 ∷ gap_before more after)
 
 -- its spaces are spaces, and its comments comments
-abbrev pub IsGap : Gap → Type 0
-IsGap Nothing = Unit {0}
-IsGap (Space octet more) = (is_space octet ≡ true) × IsGap more
-IsGap (Remark notes more) = AreNotes notes × IsGap more
+abbrev pub IsDateGap : Gap → Type 0
+IsDateGap Nothing = Unit {0}
+IsDateGap (Space octet more) = (is_space octet ≡ true) × IsDateGap more
+IsDateGap (Remark notes more) = IsCommentContent notes × IsDateGap more

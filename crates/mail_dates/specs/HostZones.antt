@@ -3,10 +3,10 @@ use Rattle.std.specs.Prelude.{◌≡◌, ℕ, ℤ, pos, ◌*ℤ◌, List, Some, 
 use Rattle.jiff_tz.specs.PosixReader.{read_whole}
 use Rattle.jiff_tz.specs.PosixRule.{offset_at}
 use Rattle.jiff_tz.specs.PosixText.{tz_view}
-use Rattle.maildates.specs.Zones.{numeric_of}
-use Rattle.hostzones.specs.Offsets.{nanos_at}
-use Rattle.hostzones.specs.declared.zone.HostZone.{HostZone}
-use Rattle.hostzones.specs.declared.zone.HostZone.TheVariants.{Always, ByRule}
+use Rattle.mail_dates.specs.Zones.{numeric_of}
+use Rattle.mail_dates.specs.Offsets.{nanos_at}
+use Rattle.mail_dates.specs.declared.host_zone.HostZone.{HostZone}
+use Rattle.mail_dates.specs.declared.host_zone.HostZone.TheVariants.{Always, ByRule}
 
 -- the text that writes the zone: +hhmm or -hhmm (RFC 5260, 4.1), or a rule
 abbrev pub IsZoneText : List ℕ → HostZone → Type 0

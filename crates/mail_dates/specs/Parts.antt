@@ -1,10 +1,10 @@
 -- The parts of a date as texts (RFC 5260, 4.2).
 use Rattle.std.specs.Prelude.{ℕ, ◌+◌, ◌-◌, ◌/◌, ◌%◌, ◌==◌, Option, Some, None, cond, List, [], ◌∷◌, ◌++◌, suc, codes, decimal, get_or, ℤ, pos, negsuc, ◌+ℤ◌, unsigned_abs}
 use Rattle.jiff_core.specs.Calendar.{days_from_civil, weekday_number}
-use Rattle.maildates.specs.declared.date_time.DateTime.{DateTime}
-use Rattle.maildates.specs.declared.part.DatePart.{DatePart}
-use Rattle.maildates.specs.declared.part.DatePart.TheVariants as P
-use Rattle.maildates.specs.Words.{is_named}
+use Rattle.mail_dates.specs.declared.date_time.DateTime.{DateTime}
+use Rattle.mail_dates.specs.declared.part.DatePart.{DatePart}
+use Rattle.mail_dates.specs.declared.part.DatePart.TheVariants as P
+use Rattle.mail_dates.specs.Words.{is_named}
 
 -- a part by its name, ignoring ASCII case
 unfoldable pub part_named : List ℕ → Option DatePart

@@ -2,7 +2,7 @@
 use Rattle.std.specs.Prelude.{◌≡◌, ℕ, ◌==◌, ◌||◌, if◌then◌else◌, Bool, true, false, List, [], ◌∷◌, ◌++◌}
 use Rattle.std.specs.List.{list_all}
 use Rattle.octets.specs.Ascii.{is_letter, is_digit}
-use Rattle.maildates.specs.Gaps.{Gap, spaced, IsGap, opens_gap}
+use Rattle.mail_dates.specs.Gaps.{Gap, gap_before, IsDateGap, opens_gap}
 
 -- the octet continues the piece that begins with the first one: letters follow letters, and digits follow digits or a sign
 unfoldable pub goes_on : ℕ → ℕ → Bool
@@ -12,18 +12,18 @@ goes_on first octet =
     else false)
 
 -- no piece that begins with the first octet is continued here
-abbrev pub IsEnd : ℕ → List ℕ → Type 0
-IsEnd first [] = Unit {0}
-IsEnd first (octet ∷ _) = goes_on first octet ≡ false
+abbrev pub IsPieceEnd : ℕ → List ℕ → Type 0
+IsPieceEnd first [] = Unit {0}
+IsPieceEnd first (octet ∷ _) = goes_on first octet ≡ false
 
 -- a piece before a text: nothing at the very end, otherwise as long as it can be
-abbrev pub IsShape : List ℕ → List ℕ → Type 0
-IsShape [] after = after ≡ []
-IsShape (first ∷ more) after = (opens_gap first ≡ false) × ((list_all (goes_on first) more ≡ true) × IsEnd first after)
+abbrev pub IsDatePieceShape : List ℕ → List ℕ → Type 0
+IsDatePieceShape [] after = after ≡ []
+IsDatePieceShape (first ∷ more) after = (opens_gap first ≡ false) × ((list_all (goes_on first) more ≡ true) × IsPieceEnd first after)
 
 -- the first piece of a text, and what follows it
-pub record IsPiece (text word after : List ℕ) : Type 0 where
+pub record IsDatePiece (text word after : List ℕ) : Type 0 where
   pub gap : Gap
-  pub is_gap : IsGap gap
-  pub shaped : IsShape word after
-  pub spelled : text ≡ spaced gap (word ++ after)
+  pub is_gap : IsDateGap gap
+  pub shaped : IsDatePieceShape word after
+  pub spelled : text ≡ gap_before gap (word ++ after)

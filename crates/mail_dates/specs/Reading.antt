@@ -2,13 +2,13 @@
 use Rattle.std.specs.Prelude.{ℕ, ◌+◌, ◌-◌, ◌==◌, ◌&&◌, not, Bool, true, false, cond, Option, Some, None, option_map, List, [], ◌∷◌, take, drop, ℤ}
 use Rattle.std.specs.Option.{option_and_then}
 use Rattle.std.specs.List.{prefix_len}
-use Rattle.maildates.specs.declared.reading.Day.{Day}
-use Rattle.maildates.specs.declared.reading.Time.{Time}
-use Rattle.maildates.specs.declared.date_time.DateTime.{DateTime}
-use Rattle.maildates.specs.Gaps.{opens_gap}
-use Rattle.maildates.specs.Pieces.{goes_on}
-use Rattle.maildates.specs.Words.{day_of, month_of, year_of, weekday_of, two_digits, mark_of}
-use Rattle.maildates.specs.Zones.{zone_of}
+use Rattle.mail_dates.specs.declared.reading.Day.{Day}
+use Rattle.mail_dates.specs.declared.reading.Time.{Time}
+use Rattle.mail_dates.specs.declared.date_time.DateTime.{DateTime}
+use Rattle.mail_dates.specs.Gaps.{opens_gap}
+use Rattle.mail_dates.specs.Pieces.{goes_on}
+use Rattle.mail_dates.specs.Words.{day_of, month_of, year_of, weekday_of, two_digits, mark_of}
+use Rattle.mail_dates.specs.Zones.{zone_of}
 
 -- how many comments are open after an octet, and whether it is a backslash that takes the next one with it
 unfoldable pub next_state : ℕ → Bool → ℕ → ℕ × Bool
@@ -70,11 +70,11 @@ time_from text =
     (second_from m.1)) (reads (two_digits 59) c.1)) (reads (mark_of 58) h.1)) (reads (two_digits 23) text)
 
 -- a date, a time and a zone
-abbrev pub joined : Day → Time → ℤ → DateTime
-joined day time zone = record { year = day.year; month = day.month; day = day.day; hour = time.hour; minute = time.minute; second = time.second; zone = zone }
+abbrev pub date_time_of : Day → Time → ℤ → DateTime
+date_time_of day time zone = record { year = day.year; month = day.month; day = day.day; hour = time.hour; minute = time.minute; second = time.second; zone = zone }
 
 -- the date and time that a text gives, whether or not the day exists
 unfoldable pub parts_from : List ℕ → Option (DateTime × List ℕ)
 parts_from text =
-    option_and_then (λ start. option_and_then (λ d. option_and_then (λ t. option_map (λ z. (joined d.0 t.0 z.0, z.1))
+    option_and_then (λ start. option_and_then (λ d. option_and_then (λ t. option_map (λ z. (date_time_of d.0 t.0 z.0, z.1))
     (reads zone_of t.1)) (time_from d.1)) (day_from start)) (after_name text)

@@ -6,13 +6,13 @@ use Rattle.octets.specs.Ascii.{is_digit}
 use Rattle.octets.specs.Decimal.{number_of}
 
 -- one or more digits
-abbrev pub is_number : List ℕ → Bool
-is_number [] = false
-is_number (first ∷ more) = list_all is_digit (first ∷ more)
+abbrev pub is_digits : List ℕ → Bool
+is_digits [] = false
+is_digits (first ∷ more) = list_all is_digit (first ∷ more)
 
 -- the number that the digits write, up to a limit
 unfoldable pub number_in : ℕ → List ℕ → Option ℕ
-number_in limit word = cond (is_number word && nat_le (number_of word) limit) (Some (number_of word)) None
+number_in limit word = cond (is_digits word && nat_le (number_of word) limit) (Some (number_of word)) None
 
 -- two digits: an hour, a minute or a second
 unfoldable pub two_digits : ℕ → List ℕ → Option ℕ

@@ -2,7 +2,7 @@
 use Rattle.std.specs.Prelude.{◌≡◌, ℕ, ◌==◌, ◌+◌, ◌*◌, ◌/◌, ◌%◌, ◌<◌, ◌⊎◌, cond, Option, Some, None, option_map, List, [], ◌∷◌, ◌++◌, take, drop, length, codes, ℤ, pos, neg_ℤ}
 use Rattle.std.specs.Option.{option_and_then}
 use Rattle.octets.specs.Ascii.{is_letter}
-use Rattle.maildates.specs.Words.{two_digits, is_named}
+use Rattle.mail_dates.specs.Words.{two_digits, is_named}
 
 -- the hours and the minutes of hhmm, from 0000 to 2359, in minutes
 unfoldable pub offset_of : List ℕ → Option ℕ

@@ -1,9 +1,9 @@
 //! A date and time with its zone.
 ghost use Rattle.std.specs.Prelude.{◌≡◌, ◌≤◌, MatchOption, pos, ◌+ℤ◌, ◌-ℤ◌, ◌<ℤ◌};
 ghost use Rattle.jiff_core.specs.Date.{IsYmd};
-ghost use Rattle.maildates.specs.declared.date_time.DateTime.{DateTime};
-ghost use Rattle.maildates.specs.Parts.{day_number};
-ghost use Rattle.maildates.specs.DateTimes.{IsDateTime, IsZone, IsClock, IsMoment, IsSameMoment, local_minutes};
+ghost use Rattle.mail_dates.specs.declared.date_time.DateTime.{DateTime};
+ghost use Rattle.mail_dates.specs.Parts.{day_number};
+ghost use Rattle.mail_dates.specs.DateTimes.{IsDateTime, IsZone, IsClock, IsMoment, IsSameMoment, local_minutes};
 
 use jiff_core::civil::Date;
 

@@ -1,6 +1,6 @@
 //! Numbers in a date's text.
 ghost use Rattle.std.specs.Prelude.{◌≡◌, ◌≤◌, IfSome};
-ghost use Rattle.maildates.specs.Words as words;
+ghost use Rattle.mail_dates.specs.Words as words;
 
 use octets::parse_decimal;
 

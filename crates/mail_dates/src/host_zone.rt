@@ -1,9 +1,9 @@
 //! The zone of a host.
 ghost use Rattle.std.specs.Prelude.{◌≡◌, ℕ, pos, IfSome, IfNone};
-ghost use Rattle.maildates.specs.DateTimes.{IsZone};
+ghost use Rattle.mail_dates.specs.DateTimes.{IsZone};
 
-use crate::rule::ZoneRule;
-use maildates::read_zone;
+use crate::zone_rule::ZoneRule;
+use crate::read_zone;
 
 /// An offset that is the same at each moment.
 #[derive(Clone, Copy, Debug)]
@@ -23,8 +23,8 @@ pub enum HostZone {
 }
 
 impl HostZone {
-    ghost use Rattle.hostzones.specs.declared.zone.HostZone.{HostZone};
-    ghost use Rattle.hostzones.specs.HostZones.{IsZoneText, IsOffsetAt};
+    ghost use Rattle.mail_dates.specs.declared.host_zone.HostZone.{HostZone};
+    ghost use Rattle.mail_dates.specs.HostZones.{IsZoneText, IsOffsetAt};
 
     /// UTC.
     pub fn utc() -> HostZone

@@ -1,10 +1,10 @@
 //! Laws of the definitions, each the contract of a function that does nothing.
 ghost use Rattle.std.specs.Prelude.{◌≡◌, ◌↔◌, ℕ, ℤ, List, Some};
-ghost use Rattle.maildates.specs.Zones.{numeric_of, IsOffset};
-ghost use Rattle.maildates.specs.declared.date_time.DateTime.{DateTime};
-ghost use Rattle.maildates.specs.DateTexts.{IsDateText};
-ghost use Rattle.maildates.specs.DateTimes.{IsMoment, IsSameMoment};
-ghost use Rattle.maildates.specs.Finding.{date_of};
+ghost use Rattle.mail_dates.specs.Zones.{numeric_of, IsOffset};
+ghost use Rattle.mail_dates.specs.declared.date_time.DateTime.{DateTime};
+ghost use Rattle.mail_dates.specs.DateTexts.{IsDateText};
+ghost use Rattle.mail_dates.specs.DateTimes.{IsMoment, IsSameMoment};
+ghost use Rattle.mail_dates.specs.Finding.{date_of};
 
 /// A text reads as at most one date.
 pub fn date_of_a_text()

@@ -1,7 +1,7 @@
 //! The names in a date's text.
 ghost use Rattle.std.specs.Prelude.{◌≡◌, ◌≤◌, IfSome};
-ghost use Rattle.maildates.specs.Words as words;
-ghost use Rattle.maildates.specs.Zones as zones;
+ghost use Rattle.mail_dates.specs.Words as words;
+ghost use Rattle.mail_dates.specs.Zones as zones;
 
 /// Whether the word is this name, ignoring ASCII case.
 #[tactic(auto, unfolding(crate::specs::Words::is_named))]

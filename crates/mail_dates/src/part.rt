@@ -1,6 +1,6 @@
 //! The parts of a date, by their names (RFC 5260, 4.2).
 ghost use Rattle.std.specs.Prelude.{◌≡◌};
-ghost use Rattle.maildates.specs.Parts as parts;
+ghost use Rattle.mail_dates.specs.Parts as parts;
 
 use crate::names::is_named;
 

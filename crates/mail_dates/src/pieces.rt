@@ -1,9 +1,9 @@
 //! The pieces of a date's text, from the beginning.
 ghost use Rattle.std.specs.Prelude.{◌≡◌, ◌≤◌, ◌<◌, ◌^◌, ◌+◌, false, None, Some, MatchOption, length};
 ghost use Rattle.std.specs.List.{prefix_len};
-ghost use Rattle.maildates.specs.Gaps as gaps;
-ghost use Rattle.maildates.specs.Pieces as spec;
-ghost use Rattle.maildates.specs.Reading as reading;
+ghost use Rattle.mail_dates.specs.Gaps as gaps;
+ghost use Rattle.mail_dates.specs.Pieces as spec;
+ghost use Rattle.mail_dates.specs.Reading as reading;
 
 /// Whether the octet begins a gap: SP, TAB, CR, LF, or a comment's parenthesis.
 fn opens_gap(octet: u8) -> bool

@@ -1,13 +1,13 @@
 //! Reads a date from a field's text.
 ghost use Rattle.std.specs.Prelude.{◌≡◌, ◌≤◌, None, Some, MatchOption, IfSome, IsTrue, ◌↔◌, pos, []};
 ghost use Rattle.jiff_core.specs.Calendar.{IsCivilDate};
-ghost use Rattle.maildates.specs.declared.date_time.DateTime.{DateTime};
-ghost use Rattle.maildates.specs.DateTexts.{IsDateText};
-ghost use Rattle.maildates.specs.DateTimes.{IsDateTime};
-ghost use Rattle.maildates.specs.Words as words;
-ghost use Rattle.maildates.specs.Zones as zones;
-ghost use Rattle.maildates.specs.Reading as reading;
-ghost use Rattle.maildates.specs.Reading.{reads};
+ghost use Rattle.mail_dates.specs.declared.date_time.DateTime.{DateTime};
+ghost use Rattle.mail_dates.specs.DateTexts.{IsDateText};
+ghost use Rattle.mail_dates.specs.DateTimes.{IsDateTime};
+ghost use Rattle.mail_dates.specs.Words as words;
+ghost use Rattle.mail_dates.specs.Zones as zones;
+ghost use Rattle.mail_dates.specs.Reading as reading;
+ghost use Rattle.mail_dates.specs.Reading.{reads};
 
 use crate::date_time::DateTime;
 use crate::digits::{day_of, two_digits, year_of};
@@ -152,7 +152,7 @@ fn next_time(text: &[u8]) -> Option<(Time, &[u8])>
 
 /// The date and time of these parts.
 fn joined(day: Day, time: Time, zone: i16) -> DateTime
-    ensures { result ≡ reading.joined day time zone }
+    ensures { result ≡ reading.date_time_of day time zone }
 {
     DateTime {
         year: day.year,

@@ -2,8 +2,8 @@
 ghost use Rattle.std.specs.Prelude.{◌≡◌, ◌++◌, ◌<◌, ◌≤◌, ◌∷◌, ◌+◌, ◌-◌, [], OnOk, get_or, codes, pos, ◌+ℤ◌};
 ghost use Rattle.std.specs.Int.{IsInRange};
 ghost use Rattle.jiff_core.specs.Weekday.{sunday_zero};
-ghost use Rattle.maildates.specs.DateTimes.{IsDateTime, IsZone};
-ghost use Rattle.maildates.specs.Parts as parts;
+ghost use Rattle.mail_dates.specs.DateTimes.{IsDateTime, IsZone};
+ghost use Rattle.mail_dates.specs.Parts as parts;
 
 use crate::date_time::DateTime;
 use crate::part::DatePart;

@@ -1,7 +1,7 @@
 //! Zones, in minutes east of UTC.
 ghost use Rattle.std.specs.Prelude.{◌≡◌, ◌≤◌, IfSome};
-ghost use Rattle.maildates.specs.DateTimes.{IsZone};
-ghost use Rattle.maildates.specs.Zones as zones;
+ghost use Rattle.mail_dates.specs.DateTimes.{IsZone};
+ghost use Rattle.mail_dates.specs.Zones as zones;
 
 use crate::digits::two_digits;
 use crate::names::hours_west;

@@ -4,8 +4,8 @@ ghost use Rattle.std.specs.Option.{ForSome};
 ghost use Rattle.jiff_tz.specs.PosixReader.{read_whole};
 ghost use Rattle.jiff_tz.specs.PosixRule.{offset_at};
 ghost use Rattle.jiff_tz.specs.PosixText.{TzText, tz_view};
-ghost use Rattle.maildates.specs.DateTimes.{IsZone};
-ghost use Rattle.hostzones.specs.Offsets.{IsWhole, AreWhole, nanos_at};
+ghost use Rattle.mail_dates.specs.DateTimes.{IsZone};
+ghost use Rattle.mail_dates.specs.Offsets.{IsWhole, AreWhole, nanos_at};
 
 use jiff_core::{Offset, Timestamp};
 use jiff_tz::posix::TimeZone;

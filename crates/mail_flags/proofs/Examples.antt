@@ -1,8 +1,8 @@
 -- Flags at work: what the definitions take, and one beside it that they don't.
 use Rattle.std.proofs.Common.{◌≡◌, true, false, true≢false, [], ◌∷◌, refl, codes, replicate}
 use Rattle.std.specs.List.{IsDistinct}
-use Rattle.mailflags.specs.Names.{is_flag}
-use Rattle.mailflags.specs.Flags.{AreFlags, added, removed, named, written, letters}
+use Rattle.mail_flags.specs.Names.{is_flag}
+use Rattle.mail_flags.specs.Flags.{AreFlags, with_all_named, without_all_named, named_flags, flags_text, letters}
 
 -- ---- names
 
@@ -32,15 +32,15 @@ too_long = refl
 -- ---- what a text names
 
 -- a text names several, each once, whatever the case; what isn't the name of a flag is passed over
-several : named (codes "\\Seen  foo \\Bogus FOO a)") ≡ codes "\\Seen" ∷ codes "foo" ∷ []
+several : named_flags (codes "\\Seen  foo \\Bogus FOO a)") ≡ codes "\\Seen" ∷ codes "foo" ∷ []
 several = refl
 
 -- RFC 5232, 3.2: `addflag ["\\Flagged", "flagvar"]` behind `addflag "flagvar"`
-one_after_other : added (added [] (codes "flagvar" ∷ [])) (codes "\\Flagged" ∷ codes "flagvar" ∷ []) ≡ codes "flagvar" ∷ codes "\\Flagged" ∷ []
+one_after_other : with_all_named (with_all_named [] (codes "flagvar" ∷ [])) (codes "\\Flagged" ∷ codes "flagvar" ∷ []) ≡ codes "flagvar" ∷ codes "\\Flagged" ∷ []
 one_after_other = refl
 
 -- RFC 5232, 3.3: what isn't there is no fault
-less : removed (codes "a" ∷ codes "\\Seen" ∷ codes "b" ∷ []) (codes "B \\SEEN" ∷ codes "c" ∷ []) ≡ codes "a" ∷ []
+less : without_all_named (codes "a" ∷ codes "\\Seen" ∷ codes "b" ∷ []) (codes "B \\SEEN" ∷ codes "c" ∷ []) ≡ codes "a" ∷ []
 less = refl
 
 -- two cases of one name are no two flags
@@ -50,7 +50,7 @@ one_flag so = true≢false so.distinct.0.0
 
 -- ---- texts
 
-text : written (codes "\\Seen" ∷ codes "a" ∷ []) ≡ codes "\\Seen a"
+text : flags_text (codes "\\Seen" ∷ codes "a" ∷ []) ≡ codes "\\Seen a"
 text = refl
 
 -- the letters come in the order of the alphabet, and keywords have none

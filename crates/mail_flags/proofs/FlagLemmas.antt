@@ -13,12 +13,12 @@ use Rattle.std.proofs.lemmas.Map.Keys.{IsDistinct-push, apart_from_distinct}
 use Rattle.std.proofs.lemmas.Map.Views.{any-filter_same}
 use Rattle.std.specs.Char.{to_ascii_lowercase}
 use Rattle.octets.specs.Ascii.{lowered, is_blank}
-use Rattle.mailflags.specs.Names.{are_same, is_flag, is_of_atoms, is_keyword, is_system, max_flag_len}
-use Rattle.mailflags.specs.Flags.{AreFlags, max_flags, has, with_one, without_one, with_named, without_named, between_blanks, added, removed, named, written}
-use Rattle.mailflags.specs.declared.system.SystemFlag.{SystemFlag}
-use Rattle.mailflags.specs.declared.system.SystemFlag.TheVariants.{Draft, Flagged, Answered, Seen, Deleted}
-use Rattle.mailflags.specs.System.{all_system, name_of}
-use Rattle.mailflags.proofs.TextLemmas.{read_again}
+use Rattle.mail_flags.specs.Names.{are_same, is_flag, is_of_atoms, is_keyword, is_system, max_flag_len}
+use Rattle.mail_flags.specs.Flags.{AreFlags, max_flags, has, with_one, without_one, with_named, without_named, between_blanks, with_all_named, without_all_named, named_flags, flags_text}
+use Rattle.mail_flags.specs.declared.system.SystemFlag.{SystemFlag}
+use Rattle.mail_flags.specs.declared.system.SystemFlag.TheVariants.{Draft, Flagged, Answered, Seen, Deleted}
+use Rattle.mail_flags.specs.System.{all_system, flag_name_of}
+use Rattle.mail_flags.proofs.TextLemmas.{read_again}
 
 or_true : (b : Bool) → (b || true) ≡ true
 or_true true = refl
@@ -88,10 +88,10 @@ kept_in_turn : (step : List (List ℕ) → List ℕ → List (List ℕ)) → ((f
 kept_in_turn step keeps [] flags so = so
 kept_in_turn step keeps (x ∷ xs) flags so = kept_in_turn step keeps xs (step flags x) (keeps flags x so)
 
-pub added_flags : (flags texts : List (List ℕ)) → AreFlags flags → AreFlags (added flags texts)
+pub added_flags : (flags texts : List (List ℕ)) → AreFlags flags → AreFlags (with_all_named flags texts)
 added_flags flags texts = kept_in_turn with_named (λ f text. kept_in_turn with_one one_more (between_blanks text) f) texts flags
 
-pub removed_flags : (flags texts : List (List ℕ)) → AreFlags flags → AreFlags (removed flags texts)
+pub removed_flags : (flags texts : List (List ℕ)) → AreFlags flags → AreFlags (without_all_named flags texts)
 removed_flags flags texts = kept_in_turn without_named (λ f text. kept_in_turn without_one one_less (between_blanks text) f) texts flags
 
 -- ---- one more, one less
@@ -136,7 +136,7 @@ plain_by (octet ∷ rest) plain =
     (plain_by rest (All-tail (λ o. is_blank o ≡ false) (to_ascii_lowercase octet) (lowered rest) plain))
 
 -- no name of a system flag has one
-plain_system : (system : SystemFlag) → list_all (λ octet. not (is_blank octet)) (lowered (name_of system)) ≡ true
+plain_system : (system : SystemFlag) → list_all (λ octet. not (is_blank octet)) (lowered (flag_name_of system)) ≡ true
 plain_system Draft = refl
 plain_system Flagged = refl
 plain_system Answered = refl
@@ -150,22 +150,22 @@ unblank false is = refl
 same_octets : (one other : List ℕ) → pointwise nat_eq one other ≡ true → one ≡ other
 same_octets one other is = (bytes_decides one other).0 is
 
-plain_one : (system : SystemFlag) (name : List ℕ) → are_same (name_of system) name ≡ true → All (λ octet. is_blank octet ≡ false) name
+plain_one : (system : SystemFlag) (name : List ℕ) → are_same (flag_name_of system) name ≡ true → All (λ octet. is_blank octet ≡ false) name
 plain_one system name same =
-    plain_by name (subst (All (λ octet. is_blank octet ≡ false)) (same_octets (lowered (name_of system)) (lowered name) same)
-    (All-weaker (λ octet. not (is_blank octet) ≡ true) (λ octet. is_blank octet ≡ false) (λ octet. unblank (is_blank octet)) (lowered (name_of system))
-    (AllPass-from_list_all (λ octet. not (is_blank octet)) (lowered (name_of system)) (plain_system system))))
+    plain_by name (subst (All (λ octet. is_blank octet ≡ false)) (same_octets (lowered (flag_name_of system)) (lowered name) same)
+    (All-weaker (λ octet. not (is_blank octet) ≡ true) (λ octet. is_blank octet ≡ false) (λ octet. unblank (is_blank octet)) (lowered (flag_name_of system))
+    (AllPass-from_list_all (λ octet. not (is_blank octet)) (lowered (flag_name_of system)) (plain_system system))))
 
-plain_some : (name : List ℕ) (systems : List SystemFlag) → list_any (λ system. are_same (name_of system) name) systems ≡ true → All (λ octet. is_blank octet ≡ false) name
+plain_some : (name : List ℕ) (systems : List SystemFlag) → list_any (λ system. are_same (flag_name_of system) name) systems ≡ true → All (λ octet. is_blank octet ≡ false) name
 plain_some name [] some = absurd cc
 plain_some name (system ∷ systems) some =
     let others = plain_some name systems in
-    let step : (same : Bool) → are_same (name_of system) name ≡ same → (same || list_any (λ s. are_same (name_of s) name) systems) ≡ true → All (λ octet. is_blank octet ≡ false) name =
-    λ same. elim same as (λ b. are_same (name_of system) name ≡ b → (b || list_any (λ s. are_same (name_of s) name) systems) ≡ true → All (λ octet. is_blank octet ≡ false) name) [
+    let step : (same : Bool) → are_same (flag_name_of system) name ≡ same → (same || list_any (λ s. are_same (flag_name_of s) name) systems) ≡ true → All (λ octet. is_blank octet ≡ false) name =
+    λ same. elim same as (λ b. are_same (flag_name_of system) name ≡ b → (b || list_any (λ s. are_same (flag_name_of s) name) systems) ≡ true → All (λ octet. is_blank octet ≡ false) name) [
       | true ↦ λ is any. plain_one system name is
       | false ↦ λ is any. others any
     ] in
-    step (are_same (name_of system) name) refl some
+    step (are_same (flag_name_of system) name) refl some
 
 plain_keyword : (name : List ℕ) → is_keyword name ≡ true → All (λ octet. is_blank octet ≡ false) name
 plain_keyword name is =
@@ -200,8 +200,8 @@ added_in_turn front (name ∷ more) so =
         subst (λ last. are_same (get_or front i []) last ≡ false) (get_or-append_seam front name more [])
         (subst (λ first. are_same first (get_or (front ++ name ∷ more) (length front) []) ≡ false) (get_or_append_left front (name ∷ more) [] i within) there)))
 
-    named : (front : List (List ℕ)) (name : List ℕ) (more : List (List ℕ)) → AreFlags (front ++ name ∷ more) → is_flag name ≡ true
-    named front name more so =
+    named_flags : (front : List (List ℕ)) (name : List ℕ) (more : List (List ℕ)) → AreFlags (front ++ name ∷ more) → is_flag name ≡ true
+    named_flags front name more so =
         subst (λ n. is_flag n ≡ true) (get_or-append_seam front name more [])
         (so.names (length front) [] (subst (λ n. length front < n) (sym (length-append front (name ∷ more))) (omega arith)))
 
@@ -211,12 +211,12 @@ added_in_turn front (name ∷ more) so =
         grind (arith, nat_tests)
 
     joins : (front : List (List ℕ)) (name : List ℕ) (more : List (List ℕ)) → AreFlags (front ++ name ∷ more) → with_one front name ≡ front ++ name ∷ []
-    joins front name more so = taken (nat_lt (length front) max_flags) (is_flag name) (has front name) (room front name more so) (named front name more so) (apart front name more so)
+    joins front name more so = taken (nat_lt (length front) max_flags) (is_flag name) (has front name) (room front name more so) (named_flags front name more so) (apart front name more so)
       where
         taken : (a b c : Bool) → a ≡ true → b ≡ true → c ≡ false → cond (a && b && not c) (front ++ name ∷ []) front ≡ front ++ name ∷ []
         taken a b c x y z = λ i. cond (x i && y i && not (z i)) (front ++ name ∷ []) front
 
-pub read_as_written : (flags : List (List ℕ)) → AreFlags flags → named (written flags) ≡ flags
+pub read_as_written : (flags : List (List ℕ)) → AreFlags flags → named_flags (flags_text flags) ≡ flags
 read_as_written [] so = refl
 read_as_written (first ∷ more) so =
     ap (fold with_one []) (read_again first more (All-weaker (λ n. is_flag n ≡ true) (All (λ octet. is_blank octet ≡ false)) plain_flag (first ∷ more) so.names))

@@ -2,8 +2,8 @@
 use Rattle.std.specs.Prelude.{◌≡◌, ◌≤◌, ℕ, Bool, true, cond, not, ◌&&◌, nat_lt, List, [], ◌∷◌, ◌++◌, length, filter, fold, map}
 use Rattle.std.specs.List.{list_any, All, IsDistinct, slice_split, join_with_byte}
 use Rattle.octets.specs.Ascii.{is_blank}
-use Rattle.mailflags.specs.Names.{are_same, is_flag}
-use Rattle.mailflags.specs.System.{all_system, name_of, letter_of}
+use Rattle.mail_flags.specs.Names.{are_same, is_flag}
+use Rattle.mail_flags.specs.System.{all_system, flag_name_of, flag_letter_of}
 
 -- the most flags of a message
 abbrev pub max_flags : ℕ
@@ -39,20 +39,20 @@ abbrev pub without_named : List (List ℕ) → List ℕ → List (List ℕ)
 without_named flags text = fold without_one flags (between_blanks text)
 
 -- with or without all that several texts name
-abbrev pub added : List (List ℕ) → List (List ℕ) → List (List ℕ)
-added = fold with_named
+abbrev pub with_all_named : List (List ℕ) → List (List ℕ) → List (List ℕ)
+with_all_named = fold with_named
 
-abbrev pub removed : List (List ℕ) → List (List ℕ) → List (List ℕ)
-removed = fold without_named
+abbrev pub without_all_named : List (List ℕ) → List (List ℕ) → List (List ℕ)
+without_all_named = fold without_named
 
 -- the flags that a text names
-abbrev pub named : List ℕ → List (List ℕ)
-named = with_named []
+abbrev pub named_flags : List ℕ → List (List ℕ)
+named_flags = with_named []
 
 -- the text that names them, separated by single blanks
-abbrev pub written : List (List ℕ) → List ℕ
-written = join_with_byte 32
+abbrev pub flags_text : List (List ℕ) → List ℕ
+flags_text = join_with_byte 32
 
 -- the letters of the system flags among them
 abbrev pub letters : List (List ℕ) → List ℕ
-letters flags = map letter_of (filter (λ system. has flags (name_of system)) all_system)
+letters flags = map flag_letter_of (filter (λ system. has flags (flag_name_of system)) all_system)

@@ -3,7 +3,7 @@ use Rattle.std.specs.Prelude.{ℕ, Bool, not, ◌&&◌, ◌||◌, ◌==◌, nat_
 use Rattle.std.specs.List.{list_any, list_all}
 use Rattle.std.specs.Cmp.Lexicographic.{pointwise}
 use Rattle.octets.specs.Ascii.{lowered}
-use Rattle.mailflags.specs.System.{all_system, name_of}
+use Rattle.mail_flags.specs.System.{all_system, flag_name_of}
 
 -- the names are of one flag: ASCII case makes no difference
 abbrev pub are_same : List ℕ → List ℕ → Bool
@@ -23,7 +23,7 @@ is_keyword name = not (length name == 0) && list_all is_of_atoms name
 
 -- a system flag that a user may set
 abbrev pub is_system : List ℕ → Bool
-is_system name = list_any (λ system. are_same (name_of system) name) all_system
+is_system name = list_any (λ system. are_same (flag_name_of system) name) all_system
 
 -- the most octets of a flag's name
 abbrev pub max_flag_len : ℕ

@@ -2,8 +2,8 @@
 ghost use Rattle.std.specs.Prelude.{◌≡◌, ◌<◌, [], ◌∷◌, ◌++◌, length, not, IfOk, OnOk, IfSome, MatchOption};
 ghost use Rattle.std.specs.List.{position};
 ghost use Rattle.octets.specs.Ascii as ascii;
-ghost use Rattle.mailflags.specs.Names.{are_same as are_same_names};
-ghost use Rattle.mailflags.specs.Flags as flags;
+ghost use Rattle.mail_flags.specs.Names.{are_same as are_same_names};
+ghost use Rattle.mail_flags.specs.Flags as flags;
 
 use crate::name::{are_same, is_flag};
 use crate::system::SystemFlag;
@@ -42,7 +42,7 @@ impl Flags {
     /// Reads the flags that a text names, separated by blanks. What isn't the name of a flag is skipped, as is what comes after a
     /// hundred flags.
     pub fn read(alloc: Global, text: &[u8]) -> Result<Flags, AllocError>
-        ensures { IfOk result (λ read. read ≡ flags.named text.now) }
+        ensures { IfOk result (λ read. read ≡ flags.named_flags text.now) }
     {
         let mut read = Flags::new(alloc);
         read.add_named(alloc, text)?;
@@ -58,7 +58,7 @@ impl Flags {
 
     /// Writes a text that names them, separated by single blanks.
     pub fn write(&self, alloc: Global) -> Result<Octets, AllocError>
-        ensures { IfOk result (λ text. text ≡ flags.written self.now) }
+        ensures { IfOk result (λ text. text ≡ flags.flags_text self.now) }
     {
         let Some((first, more)) = self.names.as_slice().split_first() else {
             return Ok(Octets::new(alloc));
@@ -72,7 +72,7 @@ impl Flags {
 
     /// Sets the flags to those that the texts name (`setflag`, RFC 5232, 3.1). After an error the flags may be only some of these.
     pub fn set(&mut self, alloc: Global, texts: &[Octets]) -> Result<(), AllocError>
-        ensures { OnOk result (self.new ≡ flags.added [] texts.now) }
+        ensures { OnOk result (self.new ≡ flags.with_all_named [] texts.now) }
     {
         self.names = Vec::new(alloc);
         self.add(alloc, texts)
@@ -80,7 +80,7 @@ impl Flags {
 
     /// Adds the flags that the texts name (`addflag`, RFC 5232, 3.2). After an error some of them may have been added.
     pub fn add(&mut self, alloc: Global, texts: &[Octets]) -> Result<(), AllocError>
-        ensures { OnOk result (self.new ≡ flags.added self.old texts.now) }
+        ensures { OnOk result (self.new ≡ flags.with_all_named self.old texts.now) }
     {
         for text in texts {
             self.add_named(alloc, text.as_slice())?;
@@ -90,7 +90,7 @@ impl Flags {
 
     /// Removes the flags that the texts name (`removeflag`, RFC 5232, 3.3).
     pub fn remove(&mut self, texts: &[Octets])
-        ensures { self.new ≡ flags.removed self.old texts.now }
+        ensures { self.new ≡ flags.without_all_named self.old texts.now }
     {
         for text in texts {
             self.remove_named(text.as_slice());

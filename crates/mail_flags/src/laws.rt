@@ -1,18 +1,18 @@
 //! Laws of the definitions, each the contract of a function that does nothing.
 ghost use Rattle.std.specs.Prelude.{◌≡◌, ◌↔◌, ◌⊎◌, ◌<◌, ℕ, true, false, List, [], length};
-ghost use Rattle.mailflags.specs.Names.{are_same, is_flag};
-ghost use Rattle.mailflags.specs.Flags.{AreFlags, added, has, max_flags, named, removed, with_one, without_one, written};
+ghost use Rattle.mail_flags.specs.Names.{are_same, is_flag};
+ghost use Rattle.mail_flags.specs.Flags.{AreFlags, with_all_named, has, max_flags, named_flags, without_all_named, with_one, without_one, flags_text};
 
 /// Whatever texts are added or removed, the flags stay names of flags, none twice, and at most a hundred.
 pub fn flags_stay_flags()
     ensures none { AreFlags [] }
-    ensures added { (flags texts : List (List ℕ)) → AreFlags flags → AreFlags (added flags texts) }
-    ensures removed { (flags texts : List (List ℕ)) → AreFlags flags → AreFlags (removed flags texts) }
+    ensures added { (flags texts : List (List ℕ)) → AreFlags flags → AreFlags (with_all_named flags texts) }
+    ensures removed { (flags texts : List (List ℕ)) → AreFlags flags → AreFlags (without_all_named flags texts) }
 {}
 
 /// Flags that are written are read back as the same flags.
 pub fn written_and_read()
-    ensures { (flags : List (List ℕ)) → AreFlags flags → named (written flags) ≡ flags }
+    ensures { (flags : List (List ℕ)) → AreFlags flags → named_flags (flags_text flags) ≡ flags }
 {}
 
 /// A flag that was added is there, and one that was removed isn't; each other one is there as before.

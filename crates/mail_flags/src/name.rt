@@ -1,7 +1,7 @@
 //! The names of flags.
 ghost use Rattle.std.specs.Prelude.{◌≡◌};
 ghost use Rattle.std.specs.List.{list_all};
-ghost use Rattle.mailflags.specs.Names as names;
+ghost use Rattle.mail_flags.specs.Names as names;
 
 use crate::system::SystemFlag;
 

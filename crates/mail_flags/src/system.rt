@@ -19,8 +19,8 @@ pub enum SystemFlag {
 }
 
 impl SystemFlag {
-    ghost use Rattle.mailflags.specs.System.{letter_of, name_of};
-    ghost use Rattle.mailflags.specs.Names.{is_system};
+    ghost use Rattle.mail_flags.specs.System.{flag_letter_of, flag_name_of};
+    ghost use Rattle.mail_flags.specs.Names.{is_system};
 
     /// All of them, in the order of their letters.
     pub const ALL: [SystemFlag; 5] = [
@@ -33,7 +33,7 @@ impl SystemFlag {
 
     /// Its name, with `\`.
     pub fn name(self) -> &'static [u8]
-        ensures { result.now ≡ name_of self }
+        ensures { result.now ≡ flag_name_of self }
     {
         match self {
             SystemFlag::Draft => b"\\Draft",
@@ -46,7 +46,7 @@ impl SystemFlag {
 
     /// Its letter in the name of a Maildir's file.
     pub fn letter(self) -> u8
-        ensures { result ≡ letter_of self }
+        ensures { result ≡ flag_letter_of self }
     {
         match self {
             SystemFlag::Draft => b'D',

@@ -1,12 +1,12 @@
 -- Sizes of texts in pieces.
 use Rattle.std.proofs.Common.{◌≡◌, ℕ, ◌+◌, ◌-◌, ◌*◌, ◌≤◌, cond, ◌==◌, ◌&&◌, not, Some, List, [], ◌∷◌, ◌++◌, length, refl, sym, ap, ◌∙◌, arith}
 use Rattle.std.specs.Prelude.{slice_get, unwrap_or}
-use Rattle.mailhead.specs.Lines.{is_feed}
-use Rattle.mailhead.specs.Heads.{size_after, size_of}
-use Rattle.mailhead.specs.Sizes.{bare_after}
-use Rattle.mailhead.proofs.SizeLemmas.{size_after-is, bare_after-le}
-use Rattle.mailfronts.specs.Sizes.{CountsSize, last_after}
-use Rattle.mailfronts.specs.declared.size.SizeCount.{SizeCount}
+use Rattle.mail_head.specs.Lines.{is_feed}
+use Rattle.mail_head.specs.Heads.{size_after, size_of}
+use Rattle.mail_head.specs.Sizes.{bare_after}
+use Rattle.mail_head.proofs.SizeLemmas.{size_after-is, bare_after-le}
+use Rattle.mail_head.specs.SizeCounts.{CountsSize, last_after}
+use Rattle.mail_head.specs.declared.size_count.SizeCount.{SizeCount}
 
 -- what is left to count is no more than the piece
 pub left_small : (before : ℕ) (piece : List ℕ) (bare left : ℕ) → bare + left ≡ bare_after before piece → bare + left ≤ length piece

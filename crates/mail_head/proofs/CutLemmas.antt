@@ -3,10 +3,10 @@ use Rattle.std.proofs.Common.{◌≡◌, ◌≢◌, ◌⊎◌, ℕ, ◌+◌, Boo
 use Rattle.std.proofs.lemmas.Bool.{eqb-true, not-true}
 use Rattle.std.proofs.lemmas.List.{append-nil, append_assoc, drop_at, length-append}
 use Rattle.std.specs.List.{concat, list_all}
-use Rattle.mailhead.specs.Lines.{is_feed, is_other, at_front, lines_of, IsEnded, IsOpen, AreLines, is_empty_line, body_lines}
-use Rattle.mailhead.specs.Heads.{body_of, body_start}
-use Rattle.mailhead.proofs.LineLemmas.{concat-lines_of}
-use Rattle.mailhead.proofs.FoldLemmas.{and_left, and_right, and_true}
+use Rattle.mail_head.specs.Lines.{is_feed, is_other, at_front, lines_of, IsEnded, IsOpen, AreLines, is_empty_line, body_lines}
+use Rattle.mail_head.specs.Heads.{body_of, body_start}
+use Rattle.mail_head.proofs.LineLemmas.{concat-lines_of}
+use Rattle.mail_head.proofs.FoldLemmas.{and_left, and_right, and_true}
 
 other_from : (octet : ℕ) → is_feed octet ≡ false → is_other octet ≡ true
 other_from octet not_feed = ap not not_feed

@@ -2,7 +2,7 @@
 use Rattle.std.proofs.Common.{◌≡◌, ◌≢◌, ℕ, ◌+◌, ◌-◌, ◌==◌, Bool, true, false, List, [], ◌∷◌, ◌++◌, length, take, drop, get_or, refl, sym, ap, ◌∙◌, inl, inr, arith}
 use Rattle.std.proofs.lemmas.Bool.{eqb-true}
 use Rattle.std.proofs.lemmas.List.{append-nil, append_assoc, take_at, drop_at, length-append, get_or-append-add}
-use Rattle.mailhead.specs.Lines.{is_feed, EndsBare, IsUnended, HasEnd, end_len, end_of, without_end}
+use Rattle.mail_head.specs.Lines.{is_feed, EndsBare, IsUnended, HasEnd, end_len, end_of, without_end}
 
 -- how a text ends
 data View (text : List ℕ) : Type 0 where

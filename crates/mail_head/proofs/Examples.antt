@@ -1,8 +1,8 @@
 -- The definitions at a few texts: what they hold of, and what is near it that they don't.
 use Rattle.std.proofs.Common.{refl, ◌≡◌, inl, ⊎_elim}
 use Rattle.std.specs.Prelude.{codes}
-use Rattle.mailhead.specs.Lines.{HasEnd}
-use Rattle.mailhead.specs.Heads.{size_of}
+use Rattle.mail_head.specs.Lines.{HasEnd}
+use Rattle.mail_head.specs.Heads.{size_of}
 
 -- a, LF, b, CR, LF: the bare line feed counts twice
 size-bare_feed : size_of (codes "a\nb\r\n") ≡ 6

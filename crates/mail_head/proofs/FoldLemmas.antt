@@ -4,9 +4,9 @@ use Rattle.std.proofs.lemmas.List.{append_assoc, append-nil}
 use Rattle.std.proofs.lemmas.List.Folds.{list_all-append, concat-append}
 use Rattle.std.specs.List.{concat, list_all}
 use Rattle.octets.specs.Ascii.{is_blank}
-use Rattle.mailhead.specs.Lines.{lines_of, begins_blank, goes_on, logical_lines, is_empty_line, header_lines, body_lines}
-use Rattle.mailhead.specs.Cuts.{CutsLine, CutsLogicalLine, after_empty}
-use Rattle.mailhead.proofs.LineLemmas.{begins_blank-append, goes_on-lines_of}
+use Rattle.mail_head.specs.Lines.{lines_of, begins_blank, first_is_folded, logical_lines, is_empty_line, header_lines, body_lines}
+use Rattle.mail_head.specs.Cuts.{CutsLine, CutsLogicalLine, after_empty}
+use Rattle.mail_head.proofs.LineLemmas.{begins_blank-append, goes_on-lines_of}
 
 -- some lines of a text were read: the first, and others that begin with a blank
 pub record IsFolded (text after : List ℕ) : Type 0 where
@@ -79,19 +79,19 @@ body_lines-folded (line ∷ others) more all =
     rw kept (body_lines-folded others more (and_right _ _ all))
 
 -- a line and those that begin with a blank are one logical line
-pub logical_lines-folded : (first : List ℕ) (others more : List (List ℕ)) → list_all begins_blank others ≡ true → goes_on more ≡ false → logical_lines (first ∷ (others ++ more)) ≡ concat (first ∷ others) ∷ logical_lines more
+pub logical_lines-folded : (first : List ℕ) (others more : List (List ℕ)) → list_all begins_blank others ≡ true → first_is_folded more ≡ false → logical_lines (first ∷ (others ++ more)) ≡ concat (first ∷ others) ∷ logical_lines more
 logical_lines-folded first [] more all ended = rw (ended, append-nil first) refl
 logical_lines-folded first (line ∷ others) more all ended =
     let blank : begins_blank line ≡ true = and_left _ _ all in
     let later = logical_lines-folded line others more (and_right _ _ all) ended in
     rw (blank, later) refl
 
-goes_on-cond : (test : Bool) (line : List ℕ) (lines : List (List ℕ)) → begins_blank line ≡ false → goes_on (cond test [] (line ∷ lines)) ≡ false
+goes_on-cond : (test : Bool) (line : List ℕ) (lines : List (List ℕ)) → begins_blank line ≡ false → first_is_folded (cond test [] (line ∷ lines)) ≡ false
 goes_on-cond true line lines not_blank = refl
 goes_on-cond false line lines not_blank = not_blank
 
 -- where no line goes on, no header line does
-pub goes_on-header_lines : (lines : List (List ℕ)) → goes_on lines ≡ false → goes_on (header_lines lines) ≡ false
+pub goes_on-header_lines : (lines : List (List ℕ)) → first_is_folded lines ≡ false → first_is_folded (header_lines lines) ≡ false
 goes_on-header_lines [] not_blank = refl
 goes_on-header_lines (line ∷ more) not_blank = goes_on-cond (is_empty_line line) line (header_lines more) not_blank
 

@@ -4,14 +4,14 @@ use Rattle.std.proofs.lemmas.Bool.{eq-eqb, eqb-true, false≢true}
 use Rattle.std.proofs.lemmas.List.{take_at, drop_at, take-append-drop, nil_from_length}
 use Rattle.std.proofs.lemmas.List.Folds.{length-prefix_len}
 use Rattle.std.proofs.Math.Numerals.{one-add}
-use Rattle.mailhead.proofs.HeaderLemmas.{field_there, same_texts}
+use Rattle.mail_head.proofs.HeaderLemmas.{field_there, same_texts}
 use Rattle.std.specs.Option.{option_map}
 use Rattle.std.specs.List.{list_all, prefix_len, take_while}
 use Rattle.octets.specs.Ascii.{is_blank}
 use Rattle.octets.proofs.Lists.{some_is}
-use Rattle.mailhead.proofs.FoldLemmas.{and_left, and_right}
-use Rattle.mailhead.specs.Lines.{without_end}
-use Rattle.mailhead.specs.Fields.{FieldText, IsField, is_name, field_of, after_colon, after_blanks, after_name}
+use Rattle.mail_head.proofs.FoldLemmas.{and_left, and_right}
+use Rattle.mail_head.specs.Lines.{without_end}
+use Rattle.mail_head.specs.Fields.{FieldText, IsField, is_name, field_of, after_colon, after_blanks, after_field_name}
 
 prefix_step : (p : ℕ → Bool) (test : Bool) (x : ℕ) (xs : List ℕ) (n : ℕ) → p x ≡ test → list_all p (take n xs) ≡ true → list_all p (take (cond test (1 + n) 0) (x ∷ xs)) ≡ true
 prefix_step p true x xs n passes later = rw (one-add, passes) later
@@ -59,10 +59,10 @@ present p xs some none =
 pub field_is : (line : List ℕ) (field : FieldText) → field_of line ≡ Some field → IsField line field
 field_is line field is =
     let parts = named field (prefix_len is_name line == 0) _ is in
-    let colon = from_colon (after_blanks (after_name line)) (λ value. record { name = take_while is_name line; raw = without_end value }) field parts.1 in
+    let colon = from_colon (after_blanks (after_field_name line)) (λ value. record { name = take_while is_name line; raw = without_end value }) field parts.1 in
     let name : take_while is_name line ≡ field.name = ap (λ f. f.name) colon.1.1 in
     let raw : without_end colon.0 ≡ field.raw = ap (λ f. f.raw) colon.1.1 in
-    let past_name = after_name line in
+    let past_name = after_field_name line in
     let whole = take-append-drop (prefix_len is_name line) line in
     let blank = take-append-drop (prefix_len is_blank past_name) past_name in
     record {
@@ -86,8 +86,8 @@ pub is_field : (line : List ℕ) (field : FieldText) → IsField line field → 
 is_field line field is =
     let size : prefix_len is_name line ≡ length field.name = ap (prefix_len is_name) is.spelled ∙ prefix_len-stop is_name field.name (is.blanks ++ 58 ∷ is.after) is.name_octets (begins-blanks is.blanks is.after is.blank_octets) in
     let name : take_while is_name line ≡ field.name = ap (take (prefix_len is_name line)) is.spelled ∙ take_at field.name (is.blanks ++ 58 ∷ is.after) (prefix_len is_name line) (sym size) in
-    let after : after_name line ≡ is.blanks ++ 58 ∷ is.after = ap (drop (prefix_len is_name line)) is.spelled ∙ drop_at field.name (is.blanks ++ 58 ∷ is.after) (prefix_len is_name line) (sym size) in
-    let count : prefix_len is_blank (after_name line) ≡ length is.blanks = ap (prefix_len is_blank) after ∙ prefix_len-stop is_blank is.blanks (58 ∷ is.after) is.blank_octets refl in
-    let colon : after_blanks (after_name line) ≡ 58 ∷ is.after = ap (drop (prefix_len is_blank (after_name line))) after ∙ drop_at is.blanks (58 ∷ is.after) (prefix_len is_blank (after_name line)) (sym count) in
+    let after : after_field_name line ≡ is.blanks ++ 58 ∷ is.after = ap (drop (prefix_len is_name line)) is.spelled ∙ drop_at field.name (is.blanks ++ 58 ∷ is.after) (prefix_len is_name line) (sym size) in
+    let count : prefix_len is_blank (after_field_name line) ≡ length is.blanks = ap (prefix_len is_blank) after ∙ prefix_len-stop is_blank is.blanks (58 ∷ is.after) is.blank_octets refl in
+    let colon : after_blanks (after_field_name line) ≡ 58 ∷ is.after = ap (drop (prefix_len is_blank (after_field_name line))) after ∙ drop_at is.blanks (58 ∷ is.after) (prefix_len is_blank (after_field_name line)) (sym count) in
     let there : prefix_len is_name line ≢ 0 = λ zero. is.present (nil_from_length field.name (sym size ∙ zero)) in
     field_there line is.after there colon ∙ same_texts _ _ _ _ name (sym is.value)

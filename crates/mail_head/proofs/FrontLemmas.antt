@@ -4,13 +4,13 @@ use Rattle.std.proofs.Common.{inl, inr, arith, length-append}
 use Rattle.std.proofs.lemmas.Bool.{not-true, lt-ltb, le-ltb}
 use Rattle.std.proofs.lemmas.List.{append-nil, append_assoc, length-take-le, take-append-drop}
 use Rattle.std.specs.List.{list_all, list_any, filter_map, concat}
-use Rattle.mailhead.specs.Lines.{is_feed, is_other, at_front, lines_of, IsEnded, AreLines, is_empty_line, header_lines, body_lines, logical_lines}
-use Rattle.mailhead.specs.Fields.{field_of}
-use Rattle.mailhead.specs.Heads.{fields_of, body_of, body_start}
-use Rattle.mailhead.proofs.CutLemmas.{cut_ended, lines_found, lines_only}
-use Rattle.mailhead.proofs.FoldLemmas.{and_left, and_right}
-use Rattle.mailhead.proofs.LineLemmas.{concat-lines_of}
-use Rattle.mailfronts.specs.Fronts.{has_empty_line, HasHeaderOf}
+use Rattle.mail_head.specs.Lines.{is_feed, is_other, at_front, lines_of, IsEnded, AreLines, is_empty_line, header_lines, body_lines, logical_lines}
+use Rattle.mail_head.specs.Fields.{field_of}
+use Rattle.mail_head.specs.Heads.{fields_of, body_of, body_start}
+use Rattle.mail_head.proofs.CutLemmas.{cut_ended, lines_found, lines_only}
+use Rattle.mail_head.proofs.FoldLemmas.{and_left, and_right}
+use Rattle.mail_head.proofs.LineLemmas.{concat-lines_of}
+use Rattle.mail_head.specs.Prefixes.{has_empty_line, IsHeaderPrefix}
 
 -- a line without LF isn't empty
 open_not_empty : (line : List ℕ) → list_all is_other line ≡ true → is_empty_line line ≡ false
@@ -48,7 +48,7 @@ header_in (line ∷ more) text rest (after, (spelled, (inr last, are))) some =
     absurd (let no : list_any is_empty_line [] ≡ true = ap (list_any is_empty_line) (sym nothing) ∙ some_more in cc no)
 
 -- and so are the fields
-pub fields_in_front : (front message : List ℕ) → HasHeaderOf front message → fields_of front ≡ fields_of message
+pub fields_in_front : (front message : List ℕ) → IsHeaderPrefix front message → fields_of front ≡ fields_of message
 fields_in_front front message has =
     let header = header_in (lines_of front) front has.rest (lines_found front) has.ended in
     ap (λ lines. filter_map field_of (logical_lines lines)) (sym header) ∙ ap fields_of (sym has.spelled)

@@ -4,8 +4,8 @@ use Rattle.std.proofs.lemmas.List.{append-nil, take_all, drop_all, take-append-d
 use Rattle.std.proofs.lemmas.Bool.{false_from_ne_true}
 use Rattle.std.specs.List.{concat}
 use Rattle.memchr.specs.Find.{IsFirstByte, is_byte}
-use Rattle.mailhead.specs.Cuts.{CutsLine}
-use Rattle.mailhead.specs.Lines.{is_feed, at_front, lines_of, begins_blank, goes_on}
+use Rattle.mail_head.specs.Cuts.{CutsLine}
+use Rattle.mail_head.specs.Lines.{is_feed, at_front, lines_of, begins_blank, first_is_folded}
 
 -- the first line ends at the first LF
 pub lines_at : (text : List ℕ) (k : ℕ) → k < length text → (get_or text k 0 == 10) ≡ true
@@ -42,13 +42,13 @@ pub concat-lines_of : (text : List ℕ) → concat (lines_of text) ≡ text
 concat-lines_of [] = refl
 concat-lines_of (octet ∷ rest) = concat-cut (is_feed octet) octet (lines_of rest) ∙ ap (λ t. octet ∷ t) (concat-lines_of rest)
 
-goes_on-cut : (test : Bool) (octet : ℕ) (lines : List (List ℕ)) → goes_on (cond test ((octet ∷ []) ∷ lines) (at_front octet lines)) ≡ begins_blank (octet ∷ [])
+goes_on-cut : (test : Bool) (octet : ℕ) (lines : List (List ℕ)) → first_is_folded (cond test ((octet ∷ []) ∷ lines) (at_front octet lines)) ≡ begins_blank (octet ∷ [])
 goes_on-cut true octet lines = refl
 goes_on-cut false octet [] = refl
 goes_on-cut false octet (line ∷ more) = refl
 
 -- the first line begins as the text does
-pub goes_on-lines_of : (text : List ℕ) → goes_on (lines_of text) ≡ begins_blank text
+pub goes_on-lines_of : (text : List ℕ) → first_is_folded (lines_of text) ≡ begins_blank text
 goes_on-lines_of [] = refl
 goes_on-lines_of (octet ∷ rest) = goes_on-cut (is_feed octet) octet (lines_of rest)
 

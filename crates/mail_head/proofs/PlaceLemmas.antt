@@ -2,11 +2,11 @@
 use Rattle.std.proofs.Common.{◌≡◌, ℕ, ◌+◌, ◌-◌, ◌≤◌, Bool, true, false, cond, ◌==◌, Option, None, Some, List, [], ◌∷◌, ◌++◌, length, take, drop, get_or, map, refl, sym, ap, ◌∙◌, arith}
 use Rattle.std.proofs.lemmas.List.{append-nil, append_assoc, take_at, drop_at, length-append, length-take-le, take-append-drop, get_or-append-add}
 use Rattle.std.specs.List.{concat, filter_map, cons_option, slice_range}
-use Rattle.mailhead.specs.Lines.{is_feed, lines_of, goes_on, onto_first, logical_lines, is_empty_line, header_lines, end_len}
-use Rattle.mailhead.specs.Fields.{FieldText, IsField, field_of}
-use Rattle.mailhead.specs.Heads.{header_of, fields_of, FieldPlace, place_in, with_place, places_from, places_of, text_at}
-use Rattle.mailhead.proofs.LineLemmas.{concat-lines_of}
-use Rattle.mailhead.proofs.FormLemmas.{field_is}
+use Rattle.mail_head.specs.Lines.{is_feed, lines_of, first_is_folded, onto_first, logical_lines, is_empty_line, header_lines, end_len}
+use Rattle.mail_head.specs.Fields.{FieldText, IsField, field_of}
+use Rattle.mail_head.specs.Heads.{header_of, fields_of, FieldPlace, place_in, with_place, places_from, places_of, text_at}
+use Rattle.mail_head.proofs.LineLemmas.{concat-lines_of}
+use Rattle.mail_head.proofs.FormLemmas.{field_is}
 
 cond_le : (test : Bool) (x y n : ℕ) → x ≤ n → y ≤ n → cond test x y ≤ n
 cond_le true x y n h k = h
@@ -119,7 +119,7 @@ concat_choice false line texts = refl
 
 concat-logical_lines : (lines : List (List ℕ)) → concat (logical_lines lines) ≡ concat lines
 concat-logical_lines [] = refl
-concat-logical_lines (line ∷ more) = concat_choice (goes_on more) line (logical_lines more) ∙ ap (λ t. line ++ t) (concat-logical_lines more)
+concat-logical_lines (line ∷ more) = concat_choice (first_is_folded more) line (logical_lines more) ∙ ap (λ t. line ++ t) (concat-logical_lines more)
 
 -- a text that stands before another one
 record Begins (whole front : List ℕ) : Type 0 where

@@ -1,16 +1,16 @@
 -- The definitions at a few texts: what they hold of, and what is near it that they don't.
 use Rattle.std.proofs.Common.{◌≡◌, nat_lt, true, false, refl}
 use Rattle.std.specs.Prelude.{codes}
-use Rattle.mailhead.specs.Heads.{body_start}
-use Rattle.mailfronts.specs.Fronts.{HasHeaderOf}
-use Rattle.mailfronts.specs.Sizes.{CountsSize}
+use Rattle.mail_head.specs.Heads.{body_start}
+use Rattle.mail_head.specs.Prefixes.{IsHeaderPrefix}
+use Rattle.mail_head.specs.SizeCounts.{CountsSize}
 
 -- a line, an empty one, and some of what follows
-front-empty_line : HasHeaderOf (codes "a: b\r\n\r\nc") (codes "a: b\r\n\r\nc\n\n")
+front-empty_line : IsHeaderPrefix (codes "a: b\r\n\r\nc") (codes "a: b\r\n\r\nc\n\n")
 front-empty_line = record { rest = codes "\n\n"; spelled = refl; ended = refl }
 
 -- where the second line is still open that front isn't one
-front-open : HasHeaderOf (codes "a: b\r\n\r") (codes "a: b\r\n\r\nc\n\n") → ⊥
+front-open : IsHeaderPrefix (codes "a: b\r\n\r") (codes "a: b\r\n\r\nc\n\n") → ⊥
 front-open has = let no = has.ended in cc no
 
 -- a CR at the end of what came: an LF behind it isn't counted twice

@@ -1,9 +1,9 @@
 -- Lemmas on the count of LFs without CR.
 use Rattle.std.proofs.Common.{◌≡◌, ℕ, zero, suc, ◌+◌, ◌-◌, ◌<◌, ◌≤◌, Bool, true, false, cond, ◌==◌, ◌&&◌, not, List, [], ◌∷◌, length, take, drop, get_or, refl, sym, ap, ◌∙◌, add-one, arith}
 use Rattle.std.proofs.lemmas.List.{drop_more}
-use Rattle.mailhead.specs.Lines.{is_feed}
-use Rattle.mailhead.specs.Heads.{size_after}
-use Rattle.mailhead.specs.Sizes.{bare_at, bare_after, bare_in}
+use Rattle.mail_head.specs.Lines.{is_feed}
+use Rattle.mail_head.specs.Heads.{size_after}
+use Rattle.mail_head.specs.Sizes.{bare_at, bare_after, bare_in}
 
 two_one : (test : Bool) (m n : ℕ) → cond test 2 1 + (m + n) ≡ suc m + (cond test 1 0 + n)
 two_one true m n = omega arith

@@ -1,7 +1,7 @@
 -- How a text is cut while its lines are read.
 use Rattle.std.specs.Prelude.{◌≡◌, ℕ, ◌<◌, ◌==◌, true, false, cond, Option, None, Some, List, [], ◌∷◌, ◌++◌, length}
 use Rattle.std.specs.List.{concat, list_all}
-use Rattle.mailhead.specs.Lines.{lines_of, begins_blank, is_empty_line}
+use Rattle.mail_head.specs.Lines.{lines_of, begins_blank, is_empty_line}
 
 -- a line at the beginning, and what follows
 pub record CutsLine (text line after : List ℕ) : Type 0 where

@@ -2,8 +2,8 @@
 use Rattle.std.specs.Prelude.{◌≡◌, ◌≢◌, ℕ, ◌==◌, nat_le, Bool, true, cond, ◌&&◌, not, List, [], ◌∷◌, ◌++◌, drop, Option, None, Some, option_map, map}
 use Rattle.std.specs.List.{list_all, prefix_len, take_while}
 use Rattle.octets.specs.Ascii.{is_blank}
-use Rattle.mailhead.specs.Lines.{without_end}
-use Rattle.mailhead.specs.declared.header.Field.{Field}
+use Rattle.mail_head.specs.Lines.{without_end}
+use Rattle.mail_head.specs.declared.header.Field.{Field}
 
 -- 33 to 126 other than the colon
 abbrev pub is_name : ℕ → Bool
@@ -34,20 +34,20 @@ abbrev pub after_blanks : List ℕ → List ℕ
 after_blanks text = drop (prefix_len is_blank text) text
 
 -- what follows the name
-abbrev pub after_name : List ℕ → List ℕ
-after_name line = drop (prefix_len is_name line) line
+abbrev pub after_field_name : List ℕ → List ℕ
+after_field_name line = drop (prefix_len is_name line) line
 
 -- the field that a logical line is, if it is one: the one that is in IsField with it
 abbrev pub field_of : List ℕ → Option FieldText
 field_of line =
     cond (prefix_len is_name line == 0) None
     (option_map (λ after. record { name = take_while is_name line; raw = without_end after })
-    (after_colon (after_blanks (after_name line))))
+    (after_colon (after_blanks (after_field_name line))))
 
 -- the texts of a field that was read
-abbrev pub text_of : Field → FieldText
-text_of field = record { name = field.name.now; raw = field.raw.now }
+abbrev pub field_text_of : Field → FieldText
+field_text_of field = record { name = field.name.now; raw = field.raw.now }
 
 -- the texts of the fields that were read
-abbrev pub texts_of : List Field → List FieldText
-texts_of fields = map text_of fields
+abbrev pub field_texts_of : List Field → List FieldText
+field_texts_of fields = map field_text_of fields

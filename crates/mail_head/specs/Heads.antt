@@ -1,8 +1,8 @@
 -- A message's fields and their places, its body, its size, and unfolding (RFC 5322, section 2.2).
 use Rattle.std.specs.Prelude.{ℕ, ◌+◌, ◌-◌, ◌==◌, cond, ◌&&◌, not, List, [], ◌∷◌, ◌++◌, length, Option, None, Some, filter_map, slice_range}
 use Rattle.std.specs.List.{concat}
-use Rattle.mailhead.specs.Lines.{is_feed, lines_of, goes_on, logical_lines, header_lines, body_lines, end_len, without_end}
-use Rattle.mailhead.specs.Fields.{FieldText, field_of}
+use Rattle.mail_head.specs.Lines.{is_feed, lines_of, first_is_folded, logical_lines, header_lines, body_lines, end_len, without_end}
+use Rattle.mail_head.specs.Fields.{FieldText, field_of}
 
 -- the logical lines of a message's header
 abbrev pub header_of : List ℕ → List (List ℕ)
@@ -26,13 +26,13 @@ abbrev pub size_of : List ℕ → ℕ
 size_of message = size_after 0 message
 
 -- the text of these lines without each line end that a blank follows
-abbrev pub joined : List (List ℕ) → List ℕ
-joined [] = []
-joined (line ∷ more) = cond (goes_on more) (without_end line) line ++ joined more
+abbrev pub unfolded_lines : List (List ℕ) → List ℕ
+unfolded_lines [] = []
+unfolded_lines (line ∷ more) = cond (first_is_folded more) (without_end line) line ++ unfolded_lines more
 
 -- a raw value without each line end that a blank follows
 abbrev pub unfold_of : List ℕ → List ℕ
-unfold_of raw = joined (lines_of raw)
+unfold_of raw = unfolded_lines (lines_of raw)
 
 -- the ranges of the two parts of a field, in octets counted from the first one of the message
 pub record FieldPlace : Type 0 where

@@ -44,9 +44,9 @@ begins_blank [] = false
 begins_blank (octet ∷ rest) = is_blank octet
 
 -- whether the first of these lines begins with a blank
-abbrev pub goes_on : List (List ℕ) → Bool
-goes_on [] = false
-goes_on (line ∷ more) = begins_blank line
+abbrev pub first_is_folded : List (List ℕ) → Bool
+first_is_folded [] = false
+first_is_folded (line ∷ more) = begins_blank line
 
 -- these texts with a line put before the first of them
 abbrev pub onto_first : List ℕ → List (List ℕ) → List (List ℕ)
@@ -56,7 +56,7 @@ onto_first line (next ∷ more) = (line ++ next) ∷ more
 -- each line with the lines after it that begin with a blank, as one text
 abbrev pub logical_lines : List (List ℕ) → List (List ℕ)
 logical_lines [] = []
-logical_lines (line ∷ more) = cond (goes_on more) (onto_first line (logical_lines more)) (line ∷ logical_lines more)
+logical_lines (line ∷ more) = cond (first_is_folded more) (onto_first line (logical_lines more)) (line ∷ logical_lines more)
 
 -- LF or CRLF and nothing else
 abbrev pub is_empty_line : List ℕ → Bool

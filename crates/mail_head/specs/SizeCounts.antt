@@ -1,7 +1,7 @@
 -- What is known of a message that comes in pieces.
 use Rattle.std.specs.Prelude.{◌≡◌, ℕ, List, [], ◌∷◌}
-use Rattle.mailhead.specs.Heads.{size_of}
-use Rattle.mailfronts.specs.declared.size.SizeCount.{SizeCount}
+use Rattle.mail_head.specs.Heads.{size_of}
+use Rattle.mail_head.specs.declared.size_count.SizeCount.{SizeCount}
 
 -- the last octet of a text, or if the text is empty the one before it
 abbrev pub last_after : ℕ → List ℕ → ℕ

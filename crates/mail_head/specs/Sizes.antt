@@ -1,6 +1,6 @@
 -- How LFs without CR are counted.
 use Rattle.std.specs.Prelude.{ℕ, ◌+◌, ◌==◌, ◌&&◌, not, cond, List, [], ◌∷◌}
-use Rattle.mailhead.specs.Lines.{is_feed}
+use Rattle.mail_head.specs.Lines.{is_feed}
 
 -- 1 for an LF after an octet other than CR
 abbrev pub bare_at : ℕ → ℕ → ℕ

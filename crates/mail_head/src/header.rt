@@ -2,7 +2,7 @@
 ghost use Rattle.std.specs.Prelude.{◌≡◌, ◌≤◌, length, option_map};
 ghost use Rattle.std.specs.List.{prefix_len};
 ghost use Rattle.octets.specs.Ascii as ascii;
-ghost use Rattle.mailhead.specs.Fields as fields;
+ghost use Rattle.mail_head.specs.Fields as fields;
 
 use crate::line::without_end;
 use octets::is_blank;
@@ -18,7 +18,7 @@ pub struct Field<'a> {
 
 /// Reads a logical line as a field, if it is one.
 pub fn read_field(line: &[u8]) -> Option<Field<'_>>
-    ensures { option_map fields.text_of result ≡ fields.field_of line.now }
+    ensures { option_map fields.field_text_of result ≡ fields.field_of line.now }
 {
     let (name, after) = line.split_at(name_len(line));
     if name.is_empty() {

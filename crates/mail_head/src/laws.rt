@@ -1,8 +1,8 @@
 //! Laws of the definitions, each the contract of a function that does nothing.
 ghost use Rattle.std.specs.Prelude.{◌≡◌, ◌↔◌, ℕ, List, Some, drop, map};
-ghost use Rattle.mailhead.specs.Fields.{FieldText, IsField, field_of};
-ghost use Rattle.mailhead.specs.Heads.{body_of, body_start, fields_of, places_of, text_at};
-ghost use Rattle.mailhead.specs.Lines.{AreLines, HasEnd, end_of, lines_of, without_end};
+ghost use Rattle.mail_head.specs.Fields.{FieldText, IsField, field_of};
+ghost use Rattle.mail_head.specs.Heads.{body_of, body_start, fields_of, places_of, text_at};
+ghost use Rattle.mail_head.specs.Lines.{AreLines, HasEnd, end_of, lines_of, without_end};
 
 /// A text has exactly one list of lines.
 pub fn lines_of_a_text()

@@ -1,7 +1,7 @@
 //! Lines, logical lines and line ends.
 ghost use Rattle.std.specs.Prelude.{◌≡◌, ◌<◌, ◌≤◌, length};
-ghost use Rattle.mailhead.specs.Lines as lines;
-ghost use Rattle.mailhead.specs.Cuts.{CutsLine, CutsLogicalLine};
+ghost use Rattle.mail_head.specs.Lines as lines;
+ghost use Rattle.mail_head.specs.Cuts.{CutsLine, CutsLogicalLine};
 
 use memchr::memchr;
 use octets::is_blank;

@@ -1,10 +1,10 @@
 //! The head of a message.
 ghost use Rattle.std.specs.Prelude.{◌≡◌, IfOk, option_copied};
-ghost use Rattle.mailhead.specs.Cuts.{after_empty, rest_after_feed};
-ghost use Rattle.mailhead.specs.Lines.{lines_of};
-ghost use Rattle.mailhead.specs.Messages.{ReadsMessage};
-ghost use Rattle.mailhead.specs.Fields.{texts_of};
-ghost use Rattle.mailhead.specs.Heads.{fields_of, body_of, size_of};
+ghost use Rattle.mail_head.specs.Cuts.{after_empty, rest_after_feed};
+ghost use Rattle.mail_head.specs.Lines.{lines_of};
+ghost use Rattle.mail_head.specs.Messages.{ReadsMessage};
+ghost use Rattle.mail_head.specs.Fields.{field_texts_of};
+ghost use Rattle.mail_head.specs.Heads.{fields_of, body_of, size_of};
 
 use crate::header::{Field, read_field};
 use crate::line::{CR, LF, logical_line};
@@ -23,7 +23,7 @@ pub struct Head<'a> {
 
 impl<'a> Model for Head<'a> {
     ghost use Rattle.std.specs.Prelude.{ℕ, List};
-    ghost use Rattle.mailhead.specs.Messages.{ReadsMessage};
+    ghost use Rattle.mail_head.specs.Messages.{ReadsMessage};
 
     ghost Value = { List ℕ };
 
@@ -49,7 +49,7 @@ impl<'a> Head<'a> {
 
     /// The fields, in order: each logical line that is one. Other lines are skipped.
     pub fn fields(&self) -> &[Field<'a>]
-        ensures { texts_of result.now ≡ fields_of self.now }
+        ensures { field_texts_of result.now ≡ fields_of self.now }
     {
         self.fields.as_slice()
     }

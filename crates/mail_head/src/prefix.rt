@@ -1,9 +1,9 @@
 //! Whether a prefix of a message contains its header.
 ghost use Rattle.std.specs.Prelude.{◌≡◌, nat_lt};
-ghost use Rattle.mailhead.specs.Heads.{body_start};
-ghost use Rattle.mailfronts.specs.Fronts as fronts;
+ghost use Rattle.mail_head.specs.Heads.{body_start};
+ghost use Rattle.mail_head.specs.Prefixes as fronts;
 
-use mailhead::{after_empty_line, first_line};
+use crate::{after_empty_line, first_line};
 
 /// Whether some line of a text is empty: then it contains the whole header of any message that begins with it
 /// (`laws::fields_of_a_front`).

@@ -1,7 +1,7 @@
 //! The size of a message.
 ghost use Rattle.std.specs.Prelude.{◌≡◌, ◌+◌, ◌≤◌, length};
-ghost use Rattle.mailhead.specs.Heads.{size_of};
-ghost use Rattle.mailhead.specs.Sizes.{bare_after, bare_in};
+ghost use Rattle.mail_head.specs.Heads.{size_of};
+ghost use Rattle.mail_head.specs.Sizes.{bare_after, bare_in};
 
 use crate::line::{CR, LF};
 

@@ -1,10 +1,10 @@
 //! The size of a message that comes in pieces.
 ghost use Rattle.std.specs.Prelude.{◌≡◌, ◌+◌, ◌*◌, ◌^◌, ◌<◌, ◌≤◌, ◌++◌, ℕ, List, length};
-ghost use Rattle.mailhead.specs.Heads.{size_of};
-ghost use Rattle.mailhead.specs.Heads as heads;
-ghost use Rattle.mailhead.specs.Sizes.{bare_after, bare_in};
-ghost use Rattle.mailfronts.specs.Sizes as sizes;
-ghost use Rattle.mailfronts.specs.Sizes.{CountsSize};
+ghost use Rattle.mail_head.specs.Heads.{size_of};
+ghost use Rattle.mail_head.specs.Heads as heads;
+ghost use Rattle.mail_head.specs.Sizes.{bare_after, bare_in};
+ghost use Rattle.mail_head.specs.SizeCounts as sizes;
+ghost use Rattle.mail_head.specs.SizeCounts.{CountsSize};
 
 /// Line feed.
 const LF: u8 = b'\n';

@@ -1,6 +1,6 @@
 //! Unfolding (RFC 5322, section 2.2.3).
 ghost use Rattle.std.specs.Prelude.{◌≡◌, IfOk};
-ghost use Rattle.mailhead.specs.Heads.{unfold_of};
+ghost use Rattle.mail_head.specs.Heads.{unfold_of};
 
 use crate::line::{begins_blank, first_line, without_end};
 use std::alloc::{AllocError, Global};
@@ -9,7 +9,7 @@ use std::alloc::{AllocError, Global};
 /// test or an address parser reads it.
 ///
 /// One pass, and one reservation of as many octets as `raw` has.
-pub fn unfolded(alloc: Global, raw: &[u8]) -> Result<Vec<u8>, AllocError>
+pub fn unfold_value(alloc: Global, raw: &[u8]) -> Result<Vec<u8>, AllocError>
     ensures { IfOk result (λ value. value.items ≡ unfold_of raw.now) }
 {
     let mut value = Vec::with_capacity(alloc, raw.len())?;

@@ -9,9 +9,9 @@ use Rattle.base64.specs.Rfc4648.{encode_symbols, padding_len}
 use Rattle.base64.specs.Engines.{standard}
 use Rattle.base64.specs.GeneralPurpose.{IsBytes, encode_of, decoded_of, engine_symbols}
 use Rattle.base64.proofs.EngineFacts.{decode_of-encode_of}
-use Rattle.mailhead.proofs.FoldLemmas.{and_true}
-use Rattle.encwords.specs.Words.{is_visible}
-use Rattle.encwords.specs.Laws.{HasStandardAlphabet}
+use Rattle.mail_head.proofs.FoldLemmas.{and_true}
+use Rattle.mail_words.specs.Words.{is_visible}
+use Rattle.mail_words.specs.Laws.{HasStandardAlphabet}
 
 -- the symbols of the engine
 abbrev symbols : List ℕ

@@ -4,13 +4,13 @@ use Rattle.std.proofs.lemmas.List.{append-nil, append_assoc}
 use Rattle.std.proofs.lemmas.List.Folds.{list_all-append}
 use Rattle.std.specs.List.{list_all, prefix_len}
 use Rattle.octets.specs.Ascii.{is_blank, is_printable}
-use Rattle.mailhead.specs.Lines.{is_other, begins_blank}
-use Rattle.mailhead.specs.Heads.{unfold_of}
-use Rattle.mailhead.proofs.FoldLemmas.{and_left, and_right, and_true}
-use Rattle.encwords.specs.Runs.{is_nonblank, begins_nonblank}
-use Rattle.encwords.specs.Written.{has_nonblank, fold_before, folded, lines_for}
-use Rattle.encwords.proofs.RunLemmas.{IsFront, front_cut}
-use Rattle.encwords.proofs.ReadBackLemmas.{printable_other, unfold_plain, unfold_printable, unfold_crlf}
+use Rattle.mail_head.specs.Lines.{is_other, begins_blank}
+use Rattle.mail_head.specs.Heads.{unfold_of}
+use Rattle.mail_head.proofs.FoldLemmas.{and_left, and_right, and_true}
+use Rattle.mail_words.specs.Runs.{is_nonblank, begins_nonblank}
+use Rattle.mail_words.specs.Written.{has_nonblank, fold_before, folded, lines_for}
+use Rattle.mail_words.proofs.RunLemmas.{IsFront, front_cut}
+use Rattle.mail_words.proofs.ReadBackLemmas.{printable_other, unfold_plain, unfold_printable, unfold_crlf}
 
 -- ---- what is folded says the text again
 

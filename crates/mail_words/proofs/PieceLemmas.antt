@@ -5,12 +5,12 @@ use Rattle.std.proofs.lemmas.Bool.{eqb-true}
 use Rattle.std.proofs.lemmas.Str.{IsCharBoundary-past_char, len_utf8_bounds, IsUtf8-take, IsUtf8-drop}
 use Rattle.std.specs.Char.{len_utf8}
 use Rattle.std.specs.Prelude.{IsUtf8, IsCharBoundary, encode_utf8_all}
-use Rattle.encwords.specs.Headers.{CutsPiece, ArePieces, word_for, others_for, words_for, between, IsWorded}
+use Rattle.mail_words.specs.Headers.{CutsPiece, AreEncodedPieces, word_for, others_for, words_for, between, IsWorded}
 
 -- pieces were cut off, and their words were written
 pub record IsWritten (text rest value : List ℕ) : Type 0 where
   pub pieces : List (List ℕ)
-  pub joins : (more : List (List ℕ)) → ArePieces more rest → ArePieces (pieces ++ more) text
+  pub joins : (more : List (List ℕ)) → AreEncodedPieces more rest → AreEncodedPieces (pieces ++ more) text
   pub spelled : value ≡ words_for pieces
 
 others_for-push : (pieces : List (List ℕ)) (piece : List ℕ) → others_for (pieces ++ piece ∷ []) ≡ others_for pieces ++ (13 ∷ 10 ∷ 32 ∷ word_for piece)

@@ -3,22 +3,22 @@ use Rattle.std.proofs.Common.{◌≡◌, ℕ, ◌+◌, ◌*◌, Bool, true, fals
 use Rattle.std.proofs.lemmas.Bool.{eqb-true}
 use Rattle.std.specs.Option.{option_and_then}
 use Rattle.octets.proofs.Lists.{some_is}
-use Rattle.encwords.specs.declared.quoted.Mode.TheVariants.{InText, AfterMark}
-use Rattle.encwords.specs.Quoted.{digit_of, Piece, Plain, Space, Escaped, spelling, octet_of, value_of, spellings, AreValues, IsQEncoded, with_octet, quoted_from, quoted_of}
+use Rattle.mail_words.specs.declared.quoted.Mode.TheVariants.{InText, AfterMark}
+use Rattle.mail_words.specs.Quoted.{hex_digit_of, QPiece, Plain, Space, Escaped, q_piece_text, hex_octet_of, q_piece_value, q_text, AreValues, IsQEncoded, with_octet, quoted_from, quoted_of}
 
 plain_value : (octet first : ℕ) (mark low : Bool) → cond mark None (cond low None (Some octet)) ≡ Some first → (mark ≡ false) × ((low ≡ false) × (octet ≡ first))
 plain_value octet first true low same = absurd (cc same)
 plain_value octet first false true same = absurd (cc same)
 plain_value octet first false false same = (refl, (refl, some_is octet first same))
 
-both_digits : (high low : Option ℕ) (first : ℕ) (rest : List ℕ) → octet_of high low ≡ Some first
+both_digits : (high low : Option ℕ) (first : ℕ) (rest : List ℕ) → hex_octet_of high low ≡ Some first
     → option_and_then (λ h. option_and_then (λ l. with_octet (h * 16 + l) (Some rest)) low) high ≡ Some (first ∷ rest)
 both_digits None low first rest same = absurd (cc same)
 both_digits (Some h) None first rest same = absurd (cc same)
 both_digits (Some h) (Some l) first rest same = ap (λ o. Some (o ∷ rest)) (some_is (h * 16 + l) first same)
 
 -- what is written so is read so
-pub quoted_again : (pieces : List Piece) (octets : List ℕ) → AreValues pieces octets → quoted_of (spellings pieces) ≡ Some octets
+pub quoted_again : (pieces : List QPiece) (octets : List ℕ) → AreValues pieces octets → quoted_of (q_text pieces) ≡ Some octets
 quoted_again [] octets are = ap Some (sym are)
 quoted_again (Plain octet ∷ more) octets (first, (rest, (is, (value, are)))) =
     let parts = plain_value octet first (octet == 61) (octet == 95) value in
@@ -31,7 +31,7 @@ quoted_again (Space ∷ more) octets (first, (rest, (is, (value, are)))) =
     rw later (ap Some same)
 quoted_again (Escaped high low ∷ more) octets (first, (rest, (is, (value, are)))) =
     let later = quoted_again more rest are in
-    rw later (both_digits (digit_of high) (digit_of low) first rest value ∙ ap Some (sym is))
+    rw later (both_digits (hex_digit_of high) (hex_digit_of low) first rest value ∙ ap Some (sym is))
 
 -- an octet was read before these
 with_found : (octet : ℕ) (more : Option (List ℕ)) (octets : List ℕ) → with_octet octet more ≡ Some octets → (rest : List ℕ) × ((more ≡ Some rest) × (octets ≡ octet ∷ rest))
@@ -39,10 +39,10 @@ with_found octet None octets same = absurd (cc same)
 with_found octet (Some rest) octets same = (rest, (refl, sym (some_is (octet ∷ rest) octets same)))
 
 -- one piece more in front
-piece_more : (piece : Piece) (text octets : List ℕ) (first : ℕ) → value_of piece ≡ Some first → IsQEncoded text octets → IsQEncoded (spelling piece ++ text) (first ∷ octets)
+piece_more : (piece : QPiece) (text octets : List ℕ) (first : ℕ) → q_piece_value piece ≡ Some first → IsQEncoded text octets → IsQEncoded (q_piece_text piece ++ text) (first ∷ octets)
 piece_more piece text octets first value is = record {
   pieces = piece ∷ is.pieces;
-  spelled = ap (λ t. spelling piece ++ t) is.spelled;
+  spelled = ap (λ t. q_piece_text piece ++ t) is.spelled;
   valued = (first, (octets, (refl, (value, is.valued))));
 }
 
@@ -50,13 +50,13 @@ plain_more : (octet : ℕ) (rest octets : List ℕ) (low : Bool) → (octet == 6
 plain_more octet rest octets true other low is = rw (eqb-true octet 95 low) (piece_more Space rest octets 32 refl is)
 plain_more octet rest octets false other high is = piece_more (Plain octet) rest octets octet (rw (other, high) refl) is
 
-escape_more : (high low : ℕ) (rest octets : List ℕ) (h l : Option ℕ) → digit_of high ≡ h → digit_of low ≡ l → ((rests : List ℕ) → quoted_of rest ≡ Some rests → IsQEncoded rest rests)
+escape_more : (high low : ℕ) (rest octets : List ℕ) (h l : Option ℕ) → hex_digit_of high ≡ h → hex_digit_of low ≡ l → ((rests : List ℕ) → quoted_of rest ≡ Some rests → IsQEncoded rest rests)
     → option_and_then (λ a. option_and_then (λ b. with_octet (a * 16 + b) (quoted_from InText rest)) l) h ≡ Some octets → IsQEncoded (61 ∷ high ∷ low ∷ rest) octets
 escape_more high low rest octets None l dh dl later same = absurd (cc same)
 escape_more high low rest octets (Some a) None dh dl later same = absurd (cc same)
 escape_more high low rest octets (Some a) (Some b) dh dl later same =
     let found = with_found (a * 16 + b) (quoted_from InText rest) octets same in
-    let value : value_of (Escaped high low) ≡ Some (a * 16 + b) = rw (dh, dl) refl in
+    let value : q_piece_value (Escaped high low) ≡ Some (a * 16 + b) = rw (dh, dl) refl in
     rw found.1.1 (piece_more (Escaped high low) rest found.0 (a * 16 + b) value (later found.0 found.1.0))
 
 none_digit : (high : Option ℕ) (octets : List ℕ) → option_and_then (λ (h : ℕ). let none : Option (List ℕ) = None in none) high ≡ Some octets → ⊥
@@ -78,7 +78,7 @@ quoted_is [] octets same = record { pieces = []; spelled = refl; valued = sym (s
 quoted_is (octet ∷ []) octets same =
     first_way (octet == 61) octet [] octets refl (λ rests is. quoted_is [] rests is) (λ none. absurd (cc none)) same
 quoted_is (octet ∷ (high ∷ [])) octets same =
-    first_way (octet == 61) octet (high ∷ []) octets refl (λ rests is. quoted_is (high ∷ []) rests is) (λ none. absurd (none_digit (digit_of high) octets none)) same
+    first_way (octet == 61) octet (high ∷ []) octets refl (λ rests is. quoted_is (high ∷ []) rests is) (λ none. absurd (none_digit (hex_digit_of high) octets none)) same
 quoted_is (octet ∷ (high ∷ (low ∷ rest))) octets same =
     first_way (octet == 61) octet (high ∷ (low ∷ rest)) octets refl (λ rests is. quoted_is (high ∷ (low ∷ rest)) rests is)
-    (λ escaped. escape_more high low rest octets (digit_of high) (digit_of low) refl refl (λ rests is. quoted_is rest rests is) escaped) same
+    (λ escaped. escape_more high low rest octets (hex_digit_of high) (hex_digit_of low) refl refl (λ rests is. quoted_is rest rests is) escaped) same

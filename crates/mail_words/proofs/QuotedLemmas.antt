@@ -2,10 +2,10 @@
 use Rattle.std.proofs.Common.{◌≡◌, ◌≢◌, ◌==◌, ℕ, ◌+◌, ◌<◌, Option, None, Some, List, [], ◌∷◌, ◌++◌, length, drop, get_or, refl, sym, ap, ◌∙◌}
 use Rattle.std.proofs.lemmas.List.{drop_more, append_assoc}
 use Rattle.std.specs.Option.{option_map}
-use Rattle.encwords.specs.declared.quoted.Mode.{Mode}
+use Rattle.mail_words.specs.declared.quoted.Mode.{Mode}
 use Rattle.std.proofs.lemmas.Bool.{false_from_ne_true, eqb-true}
-use Rattle.encwords.specs.declared.quoted.Mode.TheVariants.{InText}
-use Rattle.encwords.specs.Quoted.{IsMode, with_octet, quoted_from, quoted_of, with_read, after_step}
+use Rattle.mail_words.specs.declared.quoted.Mode.TheVariants.{InText}
+use Rattle.mail_words.specs.Quoted.{IsMode, with_octet, quoted_from, quoted_of, with_read, after_step}
 
 -- octets before what is still to come
 abbrev pub onto : List ℕ → Option (List ℕ) → Option (List ℕ)

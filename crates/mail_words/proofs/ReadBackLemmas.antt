@@ -11,20 +11,20 @@ use Rattle.std.specs.Option.{unwrap_or, is_some}
 use Rattle.octets.specs.Ascii.{is_blank, is_printable}
 use Rattle.base64.specs.Engines.{standard}
 use Rattle.base64.specs.GeneralPurpose.{IsBytes, encode_of, decoded_of}
-use Rattle.mailhead.specs.Lines.{is_other, at_front, lines_of, begins_blank, goes_on, end_len, without_end}
-use Rattle.mailhead.specs.Heads.{joined, unfold_of}
-use Rattle.mailhead.proofs.LineLemmas.{goes_on-lines_of}
-use Rattle.mailhead.proofs.FoldLemmas.{and_left, and_right, and_true}
-use Rattle.mailhead.proofs.CutLemmas.{cut_ended, cut_open}
-use Rattle.encwords.specs.Runs.{is_nonblank, begins_nonblank, before_runs, runs_of}
-use Rattle.encwords.specs.Words.{is_unmarked, parts_of, is_visible, meaning_in, word_of}
-use Rattle.encwords.specs.Values.{given_from, text_of}
-use Rattle.encwords.specs.Headers.{begins_question, has_mark, is_plain, ArePieces, word_for, others_for, words_for, IsWorded}
-use Rattle.encwords.specs.Laws.{IsReadBack}
-use Rattle.encwords.proofs.RunLemmas.{given_front}
-use Rattle.encwords.proofs.WordLaws.{parts_front}
-use Rattle.encwords.proofs.PieceLemmas.{after_valid, piece_valid}
-use Rattle.encwords.proofs.AlphabetLemmas.{is_safe, safe_encoding, encoding_present, encoding_decodes, bytes_front, bytes_back}
+use Rattle.mail_head.specs.Lines.{is_other, at_front, lines_of, begins_blank, first_is_folded, end_len, without_end}
+use Rattle.mail_head.specs.Heads.{unfolded_lines, unfold_of}
+use Rattle.mail_head.proofs.LineLemmas.{goes_on-lines_of}
+use Rattle.mail_head.proofs.FoldLemmas.{and_left, and_right, and_true}
+use Rattle.mail_head.proofs.CutLemmas.{cut_ended, cut_open}
+use Rattle.mail_words.specs.Runs.{is_nonblank, begins_nonblank, before_runs, runs_of}
+use Rattle.mail_words.specs.Words.{is_unmarked, between_questions, is_visible, meaning_in, encoded_word_text}
+use Rattle.mail_words.specs.Values.{given_from, decoded_text}
+use Rattle.mail_words.specs.Headers.{begins_question, has_mark, is_plain_value, AreEncodedPieces, word_for, others_for, words_for, IsWorded}
+use Rattle.mail_words.specs.Laws.{IsReadBack}
+use Rattle.mail_words.proofs.RunLemmas.{given_front}
+use Rattle.mail_words.proofs.WordLaws.{parts_front}
+use Rattle.mail_words.proofs.PieceLemmas.{after_valid, piece_valid}
+use Rattle.mail_words.proofs.AlphabetLemmas.{is_safe, safe_encoding, encoding_present, encoding_decodes, bytes_front, bytes_back}
 
 -- what passes one test passes another that asks less
 list_all-weaker : (p q : ℕ → Bool) (xs : List ℕ) → ((x : ℕ) → p x ≡ true → q x ≡ true) → list_all p xs ≡ true → list_all q xs ≡ true
@@ -55,14 +55,14 @@ safe_unmarked octet safe = and_right (is_visible octet) (is_unmarked octet) safe
 
 -- a word with this text in B
 word_with : (encoded piece : List ℕ) → list_all is_safe encoded ≡ true → (length encoded == 0) ≡ false → decoded_of standard encoded ≡ Some piece → is_utf8 piece ≡ true
-    → word_of (codes "=?UTF-8?B?" ++ (encoded ++ codes "?=")) ≡ Some piece
+    → encoded_word_text (codes "=?UTF-8?B?" ++ (encoded ++ codes "?=")) ≡ Some piece
 word_with encoded piece safe present decodes valid =
     let seen : list_all is_visible encoded ≡ true = list_all-weaker is_safe is_visible encoded safe_visible safe in
     let parts = parts_front encoded (codes "=") (list_all-weaker is_safe is_unmarked encoded safe_unmarked safe) in
     rw (parts, present, seen, decodes, valid) refl
 
 -- a word that was written is recognised, and says its piece
-pub word_read : (piece : List ℕ) → IsBytes piece → IsUtf8 piece → piece ≢ [] → word_of (word_for piece) ≡ Some piece
+pub word_read : (piece : List ℕ) → IsBytes piece → IsUtf8 piece → piece ≢ [] → encoded_word_text (word_for piece) ≡ Some piece
 word_read piece bytes valid some =
     word_with (encode_of standard piece) piece (safe_encoding piece bytes) (encoding_present piece some) (encoding_decodes piece bytes) (is_utf8-from_IsUtf8 piece valid)
 
@@ -83,14 +83,14 @@ AreTexts : List (List ℕ) → Type 0
 AreTexts [] = Unit {0}
 AreTexts (piece ∷ more) = (IsBytes piece × (IsUtf8 piece × (piece ≢ []))) × AreTexts more
 
-texts_from : (pieces : List (List ℕ)) (text : List ℕ) → IsBytes text → IsUtf8 text → ArePieces pieces text → AreTexts pieces
+texts_from : (pieces : List (List ℕ)) (text : List ℕ) → IsBytes text → IsUtf8 text → AreEncodedPieces pieces text → AreTexts pieces
 unfolding AreTexts
 texts_from [] text bytes valid are = tt
 texts_from (piece ∷ more) text bytes valid (rest, (cut, are)) =
     let both : IsBytes (piece ++ rest) = subst IsBytes cut.spelled bytes in
     ((bytes_front piece rest both, (piece_valid text piece rest valid cut, cut.present)), texts_from more rest (bytes_back piece rest both) (after_valid text piece rest valid cut) are)
 
-joined_pieces : (pieces : List (List ℕ)) (text : List ℕ) → ArePieces pieces text → text ≡ concat pieces
+joined_pieces : (pieces : List (List ℕ)) (text : List ℕ) → AreEncodedPieces pieces text → text ≡ concat pieces
 joined_pieces [] text are = are
 joined_pieces (piece ∷ more) text (rest, (cut, are)) = cut.spelled ∙ ap (λ t. piece ++ t) (joined_pieces more rest are)
 
@@ -110,7 +110,7 @@ without_crlf line =
 -- a text without line end unfolds to itself
 pub unfold_plain : (text : List ℕ) → list_all is_other text ≡ true → unfold_of text ≡ text
 unfold_plain [] all = refl
-unfold_plain (octet ∷ rest) all = ap joined (cut_open (octet ∷ rest) (λ none. absurd (cc none)) all) ∙ append-nil (octet ∷ rest)
+unfold_plain (octet ∷ rest) all = ap unfolded_lines (cut_open (octet ∷ rest) (λ none. absurd (cc none)) all) ∙ append-nil (octet ∷ rest)
 
 -- a printable text unfolds to itself
 pub unfold_printable : (text : List ℕ) → list_all is_printable text ≡ true → unfold_of text ≡ text
@@ -123,8 +123,8 @@ unfold_crlf front rest all blank =
     let others : list_all is_other (front ++ 13 ∷ []) ≡ true = list_all-append is_other front (13 ∷ []) ∙ and_true _ _ all refl in
     let cut : lines_of ((front ++ (13 ∷ 10 ∷ [])) ++ rest) ≡ (front ++ (13 ∷ 10 ∷ [])) ∷ lines_of rest =
     ap (λ t. lines_of (t ++ rest)) line ∙ (cut_ended (front ++ 13 ∷ []) rest others ∙ ap (λ t. t ∷ lines_of rest) (sym line)) in
-    let goes : goes_on (lines_of rest) ≡ true = goes_on-lines_of rest ∙ blank in
-    ap joined cut ∙ (ap (λ t. cond t (without_end (front ++ (13 ∷ 10 ∷ []))) (front ++ (13 ∷ 10 ∷ [])) ++ unfold_of rest) goes ∙ ap (λ t. t ++ unfold_of rest) (without_crlf front))
+    let goes : first_is_folded (lines_of rest) ≡ true = goes_on-lines_of rest ∙ blank in
+    ap unfolded_lines cut ∙ (ap (λ t. cond t (without_end (front ++ (13 ∷ 10 ∷ []))) (front ++ (13 ∷ 10 ∷ [])) ++ unfold_of rest) goes ∙ ap (λ t. t ++ unfold_of rest) (without_crlf front))
 
 -- words unfold to words with spaces between
 unfold_words : (pieces : List (List ℕ)) (front : List ℕ) → AreTexts pieces → list_all is_other front ≡ true → unfold_of (front ++ others_for pieces) ≡ front ++ spaced pieces
@@ -159,11 +159,11 @@ given_spaced (piece ∷ more) are =
     let nonblank : list_all is_nonblank (word_for piece) ≡ true = list_all-weaker is_visible is_nonblank (word_for piece) visible_nonblank (word_visible piece are.0.0) in
     let read = word_read piece are.0.0 are.0.1.0 are.0.1.1 in
     given_front true (32 ∷ []) (word_for piece) (spaced more) refl nonblank (spaced_nonblank more) (λ none. absurd (word_not_empty piece none))
-    ∙ (word_gives true (32 ∷ []) (word_for piece) piece (runs_of (spaced more)) (word_of (word_for piece)) read
+    ∙ (word_gives true (32 ∷ []) (word_for piece) piece (runs_of (spaced more)) (encoded_word_text (word_for piece)) read
     ∙ ap (λ t. piece ++ t) (given_spaced more are.1))
 
 -- the words of pieces say the pieces
-words_back : (pieces : List (List ℕ)) → AreTexts pieces → text_of (unfold_of (words_for pieces)) ≡ concat pieces
+words_back : (pieces : List (List ℕ)) → AreTexts pieces → decoded_text (unfold_of (words_for pieces)) ≡ concat pieces
 unfolding AreTexts
 words_back [] are = refl
 words_back (piece ∷ more) are =
@@ -171,9 +171,9 @@ words_back (piece ∷ more) are =
     let others : list_all is_other (word_for piece) ≡ true = list_all-weaker is_visible is_other (word_for piece) visible_other seen in
     let nonblank : list_all is_nonblank (word_for piece) ≡ true = list_all-weaker is_visible is_nonblank (word_for piece) visible_nonblank seen in
     let read = word_read piece are.0.0 are.0.1.0 are.0.1.1 in
-    ap text_of (unfold_words more (word_for piece) are.1 others)
+    ap decoded_text (unfold_words more (word_for piece) are.1 others)
     ∙ (given_front false [] (word_for piece) (spaced more) refl nonblank (spaced_nonblank more) (λ none. absurd (word_not_empty piece none))
-    ∙ (word_gives false [] (word_for piece) piece (runs_of (spaced more)) (word_of (word_for piece)) read
+    ∙ (word_gives false [] (word_for piece) piece (runs_of (spaced more)) (encoded_word_text (word_for piece)) read
     ∙ ap (λ t. piece ++ t) (given_spaced more are.1)))
 
 -- parts of which the first is not `=` are no word
@@ -210,11 +210,11 @@ front_any octet true parts none = meaning_front [] parts refl
 front_any octet false parts none = none
 
 -- a run without `=?` is no word
-no_mark_word : (run : List ℕ) → has_mark run ≡ false → word_of run ≡ None
+no_mark_word : (run : List ℕ) → has_mark run ≡ false → encoded_word_text run ≡ None
 no_mark_word [] no_mark = refl
 no_mark_word (octet ∷ []) no_mark = front_any octet (octet == 63) ([] ∷ []) refl
 no_mark_word (octet ∷ (next ∷ rest)) no_mark =
-    front_any octet (octet == 63) (parts_of (next ∷ rest)) (front_one octet (next == 63) next (parts_of rest) (or_left_no (octet == 61 && next == 63) (has_mark (next ∷ rest)) no_mark))
+    front_any octet (octet == 63) (between_questions (next ∷ rest)) (front_one octet (next == 63) next (between_questions rest) (or_left_no (octet == 61 && next == 63) (has_mark (next ∷ rest)) no_mark))
 
 -- no run of these has `=?`
 abbrev NoMarks : List (List ℕ) → Type 0
@@ -234,7 +234,7 @@ plain_step found run more is later =
 -- runs without `=?` give themselves
 given_plain : (runs : List (List ℕ)) → NoMarks runs → given_from false runs ≡ concat runs
 given_plain [] none = refl
-given_plain (run ∷ more) none = plain_step (word_of run) run more (no_mark_word run none.0) (given_plain more none.1)
+given_plain (run ∷ more) none = plain_step (encoded_word_text run) run more (no_mark_word run none.0) (given_plain more none.1)
 
 concat_cond : (test : Bool) (octet : ℕ) (run : List ℕ) (more : List (List ℕ)) → concat (cond test ((octet ∷ run) ∷ more) ((octet ∷ []) ∷ run ∷ more)) ≡ octet ∷ concat (run ∷ more)
 concat_cond true octet run more = refl
@@ -275,22 +275,22 @@ no_marks (octet ∷ rest) no_mark =
     marks_before octet (runs_of rest) later (ap (λ t. octet == 61 && begins_question t) (concat-runs_of rest) ∙ here)
 
 -- a plain text is read back
-plain_back : (text : List ℕ) → is_plain text ≡ true → text_of (unfold_of text) ≡ text
+plain_back : (text : List ℕ) → is_plain_value text ≡ true → decoded_text (unfold_of text) ≡ text
 plain_back text plain =
     let rest : (list_all is_printable text && not (has_mark text)) ≡ true = and_right (nat_le (length text) 200) _ plain in
     let printable : list_all is_printable text ≡ true = and_left _ _ rest in
     let no_mark : has_mark text ≡ false = not_true (has_mark text) (and_right (list_all is_printable text) (not (has_mark text)) rest) in
-    ap text_of (unfold_printable text printable) ∙ (given_plain (runs_of text) (no_marks text no_mark) ∙ concat-runs_of text)
+    ap decoded_text (unfold_printable text printable) ∙ (given_plain (runs_of text) (no_marks text no_mark) ∙ concat-runs_of text)
 
 -- words are read back
-worded_back : (text value : List ℕ) → IsBytes text → IsUtf8 text → IsWorded text value → text_of (unfold_of value) ≡ text
+worded_back : (text value : List ℕ) → IsBytes text → IsUtf8 text → IsWorded text value → decoded_text (unfold_of value) ≡ text
 worded_back text value bytes valid worded =
     let texts = texts_from worded.pieces text bytes valid worded.cut in
-    ap (λ t. text_of (unfold_of t)) worded.spelled ∙ (words_back worded.pieces texts ∙ sym (joined_pieces worded.pieces text worded.cut))
+    ap (λ t. decoded_text (unfold_of t)) worded.spelled ∙ (words_back worded.pieces texts ∙ sym (joined_pieces worded.pieces text worded.cut))
 
 -- a text that was written in a header field is read back from it
 pub read_back : (text value : List ℕ) → IsBytes text → IsUtf8 text → IsReadBack text value
 read_back text value bytes valid written = ⊎_elim
-    (λ plain. ap (λ t. text_of (unfold_of t)) (written.plain plain) ∙ plain_back text plain)
+    (λ plain. ap (λ t. decoded_text (unfold_of t)) (written.plain plain) ∙ plain_back text plain)
     (λ other. worded_back text value bytes valid (written.worded other))
-    (cases_Bool (is_plain text))
+    (cases_Bool (is_plain_value text))

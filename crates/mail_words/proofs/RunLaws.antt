@@ -1,10 +1,10 @@
 -- A text has one list of runs.
 use Rattle.std.proofs.Common.{◌≡◌, ◌≢◌, ℕ, Bool, true, false, cond, not, List, [], ◌∷◌, ◌++◌, refl, sym, ap, ◌∙◌, inl, inr}
 use Rattle.octets.specs.Ascii.{is_blank}
-use Rattle.mailhead.specs.Lines.{begins_blank}
-use Rattle.mailhead.proofs.FoldLemmas.{and_left, and_true}
-use Rattle.encwords.specs.Runs.{begins_nonblank, IsRun, AreRuns, before_runs, runs_of}
-use Rattle.encwords.proofs.RunLemmas.{runs_blank, runs_nonblank}
+use Rattle.mail_head.specs.Lines.{begins_blank}
+use Rattle.mail_head.proofs.FoldLemmas.{and_left, and_true}
+use Rattle.mail_words.specs.Runs.{begins_nonblank, IsRun, AreRuns, before_runs, runs_of}
+use Rattle.mail_words.proofs.RunLemmas.{runs_blank, runs_nonblank}
 
 -- and no other list is
 pub runs_only : (text : List ℕ) (runs : List (List ℕ)) → AreRuns runs text → runs ≡ runs_of text

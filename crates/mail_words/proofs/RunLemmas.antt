@@ -6,12 +6,12 @@ use Rattle.std.specs.Option.{unwrap_or, is_some, option_map}
 use Rattle.std.proofs.lemmas.Bool.{true≢false}
 use Rattle.std.proofs.Math.Numerals.{one-add}
 use Rattle.octets.specs.Ascii.{is_blank}
-use Rattle.mailhead.specs.Lines.{begins_blank}
-use Rattle.mailhead.proofs.FoldLemmas.{and_left, and_right}
-use Rattle.mailhead.proofs.FormLemmas.{list_all-prefix, begins}
-use Rattle.encwords.specs.Runs.{is_nonblank, begins_nonblank, before_runs, runs_of}
-use Rattle.encwords.specs.Words.{word_of, is_word}
-use Rattle.encwords.specs.Values.{given_from}
+use Rattle.mail_head.specs.Lines.{begins_blank}
+use Rattle.mail_head.proofs.FoldLemmas.{and_left, and_right}
+use Rattle.mail_head.proofs.FormLemmas.{list_all-prefix, begins}
+use Rattle.mail_words.specs.Runs.{is_nonblank, begins_nonblank, before_runs, runs_of}
+use Rattle.mail_words.specs.Words.{encoded_word_text, is_encoded_word}
+use Rattle.mail_words.specs.Values.{given_from}
 
 -- the first run begins as the text does
 pub record StartsRuns (octet : ℕ) (runs : List (List ℕ)) : Type 0 where
@@ -76,7 +76,7 @@ begins-append (octet ∷ run) after present = refl
 
 -- what a run of other octets gives, and what follows it
 given_nonblank : (after_word : Bool) (run after : List ℕ) → run ≢ [] → list_all is_nonblank run ≡ true → begins_nonblank after ≡ false
-    → given_from after_word (runs_of (run ++ after)) ≡ unwrap_or (word_of run) run ++ given_from (is_word run) (runs_of after)
+    → given_from after_word (runs_of (run ++ after)) ≡ unwrap_or (encoded_word_text run) run ++ given_from (is_encoded_word run) (runs_of after)
 given_nonblank after_word run after present all ends =
     let runs = runs_nonblank run after present all ends in
     let nonblank = nonblank_not_blank run all in
@@ -88,11 +88,11 @@ choice_nil false = refl
 
 -- the blanks of a front and the other octets after_word them give this
 pub given_front : (after_word : Bool) (blanks run after : List ℕ) → list_all is_blank blanks ≡ true → list_all is_nonblank run ≡ true → begins_nonblank after ≡ false → (run ≡ [] → after ≡ [])
-    → given_from after_word (runs_of (blanks ++ (run ++ after))) ≡ cond (after_word && is_word run) [] blanks ++ (unwrap_or (word_of run) run ++ given_from (is_word run) (runs_of after))
-given_front after_word [] [] after blank nonblank ends last = let none = last refl in rw (none, choice_nil (after_word && is_word [])) refl
+    → given_from after_word (runs_of (blanks ++ (run ++ after))) ≡ cond (after_word && is_encoded_word run) [] blanks ++ (unwrap_or (encoded_word_text run) run ++ given_from (is_encoded_word run) (runs_of after))
+given_front after_word [] [] after blank nonblank ends last = let none = last refl in rw (none, choice_nil (after_word && is_encoded_word [])) refl
 given_front after_word [] (octet ∷ run) after blank nonblank ends last =
     let rest = given_nonblank after_word (octet ∷ run) after (λ none. absurd (cc none)) nonblank ends in
-    rest ∙ ap (λ t. t ++ (unwrap_or (word_of (octet ∷ run)) (octet ∷ run) ++ given_from (is_word (octet ∷ run)) (runs_of after))) (sym (choice_nil (after_word && is_word (octet ∷ run))))
+    rest ∙ ap (λ t. t ++ (unwrap_or (encoded_word_text (octet ∷ run)) (octet ∷ run) ++ given_from (is_encoded_word (octet ∷ run)) (runs_of after))) (sym (choice_nil (after_word && is_encoded_word (octet ∷ run))))
 given_front after_word (blank ∷ blanks) [] after all nonblank ends last =
     let none = last refl in
     let runs = runs_blank (blank ∷ blanks) [] (λ empty. absurd (cc empty)) all refl in
@@ -147,7 +147,7 @@ front_cut text blanks rest run after b r d a =
 
 -- they give this
 pub given_step : (after_word : Bool) (text blanks run after : List ℕ) → IsFront text blanks run after
-    → given_from after_word (runs_of text) ≡ cond (after_word && is_word run) [] blanks ++ (unwrap_or (word_of run) run ++ given_from (is_word run) (runs_of after))
+    → given_from after_word (runs_of text) ≡ cond (after_word && is_encoded_word run) [] blanks ++ (unwrap_or (encoded_word_text run) run ++ given_from (is_encoded_word run) (runs_of after))
 given_step after_word text blanks run after front =
     ap (λ t. given_from after_word (runs_of t)) front.whole ∙ given_front after_word blanks run after front.blank front.nonblank front.ends front.last
 
@@ -184,21 +184,21 @@ pub read_front : (value text with_blanks with_run rest blanks tail run after kep
     → text ++ given_from after_word (runs_of rest) ≡ value
     → blanks ≡ take (prefix_len is_blank rest) rest → tail ≡ drop (prefix_len is_blank rest) rest
     → run ≡ take (prefix_len is_nonblank tail) tail → after ≡ drop (prefix_len is_nonblank tail) tail
-    → word ≡ word_of run → before ≡ is_some word → now ≡ is_some word
+    → word ≡ encoded_word_text run → before ≡ is_some word → now ≡ is_some word
     → kept ≡ cond (after_word && before) [] blanks → shown ≡ unwrap_or word run → with_blanks ≡ text ++ kept → with_run ≡ with_blanks ++ shown
     → with_run ++ given_from now (runs_of after) ≡ value
 read_front value text with_blanks with_run rest blanks tail run after kept shown after_word before now word so_far b r d a w f n k s first second =
     let step = given_step after_word rest blanks run after (front_cut rest blanks tail run after b r d a) in
-    let more = given_from (is_word run) (runs_of after) in
-    let known : is_some word ≡ is_word run = ap is_some w in
-    let keeps : kept ≡ cond (after_word && is_word run) [] blanks = k ∙ ap (λ t. cond (after_word && t) [] blanks) (f ∙ known) in
-    let shows : shown ≡ unwrap_or (word_of run) run = s ∙ ap (λ t. unwrap_or t run) w in
+    let more = given_from (is_encoded_word run) (runs_of after) in
+    let known : is_some word ≡ is_encoded_word run = ap is_some w in
+    let keeps : kept ≡ cond (after_word && is_encoded_word run) [] blanks = k ∙ ap (λ t. cond (after_word && t) [] blanks) (f ∙ known) in
+    let shows : shown ≡ unwrap_or (encoded_word_text run) run = s ∙ ap (λ t. unwrap_or t run) w in
     ap (λ t. with_run ++ given_from t (runs_of after)) (n ∙ known)
     ∙ (ap (λ t. t ++ more) (second ∙ ap (λ t. t ++ shown) first)
     ∙ (append_assoc (text ++ kept) shown more
     ∙ (append_assoc text kept (shown ++ more)
     ∙ (ap (λ t. text ++ (t ++ (shown ++ more))) keeps
-    ∙ (ap (λ t. text ++ (cond (after_word && is_word run) [] blanks ++ (t ++ more))) shows
+    ∙ (ap (λ t. text ++ (cond (after_word && is_encoded_word run) [] blanks ++ (t ++ more))) shows
     ∙ (ap (λ t. text ++ t) (sym step) ∙ so_far))))))
 
 -- a mapped value is there where the value is

@@ -1,6 +1,6 @@
 -- Lemmas on tests of texts.
 use Rattle.std.proofs.Common.{◌≡◌, ◌↔◌, ℕ, zero, suc, ◌+◌, ◌<◌, ◌≤◌, Bool, true, false, ◌==◌, ◌&&◌, ◌||◌, Option, None, Some, List, [], ◌∷◌, length, get_or, map, refl, sym, ap, ◌∙◌, take, codes, arith, IsTrue}
-use Rattle.mailhead.proofs.FoldLemmas.{and_left, and_right}
+use Rattle.mail_head.proofs.FoldLemmas.{and_left, and_right}
 use Rattle.std.proofs.lemmas.Bool.{false_from_ne_true, eqb-true, false≢true}
 use Rattle.std.proofs.lemmas.Slice.Eq.{bytes_eq-Decides}
 use Rattle.std.specs.Char.{to_ascii_lowercase}
@@ -11,8 +11,8 @@ use Rattle.std.proofs.Common.{Result, Ok, Err, Bor, is_ok}
 use Rattle.std.specs.Prelude.{MatchResult, IsUtf8}
 use Rattle.std.specs.Str.{is_utf8, IsValidUpTo}
 use Rattle.std.proofs.lemmas.Str.{is_utf8-from_IsUtf8, IsUtf8-from_is_utf8}
-use Rattle.encwords.specs.Charsets.{charset_of}
-use Rattle.encwords.specs.Headers.{begins_question, has_mark}
+use Rattle.mail_words.specs.Charsets.{charset_of}
+use Rattle.mail_words.specs.Headers.{begins_question, has_mark}
 
 -- texts that a comparison without ASCII case found different
 pub differ : (test : Bool) (xs ys : List ℕ) → (IsTrue test ↔ (map to_ascii_lowercase xs ≡ map to_ascii_lowercase ys)) → test ≡ false → str_eq_ignore_ascii_case xs ys ≡ false

@@ -3,9 +3,9 @@ use Rattle.std.proofs.Common.{◌≡◌, ℕ, Bool, true, false, cond, ◌==◌,
 use Rattle.std.proofs.lemmas.Bool.{eqb-true}
 use Rattle.std.proofs.lemmas.Slice.Eq.{bytes_eq-Decides}
 use Rattle.std.specs.List.{list_all}
-use Rattle.mailhead.specs.Lines.{at_front, begins_blank}
-use Rattle.mailhead.proofs.FoldLemmas.{and_left, and_right, and_true}
-use Rattle.encwords.specs.Words.{is_unmarked, IsWord, SaysWord, parts_of, meaning_of, meaning_in, word_of}
+use Rattle.mail_head.specs.Lines.{at_front, begins_blank}
+use Rattle.mail_head.proofs.FoldLemmas.{and_left, and_right, and_true}
+use Rattle.mail_words.specs.Words.{is_unmarked, IsEncodedWord, SaysWord, between_questions, meaning_of, meaning_in, encoded_word_text}
 
 -- an octet that is no question mark
 pub other_mark : (octet : ℕ) → is_unmarked octet ≡ true → (octet == 63) ≡ false
@@ -15,7 +15,7 @@ other_mark octet unmarked = not_true (octet == 63) unmarked where
   not_true false h = refl
 
 -- a part without question mark, and what follows
-pub parts_front : (front rest : List ℕ) → list_all is_unmarked front ≡ true → parts_of (front ++ 63 ∷ rest) ≡ front ∷ parts_of rest
+pub parts_front : (front rest : List ℕ) → list_all is_unmarked front ≡ true → between_questions (front ++ 63 ∷ rest) ≡ front ∷ between_questions rest
 parts_front [] rest all = refl
 parts_front (octet ∷ front) rest all =
     let other = other_mark octet (and_left _ _ all) in
@@ -23,22 +23,22 @@ parts_front (octet ∷ front) rest all =
     rw (other, later) refl
 
 -- the parts of a word
-pub parts_word : (run charset encoding text : List ℕ) → IsWord run charset encoding text → parts_of run ≡ codes "=" ∷ charset ∷ encoding ∷ text ∷ codes "=" ∷ []
+pub parts_word : (run charset encoding text : List ℕ) → IsEncodedWord run charset encoding text → between_questions run ≡ codes "=" ∷ charset ∷ encoding ∷ text ∷ codes "=" ∷ []
 parts_word run charset encoding text word =
     let third = parts_front text (codes "=") word.text_unmarked in
     let second = parts_front encoding (text ++ codes "?=") word.encoding_unmarked in
     let first = parts_front charset (encoding ++ 63 ∷ (text ++ codes "?=")) word.charset_unmarked in
-    ap parts_of word.spelled ∙ (ap (λ t. codes "=" ∷ t) (first ∙ ap (λ t. charset ∷ t) (second ∙ ap (λ t. encoding ∷ t) third)))
+    ap between_questions word.spelled ∙ (ap (λ t. codes "=" ∷ t) (first ∙ ap (λ t. charset ∷ t) (second ∙ ap (λ t. encoding ∷ t) third)))
 
 -- a word's form is recognised
-pub word_again : (run said : List ℕ) → SaysWord run said → word_of run ≡ Some said
+pub word_again : (run said : List ℕ) → SaysWord run said → encoded_word_text run ≡ Some said
 word_again run said says = ap meaning_in (parts_word run says.charset says.encoding says.text says.form) ∙ says.meaning
 
 same_parts : (front a b c back front2 d e f back2 : List ℕ) → front ∷ a ∷ b ∷ c ∷ back ∷ [] ≡ front2 ∷ d ∷ e ∷ f ∷ back2 ∷ [] → (a ≡ d) × ((b ≡ e) × (c ≡ f))
 same_parts front a b c back front2 d e f back2 same = (cc same, (cc same, cc same))
 
 -- a word has one charset, one encoding and one text
-pub word_only : (run a b c d e f : List ℕ) → IsWord run a b c → IsWord run d e f → (a ≡ d) × ((b ≡ e) × (c ≡ f))
+pub word_only : (run a b c d e f : List ℕ) → IsEncodedWord run a b c → IsEncodedWord run d e f → (a ≡ d) × ((b ≡ e) × (c ≡ f))
 word_only run a b c d e f one two = same_parts (codes "=") a b c (codes "=") (codes "=") d e f (codes "=") (sym (parts_word run a b c one) ∙ parts_word run d e f two)
 
 -- parts without question mark, with one between each two of them
@@ -57,14 +57,14 @@ joins_octet octet (part ∷ []) text unmarked joins = (ap (λ t. octet ∷ t) jo
 joins_octet octet (part ∷ next ∷ more) text unmarked (rest, (spelled, (all, joins))) =
     (rest, (ap (λ t. octet ∷ t) spelled, (and_true _ _ unmarked all, joins)))
 
-joins_step : (octet : ℕ) (rest : List ℕ) (test : Bool) → (octet == 63) ≡ test → Joins (parts_of rest) rest → Joins (cond test ([] ∷ parts_of rest) (at_front octet (parts_of rest))) (octet ∷ rest)
+joins_step : (octet : ℕ) (rest : List ℕ) (test : Bool) → (octet == 63) ≡ test → Joins (between_questions rest) rest → Joins (cond test ([] ∷ between_questions rest) (at_front octet (between_questions rest))) (octet ∷ rest)
 joins_step octet rest true is joins =
     let mark = eqb-true octet 63 is in
-    rw mark (joins_mark (parts_of rest) rest joins)
-joins_step octet rest false is joins = joins_octet octet (parts_of rest) rest (ap not is) joins
+    rw mark (joins_mark (between_questions rest) rest joins)
+joins_step octet rest false is joins = joins_octet octet (between_questions rest) rest (ap not is) joins
 
 -- the parts of a text join to it
-joins_parts : (text : List ℕ) → Joins (parts_of text) text
+joins_parts : (text : List ℕ) → Joins (between_questions text) text
 joins_parts [] = (refl, refl)
 joins_parts (octet ∷ rest) = joins_step octet rest (octet == 63) refl (joins_parts rest)
 
@@ -100,15 +100,15 @@ says_parts (front ∷ charset ∷ encoding ∷ text ∷ back ∷ []) run said (o
 says_parts (a ∷ b ∷ c ∷ d ∷ e ∷ f ∷ more) run said joins is = absurd (cc is)
 
 -- what is recognised has a word's form
-pub word_says : (run said : List ℕ) → word_of run ≡ Some said → SaysWord run said
-word_says run said is = says_parts (parts_of run) run said (joins_parts run) is
+pub word_says : (run said : List ℕ) → encoded_word_text run ≡ Some said → SaysWord run said
+word_says run said is = says_parts (between_questions run) run said (joins_parts run) is
 
 begins_equals : (run said : List ℕ) → SaysWord run said → begins_blank run ≡ false
 begins_equals run said says = ap begins_blank says.form.spelled
 
 -- blanks are no word
-pub blank_no_word : (run : List ℕ) → begins_blank run ≡ true → word_of run ≡ None
-blank_no_word run blank = none (word_of run) refl where
-  none : (found : Option (List ℕ)) → word_of run ≡ found → found ≡ None
+pub blank_no_word : (run : List ℕ) → begins_blank run ≡ true → encoded_word_text run ≡ None
+blank_no_word run blank = none (encoded_word_text run) refl where
+  none : (found : Option (List ℕ)) → encoded_word_text run ≡ found → found ≡ None
   none None is = refl
   none (Some said) is = absurd (cc (sym blank ∙ begins_equals run said (word_says run said is)))

@@ -4,7 +4,7 @@ use Rattle.std.specs.Str.{is_utf8, chars}
 use Rattle.base64.specs.Decode.{groups_error, scan_steps, groups_bytes}
 use Rattle.base64.specs.GeneralPurpose.{decoded_of}
 use lib.Utf8.{encode}
-use Rattle.encwords.specs.Written.{is_written_word, is_written_run, has_written_words, is_phrase_run, has_phrase_words, folded, lines_for}
+use Rattle.mail_words.specs.Written.{is_written_word, is_written_run, has_written_words, is_phrase_run, has_phrase_words, folded, lines_for}
 
 -- `Änn` in B, which ends with `=?=` that begins no word; two words with blanks between; a word and other octets
 words : (has_written_words (codes "=?UTF-8?B?w4Rubg==?=") ≡ true) × (has_written_words (codes "=?US-ASCII?Q?a?=  =?iso-8859-1?q?=E9?= b") ≡ true)

@@ -5,22 +5,22 @@ use Rattle.std.specs.Prelude.{IsUtf8}
 use Rattle.std.specs.List.{list_all, prefix_len}
 use Rattle.octets.specs.Ascii.{is_blank, is_printable}
 use Rattle.base64.specs.GeneralPurpose.{IsBytes}
-use Rattle.mailhead.specs.Heads.{unfold_of}
-use Rattle.mailhead.proofs.FoldLemmas.{and_left, and_right}
-use Rattle.encwords.specs.Runs.{is_nonblank, runs_of}
-use Rattle.encwords.specs.Values.{text_of}
-use Rattle.encwords.specs.Headers.{has_mark}
-use Rattle.encwords.specs.Written.{is_written_run, has_written_words, is_phrase_run, has_phrase_words, IsWrittenText}
-use Rattle.encwords.specs.Laws.{IsSaid}
-use Rattle.encwords.proofs.PieceLaws.{one_value}
-use Rattle.encwords.proofs.ReadBackLemmas.{read_back}
-use Rattle.encwords.proofs.FoldingLemmas.{unfold_lines}
-use Rattle.encwords.proofs.RunLemmas.{front_cut, passes_both, passes_step}
+use Rattle.mail_head.specs.Heads.{unfold_of}
+use Rattle.mail_head.proofs.FoldLemmas.{and_left, and_right}
+use Rattle.mail_words.specs.Runs.{is_nonblank, runs_of}
+use Rattle.mail_words.specs.Values.{decoded_text}
+use Rattle.mail_words.specs.Headers.{has_mark}
+use Rattle.mail_words.specs.Written.{is_written_run, has_written_words, is_phrase_run, has_phrase_words, IsWrittenText}
+use Rattle.mail_words.specs.Laws.{IsSaid}
+use Rattle.mail_words.proofs.PieceLaws.{one_value}
+use Rattle.mail_words.proofs.ReadBackLemmas.{read_back}
+use Rattle.mail_words.proofs.FoldingLemmas.{unfold_lines}
+use Rattle.mail_words.proofs.RunLemmas.{front_cut, passes_both, passes_step}
 
 said_at : (stands : Bool) (text value : List ℕ) → has_written_words text ≡ stands → IsBytes text → IsUtf8 text → IsSaid text value
 said_at true text value is bytes valid written =
     let printable : list_all is_printable text ≡ true = and_left _ _ (and_right (has_mark text) (list_all is_printable text && list_all is_written_run (runs_of text)) is) in
-    let same : text_of (unfold_of value) ≡ text_of text = ap (λ t. text_of (unfold_of t)) (written.stands is) ∙ ap text_of (unfold_lines text printable) in
+    let same : decoded_text (unfold_of value) ≡ decoded_text text = ap (λ t. decoded_text (unfold_of t)) (written.stands is) ∙ ap decoded_text (unfold_lines text printable) in
     rw is same
 said_at false text value is bytes valid written = rw is (read_back text value bytes valid (written.encoded is))
 

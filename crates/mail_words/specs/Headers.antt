@@ -16,8 +16,8 @@ has_mark [] = false
 has_mark (octet ∷ rest) = (octet == 61 && begins_question rest) || has_mark rest
 
 -- at most 200 octets, all 32 to 126, without `=?`
-abbrev pub is_plain : List ℕ → Bool
-is_plain text = nat_le (length text) 200 && (list_all is_printable text && not (has_mark text))
+abbrev pub is_plain_value : List ℕ → Bool
+is_plain_value text = nat_le (length text) 200 && (list_all is_printable text && not (has_mark text))
 
 -- the greatest length up to 45 at which a character of the text ends
 pub record IsPieceLength (text : List ℕ) (n : ℕ) : Type 0 where
@@ -32,10 +32,10 @@ pub record CutsPiece (text piece rest : List ℕ) : Type 0 where
   pub length_is : IsPieceLength text (length piece)
 
 -- the longest prefixes of at most 45 octets that end at a character, of the text and of what is left after each
-abbrev pub ArePieces : List (List ℕ) → List ℕ → Type 0
-ArePieces [] text = text ≡ []
-ArePieces (piece ∷ more) text =
-    (rest : List ℕ) × (CutsPiece text piece rest × ArePieces more rest)
+abbrev pub AreEncodedPieces : List (List ℕ) → List ℕ → Type 0
+AreEncodedPieces [] text = text ≡ []
+AreEncodedPieces (piece ∷ more) text =
+    (rest : List ℕ) × (CutsPiece text piece rest × AreEncodedPieces more rest)
 
 -- `=?UTF-8?B?..?=`
 abbrev pub word_for : List ℕ → List ℕ
@@ -59,10 +59,10 @@ between (octet ∷ rest) = 13 ∷ 10 ∷ 32 ∷ []
 -- the words of a text's pieces
 pub record IsWorded (text value : List ℕ) : Type 0 where
   pub pieces : List (List ℕ)
-  pub cut : ArePieces pieces text
+  pub cut : AreEncodedPieces pieces text
   pub spelled : value ≡ words_for pieces
 
 -- a plain text as it is, any other as the words of its pieces
 pub record IsHeaderText (text value : List ℕ) : Type 0 where
-  pub plain : is_plain text ≡ true → value ≡ text
-  pub worded : is_plain text ≡ false → IsWorded text value
+  pub plain : is_plain_value text ≡ true → value ≡ text
+  pub worded : is_plain_value text ≡ false → IsWorded text value

@@ -2,10 +2,10 @@
 use Rattle.std.specs.Prelude.{◌≡◌, ℕ, List, codes, cond}
 use Rattle.base64.specs.GeneralPurpose.{engine_symbols, engine_padding}
 use Rattle.base64.specs.declared.engine.general_purpose.GeneralPurpose.{GeneralPurpose}
-use Rattle.mailhead.specs.Heads.{unfold_of}
-use Rattle.encwords.specs.Values.{text_of}
-use Rattle.encwords.specs.Headers.{IsHeaderText}
-use Rattle.encwords.specs.Written.{has_written_words, IsWrittenText}
+use Rattle.mail_head.specs.Heads.{unfold_of}
+use Rattle.mail_words.specs.Values.{decoded_text}
+use Rattle.mail_words.specs.Headers.{IsHeaderText}
+use Rattle.mail_words.specs.Written.{has_written_words, IsWrittenText}
 
 -- the alphabet of RFC 4648, section 4, and its padding `=`
 pub record HasStandardAlphabet (engine : GeneralPurpose) : Type 0 where
@@ -14,12 +14,12 @@ pub record HasStandardAlphabet (engine : GeneralPurpose) : Type 0 where
 
 -- the value of a header field with this text, unfolded and decoded, is the text
 abbrev pub IsReadBack : List ℕ → List ℕ → Type 0
-IsReadBack text value = IsHeaderText text value → text_of (unfold_of value) ≡ text
+IsReadBack text value = IsHeaderText text value → decoded_text (unfold_of value) ≡ text
 
 -- what a text says that is written with the words that its writer encoded: what it decodes to if it has such words, otherwise itself
 abbrev pub said_by : List ℕ → List ℕ
-said_by text = cond (has_written_words text) (text_of text) text
+said_by text = cond (has_written_words text) (decoded_text text) text
 
 -- the value of a header field that was written so, unfolded and decoded, is that
 abbrev pub IsSaid : List ℕ → List ℕ → Type 0
-IsSaid text value = IsWrittenText text value → text_of (unfold_of value) ≡ said_by text
+IsSaid text value = IsWrittenText text value → decoded_text (unfold_of value) ≡ said_by text

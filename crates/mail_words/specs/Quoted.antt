@@ -1,53 +1,53 @@
 -- The Q encoding (RFC 2047, section 4.2).
 use Rattle.std.specs.Prelude.{◌≡◌, ℕ, ◌+◌, ◌*◌, ◌-◌, ◌<◌, ◌==◌, nat_le, cond, ◌&&◌, Option, None, Some, List, [], ◌∷◌, ◌++◌, option_map, option_and_then}
-use Rattle.encwords.specs.declared.quoted.Mode.{Mode}
-use Rattle.encwords.specs.declared.quoted.Mode.TheVariants.{InText, AfterMark, AfterDigit}
+use Rattle.mail_words.specs.declared.quoted.Mode.{Mode}
+use Rattle.mail_words.specs.declared.quoted.Mode.TheVariants.{InText, AfterMark, AfterDigit}
 
 -- the value of a hexadecimal digit, of either case
-abbrev pub digit_of : ℕ → Option ℕ
-digit_of octet =
+abbrev pub hex_digit_of : ℕ → Option ℕ
+hex_digit_of octet =
     cond (nat_le 48 octet && nat_le octet 57) (Some (octet - 48))
     (cond (nat_le 65 octet && nat_le octet 70) (Some (octet - 55))
     (cond (nat_le 97 octet && nat_le octet 102) (Some (octet - 87)) None))
 
 -- a piece of Q: an octet as it is, `_`, or `=` and two digits
-pub data Piece : Type 0 where
-  Plain : ℕ → Piece
-  Space : Piece
-  Escaped : ℕ → ℕ → Piece
+pub data QPiece : Type 0 where
+  Plain : ℕ → QPiece
+  Space : QPiece
+  Escaped : ℕ → ℕ → QPiece
 
 -- how a piece is written
-abbrev pub spelling : Piece → List ℕ
-spelling (Plain octet) = octet ∷ []
-spelling Space = 95 ∷ []
-spelling (Escaped high low) = 61 ∷ high ∷ low ∷ []
+abbrev pub q_piece_text : QPiece → List ℕ
+q_piece_text (Plain octet) = octet ∷ []
+q_piece_text Space = 95 ∷ []
+q_piece_text (Escaped high low) = 61 ∷ high ∷ low ∷ []
 
 -- the octet that two digits write
-abbrev pub octet_of : Option ℕ → Option ℕ → Option ℕ
-octet_of None low = None
-octet_of (Some high) low = option_map (λ l. high * 16 + l) low
+abbrev pub hex_octet_of : Option ℕ → Option ℕ → Option ℕ
+hex_octet_of None low = None
+hex_octet_of (Some high) low = option_map (λ l. high * 16 + l) low
 
 -- the octet that a piece stands for, if it is one
-abbrev pub value_of : Piece → Option ℕ
-value_of (Plain octet) = cond (octet == 61) None (cond (octet == 95) None (Some octet))
-value_of Space = Some 32
-value_of (Escaped high low) = octet_of (digit_of high) (digit_of low)
+abbrev pub q_piece_value : QPiece → Option ℕ
+q_piece_value (Plain octet) = cond (octet == 61) None (cond (octet == 95) None (Some octet))
+q_piece_value Space = Some 32
+q_piece_value (Escaped high low) = hex_octet_of (hex_digit_of high) (hex_digit_of low)
 
 -- how pieces are written
-abbrev pub spellings : List Piece → List ℕ
-spellings [] = []
-spellings (piece ∷ more) = spelling piece ++ spellings more
+abbrev pub q_text : List QPiece → List ℕ
+q_text [] = []
+q_text (piece ∷ more) = q_piece_text piece ++ q_text more
 
 -- the octets that pieces stand for
-abbrev pub AreValues : List Piece → List ℕ → Type 0
+abbrev pub AreValues : List QPiece → List ℕ → Type 0
 AreValues [] octets = octets ≡ []
 AreValues (piece ∷ more) octets =
-    (first : ℕ) × ((rest : List ℕ) × ((octets ≡ first ∷ rest) × ((value_of piece ≡ Some first) × AreValues more rest)))
+    (first : ℕ) × ((rest : List ℕ) × ((octets ≡ first ∷ rest) × ((q_piece_value piece ≡ Some first) × AreValues more rest)))
 
 -- a text in Q and its octets
 pub record IsQEncoded (text octets : List ℕ) : Type 0 where
-  pub pieces : List Piece
-  pub spelled : text ≡ spellings pieces
+  pub pieces : List QPiece
+  pub spelled : text ≡ q_text pieces
   pub valued : AreValues pieces octets
 
 -- an octet before those to come, or none
@@ -60,8 +60,8 @@ quoted_from InText [] = Some []
 quoted_from AfterMark [] = None
 quoted_from (AfterDigit high) [] = None
 quoted_from InText (octet ∷ rest) = cond (octet == 61) (quoted_from AfterMark rest) (with_octet (cond (octet == 95) 32 octet) (quoted_from InText rest))
-quoted_from AfterMark (octet ∷ rest) = option_and_then (λ high. quoted_from (AfterDigit high) rest) (digit_of octet)
-quoted_from (AfterDigit high) (octet ∷ rest) = option_and_then (λ low. with_octet (high * 16 + low) (quoted_from InText rest)) (digit_of octet)
+quoted_from AfterMark (octet ∷ rest) = option_and_then (λ high. quoted_from (AfterDigit high) rest) (hex_digit_of octet)
+quoted_from (AfterDigit high) (octet ∷ rest) = option_and_then (λ low. with_octet (high * 16 + low) (quoted_from InText rest)) (hex_digit_of octet)
 
 -- the digit after `=` is below 16
 abbrev pub IsMode : Mode → Type 0

@@ -2,7 +2,7 @@
 use Rattle.std.specs.Prelude.{◌≡◌, ◌≢◌, ◌⊎◌, ℕ, Bool, true, false, cond, not, List, [], ◌∷◌, ◌++◌}
 use Rattle.std.specs.List.{list_all}
 use Rattle.octets.specs.Ascii.{is_blank}
-use Rattle.mailhead.specs.Lines.{begins_blank}
+use Rattle.mail_head.specs.Lines.{begins_blank}
 
 -- neither SP nor TAB
 abbrev pub is_nonblank : ℕ → Bool

@@ -2,16 +2,16 @@
 use Rattle.std.specs.Prelude.{◌≡◌, ℕ, ◌==◌, nat_le, Bool, true, false, ◌&&◌, ◌||◌, not, cond, List, [], ◌∷◌, ◌++◌, length}
 use Rattle.std.specs.List.{list_all, list_any}
 use Rattle.octets.specs.Ascii.{is_letter, is_digit, is_printable}
-use Rattle.mailhead.specs.Lines.{begins_blank}
-use Rattle.encwords.specs.Runs.{is_nonblank, runs_of}
-use Rattle.encwords.specs.Words.{is_word}
-use Rattle.encwords.specs.Headers.{has_mark, IsHeaderText}
+use Rattle.mail_head.specs.Lines.{begins_blank}
+use Rattle.mail_words.specs.Runs.{is_nonblank, runs_of}
+use Rattle.mail_words.specs.Words.{is_encoded_word}
+use Rattle.mail_words.specs.Headers.{has_mark, IsHeaderText}
 
 -- ---- which texts they are
 
 -- a recognised word of at most 75 octets, the most that a word may have (RFC 2047, 2)
 abbrev pub is_written_word : List ℕ → Bool
-is_written_word run = nat_le (length run) 75 && is_word run
+is_written_word run = nat_le (length run) 75 && is_encoded_word run
 
 -- a run of at most 200 octets that either contains no `=?` or is such a word
 abbrev pub is_written_run : List ℕ → Bool

@@ -2,7 +2,7 @@
 ghost use Rattle.std.specs.Prelude.{◌≡◌, IfOk, encode_utf8_all, option_map};
 ghost use Rattle.std.specs.List.{list_all};
 ghost use Rattle.std.specs.Str as text;
-ghost use Rattle.encwords.specs.Charsets as charsets;
+ghost use Rattle.mail_words.specs.Charsets as charsets;
 
 use std::alloc::{AllocError, Global};
 
@@ -39,7 +39,7 @@ pub(crate) fn charset_named(name: &[u8]) -> Option<Charset>
 
 /// The part of ISO-8859 with this number, 1 to 16.
 fn iso_part(number: &[u8]) -> Option<Charset>
-    ensures { result ≡ charsets.part_of number.now }
+    ensures { result ≡ charsets.iso_part_of number.now }
 {
     match number {
         [b'1'] => Some(Charset::Latin1),

@@ -1,6 +1,6 @@
 //! The text of a header value.
 ghost use Rattle.std.specs.Prelude.{◌≡◌, ◌&&◌, [], if◌then◌else◌, IfOk, option_map, unwrap_or};
-ghost use Rattle.encwords.specs.Values.{text_of};
+ghost use Rattle.mail_words.specs.Values.{decoded_text};
 
 use crate::run::{blank_run, nonblank_run};
 use crate::word::word_text;
@@ -11,7 +11,7 @@ use std::alloc::{AllocError, Global};
 ///
 /// Time is linear in the length of the value.
 pub fn decoded(alloc: Global, value: &[u8]) -> Result<Vec<u8>, AllocError>
-    ensures { IfOk result (λ text. text.items ≡ text_of value.now) }
+    ensures { IfOk result (λ text. text.items ≡ decoded_text value.now) }
 {
     let mut text = Vec::with_capacity(alloc, value.len())?;
     let mut rest = value;

@@ -2,7 +2,7 @@
 ghost use Rattle.std.specs.Prelude.{◌≡◌, ◌<◌, ◌++◌, length, IfOk, OnOk, string_bytes};
 ghost use Rattle.std.specs.List.{list_all};
 ghost use Rattle.octets.specs.Ascii as ascii;
-ghost use Rattle.encwords.specs.Headers.{CutsPiece, IsHeaderText, IsWorded, between, word_for, has_mark, is_plain};
+ghost use Rattle.mail_words.specs.Headers.{CutsPiece, IsHeaderText, IsWorded, between, word_for, has_mark, is_plain_value};
 
 use base64::engine::general_purpose::STANDARD;
 use memchr::memmem;
@@ -28,7 +28,7 @@ pub fn header_text(alloc: Global, text: &str) -> Result<Vec<u8>, AllocError>
 }
 
 fn is_plain(text: &[u8]) -> bool
-    ensures { result ≡ is_plain text.now }
+    ensures { result ≡ is_plain_value text.now }
 {
     text.len() <= MAX_PLAIN_LEN && (are_printable(text) && !has_mark(text))
 }

@@ -1,6 +1,6 @@
 //! Folding of long texts.
 ghost use Rattle.std.specs.Prelude.{◌≡◌, ◌==◌, ◌||◌, [], ◌∷◌, length, if◌then◌else◌, IfOk};
-ghost use Rattle.encwords.specs.Written.{folded};
+ghost use Rattle.mail_words.specs.Written.{folded};
 
 use crate::run::{blank_run, nonblank_run};
 use std::alloc::{AllocError, Global};

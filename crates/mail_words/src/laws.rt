@@ -2,13 +2,13 @@
 ghost use Rattle.std.specs.Prelude.{◌≡◌, ◌↔◌, ℕ, List, IsUtf8, Some, false};
 ghost use Rattle.base64.specs.Engines.{standard};
 ghost use Rattle.base64.specs.GeneralPurpose.{IsBytes};
-ghost use Rattle.encwords.specs.Headers.{ArePieces, IsHeaderText, has_mark};
-ghost use Rattle.encwords.specs.Quoted.{IsQEncoded, quoted_of};
-ghost use Rattle.encwords.specs.Runs.{AreRuns, runs_of};
-ghost use Rattle.encwords.specs.Words.{IsWord, SaysWord, word_of};
-ghost use Rattle.encwords.specs.Values.{IsTextOf, text_of};
-ghost use Rattle.encwords.specs.Laws.{HasStandardAlphabet, IsReadBack, IsSaid};
-ghost use Rattle.encwords.specs.Written.{IsWrittenText};
+ghost use Rattle.mail_words.specs.Headers.{AreEncodedPieces, IsHeaderText, has_mark};
+ghost use Rattle.mail_words.specs.Quoted.{IsQEncoded, quoted_of};
+ghost use Rattle.mail_words.specs.Runs.{AreRuns, runs_of};
+ghost use Rattle.mail_words.specs.Words.{IsEncodedWord, SaysWord, encoded_word_text};
+ghost use Rattle.mail_words.specs.Values.{IsDecodedText, decoded_text};
+ghost use Rattle.mail_words.specs.Laws.{HasStandardAlphabet, IsReadBack, IsSaid};
+ghost use Rattle.mail_words.specs.Written.{IsWrittenText};
 
 /// A value has exactly one list of runs.
 pub fn runs_of_a_value()
@@ -18,13 +18,13 @@ pub fn runs_of_a_value()
 
 /// A run is a recognised word exactly if it has a word's form, and it says what its parts stand for.
 pub fn form_of_a_word()
-    ensures form { (run said : List ℕ) → (word_of run ≡ Some said) ↔ SaysWord run said }
-    ensures only { (run a b c d e f : List ℕ) → IsWord run a b c → IsWord run d e f → (a ≡ d) × ((b ≡ e) × (c ≡ f)) }
+    ensures form { (run said : List ℕ) → (encoded_word_text run ≡ Some said) ↔ SaysWord run said }
+    ensures only { (run a b c d e f : List ℕ) → IsEncodedWord run a b c → IsEncodedWord run d e f → (a ≡ d) × ((b ≡ e) × (c ≡ f)) }
 {}
 
 /// A value has exactly one text: what its runs give, each depending on the runs before it and after it.
 pub fn text_of_a_value()
-    ensures { (value text : List ℕ) → (text ≡ text_of value) ↔ IsTextOf value text }
+    ensures { (value text : List ℕ) → (text ≡ decoded_text value) ↔ IsDecodedText value text }
 {}
 
 /// A text in Q stands for the octets of its pieces, and if it has no pieces for nothing.
@@ -34,8 +34,8 @@ pub fn octets_in_q()
 
 /// A text has at most one list of pieces, so that what is written is the same at each call.
 pub fn pieces_of_a_text()
-    ensures { (text : List ℕ) (pieces others : List (List ℕ)) → ArePieces pieces text
-        → ArePieces others text → pieces ≡ others }
+    ensures { (text : List ℕ) (pieces others : List (List ℕ)) → AreEncodedPieces pieces text
+        → AreEncodedPieces others text → pieces ≡ others }
 {}
 
 /// A text is written in a header field in only one way.

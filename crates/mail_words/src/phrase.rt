@@ -1,7 +1,7 @@
 //! Words in a phrase.
 ghost use Rattle.std.specs.Prelude.{◌≡◌};
 ghost use Rattle.std.specs.List.{list_all};
-ghost use Rattle.encwords.specs.Written as written;
+ghost use Rattle.mail_words.specs.Written as written;
 
 use crate::encoding::has_mark;
 use crate::run::{blank_run, nonblank_run};

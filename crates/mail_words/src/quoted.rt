@@ -1,6 +1,6 @@
 //! The Q encoding (RFC 2047, section 4.2).
 ghost use Rattle.std.specs.Prelude.{◌≡◌, ◌<◌, ℕ, List, ◌∷◌, IfOk, IfSome, option_map};
-ghost use Rattle.encwords.specs.Quoted as quoted;
+ghost use Rattle.mail_words.specs.Quoted as quoted;
 
 use std::alloc::{AllocError, Global};
 
@@ -57,7 +57,7 @@ fn step(mode: Mode, octet: u8) -> Option<(Mode, Option<u8>)>
 
 /// The value of a hexadecimal digit.
 fn digit(octet: u8) -> Option<u8>
-    ensures value { result ≡ quoted.digit_of octet }
+    ensures value { result ≡ quoted.hex_digit_of octet }
     ensures small { IfSome result (λ digit. digit < 16) }
 {
     if 48 <= octet && octet <= 57 {

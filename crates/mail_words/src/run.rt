@@ -2,7 +2,7 @@
 ghost use Rattle.std.specs.Prelude.{◌≡◌, ◌≤◌, length, take, drop};
 ghost use Rattle.std.specs.List.{prefix_len};
 ghost use Rattle.octets.specs.Ascii as ascii;
-ghost use Rattle.encwords.specs.Runs as runs;
+ghost use Rattle.mail_words.specs.Runs as runs;
 
 use octets::is_blank;
 

@@ -3,7 +3,7 @@ ghost use Rattle.std.specs.Prelude.{◌≡◌, ◌&&◌, bytes_eq, codes, [], �
 ghost use Rattle.std.specs.List.{list_all};
 ghost use Rattle.base64.specs.Engines.{standard};
 ghost use Rattle.base64.specs.GeneralPurpose.{decoded_of};
-ghost use Rattle.encwords.specs.Words as words;
+ghost use Rattle.mail_words.specs.Words as words;
 
 use crate::charset::{charset_named, converted};
 use crate::quoted::from_quoted;
@@ -14,7 +14,7 @@ use std::alloc::{AllocError, Global};
 
 /// The text of a run that is a recognised word. One pass over the run.
 pub(crate) fn word_text(alloc: Global, run: &[u8]) -> Result<Option<Vec<u8>>, AllocError>
-    ensures { IfOk result (λ text. option_map (λ v. v.items) text ≡ words.word_of run.now) }
+    ensures { IfOk result (λ text. option_map (λ v. v.items) text ≡ words.encoded_word_text run.now) }
 {
     match parts(run) {
         Some((set, encoding, text)) => meaning(alloc, set, encoding, text),
@@ -61,7 +61,7 @@ fn is_visible(octet: u8) -> bool
 }
 
 fn octets(alloc: Global, encoding: &[u8], text: &[u8]) -> Result<Option<Vec<u8>>, AllocError>
-    ensures { IfOk result (λ found. option_map (λ v. v.items) found ≡ words.octets_of encoding.now text.now) }
+    ensures { IfOk result (λ found. option_map (λ v. v.items) found ≡ words.encoded_octets encoding.now text.now) }
 {
     if encoding.eq_ignore_ascii_case(b"b") {
         from_base64(alloc, text)
@@ -84,8 +84,8 @@ fn from_base64(alloc: Global, text: &[u8]) -> Result<Option<Vec<u8>>, AllocError
 
 /// The charset, the encoding and the text of a run in the form of a word.
 fn parts(run: &[u8]) -> Option<(&[u8], &[u8], &[u8])>
-    ensures { MatchOption result (words.word_of run.now ≡ None)
-        (λ p. words.word_of run.now ≡ words.meaning_of p.0.now p.1.now p.2.now) }
+    ensures { MatchOption result (words.encoded_word_text run.now ≡ None)
+        (λ p. words.encoded_word_text run.now ≡ words.meaning_of p.0.now p.1.now p.2.now) }
 {
     let (front, after) = cut(run)?;
     let (set, after) = cut(after)?;
@@ -106,8 +106,8 @@ fn are_equals_signs(front: &[u8], back: &[u8]) -> bool
 
 /// What comes before and after the first question mark of a text.
 fn cut(text: &[u8]) -> Option<(&[u8], &[u8])>
-    ensures { MatchOption result (words.parts_of text.now ≡ text.now ∷ [])
-        (λ p. words.parts_of text.now ≡ p.0.now ∷ words.parts_of p.1.now) }
+    ensures { MatchOption result (words.between_questions text.now ≡ text.now ∷ [])
+        (λ p. words.between_questions text.now ≡ p.0.now ∷ words.between_questions p.1.now) }
 {
     let at = memchr(b'?', text)?;
     Some((text.split_at(at).0, text.split_at(at + 1).1))

@@ -1,8 +1,8 @@
 //! Texts whose writer encoded words in them.
 ghost use Rattle.std.specs.Prelude.{◌≡◌, ◌&&◌, IfOk};
 ghost use Rattle.std.specs.List.{list_all};
-ghost use Rattle.encwords.specs.Runs.{runs_of};
-ghost use Rattle.encwords.specs.Written as written;
+ghost use Rattle.mail_words.specs.Runs.{runs_of};
+ghost use Rattle.mail_words.specs.Written as written;
 
 use crate::encoding::{are_printable, has_mark, header_text};
 use crate::folding::fold;

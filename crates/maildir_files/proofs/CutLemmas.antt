@@ -5,67 +5,67 @@ use Rattle.std.specs.Prelude.{IsUtf8}
 use Rattle.std.specs.Str.{chars}
 use lib.Utf8.{encode}
 use Rattle.octets.specs.Ascii.{is_printable}
-use Rattle.maildirs.specs.declared.separator.Separator.{Separator}
-use Rattle.maildirs.specs.declared.separator.Separator.TheVariants.{Dot, Slash}
-use Rattle.maildirs.specs.Spelling.{Piece, Printable, Run, before_pieces, cuts, octet_of, piece_spelling, pieces_of, spelled, spellings, utf16_of}
+use Rattle.maildir_files.specs.declared.separator.Separator.{Separator}
+use Rattle.maildir_files.specs.declared.separator.Separator.TheVariants.{Dot, Slash}
+use Rattle.maildir_files.specs.Spelling.{NamePiece, Printable, Run, before_pieces, cuts, separator_octet, piece_spelling, pieces_of, spelled_name, piece_spellings, utf16_of}
 
-before_cut : (units : List ℕ) (pieces : List Piece) (character : ℕ) (more : List Piece)
+before_cut : (units : List ℕ) (pieces : List NamePiece) (character : ℕ) (more : List NamePiece)
     → before_pieces units (pieces ++ Printable character ∷ more) ≡ before_pieces units pieces ++ Printable character ∷ more
 before_cut units [] character more = refl
 before_cut units (Printable other ∷ pieces) character more = refl
 before_cut units (Run others ∷ pieces) character more = refl
 
-front_cut : (printable : Bool) (first : ℕ) (pieces : List Piece) (character : ℕ) (more : List Piece)
+front_cut : (printable : Bool) (first : ℕ) (pieces : List NamePiece) (character : ℕ) (more : List NamePiece)
     → cond printable (Printable first ∷ (pieces ++ Printable character ∷ more)) (before_pieces (utf16_of first) (pieces ++ Printable character ∷ more))
     ≡ cond printable (Printable first ∷ pieces) (before_pieces (utf16_of first) pieces) ++ Printable character ∷ more
 front_cut true first pieces character more = refl
 front_cut false first pieces character more = before_cut (utf16_of first) pieces character more
 
-cut_front : (separator : Separator) (rest : List ℕ) → pieces_of (octet_of separator ∷ rest) ≡ Printable (octet_of separator) ∷ pieces_of rest
+cut_front : (separator : Separator) (rest : List ℕ) → pieces_of (separator_octet separator ∷ rest) ≡ Printable (separator_octet separator) ∷ pieces_of rest
 cut_front Dot rest = refl
 cut_front Slash rest = refl
 
 cut_pieces : (separator : Separator) (front rest : List ℕ)
-    → pieces_of (front ++ octet_of separator ∷ rest) ≡ pieces_of front ++ Printable (octet_of separator) ∷ pieces_of rest
+    → pieces_of (front ++ separator_octet separator ∷ rest) ≡ pieces_of front ++ Printable (separator_octet separator) ∷ pieces_of rest
 cut_pieces separator [] rest = cut_front separator rest
 cut_pieces separator (first ∷ front) rest =
     ap (λ pieces. cond (is_printable first) (Printable first ∷ pieces) (before_pieces (utf16_of first) pieces)) (cut_pieces separator front rest)
-    ∙ front_cut (is_printable first) first (pieces_of front) (octet_of separator) (pieces_of rest)
+    ∙ front_cut (is_printable first) first (pieces_of front) (separator_octet separator) (pieces_of rest)
 
-dot_between : (separator : Separator) (begins : Bool) (pieces : List Piece)
-    → spellings separator begins (Printable (octet_of separator) ∷ pieces) ≡ codes "." ++ spellings separator true pieces
+dot_between : (separator : Separator) (begins : Bool) (pieces : List NamePiece)
+    → piece_spellings separator begins (Printable (separator_octet separator) ∷ pieces) ≡ codes "." ++ piece_spellings separator true pieces
 dot_between Dot begins pieces = refl
 dot_between Slash begins pieces = refl
 
-spellings-cut : (separator : Separator) (begins : Bool) (xs ys : List Piece)
-    → spellings separator begins (xs ++ Printable (octet_of separator) ∷ ys) ≡ spellings separator begins xs ++ 46 ∷ spellings separator true ys
+spellings-cut : (separator : Separator) (begins : Bool) (xs ys : List NamePiece)
+    → piece_spellings separator begins (xs ++ Printable (separator_octet separator) ∷ ys) ≡ piece_spellings separator begins xs ++ 46 ∷ piece_spellings separator true ys
 spellings-cut separator begins [] ys = dot_between separator begins ys
 spellings-cut separator begins (x ∷ xs) ys =
     let front = piece_spelling separator begins x in
     ap (λ text. front ++ text) (spellings-cut separator (cuts separator x) xs ys)
-    ∙ sym (append_assoc front (spellings separator (cuts separator x) xs) (46 ∷ spellings separator true ys))
+    ∙ sym (append_assoc front (piece_spellings separator (cuts separator x) xs) (46 ∷ piece_spellings separator true ys))
 
-separator_scalar : (separator : Separator) → octet_of separator < 128
+separator_scalar : (separator : Separator) → separator_octet separator < 128
 separator_scalar Dot = omega arith
 separator_scalar Slash = omega arith
 
-separator_text : (separator : Separator) → IsUtf8 (octet_of separator ∷ [])
+separator_text : (separator : Separator) → IsUtf8 (separator_octet separator ∷ [])
 unfolding encode
 separator_text Dot = (46 ∷ [], (refl, refl))
 separator_text Slash = (47 ∷ [], (refl, refl))
 
-cut_chars : (separator : Separator) (front rest : List ℕ) → IsUtf8 front → IsUtf8 rest → chars (front ++ octet_of separator ∷ rest) ≡ chars front ++ octet_of separator ∷ chars rest
+cut_chars : (separator : Separator) (front rest : List ℕ) → IsUtf8 front → IsUtf8 rest → chars (front ++ separator_octet separator ∷ rest) ≡ chars front ++ separator_octet separator ∷ chars rest
 cut_chars separator front rest one two =
-    let mark = octet_of separator in
+    let mark = separator_octet separator in
     let after : IsUtf8 (mark ∷ rest) = IsUtf8-append (mark ∷ []) rest (separator_text separator) two in
     chars-append front (mark ∷ rest) one
     ∙ ap (λ l. chars front ++ l) (chars_past_char (mark ∷ rest) rest mark after (ap (λ l. l ++ rest) (sym (encode_ascii mark (separator_scalar separator)))))
 
 pub cut_spelled : (separator : Separator) (front rest : List ℕ) → IsUtf8 front → IsUtf8 rest
-    → spelled separator (front ++ octet_of separator ∷ rest) ≡ spelled separator front ++ 46 ∷ spelled separator rest
+    → spelled_name separator (front ++ separator_octet separator ∷ rest) ≡ spelled_name separator front ++ 46 ∷ spelled_name separator rest
 cut_spelled separator front rest one two =
     let before = pieces_of (chars front) in
     let after = pieces_of (chars rest) in
-    ap (λ text. spellings separator true (pieces_of text)) (cut_chars separator front rest one two)
-    ∙ ap (spellings separator true) (cut_pieces separator (chars front) (chars rest))
+    ap (λ text. piece_spellings separator true (pieces_of text)) (cut_chars separator front rest one two)
+    ∙ ap (piece_spellings separator true) (cut_pieces separator (chars front) (chars rest))
     ∙ spellings-cut separator true before after

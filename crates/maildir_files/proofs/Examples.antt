@@ -3,8 +3,8 @@ use Rattle.std.proofs.Common.{◌≡◌, refl, ap, codes, List, ℕ, [], ◌∷�
 use Rattle.std.specs.Prelude.{drop, slice_index}
 use Rattle.std.specs.Str.{chars, is_utf8}
 use Rattle.base64.specs.Rfc4648.{encode_symbols}
-use Rattle.maildirs.specs.declared.separator.Separator.TheVariants.{Dot, Slash}
-use Rattle.maildirs.specs.Directory.{MayShare, digest_form, directory}
+use Rattle.maildir_files.specs.declared.separator.Separator.TheVariants.{Dot, Slash}
+use Rattle.maildir_files.specs.Directory.{MayShare, digest_form, directory}
 
 -- a blank is itself
 blank_kept : directory Dot (codes "Sent Items") ≡ codes ".Sent Items"

@@ -3,7 +3,7 @@ use Rattle.std.proofs.Common.{◌≡◌, ◌<◌, ◌^◌, ℕ, List, ◌++◌, 
 use Rattle.std.specs.Int.{w64, to_be_bytes, from_be_bytes}
 use Rattle.std.proofs.lemmas.Nat.{from_be_bytes-to_be_bytes_8}
 use Rattle.std.proofs.lemmas.List.{append_cancel_left, take_at, append_assoc}
-use Rattle.mailsinks.specs.FileName.{counted}
+use Rattle.maildir_files.specs.FileName.{with_length}
 
 -- two texts of one length that begin the same text are the same
 pub heads_same : (n : ℕ) (a b more rest : List ℕ) → length a ≡ n → length b ≡ n → a ++ more ≡ b ++ rest → a ≡ b
@@ -12,7 +12,7 @@ heads_same n a b more rest la lb same = sym (take_at a more n la) ∙ ap (take n
 pub tails_same : (a b more rest : List ℕ) → a ≡ b → a ++ more ≡ b ++ rest → more ≡ rest
 tails_same a b more rest e same = append_cancel_left a more rest (same ∙ ap (λ l. l ++ rest) (sym e))
 
-pub counted_ends : (a b more rest : List ℕ) → length a < 2 ^ 64 → length b < 2 ^ 64 → counted a ++ more ≡ counted b ++ rest → (a ≡ b) × (more ≡ rest)
+pub counted_ends : (a b more rest : List ℕ) → length a < 2 ^ 64 → length b < 2 ^ 64 → with_length a ++ more ≡ with_length b ++ rest → (a ≡ b) × (more ≡ rest)
 counted_ends a b more rest fa fb same =
     let na = to_be_bytes w64 (length a) in
     let nb = to_be_bytes w64 (length b) in

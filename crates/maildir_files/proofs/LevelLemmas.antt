@@ -1,10 +1,10 @@
 -- What a name's levels are from one octet on.
 use Rattle.std.proofs.Common.{◌≡◌, ℕ, ◌==◌, Bool, true, false, cond, List, ◌∷◌, refl}
-use Rattle.maildirs.specs.Levels.{goes_on, has_levels}
+use Rattle.maildir_files.specs.Levels.{levels_go_on, has_levels}
 
 -- the test on what follows, told whether a level is to begin there
 abbrev pub levels_from : ℕ → Bool → List ℕ → Bool
-levels_from separator begins rest = cond begins (has_levels separator rest) (goes_on separator rest)
+levels_from separator begins rest = cond begins (has_levels separator rest) (levels_go_on separator rest)
 
 pub no_level : (separator octet : ℕ) (rest : List ℕ) → (octet == separator) ≡ true → levels_from separator true (octet ∷ rest) ≡ false
 no_level separator octet rest same = rw same refl

@@ -1,3 +1,5 @@
+mod FileNameLemmas
+mod LetterLemmas
 mod CutLemmas
 mod Examples
 mod InsideLemmas

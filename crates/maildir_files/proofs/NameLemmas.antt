@@ -5,15 +5,15 @@ use Rattle.std.proofs.lemmas.Bool.{and_parts, false_from_ne_true, false≢true}
 use Rattle.std.proofs.lemmas.Slice.Eq.{bytes_eq-Decides}
 use Rattle.std.specs.Char.{to_ascii_lowercase}
 use Rattle.std.proofs.lemmas.Str.{is_utf8-from_IsUtf8, IsUtf8-from_is_utf8}
-use Rattle.maildirs.specs.declared.separator.Separator.{Separator}
-use Rattle.maildirs.specs.Directory.{has_form, is_digest, is_inbox, is_own}
-use Rattle.maildirs.specs.Levels.{has_levels}
-use Rattle.maildirs.specs.Listed.{is_listed}
-use Rattle.maildirs.specs.Spelling.{octet_of, written}
+use Rattle.maildir_files.specs.declared.separator.Separator.{Separator}
+use Rattle.maildir_files.specs.Directory.{has_form, is_digest, is_inbox, is_own}
+use Rattle.maildir_files.specs.Levels.{has_levels}
+use Rattle.maildir_files.specs.Listed.{is_listed}
+use Rattle.maildir_files.specs.Spelling.{separator_octet, spelled_directory}
 
 pub no_text : (separator : Separator) (name : List ℕ) → ¬ (IsUtf8 name) → has_form separator name ≡ false
 no_text separator name none =
-    ap (λ b. b && (has_levels (octet_of separator) name && (is_listed name && is_own (written separator name)))) (false_from_ne_true (is_utf8 name) (λ yes. none (IsUtf8-from_is_utf8 name yes)))
+    ap (λ b. b && (has_levels (separator_octet separator) name && (is_listed name && is_own (spelled_directory separator name)))) (false_from_ne_true (is_utf8 name) (λ yes. none (IsUtf8-from_is_utf8 name yes)))
 
 pub not_inbox : (test : Bool) (name : List ℕ) → (IsTrue test ↔ (map to_ascii_lowercase name ≡ map to_ascii_lowercase (codes "INBOX"))) → test ≡ false → is_inbox name ≡ false
 not_inbox test name iff fails =
@@ -21,26 +21,26 @@ not_inbox test name iff fails =
     let equal = (bytes_eq-Decides (map to_ascii_lowercase name) (map to_ascii_lowercase (codes "INBOX"))).0 same in
     false≢true (sym fails ∙ iff.1 equal))
 
-pub form_is : (separator : Separator) (name place seen : List ℕ) → IsUtf8 name → place ≡ written separator name → seen ≡ place
-    → has_levels (octet_of separator) name ≡ true → is_listed name ≡ true → is_own seen ≡ true → has_form separator name ≡ true
+pub form_is : (separator : Separator) (name place seen : List ℕ) → IsUtf8 name → place ≡ spelled_directory separator name → seen ≡ place
+    → has_levels (separator_octet separator) name ≡ true → is_listed name ≡ true → is_own seen ≡ true → has_form separator name ≡ true
 form_is separator name place seen text told same levels listed own =
-    let its : is_own (written separator name) ≡ true = ap is_own (sym (same ∙ told)) ∙ own in
+    let its : is_own (spelled_directory separator name) ≡ true = ap is_own (sym (same ∙ told)) ∙ own in
     rw (is_utf8-from_IsUtf8 name text, levels, listed, its) refl
 
 -- what a name with a form is
 pub form_text : (separator : Separator) (name : List ℕ) → has_form separator name ≡ true → is_utf8 name ≡ true
-form_text separator name form = (and_parts (is_utf8 name) (has_levels (octet_of separator) name && (is_listed name && is_own (written separator name))) form).0
+form_text separator name form = (and_parts (is_utf8 name) (has_levels (separator_octet separator) name && (is_listed name && is_own (spelled_directory separator name))) form).0
 
-form_tests : (separator : Separator) (name : List ℕ) → has_form separator name ≡ true → (has_levels (octet_of separator) name && (is_listed name && is_own (written separator name))) ≡ true
-form_tests separator name form = (and_parts (is_utf8 name) (has_levels (octet_of separator) name && (is_listed name && is_own (written separator name))) form).1
+form_tests : (separator : Separator) (name : List ℕ) → has_form separator name ≡ true → (has_levels (separator_octet separator) name && (is_listed name && is_own (spelled_directory separator name))) ≡ true
+form_tests separator name form = (and_parts (is_utf8 name) (has_levels (separator_octet separator) name && (is_listed name && is_own (spelled_directory separator name))) form).1
 
-pub form_levels : (separator : Separator) (name : List ℕ) → has_form separator name ≡ true → has_levels (octet_of separator) name ≡ true
-form_levels separator name form = (and_parts (has_levels (octet_of separator) name) (is_listed name && is_own (written separator name)) (form_tests separator name form)).0
+pub form_levels : (separator : Separator) (name : List ℕ) → has_form separator name ≡ true → has_levels (separator_octet separator) name ≡ true
+form_levels separator name form = (and_parts (has_levels (separator_octet separator) name) (is_listed name && is_own (spelled_directory separator name)) (form_tests separator name form)).0
 
-pub form_own : (separator : Separator) (name : List ℕ) → has_form separator name ≡ true → is_own (written separator name) ≡ true
+pub form_own : (separator : Separator) (name : List ℕ) → has_form separator name ≡ true → is_own (spelled_directory separator name) ≡ true
 form_own separator name form =
-    let listed = is_listed name && is_own (written separator name) in
-    (and_parts (is_listed name) (is_own (written separator name)) (and_parts (has_levels (octet_of separator) name) listed (form_tests separator name form)).1).1
+    let listed = is_listed name && is_own (spelled_directory separator name) in
+    (and_parts (is_listed name) (is_own (spelled_directory separator name)) (and_parts (has_levels (separator_octet separator) name) listed (form_tests separator name form)).1).1
 
 pub own_short : (directory : List ℕ) → is_own directory ≡ true → nat_le (length directory) 250 ≡ true
 own_short directory own = (and_parts (nat_le (length directory) 250) (not (is_digest directory)) own).0

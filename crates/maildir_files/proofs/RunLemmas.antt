@@ -4,7 +4,7 @@ use Rattle.std.proofs.lemmas.Bool.{eqb-true}
 use Rattle.std.proofs.lemmas.List.{nil_from_length}
 use Rattle.base64.specs.GeneralPurpose.{encode_of}
 use Rattle.base64.specs.declared.engine.general_purpose.GeneralPurpose.{GeneralPurpose}
-use Rattle.maildirs.specs.Spelling.{IsModified, modified_base64, run_spelled}
+use Rattle.maildir_files.specs.Spelling.{IsModified, modified_base64, run_spelled}
 
 pub encodes_modified : (engine : GeneralPurpose) → IsModified engine → (octets : List ℕ) → encode_of engine octets ≡ modified_base64 octets
 encodes_modified engine fit octets = rw (fit.symbols, fit.unpadded) refl

@@ -15,12 +15,12 @@ use Rattle.hex.specs.Hex.{decode_of, encode_lower}
 use Rattle.hex.proofs.HexLemmas.{decode_of-encode_lower}
 use Rattle.sha2.specs.Sha256.{sha256}
 use Rattle.octets.specs.Ascii.{is_printable}
-use Rattle.maildirs.specs.declared.separator.Separator.{Separator}
-use Rattle.maildirs.specs.Directory.{MayShare, digest_form, directory, folded, has_form, is_digest, is_inbox}
-use Rattle.maildirs.specs.Levels.{has_levels}
-use Rattle.maildirs.specs.Spelling.{Piece, Printable, Run, before_pieces, cuts, high_first, modified_base64, modified_symbols, octet_of, piece_spelling, pieces_of, spelled, spellings, utf16_of, written}
-use Rattle.maildirs.proofs.KeptLemmas.{AreSmall, IsSound, AreSound, digest_is, digest_small, modified_passes, pieces_sound}
-use Rattle.maildirs.proofs.NameLemmas.{form_levels, form_own, form_text, own_no_digest}
+use Rattle.maildir_files.specs.declared.separator.Separator.{Separator}
+use Rattle.maildir_files.specs.Directory.{MayShare, digest_form, directory, with_inbox_folded, has_form, is_digest, is_inbox}
+use Rattle.maildir_files.specs.Levels.{has_levels}
+use Rattle.maildir_files.specs.Spelling.{NamePiece, Printable, Run, before_pieces, cuts, high_first, modified_base64, modified_symbols, separator_octet, piece_spelling, pieces_of, spelled_name, piece_spellings, utf16_of, spelled_directory}
+use Rattle.maildir_files.proofs.KeptLemmas.{AreSmall, IsSound, AreSound, digest_is, digest_small, modified_passes, pieces_sound}
+use Rattle.maildir_files.proofs.NameLemmas.{form_levels, form_own, form_text, own_no_digest}
 
 -- ---- base64 comes back
 
@@ -84,20 +84,20 @@ until [] = ([], [])
 until (octet ∷ rest) = cond (octet == 45) ([], rest) (octet ∷ (until rest).0, (until rest).1)
 
 -- the piece between `&` and `-`
-abbrev coded : List ℕ → Piece
+abbrev coded : List ℕ → NamePiece
 coded [] = Printable 38
 coded (symbol ∷ more) = Run (decoded (symbol ∷ more))
 
 -- what stands behind `\`
-abbrev read_escaped : List ℕ → Piece × List ℕ
+abbrev read_escaped : List ℕ → NamePiece × List ℕ
 read_escaped [] = (Run [], [])
 read_escaped (octet ∷ rest) = (Printable (cond (octet == 55) 126 (cond (octet == 53) 92 (cond (slice_index rest 0 == 101) 46 47))), drop 1 rest)
 
 -- the first piece of what is written, and the rest
-abbrev read : Separator → List ℕ → Option (Piece × List ℕ)
+abbrev read : Separator → List ℕ → Option (NamePiece × List ℕ)
 read separator [] = None
 read separator (octet ∷ rest) =
-    Some (cond (octet == 46) (Printable (octet_of separator), rest)
+    Some (cond (octet == 46) (Printable (separator_octet separator), rest)
     (cond (octet == 92) (read_escaped rest)
     (cond (octet == 38) (coded (until rest).0, (until rest).1) (Printable octet, rest))))
 
@@ -112,11 +112,11 @@ until_end [] rest none = refl
 until_end (octet ∷ text) rest none = until_front (octet == 45) octet text rest none (until_end text rest)
 
 character_read : (separator : Separator) (begins : Bool) (character : ℕ) (rest : List ℕ) (cut dot slash back ampersand tilde : Bool)
-    → (character == octet_of separator) ≡ cut → (character == 46) ≡ dot → (character == 47) ≡ slash → (character == 92) ≡ back → (character == 38) ≡ ampersand
+    → (character == separator_octet separator) ≡ cut → (character == 46) ≡ dot → (character == 47) ≡ slash → (character == 92) ≡ back → (character == 38) ≡ ampersand
     → (begins && character == 126) ≡ tilde
     → read separator (cond cut (codes ".") (cond dot (codes "\\2e") (cond slash (codes "\\2f") (cond back (codes "\\5c") (cond ampersand (codes "&-") (cond tilde (codes "\\7e") (character ∷ [])))))) ++ rest)
     ≡ Some (Printable character, rest)
-character_read separator begins character rest true dot slash back ampersand tilde is one two three four five = ap (λ c. Some (Printable c, rest)) (sym (eqb-true character (octet_of separator) is))
+character_read separator begins character rest true dot slash back ampersand tilde is one two three four five = ap (λ c. Some (Printable c, rest)) (sym (eqb-true character (separator_octet separator) is))
 character_read separator begins character rest false true slash back ampersand tilde is one two three four five = ap (λ c. Some (Printable c, rest)) (sym (eqb-true character 46 one))
 character_read separator begins character rest false false true back ampersand tilde is one two three four five = ap (λ c. Some (Printable c, rest)) (sym (eqb-true character 47 two))
 character_read separator begins character rest false false false true ampersand tilde is one two three four five = ap (λ c. Some (Printable c, rest)) (sym (eqb-true character 92 three))
@@ -130,40 +130,40 @@ coded_back [] text sound is = absurd sound.1
 coded_back (octet ∷ more) [] sound is = absurd (let e : [] ≡ octet ∷ more = sym nothing_back ∙ is in cc)
 coded_back (octet ∷ more) (symbol ∷ others) sound is = ap Run is
 
-piece_read : (separator : Separator) (begins : Bool) (piece : Piece) (rest : List ℕ) → IsSound piece → read separator (piece_spelling separator begins piece ++ rest) ≡ Some (piece, rest)
+piece_read : (separator : Separator) (begins : Bool) (piece : NamePiece) (rest : List ℕ) → IsSound piece → read separator (piece_spelling separator begins piece ++ rest) ≡ Some (piece, rest)
 piece_read separator begins (Printable character) rest sound =
-    character_read separator begins character rest (character == octet_of separator) (character == 46) (character == 47) (character == 92) (character == 38) (begins && character == 126) refl refl refl refl refl refl
+    character_read separator begins character rest (character == separator_octet separator) (character == 46) (character == 47) (character == 92) (character == 38) (begins && character == 126) refl refl refl refl refl refl
 piece_read separator begins (Run octets) rest sound =
     let text = modified_base64 octets in
     let ends : until ((text ++ codes "-") ++ rest) ≡ (text, rest) = ap until (append_assoc text (codes "-") rest) ∙ until_end text rest (modified_passes (λ octet. not (octet == 45)) refl octets sound.0) in
     ap (λ (p : List ℕ × List ℕ). Some (coded p.0, p.1)) ends ∙ ap (λ piece. Some (piece, rest)) (coded_back octets text sound (base64_back octets sound.0))
 
-pieces_alike : (separator : Separator) (begins : Bool) (one two : List Piece) → AreSound one → AreSound two
-    → spellings separator begins one ≡ spellings separator begins two → one ≡ two
+pieces_alike : (separator : Separator) (begins : Bool) (one two : List NamePiece) → AreSound one → AreSound two
+    → piece_spellings separator begins one ≡ piece_spellings separator begins two → one ≡ two
 pieces_alike separator begins [] [] first second same = refl
 pieces_alike separator begins [] (piece ∷ more) first second same =
-    let e : ◌≡◌ {A = Option (Piece × List ℕ)} None (Some (piece, spellings separator (cuts separator piece) more)) =
-    ap (read separator) same ∙ piece_read separator begins piece (spellings separator (cuts separator piece) more) second.0 in
+    let e : ◌≡◌ {A = Option (NamePiece × List ℕ)} None (Some (piece, piece_spellings separator (cuts separator piece) more)) =
+    ap (read separator) same ∙ piece_read separator begins piece (piece_spellings separator (cuts separator piece) more) second.0 in
     absurd cc
 pieces_alike separator begins (piece ∷ more) [] first second same =
-    let e : ◌≡◌ {A = Option (Piece × List ℕ)} None (Some (piece, spellings separator (cuts separator piece) more)) =
-    ap (read separator) (sym same) ∙ piece_read separator begins piece (spellings separator (cuts separator piece) more) first.0 in
+    let e : ◌≡◌ {A = Option (NamePiece × List ℕ)} None (Some (piece, piece_spellings separator (cuts separator piece) more)) =
+    ap (read separator) (sym same) ∙ piece_read separator begins piece (piece_spellings separator (cuts separator piece) more) first.0 in
     absurd cc
 pieces_alike separator begins (piece ∷ more) (other ∷ others) first second same =
-    let behind = spellings separator (cuts separator piece) more in
-    let its = spellings separator (cuts separator other) others in
-    let e : ◌≡◌ {A = Option (Piece × List ℕ)} (Some (piece, behind)) (Some (other, its)) =
+    let behind = piece_spellings separator (cuts separator piece) more in
+    let its = piece_spellings separator (cuts separator other) others in
+    let e : ◌≡◌ {A = Option (NamePiece × List ℕ)} (Some (piece, behind)) (Some (other, its)) =
     sym (piece_read separator begins piece behind first.0) ∙ ap (read separator) same ∙ piece_read separator begins other its second.0 in
-    let pair : ◌≡◌ {A = Piece × List ℕ} (piece, behind) (other, its) = cc in
-    let heads : piece ≡ other = ap (λ (p : Piece × List ℕ). p.0) pair in
-    let tails : spellings separator (cuts separator other) more ≡ its =
-    ap (λ one. spellings separator (cuts separator one) more) (sym heads) ∙ ap (λ (p : Piece × List ℕ). p.1) pair in
+    let pair : ◌≡◌ {A = NamePiece × List ℕ} (piece, behind) (other, its) = cc in
+    let heads : piece ≡ other = ap (λ (p : NamePiece × List ℕ). p.0) pair in
+    let tails : piece_spellings separator (cuts separator other) more ≡ its =
+    ap (λ one. piece_spellings separator (cuts separator one) more) (sym heads) ∙ ap (λ (p : NamePiece × List ℕ). p.1) pair in
     ap (λ one. one ∷ more) heads ∙ ap (λ l. other ∷ l) (pieces_alike separator (cuts separator other) more others first.1 second.1 tails)
 
 -- ---- one character is read
 
 -- the octets of UTF-16 that pieces stand for
-abbrev octets_of : List Piece → List ℕ
+abbrev octets_of : List NamePiece → List ℕ
 octets_of [] = []
 octets_of (Printable character ∷ more) = utf16_of character ++ octets_of more
 octets_of (Run octets ∷ more) = octets ++ octets_of more
@@ -172,12 +172,12 @@ abbrev all_utf16 : List ℕ → List ℕ
 all_utf16 [] = []
 all_utf16 (character ∷ more) = utf16_of character ++ all_utf16 more
 
-octets_before : (units : List ℕ) (pieces : List Piece) → octets_of (before_pieces units pieces) ≡ units ++ octets_of pieces
+octets_before : (units : List ℕ) (pieces : List NamePiece) → octets_of (before_pieces units pieces) ≡ units ++ octets_of pieces
 octets_before units [] = refl
 octets_before units (Printable character ∷ more) = refl
 octets_before units (Run others ∷ more) = append_assoc units others (octets_of more)
 
-octets_front : (printable : Bool) (character : ℕ) (pieces : List Piece) → octets_of (cond printable (Printable character ∷ pieces) (before_pieces (utf16_of character) pieces)) ≡ utf16_of character ++ octets_of pieces
+octets_front : (printable : Bool) (character : ℕ) (pieces : List NamePiece) → octets_of (cond printable (Printable character ∷ pieces) (before_pieces (utf16_of character) pieces)) ≡ utf16_of character ++ octets_of pieces
 octets_front true character pieces = refl
 octets_front false character pieces = octets_before (utf16_of character) pieces
 
@@ -241,7 +241,7 @@ texts_alike one two first second same =
     let octets = sym (octets_all (chars one)) ∙ ap octets_of same ∙ octets_all (chars two) in
     sym (encodes-chars one first) ∙ ap encodes (characters_alike (chars one) (chars two) (scalars-chars one first) (scalars-chars two second) octets) ∙ encodes-chars two second
 
-names_alike : (separator : Separator) (one two : List ℕ) → IsUtf8 one → IsUtf8 two → spelled separator one ≡ spelled separator two → one ≡ two
+names_alike : (separator : Separator) (one two : List ℕ) → IsUtf8 one → IsUtf8 two → spelled_name separator one ≡ spelled_name separator two → one ≡ two
 names_alike separator one two first second same =
     texts_alike one two first second
     (pieces_alike separator true (pieces_of (chars one)) (pieces_of (chars two)) (pieces_sound (chars one)) (pieces_sound (chars two)) same)
@@ -252,18 +252,18 @@ no_text_utf8 : IsUtf8 []
 no_text_utf8 = ([], (refl, refl))
 
 -- no name that has a form is written as INBOX is
-form_no_inbox : (separator : Separator) (name : List ℕ) → has_form separator name ≡ true → codes "." ≡ written separator name → ⊥
+form_no_inbox : (separator : Separator) (name : List ℕ) → has_form separator name ≡ true → codes "." ≡ spelled_directory separator name → ⊥
 unfolding chars
 form_no_inbox separator name form same =
-    let none : [] ≡ spelled separator name = cc in
+    let none : [] ≡ spelled_name separator name = cc in
     let empty : [] ≡ name = names_alike separator [] name no_text_utf8 (IsUtf8-from_is_utf8 name (form_text separator name form)) none in
-    let levels : has_levels (octet_of separator) [] ≡ true = ap (has_levels (octet_of separator)) empty ∙ form_levels separator name form in
+    let levels : has_levels (separator_octet separator) [] ≡ true = ap (has_levels (separator_octet separator)) empty ∙ form_levels separator name form in
     cc
 
 -- nor as a digest is
-form_no_digest : (separator : Separator) (name other : List ℕ) → has_form separator name ≡ true → digest_form other ≡ written separator name → ⊥
+form_no_digest : (separator : Separator) (name other : List ℕ) → has_form separator name ≡ true → digest_form other ≡ spelled_directory separator name → ⊥
 form_no_digest separator name other form same =
-    let own = own_no_digest (written separator name) (form_own separator name form) in
+    let own = own_no_digest (spelled_directory separator name) (form_own separator name form) in
     false≢true (ap not (sym (digest_is other)) ∙ ap (λ directory. not (is_digest directory)) same ∙ own)
 
 digests_alike : (one two : List ℕ) → digest_form one ≡ digest_form two → sha256 one ≡ sha256 two
@@ -273,21 +273,21 @@ digests_alike one two same =
     cc
 
 shared_by : (separator : Separator) (one two : List ℕ) (inbox other form its : Bool) → is_inbox one ≡ inbox → is_inbox two ≡ other
-    → has_form separator (folded separator one) ≡ form → has_form separator (folded separator two) ≡ its
-    → cond inbox (codes ".") (cond form (written separator (folded separator one)) (digest_form (folded separator one)))
-    ≡ cond other (codes ".") (cond its (written separator (folded separator two)) (digest_form (folded separator two))) → MayShare separator one two
+    → has_form separator (with_inbox_folded separator one) ≡ form → has_form separator (with_inbox_folded separator two) ≡ its
+    → cond inbox (codes ".") (cond form (spelled_directory separator (with_inbox_folded separator one)) (digest_form (with_inbox_folded separator one)))
+    ≡ cond other (codes ".") (cond its (spelled_directory separator (with_inbox_folded separator two)) (digest_form (with_inbox_folded separator two))) → MayShare separator one two
 shared_by separator one two true true form its a b c d same = inr (inl (a, b))
-shared_by separator one two true false form true a b c d same = absurd (form_no_inbox separator (folded separator two) d same)
+shared_by separator one two true false form true a b c d same = absurd (form_no_inbox separator (with_inbox_folded separator two) d same)
 shared_by separator one two true false form false a b c d same = absurd cc
-shared_by separator one two false true true its a b c d same = absurd (form_no_inbox separator (folded separator one) c (sym same))
+shared_by separator one two false true true its a b c d same = absurd (form_no_inbox separator (with_inbox_folded separator one) c (sym same))
 shared_by separator one two false true false its a b c d same = absurd cc
 shared_by separator one two false false true true a b c d same =
-    let names : spelled separator (folded separator one) ≡ spelled separator (folded separator two) = cc in
-    inl (names_alike separator (folded separator one) (folded separator two) (IsUtf8-from_is_utf8 _ (form_text separator (folded separator one) c)) (IsUtf8-from_is_utf8 _ (form_text separator (folded separator two) d)) names)
-shared_by separator one two false false true false a b c d same = absurd (form_no_digest separator (folded separator one) (folded separator two) c (sym same))
-shared_by separator one two false false false true a b c d same = absurd (form_no_digest separator (folded separator two) (folded separator one) d same)
-shared_by separator one two false false false false a b c d same = inr (inr (c, d, digests_alike (folded separator one) (folded separator two) same))
+    let names : spelled_name separator (with_inbox_folded separator one) ≡ spelled_name separator (with_inbox_folded separator two) = cc in
+    inl (names_alike separator (with_inbox_folded separator one) (with_inbox_folded separator two) (IsUtf8-from_is_utf8 _ (form_text separator (with_inbox_folded separator one) c)) (IsUtf8-from_is_utf8 _ (form_text separator (with_inbox_folded separator two) d)) names)
+shared_by separator one two false false true false a b c d same = absurd (form_no_digest separator (with_inbox_folded separator one) (with_inbox_folded separator two) c (sym same))
+shared_by separator one two false false false true a b c d same = absurd (form_no_digest separator (with_inbox_folded separator two) (with_inbox_folded separator one) d same)
+shared_by separator one two false false false false a b c d same = inr (inr (c, d, digests_alike (with_inbox_folded separator one) (with_inbox_folded separator two) same))
 
 pub shared : (separator : Separator) (one two : List ℕ) → directory separator one ≡ directory separator two → MayShare separator one two
 shared separator one two same =
-    shared_by separator one two (is_inbox one) (is_inbox two) (has_form separator (folded separator one)) (has_form separator (folded separator two)) refl refl refl refl same
+    shared_by separator one two (is_inbox one) (is_inbox two) (has_form separator (with_inbox_folded separator one)) (has_form separator (with_inbox_folded separator two)) refl refl refl refl same

@@ -1,6 +1,6 @@
 -- What a sink keeps.
 use Rattle.std.specs.Prelude.{◌≡◌, ℕ, ◌⊎◌, List, [], ◌∷◌, ◌++◌}
-use Rattle.mailsinks.specs.declared.kept.KeptMail.{KeptMail}
+use Rattle.maildir_files.specs.declared.kept.KeptMail.{KeptMail}
 
 -- the message that has this number in the user's folder, with its flags there
 abbrev pub kept_mail : List ℕ → List ℕ → ℕ → List ℕ → List ℕ → KeptMail

@@ -7,10 +7,10 @@ begins_level separator [] = false
 begins_level separator (octet ∷ rest) = not (octet == separator)
 
 -- whether each separator comes before a level of one or more octets
-abbrev pub goes_on : ℕ → List ℕ → Bool
-goes_on separator [] = true
-goes_on separator (octet ∷ rest) = (not (octet == separator) || begins_level separator rest) && goes_on separator rest
+abbrev pub levels_go_on : ℕ → List ℕ → Bool
+levels_go_on separator [] = true
+levels_go_on separator (octet ∷ rest) = (not (octet == separator) || begins_level separator rest) && levels_go_on separator rest
 
 -- one or more levels with the separator between them, none of them empty
 abbrev pub has_levels : ℕ → List ℕ → Bool
-has_levels separator name = begins_level separator name && goes_on separator name
+has_levels separator name = begins_level separator name && levels_go_on separator name

@@ -1,3 +1,5 @@
+pub mod FileName
+pub mod Kept
 pub mod Levels
 pub mod Listed
 pub mod Spelling

@@ -7,13 +7,13 @@ use Rattle.base64.specs.Rfc4648.{encode}
 use Rattle.base64.specs.GeneralPurpose.{engine_symbols, engine_config, config_padding}
 use Rattle.base64.specs.declared.engine.general_purpose.GeneralPurpose.{GeneralPurpose}
 use Rattle.octets.specs.Ascii.{is_printable}
-use Rattle.maildirs.specs.declared.separator.Separator.{Separator}
-use Rattle.maildirs.specs.declared.separator.Separator.TheVariants.{Dot, Slash}
+use Rattle.maildir_files.specs.declared.separator.Separator.{Separator}
+use Rattle.maildir_files.specs.declared.separator.Separator.TheVariants.{Dot, Slash}
 
 -- the separator as an octet
-abbrev pub octet_of : Separator → ℕ
-octet_of Dot = 46
-octet_of Slash = 47
+abbrev pub separator_octet : Separator → ℕ
+separator_octet Dot = 46
+separator_octet Slash = 47
 
 -- the 64 symbols of modified base64 (RFC 3501, section 5.1.3)
 abbrev pub modified_symbols : List ℕ
@@ -38,27 +38,27 @@ abbrev pub utf16_of : ℕ → List ℕ
 utf16_of character = high_first (encode_utf16 character)
 
 -- what a text is written by: a character from 32 to 126, or the UTF-16 of a longest run of others
-pub data Piece : Type 0 where
-  Printable : ℕ → Piece
-  Run : List ℕ → Piece
+pub data NamePiece : Type 0 where
+  Printable : ℕ → NamePiece
+  Run : List ℕ → NamePiece
 
 -- the UTF-16 of a character that isn't printable, before the pieces after it: part of the run there
-abbrev pub before_pieces : List ℕ → List Piece → List Piece
+abbrev pub before_pieces : List ℕ → List NamePiece → List NamePiece
 before_pieces units [] = Run units ∷ []
 before_pieces units (Printable character ∷ more) = Run units ∷ Printable character ∷ more
 before_pieces units (Run others ∷ more) = Run (units ++ others) ∷ more
 
 -- the pieces of a text's characters
-abbrev pub pieces_of : List ℕ → List Piece
+abbrev pub pieces_of : List ℕ → List NamePiece
 pieces_of [] = []
 pieces_of (character ∷ more) =
     cond (is_printable character) (Printable character ∷ pieces_of more) (before_pieces (utf16_of character) (pieces_of more))
 
 -- a character from 32 to 126, told whether it begins a level: the separator is `.`; the other one of `.` and `/`, `\`, and a `~`
 -- that begins a level are escaped
-abbrev pub spelling : Separator → Bool → ℕ → List ℕ
-spelling separator begins character =
-    cond (character == octet_of separator) (codes ".")
+abbrev pub character_spelling : Separator → Bool → ℕ → List ℕ
+character_spelling separator begins character =
+    cond (character == separator_octet separator) (codes ".")
     (cond (character == 46) (codes "\\2e")
     (cond (character == 47) (codes "\\2f")
     (cond (character == 92) (codes "\\5c")
@@ -75,24 +75,24 @@ run_spelled [] = []
 run_spelled (octet ∷ more) = shifted (octet ∷ more)
 
 -- a piece as it is written, told whether it begins a level
-abbrev pub piece_spelling : Separator → Bool → Piece → List ℕ
-piece_spelling separator begins (Printable character) = spelling separator begins character
+abbrev pub piece_spelling : Separator → Bool → NamePiece → List ℕ
+piece_spelling separator begins (Printable character) = character_spelling separator begins character
 piece_spelling separator begins (Run octets) = shifted octets
 
 -- whether a piece is the separator, so that what follows begins a level
-abbrev pub cuts : Separator → Piece → Bool
-cuts separator (Printable character) = character == octet_of separator
+abbrev pub cuts : Separator → NamePiece → Bool
+cuts separator (Printable character) = character == separator_octet separator
 cuts separator (Run octets) = false
 
 -- pieces as they are written, told whether the first one begins a level
-abbrev pub spellings : Separator → Bool → List Piece → List ℕ
-spellings separator begins [] = []
-spellings separator begins (piece ∷ more) = piece_spelling separator begins piece ++ spellings separator (cuts separator piece) more
+abbrev pub piece_spellings : Separator → Bool → List NamePiece → List ℕ
+piece_spellings separator begins [] = []
+piece_spellings separator begins (piece ∷ more) = piece_spelling separator begins piece ++ piece_spellings separator (cuts separator piece) more
 
 -- a text of whole levels as it is written
-abbrev pub spelled : Separator → List ℕ → List ℕ
-spelled separator text = spellings separator true (pieces_of (chars text))
+abbrev pub spelled_name : Separator → List ℕ → List ℕ
+spelled_name separator text = piece_spellings separator true (pieces_of (chars text))
 
 -- the directory that spells a name
-abbrev pub written : Separator → List ℕ → List ℕ
-written separator name = codes "." ++ spelled separator name
+abbrev pub spelled_directory : Separator → List ℕ → List ℕ
+spelled_directory separator name = codes "." ++ spelled_name separator name

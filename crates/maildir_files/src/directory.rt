@@ -1,8 +1,8 @@
 //! The directory of a folder.
 ghost use Rattle.std.specs.Prelude.{◌≡◌, if◌then◌else◌, IfOk};
 ghost use Rattle.std.specs.List.{list_all};
-ghost use Rattle.maildirs.specs.Directory.{begins_with, digest_form, directory, folded, has_form, is_digest, is_lower_digit, is_own, is_sha256, named};
-ghost use Rattle.maildirs.specs.Spelling.{octet_of, written};
+ghost use Rattle.maildir_files.specs.Directory.{begins_with_octet, digest_form, directory, with_inbox_folded, has_form, is_digest, is_lower_digit, is_own, is_sha256, directory_named};
+ghost use Rattle.maildir_files.specs.Spelling.{separator_octet, spelled_directory};
 
 use crate::level::has_levels;
 use crate::listed::is_listed;
@@ -37,7 +37,7 @@ pub fn directory_of(alloc: Global, name: &[u8], separator: Separator) -> Result<
 
 /// The name, with a first level of several that is INBOX but for case as `INBOX`.
 fn folded(alloc: Global, name: &[u8], separator: Separator) -> Result<Octets, AllocError>
-    ensures { IfOk result (λ text. text ≡ folded separator name.now) }
+    ensures { IfOk result (λ text. text ≡ with_inbox_folded separator name.now) }
 {
     let Some((first, rest)) = name.split_at_checked(5) else {
         return Octets::from_slice(alloc, name);
@@ -55,7 +55,7 @@ fn folded(alloc: Global, name: &[u8], separator: Separator) -> Result<Octets, Al
 
 /// Whether the octet comes first.
 fn begins_with(text: &[u8], octet: u8) -> bool
-    ensures { result ≡ begins_with octet text.now }
+    ensures { result ≡ begins_with_octet octet text.now }
 {
     match text.first() {
         Some(first) => *first == octet,
@@ -65,7 +65,7 @@ fn begins_with(text: &[u8], octet: u8) -> bool
 
 /// The directory of a name that isn't INBOX.
 fn named(alloc: Global, name: &[u8], separator: Separator) -> Result<Octets, AllocError>
-    ensures { IfOk result (λ place. place ≡ named separator name.now) }
+    ensures { IfOk result (λ place. place ≡ directory_named separator name.now) }
 {
     match spelled_form(alloc, name, separator)? {
         Some(place) => Ok(place),
@@ -79,7 +79,7 @@ fn spelled_form(
     name: &[u8],
     separator: Separator,
 ) -> Result<Option<Octets>, AllocError>
-    ensures { IfOk result (λ place. place ≡ (if has_form separator name.now then Some (written separator name.now) else None)) }
+    ensures { IfOk result (λ place. place ≡ (if has_form separator name.now then Some (spelled_directory separator name.now) else None)) }
 {
     let Ok(text) = str::from_utf8(name) else {
         return Ok(None);

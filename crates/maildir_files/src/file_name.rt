@@ -3,10 +3,10 @@ ghost use Rattle.std.specs.Prelude.{◌≡◌, ◌++◌, IfOk};
 ghost use Rattle.std.specs.Str.{IsUtf8};
 ghost use Rattle.std.specs.String.{string_bytes};
 ghost use Rattle.sha2.specs.Sha256.{sha256};
-ghost use Rattle.mailflags.specs.Flags.{named, letters};
-ghost use Rattle.mailsinks.specs.FileName.{counted, joined, file_name, place_by};
+ghost use Rattle.mail_flags.specs.Flags.{named_flags, letters};
+ghost use Rattle.maildir_files.specs.FileName.{with_length, digested_text, file_name, place_by};
 
-use mailflags::Flags;
+use mail_flags::Flags;
 use sha2::{Digest, Sha256};
 use std::alloc::{AllocError, Global};
 use std::format;
@@ -31,7 +31,7 @@ pub fn name_of(
 /// Where the file of that name is in a Maildir, by the text that names its message's flags: in `new`; if some of them are system
 /// flags in `cur`, with their letters after its name, as `cur/NAME:2,FS`. Other flags have no letters, and are told nowhere.
 pub fn place_of(alloc: Global, name: &str, flags: &[u8]) -> Result<String, AllocError>
-    ensures { IfOk result (λ place. string_bytes place ≡ place_by name.now (letters (named flags.now))) }
+    ensures { IfOk result (λ place. string_bytes place ≡ place_by name.now (letters (named_flags flags.now))) }
 {
     let letters = Flags::read(alloc, flags)?.letters(alloc)?;
     match str::from_utf8(letters.as_slice()) {
@@ -43,7 +43,7 @@ pub fn place_of(alloc: Global, name: &str, flags: &[u8]) -> Result<String, Alloc
 
 /// The digest of a user, a folder and a message, each with its own place in what is hashed.
 fn digest_of(user: &[u8], folder: &[u8], message: &[u8]) -> [u8; 32]
-    ensures { result ≡ sha256 (joined user.now folder.now message.now) }
+    ensures { result ≡ sha256 (digested_text user.now folder.now message.now) }
 {
     let mut hasher = Sha256::new();
     hasher.update((user.len() as u64).to_be_bytes());

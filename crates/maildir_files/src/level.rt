@@ -1,6 +1,6 @@
 //! The levels of a folder's name.
 ghost use Rattle.std.specs.Prelude.{◌≡◌};
-ghost use Rattle.maildirs.specs.Levels.{has_levels};
+ghost use Rattle.maildir_files.specs.Levels.{has_levels};
 
 /// Whether the name has one or more levels, none of them empty. One pass.
 pub(crate) fn has_levels(name: &[u8], separator: u8) -> bool

@@ -1,5 +1,20 @@
-//! Where a user's mail is: the directories of a Maildir.
+//! Who keeps the messages that leave a store: a Maildir, or memory.
 #![tactic(auto)]
+
+mod sync;
+mod file_name;
+mod kept;
+pub mod file_laws;
+mod maildir;
+mod memory_sink;
+mod sink;
+
+pub use kept::KeptMail;
+pub use maildir::Maildir;
+pub use memory_sink::MemorySink;
+pub use sink::{MailSink, SinkError};
+
+// Where a user's mail is: the directories of a Maildir.
 
 mod directory;
 pub mod laws;

@@ -1,6 +1,6 @@
 //! Names that Dovecot 2.3 lists as they are.
 ghost use Rattle.std.specs.Prelude.{◌≡◌};
-ghost use Rattle.maildirs.specs.Listed.{begins_high, is_high_digit, is_listed};
+ghost use Rattle.maildir_files.specs.Listed.{begins_high, is_high_digit, is_listed};
 
 /// Whether no octet is NUL, and none is a `\` before two hexadecimal digits of an octet over 127. One pass.
 pub(crate) fn is_listed(name: &[u8]) -> bool

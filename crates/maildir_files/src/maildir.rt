@@ -1,7 +1,7 @@
 //! A sink over a Maildir.
 ghost use Rattle.std.specs.Prelude.{◌≡◌, []};
 
-use crate::directory::{Identity, open_directory};
+use crate::sync::{Identity, open_directory};
 use crate::file_name::{name_of, place_of};
 use crate::sink::{MailSink, SinkError};
 use std::fs::File;

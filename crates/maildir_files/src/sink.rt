@@ -1,9 +1,9 @@
 //! Where messages go that leave a store.
 ghost use Rattle.std.specs.Prelude.{◌≡◌, ⊤, ℕ, Bool, List, [], ◌∷◌, ◌++◌, Option, IsTrue, IfErr, OnOk, OnErr};
 ghost use Rattle.std_io.specs.declared.io.kind.ErrorKind.{ErrorKind};
-ghost use Rattle.mailsinks.specs.declared.kept.KeptMail.{KeptMail};
-ghost use Rattle.mailsinks.specs.declared.sink.SinkError.{SinkError};
-ghost use Rattle.mailsinks.specs.Kept.{MayKeep, kept_mail};
+ghost use Rattle.maildir_files.specs.declared.kept.KeptMail.{KeptMail};
+ghost use Rattle.maildir_files.specs.declared.sink.SinkError.{SinkError};
+ghost use Rattle.maildir_files.specs.Kept.{MayKeep, kept_mail};
 
 use std::alloc::AllocError;
 use std::io::ErrorKind;
@@ -21,7 +21,7 @@ pub enum SinkError {
 
 impl From<AllocError> for SinkError {
     ghost use Rattle.std.specs.Prelude.{◌≡◌};
-    ghost use Rattle.mailsinks.specs.declared.sink.SinkError.TheVariants.{Memory};
+    ghost use Rattle.maildir_files.specs.declared.sink.SinkError.TheVariants.{Memory};
 
     ghost from_gives = { λ _ error. error ≡ Memory };
 

@@ -2,7 +2,7 @@
 ghost use Rattle.std.specs.Prelude.{◌≡◌, [], ◌++◌, IsTrue, IfOk, OnOk, string_bytes};
 ghost use Rattle.std.specs.Int.{w16, to_be_bytes};
 ghost use Rattle.octets.specs.Ascii.{is_printable};
-ghost use Rattle.maildirs.specs.Spelling.{IsModified, run_spelled, spelled, spelling, octet_of, utf16_of, written};
+ghost use Rattle.maildir_files.specs.Spelling.{IsModified, run_spelled, spelled_name, character_spelling, separator_octet, utf16_of, spelled_directory};
 
 use crate::separator::Separator;
 use base64::alphabet::IMAP_MUTF7;
@@ -13,7 +13,7 @@ use std::alloc::{AllocError, Global};
 /// The directory of a name that is UTF-8: `.` and its characters as they are written.
 /// Time and memory are linear in the name.
 pub(crate) fn written(alloc: Global, name: &str, separator: Separator) -> Result<String, AllocError>
-    ensures { IfOk result (λ directory. string_bytes directory ≡ written separator name.now) }
+    ensures { IfOk result (λ directory. string_bytes directory ≡ spelled_directory separator name.now) }
 {
     let mut directory = String::from_str(alloc, ".")?;
     push_characters(alloc, &mut directory, name, separator)?;
@@ -27,7 +27,7 @@ fn push_characters(
     text: &str,
     separator: Separator,
 ) -> Result<(), AllocError>
-    ensures { OnOk result (string_bytes directory.new ≡ string_bytes directory.old ++ spelled separator text.now) }
+    ensures { OnOk result (string_bytes directory.new ≡ string_bytes directory.old ++ spelled_name separator text.now) }
 {
     let engine = modified_base64();
     let mut run = Vec::new(alloc);
@@ -89,7 +89,7 @@ fn push_printable(
     begins: bool,
 ) -> Result<(), AllocError>
     requires { IsTrue (is_printable character) }
-    ensures { OnOk result (string_bytes directory.new ≡ string_bytes directory.old ++ spelling separator begins character) }
+    ensures { OnOk result (string_bytes directory.new ≡ string_bytes directory.old ++ character_spelling separator begins character) }
 {
     if character == char::from(separator.octet()) {
         return directory.push_str(".");

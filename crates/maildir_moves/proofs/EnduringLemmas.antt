@@ -2,24 +2,24 @@
 use Rattle.std.proofs.Common.{◌≡◌, ◌⊎◌, ℕ, List, Bool, true, false, Result, Ok, Err, OnOk, IsTrue, refl, sym, ◌∙◌, ap, subst, inl, inr}
 use Rattle.sqlite_trees.specs.Tree.{Trees}
 use Rattle.sqlite.specs.State.{State, HasCleanDisk}
-use Rattle.mailstore.specs.Account.{Accounts}
-use Rattle.mailstore.specs.Connection.{IsSettled}
-use Rattle.mailstore.specs.Promises.{Keeps}
-use Rattle.mailstore.specs.Refusals.{IsTransient}
-use Rattle.mailstore.specs.Shows.{Presents, ShowsIn}
-use Rattle.mailstore.specs.declared.refusal.Refusal.{Refusal}
-use Rattle.sessions.specs.Acts.{HasAccounts, Lasts}
-use Rattle.sessions.proofs.ActLemmas.{glanced, accounts_stay}
-use Rattle.mailengine.specs.AccountEvents.{MailTaking}
-use Rattle.mailengine.specs.Hosts.{Kept, host, HasClients, IsEvent, Leads, SurvivesEvent, ActsMailTaking, TurnsBy, answer_by}
-use Rattle.mailengine.specs.World.{World, Next}
-use Rattle.mailengine.specs.declared.answer.Answer.{Answer}
-use Rattle.mailengine.specs.declared.answer.Answer.TheVariants.{Refused, MailTaken}
-use Rattle.mailengine.specs.declared.event.Event.{Event}
-use Rattle.mailengine.specs.declared.event.Event.TheVariants.{TakeMail}
-use Rattle.mailengine.proofs.HostLemmas.{mail_taking_may}
-use Rattle.mailmoves.specs.Enduring.{Endures, MayLeave, ShowsMade, ShowsTried, leaves_of, none_tried}
-use Rattle.mailmoves.proofs.RefusedLemmas.{refused_same}
+use Rattle.store_accounts.specs.Account.{Accounts}
+use Rattle.store_accounts.specs.Connection.{IsSettled}
+use Rattle.store_accounts.specs.Promises.{KeepsTables}
+use Rattle.store_accounts.specs.Refusals.{IsTransient}
+use Rattle.store_accounts.specs.Shows.{Presents, ShowsIn}
+use Rattle.store_accounts.specs.declared.refusal.Refusal.{Refusal}
+use Rattle.managesieve_sessions.specs.Acts.{HasAccounts, Lasts}
+use Rattle.managesieve_sessions.proofs.ActLemmas.{glanced, accounts_stay}
+use Rattle.store_engine.specs.AccountEvents.{MailTaking}
+use Rattle.store_engine.specs.Hosts.{SessionMap, host, HasClients, IsEvent, EventLeads, SurvivesEvent, ActsMailTaking, TurnsBy, answer_by}
+use Rattle.store_engine.specs.World.{World, Next}
+use Rattle.store_engine.specs.declared.answer.Answer.{Answer}
+use Rattle.store_engine.specs.declared.answer.Answer.TheVariants.{Refused, MailTaken}
+use Rattle.store_engine.specs.declared.event.Event.{Event}
+use Rattle.store_engine.specs.declared.event.Event.TheVariants.{TakeMail}
+use Rattle.store_engine.proofs.HostLemmas.{mail_taking_may}
+use Rattle.maildir_moves.specs.Enduring.{Endures, MayLeave, ShowsMade, ShowsTried, leaves_of, none_tried}
+use Rattle.maildir_moves.proofs.RefusedLemmas.{refused_same}
 
 -- ---- what may be left, call by call
 
@@ -52,7 +52,7 @@ pub settled_left : (s : State) (accounts : Accounts) → IsSettled s → Present
 settled_left s accounts settled shown trees may = (s.now, shown, settled.alone trees may ∙ sym (ap (λ db. db.trees) settled.same))
 
 -- a read changes nothing of it
-pub read_endures : {X E : Type 0} (a b : State) (r : Result X E) → Keeps a b r → HasCleanDisk b → (accounts : Accounts) → HasAccounts a accounts → Endures a accounts b accounts none_tried
+pub read_endures : {X E : Type 0} (a b : State) (r : Result X E) → KeepsTables a b r → HasCleanDisk b → (accounts : Accounts) → HasAccounts a accounts → Endures a accounts b accounts none_tried
 read_endures a b r k clean accounts shown = record {
   shown = accounts_stay a b (glanced a b r k) clean accounts shown;
   left = λ trees may.
@@ -63,7 +63,7 @@ read_endures a b r k clean accounts shown = record {
 
 -- ---- an event
 
-module _ (event : Event) (old new : State) (before after : Kept) (clean : HasCleanDisk new) (shut : IsTrue new.is_open → IsTrue old.is_open)
+module _ (event : Event) (old new : State) (before after : SessionMap) (clean : HasCleanDisk new) (shut : IsTrue new.is_open → IsTrue old.is_open)
     (crash : SurvivesEvent event (host old before) (host new after)) (w : World) (sessions : HasClients before w.sessions) (shown : HasAccounts old w.accounts) where
   -- what it leaves where it was refused: what it makes of this very world
   refused_left : (next : World) → next.accounts ≡ w.accounts → MayLeave (leaves_of old) w.accounts (leaves_of new) next.accounts (ShowsMade event w)
@@ -80,7 +80,7 @@ module _ (event : Event) (old new : State) (before after : Kept) (clean : HasCle
       let was = shut may.0 in
       elim ((lasts was).crash trees may.1) [ inl shows ↦ inl shows | inr stays ↦ inr (inl (stays.0, (was, stays.1))) ]
 
-  event_left : (answer : Answer) (next : World) → Leads w event answer (host old before) (host new after) next → MayLeave (leaves_of old) w.accounts (leaves_of new) next.accounts (ShowsTried event answer w)
+  event_left : (answer : Answer) (next : World) → EventLeads w event answer (host old before) (host new after) next → MayLeave (leaves_of old) w.accounts (leaves_of new) next.accounts (ShowsTried event answer w)
   event_left (Refused refusal) next led = refused_left next (refused_same w next event refusal led.is_next)
   event_left answer next led = made_left next (ShowsTried event answer w) (led.lasts tt)
 

@@ -1,13 +1,13 @@
 -- Right cases of the definitions, and near misses.
 use Rattle.std.proofs.Common.{◌≡◌, ◌⊎◌, ℕ, List, refl, inl, inr}
 use Rattle.sqlite_trees.specs.Tree.{Trees}
-use Rattle.mailstore.specs.Account.{Accounts}
-use Rattle.mailstore.specs.Shows.{ShowsIn}
-use Rattle.mailstore.specs.declared.refusal.Refusal.TheVariants.{Store}
-use Rattle.mailengine.specs.World.{World}
-use Rattle.mailengine.specs.declared.answer.Answer.TheVariants.{MailTaken, Refused}
-use Rattle.mailengine.specs.declared.event.Event.TheVariants.{TakeMail}
-use Rattle.mailmoves.specs.Enduring.{MayLeave, ShowsMade, ShowsTried, none_tried}
+use Rattle.store_accounts.specs.Account.{Accounts}
+use Rattle.store_accounts.specs.Shows.{ShowsIn}
+use Rattle.store_accounts.specs.declared.refusal.Refusal.TheVariants.{Store}
+use Rattle.store_engine.specs.World.{World}
+use Rattle.store_engine.specs.declared.answer.Answer.TheVariants.{MailTaken, Refused}
+use Rattle.store_engine.specs.declared.event.Event.TheVariants.{TakeMail}
+use Rattle.maildir_moves.specs.Enduring.{MayLeave, ShowsMade, ShowsTried, none_tried}
 
 -- an event that was refused may be left, and one that was made is among the accounts
 refused : (user folder : List ℕ) (met : World) (trees : Trees) → ShowsTried (TakeMail user folder) (Refused Store) met trees ≡ ShowsMade (TakeMail user folder) met trees

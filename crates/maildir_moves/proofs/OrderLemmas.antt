@@ -3,12 +3,12 @@ use Prim.Native.Nat.{zero}
 use Rattle.std.proofs.Common.{◌≡◌, ◌⊎◌, ◌<◌, ℕ, suc, Bool, true, false, List, [], ◌∷◌, Option, Some, None, refl, sym, ap, ◌∙◌, subst, inl, inr, arith, Ordering, Less, Equal, Greater, is_lt, true≢false}
 use Rattle.std.specs.Ordering.{nat_cmp, ordering_then}
 use Rattle.std.proofs.lemmas.Cmp.{nat_list_cmp_total, tied_itself}
-use Rattle.mailtables.specs.Rows.{Tables}
-use Rattle.mailstore.specs.Account.{bytes_cmp}
-use Rattle.mailstore.specs.Next.{filed_cmp, IsNextFiled}
-use Rattle.mailstore.specs.declared.next.Filed.{Filed}
-use Rattle.mailstore.proofs.AccountLemmas.{bytes_antisymmetric}
-use Rattle.mailmoves.specs.Order.{IsFirstFolder, IsFolderBehind, IsLastFolder, IsNextUser, IsRoundOver, beyond, comes_before, is_behind, start_in, start_of}
+use Rattle.store_tables.specs.Rows.{Tables}
+use Rattle.store_accounts.specs.Account.{bytes_cmp}
+use Rattle.store_accounts.specs.Next.{filed_cmp, IsNextFiled}
+use Rattle.store_accounts.specs.declared.next.CopyKey.{CopyKey}
+use Rattle.store_accounts.proofs.AccountLemmas.{bytes_antisymmetric}
+use Rattle.maildir_moves.specs.Order.{IsFirstFolder, IsFolderBehind, IsLastFolder, IsNextTurnUser, IsRoundOver, beyond, comes_before, is_behind, start_in, start_of}
 
 -- ---- texts in their order
 
@@ -86,7 +86,7 @@ key_behind x y rest h = elim (then_less (beyond x) y rest h) [
 
 -- ---- the next user
 
-starts : (last : Option (List ℕ)) (f : Filed) → 0 < f.number → is_behind last f.user ≡ true → filed_cmp (start_of last) f ≡ Less
+starts : (last : Option (List ℕ)) (f : CopyKey) → 0 < f.number → is_behind last f.user ≡ true → filed_cmp (start_of last) f ≡ Less
 starts None f some behind = by f.user
   where
     by : (user : List ℕ) → ordering_then (bytes_cmp [] user) (ordering_then (bytes_cmp [] f.folder) (nat_cmp 0 f.number)) ≡ Less
@@ -94,15 +94,15 @@ starts None f some behind = by f.user
     by (c ∷ cs) = refl
 starts (Some last) f some behind = behind_key last f.user _ (from_nothing f.folder f.number some) (before_is last f.user behind)
 
-started : (last : Option (List ℕ)) (f : Filed) → filed_cmp (start_of last) f ≡ Less → is_behind last f.user ≡ true
+started : (last : Option (List ℕ)) (f : CopyKey) → filed_cmp (start_of last) f ≡ Less → is_behind last f.user ≡ true
 started None f low = refl
 started (Some last) f low = ap is_lt (key_behind last f.user _ low)
 
 module _ (tables : Tables) where
-  user_not_first : (x least : Filed) → ¬ (filed_cmp x least ≡ Less) → comes_before x.user least.user ≡ false
+  user_not_first : (x least : CopyKey) → ¬ (filed_cmp x least ≡ Less) → comes_before x.user least.user ≡ false
   user_not_first x least never = not_before x.user least.user (λ low. never (first_decides x.user least.user _ low))
 
-  folder_not_first : (x least : Filed) → x.user ≡ least.user → ¬ (filed_cmp x least ≡ Less) → comes_before x.folder least.folder ≡ false
+  folder_not_first : (x least : CopyKey) → x.user ≡ least.user → ¬ (filed_cmp x least ≡ Less) → comes_before x.folder least.folder ≡ false
   folder_not_first x least same never = not_before x.folder least.folder (λ low. never (rest_decides x.user least.user _ same (first_decides x.folder least.folder _ low)))
 
   pub round_over : (last : Option (List ℕ)) → IsNextFiled (start_of last) None tables → IsRoundOver tables last
@@ -112,8 +112,8 @@ module _ (tables : Tables) where
       go true is = absurd (none f mail.0 (starts last f mail.1 is))
       go false is = refl
 
-  module _ (last : Option (List ℕ)) (first : Filed) (next : IsNextFiled (start_of last) (Some first) tables) where
-    pub next_user : IsNextUser tables last first.user
+  module _ (last : Option (List ℕ)) (first : CopyKey) (next : IsNextFiled (start_of last) (Some first) tables) where
+    pub next_user : IsNextTurnUser tables last first.user
     next_user = record { behind = started last first next.1; first = λ f mail behind. user_not_first f first (next.2 f mail.0 (starts last f mail.1 behind)) }
 
     pub first_folder : IsFirstFolder tables first.user first.folder
@@ -122,19 +122,19 @@ module _ (tables : Tables) where
   -- ---- a user's next folder
 
   module _ (user mark : List ℕ) where
-    starts_in : (f : Filed) → 0 < f.number → f.user ≡ user → comes_before mark f.folder ≡ true → filed_cmp (start_in user mark) f ≡ Less
+    starts_in : (f : CopyKey) → 0 < f.number → f.user ≡ user → comes_before mark f.folder ≡ true → filed_cmp (start_in user mark) f ≡ Less
     starts_in f some same low = rest_decides user f.user _ (sym same) (behind_key mark f.folder _ (let less : nat_cmp 0 f.number ≡ Less = grind arith in less) (before_is mark f.folder low))
 
-    started_in : (f : Filed) → filed_cmp (start_in user mark) f ≡ Less → (bytes_cmp user f.user ≡ Less) ⊎ ((user ≡ f.user) × (comes_before mark f.folder ≡ true))
+    started_in : (f : CopyKey) → filed_cmp (start_in user mark) f ≡ Less → (bytes_cmp user f.user ≡ Less) ⊎ ((user ≡ f.user) × (comes_before mark f.folder ≡ true))
     started_in f low = elim (then_less user f.user _ low) [ inl later ↦ inl later | inr same ↦ inr (same.0, ap is_lt (key_behind mark f.folder _ same.1)) ]
 
-    pub folder_behind : (next : Filed) → next.user ≡ user → IsNextFiled (start_in user mark) (Some next) tables → IsFolderBehind tables user mark next.folder
+    pub folder_behind : (next : CopyKey) → next.user ≡ user → IsNextFiled (start_in user mark) (Some next) tables → IsFolderBehind tables user mark next.folder
     folder_behind next same it = record {
       behind = elim (started_in next it.1) [ inl later ↦ absurd (let no = sym (subst (λ t. bytes_cmp t next.user ≡ Equal) same (itself next.user)) ∙ later in cc) | inr there ↦ there.1 ];
       first = λ f mail of_user low. folder_not_first f next (of_user ∙ sym same) (it.2 f mail.0 (starts_in f mail.1 of_user low));
     }
 
-    never_behind : (f : Filed) → (comes_before mark f.folder ≡ true → ⊥) → comes_before mark f.folder ≡ false
+    never_behind : (f : CopyKey) → (comes_before mark f.folder ≡ true → ⊥) → comes_before mark f.folder ≡ false
     never_behind f never = go (comes_before mark f.folder) refl
       where
         go : (b : Bool) → comes_before mark f.folder ≡ b → b ≡ false
@@ -144,7 +144,7 @@ module _ (tables : Tables) where
     pub none_behind : IsNextFiled (start_in user mark) None tables → IsLastFolder tables user mark
     none_behind none f mail same = never_behind f (λ low. none f mail.0 (starts_in f mail.1 same low))
 
-    pub other_behind : (next : Filed) → ¬ (next.user ≡ user) → IsNextFiled (start_in user mark) (Some next) tables → IsLastFolder tables user mark
+    pub other_behind : (next : CopyKey) → ¬ (next.user ≡ user) → IsNextFiled (start_in user mark) (Some next) tables → IsLastFolder tables user mark
     other_behind next other it f mail same = never_behind f (λ low.
         let later : bytes_cmp user next.user ≡ Less = elim (started_in next it.1) [ inl later ↦ later | inr there ↦ absurd (other (sym there.0)) ] in
         it.2 f mail.0 (starts_in f mail.1 same low) (first_decides f.user next.user _ (subst (λ t. bytes_cmp t next.user ≡ Less) (sym same) later)))

@@ -1,29 +1,29 @@
 -- A refused event changes no account.
 use Rattle.std.proofs.Common.{◌≡◌, ◌&&◌, not, ℕ, Bool, true, false, List, [], ◌∷◌, Option, Some, None, MatchBool, refl, sym, ◌∙◌, ap, subst, inl, inr}
 use Rattle.std.specs.FinMap.{get}
-use Rattle.accountfiles.specs.declared.head.Head.{Head}
-use Rattle.accountfiles.specs.declared.part.Part.{Part}
-use Rattle.mailstore.specs.Account.{Account, Accounts, open_of, open_one, known_one, is_closed, has_mail, messages_in, row_with}
-use Rattle.mailstore.specs.declared.queue.Outgoing.{Outgoing}
-use Rattle.mailstore.specs.declared.refusal.Refusal.{Refusal}
-use Rattle.mailstore.specs.declared.refusal.Refusal.TheVariants.{UserHasMail, UserIsOpen}
-use Rattle.sieveexec.specs.declared.envelope.Envelope.{Envelope}
-use Rattle.sessions.specs.Clients.{Client}
-use Rattle.sessions.specs.Scripts.{Where}
-use Rattle.mailengine.specs.AccountEvents.{DeliversIn, DeliversUnder, AddsOver, AddsUnder, ImportsOver, ImportsUnder, TakesIn, TakesRow, TakesMailIn, TakesFirst}
-use Rattle.mailengine.specs.Hosts.{IsMade}
-use Rattle.mailengine.specs.Limits.{limit_refusal}
-use Rattle.mailengine.specs.Upkeep.{Alters, Tells, InAccount, Stores, Keeps, Keeping, put_instead}
-use Rattle.mailengine.specs.World.{World, InSession, Opens, Steps, Ignores, Becomes, Happens, Next}
-use Rattle.mailengine.specs.declared.answer.Answer.{Answer}
-use Rattle.mailengine.specs.declared.answer.Answer.TheVariants.{Delivered, Added, Imported, Taken, MailTaken, Changed, Stored, Closed, Opened, Removed, NoticesTaken, Out, Refused}
-use Rattle.mailengine.specs.declared.event.Event.{Event}
-use Rattle.mailengine.specs.declared.event.Event.TheVariants.{Open, Give, Step, GiveUp, Close, Deliver, AddUser, Import, TakeOut, TakeMail, Keep}
-use Rattle.mailengine.specs.declared.upkeep.Upkeep.{Upkeep}
-use Rattle.mailengine.specs.Terms.{Terms, terms}
-use Rattle.mailengine.specs.declared.upkeep.Upkeep.TheVariants.{SetPassword, SetAddress, StoreScript, CloseAccount, OpenAccount, RemoveAccount, TakeNotices}
+use Rattle.store_text.specs.declared.head.AccountHead.{AccountHead}
+use Rattle.store_text.specs.declared.part.Part.{Part}
+use Rattle.store_accounts.specs.Account.{Account, Accounts, open_account_of, open_one, known_one, is_closed_account, has_mail, messages_in, row_with}
+use Rattle.store_accounts.specs.declared.queue.QueuedMessage.{QueuedMessage}
+use Rattle.store_accounts.specs.declared.refusal.Refusal.{Refusal}
+use Rattle.store_accounts.specs.declared.refusal.Refusal.TheVariants.{UserHasMail, UserIsOpen}
+use Rattle.sieve_exec.specs.declared.envelope.Envelope.{Envelope}
+use Rattle.managesieve_sessions.specs.Clients.{Client}
+use Rattle.managesieve_sessions.specs.Scripts.{IfElse}
+use Rattle.store_engine.specs.AccountEvents.{DeliversIn, DeliversUnder, AddsOver, AddsUnder, ImportsOver, ImportsUnder, TakesFromQueue, TakesQueueRow, TakesMailIn, TakesFirst}
+use Rattle.store_engine.specs.Hosts.{IsMade}
+use Rattle.store_engine.specs.Limits.{limit_refusal}
+use Rattle.store_engine.specs.Upkeep.{Alters, OnlyAnswers, InAccount, Stores, DoesUpkeep, Keeping, put_instead}
+use Rattle.store_engine.specs.World.{World, InSession, OpensSession, StepsSession, Ignores, WorldBecomes, EventHappens, Next}
+use Rattle.store_engine.specs.declared.answer.Answer.{Answer}
+use Rattle.store_engine.specs.declared.answer.Answer.TheVariants.{Delivered, Added, Imported, Taken, MailTaken, Changed, Stored, Closed, Opened, Removed, NoticesTaken, Out, Refused}
+use Rattle.store_engine.specs.declared.event.Event.{Event}
+use Rattle.store_engine.specs.declared.event.Event.TheVariants.{Open, Give, Step, GiveUp, Close, Deliver, AddUser, Import, TakeOut, TakeMail, Keep}
+use Rattle.store_engine.specs.declared.upkeep.Upkeep.{Upkeep}
+use Rattle.store_engine.specs.Terms.{Terms, terms}
+use Rattle.store_engine.specs.declared.upkeep.Upkeep.TheVariants.{SetPassword, SetAddress, StoreScript, CloseAccount, OpenAccount, RemoveAccount, TakeNotices}
 
-either : {P A B C : Type 0} → (A → C) → (B → C) → Where P A B → C
+either : {P A B C : Type 0} → (A → C) → (B → C) → IfElse P A B → C
 either a b (inl it) = a it.1
 either a b (inr it) = b it.1
 
@@ -46,14 +46,14 @@ module _ (refusal : Refusal) (answer : Answer) (is : answer ≡ Refused refusal)
   in_account (Some a) row change rows it = rows a it
 
   module _ (change : Option Account) where
-    keeps_none : (u : Upkeep) (o : Option Account) → Keeps u o answer change → change ≡ None
+    keeps_none : (u : Upkeep) (o : Option Account) → DoesUpkeep u o answer change → change ≡ None
     keeps_none (SetPassword salt password) o = either (in_account (open_one o) _ change (λ a. alters Changed _ change tt)) (λ it. it.stays)
     keeps_none (SetAddress address) o = either (in_account (open_one o) _ change (λ a. alters Changed _ change tt)) (λ it. it.stays)
     keeps_none (StoreScript name text activate) o =
         either (either (in_account (open_one o) (Stores name text activate) change (λ a. either (either (alters Stored _ change tt) (λ it. it.2.stays)) (λ it. it.stays))) (λ it. it.stays)) (λ it. it.stays)
     keeps_none CloseAccount o = in_account (open_one o) _ change (λ a. alters Closed _ change tt)
-    keeps_none OpenAccount o = in_account (known_one o) _ change (λ a. by_bool (is_closed a) (alters Opened _ change tt) (λ (it : Tells (Refused UserIsOpen) answer change). it.stays))
-    keeps_none (RemoveAccount mail) o = in_account (known_one o) _ change (λ a. by_bool (not mail && has_mail a) (λ (it : Tells (Refused UserHasMail) answer change). it.stays) (alters Removed _ change tt))
+    keeps_none OpenAccount o = in_account (known_one o) _ change (λ a. by_bool (is_closed_account a) (alters Opened _ change tt) (λ (it : OnlyAnswers (Refused UserIsOpen) answer change). it.stays))
+    keeps_none (RemoveAccount mail) o = in_account (known_one o) _ change (λ a. by_bool (not mail && has_mail a) (λ (it : OnlyAnswers (Refused UserHasMail) answer change). it.stays) (alters Removed _ change tt))
     keeps_none (TakeNotices until) o = in_account (open_one o) _ change (λ a. alters NoticesTaken _ change tt)
 
   keeping : (accounts later : Accounts) (user : List ℕ) (u : Upkeep) → Keeping accounts user u answer later → later ≡ accounts
@@ -68,27 +68,27 @@ module _ (refusal : Refusal) (answer : Answer) (is : answer ≡ Refused refusal)
 
     delivers : (user : List ℕ) (terms : Terms) (envelope : Envelope) (message : List ℕ) (limit : Option Refusal) → DeliversUnder limit accounts user terms envelope message answer later → later ≡ accounts
     delivers user terms envelope message (Some refusal) it = it.stays
-    delivers user terms envelope message None it = delivers_in user terms envelope message (open_of accounts user) it
+    delivers user terms envelope message None it = delivers_in user terms envelope message (open_account_of accounts user) it
 
     adds_over : (name address salt password : List ℕ) (a : Account) → AddsOver accounts name address salt password a answer later → later ≡ accounts
-    adds_over name address salt password a = by_bool (is_closed a) (by_bool (has_mail a) (λ it. it.stays) (λ it. never Added tt it.added)) (λ it. it.stays)
+    adds_over name address salt password a = by_bool (is_closed_account a) (by_bool (has_mail a) (λ it. it.stays) (λ it. never Added tt it.added)) (λ it. it.stays)
 
     adds_under : (name address salt password : List ℕ) (o : Option Account) → AddsUnder accounts name address salt password o answer later → later ≡ accounts
     adds_under name address salt password None it = never Added tt it.added
     adds_under name address salt password (Some a) it = adds_over name address salt password a it
 
-    imports_over : (head : Head) (parts : List Part) (a : Account) → ImportsOver accounts head parts a answer later → later ≡ accounts
-    imports_over head parts a = by_bool (is_closed a) (by_bool (has_mail a) (λ it. it.stays) (λ it. never Imported tt it.imported)) (λ it. it.stays)
+    imports_over : (head : AccountHead) (parts : List Part) (a : Account) → ImportsOver accounts head parts a answer later → later ≡ accounts
+    imports_over head parts a = by_bool (is_closed_account a) (by_bool (has_mail a) (λ it. it.stays) (λ it. never Imported tt it.imported)) (λ it. it.stays)
 
-    imports_under : (head : Head) (parts : List Part) (o : Option Account) → ImportsUnder accounts head parts o answer later → later ≡ accounts
+    imports_under : (head : AccountHead) (parts : List Part) (o : Option Account) → ImportsUnder accounts head parts o answer later → later ≡ accounts
     imports_under head parts None it = never Imported tt it.imported
     imports_under head parts (Some a) it = imports_over head parts a it
 
-    takes_row : (user : List ℕ) (o : Option Outgoing) → TakesRow accounts user o answer later → later ≡ accounts
+    takes_row : (user : List ℕ) (o : Option QueuedMessage) → TakesQueueRow accounts user o answer later → later ≡ accounts
     takes_row user None it = it.stays
     takes_row user (Some row) it = never (Taken row) tt it.taken
 
-    takes_in : (user : List ℕ) (id : ℕ) (o : Option Account) → TakesIn accounts user id o answer later → later ≡ accounts
+    takes_in : (user : List ℕ) (id : ℕ) (o : Option Account) → TakesFromQueue accounts user id o answer later → later ≡ accounts
     takes_in user id None it = it.stays
     takes_in user id (Some a) it = takes_row user (row_with id a.queue) it
 
@@ -103,13 +103,13 @@ module _ (refusal : Refusal) (answer : Answer) (is : answer ≡ Refused refusal)
   -- ---- events of sessions
 
   module _ (w next : World) where
-    becomes : (said : Answer) (v : World) → v.accounts ≡ w.accounts → Becomes said v answer next → next.accounts ≡ w.accounts
+    becomes : (said : Answer) (v : World) → v.accounts ≡ w.accounts → WorldBecomes said v answer next → next.accounts ≡ w.accounts
     becomes said v same it = ap (λ (x : World). x.accounts) it.changed ∙ same
 
     ignores : Ignores w answer next → next.accounts ≡ w.accounts
     ignores it = ap (λ (x : World). x.accounts) it.stays
 
-    opens : (s : ℕ) (o : Option Client) → Opens w s o answer next → next.accounts ≡ w.accounts
+    opens : (s : ℕ) (o : Option Client) → OpensSession w s o answer next → next.accounts ≡ w.accounts
     opens s None it = becomes _ _ refl it
     opens s (Some c) it = ignores it
 
@@ -117,23 +117,23 @@ module _ (refusal : Refusal) (answer : Answer) (is : answer ≡ Refused refusal)
     in_session None row rows it = ignores it
     in_session (Some c) row rows it = rows c it
 
-    steps : (s : ℕ) (c : Client) → Steps w s c answer next → next.accounts ≡ w.accounts
+    steps : (s : ℕ) (c : Client) → StepsSession w s c answer next → next.accounts ≡ w.accounts
     steps s c it = never (Out it.goes_on it.octets) tt it.says
 
     with_later : (later : Accounts) → later ≡ w.accounts → next ≡ record { accounts = later; sessions = w.sessions } → next.accounts ≡ w.accounts
     with_later later same is_next = ap (λ (x : World). x.accounts) is_next ∙ same
 
-    happens : (event : Event) → Happens w event answer next → next.accounts ≡ w.accounts
+    happens : (event : Event) → EventHappens w event answer next → next.accounts ≡ w.accounts
     happens (Open s) it = opens s (get w.sessions s) it
     happens (Give s piece) it = in_session (get w.sessions s) _ (λ c. becomes _ _ refl) it
-    happens (Step s) it = in_session (get w.sessions s) (Steps w s) (λ c. steps s c) it
+    happens (Step s) it = in_session (get w.sessions s) (StepsSession w s) (λ c. steps s c) it
     happens (GiveUp s) it = in_session (get w.sessions s) _ (λ c. becomes _ _ refl) it
     happens (Close s) it = in_session (get w.sessions s) _ (λ c. becomes _ _ refl) it
     happens (Deliver user envelope message when default) it = with_later it.0 (delivers w.accounts it.0 user (terms when default) envelope message (limit_refusal envelope message when.moment) it.1) it.2
     happens (AddUser name address salt password) it = with_later it.0 (either (adds_under w.accounts it.0 name address salt password (get w.accounts name)) (λ refused. refused.stays) it.1) it.2
     happens (Import file) it = with_later it.0 (either (imports_under w.accounts it.0 file.head file.parts (get w.accounts file.head.owner.name)) (λ refused. refused.stays) it.1) it.2
-    happens (TakeOut user id) it = with_later it.0 (takes_in w.accounts it.0 user id (open_of w.accounts user) it.1) it.2
-    happens (TakeMail user folder) it = with_later it.0 (takes_mail w.accounts it.0 user folder (open_of w.accounts user) it.1) it.2
+    happens (TakeOut user id) it = with_later it.0 (takes_in w.accounts it.0 user id (open_account_of w.accounts user) it.1) it.2
+    happens (TakeMail user folder) it = with_later it.0 (takes_mail w.accounts it.0 user folder (open_account_of w.accounts user) it.1) it.2
     happens (Keep user upkeep) it = with_later it.0 (keeping w.accounts it.0 user upkeep it.1) it.2
 
 -- an event that is refused changes no account

@@ -2,24 +2,24 @@
 use Rattle.std.proofs.Common.{◌≡◌, ℕ, Bool, true, false, List, Option, Some, None, option_map, Result, Ok, OnOk, IsTrue, refl, sym, ◌∙◌, subst, inl, inr, true≢false, if◌then◌else◌}
 use Rattle.std.specs.Cmp.Lexicographic.{bytes_decides}
 use Rattle.sqlite.specs.State.{State, HasCleanDisk}
-use Rattle.mailtables.specs.Rows.{Tables, HoldsTables}
-use Rattle.mailtables.specs.Schema.{mail_schema}
-use Rattle.mailstore.specs.Next.{IsNextFiled}
-use Rattle.mailstore.specs.Promises.{Keeps}
-use Rattle.mailstore.specs.declared.next.Filed.{Filed}
-use Rattle.mailmoves.specs.Order.{FollowsFolder, IsNextFolder, is_user, mark_of, start_in, start_of}
-use Rattle.mailmoves.specs.Rests.{rests_at}
-use Rattle.mailmoves.specs.Turns.{IsEnd, IsOf, IsStayOf, IsTurnAt, IsTurnOf, IsUsersFirst, Passes, TurnEnds, TurnsTo, chosen}
-use Rattle.mailmoves.specs.declared.moving.Moving.{Moving}
-use Rattle.mailmoves.specs.declared.moving.Moving.TheVariants as moving
-use Rattle.mailmoves.specs.declared.order.Order.{Order}
-use Rattle.mailmoves.specs.declared.rest.Rest.{Rest}
-use Rattle.mailmoves.proofs.OrderLemmas.{first_folder, folder_behind, next_user, none_behind, other_behind, round_over}
+use Rattle.store_tables.specs.Rows.{Tables, HoldsTables}
+use Rattle.store_tables.specs.Schema.{mail_schema}
+use Rattle.store_accounts.specs.Next.{IsNextFiled}
+use Rattle.store_accounts.specs.Promises.{KeepsTables}
+use Rattle.store_accounts.specs.declared.next.CopyKey.{CopyKey}
+use Rattle.maildir_moves.specs.Order.{FollowsFolder, IsNextFolder, is_same_user, turn_mark_of, start_in, start_of}
+use Rattle.maildir_moves.specs.Rests.{rests_at}
+use Rattle.maildir_moves.specs.Turns.{IsRoundEnd, IsOf, IsStayOf, IsTurnAt, IsTurnOf, IsUsersFirst, PassesFolder, TurnEnds, TurnsTo, chosen}
+use Rattle.maildir_moves.specs.declared.moving.Moving.{Moving}
+use Rattle.maildir_moves.specs.declared.moving.Moving.TheVariants as moving
+use Rattle.maildir_moves.specs.declared.order.MoveOrder.{MoveOrder}
+use Rattle.maildir_moves.specs.declared.rest.Rest.{Rest}
+use Rattle.maildir_moves.proofs.OrderLemmas.{first_folder, folder_behind, next_user, none_behind, other_behind, round_over}
 
 -- ---- the folder
 
-module _ (tables : Tables) (first : Filed) (mine : IsUsersFirst tables first) where
-  abbrev NextAt : Option (List ℕ) → Filed → Type 0
+module _ (tables : Tables) (first : CopyKey) (mine : IsUsersFirst tables first) where
+  abbrev NextAt : Option (List ℕ) → CopyKey → Type 0
   NextAt mark filed = (filed.user ≡ first.user) × IsNextFolder tables first.user mark filed.folder
 
   at_first : (mark : Option (List ℕ)) → FollowsFolder tables first.user mark first.folder → NextAt mark first
@@ -28,11 +28,11 @@ module _ (tables : Tables) (first : Filed) (mine : IsUsersFirst tables first) wh
   pub first_next : (mark : Option (List ℕ)) → mark ≡ None → NextAt mark first
   first_next mark none = at_first mark (subst (λ m. FollowsFolder tables first.user m first.folder) (sym none) mine.1)
 
-  behind_next : (mark : List ℕ) (next : Option Filed) → IsNextFiled (start_in first.user mark) next tables → NextAt (Some mark) (chosen next first)
+  behind_next : (mark : List ℕ) (next : Option CopyKey) → IsNextFiled (start_in first.user mark) next tables → NextAt (Some mark) (chosen next first)
   behind_next mark None none = at_first (Some mark) (inr (none_behind tables first.user mark none, mine.1))
-  behind_next mark (Some next) it = by (is_user first.user next.user) refl
+  behind_next mark (Some next) it = by (is_same_user first.user next.user) refl
     where
-      by : (b : Bool) → is_user first.user next.user ≡ b → NextAt (Some mark) (if b then next else first)
+      by : (b : Bool) → is_same_user first.user next.user ≡ b → NextAt (Some mark) (if b then next else first)
       by true same =
           let own = (bytes_decides next.user first.user).0 same in
           (own, record { mail = next; there = it.0; of_user = own; in_folder = refl; follows = inl (folder_behind tables first.user mark next own it) })
@@ -40,28 +40,28 @@ module _ (tables : Tables) (first : Filed) (mine : IsUsersFirst tables first) wh
           at_first (Some mark) (inr (other_behind tables first.user mark next (λ own. true≢false (sym ((bytes_decides next.user first.user).1 own) ∙ other)) it, mine.1))
 
   -- where the store was asked for what is behind the mark
-  pub next_behind : (mark : Option (List ℕ)) (start : Filed) (next : Option Filed) → option_map (start_in first.user) mark ≡ Some start → IsNextFiled start next tables → NextAt mark (chosen next first)
+  pub next_behind : (mark : Option (List ℕ)) (start : CopyKey) (next : Option CopyKey) → option_map (start_in first.user) mark ≡ Some start → IsNextFiled start next tables → NextAt mark (chosen next first)
   next_behind None start next is it = absurd (let no : ⊥ = cc in no)
   next_behind (Some mark) start next is it = behind_next mark next (let same : start_in first.user mark ≡ start = cc in subst (λ s. IsNextFiled s next tables) (sym same) it)
 
 -- ---- what became of its message
 
-module _ (now : ℕ) (rests : List Rest) (before : Order) (user folder : List ℕ) where
-  pub tried : (filed : Filed) (m : Moving) (after : Order) → filed.user ≡ user → filed.folder ≡ folder → rests_at now user folder rests ≡ false → IsOf filed m → TurnEnds before user folder after → IsTurnAt now rests before user folder m after
+module _ (now : ℕ) (rests : List Rest) (before : MoveOrder) (user folder : List ℕ) where
+  pub tried : (filed : CopyKey) (m : Moving) (after : MoveOrder) → filed.user ≡ user → filed.folder ≡ folder → rests_at now user folder rests ≡ false → IsOf filed m → TurnEnds before user folder after → IsTurnAt now rests before user folder m after
   tried filed (moving.Kept mail answer) after same_user same_folder awake of ends = (of.0 ∙ same_user, of.1 ∙ same_folder, record { awake = awake; ends = ends })
   tried filed (moving.Stays stay) after same_user same_folder awake of ends = (of.0 ∙ same_user, of.1 ∙ same_folder, record { awake = awake; ends = ends })
   tried filed moving.Passed after same_user same_folder awake of ends = inr ends
   tried filed moving.Nothing after same_user same_folder awake of ends = absurd of
   tried filed (moving.Failed refusal) after same_user same_folder awake of ends = absurd of
 
-  pub passed : (m : Moving) (after : Order) → rests_at now user folder rests ≡ true → Passes rests before user folder m after → IsTurnAt now rests before user folder m after
+  pub passed : (m : Moving) (after : MoveOrder) → rests_at now user folder rests ≡ true → PassesFolder rests before user folder m after → IsTurnAt now rests before user folder m after
   passed moving.Passed after rest it = elim it [ inl over ↦ inl (rest, over) | inr ends ↦ inr ends ]
   passed (moving.Failed refusal) after rest it = inl it
   passed (moving.Kept mail answer) after rest it = absurd it
   passed (moving.Stays stay) after rest it = absurd it
   passed moving.Nothing after rest it = absurd it
 
-pub stay_is : (filed : Filed) (m : Moving) → IsStayOf filed m → IsOf filed m
+pub stay_is : (filed : CopyKey) (m : Moving) → IsStayOf filed m → IsOf filed m
 stay_is filed (moving.Stays stay) it = it
 stay_is filed (moving.Kept mail answer) it = absurd it
 stay_is filed moving.Passed it = absurd it
@@ -70,9 +70,9 @@ stay_is filed (moving.Failed refusal) it = absurd it
 
 -- ---- a user's turn, and a call
 
-module _ (now : ℕ) (tables : Tables) (first : Filed) (rests : List Rest) (before : Order) where
-  pub turn_of : (filed : Filed) (m : Moving) (after : Order)
-      → (IsUsersFirst tables first → (filed.user ≡ first.user) × IsNextFolder tables first.user (mark_of first.user before.marks.items) filed.folder)
+module _ (now : ℕ) (tables : Tables) (first : CopyKey) (rests : List Rest) (before : MoveOrder) where
+  pub turn_of : (filed : CopyKey) (m : Moving) (after : MoveOrder)
+      → (IsUsersFirst tables first → (filed.user ≡ first.user) × IsNextFolder tables first.user (turn_mark_of first.user before.marks.items) filed.folder)
       → IsTurnAt now rests before filed.user filed.folder m after → IsTurnOf now tables first rests before m after
   turn_of filed (moving.Failed refusal) after next turn = inr (λ mine. (filed.folder, (next mine).1, subst (λ u. IsTurnAt now rests before u filed.folder (moving.Failed refusal) after) (next mine).0 turn))
   turn_of filed (moving.Kept mail answer) after next turn = λ mine. (filed.folder, (next mine).1, subst (λ u. IsTurnAt now rests before u filed.folder (moving.Kept mail answer) after) (next mine).0 turn)
@@ -84,7 +84,7 @@ module _ (now : ℕ) (tables : Tables) (first : Filed) (rests : List Rest) (befo
     mine : IsUsersFirst tables first
     mine = (next.0, first_folder tables before.last first next)
 
-    pub turn_is : (m : Moving) (after : Order) → IsTurnOf now tables first rests before m after → TurnsTo now tables rests before m after
+    pub turn_is : (m : Moving) (after : MoveOrder) → IsTurnOf now tables first rests before m after → TurnsTo now tables rests before m after
     turn_is (moving.Failed refusal) after turn = elim turn [
       | inl stays ↦ inl stays
       | inr at ↦ (let it = at mine in inr (record { user = first.user; folder = it.0; next_user = next_user tables before.last first next; next_folder = it.1; turn = it.2 }))
@@ -94,7 +94,7 @@ module _ (now : ℕ) (tables : Tables) (first : Filed) (rests : List Rest) (befo
     turn_is moving.Passed after turn = let it = turn mine in inl (record { user = first.user; folder = it.0; next_user = next_user tables before.last first next; next_folder = it.1; turn = it.2 })
     turn_is moving.Nothing after turn = absurd (turn mine).2
 
-pub round_ends : (now : ℕ) (tables : Tables) (rests : List Rest) (before : Order) (m : Moving) (after : Order) → IsNextFiled (start_of before.last) None tables → IsEnd before m after → TurnsTo now tables rests before m after
+pub round_ends : (now : ℕ) (tables : Tables) (rests : List Rest) (before : MoveOrder) (m : Moving) (after : MoveOrder) → IsNextFiled (start_of before.last) None tables → IsRoundEnd before m after → TurnsTo now tables rests before m after
 round_ends now tables rests before moving.Nothing after none end = inr (round_over tables before.last none, end)
 round_ends now tables rests before moving.Passed after none end = inr (round_over tables before.last none, end)
 round_ends now tables rests before (moving.Failed refusal) after none end = absurd end
@@ -107,7 +107,7 @@ no_mark user None none = refl
 no_mark user (Some mark) none = absurd (let no : ⊥ = cc in no)
 
 -- what the store had before a read it has behind it
-pub held_behind : {X E : Type 0} (a b : State) (r : Result X E) (x : X) → r ≡ Ok x → Keeps a b r → HasCleanDisk b → (tables : Tables) → HoldsTables mail_schema a.now tables → HoldsTables mail_schema b.now tables
+pub held_behind : {X E : Type 0} (a b : State) (r : Result X E) (x : X) → r ≡ Ok x → KeepsTables a b r → HasCleanDisk b → (tables : Tables) → HoldsTables mail_schema a.now tables → HoldsTables mail_schema b.now tables
 held_behind a b r x was k clean tables held =
     let live : IsTrue b.is_open = subst (λ q. OnOk q (IsTrue b.is_open)) was (k.live clean) in
     subst (λ db. HoldsTables mail_schema db tables) (sym ((k.same clean (tables, held)).now_is live)) held

@@ -2,11 +2,11 @@
 use Rattle.std.proofs.Common.{◌≡◌, ◌⊎◌, ℕ, Bool, true, false, List, [], ◌∷◌, Option, Some, None, refl, sym, ap, ◌∙◌, subst, inl, inr, Ordering, Less, Equal, Greater, is_lt, true≢false}
 use Rattle.std.specs.Ordering.{ordering_reverse}
 use Rattle.std.proofs.lemmas.Cmp.{nat_list_cmp_total, tied_itself}
-use Rattle.mailstore.specs.Account.{bytes_cmp}
-use Rattle.mailstore.proofs.AccountLemmas.{bytes_antisymmetric}
-use Rattle.mailmoves.specs.Order.{comes_before, is_behind}
-use Rattle.mailmoves.specs.Waits.{HasNone, OneEach, Waits}
-use Rattle.mailmoves.proofs.OrderLemmas.{before_is}
+use Rattle.store_accounts.specs.Account.{bytes_cmp}
+use Rattle.store_accounts.proofs.AccountLemmas.{bytes_antisymmetric}
+use Rattle.maildir_moves.specs.Order.{comes_before, is_behind}
+use Rattle.maildir_moves.specs.Waits.{HasNoTurn, OneEach, WaitsForTurn}
+use Rattle.maildir_moves.proofs.OrderLemmas.{before_is}
 
 -- ---- texts in their order
 
@@ -39,7 +39,7 @@ module _ (P Q : List ℕ → Type 0) (weaker : (user : List ℕ) → P user → 
   all_weaker (Some user ∷ turns) all = (weaker user all.0, all_weaker turns all.1)
   all_weaker (None ∷ turns) all = all_weaker turns all
 
-has_none : (user : List ℕ) (turns : List (Option (List ℕ))) → All (λ other. ¬ (other ≡ user)) turns → HasNone user turns
+has_none : (user : List ℕ) (turns : List (Option (List ℕ))) → All (λ other. ¬ (other ≡ user)) turns → HasNoTurn user turns
 has_none user [] all = tt
 has_none user (Some other ∷ turns) all = ((λ same. all.0 (let it : other ≡ user = cc in it)), has_none user turns all.1)
 has_none user (None ∷ turns) all = ((λ same. let never : ⊥ = cc in never), has_none user turns all)
@@ -53,14 +53,14 @@ module _ (user : List ℕ) where
   between_then None first other low it = (refl, it.1)
   between_then (Some last) first other low it = (before_then last first other low it.0, it.1)
 
-  rising : (last : Option (List ℕ)) (turns : List (Option (List ℕ))) → is_behind last user ≡ true → Waits user last turns → All (Between last) turns × OneEach turns
+  rising : (last : Option (List ℕ)) (turns : List (Option (List ℕ))) → is_behind last user ≡ true → WaitsForTurn user last turns → All (Between last) turns × OneEach turns
   rising last [] low waits = (tt, tt)
   rising last (None ∷ turns) low (tables, mail, other, (later, ends, waits)) =
       absurd (true≢false (sym low ∙ ap (is_behind last) (sym mail.2) ∙ ends.0 mail.0 mail.1))
   rising last (Some first ∷ turns) low (tables, mail, other, (later, next, waits)) =
       let high : comes_before user first ≡ false = ap (λ u. comes_before u first) (sym mail.2) ∙ next.0.first mail.0 mail.1 (ap (is_behind last) mail.2 ∙ low) in
       let before : comes_before first user ≡ true = one_first user first high (λ same. other (ap Some same)) in
-      let rest = rising (Some first) turns before (subst (λ l. Waits user l turns) next.1 waits) in (
+      let rest = rising (Some first) turns before (subst (λ l. WaitsForTurn user l turns) next.1 waits) in (
         ((next.0.behind, before), all_weaker (Between (Some first)) (Between last) (λ u. between_then last first u next.0.behind) turns rest.0),
         (has_none first turns (all_weaker (Between (Some first)) (λ u. ¬ (u ≡ first)) (λ u it same. not_itself first u it.0 (sym same)) turns rest.0), rest.1),
       )
@@ -76,12 +76,12 @@ module _ (user : List ℕ) where
       go true is = absurd (true≢false (sym (before_then last first user low is) ∙ high))
       go false is = refl
 
-  falling : (last : List ℕ) (turns : List (Option (List ℕ))) → comes_before last user ≡ false → Waits user (Some last) turns → All (Aside last) turns × OneEach turns
+  falling : (last : List ℕ) (turns : List (Option (List ℕ))) → comes_before last user ≡ false → WaitsForTurn user (Some last) turns → All (Aside last) turns × OneEach turns
   falling last [] high waits = (tt, tt)
   falling last (None ∷ turns) high (tables, mail, other, (later, ends, waits)) =
-      let rest = rising None turns refl (subst (λ l. Waits user l turns) ends.1 waits) in (all_weaker (Between None) (Aside last) (λ u it. inr it.1) turns rest.0, rest.1)
+      let rest = rising None turns refl (subst (λ l. WaitsForTurn user l turns) ends.1 waits) in (all_weaker (Between None) (Aside last) (λ u it. inr it.1) turns rest.0, rest.1)
   falling last (Some first ∷ turns) high (tables, mail, other, (later, next, waits)) =
-      let rest = falling first turns (not_behind last first high next.0.behind) (subst (λ l. Waits user l turns) next.1 waits) in (
+      let rest = falling first turns (not_behind last first high next.0.behind) (subst (λ l. WaitsForTurn user l turns) next.1 waits) in (
         (
           inl next.0.behind,
           all_weaker (Aside first) (Aside last) (λ u it. elim it [ inl up ↦ inl (before_then last first u next.0.behind up) | inr down ↦ inr down ]) turns rest.0,
@@ -95,10 +95,10 @@ module _ (user : List ℕ) where
         ),
       )
 
-  go : (last : Option (List ℕ)) (turns : List (Option (List ℕ))) (b : Bool) → is_behind last user ≡ b → Waits user last turns → OneEach turns
+  go : (last : Option (List ℕ)) (turns : List (Option (List ℕ))) (b : Bool) → is_behind last user ≡ b → WaitsForTurn user last turns → OneEach turns
   go last turns true low waits = (rising last turns low waits).1
   go None turns false low waits = (rising None turns refl waits).1
   go (Some last) turns false low waits = (falling last turns low waits).1
 
-  pub one_each : (last : Option (List ℕ)) (turns : List (Option (List ℕ))) → Waits user last turns → OneEach turns
+  pub one_each : (last : Option (List ℕ)) (turns : List (Option (List ℕ))) → WaitsForTurn user last turns → OneEach turns
   one_each last turns waits = go last turns (is_behind last user) refl waits

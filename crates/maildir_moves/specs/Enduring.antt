@@ -2,13 +2,13 @@
 use Rattle.std.specs.Prelude.{◌≡◌, ◌⊎◌, IsTrue}
 use Rattle.sqlite_trees.specs.Tree.{Trees}
 use Rattle.sqlite.specs.State.{State}
-use Rattle.mailstore.specs.Account.{Accounts}
-use Rattle.mailstore.specs.Shows.{ShowsIn}
-use Rattle.sessions.specs.Acts.{HasAccounts}
-use Rattle.mailengine.specs.World.{World, Next}
-use Rattle.mailengine.specs.declared.answer.Answer.{Answer}
-use Rattle.mailengine.specs.declared.answer.Answer.TheVariants.{Refused}
-use Rattle.mailengine.specs.declared.event.Event.{Event}
+use Rattle.store_accounts.specs.Account.{Accounts}
+use Rattle.store_accounts.specs.Shows.{ShowsIn}
+use Rattle.managesieve_sessions.specs.Acts.{HasAccounts}
+use Rattle.store_engine.specs.World.{World, Next}
+use Rattle.store_engine.specs.declared.answer.Answer.{Answer}
+use Rattle.store_engine.specs.declared.answer.Answer.TheVariants.{Refused}
+use Rattle.store_engine.specs.declared.event.Event.{Event}
 
 -- the trees show the accounts that the event makes of a world, with some answer: of a `Step`, by the first item of that session in it
 pub record ShowsMade (event : Event) (met : World) (trees : Trees) : Type 0 where

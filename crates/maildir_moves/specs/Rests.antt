@@ -2,18 +2,18 @@
 use Rattle.std.specs.Prelude.{ℕ, ◌*◌, ◌&&◌, nat_eq, nat_lt, Bool, true, List, filter, length, Option, Some, None, if◌then◌else◌}
 use Rattle.std.specs.List.{list_any}
 use Rattle.std.specs.Cmp.Lexicographic.{pointwise}
-use Rattle.mailmoves.specs.declared.rest.Rest.{Rest}
+use Rattle.maildir_moves.specs.declared.rest.Rest.{Rest}
 
 -- that one, or all of the user's
 abbrev pub is_folder : List ℕ → Option (List ℕ) → Bool
 is_folder folder None = true
 is_folder folder (Some other) = pointwise nat_eq other folder
 
-abbrev pub is_of : List ℕ → List ℕ → Rest → Bool
-is_of user folder rest = pointwise nat_eq rest.user user && is_folder folder rest.folder
+abbrev pub is_rest_of : List ℕ → List ℕ → Rest → Bool
+is_rest_of user folder rest = pointwise nat_eq rest.user user && is_folder folder rest.folder
 
 abbrev pub lasts_by : ℕ → List ℕ → List ℕ → Rest → Bool
-lasts_by now user folder rest = nat_lt now rest.until && is_of user folder rest
+lasts_by now user folder rest = nat_lt now rest.until && is_rest_of user folder rest
 
 -- whether a folder rests at a moment
 abbrev pub rests_at : ℕ → List ℕ → List ℕ → List Rest → Bool

@@ -1,89 +1,89 @@
 -- Whose message a call moves, or tries to move.
 use Rattle.std.specs.Prelude.{◌≡◌, ◌⊎◌, ◌+◌, ◌<◌, ℕ, true, false, not, List, filter, Option, Some, None, if◌then◌else◌}
 use Rattle.sqlite.specs.State.{State, HasCleanDisk}
-use Rattle.mailtables.specs.Rows.{Tables}
-use Rattle.mailstore.specs.Next.{IsFiled}
-use Rattle.mailstore.specs.Promises.{OverTables}
-use Rattle.mailstore.specs.declared.next.Filed.{Filed}
-use Rattle.mailmoves.specs.Order.{IsFirstFolder, IsNextFolder, IsNextUser, IsRoundOver, is_behind, is_user, mark_of, marked}
-use Rattle.mailmoves.specs.Rests.{rests_at, rests_of}
-use Rattle.mailmoves.specs.declared.moving.Moving.{Moving}
-use Rattle.mailmoves.specs.declared.moving.Moving.TheVariants as moving
-use Rattle.mailmoves.specs.declared.order.Order.{Order}
-use Rattle.mailmoves.specs.declared.rest.Rest.{Rest}
-use Rattle.mailmoves.specs.declared.route.Route.{Route}
+use Rattle.store_tables.specs.Rows.{Tables}
+use Rattle.store_accounts.specs.Next.{IsFiled}
+use Rattle.store_accounts.specs.Promises.{OverTables}
+use Rattle.store_accounts.specs.declared.next.CopyKey.{CopyKey}
+use Rattle.maildir_moves.specs.Order.{IsFirstFolder, IsNextFolder, IsNextTurnUser, IsRoundOver, is_behind, is_same_user, turn_mark_of, marked}
+use Rattle.maildir_moves.specs.Rests.{rests_at, rests_of}
+use Rattle.maildir_moves.specs.declared.moving.Moving.{Moving}
+use Rattle.maildir_moves.specs.declared.moving.Moving.TheVariants as moving
+use Rattle.maildir_moves.specs.declared.order.MoveOrder.{MoveOrder}
+use Rattle.maildir_moves.specs.declared.rest.Rest.{Rest}
+use Rattle.maildir_moves.specs.declared.route.Route.{Route}
 
 -- ---- one turn
 
 -- the user had their turn, at this folder
-pub record TurnEnds (before : Order) (user folder : List ℕ) (after : Order) : Type 0 where
+pub record TurnEnds (before : MoveOrder) (user folder : List ℕ) (after : MoveOrder) : Type 0 where
   pub last : after.last ≡ Some user
   pub passed : after.passed ≡ 0
   pub marks : after.marks.items ≡ marked before.last user folder before.marks.items
 
 -- nobody had a turn
-pub record Stays (before after : Order) : Type 0 where
+pub record OrderStays (before after : MoveOrder) : Type 0 where
   pub last : after.last ≡ before.last
   pub passed : after.passed ≡ before.passed
 
 -- it goes on, after this folder
-pub record TurnGoesOn (before : Order) (user folder : List ℕ) (after : Order) : Type 0 where
+pub record TurnGoesOn (before : MoveOrder) (user folder : List ℕ) (after : MoveOrder) : Type 0 where
   pub last : after.last ≡ before.last
   pub passed : after.passed ≡ before.passed + 1
   pub marks : after.marks.items ≡ marked before.last user folder before.marks.items
 
 -- a message of a folder was tried that doesn't rest
-pub record IsTried (now : ℕ) (rests : List Rest) (before : Order) (user folder : List ℕ) (after : Order) : Type 0 where
+pub record IsTried (now : ℕ) (rests : List Rest) (before : MoveOrder) (user folder : List ℕ) (after : MoveOrder) : Type 0 where
   pub awake : rests_at now user folder rests ≡ false
   pub ends : TurnEnds before user folder after
 
 -- a folder is passed over, and the user's next one has the turn: fewer were passed over in it than rests of the user are known
-pub record IsPassedOver (rests : List Rest) (before : Order) (user folder : List ℕ) (after : Order) : Type 0 where
+pub record IsPassedOver (rests : List Rest) (before : MoveOrder) (user folder : List ℕ) (after : MoveOrder) : Type 0 where
   pub few : before.passed < rests_of user rests
   pub goes_on : TurnGoesOn before user folder after
 
 -- or the turn ends without a message
-abbrev pub MayPass : List Rest → Order → List ℕ → List ℕ → Order → Type 0
+abbrev pub MayPass : List Rest → MoveOrder → List ℕ → List ℕ → MoveOrder → Type 0
 MayPass rests before user folder after = IsPassedOver rests before user folder after ⊎ TurnEnds before user folder after
 
 -- only a folder that rests is passed over
-abbrev pub IsPassed : ℕ → List Rest → Order → List ℕ → List ℕ → Order → Type 0
+abbrev pub IsPassed : ℕ → List Rest → MoveOrder → List ℕ → List ℕ → MoveOrder → Type 0
 IsPassed now rests before user folder after = ((rests_at now user folder rests ≡ true) × IsPassedOver rests before user folder after) ⊎ TurnEnds before user folder after
 
 -- what became of a folder's message
-abbrev pub IsTurnAt : ℕ → List Rest → Order → List ℕ → List ℕ → Moving → Order → Type 0
+abbrev pub IsTurnAt : ℕ → List Rest → MoveOrder → List ℕ → List ℕ → Moving → MoveOrder → Type 0
 IsTurnAt now rests before user folder (moving.Kept mail answer) after = (mail.user ≡ user) × (mail.folder ≡ folder) × IsTried now rests before user folder after
 IsTurnAt now rests before user folder (moving.Stays stay) after = (stay.user ≡ user) × (stay.folder ≡ folder) × IsTried now rests before user folder after
 IsTurnAt now rests before user folder moving.Passed after = IsPassed now rests before user folder after
 IsTurnAt now rests before user folder moving.Nothing after = ⊥
-IsTurnAt now rests before user folder (moving.Failed refusal) after = Stays before after ⊎ TurnEnds before user folder after
+IsTurnAt now rests before user folder (moving.Failed refusal) after = OrderStays before after ⊎ TurnEnds before user folder after
 
 -- ---- a call
 
 -- a user's turn: nobody with mail is between the user and the one before, and of the user's folders this one's is next
-pub record IsTurn (now : ℕ) (tables : Tables) (rests : List Rest) (before : Order) (result : Moving) (after : Order) : Type 0 where
+pub record IsUsersTurn (now : ℕ) (tables : Tables) (rests : List Rest) (before : MoveOrder) (result : Moving) (after : MoveOrder) : Type 0 where
   pub user : List ℕ
   pub folder : List ℕ
-  pub next_user : IsNextUser tables before.last user
-  pub next_folder : IsNextFolder tables user (mark_of user before.marks.items) folder
+  pub next_user : IsNextTurnUser tables before.last user
+  pub next_folder : IsNextFolder tables user (turn_mark_of user before.marks.items) folder
   pub turn : IsTurnAt now rests before user folder result after
 
 -- the next round begins, and of users after the last one, who have no mail, nothing is remembered
-pub record BeginsRound (before after : Order) : Type 0 where
+pub record BeginsRound (before after : MoveOrder) : Type 0 where
   pub last : after.last ≡ None
   pub passed : after.passed ≡ 0
   pub marks : after.marks.items ≡ filter (λ m. not (is_behind before.last m.user)) before.marks.items
 
 -- a round ends if nobody comes after the last one
-abbrev pub EndsRound : Tables → Order → Moving → Order → Type 0
+abbrev pub EndsRound : Tables → MoveOrder → Moving → MoveOrder → Type 0
 EndsRound tables before moving.Nothing after = IsRoundOver tables before.last × BeginsRound before after
 EndsRound tables before moving.Passed after = IsRoundOver tables before.last × BeginsRound before after
 EndsRound tables before other after = ⊥
 
 -- it was a turn, or the end of a round; if a call failed nobody had one, or the user whose it was
-abbrev pub TurnsTo : ℕ → Tables → List Rest → Order → Moving → Order → Type 0
-TurnsTo now tables rests before (moving.Failed refusal) after = Stays before after ⊎ IsTurn now tables rests before (moving.Failed refusal) after
-TurnsTo now tables rests before result after = IsTurn now tables rests before result after ⊎ EndsRound tables before result after
+abbrev pub TurnsTo : ℕ → Tables → List Rest → MoveOrder → Moving → MoveOrder → Type 0
+TurnsTo now tables rests before (moving.Failed refusal) after = OrderStays before after ⊎ IsUsersTurn now tables rests before (moving.Failed refusal) after
+TurnsTo now tables rests before result after = IsUsersTurn now tables rests before result after ⊎ EndsRound tables before result after
 
 -- over a store, whatever tables it had
 abbrev pub GoesByTurns : ℕ → Route → Moving → Route → State → State → Type 0
@@ -92,45 +92,45 @@ GoesByTurns now before result after old new = HasCleanDisk new → OverTables ol
 -- ---- the parts of a call
 
 -- it is told of this folder, if its message was tried
-abbrev pub IsOf : Filed → Moving → Type 0
+abbrev pub IsOf : CopyKey → Moving → Type 0
 IsOf filed (moving.Kept mail answer) = (mail.user ≡ filed.user) × (mail.folder ≡ filed.folder)
 IsOf filed (moving.Stays stay) = (stay.user ≡ filed.user) × (stay.folder ≡ filed.folder)
 IsOf filed moving.Passed = Unit {0}
 IsOf filed moving.Nothing = ⊥
 IsOf filed (moving.Failed refusal) = ⊥
 
-abbrev pub IsStayOf : Filed → Moving → Type 0
+abbrev pub IsStayOf : CopyKey → Moving → Type 0
 IsStayOf filed (moving.Stays stay) = (stay.user ≡ filed.user) × (stay.folder ≡ filed.folder)
 IsStayOf filed other = ⊥
 
-abbrev pub Passes : List Rest → Order → List ℕ → List ℕ → Moving → Order → Type 0
-Passes rests before user folder moving.Passed after = MayPass rests before user folder after
-Passes rests before user folder (moving.Failed refusal) after = Stays before after
-Passes rests before user folder other after = ⊥
+abbrev pub PassesFolder : List Rest → MoveOrder → List ℕ → List ℕ → Moving → MoveOrder → Type 0
+PassesFolder rests before user folder moving.Passed after = MayPass rests before user folder after
+PassesFolder rests before user folder (moving.Failed refusal) after = OrderStays before after
+PassesFolder rests before user folder other after = ⊥
 
-abbrev pub IsEnd : Order → Moving → Order → Type 0
-IsEnd before moving.Nothing after = BeginsRound before after
-IsEnd before moving.Passed after = BeginsRound before after
-IsEnd before other after = ⊥
+abbrev pub IsRoundEnd : MoveOrder → Moving → MoveOrder → Type 0
+IsRoundEnd before moving.Nothing after = BeginsRound before after
+IsRoundEnd before moving.Passed after = BeginsRound before after
+IsRoundEnd before other after = ⊥
 
 -- the message that comes next, if it is of the same user as the first one, and otherwise that
-abbrev pub chosen : Option Filed → Filed → Filed
+abbrev pub chosen : Option CopyKey → CopyKey → CopyKey
 chosen None first = first
-chosen (Some next) first = if is_user first.user next.user then next else first
+chosen (Some next) first = if is_same_user first.user next.user then next else first
 
 -- the first message of a user
-abbrev pub IsUsersFirst : Tables → Filed → Type 0
+abbrev pub IsUsersFirst : Tables → CopyKey → Type 0
 IsUsersFirst tables first = IsFiled tables first × IsFirstFolder tables first.user first.folder
 
 -- the turn of a user, whose first message this is, at a folder
-abbrev pub IsTurnIn : ℕ → Tables → Filed → List Rest → Order → Moving → Order → Type 0
+abbrev pub IsTurnIn : ℕ → Tables → CopyKey → List Rest → MoveOrder → Moving → MoveOrder → Type 0
 IsTurnIn now tables first rests before result after =
-    IsUsersFirst tables first → (folder : List ℕ) × IsNextFolder tables first.user (mark_of first.user before.marks.items) folder × IsTurnAt now rests before first.user folder result after
+    IsUsersFirst tables first → (folder : List ℕ) × IsNextFolder tables first.user (turn_mark_of first.user before.marks.items) folder × IsTurnAt now rests before first.user folder result after
 
 -- that, or it failed before there was one
-abbrev pub IsTurnOf : ℕ → Tables → Filed → List Rest → Order → Moving → Order → Type 0
-IsTurnOf now tables first rests before (moving.Failed refusal) after = Stays before after ⊎ IsTurnIn now tables first rests before (moving.Failed refusal) after
+abbrev pub IsTurnOf : ℕ → Tables → CopyKey → List Rest → MoveOrder → Moving → MoveOrder → Type 0
+IsTurnOf now tables first rests before (moving.Failed refusal) after = OrderStays before after ⊎ IsTurnIn now tables first rests before (moving.Failed refusal) after
 IsTurnOf now tables first rests before result after = IsTurnIn now tables first rests before result after
 
-abbrev pub HasTurn : ℕ → Filed → Route → Moving → Route → State → State → Type 0
+abbrev pub HasTurn : ℕ → CopyKey → Route → Moving → Route → State → State → Type 0
 HasTurn now first before result after old new = HasCleanDisk new → OverTables old (λ tables. IsTurnOf now tables first before.rests.entries.items before.order result after.order)

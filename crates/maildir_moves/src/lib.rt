@@ -9,8 +9,8 @@ mod place;
 mod rest;
 mod route;
 
-pub use moving::{Kept, Moving, Stay, Why, move_first};
-pub use order::{Mark, Order};
+pub use moving::{Kept, Moving, Stay, StayReason, move_first_mail};
+pub use order::{FolderMark, MoveOrder};
 pub use place::{home_of, place_in};
 pub use rest::{Rest, Rests};
 pub use route::{Route, move_next, span_behind};

@@ -1,12 +1,12 @@
 //! A message that moves on.
 ghost use Rattle.std.specs.Prelude.{◌≡◌, ◌++◌, ◌∷◌, [], IsTrue, IfOk};
 ghost use Rattle.sqlite.specs.Held.{state};
-ghost use Rattle.mailsinks.specs.Kept.{kept_mail};
-ghost use Rattle.mailmoves.specs.Moving.{MovesFirst, WasClean};
+ghost use Rattle.maildir_files.specs.Kept.{kept_mail};
+ghost use Rattle.maildir_moves.specs.Moving.{MovesFirstMail, WasClean};
 
-use mailengine::{Answer, first_message};
-use mailsinks::{KeptMail, MailSink, SinkError};
-use mailstore::{Refusal, Store};
+use store_engine::{Answer, first_message};
+use maildir_files::{KeptMail, MailSink, SinkError};
+use store_accounts::{Refusal, Store};
 use octets::Octets;
 use sqlite::Alter;
 
@@ -30,14 +30,14 @@ pub enum Moving {
 pub struct Stay {
     pub user: Octets,
     pub folder: Octets,
-    pub why: Why,
+    pub why: StayReason,
     /// Its folder hadn't failed since its last success.
     pub is_first: bool,
 }
 
 /// Why a message stays in its folder.
 #[derive(Clone, Copy, Debug, PartialEq, Eq)]
-pub enum Why {
+pub enum StayReason {
     /// No directory can have the user's name.
     Name,
     /// The folder has no message any more.
@@ -66,26 +66,26 @@ pub struct Kept {
 /// # Errors
 ///
 /// If it isn't kept for sure; it is still in the folder.
-pub fn move_first<S: Alter, T: MailSink>(
+pub fn move_first_mail<S: Alter, T: MailSink>(
     store: &mut Store<S>,
     user: &[u8],
     folder: &[u8],
     sink: &mut T,
-) -> Result<Kept, Why>
-    ensures moves { MovesFirst user.now folder.now result (state S.Store store.old) (state S.Store store.new) }
+) -> Result<Kept, StayReason>
+    ensures moves { MovesFirstMail user.now folder.now result (state S.Store store.old) (state S.Store store.new) }
     ensures clean { WasClean (state S.Store store.old) (state S.Store store.new) }
     ensures keeps { IfOk result (λ kept. IsTrue T.tells → T.kept sink.new ≡ T.kept sink.old ++ kept_mail user.now folder.now kept.number kept.message kept.flags ∷ []) }
 {
     let first = match first_message(store, user, folder) {
         Ok(first) => first,
-        Err(refusal) => return Err(Why::Store(refusal)),
+        Err(refusal) => return Err(StayReason::Store(refusal)),
     };
     let Some(first) = first else {
-        return Err(Why::Gone);
+        return Err(StayReason::Gone);
     };
     let (message, flags) = (first.message.as_slice(), first.flags.as_slice());
     if let Err(error) = sink.keep(user, folder, first.number, message, flags) {
-        return Err(Why::Sink(error));
+        return Err(StayReason::Sink(error));
     }
     match store.take_mail(user, folder) {
         Ok(()) => Ok(Kept {

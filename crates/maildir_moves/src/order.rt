@@ -1,16 +1,16 @@
 //! Whose turn it is: a message of each user a round, and of a user's folders one after the other.
 ghost use Rattle.std.specs.Prelude.{◌≡◌, ◌+◌, ◌<◌, ◌^◌, ◌++◌, ◌∷◌, [], None, IfOk, OnOk, OnErr, find, filter, not, option_copied};
-ghost use Rattle.mailtables.specs.Cells.{contents};
-ghost use Rattle.mailmoves.specs.Order as order;
-ghost use Rattle.mailmoves.specs.Turns.{BeginsRound, Stays, TurnEnds, TurnGoesOn};
+ghost use Rattle.store_tables.specs.Cells.{borrowed_octets};
+ghost use Rattle.maildir_moves.specs.Order as order;
+ghost use Rattle.maildir_moves.specs.Turns.{BeginsRound, OrderStays, TurnEnds, TurnGoesOn};
 
-use mailstore::Filed;
+use store_accounts::CopyKey;
 use octets::Octets;
 use std::alloc::{AllocError, Global};
 
 /// The folder of a user's last turn.
 #[derive(Drop)]
-pub struct Mark {
+pub struct FolderMark {
     pub user: Octets,
     pub folder: Octets,
 }
@@ -20,22 +20,22 @@ pub struct Mark {
 ///
 /// There is one mark for each user who has mail, at most: who has none as the round comes by is forgotten.
 #[derive(Drop)]
-pub struct Order {
+pub struct MoveOrder {
     alloc: Global,
     /// The user who had the last turn of this round; none at its beginning.
     pub last: Option<Octets>,
     /// How many folders that rest were passed over in the current turn.
     pub passed: u64,
-    pub marks: Vec<Mark>,
+    pub marks: Vec<FolderMark>,
 }
 
-impl Order {
+impl MoveOrder {
     /// A round begins, and nobody had a turn. Takes no memory.
-    pub fn new(alloc: Global) -> Order
+    pub fn new(alloc: Global) -> MoveOrder
         ensures last { result.last ≡ None }
         ensures marks { result.marks.items ≡ [] }
     {
-        Order {
+        MoveOrder {
             alloc,
             last: None,
             passed: 0,
@@ -44,7 +44,7 @@ impl Order {
     }
 
     /// The place after which the first message of the next user is.
-    pub fn start(&self) -> Result<Filed, AllocError>
+    pub fn start(&self) -> Result<CopyKey, AllocError>
         ensures { IfOk result (λ place. place ≡ order.start_of self.now.last) }
     {
         let user = match &self.last {
@@ -55,21 +55,21 @@ impl Order {
     }
 
     /// The place after which a user's first message after the folder of the last turn is; none if nothing is known of a turn.
-    pub fn start_in(&self, user: &[u8]) -> Result<Option<Filed>, AllocError>
+    pub fn start_in(&self, user: &[u8]) -> Result<Option<CopyKey>, AllocError>
         ensures { IfOk result (λ place. place ≡ order.start_behind user.now self.now.marks.items) }
     {
         let Some(mark) = self.mark_of(user) else {
             return Ok(None);
         };
-        Ok(Some(Filed {
+        Ok(Some(CopyKey {
             user: Octets::from_slice(self.alloc, user)?,
             folder: beyond(self.alloc, mark.folder.as_slice())?,
             number: 0,
         }))
     }
 
-    fn mark_of(&self, user: &[u8]) -> Option<&Mark>
-        ensures { option_copied result ≡ find (λ m. order.is_user user.now m.user) self.now.marks.items }
+    fn mark_of(&self, user: &[u8]) -> Option<&FolderMark>
+        ensures { option_copied result ≡ find (λ m. order.is_same_user user.now m.user) self.now.marks.items }
     {
         self.marks.iter().find(|mark| mark.user.as_slice() == user)
     }
@@ -77,7 +77,7 @@ impl Order {
     /// A user had the turn, at this folder. Lack of memory is the only error; then the turn goes on.
     pub fn end_turn(&mut self, user: &[u8], folder: &[u8]) -> Result<(), AllocError>
         ensures ends { OnOk result (TurnEnds self.old user.now folder.now self.new) }
-        ensures stays { OnErr result (Stays self.old self.new) }
+        ensures stays { OnErr result (OrderStays self.old self.new) }
     {
         let last = Octets::from_slice(self.alloc, user)?;
         self.mark(user, folder)?;
@@ -90,7 +90,7 @@ impl Order {
     pub fn pass(&mut self, user: &[u8], folder: &[u8]) -> Result<(), AllocError>
         requires { self.old.passed + 1 < 2 ^ 64 }
         ensures passes { OnOk result (TurnGoesOn self.old user.now folder.now self.new) }
-        ensures stays { OnErr result (Stays self.old self.new) }
+        ensures stays { OnErr result (OrderStays self.old self.new) }
     {
         self.mark(user, folder)?;
         self.passed += 1;
@@ -113,7 +113,7 @@ impl Order {
         ensures last { self.new.last ≡ self.old.last }
         ensures passed { self.new.passed ≡ self.old.passed }
     {
-        let mark = Mark {
+        let mark = FolderMark {
             user: Octets::from_slice(self.alloc, user)?,
             folder: Octets::from_slice(self.alloc, folder)?,
         };
@@ -124,7 +124,7 @@ impl Order {
     }
 
     fn forget(&mut self, user: &[u8])
-        ensures marks { self.new.marks.items ≡ filter (λ m. not (order.is_user user.now m.user)) self.old.marks.items }
+        ensures marks { self.new.marks.items ≡ filter (λ m. not (order.is_same_user user.now m.user)) self.old.marks.items }
         ensures last { self.new.last ≡ self.old.last }
         ensures passed { self.new.passed ≡ self.old.passed }
     {
@@ -132,7 +132,7 @@ impl Order {
     }
 
     fn forget_between(&mut self, user: &[u8])
-        ensures marks { self.new.marks.items ≡ filter (λ m. not (order.is_between self.old.last user.now m.user)) self.old.marks.items }
+        ensures marks { self.new.marks.items ≡ filter (λ m. not (order.is_user_between self.old.last user.now m.user)) self.old.marks.items }
         ensures last { self.new.last ≡ self.old.last }
         ensures passed { self.new.passed ≡ self.old.passed }
     {
@@ -154,7 +154,7 @@ pub fn is_behind(last: &Option<Octets>, user: &[u8]) -> bool
 
 /// Whether a user comes between the one who had the last turn of a round and another one.
 pub fn is_between(last: &Option<Octets>, user: &[u8], other: &[u8]) -> bool
-    ensures { result ≡ order.is_between last.now user.now other.now }
+    ensures { result ≡ order.is_user_between last.now user.now other.now }
 {
     is_behind(last, other) && comes_before(other, user)
 }
@@ -175,10 +175,10 @@ fn beyond(alloc: Global, text: &[u8]) -> Result<Octets, AllocError>
 }
 
 /// Before the first message of a user.
-fn before(alloc: Global, user: Octets) -> Filed
+fn before(alloc: Global, user: Octets) -> CopyKey
     ensures { result ≡ record { user = user; folder = []; number = 0 } }
 {
-    Filed {
+    CopyKey {
         user,
         folder: Octets::new(alloc),
         number: 0,

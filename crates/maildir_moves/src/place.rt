@@ -1,8 +1,8 @@
 //! Where the mail of a user's folder goes.
 ghost use Rattle.std.specs.Prelude.{◌≡◌, IfOk};
-ghost use Rattle.mailmoves.specs.Place as place;
+ghost use Rattle.maildir_moves.specs.Place as place;
 
-use maildirs::{Separator, directory_of};
+use maildir_files::{Separator, directory_of};
 use octets::Octets;
 use std::alloc::{AllocError, Global};
 
@@ -24,7 +24,7 @@ pub fn place_in(
     folder: &[u8],
     separator: Separator,
 ) -> Result<Octets, AllocError>
-    ensures { IfOk result (λ text. text ≡ place.place_in separator home.now folder.now) }
+    ensures { IfOk result (λ text. text ≡ place.folder_path separator home.now folder.now) }
 {
     let directory = directory_of(alloc, folder, separator)?;
     joined(alloc, home, directory.as_slice())
@@ -32,7 +32,7 @@ pub fn place_in(
 
 /// Two parts of a path, with a `/` between.
 fn joined(alloc: Global, head: &[u8], tail: &[u8]) -> Result<Octets, AllocError>
-    ensures { IfOk result (λ text. text ≡ place.joined head.now tail.now) }
+    ensures { IfOk result (λ text. text ≡ place.joined_path head.now tail.now) }
 {
     let mut text = Octets::from_slice(alloc, head)?;
     text.push(b'/')?;
@@ -42,7 +42,7 @@ fn joined(alloc: Global, head: &[u8], tail: &[u8]) -> Result<Octets, AllocError>
 
 /// Whether a user's name may be a directory's.
 fn is_name(user: &[u8]) -> bool
-    ensures { result ≡ place.is_name user.now }
+    ensures { result ≡ place.is_directory_name user.now }
 {
     match user.first() {
         Some(first) => *first != b'.' && has_no_mark(user),

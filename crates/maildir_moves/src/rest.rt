@@ -1,7 +1,7 @@
 //! Folders that rest, since a message of theirs couldn't be moved.
 ghost use Rattle.std.specs.Prelude.{◌≡◌, [], filter, not, nat_eq, IfOk};
 ghost use Rattle.std.specs.Cmp.Lexicographic.{pointwise};
-ghost use Rattle.mailmoves.specs.Rests as rests;
+ghost use Rattle.maildir_moves.specs.Rests as rests;
 
 use crate::order::{is_behind, is_between};
 use octets::Octets;
@@ -31,7 +31,7 @@ pub struct Rest {
 
 impl Rest {
     fn is_of(&self, user: &[u8], folder: &[u8]) -> bool
-        ensures { result ≡ rests.is_of user.now folder.now self.now }
+        ensures { result ≡ rests.is_rest_of user.now folder.now self.now }
     {
         self.is_of_user(user) && is_folder(&self.folder, folder)
     }
@@ -77,7 +77,7 @@ impl Rests {
 
     /// A folder succeeded.
     pub fn end(&mut self, user: &[u8], folder: &[u8])
-        ensures { self.new.entries.items ≡ filter (λ rest. not (rests.is_of user.now folder.now rest)) self.old.entries.items }
+        ensures { self.new.entries.items ≡ filter (λ rest. not (rests.is_rest_of user.now folder.now rest)) self.old.entries.items }
     {
         self.entries.retain(|rest| !rest.is_of(user, folder));
     }

@@ -1,20 +1,20 @@
 //! Which message is next, and where it goes.
 ghost use Rattle.std.specs.Prelude.{◌≡◌, IsTrue, OnErr, OnOk, Some};
 ghost use Rattle.sqlite.specs.Held.{state};
-ghost use Rattle.mailmoves.specs.Moving.{IsStill, KeepsIt, MovesOn, WasClean, span_behind};
-ghost use Rattle.mailmoves.specs.Order.{start_behind};
-ghost use Rattle.mailmoves.specs.Rests.{rests_at};
-ghost use Rattle.mailmoves.specs.Turns.{GoesByTurns, HasTurn, IsEnd, IsOf, IsStayOf, IsTurnAt, Passes, Stays, TurnEnds};
-ghost use Rattle.mailmoves.specs.Turns as turns;
+ghost use Rattle.maildir_moves.specs.Moving.{IsStill, KeepsIt, MovesNext, WasClean, span_behind};
+ghost use Rattle.maildir_moves.specs.Order.{start_behind};
+ghost use Rattle.maildir_moves.specs.Rests.{rests_at};
+ghost use Rattle.maildir_moves.specs.Turns.{GoesByTurns, HasTurn, IsRoundEnd, IsOf, IsStayOf, IsTurnAt, PassesFolder, OrderStays, TurnEnds};
+ghost use Rattle.maildir_moves.specs.Turns as turns;
 
-use crate::moving::{Kept, Moving, Stay, Why, move_first};
-use crate::order::Order;
+use crate::moving::{Kept, Moving, Stay, StayReason, move_first_mail};
+use crate::order::MoveOrder;
 use crate::place::{home_of, place_in};
 use crate::rest::Rests;
-use maildirs::Separator;
-use mailengine::Answer;
-use mailsinks::{KeptMail, MailSink, SinkError};
-use mailstore::{Filed, Refusal, Store};
+use maildir_files::Separator;
+use store_engine::Answer;
+use maildir_files::{KeptMail, MailSink, SinkError};
+use store_accounts::{CopyKey, Refusal, Store};
 use octets::Octets;
 use sqlite::Alter;
 use std::alloc::{AllocError, Global};
@@ -27,7 +27,7 @@ pub struct Route {
     dir: Octets,
     /// What separates the levels of a folder's name.
     separator: Separator,
-    order: Order,
+    order: MoveOrder,
     /// Something may have come since the round began, or moved or failed in it: another one follows.
     again: bool,
     rests: Rests,
@@ -40,7 +40,7 @@ impl Route {
             alloc,
             dir,
             separator,
-            order: Order::new(alloc),
+            order: MoveOrder::new(alloc),
             again: true,
             rests: Rests::new(alloc),
         }
@@ -59,7 +59,7 @@ impl Route {
     /// The round is at its end.
     fn end_round(&mut self) -> Moving
         ensures still { IsStill result }
-        ensures ends { IsEnd self.old.order result self.new.order }
+        ensures ends { IsRoundEnd self.old.order result self.new.order }
     {
         self.rests.forget_behind(&self.order.last);
         self.order.end_round();
@@ -71,9 +71,9 @@ impl Route {
     }
 
     /// A user had the turn, at the folder of this place. Lack of memory is the only error.
-    fn end_turn(&mut self, filed: &Filed) -> Result<(), AllocError>
+    fn end_turn(&mut self, filed: &CopyKey) -> Result<(), AllocError>
         ensures ends { OnOk result (TurnEnds self.old.order filed.now.user filed.now.folder self.new.order) }
-        ensures stays { OnErr result (Stays self.old.order self.new.order) }
+        ensures stays { OnErr result (OrderStays self.old.order self.new.order) }
     {
         let user = filed.user.as_slice();
         self.rests.forget_between(&self.order.last, user);
@@ -81,9 +81,9 @@ impl Route {
     }
 
     /// A folder rests: the user's next one has the turn, unless all rest.
-    fn pass(&mut self, filed: &Filed) -> Moving
+    fn pass(&mut self, filed: &CopyKey) -> Moving
         ensures still { IsStill result }
-        ensures passed { Passes self.old.rests.entries.items self.old.order filed.now.user filed.now.folder result self.new.order }
+        ensures passed { PassesFolder self.old.rests.entries.items self.old.order filed.now.user filed.now.folder result self.new.order }
     {
         let (user, folder) = (filed.user.as_slice(), filed.folder.as_slice());
         let passed = if self.order.passed < self.rests.count(user) {
@@ -98,7 +98,7 @@ impl Route {
     }
 
     /// Whether a folder rests at a moment.
-    fn has_rest(&self, filed: &Filed, now: u64) -> bool
+    fn has_rest(&self, filed: &CopyKey, now: u64) -> bool
         ensures { result ≡ rests_at now filed.now.user filed.now.folder self.now.rests.entries.items }
     {
         self.rests
@@ -106,7 +106,7 @@ impl Route {
     }
 
     /// A folder's message stays where it is: the folder rests from now on. The user's other folders have their turns in another round.
-    fn stay(&mut self, filed: Filed, why: Why, now: u64) -> Moving
+    fn stay(&mut self, filed: CopyKey, why: StayReason, now: u64) -> Moving
         ensures still { IsStill result }
         ensures stays { IsStayOf filed result }
         ensures order { self.new.order ≡ self.old.order }
@@ -122,7 +122,7 @@ impl Route {
     }
 
     /// Lets a folder rest from now on. Returns whether it hadn't failed since its last success.
-    fn rest(&mut self, filed: &Filed, now: u64) -> bool
+    fn rest(&mut self, filed: &CopyKey, now: u64) -> bool
         ensures { self.new.order ≡ self.old.order }
     {
         let (user, folder) = (filed.user.as_slice(), filed.folder.as_slice());
@@ -133,7 +133,7 @@ impl Route {
     }
 
     /// A folder's message is kept. If it couldn't be taken out the folder rests.
-    fn note(&mut self, filed: &Filed, answer: &Answer, now: u64)
+    fn note(&mut self, filed: &CopyKey, answer: &Answer, now: u64)
         ensures { self.new.order ≡ self.old.order }
     {
         match answer {
@@ -149,7 +149,7 @@ impl Route {
     }
 
     /// What became of a message that is kept.
-    fn went(&mut self, filed: Filed, kept: Kept, now: u64) -> Moving
+    fn note_moved(&mut self, filed: CopyKey, kept: Kept, now: u64) -> Moving
         ensures kept { result ≡ Moving.Kept (record { user = filed.user; folder = filed.folder; number = kept.number; message = kept.message; flags = kept.flags }) kept.answer }
         ensures order { self.new.order ≡ self.old.order }
     {
@@ -165,33 +165,33 @@ impl Route {
     }
 
     /// Opens the place of a folder; one that isn't there is made.
-    fn open<T: MailSink>(&self, sink: &mut T, filed: &Filed) -> Result<(), Why>
+    fn open<T: MailSink>(&self, sink: &mut T, filed: &CopyKey) -> Result<(), StayReason>
         ensures { IsTrue T.tells → T.kept sink.new ≡ T.kept sink.old }
     {
         let Ok(home) = home_of(self.alloc, self.dir.as_slice(), filed.user.as_slice()) else {
-            return Err(Why::Sink(SinkError::Memory));
+            return Err(StayReason::Sink(SinkError::Memory));
         };
         let Some(home) = home else {
-            return Err(Why::Name);
+            return Err(StayReason::Name);
         };
         let folder = filed.folder.as_slice();
         match place_in(self.alloc, home.as_slice(), folder, self.separator) {
             Ok(place) => open_place(sink, home.as_slice(), place.as_slice()),
-            Err(AllocError) => Err(Why::Sink(SinkError::Memory)),
+            Err(AllocError) => Err(StayReason::Sink(SinkError::Memory)),
         }
     }
 }
 
 /// Opens a place, which is made if it isn't there, with the user's before it.
-fn open_place<T: MailSink>(sink: &mut T, home: &[u8], place: &[u8]) -> Result<(), Why>
+fn open_place<T: MailSink>(sink: &mut T, home: &[u8], place: &[u8]) -> Result<(), StayReason>
     ensures { IsTrue T.tells → T.kept sink.new ≡ T.kept sink.old }
 {
     let (Ok(home), Ok(place)) = (str::from_utf8(home), str::from_utf8(place)) else {
-        return Err(Why::Name);
+        return Err(StayReason::Name);
     };
     match open_or_make(sink, home, place) {
         Ok(()) => Ok(()),
-        Err(error) => Err(Why::Sink(error)),
+        Err(error) => Err(StayReason::Sink(error)),
     }
 }
 
@@ -219,7 +219,7 @@ pub fn move_next<S: Alter, T: MailSink>(
     now: u64,
     fresh: bool,
 ) -> Moving
-    ensures moves { MovesOn result (state S.Store store.old) (state S.Store store.new) }
+    ensures moves { MovesNext result (state S.Store store.old) (state S.Store store.new) }
     ensures clean { WasClean (state S.Store store.old) (state S.Store store.new) }
     ensures keeps { KeepsIt T.tells (T.kept sink.old) (T.kept sink.new) result }
     ensures turns { GoesByTurns now route.old result route.new (state S.Store store.old) (state S.Store store.new) }
@@ -229,55 +229,55 @@ pub fn move_next<S: Alter, T: MailSink>(
         return Moving::Failed(Refusal::Memory);
     };
     match store.next_filed(&start) {
-        Ok(Some(first)) => move_of(store, sink, route, first, now),
+        Ok(Some(first)) => move_next_of_user(store, sink, route, first, now),
         Ok(None) => route.end_round(),
         Err(refusal) => Moving::Failed(refusal),
     }
 }
 
 /// Moves a message of a user, whose first one this is.
-fn move_of<S: Alter, T: MailSink>(
+fn move_next_of_user<S: Alter, T: MailSink>(
     store: &mut Store<S>,
     sink: &mut T,
     route: &mut Route,
-    first: Filed,
+    first: CopyKey,
     now: u64,
 ) -> Moving
-    ensures moves { MovesOn result (state S.Store store.old) (state S.Store store.new) }
+    ensures moves { MovesNext result (state S.Store store.old) (state S.Store store.new) }
     ensures clean { WasClean (state S.Store store.old) (state S.Store store.new) }
     ensures keeps { KeepsIt T.tells (T.kept sink.old) (T.kept sink.new) result }
     ensures turns { HasTurn now first route.old result route.new (state S.Store store.old) (state S.Store store.new) }
 {
     match route.order.start_in(first.user.as_slice()) {
-        Ok(Some(start)) => move_behind(store, sink, route, first, start, now),
-        Ok(None) => move_in(store, sink, route, first, now),
+        Ok(Some(start)) => move_next_behind(store, sink, route, first, start, now),
+        Ok(None) => move_next_of_folder(store, sink, route, first, now),
         Err(AllocError) => Moving::Failed(Refusal::Memory),
     }
 }
 
 /// Moves the user's first message after that place, which is after the folder of the last turn; the first one again, if there is none.
-fn move_behind<S: Alter, T: MailSink>(
+fn move_next_behind<S: Alter, T: MailSink>(
     store: &mut Store<S>,
     sink: &mut T,
     route: &mut Route,
-    first: Filed,
-    start: Filed,
+    first: CopyKey,
+    start: CopyKey,
     now: u64,
 ) -> Moving
     requires { start_behind first.user route.old.order.marks.items ≡ Some start }
-    ensures moves { MovesOn result (state S.Store store.old) (state S.Store store.new) }
+    ensures moves { MovesNext result (state S.Store store.old) (state S.Store store.new) }
     ensures clean { WasClean (state S.Store store.old) (state S.Store store.new) }
     ensures keeps { KeepsIt T.tells (T.kept sink.old) (T.kept sink.new) result }
     ensures turns { HasTurn now first route.old result route.new (state S.Store store.old) (state S.Store store.new) }
 {
     match store.next_filed(&start) {
-        Ok(next) => move_in(store, sink, route, chosen(next, first), now),
+        Ok(next) => move_next_of_folder(store, sink, route, chosen(next, first), now),
         Err(refusal) => Moving::Failed(refusal),
     }
 }
 
 /// The message that comes next, if it is of the same user as the first one, and otherwise that.
-fn chosen(next: Option<Filed>, first: Filed) -> Filed
+fn chosen(next: Option<CopyKey>, first: CopyKey) -> CopyKey
     ensures { result ≡ turns.chosen next first }
 {
     let Some(next) = next else {
@@ -291,14 +291,14 @@ fn chosen(next: Option<Filed>, first: Filed) -> Filed
 }
 
 /// Moves the first message of a folder that has one, unless it rests.
-fn move_in<S: Alter, T: MailSink>(
+fn move_next_of_folder<S: Alter, T: MailSink>(
     store: &mut Store<S>,
     sink: &mut T,
     route: &mut Route,
-    filed: Filed,
+    filed: CopyKey,
     now: u64,
 ) -> Moving
-    ensures moves { MovesOn result (state S.Store store.old) (state S.Store store.new) }
+    ensures moves { MovesNext result (state S.Store store.old) (state S.Store store.new) }
     ensures clean { WasClean (state S.Store store.old) (state S.Store store.new) }
     ensures keeps { KeepsIt T.tells (T.kept sink.old) (T.kept sink.new) result }
     ensures turn { IsTurnAt now route.old.rests.entries.items route.old.order filed.user filed.folder result route.new.order }
@@ -310,28 +310,28 @@ fn move_in<S: Alter, T: MailSink>(
         return Moving::Failed(Refusal::Memory);
     }
     match route.open(sink, &filed) {
-        Ok(()) => move_into(store, sink, route, filed, now),
+        Ok(()) => move_next_into_place(store, sink, route, filed, now),
         Err(why) => route.stay(filed, why, now),
     }
 }
 
 /// Moves the first message of a folder into the place that is open. That of an account that is closed stays, and is passed over.
-fn move_into<S: Alter, T: MailSink>(
+fn move_next_into_place<S: Alter, T: MailSink>(
     store: &mut Store<S>,
     sink: &mut T,
     route: &mut Route,
-    filed: Filed,
+    filed: CopyKey,
     now: u64,
 ) -> Moving
-    ensures moves { MovesOn result (state S.Store store.old) (state S.Store store.new) }
+    ensures moves { MovesNext result (state S.Store store.old) (state S.Store store.new) }
     ensures clean { WasClean (state S.Store store.old) (state S.Store store.new) }
     ensures keeps { KeepsIt T.tells (T.kept sink.old) (T.kept sink.new) result }
     ensures of { IsOf filed result }
     ensures order { route.new.order ≡ route.old.order }
 {
-    match move_first(store, filed.user.as_slice(), filed.folder.as_slice(), sink) {
-        Ok(kept) => route.went(filed, kept, now),
-        Err(Why::Store(Refusal::NoUser)) => Moving::Passed,
+    match move_first_mail(store, filed.user.as_slice(), filed.folder.as_slice(), sink) {
+        Ok(kept) => route.note_moved(filed, kept, now),
+        Err(StayReason::Store(Refusal::NoUser)) => Moving::Passed,
         Err(why) => route.stay(filed, why, now),
     }
 }

@@ -2,26 +2,26 @@
 use Rattle.std.proofs.Common.{◌≡◌, ℕ, zero, suc, inl, inr, true, false, List, [], ◌∷◌, ◌++◌, length, Some, None, refl, ap, subst, arith}
 use Rattle.std.specs.Prelude.{codes, replicate}
 use Rattle.std.specs.List.{prefix_len}
-use Rattle.msproto.specs.declared.commands.Command.TheVariants as command
-use Rattle.msproto.specs.declared.items.Item.TheVariants as item
-use Rattle.msproto.specs.declared.items.Reach.{Reach}
-use Rattle.msproto.specs.declared.items.Reach.TheVariants.{Need, Command, Bad, TooBig}
-use Rattle.msproto.specs.declared.replies.Code.TheVariants as code
-use Rattle.msproto.specs.declared.replies.Line.TheVariants as line
-use Rattle.msproto.specs.declared.replies.Status.TheVariants as status
-use Rattle.msproto.specs.Arguments.{inside, IsQuotedArgument, AreDigits, IsNumeral, IsLiteral, Figure, IsArgument, IsAnswer}
-use Rattle.msproto.specs.Commands.{IsSpelling, IsCommand, IsViable}
-use Rattle.msproto.specs.Items.{EndsAtFeed, IsBadLine, IsInLiteral, Counts, IsLong, EndsInLargeHead, Reaches}
-use Rattle.msproto.specs.Machine.{LineEnd, Quoted, Dead, rows, start}
-use Rattle.msproto.specs.Scanning.{Open, reach_of, ScanView, new_scan, StandsFor}
-use Rattle.msproto.specs.Values.{item_of}
-use Rattle.msproto.specs.Replies.{string_spelled, line_spelled, last_spelled, Extends}
-use Rattle.msproto.specs.Shown.{is_plain, is_inner, spelling}
-use Rattle.msproto.proofs.Law.{spelling_whole, live_viable, viable_live}
-use Rattle.msproto.proofs.Outside.{literal_free, not_free, outside_from, counts, counts_only}
-use Rattle.msproto.proofs.Heads.{head_large}
-use Rattle.msproto.proofs.Scans.{reaches}
-use Rattle.msproto.proofs.Unique.{one_reach}
+use Rattle.managesieve_protocol.specs.declared.commands.ClientCommand.TheVariants as command
+use Rattle.managesieve_protocol.specs.declared.items.ClientItem.TheVariants as item
+use Rattle.managesieve_protocol.specs.declared.items.ItemExtent.{ItemExtent}
+use Rattle.managesieve_protocol.specs.declared.items.ItemExtent.TheVariants.{Need, Command, Bad, TooBig}
+use Rattle.managesieve_protocol.specs.declared.replies.ReplyCode.TheVariants as code
+use Rattle.managesieve_protocol.specs.declared.replies.DataLine.TheVariants as line
+use Rattle.managesieve_protocol.specs.declared.replies.Status.TheVariants as status
+use Rattle.managesieve_protocol.specs.Arguments.{inside, IsQuotedArgument, AreDigits, IsDecimalNumber, IsLiteralString, Figure, IsLineArgument, IsStringLine}
+use Rattle.managesieve_protocol.specs.Commands.{IsSpelling, IsCommand, IsViable}
+use Rattle.managesieve_protocol.specs.Items.{EndsAtFeed, IsBadLine, IsInLiteral, CountsOutside, IsLong, EndsInLargeHead, IsFirstExtent}
+use Rattle.managesieve_protocol.specs.Machine.{LineEnd, Quoted, Dead, rows, start_state}
+use Rattle.managesieve_protocol.specs.Scanning.{Open, extent_of, ScanView, new_scan, IsScanOf}
+use Rattle.managesieve_protocol.specs.Values.{item_of}
+use Rattle.managesieve_protocol.specs.Replies.{string_spelled, line_spelled, last_spelled, ExtendsText}
+use Rattle.managesieve_protocol.specs.Shown.{is_plain_quoted, is_inside_line, letters_matched}
+use Rattle.managesieve_protocol.proofs.Law.{spelling_whole, live_viable, viable_live}
+use Rattle.managesieve_protocol.proofs.Outside.{literal_free, not_free, outside_from, counts, counts_only}
+use Rattle.managesieve_protocol.proofs.Heads.{head_large}
+use Rattle.managesieve_protocol.proofs.Scans.{reaches}
+use Rattle.managesieve_protocol.proofs.Unique.{one_reach}
 
 -- with CRLF after it
 abbrev crlf : List ℕ → List ℕ
@@ -42,30 +42,30 @@ not_short : (text : List ℕ) → IsQuotedArgument (replicate 1025 97) text → 
 not_short text q e = omega (arith, q.short, e)
 
 -- 10 is written `10`, and not `010` or `1a`
-numeral : IsNumeral 10 (codes "10")
+numeral : IsDecimalNumber 10 (codes "10")
 numeral = ((refl, (refl, tt)), (λ zero_is. absurd (omega (arith, zero_is))), refl)
 
-not_numeral : IsNumeral 10 (codes "010") → ⊥
+not_numeral : IsDecimalNumber 10 (codes "010") → ⊥
 not_numeral h = let digits : List ℕ = codes "10" in let never : digits ≡ [] = h.1 refl in absurd cc
 
 not_digits : AreDigits (codes "1a") → ⊥
 not_digits h = let never : false ≡ true = h.1.0 in cc
 
 -- `{2+}` CRLF and two octets; `{02+}` CRLF and two octets are no literal
-literal : IsLiteral (0 ∷ 10 ∷ []) (crlf (codes "{2+}") ++ 0 ∷ 10 ∷ [])
+literal : IsLiteralString (0 ∷ 10 ∷ []) (crlf (codes "{2+}") ++ 0 ∷ 10 ∷ [])
 literal = record { digits = codes "2"; numeral = ((refl, tt), (λ zero_is. refl), refl); written = refl; short = omega arith }
 
-not_literal : IsLiteral (0 ∷ 10 ∷ []) (crlf (codes "{02+}") ++ 0 ∷ 10 ∷ []) → ⊥
+not_literal : IsLiteralString (0 ∷ 10 ∷ []) (crlf (codes "{02+}") ++ 0 ∷ 10 ∷ []) → ⊥
 not_literal h =
-    let answer : IsAnswer (0 ∷ 10 ∷ []) (crlf (crlf (codes "{02+}") ++ 0 ∷ 10 ∷ [])) = record { first = crlf (codes "{02+}") ++ 0 ∷ 10 ∷ []; string = inr h; written = refl } in
+    let answer : IsStringLine (0 ∷ 10 ∷ []) (crlf (crlf (codes "{02+}") ++ 0 ∷ 10 ∷ [])) = record { first = crlf (codes "{02+}") ++ 0 ∷ 10 ∷ []; string = inr h; written = refl } in
     let whole = spelling_whole true (command.Response (0 ∷ 10 ∷ [])) (crlf (crlf (codes "{02+}") ++ 0 ∷ 10 ∷ [])) answer in
     cc (whole)
 
 -- 4,294,967,295 is a number of a command, and 4,294,967,296 none
-figure : IsArgument (Figure 4294967295) (codes "4294967295")
+figure : IsLineArgument (Figure 4294967295) (codes "4294967295")
 figure = (((refl, (refl, (refl, (refl, (refl, (refl, (refl, (refl, (refl, (refl, tt)))))))))), (λ zero_is. absurd (omega (arith, zero_is))), refl), omega arith)
 
-not_figure : (text : List ℕ) → IsArgument (Figure 4294967296) text → ⊥
+not_figure : (text : List ℕ) → IsLineArgument (Figure 4294967296) text → ⊥
 not_figure text h = omega (arith, h.1)
 
 -- ---- commands
@@ -139,11 +139,11 @@ unfolding rows
 not_in_literal = not_free false (codes "NOOP {1+}" ++ 13 ∷ []) refl
 
 -- eleven octets of `NOOP {1+}` CRLF `a` are outside, and not twelve
-counted : Counts false [] (crlf (codes "NOOP {1+}") ++ codes "a") 11
+counted : CountsOutside false [] (crlf (codes "NOOP {1+}") ++ codes "a") 11
 unfolding rows outside_from
 counted = counts false (crlf (codes "NOOP {1+}") ++ codes "a") []
 
-not_counted : Counts false [] (crlf (codes "NOOP {1+}") ++ codes "a") 12 → ⊥
+not_counted : CountsOutside false [] (crlf (codes "NOOP {1+}") ++ codes "a") 12 → ⊥
 unfolding rows outside_from
 not_counted h = let same : 12 ≡ 11 = counts_only false (crlf (codes "NOOP {1+}") ++ codes "a") [] 12 h in omega (arith, same)
 
@@ -153,13 +153,13 @@ unfolding outside_from
 outside_x zero = refl
 outside_x (suc n) = omega (arith, outside_x n)
 
-outside_line : (n : ℕ) → outside_from (start false) (replicate n 120) ≡ n
+outside_line : (n : ℕ) → outside_from (start_state false) (replicate n 120) ≡ n
 unfolding outside_from rows
 outside_line zero = refl
 outside_line (suc n) = omega (arith, outside_x n)
 
 long : IsLong false (replicate 8193 120)
-long = (8193, subst (λ (n : ℕ). Counts false [] (replicate 8193 120) n) (outside_line 8193) (counts false (replicate 8193 120) []), omega arith)
+long = (8193, subst (λ (n : ℕ). CountsOutside false [] (replicate 8193 120) n) (outside_line 8193) (counts false (replicate 8193 120) []), omega arith)
 
 not_long : IsLong false (replicate 8192 120) → ⊥
 not_long h = omega (arith, h.2, counts_only false (replicate 8192 120) [] h.0 h.1, outside_line 8192)
@@ -186,36 +186,36 @@ not_large h = let never : false ≡ true = (head_large false (codes "NOOP {10485
 -- ---- the first item
 
 -- `NOOP` CRLF is a command; without the LF it isn't yet; without the CR it is a bad line
-noop_first : reach_of false (crlf (codes "NOOP") ++ codes "N") ≡ Command 6
+noop_first : extent_of false (crlf (codes "NOOP") ++ codes "N") ≡ Command 6
 unfolding rows
 noop_first = refl
 
-noop_reached : Reaches false (Command 6) (crlf (codes "NOOP") ++ codes "N")
-noop_reached = subst (λ (r : Reach). Reaches false r (crlf (codes "NOOP") ++ codes "N")) noop_first (reaches false (crlf (codes "NOOP") ++ codes "N"))
+noop_reached : IsFirstExtent false (Command 6) (crlf (codes "NOOP") ++ codes "N")
+noop_reached = subst (λ (r : ItemExtent). IsFirstExtent false r (crlf (codes "NOOP") ++ codes "N")) noop_first (reaches false (crlf (codes "NOOP") ++ codes "N"))
 
-noop_cut : reach_of false (codes "NOOP" ++ 13 ∷ []) ≡ Need
+noop_cut : extent_of false (codes "NOOP" ++ 13 ∷ []) ≡ Need
 unfolding rows
 noop_cut = refl
 
-not_reached : Reaches false (Command 5) (codes "NOOP" ++ 13 ∷ []) → ⊥
+not_reached : IsFirstExtent false (Command 5) (codes "NOOP" ++ 13 ∷ []) → ⊥
 not_reached h =
-    let none : Reaches false Need (codes "NOOP" ++ 13 ∷ []) = subst (λ (r : Reach). Reaches false r (codes "NOOP" ++ 13 ∷ [])) noop_cut (reaches false (codes "NOOP" ++ 13 ∷ [])) in
+    let none : IsFirstExtent false Need (codes "NOOP" ++ 13 ∷ []) = subst (λ (r : ItemExtent). IsFirstExtent false r (codes "NOOP" ++ 13 ∷ [])) noop_cut (reaches false (codes "NOOP" ++ 13 ∷ [])) in
     let same : Need ≡ Command 5 = one_reach false Need (Command 5) (codes "NOOP" ++ 13 ∷ []) none h in
     cc
 
-noop_bare : reach_of false (codes "NOOP" ++ 10 ∷ []) ≡ Bad 5
+noop_bare : extent_of false (codes "NOOP" ++ 10 ∷ []) ≡ Bad 5
 unfolding rows
 noop_bare = refl
 
-too_large : reach_of false (crlf (codes "NOOP {1048577+}")) ≡ TooBig
+too_large : extent_of false (crlf (codes "NOOP {1048577+}")) ≡ TooBig
 unfolding rows
 too_large = refl
 
 -- while a challenge is pending `"*"` CRLF is an item, and otherwise a bad line
-star_pending : reach_of true (crlf (codes "\"*\"")) ≡ Command 5
+star_pending : extent_of true (crlf (codes "\"*\"")) ≡ Command 5
 star_pending = refl
 
-star_alone : reach_of false (crlf (codes "\"*\"")) ≡ Bad 5
+star_alone : extent_of false (crlf (codes "\"*\"")) ≡ Bad 5
 unfolding rows
 star_alone = refl
 
@@ -226,22 +226,22 @@ noop_item = refl
 
 -- ---- octets that leave a line where it stands
 
-plain_front : prefix_len is_plain (codes "ab\\\"") ≡ 2
+plain_front : prefix_len is_plain_quoted (codes "ab\\\"") ≡ 2
 plain_front = refl
 
-inner_front : prefix_len is_inner (13 ∷ 10 ∷ []) ≡ 1
+inner_front : prefix_len is_inside_line (13 ∷ 10 ∷ []) ≡ 1
 inner_front = refl
 
-letters_front : spelling (codes "OOP") (codes "oOx") ≡ 2
+letters_front : letters_matched (codes "OOP") (codes "oOx") ≡ 2
 letters_front = refl
 
 -- ---- scans
 
 -- while a challenge is pending a scan after `"` waits for the string's octets, and it took one octet, not none
-scanned_mark : StandsFor true (record { known = Open (Quoted 1024 LineEnd) 1 1; looked = 1 }) (codes "\"")
+scanned_mark : IsScanOf true (record { known = Open (Quoted 1024 LineEnd) 1 1; looked = 1 }) (codes "\"")
 scanned_mark = refl
 
-not_scanned : StandsFor true (new_scan true) (codes "\"") → ⊥
+not_scanned : IsScanOf true (new_scan true) (codes "\"") → ⊥
 not_scanned h = let none : 0 ≡ 1 = ap (λ (s : ScanView). s.looked) h in omega (arith, none)
 
 -- ---- answers
@@ -270,8 +270,8 @@ nothing_spelled : last_spelled None None (Some (codes "Done.")) ≡ []
 nothing_spelled = refl
 
 -- a part is appended, and what was there stays
-extends : Extends (codes "a") (codes "ab")
+extends : ExtendsText (codes "a") (codes "ab")
 extends = record { more = codes "b"; written = refl }
 
-not_extends : Extends (codes "a") [] → ⊥
+not_extends : ExtendsText (codes "a") [] → ⊥
 not_extends h = let same : [] ≡ codes "a" ++ h.more = h.written in cc

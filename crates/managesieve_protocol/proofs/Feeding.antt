@@ -5,15 +5,15 @@ use Rattle.std.proofs.lemmas.Grind.{fold-append}
 use Rattle.std.proofs.lemmas.Bool.{cases_order}
 use Rattle.std.proofs.lemmas.List.{length-drop, take-append-drop, nil_from_length}
 use Rattle.std.proofs.Math.Seq.{take-add}
-use Rattle.msproto.specs.declared.items.Reach.{Reach}
-use Rattle.msproto.specs.declared.items.Reach.TheVariants.{Need, Command, Bad, TooBig}
-use Rattle.msproto.specs.Items.{Reaches}
-use Rattle.msproto.specs.Scanning.{Scanned, Open, Found, fresh, turned, found, reach_of, ScanView, new_scan, fed, fed_until, is_reached, reached, StandsFor}
-use Rattle.msproto.proofs.Scans.{reaches}
-use Rattle.msproto.proofs.Turning.{found_stays}
+use Rattle.managesieve_protocol.specs.declared.items.ItemExtent.{ItemExtent}
+use Rattle.managesieve_protocol.specs.declared.items.ItemExtent.TheVariants.{Need, Command, Bad, TooBig}
+use Rattle.managesieve_protocol.specs.Items.{IsFirstExtent}
+use Rattle.managesieve_protocol.specs.Scanning.{Scanned, Open, Found, scan_start, scan_step, found, extent_of, ScanView, new_scan, fed, fed_until, is_reached, reached, IsScanOf}
+use Rattle.managesieve_protocol.proofs.Scans.{reaches}
+use Rattle.managesieve_protocol.proofs.Turning.{found_stays}
 
 -- a scan's two parts, after a text
-pub fed_known : (scan : ScanView) (t : List ℕ) → (fold fed scan t).known ≡ fold turned scan.known t
+pub fed_known : (scan : ScanView) (t : List ℕ) → (fold fed scan t).known ≡ fold scan_step scan.known t
 fed_known scan [] = refl
 fed_known scan (x ∷ t) = fed_known (fed scan x) t
 
@@ -25,23 +25,23 @@ same_view : (a b : ScanView) → a.known ≡ b.known → a.looked ≡ b.looked �
 same_view a b known looked =
     ap (λ (k : Scanned). record { known = k; looked = a.looked }) known ∙ ap (λ (n : ℕ). record { known = b.known; looked = n }) looked
 
-pub fed_is : (scan new : ScanView) (t : List ℕ) → new.known ≡ fold turned scan.known t → new.looked ≡ scan.looked + length t → new ≡ fold fed scan t
+pub fed_is : (scan new : ScanView) (t : List ℕ) → new.known ≡ fold scan_step scan.known t → new.looked ≡ scan.looked + length t → new ≡ fold fed scan t
 fed_is scan new t known looked = same_view new (fold fed scan t) (known ∙ sym (fed_known scan t)) (looked ∙ sym (fed_looked scan t))
 
 -- ---- what a scan stands for
 
-pub stands_more : (pending : Bool) (scan new : ScanView) (text more : List ℕ) → new ≡ fold fed scan more → StandsFor pending scan text → StandsFor pending new (text ++ more)
+pub stands_more : (pending : Bool) (scan new : ScanView) (text more : List ℕ) → new ≡ fold fed scan more → IsScanOf pending scan text → IsScanOf pending new (text ++ more)
 stands_more pending scan new text more by stands =
     by ∙ ap (λ (s : ScanView). fold fed s more) stands ∙ sym (fold-append fed (new_scan pending) text more)
 
-pub stands_reach : (pending : Bool) (scan : ScanView) (text : List ℕ) → StandsFor pending scan text → reached scan ≡ reach_of pending text
+pub stands_reach : (pending : Bool) (scan : ScanView) (text : List ℕ) → IsScanOf pending scan text → reached scan ≡ extent_of pending text
 stands_reach pending scan text stands = ap (λ (s : ScanView). found s.known) stands ∙ ap found (fed_known (new_scan pending) text)
 
-pub stands_reaches : (pending : Bool) (scan : ScanView) (r : Reach) (text : List ℕ) → r ≡ reached scan → StandsFor pending scan text → Reaches pending r text
+pub stands_reaches : (pending : Bool) (scan : ScanView) (r : ItemExtent) (text : List ℕ) → r ≡ reached scan → IsScanOf pending scan text → IsFirstExtent pending r text
 stands_reaches pending scan r text is stands =
-    subst (λ (q : Reach). Reaches pending q text) (sym (is ∙ stands_reach pending scan text stands)) (reaches pending text)
+    subst (λ (q : ItemExtent). IsFirstExtent pending q text) (sym (is ∙ stands_reach pending scan text stands)) (reaches pending text)
 
-pub stands_count : (pending : Bool) (scan : ScanView) (text : List ℕ) → StandsFor pending scan text → scan.looked ≡ length text
+pub stands_count : (pending : Bool) (scan : ScanView) (text : List ℕ) → IsScanOf pending scan text → scan.looked ≡ length text
 stands_count pending scan text stands =
     let count : scan.looked ≡ 0 + length text = ap (λ (s : ScanView). s.looked) stands ∙ fed_looked (new_scan pending) text in
     omega (arith, count)
@@ -49,12 +49,12 @@ stands_count pending scan text stands =
 -- ---- one step of a scan
 
 -- what a scan takes, by what is known of it after the octets and by their count
-pub takes : (scan shown new : ScanView) (t : List ℕ) (count : ℕ) → shown ≡ scan → new.known ≡ fold turned scan.known t → new.looked ≡ shown.looked + count → length t ≡ count → new ≡ fold fed scan t
+pub takes : (scan shown new : ScanView) (t : List ℕ) (count : ℕ) → shown ≡ scan → new.known ≡ fold scan_step scan.known t → new.looked ≡ shown.looked + count → length t ≡ count → new ≡ fold fed scan t
 takes scan shown new t count is known looked len =
     fed_is scan new t known (looked ∙ ap (λ (s : ScanView). s.looked + count) is ∙ ap (λ (n : ℕ). scan.looked + n) (sym len))
 
 -- where nothing came first after a text, nothing did in front of a part of it
-need_back : (known : Scanned) (t : List ℕ) → found (fold turned known t) ≡ Need → found known ≡ Need
+need_back : (known : Scanned) (t : List ℕ) → found (fold scan_step known t) ≡ Need → found known ≡ Need
 need_back (Open line outside used) t e = refl
 need_back (Found reach) t e = sym (ap found (found_stays reach t)) ∙ e
 
@@ -64,8 +64,8 @@ front_of t k n le = let parts : k + (n - k) ≡ n = omega arith in ap (λ (m : �
 pub needs_before : (scan new : ScanView) (t : List ℕ) (n k : ℕ) → new ≡ fold fed scan (take n t) → reached new ≡ Need → k ≤ n → reached (fold fed scan (take k t)) ≡ Need
 needs_before scan new t n k by need le =
     ap found (fed_known scan (take k t))
-    ∙ need_back (fold turned scan.known (take k t)) (take (n - k) (drop k t))
-    (ap found (sym (fold-append turned scan.known (take k t) (take (n - k) (drop k t))) ∙ ap (fold turned scan.known) (sym (front_of t k n le)) ∙ sym (fed_known scan (take n t)) ∙ ap (λ (s : ScanView). s.known) (sym by)) ∙ need)
+    ∙ need_back (fold scan_step scan.known (take k t)) (take (n - k) (drop k t))
+    (ap found (sym (fold-append scan_step scan.known (take k t) (take (n - k) (drop k t))) ∙ ap (fold scan_step scan.known) (sym (front_of t k n le)) ∙ sym (fed_known scan (take n t)) ∙ ap (λ (s : ScanView). s.known) (sym by)) ∙ need)
 
 -- ---- a piece in several steps
 
@@ -93,7 +93,7 @@ none_before_on scan mid t n m one front rest k lt = elim (cases_order k n) [
 
 -- ---- octets are taken as long as nothing came first
 
-reached_some : (r : Reach) → (r ≡ Need → ⊥) → is_reached r ≡ true
+reached_some : (r : ItemExtent) → (r ≡ Need → ⊥) → is_reached r ≡ true
 reached_some Need some = absurd (some refl)
 reached_some (Command count) some = refl
 reached_some (Bad count) some = refl
@@ -126,16 +126,16 @@ fed_until-append scan (x ∷ t) u = go (is_reached (reached scan)) refl (fed_unt
     go false is rest = rest
 
 -- what came first stays where all that is left is nothing
-settled : (known : Scanned) (rest : List ℕ) → (found known ≡ Need → length rest ≡ 0) → found known ≡ found (fold turned known rest)
-settled (Open line outside used) rest none = ap (λ (t : List ℕ). found (fold turned (Open line outside used) t)) (sym (nil_from_length rest (none refl)))
+settled : (known : Scanned) (rest : List ℕ) → (found known ≡ Need → length rest ≡ 0) → found known ≡ found (fold scan_step known rest)
+settled (Open line outside used) rest none = ap (λ (t : List ℕ). found (fold scan_step (Open line outside used) t)) (sym (nil_from_length rest (none refl)))
 settled (Found reach) rest none = ap found (sym (found_stays reach rest))
 
 -- what came first in a whole buffer
-pub whole_reach : (pending : Bool) (new : ScanView) (t : List ℕ) (n : ℕ) → new ≡ fold fed (new_scan pending) (take n t) → (reached new ≡ Need → n ≡ length t) → reached new ≡ reach_of pending t
+pub whole_reach : (pending : Bool) (new : ScanView) (t : List ℕ) (n : ℕ) → new ≡ fold fed (new_scan pending) (take n t) → (reached new ≡ Need → n ≡ length t) → reached new ≡ extent_of pending t
 whole_reach pending new t n by all =
     known_is
-    ∙ settled (fold turned (fresh pending) (take n t)) (drop n t) (λ need. omega (arith, length-drop n t, all (known_is ∙ need)))
-    ∙ ap found (sym (fold-append turned (fresh pending) (take n t) (drop n t)) ∙ ap (fold turned (fresh pending)) (take-append-drop n t))
+    ∙ settled (fold scan_step (scan_start pending) (take n t)) (drop n t) (λ need. omega (arith, length-drop n t, all (known_is ∙ need)))
+    ∙ ap found (sym (fold-append scan_step (scan_start pending) (take n t) (drop n t)) ∙ ap (fold scan_step (scan_start pending)) (take-append-drop n t))
   where
-    known_is : reached new ≡ found (fold turned (fresh pending) (take n t))
+    known_is : reached new ≡ found (fold scan_step (scan_start pending) (take n t))
     known_is = ap reached by ∙ ap found (fed_known (new_scan pending) (take n t))

@@ -5,12 +5,12 @@ use Rattle.std.specs.Char.{to_ascii_uppercase, is_ascii_digit}
 use Rattle.std.proofs.lemmas.Bool.{eqb-true, eqb-false, ltb-true, leb-true, or_cases, or_from, and_parts}
 use Rattle.std.proofs.lemmas.List.{append-nil}
 use Rattle.octets.specs.Decimal.{with_digit}
-use Rattle.msproto.specs.Arguments.{inside, is_quotable}
-use Rattle.msproto.specs.Machine.{Params, LineEnd, MaybeText, ThenText, ThenNumber, rows, begins_row, params_in, State, Word, Between, Opening, Quoted, Escaped, Brace, Count, Plus, Closed, Return, Body, Number, Digits, LineFeed, Whole, Dead, after_space, after_return, leave, leave_named, longer, literal_left, step, run, start}
-use Rattle.msproto.proofs.Left.{IsAfter, InName, AtString, InQuotes, InEscape, AtCount, InCount, InLiteral, AtNumber, InNumber, IsLeft, IsProper}
+use Rattle.managesieve_protocol.specs.Arguments.{inside, is_quotable_octet}
+use Rattle.managesieve_protocol.specs.Machine.{Params, LineEnd, MaybeText, ThenText, ThenNumber, rows, begins_row, params_in, LineState, Word, Between, Opening, Quoted, Escaped, Brace, Count, Plus, Closed, Return, Body, Number, Digits, LineFeed, Whole, Dead, after_space, after_return, leave, leave_named, longer, literal_left, step, run, start_state}
+use Rattle.managesieve_protocol.proofs.Left.{IsAfter, InName, AtString, InQuotes, InEscape, AtCount, InCount, InLiteral, AtNumber, InNumber, IsLeft, IsProper}
 
 -- which way a test went
-fork : {R : Type 0} (b : Bool) (s u : State) (t : List ℕ) → IsLeft (cond b s u) t → (b ≡ true → IsLeft s t → R) → (b ≡ false → IsLeft u t → R) → R
+fork : {R : Type 0} (b : Bool) (s u : LineState) (t : List ℕ) → IsLeft (cond b s u) t → (b ≡ true → IsLeft s t → R) → (b ≡ false → IsLeft u t → R) → R
 fork true s u t h f g = f refl h
 fork false s u t h f g = g refl h
 
@@ -78,7 +78,7 @@ into_quote params x t e h = record {
 into_end : (left : ℕ) (params : Params) (x : ℕ) (t : List ℕ) → x ≡ 34 → IsAfter params t → InQuotes left params (x ∷ t)
 into_end left params x t e h = record { value = []; rest = t; allowed = tt; short = omega arith; after = h; written = rw e refl }
 
-quotable_special : (x : ℕ) → (x == 34 || x == 92) ≡ true → is_quotable x ≡ true
+quotable_special : (x : ℕ) → (x == 34 || x == 92) ≡ true → is_quotable_octet x ≡ true
 quotable_special x e =
     elim (or_cases (x == 34) (x == 92) e) [ inl a ↦ rw (eqb-true x 34 a) refl | inr b ↦ rw (eqb-true x 92 b) refl ]
 
@@ -92,7 +92,7 @@ into_backslash left params x t e lt h = record {
   written = rw (h.special, e, h.written, h.within.written) refl;
 }
 
-into_plain : (left : ℕ) (params : Params) (x : ℕ) (t : List ℕ) → (x == 34) ≡ false → (x == 92) ≡ false → is_quotable x ≡ true → 0 < left → InQuotes (left - 1) params t → InQuotes left params (x ∷ t)
+into_plain : (left : ℕ) (params : Params) (x : ℕ) (t : List ℕ) → (x == 34) ≡ false → (x == 92) ≡ false → is_quotable_octet x ≡ true → 0 < left → InQuotes (left - 1) params t → InQuotes left params (x ∷ t)
 into_plain left params x t a b q lt h =
     let plain : (x == 34 || x == 92) ≡ false = or_from (x == 34) (x == 92) a b in record {
       value = x ∷ h.value;
@@ -111,8 +111,8 @@ into_quoted left params x t h =
     (λ e m. fork (nat_lt 1 left) (Escaped (left - 2) params) Dead t m
     (λ lt r. into_backslash left params x t (eqb-true x 92 e) (ltb-true 1 left lt) r)
     (λ lt r. absurd r))
-    (λ b m. fork (is_quotable x && nat_lt 0 left) (Quoted (left - 1) params) Dead t m
-    (λ q r. into_plain left params x t a b (and_parts (is_quotable x) (nat_lt 0 left) q).0 (ltb-true 0 left (and_parts (is_quotable x) (nat_lt 0 left) q).1) r)
+    (λ b m. fork (is_quotable_octet x && nat_lt 0 left) (Quoted (left - 1) params) Dead t m
+    (λ q r. into_plain left params x t a b (and_parts (is_quotable_octet x) (nat_lt 0 left) q).0 (ltb-true 0 left (and_parts (is_quotable_octet x) (nat_lt 0 left) q).1) r)
     (λ q r. absurd r)))
 
 into_escaped : (left : ℕ) (params : Params) (x : ℕ) (t : List ℕ) → IsLeft (step (Escaped left params) x) t → InEscape left params (x ∷ t)
@@ -179,7 +179,7 @@ into_plus number params x t lt e h = record {
 }
 
 -- a digit more
-longer_fork : {R : Type 0} (to : ℕ → State) (number x : ℕ) (t : List ℕ) → IsLeft (longer to number x) t → ((number == 0) ≡ false → with_digit number x < 2 ^ 32 → IsLeft (to (with_digit number x)) t → R) → R
+longer_fork : {R : Type 0} (to : ℕ → LineState) (number x : ℕ) (t : List ℕ) → IsLeft (longer to number x) t → ((number == 0) ≡ false → with_digit number x < 2 ^ 32 → IsLeft (to (with_digit number x)) t → R) → R
 longer_fork to number x t h f =
     fork (number == 0) Dead (cond (nat_lt (with_digit number x) (2 ^ 32)) (to (with_digit number x)) Dead) t h
     (λ e l. absurd l)
@@ -236,7 +236,7 @@ into_digits number x t lt h =
 
 -- ---- all states
 
-pub into : (s : State) (x : ℕ) (t : List ℕ) → IsProper s → IsLeft (step s x) t → IsLeft s (x ∷ t)
+pub into : (s : LineState) (x : ℕ) (t : List ℕ) → IsProper s → IsLeft (step s x) t → IsLeft s (x ∷ t)
 into (Word p) x t proper h = into_word p x t h
 into (Between params) x t proper h = into_leave params x t h
 into (Opening params) x t proper h = into_opening params x t h
@@ -257,7 +257,7 @@ into Dead x t proper h = absurd h
 -- ---- a line can come only to proper states
 
 -- either way of a test
-either : (b : Bool) (s u : State) → (b ≡ true → IsProper s) → (b ≡ false → IsProper u) → IsProper (cond b s u)
+either : (b : Bool) (s u : LineState) → (b ≡ true → IsProper s) → (b ≡ false → IsProper u) → IsProper (cond b s u)
 either true s u f g = f refl
 either false s u f g = g refl
 
@@ -284,7 +284,7 @@ proper_named (Some params) x = proper_leave params x
 proper_left : (number : ℕ) (params : Params) → IsProper (literal_left number params)
 proper_left number params = either (number == 0) (Between params) (Body (number - 1) params) (λ e. tt) (λ e. tt)
 
-proper_longer : (to : ℕ → State) (number x : ℕ) → ((n : ℕ) → n < 2 ^ 32 → IsProper (to n)) → IsProper (longer to number x)
+proper_longer : (to : ℕ → LineState) (number x : ℕ) → ((n : ℕ) → n < 2 ^ 32 → IsProper (to n)) → IsProper (longer to number x)
 proper_longer to number x f =
     either (number == 0) Dead _ (λ e. tt)
     (λ e. either (nat_lt (with_digit number x) (2 ^ 32)) (to (with_digit number x)) Dead (λ lt. f (with_digit number x) (ltb-true (with_digit number x) (2 ^ 32) lt)) (λ lt. tt))
@@ -292,7 +292,7 @@ proper_longer to number x f =
 small_digit : (x : ℕ) → is_ascii_digit x ≡ true → with_digit 0 x < 2 ^ 32
 small_digit x e = omega (arith, ltb-true, leb-true, and_parts (leb 48 x) (leb x 57) e)
 
-pub proper_step : (s : State) (x : ℕ) → IsProper s → IsProper (step s x)
+pub proper_step : (s : LineState) (x : ℕ) → IsProper s → IsProper (step s x)
 proper_step (Word p) x h =
     either (begins_row rows (p ++ to_ascii_uppercase x ∷ [])) (Word (p ++ to_ascii_uppercase x ∷ [])) (leave_named (params_in rows p) x) (λ e. e) (λ e. proper_named (params_in rows p) x)
 proper_step (Between params) x h = proper_leave params x
@@ -301,7 +301,7 @@ proper_step (Quoted left params) x h =
     either (x == 34) (Between params) _ (λ e. tt)
     (λ e. either (x == 92) (cond (nat_lt 1 left) (Escaped (left - 2) params) Dead) _
     (λ d. either (nat_lt 1 left) (Escaped (left - 2) params) Dead (λ c. tt) (λ c. tt))
-    (λ d. either (is_quotable x && nat_lt 0 left) (Quoted (left - 1) params) Dead (λ c. tt) (λ c. tt)))
+    (λ d. either (is_quotable_octet x && nat_lt 0 left) (Quoted (left - 1) params) Dead (λ c. tt) (λ c. tt)))
 proper_step (Escaped left params) x h = either (x == 34 || x == 92) (Quoted left params) Dead (λ e. tt) (λ e. tt)
 proper_step (Brace params) x h = either (is_ascii_digit x) (Count (with_digit 0 x) params) Dead (λ e. small_digit x e) (λ e. tt)
 proper_step (Count number params) x h =
@@ -319,20 +319,20 @@ proper_step LineFeed x h = either (x == 10) Whole Dead (λ e. tt) (λ e. tt)
 proper_step Whole x h = tt
 proper_step Dead x h = tt
 
-pub proper_run : (s : State) (t : List ℕ) → IsProper s → IsProper (run s t)
+pub proper_run : (s : LineState) (t : List ℕ) → IsProper s → IsProper (run s t)
 proper_run s [] h = h
 proper_run s (x ∷ t) h = proper_run (step s x) t (proper_step s x h)
 
-pub proper_start : (pending : Bool) → IsProper (start pending)
+pub proper_start : (pending : Bool) → IsProper (start_state pending)
 unfolding rows
 proper_start false = refl
 proper_start true = tt
 
 -- ---- from a state to a whole line
 
-whole_only : (s : State) → s ≡ Whole → IsLeft s []
+whole_only : (s : LineState) → s ≡ Whole → IsLeft s []
 whole_only s e = rw e refl
 
-pub whole_left : (s : State) (t : List ℕ) → IsProper s → run s t ≡ Whole → IsLeft s t
+pub whole_left : (s : LineState) (t : List ℕ) → IsProper s → run s t ≡ Whole → IsLeft s t
 whole_left s [] proper e = whole_only s e
 whole_left s (x ∷ t) proper e = into s x t proper (whole_left (step s x) t (proper_step s x proper) e)

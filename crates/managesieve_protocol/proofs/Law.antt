@@ -3,14 +3,14 @@ use Rattle.std.proofs.Common.{◌≡◌, ℕ, Bool, true, false, List, [], ◌�
 use Rattle.std.specs.Prelude.{map, replicate}
 use Rattle.std.specs.Char.{to_ascii_uppercase}
 use Rattle.std.proofs.lemmas.List.{length-replicate}
-use Rattle.msproto.specs.Machine.{Params, LineEnd, MaybeText, ThenText, ThenNumber, rows, params_in, State, Word, Between, Opening, Quoted, Escaped, Brace, Count, Plus, Closed, Return, Body, Number, Digits, LineFeed, Whole, Dead, literal_left, run, start}
-use Rattle.msproto.specs.declared.commands.Command.{Command}
-use Rattle.msproto.specs.declared.commands.Command.TheVariants.{Response}
-use Rattle.msproto.specs.Commands.{Form, Named, Alone, form_of, IsFormed, IsSpelling, IsCommand, IsViable}
-use Rattle.msproto.proofs.Left.{IsAfter, InName, IsProper}
-use Rattle.msproto.proofs.Into.{whole_left, proper_start, proper_run}
-use Rattle.msproto.proofs.Runs.{run-append, run_dead, body-run, string-run, after-run}
-use Rattle.msproto.proofs.Names.{word-run, name_goes_on, fill_after, after_fill, IsFilled, filled, named_command}
+use Rattle.managesieve_protocol.specs.Machine.{Params, LineEnd, MaybeText, ThenText, ThenNumber, rows, params_in, LineState, Word, Between, Opening, Quoted, Escaped, Brace, Count, Plus, Closed, Return, Body, Number, Digits, LineFeed, Whole, Dead, literal_left, run, start_state}
+use Rattle.managesieve_protocol.specs.declared.commands.ClientCommand.{ClientCommand}
+use Rattle.managesieve_protocol.specs.declared.commands.ClientCommand.TheVariants.{Response}
+use Rattle.managesieve_protocol.specs.Commands.{Form, Named, Alone, form_of, IsFormed, IsSpelling, IsCommand, IsViable}
+use Rattle.managesieve_protocol.proofs.Left.{IsAfter, InName, IsProper}
+use Rattle.managesieve_protocol.proofs.Into.{whole_left, proper_start, proper_run}
+use Rattle.managesieve_protocol.proofs.Runs.{run-append, run_dead, body-run, string-run, after-run}
+use Rattle.managesieve_protocol.proofs.Names.{word-run, name_goes_on, fill_after, after_fill, IsFilled, filled, named_command}
 
 -- ---- from each state that lives a line can be ended
 
@@ -34,7 +34,7 @@ zeros-run : (n : ℕ) (params : Params) → run (literal_left n params) (replica
 zeros-run n params =
     ap (λ (m : ℕ). run (literal_left m params) (replicate n 0 ++ finish params)) (sym (length-replicate n 0)) ∙ body-run (replicate n 0) params (finish params) ∙ finish-run params
 
-pub live : (s : State) → IsProper s → (s ≡ Dead → ⊥) → (t : List ℕ) × (run s t ≡ Whole)
+pub live : (s : LineState) → IsProper s → (s ≡ Dead → ⊥) → (t : List ℕ) × (run s t ≡ Whole)
 live (Word p) proper alive =
     let on = name_goes_on p proper in
     let named : params_in rows (p ++ map to_ascii_uppercase on.0) ≡ Some on.1 = ap (λ (u : List ℕ). params_in rows (p ++ u)) on.3 ∙ on.2 in
@@ -57,7 +57,7 @@ live Dead proper alive = absurd (alive refl)
 
 -- ---- spellings
 
-formed_whole : (pending : Bool) (form : Form) (text : List ℕ) → IsFilled form → IsFormed pending form text → run (start pending) text ≡ Whole
+formed_whole : (pending : Bool) (form : Form) (text : List ℕ) → IsFilled form → IsFormed pending form text → run (start_state pending) text ≡ Whole
 formed_whole false (Named word arguments) text f h =
     let after : IsAfter f.0 h.rest = fill_after f.2 h.rest h.filled in
     let named : params_in rows (map to_ascii_uppercase h.name) ≡ Some f.0 = ap (params_in rows) h.named ∙ f.1 in
@@ -67,7 +67,7 @@ formed_whole true (Named word arguments) text f h = absurd h
 formed_whole true (Alone value) text f h =
     ap (run (Opening LineEnd)) h.written ∙ string-run value h.first LineEnd (13 ∷ 10 ∷ []) h.string
 
-pub spelling_whole : (pending : Bool) (command : Command) (text : List ℕ) → IsSpelling pending command text → run (start pending) text ≡ Whole
+pub spelling_whole : (pending : Bool) (command : ClientCommand) (text : List ℕ) → IsSpelling pending command text → run (start_state pending) text ≡ Whole
 spelling_whole pending command text h = formed_whole pending (form_of command) text (filled command) h
 
 named_spelling : (text : List ℕ) → InName [] text → IsCommand false text
@@ -77,7 +77,7 @@ named_spelling text h =
     let line : IsFormed false (Named (map to_ascii_uppercase h.name) fill.0) text = record { name = h.name; rest = h.rest; named = refl; filled = fill.2; written = h.written } in
     (found.0, subst (λ (form : Form). IsFormed false form text) (sym found.1) line)
 
-pub whole_spelling : (pending : Bool) (text : List ℕ) → run (start pending) text ≡ Whole → IsCommand pending text
+pub whole_spelling : (pending : Bool) (text : List ℕ) → run (start_state pending) text ≡ Whole → IsCommand pending text
 whole_spelling false text e = named_spelling text (whole_left (Word []) text (proper_start false) e)
 whole_spelling true text e =
     let h = whole_left (Opening LineEnd) text tt e in
@@ -85,13 +85,13 @@ whole_spelling true text e =
 
 -- ---- fronts of spellings
 
-pub viable_live : (pending : Bool) (text : List ℕ) → IsViable pending text → run (start pending) text ≡ Dead → ⊥
+pub viable_live : (pending : Bool) (text : List ℕ) → IsViable pending text → run (start_state pending) text ≡ Dead → ⊥
 viable_live pending text h dead =
     let whole = spelling_whole pending h.1.0 (text ++ h.0) h.1.1 in
-    let gone : run (start pending) (text ++ h.0) ≡ Dead = run-append (start pending) text h.0 ∙ ap (λ (s : State). run s h.0) dead ∙ run_dead h.0 in
+    let gone : run (start_state pending) (text ++ h.0) ≡ Dead = run-append (start_state pending) text h.0 ∙ ap (λ (s : LineState). run s h.0) dead ∙ run_dead h.0 in
     cc (whole, gone)
 
-pub live_viable : (pending : Bool) (text : List ℕ) → (run (start pending) text ≡ Dead → ⊥) → IsViable pending text
+pub live_viable : (pending : Bool) (text : List ℕ) → (run (start_state pending) text ≡ Dead → ⊥) → IsViable pending text
 live_viable pending text alive =
-    let more = live (run (start pending) text) (proper_run (start pending) text (proper_start pending)) alive in
-    (more.0, whole_spelling pending (text ++ more.0) (run-append (start pending) text more.0 ∙ more.1))
+    let more = live (run (start_state pending) text) (proper_run (start_state pending) text (proper_start pending)) alive in
+    (more.0, whole_spelling pending (text ++ more.0) (run-append (start_state pending) text more.0 ∙ more.1))

@@ -3,15 +3,15 @@ use Rattle.std.proofs.Common.{◌≡◌, ℕ, suc, ◌<◌, ◌≤◌, ◌^◌, 
 use Rattle.std.specs.Prelude.{map, fold}
 use Rattle.std.specs.Char.{to_ascii_uppercase}
 use Rattle.octets.specs.Decimal.{with_digit}
-use Rattle.msproto.specs.Arguments.{inside, AreQuotable, AreDigits, IsNumeral, IsString}
-use Rattle.msproto.specs.Machine.{Params, LineEnd, MaybeText, ThenText, ThenNumber, rows, begins_row, params_in, State, Word, Between, Opening, Quoted, Escaped, Brace, Count, Plus, Closed, Return, Body, Number, Digits, LineFeed, Whole, Dead}
+use Rattle.managesieve_protocol.specs.Arguments.{inside, AreQuotable, AreDigits, IsDecimalNumber, IsString}
+use Rattle.managesieve_protocol.specs.Machine.{Params, LineEnd, MaybeText, ThenText, ThenNumber, rows, begins_row, params_in, LineState, Word, Between, Opening, Quoted, Escaped, Brace, Count, Plus, Closed, Return, Body, Number, Digits, LineFeed, Whole, Dead}
 
 -- after a name or an argument
 abbrev pub IsAfter : Params → List ℕ → Type 0
 IsAfter LineEnd text = text ≡ 13 ∷ 10 ∷ []
 IsAfter MaybeText text = (text ≡ 13 ∷ 10 ∷ []) ⊎ ((value : List ℕ) × (first : List ℕ) × (rest : List ℕ) × IsString value first × (rest ≡ 13 ∷ 10 ∷ []) × (text ≡ 32 ∷ (first ++ rest)))
 IsAfter (ThenText more) text = (value : List ℕ) × (first : List ℕ) × (rest : List ℕ) × IsString value first × IsAfter more rest × (text ≡ 32 ∷ (first ++ rest))
-IsAfter ThenNumber text = (number : ℕ) × (first : List ℕ) × IsNumeral number first × (number < 2 ^ 32) × (text ≡ 32 ∷ (first ++ 13 ∷ 10 ∷ []))
+IsAfter ThenNumber text = (number : ℕ) × (first : List ℕ) × IsDecimalNumber number first × (number < 2 ^ 32) × (text ≡ 32 ∷ (first ++ 13 ∷ 10 ∷ []))
 
 -- in a name of which these letters are read
 pub record InName (letters text : List ℕ) : Type 0 where
@@ -53,7 +53,7 @@ pub record AtCount (params : Params) (text : List ℕ) : Type 0 where
   pub digits : List ℕ
   pub value : List ℕ
   pub rest : List ℕ
-  pub numeral : IsNumeral (length value) digits
+  pub numeral : IsDecimalNumber (length value) digits
   pub short : length value < 2 ^ 32
   pub after : IsAfter params rest
   pub written : text ≡ digits ++ 43 ∷ 125 ∷ 13 ∷ 10 ∷ (value ++ rest)
@@ -82,7 +82,7 @@ pub record InLiteral (front : List ℕ) (left : ℕ) (params : Params) (text : L
 pub record AtNumber (text : List ℕ) : Type 0 where
   pub number : ℕ
   pub first : List ℕ
-  pub numeral : IsNumeral number first
+  pub numeral : IsDecimalNumber number first
   pub short : number < 2 ^ 32
   pub written : text ≡ first ++ 13 ∷ 10 ∷ []
 
@@ -94,7 +94,7 @@ pub record InNumber (number : ℕ) (text : List ℕ) : Type 0 where
   pub short : fold with_digit number digits < 2 ^ 32
   pub written : text ≡ digits ++ 13 ∷ 10 ∷ []
 
-abbrev pub IsLeft : State → List ℕ → Type 0
+abbrev pub IsLeft : LineState → List ℕ → Type 0
 IsLeft (Word letters) text = InName letters text
 IsLeft (Between params) text = IsAfter params text
 IsLeft (Opening params) text = AtString params text
@@ -113,7 +113,7 @@ IsLeft Whole text = text ≡ []
 IsLeft Dead text = ⊥
 
 -- the states that a line can come to
-abbrev pub IsProper : State → Type 0
+abbrev pub IsProper : LineState → Type 0
 IsProper (Word letters) = begins_row rows letters ≡ true
 IsProper (Between params) = Unit {0}
 IsProper (Opening params) = Unit {0}

@@ -4,12 +4,12 @@ use Rattle.std.specs.Prelude.{map, codes}
 use Rattle.std.specs.Char.{to_ascii_uppercase}
 use Rattle.std.proofs.lemmas.Bool.{eqb-true, eq-eqb, or_cases, or_from, or_left, or_right, and_parts, and_from, and_left, and_right, not-true}
 use Rattle.std.proofs.lemmas.List.{append-nil}
-use Rattle.msproto.specs.Arguments.{Argument, Text, Figure, AreArguments}
-use Rattle.msproto.specs.Machine.{Params, LineEnd, MaybeText, ThenText, ThenNumber, rows, begins, begins_row, same_word, params_in, State, Word, Between, leave, step, run}
-use Rattle.msproto.proofs.Left.{IsAfter}
-use Rattle.msproto.specs.declared.commands.Command.{Command}
-use Rattle.msproto.specs.declared.commands.Command.TheVariants.{Capability, Noop, Logout, Authenticate, Unauthenticate, HaveSpace, PutScript, CheckScript, ListScripts, SetActive, GetScript, DeleteScript, RenameScript, Response}
-use Rattle.msproto.specs.Commands.{Form, Named, Alone, form_of}
+use Rattle.managesieve_protocol.specs.Arguments.{LineArgument, Text, Figure, AreLineArguments}
+use Rattle.managesieve_protocol.specs.Machine.{Params, LineEnd, MaybeText, ThenText, ThenNumber, rows, begins, begins_row, same_word, params_in, LineState, Word, Between, leave, step, run}
+use Rattle.managesieve_protocol.proofs.Left.{IsAfter}
+use Rattle.managesieve_protocol.specs.declared.commands.ClientCommand.{ClientCommand}
+use Rattle.managesieve_protocol.specs.declared.commands.ClientCommand.TheVariants.{Capability, Noop, Logout, Authenticate, Unauthenticate, HaveSpace, PutScript, CheckScript, ListScripts, SetActive, GetScript, DeleteScript, RenameScript, Response}
+use Rattle.managesieve_protocol.specs.Commands.{Form, Named, Alone, form_of}
 
 abbrev pub Rows : Type 0
 Rows = List (List ℕ × Params)
@@ -159,7 +159,7 @@ return-step : (w : List ℕ) (s : Params) → params_in rows w ≡ Some s → st
 return-step w s e = let none = no_return w in rw (none, e) refl
 
 name_end : (w : List ℕ) (s : Params) (x : ℕ) (t : List ℕ) → step (Word w) x ≡ leave s x → run (Word w) (x ∷ t) ≡ run (Between s) (x ∷ t)
-name_end w s x t e = ap (λ (u : State). run u t) e
+name_end w s x t e = ap (λ (u : LineState). run u t) e
 
 named-run : (w : List ℕ) (s : Params) (t : List ℕ) → params_in rows w ≡ Some s → IsAfter s t → run (Word w) t ≡ run (Between s) t
 named-run w LineEnd t e h = rw h (name_end w LineEnd 13 (10 ∷ []) (return-step w LineEnd e))
@@ -175,25 +175,25 @@ word-run (x ∷ name) p s t e h =
     let again : params_in rows (next ++ map to_ascii_uppercase name) ≡ Some s = ap (params_in rows) (append_assoc p (to_ascii_uppercase x ∷ []) (map to_ascii_uppercase name)) ∙ e in
     let on : begins_row rows next ≡ true = params_begins rows next (map to_ascii_uppercase name) s again in
     let once : step (Word p) x ≡ Word next = rw on refl in
-    ap (λ (u : State). run u (name ++ t)) once ∙ word-run name next s t again h
+    ap (λ (u : LineState). run u (name ++ t)) once ∙ word-run name next s t again h
 
 -- ---- arguments fill what a row asks
 
-pub data Fill : Params → List Argument → Type 0 where
+pub data Fill : Params → List LineArgument → Type 0 where
   at_end : Fill LineEnd []
   without : Fill MaybeText []
   with_one : (v : List ℕ) → Fill MaybeText (Text v ∷ [])
-  then_text : (v : List ℕ) {s : Params} {more : List Argument} → Fill s more → Fill (ThenText s) (Text v ∷ more)
+  then_text : (v : List ℕ) {s : Params} {more : List LineArgument} → Fill s more → Fill (ThenText s) (Text v ∷ more)
   then_figure : (n : ℕ) → Fill ThenNumber (Figure n ∷ [])
 
-pub fill_after : {s : Params} {arguments : List Argument} (f : Fill s arguments) (t : List ℕ) → AreArguments arguments t → IsAfter s t
+pub fill_after : {s : Params} {arguments : List LineArgument} (f : Fill s arguments) (t : List ℕ) → AreLineArguments arguments t → IsAfter s t
 fill_after at_end t h = h
 fill_after without t h = inl h
 fill_after (with_one v) t h = inr (v, h.0, h.1, h.2, h.3, h.4)
 fill_after (then_text v f) t h = (v, h.0, h.1, h.2, fill_after f h.1 h.3, h.4)
 fill_after (then_figure n) t h = (n, h.0, h.2.0, h.2.1, h.4 ∙ ap (λ (u : List ℕ). 32 ∷ (h.0 ++ u)) h.3)
 
-pub after_fill : (s : Params) (t : List ℕ) → IsAfter s t → (arguments : List Argument) × Fill s arguments × AreArguments arguments t
+pub after_fill : (s : Params) (t : List ℕ) → IsAfter s t → (arguments : List LineArgument) × Fill s arguments × AreLineArguments arguments t
 after_fill LineEnd t h = ([], at_end, h)
 after_fill MaybeText t (inl h) = ([], without, h)
 after_fill MaybeText t (inr h) = (Text h.0 ∷ [], with_one h.0, (h.1, h.2, h.3, h.4, h.5))
@@ -207,7 +207,7 @@ abbrev pub IsFilled : Form → Type 0
 IsFilled (Named word arguments) = (s : Params) × (params_in rows word ≡ Some s) × Fill s arguments
 IsFilled (Alone value) = Unit {0}
 
-pub filled : (c : Command) → IsFilled (form_of c)
+pub filled : (c : ClientCommand) → IsFilled (form_of c)
 unfolding rows
 filled Capability = (LineEnd, refl, at_end)
 filled (Noop None) = (MaybeText, refl, without)
@@ -227,14 +227,14 @@ filled (RenameScript old new) = (ThenText (ThenText LineEnd), refl, then_text ol
 filled (Response text) = tt
 
 -- the command of a name with these arguments
-abbrev Has : List ℕ → List Argument → Type 0
-Has word arguments = (c : Command) × (form_of c ≡ Named word arguments)
+abbrev Has : List ℕ → List LineArgument → Type 0
+Has word arguments = (c : ClientCommand) × (form_of c ≡ Named word arguments)
 
 abbrev Handles : Rows → Type 0
 Handles [] = Unit {0}
-Handles (row ∷ rs) = ((arguments : List Argument) → Fill row.1 arguments → Has row.0 arguments) × Handles rs
+Handles (row ∷ rs) = ((arguments : List LineArgument) → Fill row.1 arguments → Has row.0 arguments) × Handles rs
 
-handled : (rs : Rows) → Handles rs → (w : List ℕ) (s : Params) (arguments : List Argument) → params_in rs w ≡ Some s → Fill s arguments → Has w arguments
+handled : (rs : Rows) → Handles rs → (w : List ℕ) (s : Params) (arguments : List LineArgument) → params_in rs w ≡ Some s → Fill s arguments → Has w arguments
 handled [] hs w s arguments e f = absurd cc
 handled (row ∷ rs) hs w s arguments e f =
     elim (params_step (params_in rs w) row.0 w s row.1 e) [
@@ -242,27 +242,27 @@ handled (row ∷ rs) hs w s arguments e f =
       | inr h ↦ handled rs hs.1 w s arguments h f
     ]
 
-of_end : (word : List ℕ) (c : Command) → form_of c ≡ Named word [] → (arguments : List Argument) → Fill LineEnd arguments → Has word arguments
+of_end : (word : List ℕ) (c : ClientCommand) → form_of c ≡ Named word [] → (arguments : List LineArgument) → Fill LineEnd arguments → Has word arguments
 of_end word c e arguments at_end = (c, e)
 
-of_text : (word : List ℕ) (c : List ℕ → Command) → ((v : List ℕ) → form_of (c v) ≡ Named word (Text v ∷ [])) → (arguments : List Argument) → Fill (ThenText LineEnd) arguments → Has word arguments
+of_text : (word : List ℕ) (c : List ℕ → ClientCommand) → ((v : List ℕ) → form_of (c v) ≡ Named word (Text v ∷ [])) → (arguments : List LineArgument) → Fill (ThenText LineEnd) arguments → Has word arguments
 of_text word c e arguments (then_text v at_end) = (c v, e v)
 
-of_texts : (word : List ℕ) (c : List ℕ → List ℕ → Command) → ((v u : List ℕ) → form_of (c v u) ≡ Named word (Text v ∷ Text u ∷ [])) → (arguments : List Argument) → Fill (ThenText (ThenText LineEnd)) arguments → Has word arguments
+of_texts : (word : List ℕ) (c : List ℕ → List ℕ → ClientCommand) → ((v u : List ℕ) → form_of (c v u) ≡ Named word (Text v ∷ Text u ∷ [])) → (arguments : List LineArgument) → Fill (ThenText (ThenText LineEnd)) arguments → Has word arguments
 of_texts word c e arguments (then_text v (then_text u at_end)) = (c v u, e v u)
 
-of_authenticate : (arguments : List Argument) → Fill (ThenText MaybeText) arguments → Has (codes "AUTHENTICATE") arguments
+of_authenticate : (arguments : List LineArgument) → Fill (ThenText MaybeText) arguments → Has (codes "AUTHENTICATE") arguments
 of_authenticate arguments (then_text v without) = (Authenticate v None, refl)
 of_authenticate arguments (then_text v (with_one u)) = (Authenticate v (Some u), refl)
 
-of_noop : (arguments : List Argument) → Fill MaybeText arguments → Has (codes "NOOP") arguments
+of_noop : (arguments : List LineArgument) → Fill MaybeText arguments → Has (codes "NOOP") arguments
 of_noop arguments without = (Noop None, refl)
 of_noop arguments (with_one v) = (Noop (Some v), refl)
 
-of_space : (arguments : List Argument) → Fill (ThenText ThenNumber) arguments → Has (codes "HAVESPACE") arguments
+of_space : (arguments : List LineArgument) → Fill (ThenText ThenNumber) arguments → Has (codes "HAVESPACE") arguments
 of_space arguments (then_text v (then_figure n)) = (HaveSpace v n, refl)
 
-pub named_command : (w : List ℕ) (s : Params) (arguments : List Argument) → params_in rows w ≡ Some s → Fill s arguments → Has w arguments
+pub named_command : (w : List ℕ) (s : Params) (arguments : List LineArgument) → params_in rows w ≡ Some s → Fill s arguments → Has w arguments
 unfolding rows
 named_command = handled rows (
   of_authenticate,

@@ -5,15 +5,15 @@ use Rattle.std.specs.Char.{to_ascii_uppercase, is_ascii_digit}
 use Rattle.std.proofs.lemmas.Bool.{ne_eqb, eq-eqb, lt-ltb, and_parts, or_parts, or_from, not-true, both_ways}
 use Rattle.std.proofs.lemmas.List.{take_at, drop_at}
 use Rattle.octets.specs.Decimal.{with_digit}
-use Rattle.msproto.specs.declared.commands.Command.{Command}
-use Rattle.msproto.specs.declared.commands.Command.TheVariants.{Capability, Noop, Logout, Authenticate, Unauthenticate, HaveSpace, PutScript, CheckScript, ListScripts, SetActive, GetScript, DeleteScript, RenameScript, Response}
-use Rattle.msproto.specs.Arguments.{Argument, inside, AreDigits, IsNumeral, IsString, AreArguments}
-use Rattle.msproto.specs.Commands.{Form, Named, Alone, form_of, IsFormed, IsSpelling}
-use Rattle.msproto.specs.Machine.{Params, rows, params_in, verbs, verb_in}
-use Rattle.msproto.specs.declared.verb.Verb.{Verb}
-use Rattle.msproto.specs.Values.{Read, with_octet, quoted_in, number_in, octets_in, literal_in, string_in, size_in, text_in, maybe_text_in, name_length, command_of, line_command, command_in}
-use Rattle.msproto.proofs.Runs.{fold_grows}
-use Rattle.msproto.proofs.Names.{Rows, lacks, rows_lack, params_step, filled, IsFilled}
+use Rattle.managesieve_protocol.specs.declared.commands.ClientCommand.{ClientCommand}
+use Rattle.managesieve_protocol.specs.declared.commands.ClientCommand.TheVariants.{Capability, Noop, Logout, Authenticate, Unauthenticate, HaveSpace, PutScript, CheckScript, ListScripts, SetActive, GetScript, DeleteScript, RenameScript, Response}
+use Rattle.managesieve_protocol.specs.Arguments.{LineArgument, inside, AreDigits, IsDecimalNumber, IsString, AreLineArguments}
+use Rattle.managesieve_protocol.specs.Commands.{Form, Named, Alone, form_of, IsFormed, IsSpelling}
+use Rattle.managesieve_protocol.specs.Machine.{Params, rows, params_in, command_names, command_named}
+use Rattle.managesieve_protocol.specs.declared.command_name.CommandName.{CommandName}
+use Rattle.managesieve_protocol.specs.Values.{Read, prepend_octet, quoted_in, digits_in, octets_in, literal_in, string_in, size_in, text_in, maybe_text_in, name_length, command_of, line_command, command_in}
+use Rattle.managesieve_protocol.proofs.Runs.{fold_grows}
+use Rattle.managesieve_protocol.proofs.Names.{Rows, lacks, rows_lack, params_step, filled, IsFilled}
 
 -- ---- strings
 
@@ -22,18 +22,18 @@ quoted_back [] rest = refl
 quoted_back (x ∷ v) rest = go (x == 34 || x == 92) refl (quoted_back v rest)
   where
     go : (b : Bool) → (x == 34 || x == 92) ≡ b → quoted_in false (inside v ++ 34 ∷ rest) ≡ (v, rest) → quoted_in false (inside (x ∷ v) ++ 34 ∷ rest) ≡ (x ∷ v, rest)
-    go true e ih = rw e (ap (with_octet x) ih)
+    go true e ih = rw e (ap (prepend_octet x) ih)
     go false e ih =
         let parts = or_parts (x == 34) (x == 92) e in
-        rw (e, parts.0, parts.1) (ap (with_octet x) ih)
+        rw (e, parts.0, parts.1) (ap (prepend_octet x) ih)
 
-number_back : (ds : List ℕ) (n y : ℕ) (u : List ℕ) → AreDigits ds → fold with_digit n ds < 2 ^ 32 → is_ascii_digit y ≡ false → number_in n (ds ++ y ∷ u) ≡ (fold with_digit n ds, y ∷ u)
+number_back : (ds : List ℕ) (n y : ℕ) (u : List ℕ) → AreDigits ds → fold with_digit n ds < 2 ^ 32 → is_ascii_digit y ≡ false → digits_in n (ds ++ y ∷ u) ≡ (fold with_digit n ds, y ∷ u)
 number_back [] n y u are lt stop = rw stop refl
 number_back (d ∷ ds) n y u are lt stop =
     let below : nat_lt (with_digit n d) (2 ^ 32) ≡ true = lt-ltb _ _ (omega (arith, fold_grows ds (with_digit n d))) in
     rw (are.0, below) (number_back ds (with_digit n d) y u are.1 lt stop)
 
-numeral_back : (n : ℕ) (ds : List ℕ) (y : ℕ) (u : List ℕ) → IsNumeral n ds → n < 2 ^ 32 → is_ascii_digit y ≡ false → number_in 0 (ds ++ y ∷ u) ≡ (n, y ∷ u)
+numeral_back : (n : ℕ) (ds : List ℕ) (y : ℕ) (u : List ℕ) → IsDecimalNumber n ds → n < 2 ^ 32 → is_ascii_digit y ≡ false → digits_in 0 (ds ++ y ∷ u) ≡ (n, y ∷ u)
 numeral_back n [] y u h lt stop = absurd h
 numeral_back n (d ∷ ds) y u h lt stop =
     number_back (d ∷ ds) 0 y u h.0 (omega (arith, h.2, lt)) stop ∙ ap (λ (m : ℕ). (m, y ∷ u)) h.2
@@ -48,7 +48,7 @@ string_back v first rest (inl q) =
     ∙ quoted_back v rest
 string_back v first rest (inr l) =
     ap (λ (t : List ℕ). string_in (t ++ rest)) l.written
-    ∙ ap (λ (t : List ℕ). literal_in (number_in 0 t)) (append_assoc l.digits (43 ∷ 125 ∷ 13 ∷ 10 ∷ v) rest)
+    ∙ ap (λ (t : List ℕ). literal_in (digits_in 0 t)) (append_assoc l.digits (43 ∷ 125 ∷ 13 ∷ 10 ∷ v) rest)
     ∙ ap literal_in (numeral_back (length v) l.digits 43 (125 ∷ 13 ∷ 10 ∷ (v ++ rest)) l.numeral l.short refl)
     ∙ octets_back v rest
 
@@ -61,16 +61,16 @@ maybe_back v first rest t s e = ap maybe_text_in e ∙ ap (λ (read : Read). Som
 -- ---- arguments
 
 -- what a row of verbs says of the command after its name
-abbrev of_verb : Option Verb → List ℕ → Option Command
+abbrev of_verb : Option CommandName → List ℕ → Option ClientCommand
 of_verb None rest = None
 of_verb (Some verb) rest = Some (command_of verb rest)
 
 -- what stands after a command's name gives the command
-abbrev IsRead : Form → Command → List ℕ → Type 0
-IsRead (Named word arguments) command rest = AreArguments arguments rest → of_verb (verb_in verbs word) rest ≡ Some command
+abbrev IsRead : Form → ClientCommand → List ℕ → Type 0
+IsRead (Named word arguments) command rest = AreLineArguments arguments rest → of_verb (command_named command_names word) rest ≡ Some command
 IsRead (Alone value) command rest = Unit {0}
 
-read_back : (c : Command) (rest : List ℕ) → IsRead (form_of c) c rest
+read_back : (c : ClientCommand) (rest : List ℕ) → IsRead (form_of c) c rest
 read_back Capability rest = λ h. refl
 read_back (Noop None) rest = λ h. rw h refl
 read_back (Noop (Some tag)) rest = λ h. let e = maybe_back tag h.0 h.1 rest h.2 h.4 in rw e refl
@@ -83,7 +83,7 @@ read_back (Authenticate mechanism (Some response)) rest = λ h.
 read_back Unauthenticate rest = λ h. refl
 read_back (HaveSpace name size) rest = λ h.
     let e = text_back name h.0 h.1 rest h.2 h.4 in
-    let d : number_in 0 (h.3.0 ++ 13 ∷ 10 ∷ []) ≡ (size, 13 ∷ 10 ∷ []) = numeral_back size h.3.0 13 (10 ∷ []) h.3.2.0 h.3.2.1 refl in
+    let d : digits_in 0 (h.3.0 ++ 13 ∷ 10 ∷ []) ≡ (size, 13 ∷ 10 ∷ []) = numeral_back size h.3.0 13 (10 ∷ []) h.3.2.0 h.3.2.1 refl in
     let at : h.1 ≡ 32 ∷ (h.3.0 ++ 13 ∷ 10 ∷ []) = h.3.4 ∙ ap (λ (u : List ℕ). 32 ∷ (h.3.0 ++ u)) h.3.3 in
     rw e (ap (λ (t : List ℕ). Some (HaveSpace name (size_in t))) at ∙ ap (λ (p : ℕ × List ℕ). Some (HaveSpace name p.0)) d)
 read_back (PutScript name script) rest = λ h.
@@ -133,20 +133,20 @@ name_back (x ∷ name) rest a b e =
     let plain : (x == 32 || x == 13) ≡ false = or_from (x == 32) (x == 13) (other_case 32 x refl pa.0) (other_case 13 x refl pb.0) in
     rw plain (ap suc (name_back name rest pa.1 pb.1 e))
 
-arguments_end : (arguments : List Argument) (rest : List ℕ) → AreArguments arguments rest → name_length rest ≡ 0
+arguments_end : (arguments : List LineArgument) (rest : List ℕ) → AreLineArguments arguments rest → name_length rest ≡ 0
 arguments_end [] rest h = rw h refl
 arguments_end (a ∷ more) rest h = rw h.4 refl
 
 -- ---- commands
 
 -- the command of a line, by what its verb and what stands after the name give
-line_back : (name rest text : List ℕ) (o : Option Verb) (c : Command) → text ≡ name ++ rest → name_length text ≡ length name → of_verb o rest ≡ Some c → line_command o text ≡ c
+line_back : (name rest text : List ℕ) (o : Option CommandName) (c : ClientCommand) → text ≡ name ++ rest → name_length text ≡ length name → of_verb o rest ≡ Some c → line_command o text ≡ c
 line_back name rest text None c e stop back = absurd cc
 line_back name rest text (Some verb) c e stop back =
     let same : command_of verb rest ≡ c = cc in
     rw stop (rw e (rw (drop_at name rest (length name) refl) same))
 
-formed_back : (pending : Bool) (form : Form) (c : Command) (text : List ℕ) → form ≡ form_of c → IsFilled form → ((rest : List ℕ) → IsRead form c rest) → IsFormed pending form text → command_in pending text ≡ c
+formed_back : (pending : Bool) (form : Form) (c : ClientCommand) (text : List ℕ) → form ≡ form_of c → IsFilled form → ((rest : List ℕ) → IsRead form c rest) → IsFormed pending form text → command_in pending text ≡ c
 formed_back false (Named word arguments) c text e f back h =
     let named : params_in rows (map to_ascii_uppercase h.name) ≡ Some f.0 = ap (params_in rows) h.named ∙ f.1 in
     let stop : name_length (h.name ++ h.rest) ≡ length h.name =
@@ -157,8 +157,8 @@ formed_back false (Named word arguments) c text e f back h =
     ∙ ap (λ (t : List ℕ). map to_ascii_uppercase (take (length h.name) t)) h.written
     ∙ ap (map to_ascii_uppercase) (take_at h.name h.rest (length h.name) refl)
     ∙ h.named in
-    ap (λ (w : List ℕ). line_command (verb_in verbs w) text) word_is
-    ∙ line_back h.name h.rest text (verb_in verbs word) c h.written ends (back h.rest h.filled)
+    ap (λ (w : List ℕ). line_command (command_named command_names w) text) word_is
+    ∙ line_back h.name h.rest text (command_named command_names word) c h.written ends (back h.rest h.filled)
 formed_back false (Alone value) c text e f back h = absurd h
 formed_back true (Named word arguments) c text e f back h = absurd h
 formed_back true (Alone value) (Response v) text e f back h =
@@ -172,5 +172,5 @@ formed_back true (Alone value) (Authenticate mechanism (Some response)) text e f
 formed_back true (Alone value) _ text e f back h = absurd cc
 
 -- the command of a spelling is read from it
-pub spelling_back : (pending : Bool) (c : Command) (text : List ℕ) → IsSpelling pending c text → command_in pending text ≡ c
+pub spelling_back : (pending : Bool) (c : ClientCommand) (text : List ℕ) → IsSpelling pending c text → command_in pending text ≡ c
 spelling_back pending c text h = formed_back pending (form_of c) c text refl (filled c) (read_back c) h

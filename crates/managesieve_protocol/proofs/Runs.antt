@@ -4,11 +4,11 @@ use Rattle.std.specs.Prelude.{fold, nat_lt}
 use Rattle.std.specs.Char.{is_ascii_digit}
 use Rattle.std.proofs.lemmas.Bool.{cases_Bool, ne_eqb, leb-true, lt-ltb, and_parts, or_parts}
 use Rattle.octets.specs.Decimal.{with_digit}
-use Rattle.msproto.specs.Arguments.{inside, AreQuotable, AreDigits, IsNumeral, IsString}
-use Rattle.msproto.specs.Machine.{Params, LineEnd, MaybeText, ThenText, ThenNumber, State, Between, Opening, Quoted, Brace, Count, Body, Number, Digits, Whole, Dead, longer, literal_left, step, run}
-use Rattle.msproto.proofs.Left.{IsAfter}
+use Rattle.managesieve_protocol.specs.Arguments.{inside, AreQuotable, AreDigits, IsDecimalNumber, IsString}
+use Rattle.managesieve_protocol.specs.Machine.{Params, LineEnd, MaybeText, ThenText, ThenNumber, LineState, Between, Opening, Quoted, Brace, Count, Body, Number, Digits, Whole, Dead, longer, literal_left, step, run}
+use Rattle.managesieve_protocol.proofs.Left.{IsAfter}
 
-pub run-append : (s : State) (a b : List ℕ) → run s (a ++ b) ≡ run (run s a) b
+pub run-append : (s : LineState) (a b : List ℕ) → run s (a ++ b) ≡ run (run s a) b
 run-append s [] b = refl
 run-append s (x ∷ a) b = run-append (step s x) a b
 
@@ -51,14 +51,14 @@ fold_grows [] n = omega arith
 fold_grows (d ∷ ds) n = omega (arith, fold_grows ds (with_digit n d))
 
 -- digits take a state that counts them from one number to the next
-digits-run : (to : ℕ → State) → ((n d : ℕ) → is_ascii_digit d ≡ true → step (to n) d ≡ longer to n d) → (ds : List ℕ) (n : ℕ) (u : List ℕ) → AreDigits ds → (n ≡ 0 → ds ≡ []) → fold with_digit n ds < 2 ^ 32 → run (to n) (ds ++ u) ≡ run (to (fold with_digit n ds)) u
+digits-run : (to : ℕ → LineState) → ((n d : ℕ) → is_ascii_digit d ≡ true → step (to n) d ≡ longer to n d) → (ds : List ℕ) (n : ℕ) (u : List ℕ) → AreDigits ds → (n ≡ 0 → ds ≡ []) → fold with_digit n ds < 2 ^ 32 → run (to n) (ds ++ u) ≡ run (to (fold with_digit n ds)) u
 digits-run to by [] n u are extra lt = refl
 digits-run to by (d ∷ ds) n u are extra lt =
     let some : (n == 0) ≡ false = ne_eqb n 0 (λ e. absurd (no_cons (extra e))) in
     let below : nat_lt (with_digit n d) (2 ^ 32) ≡ true = lt-ltb _ _ (omega (arith, fold_grows ds (with_digit n d))) in
     let more : with_digit n d ≡ 0 → ds ≡ [] = λ e. absurd (no_cons (extra (omega (arith, e)))) in
     let once : step (to n) d ≡ to (with_digit n d) = by n d are.0 ∙ rw (some, below) refl in
-    ap (λ (s : State). run s (ds ++ u)) once ∙ digits-run to by ds (with_digit n d) u are.1 more lt
+    ap (λ (s : LineState). run s (ds ++ u)) once ∙ digits-run to by ds (with_digit n d) u are.1 more lt
   where
     no_cons : d ∷ ds ≡ [] → ⊥
     no_cons e = cc
@@ -70,12 +70,12 @@ count_digit params n d e =
     rw (other, e) refl
 
 -- a literal's number takes its state to that number
-pub count_digits : (digits : List ℕ) (number : ℕ) (params : Params) (u : List ℕ) → IsNumeral number digits → number < 2 ^ 32 → run (Brace params) (digits ++ u) ≡ run (Count number params) u
+pub count_digits : (digits : List ℕ) (number : ℕ) (params : Params) (u : List ℕ) → IsDecimalNumber number digits → number < 2 ^ 32 → run (Brace params) (digits ++ u) ≡ run (Count number params) u
 count_digits [] number params u numeral lt = absurd numeral
 count_digits (d ∷ ds) number params u numeral lt =
     let extra : with_digit 0 d ≡ 0 → ds ≡ [] = λ e. numeral.1 (omega (arith, e, digit_range d numeral.0.0)) in
     let once : step (Brace params) d ≡ Count (with_digit 0 d) params = rw numeral.0.0 refl in
-    ap (λ (s : State). run s (ds ++ u)) once
+    ap (λ (s : LineState). run s (ds ++ u)) once
     ∙ digits-run (λ n. Count n params) (count_digit params) ds (with_digit 0 d) u numeral.0.1 extra (omega (arith, numeral.2, lt))
     ∙ ap (λ (n : ℕ). run (Count n params) u) numeral.2
 
@@ -95,9 +95,9 @@ left-suc n params =
 
 pub body-run : (v : List ℕ) (params : Params) (rest : List ℕ) → run (literal_left (length v) params) (v ++ rest) ≡ run (Between params) rest
 body-run [] params rest = refl
-body-run (x ∷ v) params rest = ap (λ (s : State). run s (x ∷ (v ++ rest))) (left-suc (length v) params) ∙ body-run v params rest
+body-run (x ∷ v) params rest = ap (λ (s : LineState). run s (x ∷ (v ++ rest))) (left-suc (length v) params) ∙ body-run v params rest
 
-count-run : (digits value : List ℕ) (params : Params) (rest : List ℕ) → IsNumeral (length value) digits → length value < 2 ^ 32 → run (Brace params) (digits ++ 43 ∷ 125 ∷ 13 ∷ 10 ∷ (value ++ rest)) ≡ run (Between params) rest
+count-run : (digits value : List ℕ) (params : Params) (rest : List ℕ) → IsDecimalNumber (length value) digits → length value < 2 ^ 32 → run (Brace params) (digits ++ 43 ∷ 125 ∷ 13 ∷ 10 ∷ (value ++ rest)) ≡ run (Between params) rest
 count-run digits value params rest numeral lt =
     count_digits digits (length value) params (43 ∷ 125 ∷ 13 ∷ 10 ∷ (value ++ rest)) numeral lt ∙ body-run value params rest
 
@@ -113,12 +113,12 @@ string-run value first params rest (inr l) =
 
 -- ---- arguments
 
-number-run : (number : ℕ) (first : List ℕ) → IsNumeral number first → number < 2 ^ 32 → run Number (first ++ 13 ∷ 10 ∷ []) ≡ Whole
+number-run : (number : ℕ) (first : List ℕ) → IsDecimalNumber number first → number < 2 ^ 32 → run Number (first ++ 13 ∷ 10 ∷ []) ≡ Whole
 number-run number [] numeral lt = absurd numeral
 number-run number (d ∷ ds) numeral lt =
     let extra : with_digit 0 d ≡ 0 → ds ≡ [] = λ e. numeral.1 (omega (arith, e, digit_range d numeral.0.0)) in
     let once : step Number d ≡ Digits (with_digit 0 d) = rw numeral.0.0 refl in
-    ap (λ (s : State). run s (ds ++ 13 ∷ 10 ∷ [])) once
+    ap (λ (s : LineState). run s (ds ++ 13 ∷ 10 ∷ [])) once
     ∙ digits-run (λ n. Digits n) figure_digit ds (with_digit 0 d) (13 ∷ 10 ∷ []) numeral.0.1 extra (omega (arith, numeral.2, lt))
 
 pub after-run : (params : Params) (t : List ℕ) → IsAfter params t → run (Between params) t ≡ Whole

@@ -3,38 +3,38 @@ use Rattle.std.proofs.Common.{◌≡◌, ◌≢◌, ℕ, ◌+◌, ◌≤◌, inl
 use Rattle.std.specs.Prelude.{nat_lt, fold}
 use Rattle.std.proofs.lemmas.Bool.{cases_Bool, cases_lt, eqb-true, eq-eqb, ltb-true, ltb-false, lt-ltb, or_cases, or_parts, and_parts, and_from, false≢true, both_ways}
 use Rattle.std.proofs.lemmas.List.{append-nil, length_push, length-append, take_all, take-append-le}
-use Rattle.msproto.specs.declared.items.Reach.{Reach}
-use Rattle.msproto.specs.declared.items.Reach.TheVariants.{Need, Command, Bad, TooBig}
-use Rattle.msproto.specs.Machine.{State, Whole, Dead, step, run, start, is_large, is_whole, is_dead, weight}
-use Rattle.msproto.specs.Commands.{IsCommand, IsViable}
-use Rattle.msproto.specs.Items.{EndsAtFeed, IsBadLine, Counts, IsTooBig, IsItem, NoItem, Reaches}
-use Rattle.msproto.specs.Scanning.{Scanned, Open, Found, turned, fresh, scanned, found, reach_of}
-use Rattle.msproto.proofs.Runs.{run-append, run_dead}
-use Rattle.msproto.proofs.Law.{spelling_whole, whole_spelling, viable_live, live_viable}
-use Rattle.msproto.proofs.Outside.{outside_from, outside_from-push, outside_from_nothing, after-push, counts, counts_only}
-use Rattle.msproto.proofs.Heads.{large_head, head_large}
+use Rattle.managesieve_protocol.specs.declared.items.ItemExtent.{ItemExtent}
+use Rattle.managesieve_protocol.specs.declared.items.ItemExtent.TheVariants.{Need, Command, Bad, TooBig}
+use Rattle.managesieve_protocol.specs.Machine.{LineState, Whole, Dead, step, run, start_state, is_large, ends_command, is_dead, weight}
+use Rattle.managesieve_protocol.specs.Commands.{IsCommand, IsViable}
+use Rattle.managesieve_protocol.specs.Items.{EndsAtFeed, IsBadLine, CountsOutside, IsTooBig, IsItem, NoItem, IsFirstExtent}
+use Rattle.managesieve_protocol.specs.Scanning.{Scanned, Open, Found, scan_step, scan_start, scanned, found, extent_of}
+use Rattle.managesieve_protocol.proofs.Runs.{run-append, run_dead}
+use Rattle.managesieve_protocol.proofs.Law.{spelling_whole, whole_spelling, viable_live, live_viable}
+use Rattle.managesieve_protocol.proofs.Outside.{outside_from, outside_from-push, outside_from_nothing, after-push, counts, counts_only}
+use Rattle.managesieve_protocol.proofs.Heads.{large_head, head_large}
 
 -- ---- states
 
-whole_is : (s : State) → is_whole s ≡ true → s ≡ Whole
+whole_is : (s : LineState) → ends_command s ≡ true → s ≡ Whole
 whole_is Whole e = refl
 whole_is _ e = absurd (false≢true e)
 
-is_whole_of : (s : State) → s ≡ Whole → is_whole s ≡ true
+is_whole_of : (s : LineState) → s ≡ Whole → ends_command s ≡ true
 is_whole_of s e = rw e refl
 
-dead_is : (s : State) → is_dead s ≡ true → s ≡ Dead
+dead_is : (s : LineState) → is_dead s ≡ true → s ≡ Dead
 dead_is Dead e = refl
 dead_is _ e = absurd (false≢true e)
 
-is_dead_of : (s : State) → s ≡ Dead → is_dead s ≡ true
+is_dead_of : (s : LineState) → s ≡ Dead → is_dead s ≡ true
 is_dead_of s e = rw e refl
 
-pub not_viable_dead : (pending : Bool) (text : List ℕ) → (IsViable pending text → ⊥) → run (start pending) text ≡ Dead
+pub not_viable_dead : (pending : Bool) (text : List ℕ) → (IsViable pending text → ⊥) → run (start_state pending) text ≡ Dead
 not_viable_dead pending text never =
-    elim (cases_Bool (is_dead (run (start pending) text))) [
-      | inl e ↦ dead_is (run (start pending) text) e
-      | inr e ↦ absurd (never (live_viable pending text (λ d. both_ways (is_dead (run (start pending) text)) e (is_dead_of (run (start pending) text) d))))
+    elim (cases_Bool (is_dead (run (start_state pending) text))) [
+      | inl e ↦ dead_is (run (start_state pending) text) e
+      | inr e ↦ absurd (never (live_viable pending text (λ d. both_ways (is_dead (run (start_state pending) text)) e (is_dead_of (run (start_state pending) text) d))))
     ]
 
 -- ---- the shortest front
@@ -121,9 +121,9 @@ line_ends pending b x h e = record {
 
 -- ---- what stands for a text
 
-pub record Stands (pending : Bool) (state : State) (outside used : ℕ) (text : List ℕ) : Type 0 where
-  pub state_is : state ≡ run (start pending) text
-  pub outside_is : outside ≡ outside_from (start pending) text
+pub record Stands (pending : Bool) (state : LineState) (outside used : ℕ) (text : List ℕ) : Type 0 where
+  pub state_is : state ≡ run (start_state pending) text
+  pub outside_is : outside ≡ outside_from (start_state pending) text
   pub used_is : used ≡ length text
   pub low : outside ≤ 8192
   pub none : NoItem pending (length text + 1) text
@@ -131,11 +131,11 @@ pub record Stands (pending : Bool) (state : State) (outside used : ℕ) (text : 
 
 abbrev pub Represents : Bool → Scanned → List ℕ → Type 0
 Represents pending (Open state outside used) text = Stands pending state outside used text
-Represents pending (Found reach) text = Reaches pending reach text × (reach ≡ Need → ⊥)
+Represents pending (Found reach) text = IsFirstExtent pending reach text × (reach ≡ Need → ⊥)
 
 -- ---- nothing more is looked at
 
-pub stays : (pending : Bool) (r : Reach) (b u : List ℕ) → (r ≡ Need → ⊥) → Reaches pending r b → Reaches pending r (b ++ u)
+pub stays : (pending : Bool) (r : ItemExtent) (b u : List ℕ) → (r ≡ Need → ⊥) → IsFirstExtent pending r b → IsFirstExtent pending r (b ++ u)
 stays pending Need b u some h = absurd (some refl)
 stays pending (Command n) b u some h =
     let same : take n (b ++ u) ≡ take n b = take-append-le n b u h.0 in
@@ -149,18 +149,18 @@ stays pending TooBig b u some h =
 
 -- ---- one octet more
 
-module _ (pending : Bool) (s : State) (n k : ℕ) (b : List ℕ) (x : ℕ) (h : Stands pending s n k b) where
-  next : run (start pending) (b ++ x ∷ []) ≡ step s x
-  next = after-push pending b x ∙ ap (λ (u : State). step u x) (sym h.state_is)
+module _ (pending : Bool) (s : LineState) (n k : ℕ) (b : List ℕ) (x : ℕ) (h : Stands pending s n k b) where
+  next : run (start_state pending) (b ++ x ∷ []) ≡ step s x
+  next = after-push pending b x ∙ ap (λ (u : LineState). step u x) (sym h.state_is)
 
-  count : outside_from (start pending) (b ++ x ∷ []) ≡ n + weight s
-  count = outside_from-push (start pending) b x ∙ rw (← h.outside_is, ← h.state_is) refl
+  count : outside_from (start_state pending) (b ++ x ∷ []) ≡ n + weight s
+  count = outside_from-push (start_state pending) b x ∙ rw (← h.outside_is, ← h.state_is) refl
 
   used_more : k + 1 ≡ length (b ++ x ∷ [])
   used_more = omega (arith, h.used_is, length_push b x)
 
   too_long : nat_lt 8192 (n + weight s) ≡ true → IsTooBig pending (b ++ x ∷ [])
-  too_long e = inr (n + weight s, subst (λ (m : ℕ). Counts pending [] (b ++ x ∷ []) m) count (counts pending (b ++ x ∷ []) []), ltb-true 8192 (n + weight s) e)
+  too_long e = inr (n + weight s, subst (λ (m : ℕ). CountsOutside pending [] (b ++ x ∷ []) m) count (counts pending (b ++ x ∷ []) []), ltb-true 8192 (n + weight s) e)
 
   too_large : (is_large s && x == 10) ≡ true → IsTooBig pending (b ++ x ∷ [])
   too_large e =
@@ -180,12 +180,12 @@ module _ (pending : Bool) (s : State) (n k : ℕ) (b : List ℕ) (x : ℕ) (h : 
       let same : long.0 ≡ n + weight s = counts_only pending (b ++ x ∷ []) [] long.0 long.1 ∙ count in
       both_ways (nat_lt 8192 (n + weight s)) parts.0 (lt-ltb 8192 (n + weight s) (rw (← same) long.2))
 
-  command_ends : is_whole (step s x) ≡ true → IsCommand pending (b ++ x ∷ [])
+  command_ends : ends_command (step s x) ≡ true → IsCommand pending (b ++ x ∷ [])
   command_ends e = whole_spelling pending (b ++ x ∷ []) (next ∙ whole_is (step s x) e)
 
-  no_command : is_whole (step s x) ≡ false → IsCommand pending (b ++ x ∷ []) → ⊥
+  no_command : ends_command (step s x) ≡ false → IsCommand pending (b ++ x ∷ []) → ⊥
   no_command e c =
-      both_ways (is_whole (step s x)) e (is_whole_of (step s x) (sym next ∙ spelling_whole pending c.0 (b ++ x ∷ []) c.1))
+      both_ways (ends_command (step s x)) e (is_whole_of (step s x) (sym next ∙ spelling_whole pending c.0 (b ++ x ∷ []) c.1))
 
   -- dead before the octet, or with it
   dead_line : step s x ≡ Dead → x ≢ 10 → IsOpenLine pending (b ++ x ∷ [])
@@ -222,9 +222,9 @@ module _ (pending : Bool) (s : State) (n k : ℕ) (b : List ℕ) (x : ℕ) (h : 
 
   no_line : (is_dead (step s x) && x == 10) ≡ false → IsBadLine pending (b ++ x ∷ []) → ⊥
   no_line e l =
-      let gone : run (start pending) (l.front ++ l.octet ∷ []) ≡ Dead = not_viable_dead pending (l.front ++ l.octet ∷ []) l.fails in
-      let dead : run (start pending) (b ++ x ∷ []) ≡ Dead =
-      ap (run (start pending)) (l.written ∙ sym (append_assoc l.front (l.octet ∷ []) l.tail)) ∙ run-append (start pending) (l.front ++ l.octet ∷ []) l.tail ∙ ap (λ (u : State). run u l.tail) gone ∙ run_dead l.tail in
+      let gone : run (start_state pending) (l.front ++ l.octet ∷ []) ≡ Dead = not_viable_dead pending (l.front ++ l.octet ∷ []) l.fails in
+      let dead : run (start_state pending) (b ++ x ∷ []) ≡ Dead =
+      ap (run (start_state pending)) (l.written ∙ sym (append_assoc l.front (l.octet ∷ []) l.tail)) ∙ run-append (start_state pending) (l.front ++ l.octet ∷ []) l.tail ∙ ap (λ (u : LineState). run u l.tail) gone ∙ run_dead l.tail in
       let feed : x ≡ 10 = line_last l.front l.octet l.tail b x l.written l.line in
       both_ways (is_dead (step s x) && x == 10) e (and_from (is_dead (step s x)) (x == 10) (is_dead_of (step s x) (sym next ∙ dead)) (eq-eqb x 10 feed))
 
@@ -240,7 +240,7 @@ module _ (pending : Bool) (s : State) (n k : ℕ) (b : List ℕ) (x : ℕ) (h : 
   before_used : NoItem pending (k + 1) (b ++ x ∷ [])
   before_used = rw h.used_is before
 
-  quiet : (nat_lt 8192 (n + weight s) || (is_large s && x == 10)) ≡ false → is_whole (step s x) ≡ false → (is_dead (step s x) && x == 10) ≡ false → Stands pending (step s x) (n + weight s) (k + 1) (b ++ x ∷ [])
+  quiet : (nat_lt 8192 (n + weight s) || (is_large s && x == 10)) ≡ false → ends_command (step s x) ≡ false → (is_dead (step s x) && x == 10) ≡ false → Stands pending (step s x) (n + weight s) (k + 1) (b ++ x ∷ [])
   quiet big whole line = record {
     state_is = sym next;
     outside_is = sym count;
@@ -259,11 +259,11 @@ pick : (pending : Bool) (t : List ℕ) (b : Bool) (u v : Scanned) → (b ≡ tru
 pick pending t true u v f g = f refl
 pick pending t false u v f g = g refl
 
-pub turned_holds : (pending : Bool) (sc : Scanned) (b : List ℕ) (x : ℕ) → Represents pending sc b → Represents pending (turned sc x) (b ++ x ∷ [])
+pub turned_holds : (pending : Bool) (sc : Scanned) (b : List ℕ) (x : ℕ) → Represents pending sc b → Represents pending (scan_step sc x) (b ++ x ∷ [])
 turned_holds pending (Open s n k) b x h =
     pick pending (b ++ x ∷ []) (nat_lt 8192 (n + weight s) || (is_large s && x == 10)) (Found TooBig) _
     (λ e. ((length b + 1, omega (arith, length_push b x), before pending s n k b x h, rw (whole_text b x) (too_big pending s n k b x h e)), (λ i. cc)))
-    (λ big. pick pending (b ++ x ∷ []) (is_whole (step s x)) (Found (Command (k + 1))) _
+    (λ big. pick pending (b ++ x ∷ []) (ends_command (step s x)) (Found (Command (k + 1))) _
     (λ e. ((fits pending s n k b x h, before_used pending s n k b x h, rw (here pending s n k b x h) (command_ends pending s n k b x h e), rw (here pending s n k b x h) (not_big pending s n k b x h big)), (λ i. cc)))
     (λ whole. pick pending (b ++ x ∷ []) (is_dead (step s x) && x == 10) (Found (Bad (k + 1))) (Open (step s x) (n + weight s) (k + 1))
     (λ e. ((fits pending s n k b x h, before_used pending s n k b x h, rw (here pending s n k b x h) (bad_line pending s n k b x h e), rw (here pending s n k b x h) (not_big pending s n k b x h big)), (λ i. cc)))
@@ -275,7 +275,7 @@ turned_holds pending (Found r) b x h = (stays pending r b (x ∷ []) h.1 h.0, h.
 no_item_empty : (pending : Bool) → IsItem pending [] → ⊥
 no_item_empty pending (inl c) = not_yet pending (spelling_whole pending c.0 [] c.1)
   where
-    not_yet : (p : Bool) → start p ≡ Whole → ⊥
+    not_yet : (p : Bool) → start_state p ≡ Whole → ⊥
     not_yet false e = cc
     not_yet true e = cc
 no_item_empty pending (inr (inl l)) = no_nil l.front (l.written)
@@ -290,34 +290,34 @@ no_item_empty pending (inr (inr (inl g))) = no_nil g.front g.written
     no_nil (w ∷ f) e = cc
 no_item_empty pending (inr (inr (inr g))) = omega (arith, g.1, g.2)
 
-pub fresh_holds : (pending : Bool) → Represents pending (fresh pending) []
+pub fresh_holds : (pending : Bool) → Represents pending (scan_start pending) []
 fresh_holds pending = record {
   state_is = refl;
-  outside_is = sym (outside_from_nothing (start pending));
+  outside_is = sym (outside_from_nothing (start_state pending));
   used_is = refl;
   low = omega arith;
   none = λ k lt item. no_item_empty pending (subst (λ (t : List ℕ). IsItem pending t) (take_all k [] (omega arith)) item);
   open_line = λ e. absurd (alive pending e);
 }
   where
-    alive : (p : Bool) → start p ≡ Dead → ⊥
+    alive : (p : Bool) → start_state p ≡ Dead → ⊥
     alive false e = cc
     alive true e = cc
 
 -- ---- all texts
 
-holds_from : (pending : Bool) (sc : Scanned) (b t : List ℕ) → Represents pending sc b → Represents pending (fold turned sc t) (b ++ t)
+holds_from : (pending : Bool) (sc : Scanned) (b t : List ℕ) → Represents pending sc b → Represents pending (fold scan_step sc t) (b ++ t)
 holds_from pending sc b [] h = rw (append-nil b) h
 holds_from pending sc b (x ∷ t) h =
-    subst (λ (u : List ℕ). Represents pending (fold turned (turned sc x) t) u) (append_assoc b (x ∷ []) t) (holds_from pending (turned sc x) (b ++ x ∷ []) t (turned_holds pending sc b x h))
+    subst (λ (u : List ℕ). Represents pending (fold scan_step (scan_step sc x) t) u) (append_assoc b (x ∷ []) t) (holds_from pending (scan_step sc x) (b ++ x ∷ []) t (turned_holds pending sc b x h))
 
 pub scanned_holds : (pending : Bool) (text : List ℕ) → Represents pending (scanned pending text) text
-scanned_holds pending text = holds_from pending (fresh pending) [] text (fresh_holds pending)
+scanned_holds pending text = holds_from pending (scan_start pending) [] text (fresh_holds pending)
 
-found_reaches : (pending : Bool) (sc : Scanned) (text : List ℕ) → Represents pending sc text → Reaches pending (found sc) text
+found_reaches : (pending : Bool) (sc : Scanned) (text : List ℕ) → Represents pending sc text → IsFirstExtent pending (found sc) text
 found_reaches pending (Open s n k) text h = h.none
 found_reaches pending (Found r) text h = h.0
 
 -- the function is the relation's answer
-pub reaches : (pending : Bool) (text : List ℕ) → Reaches pending (reach_of pending text) text
+pub reaches : (pending : Bool) (text : List ℕ) → IsFirstExtent pending (extent_of pending text) text
 reaches pending text = found_reaches pending (scanned pending text) text (scanned_holds pending text)

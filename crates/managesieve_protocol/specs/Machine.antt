@@ -1,12 +1,12 @@
 -- The lines of ManageSieve read octet by octet: a state for each octet, and no search.
 use Rattle.std.specs.Prelude.{◌≡◌, refl, ℕ, zero, suc, ◌+◌, ◌-◌, ◌^◌, Bool, true, false, ◌&&◌, ◌||◌, cond, ◌==◌, nat_lt, List, [], ◌∷◌, ◌++◌, Option, Some, None, codes}
 use Rattle.std.specs.Char.{to_ascii_uppercase, is_ascii_digit}
-use Rattle.msproto.specs.declared.verb.Verb.{Verb}
-use Rattle.msproto.specs.declared.verb.Verb.TheVariants as verb
+use Rattle.managesieve_protocol.specs.declared.command_name.CommandName.{CommandName}
+use Rattle.managesieve_protocol.specs.declared.command_name.CommandName.TheVariants as verb
 use Rattle.std.proofs.Common.{ap}
 use Rattle.std.specs.Coded.{Coded, code_by, coded_ℕ}
 use Rattle.octets.specs.Decimal.{with_digit}
-use Rattle.msproto.specs.Arguments.{is_quotable}
+use Rattle.managesieve_protocol.specs.Arguments.{is_quotable_octet}
 
 -- ---- what may still follow on a line
 
@@ -39,23 +39,23 @@ abbrev pub params_code : Coded Params
 params_code = code_by ℕ coded_ℕ params_number number_params params_back
 
 -- the names of the commands
-abbrev pub word_of : Verb → List ℕ
-word_of verb.Authenticate = codes "AUTHENTICATE"
-word_of verb.Capability = codes "CAPABILITY"
-word_of verb.CheckScript = codes "CHECKSCRIPT"
-word_of verb.DeleteScript = codes "DELETESCRIPT"
-word_of verb.GetScript = codes "GETSCRIPT"
-word_of verb.HaveSpace = codes "HAVESPACE"
-word_of verb.ListScripts = codes "LISTSCRIPTS"
-word_of verb.Logout = codes "LOGOUT"
-word_of verb.Noop = codes "NOOP"
-word_of verb.PutScript = codes "PUTSCRIPT"
-word_of verb.RenameScript = codes "RENAMESCRIPT"
-word_of verb.SetActive = codes "SETACTIVE"
-word_of verb.Unauthenticate = codes "UNAUTHENTICATE"
+abbrev pub command_name : CommandName → List ℕ
+command_name verb.Authenticate = codes "AUTHENTICATE"
+command_name verb.Capability = codes "CAPABILITY"
+command_name verb.CheckScript = codes "CHECKSCRIPT"
+command_name verb.DeleteScript = codes "DELETESCRIPT"
+command_name verb.GetScript = codes "GETSCRIPT"
+command_name verb.HaveSpace = codes "HAVESPACE"
+command_name verb.ListScripts = codes "LISTSCRIPTS"
+command_name verb.Logout = codes "LOGOUT"
+command_name verb.Noop = codes "NOOP"
+command_name verb.PutScript = codes "PUTSCRIPT"
+command_name verb.RenameScript = codes "RENAMESCRIPT"
+command_name verb.SetActive = codes "SETACTIVE"
+command_name verb.Unauthenticate = codes "UNAUTHENTICATE"
 
 -- what may follow each
-abbrev pub params_of : Verb → Params
+abbrev pub params_of : CommandName → Params
 params_of verb.Authenticate = ThenText MaybeText
 params_of verb.Capability = LineEnd
 params_of verb.CheckScript = ThenText LineEnd
@@ -71,17 +71,17 @@ params_of verb.SetActive = ThenText LineEnd
 params_of verb.Unauthenticate = LineEnd
 
 -- all of them
-abbrev pub verbs : List Verb
-verbs = verb.Authenticate ∷ verb.Capability ∷ verb.CheckScript ∷ verb.DeleteScript ∷ verb.GetScript ∷ verb.HaveSpace ∷ verb.ListScripts
+abbrev pub command_names : List CommandName
+command_names = verb.Authenticate ∷ verb.Capability ∷ verb.CheckScript ∷ verb.DeleteScript ∷ verb.GetScript ∷ verb.HaveSpace ∷ verb.ListScripts
     ∷ verb.Logout ∷ verb.Noop ∷ verb.PutScript ∷ verb.RenameScript ∷ verb.SetActive ∷ verb.Unauthenticate ∷ []
 
 -- names, and what may follow each
-abbrev pub rows_of : List Verb → List (List ℕ × Params)
-rows_of [] = []
-rows_of (verb ∷ more) = (word_of verb, params_of verb) ∷ rows_of more
+abbrev pub command_rows_of : List CommandName → List (List ℕ × Params)
+command_rows_of [] = []
+command_rows_of (verb ∷ more) = (command_name verb, params_of verb) ∷ command_rows_of more
 
 unfoldable pub rows : List (List ℕ × Params)
-rows = rows_of verbs
+rows = command_rows_of command_names
 
 -- whether the word begins with the letters
 abbrev pub begins : List ℕ → List ℕ → Bool
@@ -107,74 +107,74 @@ params_in [] word = None
 params_in (row ∷ more) word = cond (same_word row.0 word) (Some row.1) (params_in more word)
 
 -- the verb of this name
-abbrev pub verb_in : List Verb → List ℕ → Option Verb
-verb_in [] word = None
-verb_in (verb ∷ more) word = cond (same_word (word_of verb) word) (Some verb) (verb_in more word)
+abbrev pub command_named : List CommandName → List ℕ → Option CommandName
+command_named [] word = None
+command_named (verb ∷ more) word = cond (same_word (command_name verb) word) (Some verb) (command_named more word)
 
 -- ---- states
 
-pub data State : Type 0 where
+pub data LineState : Type 0 where
   -- in a name, these letters of it read, in upper case
-  Word : List ℕ → State
+  Word : List ℕ → LineState
   -- after a name or an argument
-  Between : Params → State
+  Between : Params → LineState
   -- at the start of a string
-  Opening : Params → State
+  Opening : Params → LineState
   -- between quotation marks; that many octets more may come
-  Quoted : ℕ → Params → State
+  Quoted : ℕ → Params → LineState
   -- after a backslash
-  Escaped : ℕ → Params → State
+  Escaped : ℕ → Params → LineState
   -- after the brace of a literal
-  Brace : Params → State
+  Brace : Params → LineState
   -- in its number, after the plus, after the closing brace, after the CR
-  Count : ℕ → Params → State
-  Plus : ℕ → Params → State
-  Closed : ℕ → Params → State
-  Return : ℕ → Params → State
+  Count : ℕ → Params → LineState
+  Plus : ℕ → Params → LineState
+  Closed : ℕ → Params → LineState
+  Return : ℕ → Params → LineState
   -- inside a literal, of which one octet and that many more are to come
-  Body : ℕ → Params → State
+  Body : ℕ → Params → LineState
   -- at the start of a number, and in a number
-  Number : State
-  Digits : ℕ → State
+  Number : LineState
+  Digits : ℕ → LineState
   -- after the line's CR, after its LF, and when no command can follow
-  LineFeed : State
-  Whole : State
-  Dead : State
+  LineFeed : LineState
+  Whole : LineState
+  Dead : LineState
 
 -- after a space
-abbrev pub after_space : Params → State
+abbrev pub after_space : Params → LineState
 after_space LineEnd = Dead
 after_space MaybeText = Opening LineEnd
 after_space (ThenText more) = Opening more
 after_space ThenNumber = Number
 
 -- after a CR that ends a line
-abbrev pub after_return : Params → State
+abbrev pub after_return : Params → LineState
 after_return LineEnd = LineFeed
 after_return MaybeText = LineFeed
 after_return (ThenText more) = Dead
 after_return ThenNumber = Dead
 
 -- after a name or an argument and one octet
-abbrev pub leave : Params → ℕ → State
+abbrev pub leave : Params → ℕ → LineState
 leave params octet = cond (octet == 32) (after_space params) (cond (octet == 13) (after_return params) Dead)
 
 -- after a name, if it is one
-abbrev pub leave_named : Option Params → ℕ → State
+abbrev pub leave_named : Option Params → ℕ → LineState
 leave_named None octet = Dead
 leave_named (Some params) octet = leave params octet
 
 -- a number and one digit more, if it has no leading zero and stays below 2^32
-abbrev pub longer : (ℕ → State) → ℕ → ℕ → State
+abbrev pub longer : (ℕ → LineState) → ℕ → ℕ → LineState
 longer to number octet =
     cond (number == 0) Dead (cond (nat_lt (with_digit number octet) (2 ^ 32)) (to (with_digit number octet)) Dead)
 
 -- if that many octets of a literal are to come
-abbrev pub literal_left : ℕ → Params → State
+abbrev pub literal_left : ℕ → Params → LineState
 literal_left left params = cond (left == 0) (Between params) (Body (left - 1) params)
 
 -- the state after one octet more
-abbrev pub step : State → ℕ → State
+abbrev pub step : LineState → ℕ → LineState
 step (Word letters) octet =
     cond (begins_row rows (letters ++ to_ascii_uppercase octet ∷ [])) (Word (letters ++ to_ascii_uppercase octet ∷ []))
     (leave_named (params_in rows letters) octet)
@@ -183,7 +183,7 @@ step (Opening params) octet = cond (octet == 34) (Quoted 1024 params) (cond (oct
 step (Quoted left params) octet =
     cond (octet == 34) (Between params)
     (cond (octet == 92) (cond (nat_lt 1 left) (Escaped (left - 2) params) Dead)
-    (cond (is_quotable octet && nat_lt 0 left) (Quoted (left - 1) params) Dead))
+    (cond (is_quotable_octet octet && nat_lt 0 left) (Quoted (left - 1) params) Dead))
 step (Escaped left params) octet = cond (octet == 34 || octet == 92) (Quoted left params) Dead
 step (Brace params) octet = cond (is_ascii_digit octet) (Count (with_digit 0 octet) params) Dead
 step (Count number params) octet =
@@ -201,39 +201,39 @@ step Whole octet = Dead
 step Dead octet = Dead
 
 -- the state after a text
-abbrev pub run : State → List ℕ → State
+abbrev pub run : LineState → List ℕ → LineState
 run state [] = state
 run state (octet ∷ rest) = run (step state octet) rest
 
 -- the state before the first octet of a line; if a challenge is pending the line is one string
-abbrev pub start : Bool → State
-start false = Word []
-start true = Opening LineEnd
+abbrev pub start_state : Bool → LineState
+start_state false = Word []
+start_state true = Opening LineEnd
 
 -- ---- what a state says
 
 -- the next octet is inside a literal
-abbrev pub in_literal : State → Bool
+abbrev pub in_literal : LineState → Bool
 in_literal (Body left params) = true
 in_literal _ = false
 
 -- a command ends here
-abbrev pub is_whole : State → Bool
-is_whole Whole = true
-is_whole _ = false
+abbrev pub ends_command : LineState → Bool
+ends_command Whole = true
+ends_command _ = false
 
 -- no command can follow from here
-abbrev pub is_dead : State → Bool
+abbrev pub is_dead : LineState → Bool
 is_dead Dead = true
 is_dead _ = false
 
 -- an LF here begins a literal that is too large
-abbrev pub is_large : State → Bool
+abbrev pub is_large : LineState → Bool
 is_large (Return number params) = nat_lt 1048576 number
 is_large _ = false
 
 -- 1 if the next octet is outside literals, else 0
-abbrev pub weight : State → ℕ
+abbrev pub weight : LineState → ℕ
 weight state = cond (in_literal state) 0 1
 
 -- ---- how many octets of literals may still come, if no literal is too large
@@ -244,20 +244,20 @@ params_room MaybeText = 1048576
 params_room (ThenText more) = 1048576 + params_room more
 params_room ThenNumber = 0
 
-abbrev pub room : State → ℕ
-room (Word letters) = 2097152
-room (Between params) = params_room params
-room (Opening params) = 1048576 + params_room params
-room (Quoted left params) = params_room params
-room (Escaped left params) = params_room params
-room (Brace params) = 1048576 + params_room params
-room (Count number params) = 1048576 + params_room params
-room (Plus number params) = 1048576 + params_room params
-room (Closed number params) = 1048576 + params_room params
-room (Return number params) = 1048576 + params_room params
-room (Body left params) = left + 1 + params_room params
-room Number = 0
-room (Digits number) = 0
-room LineFeed = 0
-room Whole = 0
-room Dead = 0
+abbrev pub quoted_room : LineState → ℕ
+quoted_room (Word letters) = 2097152
+quoted_room (Between params) = params_room params
+quoted_room (Opening params) = 1048576 + params_room params
+quoted_room (Quoted left params) = params_room params
+quoted_room (Escaped left params) = params_room params
+quoted_room (Brace params) = 1048576 + params_room params
+quoted_room (Count number params) = 1048576 + params_room params
+quoted_room (Plus number params) = 1048576 + params_room params
+quoted_room (Closed number params) = 1048576 + params_room params
+quoted_room (Return number params) = 1048576 + params_room params
+quoted_room (Body left params) = left + 1 + params_room params
+quoted_room Number = 0
+quoted_room (Digits number) = 0
+quoted_room LineFeed = 0
+quoted_room Whole = 0
+quoted_room Dead = 0

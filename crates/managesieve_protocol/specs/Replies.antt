@@ -1,20 +1,20 @@
 -- How replies are spelled (RFC 5804, sections 1.2, 1.3, 2 and 4).
 use Rattle.std.specs.Prelude.{◌≡◌, ℕ, ◌+◌, Bool, true, false, ◌&&◌, cond, nat_le, List, [], ◌∷◌, ◌++◌, length, Option, Some, None, codes, decimal}
-use Rattle.msproto.specs.Arguments.{inside, is_quotable}
-use Rattle.msproto.specs.declared.replies.Line.{Line}
-use Rattle.msproto.specs.declared.replies.Line.TheVariants as line
-use Rattle.msproto.specs.declared.replies.Status.{Status}
-use Rattle.msproto.specs.declared.replies.Status.TheVariants as status
-use Rattle.msproto.specs.declared.replies.Code.{Code}
-use Rattle.msproto.specs.declared.replies.Code.TheVariants as code
-use Rattle.msproto.specs.declared.replies.Reply.{Reply}
+use Rattle.managesieve_protocol.specs.Arguments.{inside, is_quotable_octet}
+use Rattle.managesieve_protocol.specs.declared.replies.DataLine.{DataLine}
+use Rattle.managesieve_protocol.specs.declared.replies.DataLine.TheVariants as line
+use Rattle.managesieve_protocol.specs.declared.replies.Status.{Status}
+use Rattle.managesieve_protocol.specs.declared.replies.Status.TheVariants as status
+use Rattle.managesieve_protocol.specs.declared.replies.ReplyCode.{ReplyCode}
+use Rattle.managesieve_protocol.specs.declared.replies.ReplyCode.TheVariants as code
+use Rattle.managesieve_protocol.specs.declared.replies.ServerReply.{ServerReply}
 
 -- ---- strings
 
 -- each octet may be between quotation marks
 abbrev pub all_quotable : List ℕ → Bool
 all_quotable [] = true
-all_quotable (octet ∷ rest) = is_quotable octet && all_quotable rest
+all_quotable (octet ∷ rest) = is_quotable_octet octet && all_quotable rest
 
 -- the text fits between quotation marks, which have that many octets between them already
 abbrev pub fits_quotes : ℕ → List ℕ → Bool
@@ -34,28 +34,28 @@ abbrev pub end : List ℕ
 end = 13 ∷ 10 ∷ []
 
 -- a space and a string, if there is one
-abbrev pub after_space : Option (List ℕ) → List ℕ
-after_space None = []
-after_space (Some text) = 32 ∷ string_spelled text
+abbrev pub spaced_string : Option (List ℕ) → List ℕ
+spaced_string None = []
+spaced_string (Some text) = 32 ∷ string_spelled text
 
 -- a mark after the active script's name
 abbrev pub active_spelled : Bool → List ℕ
 active_spelled false = []
 active_spelled true = codes " ACTIVE"
 
-abbrev pub line_spelled : Line → List ℕ
-line_spelled (line.Capability name value) = string_spelled name ++ (after_space value ++ end)
+abbrev pub line_spelled : DataLine → List ℕ
+line_spelled (line.Capability name value) = string_spelled name ++ (spaced_string value ++ end)
 line_spelled (line.Script name active) = string_spelled name ++ (active_spelled active ++ end)
 line_spelled (line.Text text) = literal_spelled text ++ end
 line_spelled line.Empty = 34 ∷ 34 ∷ end
 
-abbrev pub lines_spelled : List Line → List ℕ
+abbrev pub lines_spelled : List DataLine → List ℕ
 lines_spelled [] = []
 lines_spelled (line ∷ more) = line_spelled line ++ lines_spelled more
 
 -- ---- the last line
 
-abbrev pub code_spelled : Option Code → List ℕ
+abbrev pub code_spelled : Option ReplyCode → List ℕ
 code_spelled None = []
 code_spelled (Some (code.Tag tag)) = codes " (TAG " ++ (string_spelled tag ++ codes ")")
 code_spelled (Some code.MaxSize) = codes " (QUOTA/MAXSIZE)"
@@ -65,23 +65,23 @@ code_spelled (Some code.Active) = codes " (ACTIVE)"
 code_spelled (Some code.AlreadyExists) = codes " (ALREADYEXISTS)"
 code_spelled (Some code.TryLater) = codes " (TRYLATER)"
 
-abbrev pub word_of : Status → List ℕ
-word_of status.Ok = codes "OK"
-word_of status.No = codes "NO"
-word_of status.Bye = codes "BYE"
+abbrev pub status_word : Status → List ℕ
+status_word status.Ok = codes "OK"
+status_word status.No = codes "NO"
+status_word status.Bye = codes "BYE"
 
 -- a status, a code in parentheses and a text, as far as there are any; without a status there is no last line
-abbrev pub last_spelled : Option Status → Option Code → Option (List ℕ) → List ℕ
+abbrev pub last_spelled : Option Status → Option ReplyCode → Option (List ℕ) → List ℕ
 last_spelled None code text = []
-last_spelled (Some status) code text = word_of status ++ (code_spelled code ++ (after_space text ++ end))
+last_spelled (Some status) code text = status_word status ++ (code_spelled code ++ (spaced_string text ++ end))
 
 -- a reply's octets
-abbrev pub spelled : Reply → List ℕ
-spelled reply = lines_spelled reply.lines ++ last_spelled reply.word reply.code reply.text
+abbrev pub reply_octets : ServerReply → List ℕ
+reply_octets reply = lines_spelled reply.lines ++ last_spelled reply.word reply.code reply.text
 
 -- ---- what an error leaves
 
 -- the new text is the old one with more after it
-pub record Extends (old new : List ℕ) : Type 0 where
+pub record ExtendsText (old new : List ℕ) : Type 0 where
   pub more : List ℕ
   pub written : new ≡ old ++ more

@@ -1,12 +1,12 @@
 //! The names of the commands, and what may follow each.
 ghost use Rattle.std.specs.Prelude.{◌≡◌, ◌∷◌, ◌++◌, [], map, true, false, MatchOption};
 ghost use Rattle.std.specs.Char.{to_ascii_uppercase};
-ghost use Rattle.msproto.specs.Machine.{word_of, params_of, verbs, verb_in, rows, rows_of, begins, begins_row, same_word};
-ghost use Rattle.msproto.specs.Shown.{params_shown, IsExtension};
+ghost use Rattle.managesieve_protocol.specs.Machine.{command_name, params_of, command_names, command_named, rows, command_rows_of, begins, begins_row, same_word};
+ghost use Rattle.managesieve_protocol.specs.Shown.{params_shown, IsExtension};
 
 /// The name of a command (RFC 5804, section 2).
 #[derive(Clone, Copy)]
-pub enum Verb {
+pub enum CommandName {
     Authenticate,
     Capability,
     CheckScript,
@@ -41,41 +41,41 @@ pub enum Params {
     Number,
 }
 
-const VERBS: [Verb; 13] = [
-    Verb::Authenticate,
-    Verb::Capability,
-    Verb::CheckScript,
-    Verb::DeleteScript,
-    Verb::GetScript,
-    Verb::HaveSpace,
-    Verb::ListScripts,
-    Verb::Logout,
-    Verb::Noop,
-    Verb::PutScript,
-    Verb::RenameScript,
-    Verb::SetActive,
-    Verb::Unauthenticate,
+const VERBS: [CommandName; 13] = [
+    CommandName::Authenticate,
+    CommandName::Capability,
+    CommandName::CheckScript,
+    CommandName::DeleteScript,
+    CommandName::GetScript,
+    CommandName::HaveSpace,
+    CommandName::ListScripts,
+    CommandName::Logout,
+    CommandName::Noop,
+    CommandName::PutScript,
+    CommandName::RenameScript,
+    CommandName::SetActive,
+    CommandName::Unauthenticate,
 ];
 
-impl Verb {
+impl CommandName {
     /// The name in upper case.
     pub(crate) fn word(self) -> &'static [u8]
-        ensures { result.now ≡ word_of self }
+        ensures { result.now ≡ command_name self }
     {
         match self {
-            Verb::Authenticate => b"AUTHENTICATE",
-            Verb::Capability => b"CAPABILITY",
-            Verb::CheckScript => b"CHECKSCRIPT",
-            Verb::DeleteScript => b"DELETESCRIPT",
-            Verb::GetScript => b"GETSCRIPT",
-            Verb::HaveSpace => b"HAVESPACE",
-            Verb::ListScripts => b"LISTSCRIPTS",
-            Verb::Logout => b"LOGOUT",
-            Verb::Noop => b"NOOP",
-            Verb::PutScript => b"PUTSCRIPT",
-            Verb::RenameScript => b"RENAMESCRIPT",
-            Verb::SetActive => b"SETACTIVE",
-            Verb::Unauthenticate => b"UNAUTHENTICATE",
+            CommandName::Authenticate => b"AUTHENTICATE",
+            CommandName::Capability => b"CAPABILITY",
+            CommandName::CheckScript => b"CHECKSCRIPT",
+            CommandName::DeleteScript => b"DELETESCRIPT",
+            CommandName::GetScript => b"GETSCRIPT",
+            CommandName::HaveSpace => b"HAVESPACE",
+            CommandName::ListScripts => b"LISTSCRIPTS",
+            CommandName::Logout => b"LOGOUT",
+            CommandName::Noop => b"NOOP",
+            CommandName::PutScript => b"PUTSCRIPT",
+            CommandName::RenameScript => b"RENAMESCRIPT",
+            CommandName::SetActive => b"SETACTIVE",
+            CommandName::Unauthenticate => b"UNAUTHENTICATE",
         }
     }
 
@@ -84,26 +84,26 @@ impl Verb {
         ensures { params_shown result ≡ params_of self }
     {
         match self {
-            Verb::Authenticate => Params::TextMaybeText,
-            Verb::Capability | Verb::ListScripts | Verb::Logout | Verb::Unauthenticate =>
+            CommandName::Authenticate => Params::TextMaybeText,
+            CommandName::Capability | CommandName::ListScripts | CommandName::Logout | CommandName::Unauthenticate =>
                 Params::LineEnd,
-            Verb::CheckScript | Verb::DeleteScript | Verb::GetScript | Verb::SetActive =>
+            CommandName::CheckScript | CommandName::DeleteScript | CommandName::GetScript | CommandName::SetActive =>
                 Params::Text,
-            Verb::HaveSpace => Params::TextNumber,
-            Verb::Noop => Params::MaybeText,
-            Verb::PutScript | Verb::RenameScript => Params::TwoTexts,
+            CommandName::HaveSpace => Params::TextNumber,
+            CommandName::Noop => Params::MaybeText,
+            CommandName::PutScript | CommandName::RenameScript => Params::TwoTexts,
         }
     }
 
     /// The verb with this name, in upper or lower case.
-    pub(crate) fn named(name: &[u8]) -> Option<Verb>
-        ensures { result ≡ verb_in verbs (map to_ascii_uppercase name.now) }
+    pub(crate) fn named(name: &[u8]) -> Option<CommandName>
+        ensures { result ≡ command_named command_names (map to_ascii_uppercase name.now) }
     {
         find_named(&VERBS, name)
     }
 
     /// A verb whose name begins with these letters and this one, all in upper case: this one, if it does.
-    pub(crate) fn extend(self, letters: &[u8], letter: u8) -> Option<Verb>
+    pub(crate) fn extend(self, letters: &[u8], letter: u8) -> Option<CommandName>
         ensures { IsExtension rows letters.now letter result }
     {
         if goes_on(self.word(), letters, letter) {
@@ -118,8 +118,8 @@ impl Verb {
 }
 
 // The first of the verbs with this name.
-fn find_named(verbs: &[Verb], name: &[u8]) -> Option<Verb>
-    ensures { result ≡ verb_in verbs.now (map to_ascii_uppercase name.now) }
+fn find_named(verbs: &[CommandName], name: &[u8]) -> Option<CommandName>
+    ensures { result ≡ command_named verbs.now (map to_ascii_uppercase name.now) }
 {
     let mut rest = verbs;
     while let Some((verb, more)) = rest.split_first() {
@@ -132,8 +132,8 @@ fn find_named(verbs: &[Verb], name: &[u8]) -> Option<Verb>
 }
 
 // The first of the verbs whose name begins with these letters and this one.
-fn find_extending(verbs: &[Verb], letters: &[u8], letter: u8) -> Option<Verb>
-    ensures { IsExtension (rows_of verbs.now) letters.now letter result }
+fn find_extending(verbs: &[CommandName], letters: &[u8], letter: u8) -> Option<CommandName>
+    ensures { IsExtension (command_rows_of verbs.now) letters.now letter result }
 {
     let mut rest = verbs;
     while let Some((verb, more)) = rest.split_first() {

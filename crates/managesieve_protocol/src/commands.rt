@@ -5,7 +5,7 @@ use octets::Octets;
 ///
 /// A string has any octets, also a script's name: its meaning isn't checked here.
 #[derive(Drop)]
-pub enum Command {
+pub enum ClientCommand {
     /// Asks what the server can do (section 2.4).
     Capability,
     /// Does nothing; the string comes back with the answer (section 2.13).

@@ -8,10 +8,10 @@ pub mod replies;
 pub mod scanner;
 mod spelling;
 mod state;
-mod verb;
+mod command_name;
 
-pub use commands::Command;
-pub use items::{Item, Reach, command_at, extent, first, item_at};
-pub use replies::{Code, Line, Reply, Status};
+pub use commands::ClientCommand;
+pub use items::{ClientItem, ItemExtent, command_at, extent, first, item_at};
+pub use replies::{ReplyCode, DataLine, ServerReply, Status};
 pub use scanner::Scan;
 pub use spelling::{spell, spell_string};

@@ -1,15 +1,15 @@
 //! The value of a command, read from its text.
 ghost use Rattle.std.specs.Prelude.{◌≡◌, ◌≤◌, IfOk, OnErr, is_some, length, true, false};
-ghost use Rattle.msproto.specs.Values as v;
+ghost use Rattle.managesieve_protocol.specs.Values as v;
 
-use crate::commands::Command;
-use crate::verb::Verb;
+use crate::commands::ClientCommand;
+use crate::command_name::CommandName;
 use octets::Octets;
 use std::alloc::{AllocError, Global};
 
 /// The command that a text spells; a text that spells none gives some command. Each octet is read once, and a literal's
 /// text is copied in one piece. Lack of memory is the only error.
-pub(crate) fn command(alloc: Global, text: &[u8], pending: bool) -> Result<Command, AllocError>
+pub(crate) fn command(alloc: Global, text: &[u8], pending: bool) -> Result<ClientCommand, AllocError>
     ensures value { IfOk result (λ command. command ≡ v.command_in pending text.now) }
     ensures lacks { OnErr result (v.has_string (v.command_in pending text.now) ≡ true) }
 {
@@ -17,59 +17,59 @@ pub(crate) fn command(alloc: Global, text: &[u8], pending: bool) -> Result<Comma
         return response(alloc, text);
     }
     let end = name_length(text);
-    match Verb::named(&text[..end]) {
+    match CommandName::named(&text[..end]) {
         Some(verb) => of_verb(alloc, verb, &text[end..]),
         None => response(alloc, text),
     }
 }
 
 // A string alone.
-fn response(alloc: Global, text: &[u8]) -> Result<Command, AllocError>
+fn response(alloc: Global, text: &[u8]) -> Result<ClientCommand, AllocError>
     ensures { IfOk result (λ command. command ≡ v.response_in text.now) }
 {
     let (value, _) = string(alloc, text)?;
-    Ok(Command::Response(value))
+    Ok(ClientCommand::Response(value))
 }
 
 // The command of a verb and of what comes after it.
-fn of_verb(alloc: Global, verb: Verb, rest: &[u8]) -> Result<Command, AllocError>
+fn of_verb(alloc: Global, verb: CommandName, rest: &[u8]) -> Result<ClientCommand, AllocError>
     ensures value { IfOk result (λ command. command ≡ v.command_of verb rest.now) }
     ensures lacks { OnErr result (v.has_string (v.command_of verb rest.now) ≡ true) }
 {
     Ok(match verb {
-        Verb::Authenticate => authenticate(alloc, rest)?,
-        Verb::Capability => Command::Capability,
-        Verb::CheckScript => Command::CheckScript(one_text(alloc, rest)?),
-        Verb::DeleteScript => Command::DeleteScript(one_text(alloc, rest)?),
-        Verb::GetScript => Command::GetScript(one_text(alloc, rest)?),
-        Verb::HaveSpace => {
+        CommandName::Authenticate => authenticate(alloc, rest)?,
+        CommandName::Capability => ClientCommand::Capability,
+        CommandName::CheckScript => ClientCommand::CheckScript(one_text(alloc, rest)?),
+        CommandName::DeleteScript => ClientCommand::DeleteScript(one_text(alloc, rest)?),
+        CommandName::GetScript => ClientCommand::GetScript(one_text(alloc, rest)?),
+        CommandName::HaveSpace => {
             let (name, more) = text(alloc, rest)?;
             let size = size(more);
-            Command::HaveSpace { name, size }
+            ClientCommand::HaveSpace { name, size }
         }
-        Verb::ListScripts => Command::ListScripts,
-        Verb::Logout => Command::Logout,
-        Verb::Noop => Command::Noop(maybe_text(alloc, rest)?),
-        Verb::PutScript => {
+        CommandName::ListScripts => ClientCommand::ListScripts,
+        CommandName::Logout => ClientCommand::Logout,
+        CommandName::Noop => ClientCommand::Noop(maybe_text(alloc, rest)?),
+        CommandName::PutScript => {
             let (name, script) = two_texts(alloc, rest)?;
-            Command::PutScript { name, script }
+            ClientCommand::PutScript { name, script }
         }
-        Verb::RenameScript => {
+        CommandName::RenameScript => {
             let (old, new) = two_texts(alloc, rest)?;
-            Command::RenameScript { old, new }
+            ClientCommand::RenameScript { old, new }
         }
-        Verb::SetActive => Command::SetActive(one_text(alloc, rest)?),
-        Verb::Unauthenticate => Command::Unauthenticate,
+        CommandName::SetActive => ClientCommand::SetActive(one_text(alloc, rest)?),
+        CommandName::Unauthenticate => ClientCommand::Unauthenticate,
     })
 }
 
 // A login's mechanism and its initial response, if there is one.
-fn authenticate(alloc: Global, rest: &[u8]) -> Result<Command, AllocError>
+fn authenticate(alloc: Global, rest: &[u8]) -> Result<ClientCommand, AllocError>
     ensures { IfOk result (λ command. command ≡ v.authenticate_of (v.text_in rest.now)) }
 {
     let (mechanism, more) = text(alloc, rest)?;
     let response = maybe_text(alloc, more)?;
-    Ok(Command::Authenticate {
+    Ok(ClientCommand::Authenticate {
         mechanism,
         response,
     })
@@ -185,7 +185,7 @@ fn literal(alloc: Global, count: usize, text: &[u8]) -> Result<(Octets, &[u8]), 
 
 // The number at the start, below 2^32, and the rest.
 fn number(text: &[u8]) -> (u32, &[u8])
-    ensures { (result.0, result.1.now) ≡ v.number_in 0 text.now }
+    ensures { (result.0, result.1.now) ≡ v.digits_in 0 text.now }
 {
     let mut number = 0;
     let mut rest = text;

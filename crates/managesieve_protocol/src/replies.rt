@@ -5,13 +5,13 @@ use octets::{List, Octets};
 ///
 /// Without a status there is no last line, and code and text aren't written.
 #[derive(Drop)]
-pub struct Reply {
+pub struct ServerReply {
     /// The lines before the last one.
-    pub lines: List<Line>,
+    pub lines: List<DataLine>,
     /// The last line's status, if there is a last line.
     pub word: Option<Status>,
     /// The response code in the last line, for programs.
-    pub code: Option<Code>,
+    pub code: Option<ReplyCode>,
     /// The text in the last line, for people.
     pub text: Option<Octets>,
 }
@@ -29,7 +29,7 @@ pub enum Status {
 
 /// A line before the last one.
 #[derive(Drop)]
-pub enum Line {
+pub enum DataLine {
     /// A capability of the server, and its value (section 1.7).
     Capability { name: Octets, value: Option<Octets> },
     /// A script's name, and whether it is the active one (section 2.7).
@@ -42,7 +42,7 @@ pub enum Line {
 
 /// A response code (section 1.3).
 #[derive(Drop)]
-pub enum Code {
+pub enum ReplyCode {
     /// The string of the client's `NOOP`.
     Tag(Octets),
     /// The script is too large.

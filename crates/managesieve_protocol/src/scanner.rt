@@ -1,12 +1,12 @@
 //! A scan for the end of the first item, octet by octet.
 ghost use Rattle.std.specs.Prelude.{◌≡◌, ℕ, ◌+◌, ◌-◌, ◌<◌, ◌≤◌, ◌++◌, ◌∷◌, [], Bool, List, length, fold, take};
-ghost use Rattle.msproto.specs.declared.items.Reach.TheVariants.{Need};
-ghost use Rattle.msproto.specs.Items.{Reaches};
-ghost use Rattle.msproto.specs.Machine as m;
-ghost use Rattle.msproto.specs.Scanning.{reached, fed, fed_until, literal_rest, reach_of, EndsAt, StandsFor};
-ghost use Rattle.msproto.specs.Shown as s;
+ghost use Rattle.managesieve_protocol.specs.declared.items.ItemExtent.TheVariants.{Need};
+ghost use Rattle.managesieve_protocol.specs.Items.{IsFirstExtent};
+ghost use Rattle.managesieve_protocol.specs.Machine as m;
+ghost use Rattle.managesieve_protocol.specs.Scanning.{reached, fed, fed_until, literal_rest, extent_of, ItemEndsAt, IsScanOf};
+ghost use Rattle.managesieve_protocol.specs.Shown as s;
 
-use crate::items::Reach;
+use crate::items::ItemExtent;
 use crate::state::State;
 use std::marker::Model;
 
@@ -25,40 +25,40 @@ pub struct Scan {
     line: State,
     outside: usize,
     looked: usize,
-    reach: Reach,
+    reach: ItemExtent,
 }
 
 impl Model for Scan {
     ghost use Rattle.std.specs.Prelude.{◌≡◌, ◌+◌, ◌≤◌};
-    ghost use Rattle.msproto.specs.declared.items.Reach.TheVariants.{Need};
-    ghost use Rattle.msproto.specs.Scanning.{ScanView, EndsAt};
-    ghost use Rattle.msproto.specs.Machine.{room};
-    ghost use Rattle.msproto.specs.Shown.{shown, scan_shown};
+    ghost use Rattle.managesieve_protocol.specs.declared.items.ItemExtent.TheVariants.{Need};
+    ghost use Rattle.managesieve_protocol.specs.Scanning.{ScanView, ItemEndsAt};
+    ghost use Rattle.managesieve_protocol.specs.Machine.{quoted_room};
+    ghost use Rattle.managesieve_protocol.specs.Shown.{shown_state, scan_shown};
 
     ghost Value = { ScanView };
 
     ghost use Rattle.std.specs.Coded.{codes};
-    ghost use Rattle.msproto.specs.Machine.{params_code};
+    ghost use Rattle.managesieve_protocol.specs.Machine.{params_code};
 
     ghost coded = { Prim.hlevel (codes, params_code) };
 
     ghost view = { λ scan. record { known = scan_shown scan.line scan.outside scan.looked scan.reach; looked = scan.looked } };
 
     ghost invariant = { λ scan. (scan.outside ≤ 8192) × (scan.looked ≤ 2105345)
-        × (scan.reach ≡ Need → scan.looked + room (shown scan.line) ≤ scan.outside + 2097152)
-        × EndsAt scan.reach scan.looked };
+        × (scan.reach ≡ Need → scan.looked + quoted_room (shown_state scan.line) ≤ scan.outside + 2097152)
+        × ItemEndsAt scan.reach scan.looked };
 }
 
 impl Scan {
     /// Before the first octet; if a challenge is pending, the item is one string.
     pub fn new(pending: bool) -> Scan
-        ensures { StandsFor pending result [] }
+        ensures { IsScanOf pending result [] }
     {
         Scan {
             line: State::start(pending),
             outside: 0,
             looked: 0,
-            reach: Reach::Need,
+            reach: ItemExtent::Need,
         }
     }
 
@@ -66,13 +66,13 @@ impl Scan {
     pub fn turn(&mut self, octet: u8)
         requires { reached self.old ≡ Need }
         ensures taken { self.new ≡ fed self.old octet }
-        ensures stands { (pending : Bool) (text : List ℕ) → StandsFor pending self.old text → StandsFor pending self.new (text ++ octet ∷ []) }
+        ensures stands { (pending : Bool) (text : List ℕ) → IsScanOf pending self.old text → IsScanOf pending self.new (text ++ octet ∷ []) }
     {
         let outside = self.outside + weight(self.line);
         let looked = self.looked + 1;
         let next = self.line.step(octet);
         match ending(self.line, next, octet, outside, looked) {
-            Reach::Need => {
+            ItemExtent::Need => {
                 self.line = next;
                 self.outside = outside;
                 self.looked = looked;
@@ -95,10 +95,10 @@ impl Scan {
         ensures taken { self.new ≡ fold fed self.old (take result octets.now) }
         ensures whole { reached self.new ≡ Need → result ≡ length octets.now }
         ensures before { (count : ℕ) → count < result → reached (fold fed self.old (take count octets.now)) ≡ Need }
-        ensures stands { (pending : Bool) (text : List ℕ) → StandsFor pending self.old text → StandsFor pending self.new (text ++ take result octets.now) }
+        ensures stands { (pending : Bool) (text : List ℕ) → IsScanOf pending self.old text → IsScanOf pending self.new (text ++ take result octets.now) }
     {
         let mut taken = 0;
-        while let Reach::Need = self.state() {
+        while let ItemExtent::Need = self.state() {
             let count = self.feed_some(&octets[taken..]);
             if count == 0 {
                 return taken;
@@ -109,11 +109,11 @@ impl Scan {
     }
 
     /// The first item in the octets so far: `Need` if it isn't complete.
-    pub fn state(&self) -> Reach
+    pub fn state(&self) -> ItemExtent
         ensures reached { result ≡ reached self.now }
-        ensures value { (pending : Bool) (text : List ℕ) → StandsFor pending self.now text → result ≡ reach_of pending text }
-        ensures item { (pending : Bool) (text : List ℕ) → StandsFor pending self.now text → Reaches pending result text }
-        ensures ends { EndsAt result self.now.looked }
+        ensures value { (pending : Bool) (text : List ℕ) → IsScanOf pending self.now text → result ≡ extent_of pending text }
+        ensures item { (pending : Bool) (text : List ℕ) → IsScanOf pending self.now text → IsFirstExtent pending result text }
+        ensures ends { ItemEndsAt result self.now.looked }
     {
         self.reach
     }
@@ -121,7 +121,7 @@ impl Scan {
     /// How many octets the scan took. No item is so long that this could come near the largest number.
     pub fn looked(&self) -> u64
         ensures value { result ≡ self.now.looked }
-        ensures count { (pending : Bool) (text : List ℕ) → StandsFor pending self.now text → result ≡ length text }
+        ensures count { (pending : Bool) (text : List ℕ) → IsScanOf pending self.now text → result ≡ length text }
     {
         self.looked as u64
     }
@@ -187,7 +187,7 @@ impl Scan {
         ensures { result ≡ literal_rest self.now.known }
     {
         match (self.reach, self.line) {
-            (Reach::Need, State::Body(left, _)) => left as usize + 1,
+            (ItemExtent::Need, State::Body(left, _)) => left as usize + 1,
             _ => 0,
         }
     }
@@ -195,7 +195,7 @@ impl Scan {
 
 // 1 if the next octet is outside literals, else 0.
 fn weight(state: State) -> usize
-    ensures { result ≡ m.weight (s.shown state) }
+    ensures { result ≡ m.weight (s.shown_state state) }
 {
     match state {
         State::Body(_, _) => 0,
@@ -204,23 +204,23 @@ fn weight(state: State) -> usize
 }
 
 // What ends with an octet that leads from one state to the next.
-fn ending(state: State, next: State, octet: u8, outside: usize, looked: usize) -> Reach
-    requires { s.shown next ≡ m.step (s.shown state) octet }
-    ensures { result ≡ s.ending (s.shown state) outside looked octet }
+fn ending(state: State, next: State, octet: u8, outside: usize, looked: usize) -> ItemExtent
+    requires { s.shown_state next ≡ m.step (s.shown_state state) octet }
+    ensures { result ≡ s.ending (s.shown_state state) outside looked octet }
 {
     if outside > MAX_OUTSIDE || (is_large(state) && octet == b'\n') {
-        return Reach::TooBig;
+        return ItemExtent::TooBig;
     }
     match next {
-        State::Whole => Reach::Command(looked),
-        State::Dead if octet == b'\n' => Reach::Bad(looked),
-        _ => Reach::Need,
+        State::Whole => ItemExtent::Command(looked),
+        State::Dead if octet == b'\n' => ItemExtent::Bad(looked),
+        _ => ItemExtent::Need,
     }
 }
 
 // Whether an LF here begins a literal that is too large.
 fn is_large(state: State) -> bool
-    ensures { result ≡ m.is_large (s.shown state) }
+    ensures { result ≡ m.is_large (s.shown_state state) }
 {
     match state {
         State::Return(number, _) => number > MAX_LITERAL,

@@ -1,9 +1,9 @@
 //! Writes a reply.
 ghost use Rattle.std.specs.Prelude.{◌≡◌, ◌++◌, [], ◌∷◌, OnOk, OnErr};
-ghost use Rattle.msproto.specs.Arguments.{inside, escaped};
-ghost use Rattle.msproto.specs.Replies as s;
+ghost use Rattle.managesieve_protocol.specs.Arguments.{inside, quoted_octet};
+ghost use Rattle.managesieve_protocol.specs.Replies as s;
 
-use crate::replies::{Code, Line, Reply, Status};
+use crate::replies::{ReplyCode, DataLine, ServerReply, Status};
 use crate::state::MAX_QUOTED;
 use octets::{Octets, write_decimal};
 use std::alloc::{AllocError, Global};
@@ -16,8 +16,8 @@ const MOST_AROUND: usize = 32;
 ///
 /// Time and memory are linear in the reply's octets; a text is copied once. Lack of memory is the only error, and `out`
 /// is then as before.
-pub fn spell(alloc: Global, reply: &Reply, out: &mut Octets) -> Result<(), AllocError>
-    ensures ok { OnOk result (out.new ≡ out.old ++ s.spelled reply.now) }
+pub fn spell(alloc: Global, reply: &ServerReply, out: &mut Octets) -> Result<(), AllocError>
+    ensures ok { OnOk result (out.new ≡ out.old ++ s.reply_octets reply.now) }
     ensures err { OnErr result (out.new ≡ out.old) }
 {
     out.reserve(room(reply.lines.as_slice()))?;
@@ -32,30 +32,30 @@ pub fn spell(alloc: Global, reply: &Reply, out: &mut Octets) -> Result<(), Alloc
 }
 
 // About how many octets the lines before the last one take, if nothing in them is escaped.
-fn room(lines: &[Line]) -> usize {
+fn room(lines: &[DataLine]) -> usize {
     let mut count: usize = 0;
     for line in lines {
         let text = match line {
-            Line::Capability { name, .. } | Line::Script { name, .. } => name.len(),
-            Line::Text(text) => text.len(),
-            Line::Empty => 0,
+            DataLine::Capability { name, .. } | DataLine::Script { name, .. } => name.len(),
+            DataLine::Text(text) => text.len(),
+            DataLine::Empty => 0,
         };
         count = count.saturating_add(text).saturating_add(MOST_AROUND);
     }
     count
 }
 
-fn append(reply: &Reply, out: &mut Octets) -> Result<(), AllocError>
-    ensures ok { OnOk result (out.new ≡ out.old ++ s.spelled reply.now) }
-    ensures err { OnErr result (s.Extends out.old out.new) }
+fn append(reply: &ServerReply, out: &mut Octets) -> Result<(), AllocError>
+    ensures ok { OnOk result (out.new ≡ out.old ++ s.reply_octets reply.now) }
+    ensures err { OnErr result (s.ExtendsText out.old out.new) }
 {
     lines(reply.lines.as_slice(), out)?;
     last(reply, out)
 }
 
-fn lines(lines: &[Line], out: &mut Octets) -> Result<(), AllocError>
+fn lines(lines: &[DataLine], out: &mut Octets) -> Result<(), AllocError>
     ensures ok { OnOk result (out.new ≡ out.old ++ s.lines_spelled lines.now) }
-    ensures err { OnErr result (s.Extends out.old out.new) }
+    ensures err { OnErr result (s.ExtendsText out.old out.new) }
 {
     let mut rest = lines;
     while let Some((next, more)) = rest.split_first() {
@@ -65,30 +65,30 @@ fn lines(lines: &[Line], out: &mut Octets) -> Result<(), AllocError>
     Ok(())
 }
 
-fn line(line: &Line, out: &mut Octets) -> Result<(), AllocError>
+fn line(line: &DataLine, out: &mut Octets) -> Result<(), AllocError>
     ensures ok { OnOk result (out.new ≡ out.old ++ s.line_spelled line.now) }
-    ensures err { OnErr result (s.Extends out.old out.new) }
+    ensures err { OnErr result (s.ExtendsText out.old out.new) }
 {
     match line {
-        Line::Capability { name, value } => {
+        DataLine::Capability { name, value } => {
             spell_string(name.as_slice(), out)?;
             after_space(value, out)?;
         }
-        Line::Script { name, active } => {
+        DataLine::Script { name, active } => {
             spell_string(name.as_slice(), out)?;
             if *active {
                 out.extend_from_slice(b" ACTIVE")?;
             }
         }
-        Line::Text(text) => literal(text.as_slice(), out)?,
-        Line::Empty => out.extend_from_slice(b"\"\"")?,
+        DataLine::Text(text) => literal(text.as_slice(), out)?,
+        DataLine::Empty => out.extend_from_slice(b"\"\"")?,
     }
     out.extend_from_slice(b"\r\n")
 }
 
-fn last(reply: &Reply, out: &mut Octets) -> Result<(), AllocError>
+fn last(reply: &ServerReply, out: &mut Octets) -> Result<(), AllocError>
     ensures ok { OnOk result (out.new ≡ out.old ++ s.last_spelled reply.now.word reply.now.code reply.now.text) }
-    ensures err { OnErr result (s.Extends out.old out.new) }
+    ensures err { OnErr result (s.ExtendsText out.old out.new) }
 {
     let Some(status) = reply.word else {
         return Ok(());
@@ -100,7 +100,7 @@ fn last(reply: &Reply, out: &mut Octets) -> Result<(), AllocError>
 }
 
 fn word(status: Status) -> &'static [u8]
-    ensures { result.now ≡ s.word_of status }
+    ensures { result.now ≡ s.status_word status }
 {
     match status {
         Status::Ok => b"OK",
@@ -109,32 +109,32 @@ fn word(status: Status) -> &'static [u8]
     }
 }
 
-fn code(code: &Option<Code>, out: &mut Octets) -> Result<(), AllocError>
+fn code(code: &Option<ReplyCode>, out: &mut Octets) -> Result<(), AllocError>
     ensures ok { OnOk result (out.new ≡ out.old ++ s.code_spelled code.now) }
-    ensures err { OnErr result (s.Extends out.old out.new) }
+    ensures err { OnErr result (s.ExtendsText out.old out.new) }
 {
     let Some(code) = code else {
         return Ok(());
     };
     match code {
-        Code::Tag(tag) => {
+        ReplyCode::Tag(tag) => {
             out.extend_from_slice(b" (TAG ")?;
             spell_string(tag.as_slice(), out)?;
             out.extend_from_slice(b")")
         }
-        Code::MaxSize => out.extend_from_slice(b" (QUOTA/MAXSIZE)"),
-        Code::MaxScripts => out.extend_from_slice(b" (QUOTA/MAXSCRIPTS)"),
-        Code::NonExistent => out.extend_from_slice(b" (NONEXISTENT)"),
-        Code::Active => out.extend_from_slice(b" (ACTIVE)"),
-        Code::AlreadyExists => out.extend_from_slice(b" (ALREADYEXISTS)"),
-        Code::TryLater => out.extend_from_slice(b" (TRYLATER)"),
+        ReplyCode::MaxSize => out.extend_from_slice(b" (QUOTA/MAXSIZE)"),
+        ReplyCode::MaxScripts => out.extend_from_slice(b" (QUOTA/MAXSCRIPTS)"),
+        ReplyCode::NonExistent => out.extend_from_slice(b" (NONEXISTENT)"),
+        ReplyCode::Active => out.extend_from_slice(b" (ACTIVE)"),
+        ReplyCode::AlreadyExists => out.extend_from_slice(b" (ALREADYEXISTS)"),
+        ReplyCode::TryLater => out.extend_from_slice(b" (TRYLATER)"),
     }
 }
 
 // A space and a string, if there is one.
 fn after_space(text: &Option<Octets>, out: &mut Octets) -> Result<(), AllocError>
-    ensures ok { OnOk result (out.new ≡ out.old ++ s.after_space text.now) }
-    ensures err { OnErr result (s.Extends out.old out.new) }
+    ensures ok { OnOk result (out.new ≡ out.old ++ s.spaced_string text.now) }
+    ensures err { OnErr result (s.ExtendsText out.old out.new) }
 {
     match text {
         Some(text) => {
@@ -150,7 +150,7 @@ fn after_space(text: &Option<Octets>, out: &mut Octets) -> Result<(), AllocError
 /// Time and memory are linear in the text. Lack of memory is the only error, and `out` then has more at its end.
 pub fn spell_string(text: &[u8], out: &mut Octets) -> Result<(), AllocError>
     ensures ok { OnOk result (out.new ≡ out.old ++ s.string_spelled text.now) }
-    ensures err { OnErr result (s.Extends out.old out.new) }
+    ensures err { OnErr result (s.ExtendsText out.old out.new) }
 {
     if fits_quotes(text) {
         out.push(b'"')?;
@@ -163,7 +163,7 @@ pub fn spell_string(text: &[u8], out: &mut Octets) -> Result<(), AllocError>
 
 fn literal(text: &[u8], out: &mut Octets) -> Result<(), AllocError>
     ensures ok { OnOk result (out.new ≡ out.old ++ s.literal_spelled text.now) }
-    ensures err { OnErr result (s.Extends out.old out.new) }
+    ensures err { OnErr result (s.ExtendsText out.old out.new) }
 {
     out.push(b'{')?;
     write_decimal(out, text.len() as u64)?;
@@ -173,7 +173,7 @@ fn literal(text: &[u8], out: &mut Octets) -> Result<(), AllocError>
 
 fn between_marks(text: &[u8], out: &mut Octets) -> Result<(), AllocError>
     ensures ok { OnOk result (out.new ≡ out.old ++ inside text.now) }
-    ensures err { OnErr result (s.Extends out.old out.new) }
+    ensures err { OnErr result (s.ExtendsText out.old out.new) }
 {
     let mut rest = text;
     while let Some((octet, more)) = rest.split_first() {
@@ -184,8 +184,8 @@ fn between_marks(text: &[u8], out: &mut Octets) -> Result<(), AllocError>
 }
 
 fn one_octet(octet: u8, out: &mut Octets) -> Result<(), AllocError>
-    ensures ok { OnOk result (out.new ≡ out.old ++ escaped octet) }
-    ensures err { OnErr result (s.Extends out.old out.new) }
+    ensures ok { OnOk result (out.new ≡ out.old ++ quoted_octet octet) }
+    ensures err { OnErr result (s.ExtendsText out.old out.new) }
 {
     if octet == b'"' || octet == b'\\' {
         out.push(b'\\')?;

@@ -1,10 +1,10 @@
 //! The state of a line after each of its octets: reading needs no search.
 ghost use Rattle.std.specs.Prelude.{◌≡◌, ◌≤◌, ℕ, length, take};
 ghost use Rattle.std.specs.List.{prefix_len};
-ghost use Rattle.msproto.specs.Machine as m;
-ghost use Rattle.msproto.specs.Shown as s;
+ghost use Rattle.managesieve_protocol.specs.Machine as m;
+ghost use Rattle.managesieve_protocol.specs.Shown as s;
 
-use crate::verb::{Params, Verb};
+use crate::command_name::{Params, CommandName};
 
 /// The longest quoted string, in octets between its quotation marks, in what is read and in what is written (RFC 5804, section 4).
 pub(crate) const MAX_QUOTED: u32 = 1024;
@@ -13,7 +13,7 @@ pub(crate) const MAX_QUOTED: u32 = 1024;
 #[derive(Clone, Copy)]
 pub enum State {
     /// In a name: a verb that begins with the letters so far, and how many they are.
-    Word(Verb, usize),
+    Word(CommandName, usize),
     /// After a name or an argument.
     Between(Params),
     /// At the start of a string.
@@ -44,18 +44,18 @@ pub enum State {
 impl State {
     /// The state before a line's first octet; if a challenge is pending, the line is one string.
     pub(crate) fn start(pending: bool) -> State
-        ensures { s.shown result ≡ m.start pending }
+        ensures { s.shown_state result ≡ m.start_state pending }
     {
         if pending {
             State::Opening(Params::LineEnd)
         } else {
-            State::Word(Verb::Noop, 0)
+            State::Word(CommandName::Noop, 0)
         }
     }
 
     /// The state after one octet more.
     pub(crate) fn step(self, octet: u8) -> State
-        ensures { s.shown result ≡ m.step (s.shown self) octet }
+        ensures { s.shown_state result ≡ m.step (s.shown_state self) octet }
     {
         match self {
             State::Word(verb, count) => in_word(verb, count, octet),
@@ -80,7 +80,7 @@ impl State {
     /// on the same bad line, and how many they are.
     pub(crate) fn feed_run(self, octets: &[u8]) -> (State, usize)
         ensures count { result.1 ≡ s.skimmed self octets.now }
-        ensures state { s.shown result.0 ≡ s.state_after self result.1 }
+        ensures state { s.shown_state result.0 ≡ s.state_after self result.1 }
         ensures within { result.1 ≤ length octets.now }
     {
         match self {
@@ -102,7 +102,7 @@ impl State {
 
 // How many octets at the start are these letters in upper or lower case.
 fn spelling_length(letters: &[u8], octets: &[u8]) -> usize
-    ensures value { result ≡ s.spelling letters.now octets.now }
+    ensures value { result ≡ s.letters_matched letters.now octets.now }
     ensures within { result ≤ length octets.now }
     ensures letters { result ≤ length letters.now }
 {
@@ -125,7 +125,7 @@ fn spelling_length(letters: &[u8], octets: &[u8]) -> usize
 
 // How many octets at the start may be between quotation marks without an escape.
 fn plain_length(octets: &[u8]) -> usize
-    ensures value { result ≡ prefix_len s.is_plain octets.now }
+    ensures value { result ≡ prefix_len s.is_plain_quoted octets.now }
     ensures within { result ≤ length octets.now }
 {
     octets
@@ -136,7 +136,7 @@ fn plain_length(octets: &[u8]) -> usize
 
 // How many octets come before the first LF.
 fn inner_length(octets: &[u8]) -> usize
-    ensures value { result ≡ prefix_len s.is_inner octets.now }
+    ensures value { result ≡ prefix_len s.is_inside_line octets.now }
     ensures within { result ≤ length octets.now }
 {
     octets.iter().take_while(|octet| **octet != b'\n').count()
@@ -144,13 +144,13 @@ fn inner_length(octets: &[u8]) -> usize
 
 // The state after one octet that must be this one.
 fn expect(octet: u8, wanted: u8, next: State) -> State
-    ensures { s.shown result ≡ s.only octet wanted (s.shown next) }
+    ensures { s.shown_state result ≡ s.only octet wanted (s.shown_state next) }
 {
     if octet == wanted { next } else { State::Dead }
 }
 
-fn in_word(verb: Verb, count: usize, octet: u8) -> State
-    ensures { s.shown result ≡ m.step (m.Word (take count (m.word_of verb))) octet }
+fn in_word(verb: CommandName, count: usize, octet: u8) -> State
+    ensures { s.shown_state result ≡ m.step (m.Word (take count (m.command_name verb))) octet }
 {
     let word = verb.word();
     let letters = &word[..count.min(word.len())];
@@ -167,7 +167,7 @@ fn in_word(verb: Verb, count: usize, octet: u8) -> State
 }
 
 fn leave(params: Params, octet: u8) -> State
-    ensures { s.shown result ≡ m.leave (s.params_shown params) octet }
+    ensures { s.shown_state result ≡ m.leave (s.params_shown params) octet }
 {
     match octet {
         b' ' => match params {
@@ -187,7 +187,7 @@ fn leave(params: Params, octet: u8) -> State
 }
 
 fn open(params: Params, octet: u8) -> State
-    ensures { s.shown result ≡ m.step (m.Opening (s.params_shown params)) octet }
+    ensures { s.shown_state result ≡ m.step (m.Opening (s.params_shown params)) octet }
 {
     match octet {
         b'"' => State::Quoted(MAX_QUOTED, params),
@@ -197,7 +197,7 @@ fn open(params: Params, octet: u8) -> State
 }
 
 fn in_quotes(left: u32, params: Params, octet: u8) -> State
-    ensures { s.shown result ≡ m.step (m.Quoted left (s.params_shown params)) octet }
+    ensures { s.shown_state result ≡ m.step (m.Quoted left (s.params_shown params)) octet }
 {
     match octet {
         b'"' => State::Between(params),
@@ -210,7 +210,7 @@ fn in_quotes(left: u32, params: Params, octet: u8) -> State
 }
 
 fn escaped(left: u32, params: Params, octet: u8) -> State
-    ensures { s.shown result ≡ m.step (m.Escaped left (s.params_shown params)) octet }
+    ensures { s.shown_state result ≡ m.step (m.Escaped left (s.params_shown params)) octet }
 {
     match octet {
         b'"' | b'\\' => State::Quoted(left, params),
@@ -219,7 +219,7 @@ fn escaped(left: u32, params: Params, octet: u8) -> State
 }
 
 fn in_brace(params: Params, octet: u8) -> State
-    ensures { s.shown result ≡ m.step (m.Brace (s.params_shown params)) octet }
+    ensures { s.shown_state result ≡ m.step (m.Brace (s.params_shown params)) octet }
 {
     match first_digit(octet) {
         Some(number) => State::Count(number, params),
@@ -228,7 +228,7 @@ fn in_brace(params: Params, octet: u8) -> State
 }
 
 fn in_count(number: u32, params: Params, octet: u8) -> State
-    ensures { s.shown result ≡ m.step (m.Count number (s.params_shown params)) octet }
+    ensures { s.shown_state result ≡ m.step (m.Count number (s.params_shown params)) octet }
 {
     if octet == b'+' {
         return State::Plus(number, params);
@@ -240,7 +240,7 @@ fn in_count(number: u32, params: Params, octet: u8) -> State
 }
 
 fn at_number(octet: u8) -> State
-    ensures { s.shown result ≡ m.step m.Number octet }
+    ensures { s.shown_state result ≡ m.step m.Number octet }
 {
     match first_digit(octet) {
         Some(number) => State::Digits(number),
@@ -249,7 +249,7 @@ fn at_number(octet: u8) -> State
 }
 
 fn in_number(number: u32, octet: u8) -> State
-    ensures { s.shown result ≡ m.step (m.Digits number) octet }
+    ensures { s.shown_state result ≡ m.step (m.Digits number) octet }
 {
     if octet == b'\r' {
         return State::LineFeed;
@@ -262,7 +262,7 @@ fn in_number(number: u32, octet: u8) -> State
 
 // The state of a literal of which that many octets are to come.
 fn literal(left: u32, params: Params) -> State
-    ensures { s.shown result ≡ m.literal_left left (s.params_shown params) }
+    ensures { s.shown_state result ≡ m.literal_left left (s.params_shown params) }
 {
     if left == 0 {
         State::Between(params)

@@ -4,15 +4,15 @@ use Rattle.sqlite_trees.specs.Tree.{Trees}
 use Rattle.sqlite.specs.Effect.{Database}
 use Rattle.sqlite.specs.State.{State, HasCleanDisk, Survives}
 use Rattle.sqlite.proofs.StateLemmas.{survives_then, survives_weaker}
-use Rattle.mailstore.specs.declared.refusal.Refusal.{Refusal}
-use Rattle.mailstore.specs.Account.{Accounts}
-use Rattle.mailstore.specs.Connection.{StaysSame, IsSettled}
-use Rattle.mailstore.specs.Promises.{HasOurTables, Keeps, Turns, CrashLeavesAccounts}
-use Rattle.mailstore.specs.Shows.{Presents, ShowsIn}
-use Rattle.mailtables.proofs.ResultLemmas.{on_ok, on_err_any}
-use Rattle.mailtables.proofs.WriteLemmas.{clean_before}
-use Rattle.mailstore.proofs.OneLemmas.{accounts_one}
-use Rattle.sessions.specs.Acts.{HasAccounts, Carries, CrashLeaves, Acts, Glances, IsAnswered, Stays, StaysOpen, Lasts, Durable}
+use Rattle.store_accounts.specs.declared.refusal.Refusal.{Refusal}
+use Rattle.store_accounts.specs.Account.{Accounts}
+use Rattle.store_accounts.specs.Connection.{StaysSame, IsSettled}
+use Rattle.store_accounts.specs.Promises.{HasOurTables, KeepsTables, ChangesAccounts, CrashLeavesAccounts}
+use Rattle.store_accounts.specs.Shows.{Presents, ShowsIn}
+use Rattle.store_tables.proofs.ResultLemmas.{on_ok, on_err_any}
+use Rattle.store_tables.proofs.WriteLemmas.{clean_before}
+use Rattle.store_accounts.proofs.OneLemmas.{accounts_one}
+use Rattle.managesieve_sessions.specs.Acts.{HasAccounts, TurnsAccounts, CrashLeaves, Acts, Glances, IsCallAnswered, StoreStays, StaysOpen, Lasts, Durable}
 
 -- no Ok, so nothing is said of one
 pub never_ok : {X E : Type 0} (q : Result X E) (P : Type 0) → OnOk q ⊥ → OnOk q P
@@ -20,27 +20,27 @@ never_ok (Ok x) P none = absurd none
 never_ok (Err e) P none = tt
 
 -- nothing was answered
-pub unanswered : {X : Type 0} (q : Result X Refusal) (P : Type 0) → (IsAnswered q → ⊥) → OnOk q P
+pub unanswered : {X : Type 0} (q : Result X Refusal) (P : Type 0) → (IsCallAnswered q → ⊥) → OnOk q P
 unanswered (Ok x) P none = absurd (none tt)
 unanswered (Err e) P none = tt
 
 -- ---- what lasts
 
-module _ {X : Type 0} (Turn : Accounts → Accounts → Type 0) (a b : State) (q : Result X Refusal) (carries : Carries Turn a b) (live : StaysOpen a b q)
-    (durable : HasCleanDisk b → HasOurTables a.now → IsAnswered q → IsSettled b ⊎ Stays a b) where
+module _ {X : Type 0} (Turn : Accounts → Accounts → Type 0) (a b : State) (q : Result X Refusal) (carries : TurnsAccounts Turn a b) (live : StaysOpen a b q)
+    (durable : HasCleanDisk b → HasOurTables a.now → IsCallAnswered q → IsSettled b ⊎ StoreStays a b) where
   module _ (clean : HasCleanDisk b) (accounts : Accounts) (p : Presents a.now accounts) where
-    left : (later : Accounts) → IsTrue b.is_open → Presents b.now later → IsSettled b ⊎ Stays a b → (trees : Trees) → b.may_leave trees → ShowsIn trees later ⊎ ((later ≡ accounts) × a.may_leave trees)
+    left : (later : Accounts) → IsTrue b.is_open → Presents b.now later → IsSettled b ⊎ StoreStays a b → (trees : Trees) → b.may_leave trees → ShowsIn trees later ⊎ ((later ≡ accounts) × a.may_leave trees)
     left later is_open shown (inl settled) trees may = inl (b.now, shown, settled.alone trees may ∙ sym (ap (λ (db : Database). db.trees) settled.same))
     left later is_open shown (inr stays) trees may =
         inr (accounts_one b.now later accounts shown (subst (λ db. Presents db accounts) (sym (stays.same.now_is is_open)) p), stays.crash.alone clean trees may)
 
-    turned : IsTrue b.is_open → IsAnswered q → (later : Accounts) × Turn accounts later × Lasts accounts later a b
+    turned : IsTrue b.is_open → IsCallAnswered q → (later : Accounts) × Turn accounts later × Lasts accounts later a b
     turned is_open told =
         let it = carries clean accounts (λ o. p) in
         let shown = it.2 is_open in
         (it.0, it.1, record { is_open = is_open; shown = shown; crash = left it.0 is_open shown (durable clean (p.0, p.1) told) })
 
-    by_answer : (r : Result X Refusal) → (IsAnswered r → IsAnswered q) → OnOk r (IsTrue b.is_open) → OnOk r ((later : Accounts) × Turn accounts later × Lasts accounts later a b)
+    by_answer : (r : Result X Refusal) → (IsCallAnswered r → IsCallAnswered q) → OnOk r (IsTrue b.is_open) → OnOk r ((later : Accounts) × Turn accounts later × Lasts accounts later a b)
     by_answer (Ok x) told is_open = turned is_open (told tt)
     by_answer (Err e) told is_open = tt
 
@@ -50,7 +50,7 @@ module _ {X : Type 0} (Turn : Accounts → Accounts → Type 0) (a b : State) (q
 
 -- ---- reads
 
-pub glanced : {X E : Type 0} (a b : State) (r : Result X E) → Keeps a b r → Glances a b
+pub glanced : {X E : Type 0} (a b : State) (r : Result X E) → KeepsTables a b r → Glances a b
 glanced a b r k = record { same = k.same; shut = k.shut; crash = k.crash }
 
 -- nothing was asked
@@ -85,13 +85,13 @@ accounts_stay a b k clean accounts shown is_open =
     subst (λ db. Presents db accounts) (sym ((k.same clean (p.0, p.1)).now_is is_open)) p
 
 -- once something was read, the tables showed them
-pub read_shows : {X E : Type 0} (a b : State) (r : Result X E) (x : X) → r ≡ Ok x → Keeps a b r → HasCleanDisk b → (accounts : Accounts) → HasAccounts a accounts → Presents a.now accounts × IsTrue b.is_open × Presents b.now accounts
+pub read_shows : {X E : Type 0} (a b : State) (r : Result X E) (x : X) → r ≡ Ok x → KeepsTables a b r → HasCleanDisk b → (accounts : Accounts) → HasAccounts a accounts → Presents a.now accounts × IsTrue b.is_open × Presents b.now accounts
 read_shows a b r x is k clean accounts shown =
     let live = on_ok r x is (IsTrue b.is_open) (k.live clean) in
     (shown (k.shut clean live), live, accounts_stay a b (glanced a b r k) clean accounts shown live)
 
 -- nothing changed
-pub glance_stays : (a b : State) → Glances a b → HasCleanDisk b → HasOurTables a.now → Stays a b
+pub glance_stays : (a b : State) → Glances a b → HasCleanDisk b → HasOurTables a.now → StoreStays a b
 glance_stays a b k clean tables = record { same = k.same clean tables; crash = record { faults = k.crash.clean; alone = alone } }
   where
     alone : HasCleanDisk b → (db : Trees) → b.may_leave db → a.may_leave db
@@ -110,16 +110,16 @@ acts_read a b Turn MayTurn q live k turn = record {
   lasts = lasting Turn a b q carries live durable;
 }
   where
-    carries : Carries Turn a b
+    carries : TurnsAccounts Turn a b
     carries clean accounts shown = (accounts, turn clean accounts shown, accounts_stay a b k clean accounts shown)
 
-    durable : HasCleanDisk b → HasOurTables a.now → IsAnswered q → IsSettled b ⊎ Stays a b
+    durable : HasCleanDisk b → HasOurTables a.now → IsCallAnswered q → IsSettled b ⊎ StoreStays a b
     durable clean tables answered = inr (glance_stays a b k clean tables)
 
 -- ---- reads, and then one write
 
-module _ {X Y E : Type 0} (a b c : State) (r : Result X E) (x : X) (is : r ≡ Ok x) (k : Keeps a b r) (Fit : Accounts → Type 0) (change : Accounts → Accounts)
-    (w : Result Y Refusal) (made_is : HasCleanDisk c → OnOk w (Turns Fit change b.now c.now)) (settled_is : HasCleanDisk c → OnOk w (IsSettled c)) (same_is : HasCleanDisk c → HasOurTables b.now → OnErr w (StaysSame b c))
+module _ {X Y E : Type 0} (a b c : State) (r : Result X E) (x : X) (is : r ≡ Ok x) (k : KeepsTables a b r) (Fit : Accounts → Type 0) (change : Accounts → Accounts)
+    (w : Result Y Refusal) (made_is : HasCleanDisk c → OnOk w (ChangesAccounts Fit change b.now c.now)) (settled_is : HasCleanDisk c → OnOk w (IsSettled c)) (same_is : HasCleanDisk c → HasOurTables b.now → OnErr w (StaysSame b c))
     (crash_is : Survives b c (CrashLeavesAccounts Fit change b)) (Turn MayTurn : Accounts → Accounts → Type 0) where
   -- what the tables show between the two
   mid_shows : HasCleanDisk c → (accounts : Accounts) → HasAccounts a accounts → Presents a.now accounts × IsTrue b.is_open × Presents b.now accounts
@@ -152,7 +152,7 @@ module _ {X Y E : Type 0} (a b c : State) (r : Result X E) (x : X) (is : r ≡ O
       settled : HasCleanDisk c → IsSettled c
       settled clean = on_ok w y was (IsSettled c) (settled_is clean)
 
-      carries : Carries Turn a c
+      carries : TurnsAccounts Turn a c
       carries clean accounts shown =
           let m = mid_shows clean accounts shown in
           let step = steps (clean_before b c _ crash_is clean) accounts m.0 in
@@ -162,7 +162,7 @@ module _ {X Y E : Type 0} (a b c : State) (r : Result X E) (x : X) (is : r ≡ O
       live clean open_before = (settled clean).is_open
 
   -- the write was refused, without a visible cause
-  pub acts_undone : {Z : Type 0} (e : Refusal) (q : Result Z Refusal) → w ≡ Err e → (IsAnswered q → ⊥) → ((accounts : Accounts) → Turn accounts accounts)
+  pub acts_undone : {Z : Type 0} (e : Refusal) (q : Result Z Refusal) → w ≡ Err e → (IsCallAnswered q → ⊥) → ((accounts : Accounts) → Turn accounts accounts)
       → (HasCleanDisk b → (accounts : Accounts) → Presents a.now accounts → Fit accounts × MayTurn accounts (change accounts)) → Acts Turn MayTurn a c q
   acts_undone {Z} e q was transient turn steps = record {
     carries = carries;
@@ -186,7 +186,7 @@ module _ {X Y E : Type 0} (a b c : State) (r : Result X E) (x : X) (is : r ≡ O
       undone_is : HasCleanDisk c → HasOurTables b.now → StaysSame b c
       undone_is clean tables = refused w was _ (same_is clean tables)
 
-      carries : Carries Turn a c
+      carries : TurnsAccounts Turn a c
       carries clean accounts shown =
           let m = mid_shows clean accounts shown in
           let undone = undone_is clean (m.2.0, m.2.1) in

@@ -3,32 +3,32 @@ use Rattle.std.proofs.Common.{◌≡◌, ℕ, ◌≤◌, true, false, List, [], 
 use Rattle.std.specs.FinMap.{get, get-empty}
 use Rattle.std.specs.Str.{chars}
 use Rattle.std.proofs.lemmas.Bool.{false≢true}
-use Rattle.msproto.specs.declared.commands.Command.TheVariants.{Noop, Logout, Authenticate, Unauthenticate, HaveSpace, PutScript, ListScripts, SetActive, GetScript, DeleteScript}
-use Rattle.msproto.specs.declared.replies.Reply.{Reply}
-use Rattle.msproto.specs.declared.replies.Line.TheVariants as line
-use Rattle.msproto.specs.declared.replies.Code.TheVariants.{MaxSize, MaxScripts}
-use Rattle.msproto.specs.declared.replies.Status.TheVariants.{Ok, No}
-use Rattle.msproto.specs.Machine.{rows}
-use Rattle.msproto.specs.Replies.{spelled}
-use Rattle.mailstore.specs.Account.{bytes_cmp, Account, Accounts, no_accounts, new_account, keeps_script, closes, open_one, open_of}
-use Rattle.sessions.specs.declared.progress.Progress.TheVariants.{Need, Done, Close}
-use Rattle.sessions.specs.declared.turn.Sequel.TheVariants.{Fail, LogOut}
-use Rattle.sessions.specs.Clients.{Client, new_client, is_ready, client_given, shut, challenged, without_first, reach_in}
-use Rattle.sessions.specs.Counts.{SessionView, new_session, given_more, greatest, looked_in, scanned_past}
-use Rattle.sessions.specs.declared.sort.NamedCommand.TheVariants as named
-use Rattle.sessions.specs.declared.sort.Order.TheVariants as order
-use Rattle.sessions.specs.declared.sort.ScriptCommand.TheVariants as script
-use Rattle.sessions.specs.declared.sort.Sort.TheVariants as sort
-use Rattle.sessions.specs.Decisions.{change_made_if}
-use Rattle.sessions.specs.GivenUp.{text_given_up, client_given_up, progress_given_up}
-use Rattle.sessions.specs.Limits.{IsScriptName}
-use Rattle.sessions.specs.Logins.{checked_by, login_reply, login_client, is_plain, is_star, authenticate_reply, response_reply}
-use Rattle.sessions.specs.Replies.{accepted, declined, farewell, listed, challenge, done, done_with, try_later, is_ok, capabilities, owner_line}
-use Rattle.sessions.specs.Scripts.{RepliesTo, HasScript, absent, too_large, get_reply, list_reply, obeyed}
-use Rattle.sessions.specs.Sorts.{command_of, of_order}
-use Rattle.sessions.specs.Steps.{IsStep, progress_of, may_fail, may_lack}
-use Rattle.sessions.specs.Table.{is_early, early_reply, RepliesOf, RepliesIn, asked_client, client_in}
-use Rattle.sessions.specs.Turns.{login_text, followed}
+use Rattle.managesieve_protocol.specs.declared.commands.ClientCommand.TheVariants.{Noop, Logout, Authenticate, Unauthenticate, HaveSpace, PutScript, ListScripts, SetActive, GetScript, DeleteScript}
+use Rattle.managesieve_protocol.specs.declared.replies.ServerReply.{ServerReply}
+use Rattle.managesieve_protocol.specs.declared.replies.DataLine.TheVariants as line
+use Rattle.managesieve_protocol.specs.declared.replies.ReplyCode.TheVariants.{MaxSize, MaxScripts}
+use Rattle.managesieve_protocol.specs.declared.replies.Status.TheVariants.{Ok, No}
+use Rattle.managesieve_protocol.specs.Machine.{rows}
+use Rattle.managesieve_protocol.specs.Replies.{reply_octets}
+use Rattle.store_accounts.specs.Account.{bytes_cmp, Account, Accounts, no_accounts, new_account, keeps_script, closes, open_one, open_account_of}
+use Rattle.managesieve_sessions.specs.declared.progress.Progress.TheVariants.{Need, Done, Close}
+use Rattle.managesieve_sessions.specs.declared.command_outcome.SessionChange.TheVariants.{Fail, LogOut}
+use Rattle.managesieve_sessions.specs.Clients.{Client, new_client, is_ready, client_given, shut, challenged, without_first, reach_in}
+use Rattle.managesieve_sessions.specs.Counts.{SessionView, new_session, given_more, greatest, looked_in, scanned_past}
+use Rattle.managesieve_sessions.specs.declared.command_class.NamedCommand.TheVariants as named
+use Rattle.managesieve_sessions.specs.declared.command_class.StoreCommand.TheVariants as order
+use Rattle.managesieve_sessions.specs.declared.command_class.ScriptCommand.TheVariants as script
+use Rattle.managesieve_sessions.specs.declared.command_class.CommandClass.TheVariants as sort
+use Rattle.managesieve_sessions.specs.Decisions.{change_made_if}
+use Rattle.managesieve_sessions.specs.GivenUp.{text_given_up, client_given_up, progress_given_up}
+use Rattle.managesieve_sessions.specs.Limits.{IsScriptName}
+use Rattle.managesieve_sessions.specs.Logins.{checked_by, login_reply, login_client, is_plain_mechanism, is_star, authenticate_reply, response_reply}
+use Rattle.managesieve_sessions.specs.Replies.{ok_reply, negative_reply, bye_reply, listed, challenge_reply, done_reply, noop_reply, try_later, is_ok, capability_reply, owner_line}
+use Rattle.managesieve_sessions.specs.Scripts.{RepliesTo, HasScript, absent, too_large, get_reply, list_reply, obeyed}
+use Rattle.managesieve_sessions.specs.CommandClasses.{command_of_class, of_store_command}
+use Rattle.managesieve_sessions.specs.Steps.{IsStep, progress_of, may_fail, may_lack}
+use Rattle.managesieve_sessions.specs.Table.{is_early, early_reply, RepliesOf, RepliesIn, asked_client, client_in}
+use Rattle.managesieve_sessions.specs.CommandOutcomes.{login_text, client_after}
 
 -- with CRLF after it
 abbrev end : List ℕ → List ℕ
@@ -94,19 +94,19 @@ counted_out = refl
 
 -- ---- replies
 
-done_line : spelled done ≡ end (codes "OK \"Done.\"")
+done_line : reply_octets done_reply ≡ end (codes "OK \"Done.\"")
 done_line = refl
 
-tagged_line : spelled (done_with (Some (codes "t"))) ≡ end (codes "OK (TAG \"t\") \"Done.\"")
+tagged_line : reply_octets (noop_reply (Some (codes "t"))) ≡ end (codes "OK (TAG \"t\") \"Done.\"")
 tagged_line = refl
 
-challenge_line : spelled challenge ≡ end (codes "\"\"")
+challenge_line : reply_octets challenge_reply ≡ end (codes "\"\"")
 challenge_line = refl
 
-later_line : spelled try_later ≡ end (codes "NO (TRYLATER) \"Try later.\"")
+later_line : reply_octets try_later ≡ end (codes "NO (TRYLATER) \"Try later.\"")
 later_line = refl
 
-greeting : spelled (capabilities None)
+greeting : reply_octets (capability_reply None)
     ≡ end (codes "\"IMPLEMENTATION\" \"sieved 1\"") ++ end (codes "\"SASL\" \"PLAIN\"") ++ end (codes "\"SIEVE\" \"fileinto envelope vacation copy vacation-seconds subaddress relational comparator-i;ascii-numeric encoded-character mailbox date imap4flags\"")
     ++ end (codes "\"MAXREDIRECTS\" \"16\"") ++ end (codes "\"UNAUTHENTICATE\"") ++ end (codes "\"VERSION\" \"1.0\"") ++ end (codes "OK")
 greeting = refl
@@ -115,10 +115,10 @@ greeting = refl
 no_owner : owner_line None ≡ []
 no_owner = refl
 
-accepted_ok : is_ok (accepted []).word ≡ true
+accepted_ok : is_ok (ok_reply []).word ≡ true
 accepted_ok = refl
 
-challenge_not_ok : is_ok challenge.word ≡ false
+challenge_not_ok : is_ok challenge_reply.word ≡ false
 challenge_not_ok = refl
 
 -- ---- names
@@ -143,30 +143,30 @@ fresh = new_account (codes "alice@example.org") (record { salt = []; rounds = 1;
 not_there : (name : List ℕ) → HasScript fresh name → ⊥
 not_there name there = false≢true (subst (λ (o : Option (List ℕ)). IsSome o) (get-empty bytes_cmp name) there)
 
-none_active : RepliesTo fresh (SetActive []) done
+none_active : RepliesTo fresh (SetActive []) done_reply
 none_active = inl (inl refl, refl)
 
-absent_active : RepliesTo fresh (SetActive (codes "x")) done → ⊥
+absent_active : RepliesTo fresh (SetActive (codes "x")) done_reply → ⊥
 absent_active (inl (inl h, e)) = let no : codes "x" ≡ [] = h in cc
 absent_active (inl (inr h, e)) = not_there (codes "x") h
-absent_active (inr h) = false≢true (sym (ap (λ (r : Reply). is_ok r.word) h.1))
+absent_active (inr h) = false≢true (sym (ap (λ (r : ServerReply). is_ok r.word) h.1))
 
 absent_deleted : RepliesTo fresh (DeleteScript (codes "x")) absent
 absent_deleted = inr (not_there (codes "x"), refl)
 
-absent_deleted_not : RepliesTo fresh (DeleteScript (codes "x")) done → ⊥
+absent_deleted_not : RepliesTo fresh (DeleteScript (codes "x")) done_reply → ⊥
 absent_deleted_not (inl h) = not_there (codes "x") h.0
-absent_deleted_not (inr h) = false≢true (sym (ap (λ (r : Reply). is_ok r.word) h.1))
+absent_deleted_not (inr h) = false≢true (sym (ap (λ (r : ServerReply). is_ok r.word) h.1))
 
 -- 262,145 octets are too many, and 262,144 aren't
 space_too_large : RepliesTo fresh (HaveSpace (codes "e") 262145) too_large
 space_too_large = inl (name_right, inr ((λ le. omega (arith, le)), refl))
 
 space_fits : RepliesTo fresh (HaveSpace (codes "e") 262144) too_large → ⊥
-space_fits (inl (named, inl (small, inl h))) = false≢true (ap (λ (r : Reply). is_ok r.word) h.1)
-space_fits (inl (named, inl (small, inr h))) = let no : Some MaxSize ≡ Some MaxScripts = ap (λ (r : Reply). r.code) h.1 in cc
+space_fits (inl (named, inl (small, inl h))) = false≢true (ap (λ (r : ServerReply). is_ok r.word) h.1)
+space_fits (inl (named, inl (small, inr h))) = let no : Some MaxSize ≡ Some MaxScripts = ap (λ (r : ServerReply). r.code) h.1 in cc
 space_fits (inl (named, inr h)) = h.0 (omega arith)
-space_fits (inr h) = let no : Some MaxSize ≡ None = ap (λ (r : Reply). r.code) h.1 in cc
+space_fits (inr h) = let no : Some MaxSize ≡ None = ap (λ (r : ServerReply). r.code) h.1 in cc
 
 text_sent : get_reply (Some (codes "keep;")) ≡ listed (line.Text (codes "keep;") ∷ [])
 text_sent = refl
@@ -186,10 +186,10 @@ not_stored = refl
 unknown_user : checked_by (codes "carol", codes "secret") None ≡ None
 unknown_user = refl
 
-second_failure : login_reply None 1 ≡ declined None (codes "Authentication failed.")
+second_failure : login_reply None 1 ≡ negative_reply None (codes "Authentication failed.")
 second_failure = refl
 
-third_failure : login_reply None 2 ≡ farewell (codes "Too many failures.")
+third_failure : login_reply None 2 ≡ bye_reply (codes "Too many failures.")
 third_failure = refl
 
 counted_failure : login_client None (record new_client { failures = 1 }) ≡ record new_client { failures = 2 }
@@ -201,20 +201,20 @@ last_failure = refl
 logged_in : login_client (Some (codes "alice")) (record new_client { failures = 2 }) ≡ record new_client { user = Some (codes "alice") }
 logged_in = refl
 
-plain_in_any_case : is_plain (codes "Plain") ≡ true
+plain_in_any_case : is_plain_mechanism (codes "Plain") ≡ true
 plain_in_any_case = refl
 
-no_plain : is_plain (codes "PLAIN ") ≡ false
+no_plain : is_plain_mechanism (codes "PLAIN ") ≡ false
 no_plain = refl
 
 -- who is logged in already is told so before the mechanism is looked at
-logged_in_first : authenticate_reply no_accounts (record new_client { user = Some [] }) (codes "x") None ≡ declined None (codes "Already logged in.")
+logged_in_first : authenticate_reply no_accounts (record new_client { user = Some [] }) (codes "x") None ≡ negative_reply None (codes "Already logged in.")
 logged_in_first = refl
 
-mechanism_next : authenticate_reply no_accounts new_client (codes "x") None ≡ declined None (codes "Unknown mechanism.")
+mechanism_next : authenticate_reply no_accounts new_client (codes "x") None ≡ negative_reply None (codes "Unknown mechanism.")
 mechanism_next = refl
 
-cancelled : response_reply no_accounts new_client (codes "*") ≡ declined None (codes "Cancelled.")
+cancelled : response_reply no_accounts new_client (codes "*") ≡ negative_reply None (codes "Cancelled.")
 cancelled = refl
 
 -- two stars cancel nothing
@@ -236,7 +236,7 @@ early = refl
 not_early : is_early new_client (Noop None) ≡ false
 not_early = refl
 
-told_first : RepliesIn no_accounts new_client ListScripts (declined None (codes "Log in first."))
+told_first : RepliesIn no_accounts new_client ListScripts (negative_reply None (codes "Log in first."))
 told_first = refl
 
 -- of a user without an account nothing is listed: the command is early
@@ -244,7 +244,7 @@ no_account : RepliesIn no_accounts (record new_client { user = Some [] }) ListSc
 no_account h =
     let none : get no_accounts [] ≡ None = get-empty bytes_cmp [] in
     let told : listed [] ≡ early_reply = rw none at h in
-    false≢true (sym (ap (λ (r : Reply). is_ok r.word) told))
+    false≢true (sym (ap (λ (r : ServerReply). is_ok r.word) told))
 
 -- ---- an account that was closed
 
@@ -256,7 +256,7 @@ abbrev alices : Client
 alices = record new_client { user = Some alice }
 
 module _ (accounts : Accounts) (a : Account) (has : get accounts alice ≡ Some (closes a)) where
-  gone : open_of accounts alice ≡ None
+  gone : open_account_of accounts alice ≡ None
   gone = ap open_one has
 
   -- a session still logged in is told so at its next command about scripts, and is logged out
@@ -270,7 +270,7 @@ module _ (accounts : Accounts) (a : Account) (has : get accounts alice ≡ Some 
   closed_listed : RepliesIn accounts alices ListScripts (list_reply a) → ⊥
   closed_listed h =
       let told : list_reply a ≡ early_reply = subst (λ o. RepliesOf o ListScripts (list_reply a)) gone h in
-      false≢true (sym (ap (λ (r : Reply). is_ok r.word) told))
+      false≢true (sym (ap (λ (r : ServerReply). is_ok r.word) told))
 
   closed_stays : client_in accounts ListScripts alices ≡ alices → ⊥
   closed_stays h = let no : None ≡ Some alice = ap (λ (c : Client). c.user) (sym closed_left ∙ h) in cc
@@ -280,7 +280,7 @@ module _ (accounts : Accounts) (a : Account) (has : get accounts alice ≡ Some 
   closed_noop = refl
 
   -- no password logs in
-  closed_out : (password : List ℕ) → checked_by (alice, password) (open_of accounts alice) ≡ None
+  closed_out : (password : List ℕ) → checked_by (alice, password) (open_account_of accounts alice) ≡ None
   closed_out password = ap (checked_by (alice, password)) gone
 
 logged_out : client_in no_accounts Unauthenticate (record new_client { user = Some []; failures = 1 }) ≡ new_client
@@ -297,7 +297,7 @@ ended = refl
 
 noop_step : IsStep no_accounts (after (end (codes "NOOP"))) Done (end (codes "OK \"Done.\"")) new_client no_accounts
 unfolding rows
-noop_step = record { reply = done; replies = refl; spelled = refl; session = refl; goes_on = refl; changed = refl }
+noop_step = record { reply = done_reply; replies = refl; spelled = refl; session = refl; goes_on = refl; changed = refl }
 
 -- an item isn't left to stand
 not_need : IsStep no_accounts (after (end (codes "NOOP"))) Need [] (after (end (codes "NOOP"))) no_accounts → ⊥
@@ -343,14 +343,14 @@ too_much = refl
 changes_nothing : change_made_if None fresh ≡ fresh
 changes_nothing = refl
 
-deletes : command_of (sort.Script (script.Named (named.DeleteScript []))) ≡ DeleteScript []
+deletes : command_of_class (sort.Script (script.Named (named.DeleteScript []))) ≡ DeleteScript []
 deletes = refl
 
-gets : of_order (order.Script [] (script.Get [])) ≡ GetScript []
+gets : of_store_command (order.Script [] (script.Get [])) ≡ GetScript []
 gets = refl
 
-third_fail : followed Fail (record new_client { failures = 2 }) ≡ shut (record new_client { failures = 2 })
+third_fail : client_after Fail (record new_client { failures = 2 }) ≡ shut (record new_client { failures = 2 })
 third_fail = refl
 
-left_so : followed LogOut (record new_client { user = Some [] }) ≡ new_client
+left_so : client_after LogOut (record new_client { user = Some [] }) ≡ new_client
 left_so = refl

@@ -7,23 +7,23 @@ use Rattle.std.specs.declared.cmp.Ordering.{Ordering}
 use Rattle.std.specs.declared.cmp.Ordering.TheVariants.{Less, Equal, Greater}
 use Rattle.std.specs.FinMap.{get, insert, same_map, get-insert}
 use Rattle.std.specs.Ordering.{is_eq}
-use Rattle.msproto.specs.declared.commands.Command.{Command}
-use Rattle.msproto.specs.declared.commands.Command.TheVariants.{Capability, Noop, Logout, Authenticate, Unauthenticate, HaveSpace, PutScript, CheckScript, ListScripts, SetActive, GetScript, DeleteScript, RenameScript, Response}
-use Rattle.msproto.specs.declared.items.Item.TheVariants as item
-use Rattle.msproto.specs.declared.replies.Reply.{Reply}
-use Rattle.msproto.specs.declared.replies.Status.{Status}
-use Rattle.msproto.specs.Replies as octets_of
-use Rattle.mailstore.specs.Account.{Account, Accounts, bytes_cmp, open_of, with_user, in_place}
-use Rattle.mailstore.proofs.AccountLemmas.{bytes_antisymmetric}
-use Rattle.sessions.specs.declared.progress.Progress.TheVariants.{Close, Done}
-use Rattle.sessions.specs.Clients.{Client, past, left}
-use Rattle.sessions.specs.Laws.{ComesFirst, EarlySteps, TurnSteps, ScriptSteps, ClosedSteps}
-use Rattle.sessions.specs.Replies.{is_ok}
-use Rattle.sessions.specs.Scripts.{carried_out, obeyed}
-use Rattle.sessions.specs.Steps.{IsStep, changed_for, progress_of}
-use Rattle.sessions.specs.Table.{needs_login, is_early, is_about_scripts, early_reply, account_of, RepliesOf, RepliesTaken, RepliesIn, asked_client, taken_client, client_in}
-use Rattle.sessions.specs.Turns.{followed}
-use Rattle.sessions.proofs.StepLemmas.{step_at}
+use Rattle.managesieve_protocol.specs.declared.commands.ClientCommand.{ClientCommand}
+use Rattle.managesieve_protocol.specs.declared.commands.ClientCommand.TheVariants.{Capability, Noop, Logout, Authenticate, Unauthenticate, HaveSpace, PutScript, CheckScript, ListScripts, SetActive, GetScript, DeleteScript, RenameScript, Response}
+use Rattle.managesieve_protocol.specs.declared.items.ClientItem.TheVariants as item
+use Rattle.managesieve_protocol.specs.declared.replies.ServerReply.{ServerReply}
+use Rattle.managesieve_protocol.specs.declared.replies.Status.{Status}
+use Rattle.managesieve_protocol.specs.Replies as octets_of
+use Rattle.store_accounts.specs.Account.{Account, Accounts, bytes_cmp, open_account_of, with_user, in_place}
+use Rattle.store_accounts.proofs.AccountLemmas.{bytes_antisymmetric}
+use Rattle.managesieve_sessions.specs.declared.progress.Progress.TheVariants.{Close, Done}
+use Rattle.managesieve_sessions.specs.Clients.{Client, without_octets, after_logout}
+use Rattle.managesieve_sessions.specs.Laws.{ComesFirst, EarlySteps, TurnSteps, ScriptSteps, ClosedSteps}
+use Rattle.managesieve_sessions.specs.Replies.{is_ok}
+use Rattle.managesieve_sessions.specs.Scripts.{carried_out, obeyed}
+use Rattle.managesieve_sessions.specs.Steps.{IsStep, changed_for, progress_of}
+use Rattle.managesieve_sessions.specs.Table.{needs_login, is_early, is_about_scripts, early_reply, account_of, RepliesOf, RepliesTaken, RepliesIn, asked_client, taken_client, client_in}
+use Rattle.managesieve_sessions.specs.CommandOutcomes.{client_after}
+use Rattle.managesieve_sessions.proofs.StepLemmas.{step_at}
 
 -- ---- accounts that stay
 
@@ -47,7 +47,7 @@ none_changed accounts (Some user) change same =
     sym (ap (with_user accounts user) kept ∙ untouched accounts user)
 
 -- a command that isn't about scripts carries nothing out
-nothing_done : (command : Command) → is_about_scripts command ≡ false → (a : Account) → carried_out command a ≡ a
+nothing_done : (command : ClientCommand) → is_about_scripts command ≡ false → (a : Account) → carried_out command a ≡ a
 nothing_done Capability h a = refl
 nothing_done (Noop tag) h a = refl
 nothing_done Logout h a = refl
@@ -63,7 +63,7 @@ nothing_done (DeleteScript name) h a = absurd (false≢true (sym h))
 nothing_done (RenameScript old new) h a = absurd (false≢true (sym h))
 nothing_done (Response text) h a = refl
 
-quiet : (command : Command) (word : Option Status) → is_about_scripts command ≡ false → (a : Account) → obeyed command word a ≡ a
+quiet : (command : ClientCommand) (word : Option Status) → is_about_scripts command ≡ false → (a : Account) → obeyed command word a ≡ a
 quiet command word h a = go (is_ok word)
   where
     go : (b : Bool) → cond b (carried_out command a) a ≡ a
@@ -71,12 +71,12 @@ quiet command word h a = go (is_ok word)
     go false = refl
 
 -- a reply that is no OK changes nothing
-declined_quiet : (command : Command) (a : Account) → obeyed command early_reply.word a ≡ a
+declined_quiet : (command : ClientCommand) (a : Account) → obeyed command early_reply.word a ≡ a
 declined_quiet command a = refl
 
 -- ---- commands about scripts
 
-about_replies : (accounts : Accounts) (c : Client) (command : Command) (reply : Reply) → is_about_scripts command ≡ true → RepliesOf (account_of accounts c.user) command reply → RepliesTaken accounts c command reply
+about_replies : (accounts : Accounts) (c : Client) (command : ClientCommand) (reply : ServerReply) → is_about_scripts command ≡ true → RepliesOf (account_of accounts c.user) command reply → RepliesTaken accounts c command reply
 about_replies accounts c Capability reply h r = absurd (false≢true h)
 about_replies accounts c (Noop tag) reply h r = absurd (false≢true h)
 about_replies accounts c Logout reply h r = absurd (false≢true h)
@@ -92,7 +92,7 @@ about_replies accounts c (DeleteScript name) reply h r = r
 about_replies accounts c (RenameScript old new) reply h r = r
 about_replies accounts c (Response text) reply h r = absurd (false≢true h)
 
-about_client : (accounts : Accounts) (c : Client) (command : Command) → is_about_scripts command ≡ true → asked_client (account_of accounts c.user) c ≡ taken_client accounts command c
+about_client : (accounts : Accounts) (c : Client) (command : ClientCommand) → is_about_scripts command ≡ true → asked_client (account_of accounts c.user) c ≡ taken_client accounts command c
 about_client accounts c Capability h = absurd (false≢true h)
 about_client accounts c (Noop tag) h = absurd (false≢true h)
 about_client accounts c Logout h = absurd (false≢true h)
@@ -108,7 +108,7 @@ about_client accounts c (DeleteScript name) h = refl
 about_client accounts c (RenameScript old new) h = refl
 about_client accounts c (Response text) h = absurd (false≢true h)
 
-late : (c : Client) (command : Command) (user : List ℕ) → c.user ≡ Some user → is_early c command ≡ false
+late : (c : Client) (command : ClientCommand) (user : List ℕ) → c.user ≡ Some user → is_early c command ≡ false
 late c command user is = ap (λ (o : Option (List ℕ)). needs_login command && is_none o) is ∙ go (needs_login command)
   where
     go : (b : Bool) → (b && false) ≡ false
@@ -117,10 +117,10 @@ late c command user is = ap (λ (o : Option (List ℕ)). needs_login command && 
 
 -- ---- the steps
 
-replies_late : (accounts : Accounts) (c : Client) (command : Command) (reply : Reply) → is_early c command ≡ false → RepliesTaken accounts c command reply → RepliesIn accounts c command reply
+replies_late : (accounts : Accounts) (c : Client) (command : ClientCommand) (reply : ServerReply) → is_early c command ≡ false → RepliesTaken accounts c command reply → RepliesIn accounts c command reply
 replies_late accounts c command reply e r = subst (λ (b : Bool). MatchBool b (reply ≡ early_reply) (RepliesTaken accounts c command reply)) (sym e) r
 
-client_late : (accounts : Accounts) (c : Client) (command : Command) → is_early c command ≡ false → taken_client accounts command c ≡ client_in accounts command c
+client_late : (accounts : Accounts) (c : Client) (command : ClientCommand) → is_early c command ≡ false → taken_client accounts command c ≡ client_in accounts command c
 client_late accounts c command e = sym (ap (λ (b : Bool). cond b c (taken_client accounts command c)) e)
 
 pub still_open : (c : Client) → c.closed ≡ false → Done ≡ progress_of c
@@ -128,44 +128,44 @@ still_open c live = sym (ap (λ (b : Bool). cond b Close Done) live)
 
 pub early : EarlySteps
 early accounts c command used first e =
-    step_at accounts c (item.Command command used) Done (octets_of.spelled early_reply) (past used c) accounts first.0 first.1 (record {
+    step_at accounts c (item.Command command used) Done (octets_of.reply_octets early_reply) (without_octets used c) accounts first.0 first.1 (record {
       reply = early_reply;
-      replies = subst (λ (b : Bool). MatchBool b (early_reply ≡ early_reply) (RepliesTaken accounts (past used c) command early_reply)) (sym e) refl;
+      replies = subst (λ (b : Bool). MatchBool b (early_reply ≡ early_reply) (RepliesTaken accounts (without_octets used c) command early_reply)) (sym e) refl;
       spelled = refl;
-      session = sym (ap (λ (b : Bool). cond b (past used c) (taken_client accounts command (past used c))) e);
-      goes_on = still_open (past used c) first.0;
+      session = sym (ap (λ (b : Bool). cond b (without_octets used c) (taken_client accounts command (without_octets used c))) e);
+      goes_on = still_open (without_octets used c) first.0;
       changed = none_changed accounts c.user (obeyed command early_reply.word) (declined_quiet command);
     })
 
 pub turn_step : TurnSteps
 turn_step accounts c command used turn first e other replies session =
-    step_at accounts c (item.Command command used) (progress_of (followed turn.sequel (past used c))) (octets_of.spelled turn.reply) (followed turn.sequel (past used c)) accounts first.0 first.1 (record {
+    step_at accounts c (item.Command command used) (progress_of (client_after turn.session_change (without_octets used c))) (octets_of.reply_octets turn.reply) (client_after turn.session_change (without_octets used c)) accounts first.0 first.1 (record {
       reply = turn.reply;
-      replies = replies_late accounts (past used c) command turn.reply e replies;
+      replies = replies_late accounts (without_octets used c) command turn.reply e replies;
       spelled = refl;
-      session = sym session ∙ client_late accounts (past used c) command e;
+      session = sym session ∙ client_late accounts (without_octets used c) command e;
       goes_on = refl;
       changed = none_changed accounts c.user (obeyed command turn.reply.word) (quiet command turn.reply.word other);
     })
 
 -- one about scripts, by what the user's open account is
-about_step : (accounts : Accounts) (c : Client) (command : Command) (used : ℕ) (user : List ℕ) (o : Option Account) (reply : Reply) → ComesFirst c command used → is_about_scripts command ≡ true → c.user ≡ Some user
-    → open_of accounts user ≡ o → RepliesOf o command reply
-    → IsStep accounts c Done (octets_of.spelled reply) (asked_client o (past used c)) (with_user accounts user (obeyed command reply.word))
+about_step : (accounts : Accounts) (c : Client) (command : ClientCommand) (used : ℕ) (user : List ℕ) (o : Option Account) (reply : ServerReply) → ComesFirst c command used → is_about_scripts command ≡ true → c.user ≡ Some user
+    → open_account_of accounts user ≡ o → RepliesOf o command reply
+    → IsStep accounts c Done (octets_of.reply_octets reply) (asked_client o (without_octets used c)) (with_user accounts user (obeyed command reply.word))
 about_step accounts c command used user o reply first about user_is has replies =
-    let e = late (past used c) command user user_is in
+    let e = late (without_octets used c) command user user_is in
     let account : account_of accounts c.user ≡ o = ap (account_of accounts) user_is ∙ has in
-    step_at accounts c (item.Command command used) Done (octets_of.spelled reply) (asked_client o (past used c)) (with_user accounts user (obeyed command reply.word)) first.0 first.1 (record {
+    step_at accounts c (item.Command command used) Done (octets_of.reply_octets reply) (asked_client o (without_octets used c)) (with_user accounts user (obeyed command reply.word)) first.0 first.1 (record {
       reply = reply;
-      replies = replies_late accounts (past used c) command reply e (about_replies accounts (past used c) command reply about (subst (λ (o : Option Account). RepliesOf o command reply) (sym account) replies));
+      replies = replies_late accounts (without_octets used c) command reply e (about_replies accounts (without_octets used c) command reply about (subst (λ (o : Option Account). RepliesOf o command reply) (sym account) replies));
       spelled = refl;
-      session = sym (ap (λ (o : Option Account). asked_client o (past used c)) account) ∙ about_client accounts (past used c) command about ∙ client_late accounts (past used c) command e;
-      goes_on = asked_open o (past used c) first.0;
+      session = sym (ap (λ (o : Option Account). asked_client o (without_octets used c)) account) ∙ about_client accounts (without_octets used c) command about ∙ client_late accounts (without_octets used c) command e;
+      goes_on = asked_open o (without_octets used c) first.0;
       changed = sym (ap (λ (o : Option (List ℕ)). changed_for o (obeyed command reply.word) accounts) user_is);
     })
   where
     asked_open : (o : Option Account) (d : Client) → d.closed ≡ false → Done ≡ progress_of (asked_client o d)
-    asked_open None d live = still_open (left d) live
+    asked_open None d live = still_open (after_logout d) live
     asked_open (Some a) d live = still_open d live
 
 pub script_step : ScriptSteps

@@ -3,22 +3,22 @@ use Rattle.std.proofs.Common.{◌≡◌, ℕ, zero, suc, ◌+◌, ◌-◌, ◌<�
 use Rattle.std.specs.Prelude.{fold}
 use Rattle.std.proofs.lemmas.List.{length-take-le, length-drop, length-append, take-append-le, append-nil, take-append-drop, take_at}
 use Rattle.std.proofs.Math.Seq.{take-length}
-use Rattle.msproto.specs.declared.items.Reach.TheVariants.{Need}
-use Rattle.msproto.specs.Scanning.{ScanView, StandsFor, new_scan, fed, fed_until, reached, reach_of}
-use Rattle.msproto.specs.declared.items.Reach.{Reach}
-use Rattle.msproto.specs.Items.{Reaches}
-use Rattle.msproto.proofs.Scans.{reaches}
-use Rattle.msproto.proofs.Feeding.{fed_looked, needs_before, stands_more, stands_count, whole_reach, fed_until-append}
-use Rattle.sessions.specs.Counts.{IsScanned, greatest}
+use Rattle.managesieve_protocol.specs.declared.items.ItemExtent.TheVariants.{Need}
+use Rattle.managesieve_protocol.specs.Scanning.{ScanView, IsScanOf, new_scan, fed, fed_until, reached, extent_of}
+use Rattle.managesieve_protocol.specs.declared.items.ItemExtent.{ItemExtent}
+use Rattle.managesieve_protocol.specs.Items.{IsFirstExtent}
+use Rattle.managesieve_protocol.proofs.Scans.{reaches}
+use Rattle.managesieve_protocol.proofs.Feeding.{fed_looked, needs_before, stands_more, stands_count, whole_reach, fed_until-append}
+use Rattle.managesieve_sessions.specs.Counts.{IsScanned, greatest}
 
 -- what the scan reached is what comes first in the unread octets
-pub scan_reach : (pending : Bool) (scan : ScanView) (unread : List ℕ) (scanned given : ℕ) → IsScanned pending scan unread scanned given → reached scan ≡ reach_of pending unread
+pub scan_reach : (pending : Bool) (scan : ScanView) (unread : List ℕ) (scanned given : ℕ) → IsScanned pending scan unread scanned given → reached scan ≡ extent_of pending unread
 scan_reach pending scan unread scanned given i = whole_reach pending scan unread scan.looked i.stands i.waits
 
 -- and so says the grammar
-pub unread_reaches : (pending : Bool) (r : Reach) (unread octets : List ℕ) → r ≡ reach_of pending unread → octets ≡ unread → Reaches pending r octets
+pub unread_reaches : (pending : Bool) (r : ItemExtent) (unread octets : List ℕ) → r ≡ extent_of pending unread → octets ≡ unread → IsFirstExtent pending r octets
 unread_reaches pending r unread octets is same =
-    subst (Reaches pending r) (sym same) (subst (λ (q : Reach). Reaches pending q unread) (sym is) (reaches pending unread))
+    subst (IsFirstExtent pending r) (sym same) (subst (λ (q : ItemExtent). IsFirstExtent pending q unread) (sym is) (reaches pending unread))
 
 -- ---- a piece comes
 
@@ -47,7 +47,7 @@ pub piece_scanned : (pending : Bool) (scan new : ScanView) (unread piece after :
 piece_scanned pending scan new unread piece after scanned given more n i until le by whole before joins counts = record {
   until = until ∙ ap (λ (s : ScanView). fed_until s piece) i.until ∙ sym (fed_until-append (new_scan pending) unread piece) ∙ ap (fed_until (new_scan pending)) (sym joins);
   seen = omega (arith, looked, length_after, i.seen, le);
-  stands = subst (StandsFor pending new) (front ∙ ap (λ (m : ℕ). take m after) (sym looked)) (stands_more pending scan new (take scan.looked unread) (take n piece) by i.stands);
+  stands = subst (IsScanOf pending new) (front ∙ ap (λ (m : ℕ). take m after) (sym looked)) (stands_more pending scan new (take scan.looked unread) (take n piece) by i.stands);
   waits = λ need. omega (arith, looked, length_after, whole need, all need);
   counted = omega (arith, length_after, i.counted, counts);
 }

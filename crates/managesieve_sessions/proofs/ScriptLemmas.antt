@@ -7,24 +7,24 @@ use Rattle.std.specs.List.{list_any}
 use Rattle.std.specs.FinMap.{get, keys, len, len-entries, contains_key-keys, entries}
 use Rattle.std.specs.Ordering.{eq_by_cmp}
 use Rattle.std.specs.Cmp.Lexicographic.{pointwise, texts_ties, bytes_decides}
-use Rattle.msproto.specs.declared.commands.Command.{Command}
-use Rattle.mailstore.specs.Account.{Account, bytes_cmp}
-use Rattle.sessions.specs.Limits.{scripts_limit}
-use Rattle.sessions.specs.Scripts.{HasScript, HasRoom, CanActivate, is_active, active_name}
-use Rattle.sessions.specs.Decisions.{AreNames, IsDecision}
-use Rattle.sessions.specs.declared.decision.Decision.{Decision}
+use Rattle.managesieve_protocol.specs.declared.commands.ClientCommand.{ClientCommand}
+use Rattle.store_accounts.specs.Account.{Account, bytes_cmp}
+use Rattle.managesieve_sessions.specs.Limits.{scripts_limit}
+use Rattle.managesieve_sessions.specs.Scripts.{HasScript, HasRoom, CanActivate, is_active, active_name}
+use Rattle.managesieve_sessions.specs.Decisions.{AreNames, IsDecision}
+use Rattle.managesieve_sessions.specs.declared.decision.Decision.{Decision}
 
 -- a decision that is this one, where this one is right
-pub decided : {E : Type 0} (Fits : Account → Type 0) (command : Command) (right : Decision) (r : Result Decision E) → IfOk r (λ d. d ≡ right) → IsDecision Fits command right → IfOk r (IsDecision Fits command)
+pub decided : {E : Type 0} (Fits : Account → Type 0) (command : ClientCommand) (right : Decision) (r : Result Decision E) → IfOk r (λ d. d ≡ right) → IsDecision Fits command right → IfOk r (IsDecision Fits command)
 decided Fits command right (Ok d) is h = subst (IsDecision Fits command) (sym is) h
 decided Fits command right (Err e) is h = tt
 
 -- the same of a command that is this one, for accounts of which more is known
-pub decided_by : {E : Type 0} (Fits Given : Account → Type 0) (command other : Command) (r : Result Decision E) → ((a : Account) → Fits a → Given a) → command ≡ other → IfOk r (IsDecision Given other) → IfOk r (IsDecision Fits command)
-decided_by Fits Given command other (Ok d) more same h = subst (λ (c : Command). IsDecision Fits c d) (sym same) (record { replies = λ a fits. h.replies a (more a fits); changes = h.changes })
+pub decided_by : {E : Type 0} (Fits Given : Account → Type 0) (command other : ClientCommand) (r : Result Decision E) → ((a : Account) → Fits a → Given a) → command ≡ other → IfOk r (IsDecision Given other) → IfOk r (IsDecision Fits command)
+decided_by Fits Given command other (Ok d) more same h = subst (λ (c : ClientCommand). IsDecision Fits c d) (sym same) (record { replies = λ a fits. h.replies a (more a fits); changes = h.changes })
 decided_by Fits Given command other (Err e) more same h = tt
 
-pub two_texts : (make : List ℕ → List ℕ → Command) (a b c d : List ℕ) → a ≡ b → c ≡ d → make a c ≡ make b d
+pub two_texts : (make : List ℕ → List ℕ → ClientCommand) (a b c d : List ℕ) → a ≡ b → c ≡ d → make a c ≡ make b d
 two_texts make a b c d one two = ap (λ (t : List ℕ). make t c) one ∙ ap (make b) two
 
 -- ---- names

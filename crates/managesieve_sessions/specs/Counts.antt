@@ -1,8 +1,8 @@
 -- A session as contracts see it: its client, and how many octets came and were scanned.
 use Rattle.std.specs.Prelude.{◌≡◌, ℕ, ◌+◌, ◌-◌, ◌≤◌, ◌^◌, Bool, cond, List, length, take, min}
-use Rattle.msproto.specs.declared.items.Reach.TheVariants.{Need}
-use Rattle.msproto.specs.Scanning.{ScanView, StandsFor, new_scan, fed_until, reached}
-use Rattle.sessions.specs.Clients.{Client, new_client, reach_in, is_item}
+use Rattle.managesieve_protocol.specs.declared.items.ItemExtent.TheVariants.{Need}
+use Rattle.managesieve_protocol.specs.Scanning.{ScanView, IsScanOf, new_scan, fed_until, reached}
+use Rattle.managesieve_sessions.specs.Clients.{Client, new_client, reach_in, is_item}
 
 -- the largest number of 64 bits, at which a count stays
 abbrev pub greatest : ℕ
@@ -42,6 +42,6 @@ scanned_in_step s = cond s.client.closed s.scanned (scanned_past s)
 pub record IsScanned (pending : Bool) (scan : ScanView) (unread : List ℕ) (scanned given : ℕ) : Type 0 where
   pub until : scan ≡ fed_until (new_scan pending) unread
   pub seen : scan.looked ≤ length unread
-  pub stands : StandsFor pending scan (take scan.looked unread)
+  pub stands : IsScanOf pending scan (take scan.looked unread)
   pub waits : reached scan ≡ Need → scan.looked ≡ length unread
   pub counted : min (scanned + length unread) greatest ≤ given

@@ -1,26 +1,26 @@
 -- Giving up on the first item, if it can't be answered now.
 use Rattle.std.specs.Prelude.{ℕ, cond, List, []}
-use Rattle.msproto.specs.declared.items.Reach.{Reach}
-use Rattle.msproto.specs.declared.items.Reach.TheVariants as reach
-use Rattle.msproto.specs.Replies.{spelled}
-use Rattle.sessions.specs.declared.progress.Progress.{Progress}
-use Rattle.sessions.specs.declared.progress.Progress.TheVariants.{Need, Done, Close}
-use Rattle.sessions.specs.Clients.{Client, reach_in, past, shut}
-use Rattle.sessions.specs.Replies.{try_later, too_big}
+use Rattle.managesieve_protocol.specs.declared.items.ItemExtent.{ItemExtent}
+use Rattle.managesieve_protocol.specs.declared.items.ItemExtent.TheVariants as reach
+use Rattle.managesieve_protocol.specs.Replies.{reply_octets}
+use Rattle.managesieve_sessions.specs.declared.progress.Progress.{Progress}
+use Rattle.managesieve_sessions.specs.declared.progress.Progress.TheVariants.{Need, Done, Close}
+use Rattle.managesieve_sessions.specs.Clients.{Client, reach_in, without_octets, shut}
+use Rattle.managesieve_sessions.specs.Replies.{try_later, too_big}
 
-abbrev pub text_by : Reach → List ℕ
+abbrev pub text_by : ItemExtent → List ℕ
 text_by reach.Need = []
-text_by (reach.Command used) = spelled try_later
-text_by (reach.Bad used) = spelled try_later
-text_by reach.TooBig = spelled too_big
+text_by (reach.Command used) = reply_octets try_later
+text_by (reach.Bad used) = reply_octets try_later
+text_by reach.TooBig = reply_octets too_big
 
-abbrev pub client_by : Reach → Client → Client
+abbrev pub client_by : ItemExtent → Client → Client
 client_by reach.Need c = c
-client_by (reach.Command used) c = past used c
-client_by (reach.Bad used) c = past used c
+client_by (reach.Command used) c = without_octets used c
+client_by (reach.Bad used) c = without_octets used c
 client_by reach.TooBig c = shut c
 
-abbrev pub progress_by : Reach → Progress
+abbrev pub progress_by : ItemExtent → Progress
 progress_by reach.Need = Need
 progress_by (reach.Command used) = Done
 progress_by (reach.Bad used) = Done

@@ -10,7 +10,7 @@ pub mod Orders
 pub mod Refusing
 pub mod Replies
 pub mod Scripts
-pub mod Sorts
+pub mod CommandClasses
 pub mod Steps
 pub mod Table
-pub mod Turns
+pub mod CommandOutcomes

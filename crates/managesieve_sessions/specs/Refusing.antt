@@ -1,7 +1,7 @@
 -- That a step was refused.
-use Rattle.mailstore.specs.declared.refusal.Refusal.{Refusal}
-use Rattle.sessions.specs.Clients.{Client}
-use Rattle.sessions.specs.Orders.{MayRefuse}
+use Rattle.store_accounts.specs.declared.refusal.Refusal.{Refusal}
+use Rattle.managesieve_sessions.specs.Clients.{Client}
+use Rattle.managesieve_sessions.specs.Orders.{MayRefuse}
 
 -- a step of this client was refused, as it may be. The definition is opaque, and only the refusals of `step_free` and `step_asked` say it: so
 -- whoever can say it asked for a step, and was refused

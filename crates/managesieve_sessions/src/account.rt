@@ -1,28 +1,28 @@
 //! What a session reads of its user's account, and what it writes there.
 ghost use Rattle.std.specs.Prelude.{◌≡◌, ◌≢◌, ◌++◌, false, take, Some, OnOk, OnErr, IfErr};
 ghost use Rattle.sqlite.specs.Held.{state};
-ghost use Rattle.mailstore.specs.Promises.{Reads, WritesAccount};
-ghost use Rattle.mailstore.specs.Refusals.{IsTransient};
-ghost use Rattle.msproto.specs.Replies.{spelled};
-ghost use Rattle.saslplain.specs.Parts.{login_shown};
-ghost use Rattle.sessions.specs.Acts.{ReadsAccounts};
-ghost use Rattle.sessions.specs.Decisions.{AreScripts, Decides, change_made};
-ghost use Rattle.sessions.specs.Logins.{admitted_by};
-ghost use Rattle.sessions.specs.Orders.{ActsCommand};
-ghost use Rattle.sessions.specs.Replies.{value_of};
-ghost use Rattle.sessions.specs.Sorts.{of_script};
-ghost use Rattle.sessions.specs.Table.{early_reply};
-ghost use Rattle.sessions.specs.Turns.{admitted_in, says_login};
+ghost use Rattle.store_accounts.specs.Promises.{ReadsOpenAccount, WritesAccount};
+ghost use Rattle.store_accounts.specs.Refusals.{IsTransient};
+ghost use Rattle.managesieve_protocol.specs.Replies.{reply_octets};
+ghost use Rattle.sasl_plain.specs.Parts.{login_shown};
+ghost use Rattle.managesieve_sessions.specs.Acts.{ReadsAccounts};
+ghost use Rattle.managesieve_sessions.specs.Decisions.{AreScripts, Decides, change_made};
+ghost use Rattle.managesieve_sessions.specs.Logins.{admitted_by};
+ghost use Rattle.managesieve_sessions.specs.Orders.{ActsCommand};
+ghost use Rattle.managesieve_sessions.specs.Replies.{borrowed_text};
+ghost use Rattle.managesieve_sessions.specs.CommandClasses.{of_script};
+ghost use Rattle.managesieve_sessions.specs.Table.{early_reply};
+ghost use Rattle.managesieve_sessions.specs.CommandOutcomes.{admitted_in, says_login};
 
-use crate::decision::{Change, Decision};
+use crate::decision::{ScriptChange, Decision};
 use crate::login::{has_password, spend_rounds};
-use crate::replies::declined;
-use crate::scripts::{decide, get_script};
-use crate::sort::ScriptCommand;
-use mailstore::{Profile, Refusal, Store};
-use msproto::spell;
+use crate::replies::negative_reply;
+use crate::scripts::{decide_script_command, get_script};
+use crate::command_class::ScriptCommand;
+use store_accounts::{Profile, Refusal, Store};
+use managesieve_protocol::spell;
 use octets::{Octets, Texts};
-use saslplain::{Login, Record, plain};
+use sasl_plain::{Login, PasswordHash, plain};
 use sqlite::Alter;
 use std::alloc::{AllocError, Global};
 use std::mem;
@@ -68,10 +68,10 @@ pub(crate) fn execute<S: Alter>(
 
 /// Tells a user whose account isn't open any more to log in. After an error the output is as it was.
 fn turn_away(alloc: Global, out: &mut Octets) -> Result<(), AllocError>
-    ensures told { OnOk result (out.new ≡ out.old ++ spelled early_reply) }
+    ensures told { OnOk result (out.new ≡ out.old ++ reply_octets early_reply) }
     ensures err { OnErr result (out.new ≡ out.old) }
 {
-    let reply = declined(alloc, None, b"Log in first.")?;
+    let reply = negative_reply(alloc, None, b"Log in first.")?;
     spell(alloc, &reply, out)
 }
 
@@ -82,9 +82,9 @@ pub(crate) fn admitted<S: Alter>(
     store: &mut Store<S>,
     text: Option<&[u8]>,
 ) -> Result<Option<Octets>, Refusal>
-    ensures reads { ReadsAccounts (λ who accounts. admitted_in accounts (value_of text.entry) ≡ who) (state S.Store store.old) (state S.Store store.new) result }
-    ensures unasked { says_login (value_of text.entry) ≡ false → store.new ≡ store.old }
-    ensures refused { says_login (value_of text.entry) ≡ false → IfErr result (λ e. e ≡ Refusal.Memory) }
+    ensures reads { ReadsAccounts (λ who accounts. admitted_in accounts (borrowed_text text.entry) ≡ who) (state S.Store store.old) (state S.Store store.new) result }
+    ensures unasked { says_login (borrowed_text text.entry) ≡ false → store.new ≡ store.old }
+    ensures refused { says_login (borrowed_text text.entry) ≡ false → IfErr result (λ e. e ≡ Refusal.Memory) }
 {
     let Some(text) = text else {
         return Ok(None);
@@ -116,10 +116,10 @@ fn checked<S: Alter>(store: &mut Store<S>, login: Login) -> Result<Option<Octets
 }
 
 /// The stored password of an account.
-fn record_of(profile: Profile) -> Record
+fn record_of(profile: Profile) -> PasswordHash
     ensures { result ≡ record { salt = profile.salt; rounds = profile.rounds; digest = profile.digest } }
 {
-    Record {
+    PasswordHash {
         salt: profile.salt,
         rounds: profile.rounds,
         digest: profile.digest,
@@ -145,7 +145,7 @@ fn decision_on<'a, S: Alter>(
     user: &[u8],
     command: &'a ScriptCommand,
 ) -> Result<Decision<'a>, Refusal>
-    ensures { Reads user.now (Decides (of_script command.entry.now)) (state S.Store store.old) (state S.Store store.new) result }
+    ensures { ReadsOpenAccount user.now (Decides (of_script command.entry.now)) (state S.Store store.old) (state S.Store store.new) result }
 {
     let command = match command {
         ScriptCommand::Get(name) => {
@@ -159,13 +159,13 @@ fn decision_on<'a, S: Alter>(
         ScriptCommand::Named(command) => command,
     };
     let KeptScripts { names, active } = kept_scripts(store, user)?;
-    let decision = decide(alloc, names, slice_of(&active), command)?;
+    let decision = decide_script_command(alloc, names, slice_of(&active), command)?;
     Ok(decision)
 }
 
 /// The names of the user's scripts, and the active one.
 fn kept_scripts<S: Alter>(store: &mut Store<S>, user: &[u8]) -> Result<KeptScripts, Refusal>
-    ensures { Reads user.now (λ kept a. AreScripts kept.names kept.active a) (state S.Store store.old) (state S.Store store.new) result }
+    ensures { ReadsOpenAccount user.now (λ kept a. AreScripts kept.names kept.active a) (state S.Store store.old) (state S.Store store.new) result }
 {
     let profile = store.enter(user)?;
     let names = store.scripts_of(user)?;
@@ -176,20 +176,20 @@ fn kept_scripts<S: Alter>(store: &mut Store<S>, user: &[u8]) -> Result<KeptScrip
 }
 
 /// Writes the change to the user's scripts, in one transaction.
-fn make<S: Alter>(store: &mut Store<S>, user: &[u8], change: Change) -> Result<(), Refusal>
+fn make<S: Alter>(store: &mut Store<S>, user: &[u8], change: ScriptChange) -> Result<(), Refusal>
     ensures { WritesAccount user.now (change_made change.entry) (state S.Store store.old) (state S.Store store.new) result }
 {
     match change {
-        Change::Put { name, script } => store.put_script(user, name, script),
-        Change::Activate(name) => store.set_active(user, name),
-        Change::Delete(name) => store.delete(user, name),
-        Change::Rename { old, new } => store.rename(user, old, new),
+        ScriptChange::Put { name, script } => store.put_script(user, name, script),
+        ScriptChange::Activate(name) => store.set_active(user, name),
+        ScriptChange::Delete(name) => store.delete(user, name),
+        ScriptChange::Rename { old, new } => store.rename(user, old, new),
     }
 }
 
 // The text's octets, if there is one.
 fn slice_of(text: &Option<Octets>) -> Option<&[u8]>
-    ensures { value_of result ≡ text.now }
+    ensures { borrowed_text result ≡ text.now }
 {
     match text {
         Some(text) => Some(text.as_slice()),

@@ -1,15 +1,15 @@
 //! What a command needs: nothing of the store, a login, or a user's scripts. Each is a type of its own.
 ghost use Rattle.std.specs.Prelude.{◌≡◌};
-ghost use Rattle.sessions.specs.declared.sort.ScriptCommand.TheVariants.{Named};
-ghost use Rattle.sessions.specs.declared.sort.Sort.TheVariants.{Script};
-ghost use Rattle.sessions.specs.Sorts.{command_of};
+ghost use Rattle.managesieve_sessions.specs.declared.command_class.ScriptCommand.TheVariants.{Named};
+ghost use Rattle.managesieve_sessions.specs.declared.command_class.CommandClass.TheVariants.{Script};
+ghost use Rattle.managesieve_sessions.specs.CommandClasses.{command_of_class};
 
-use msproto::Command;
+use managesieve_protocol::ClientCommand;
 use octets::Octets;
 
 /// A command, by what it needs.
 #[derive(Drop)]
-pub enum Sort {
+pub enum CommandClass {
     /// Nothing of the store.
     Free(FreeCommand),
     /// A login.
@@ -90,7 +90,7 @@ pub enum NamedCommand {
 
 /// A command that is answered over the store.
 #[derive(Drop)]
-pub enum Order {
+pub enum StoreCommand {
     /// A login.
     Login(LoginCommand),
     /// One about the scripts of this user, who is logged in.
@@ -103,36 +103,36 @@ pub enum Order {
 }
 
 /// Classifies a command by what it needs. This is done here, and nowhere else. Takes no memory.
-pub fn split(command: Command) -> Sort
-    ensures { command_of result ≡ command }
+pub fn classify(command: ClientCommand) -> CommandClass
+    ensures { command_of_class result ≡ command }
 {
     match command {
-        Command::Capability => Sort::Free(FreeCommand::Capability),
-        Command::Noop(tag) => Sort::Free(FreeCommand::Noop(tag)),
-        Command::Logout => Sort::Free(FreeCommand::Logout),
-        Command::Unauthenticate => Sort::Free(FreeCommand::Unauthenticate),
-        Command::CheckScript(text) => Sort::Free(FreeCommand::CheckScript(text)),
-        Command::Authenticate {
+        ClientCommand::Capability => CommandClass::Free(FreeCommand::Capability),
+        ClientCommand::Noop(tag) => CommandClass::Free(FreeCommand::Noop(tag)),
+        ClientCommand::Logout => CommandClass::Free(FreeCommand::Logout),
+        ClientCommand::Unauthenticate => CommandClass::Free(FreeCommand::Unauthenticate),
+        ClientCommand::CheckScript(text) => CommandClass::Free(FreeCommand::CheckScript(text)),
+        ClientCommand::Authenticate {
             mechanism,
             response,
-        } => Sort::Login(LoginCommand::Authenticate {
+        } => CommandClass::Login(LoginCommand::Authenticate {
             mechanism,
             response,
         }),
-        Command::Response(text) => Sort::Login(LoginCommand::Response(text)),
-        Command::GetScript(name) => Sort::Script(ScriptCommand::Get(name)),
-        Command::HaveSpace { name, size } => named(NamedCommand::HaveSpace { name, size }),
-        Command::PutScript { name, script } => named(NamedCommand::PutScript { name, script }),
-        Command::ListScripts => named(NamedCommand::ListScripts),
-        Command::SetActive(name) => named(NamedCommand::SetActive(name)),
-        Command::DeleteScript(name) => named(NamedCommand::DeleteScript(name)),
-        Command::RenameScript { old, new } => named(NamedCommand::RenameScript { old, new }),
+        ClientCommand::Response(text) => CommandClass::Login(LoginCommand::Response(text)),
+        ClientCommand::GetScript(name) => CommandClass::Script(ScriptCommand::Get(name)),
+        ClientCommand::HaveSpace { name, size } => named(NamedCommand::HaveSpace { name, size }),
+        ClientCommand::PutScript { name, script } => named(NamedCommand::PutScript { name, script }),
+        ClientCommand::ListScripts => named(NamedCommand::ListScripts),
+        ClientCommand::SetActive(name) => named(NamedCommand::SetActive(name)),
+        ClientCommand::DeleteScript(name) => named(NamedCommand::DeleteScript(name)),
+        ClientCommand::RenameScript { old, new } => named(NamedCommand::RenameScript { old, new }),
     }
 }
 
 // A command that is decided by the names of the scripts.
-fn named(command: NamedCommand) -> Sort
+fn named(command: NamedCommand) -> CommandClass
     ensures { result ≡ Script (Named command) }
 {
-    Sort::Script(ScriptCommand::Named(command))
+    CommandClass::Script(ScriptCommand::Named(command))
 }

@@ -1,19 +1,19 @@
 //! The outcome of a command that isn't about scripts.
-use msproto::Reply;
+use managesieve_protocol::ServerReply;
 use octets::Octets;
 
 /// The answer to a command, and how the session changes.
 #[derive(Drop)]
-pub struct Turn {
+pub struct CommandOutcome {
     /// The answer.
-    pub reply: Reply,
+    pub reply: ServerReply,
     /// How the session changes after the answer.
-    pub sequel: Sequel,
+    pub session_change: SessionChange,
 }
 
 /// How a session changes after a command.
 #[derive(Drop)]
-pub enum Sequel {
+pub enum SessionChange {
     /// It stays as it is.
     Stay,
     /// It ends.

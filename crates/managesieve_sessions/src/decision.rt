@@ -1,18 +1,18 @@
 //! The decision on a command.
-use msproto::Reply;
+use managesieve_protocol::ServerReply;
 
 /// The answer to a command, and what the command changes in the account: nothing unless the answer is `OK`.
 #[derive(Drop)]
 pub struct Decision<'a> {
     /// The answer.
-    pub reply: Reply,
+    pub reply: ServerReply,
     /// What is written before the answer is sent.
-    pub change: Option<Change<'a>>,
+    pub change: Option<ScriptChange<'a>>,
 }
 
 /// A change to an account's scripts.
 #[derive(Clone, Copy)]
-pub enum Change<'a> {
+pub enum ScriptChange<'a> {
     /// Keeps a script under its name, in place of the one that has the name.
     Put { name: &'a [u8], script: &'a [u8] },
     /// Makes the script of this name active, or none.

@@ -1,40 +1,40 @@
 //! Answers the commands that need no account.
 ghost use Rattle.std.specs.Prelude.{◌≡◌, IfOk};
-ghost use Rattle.sessions.specs.declared.turn.Sequel.TheVariants.{Stay};
-ghost use Rattle.sessions.specs.Sorts.{of_free, of_script};
-ghost use Rattle.sessions.specs.Table.{needs_login as needs_login_of, early_reply};
-ghost use Rattle.sessions.specs.Turns.{IsFreeTurn, IsTurnAlone, IsTurn, HasUser};
+ghost use Rattle.managesieve_sessions.specs.declared.command_outcome.SessionChange.TheVariants.{Stay};
+ghost use Rattle.managesieve_sessions.specs.CommandClasses.{of_free, of_script};
+ghost use Rattle.managesieve_sessions.specs.Table.{needs_login as needs_login_of, early_reply};
+ghost use Rattle.managesieve_sessions.specs.CommandOutcomes.{IsFreeOutcome, IsOutcomeAlone, IsCommandOutcome, HasSessionUser};
 
-use crate::replies::{accepted, capabilities, declined, done_with};
+use crate::replies::{ok_reply, capability_reply, negative_reply, noop_reply};
 use crate::scripts::check_script;
-use crate::sort::{FreeCommand, Order, ScriptCommand, Sort, split};
-use crate::turn::{Sequel, Turn};
-use msproto::{Command, Reply};
+use crate::command_class::{FreeCommand, StoreCommand, ScriptCommand, CommandClass, classify};
+use crate::command_outcome::{SessionChange, CommandOutcome};
+use managesieve_protocol::{ClientCommand, ServerReply};
 use octets::Octets;
 use std::alloc::{AllocError, Global};
 
 /// What a command comes to without the store.
 #[derive(Drop)]
-pub enum FreeTurn {
+pub enum FreeOutcome {
     /// The answer, and how the session changes.
-    Made(Turn),
+    Made(CommandOutcome),
     /// The store has to be asked about this.
-    Asks(Order),
+    Asks(StoreCommand),
 }
 
 /// Answers a command without the store, in a session where this user is logged in, or nobody; or returns the order for the
 /// store. Lack of memory is the only error.
-pub fn free_turn(
+pub fn free_outcome(
     alloc: Global,
     user: &Option<Octets>,
-    command: Command,
-) -> Result<FreeTurn, AllocError>
-    ensures { IfOk result (IsFreeTurn user.now command) }
+    command: ClientCommand,
+) -> Result<FreeOutcome, AllocError>
+    ensures { IfOk result (IsFreeOutcome user.now command) }
 {
-    match split(command) {
-        Sort::Free(command) => Ok(FreeTurn::Made(turn_of(alloc, user, &command)?)),
-        Sort::Login(command) => Ok(FreeTurn::Asks(Order::Login(command))),
-        Sort::Script(command) => script_turn(alloc, user, command),
+    match classify(command) {
+        CommandClass::Free(command) => Ok(FreeOutcome::Made(turn_of(alloc, user, &command)?)),
+        CommandClass::Login(command) => Ok(FreeOutcome::Asks(StoreCommand::Login(command))),
+        CommandClass::Script(command) => script_turn(alloc, user, command),
     }
 }
 
@@ -43,19 +43,19 @@ fn script_turn(
     alloc: Global,
     user: &Option<Octets>,
     command: ScriptCommand,
-) -> Result<FreeTurn, AllocError>
-    ensures { IfOk result (IsFreeTurn user.now (of_script command)) }
+) -> Result<FreeOutcome, AllocError>
+    ensures { IfOk result (IsFreeOutcome user.now (of_script command)) }
 {
     let Some(user) = user else {
-        return Ok(FreeTurn::Made(early(alloc)?));
+        return Ok(FreeOutcome::Made(early(alloc)?));
     };
     let user = user.try_clone(alloc)?;
-    Ok(FreeTurn::Asks(Order::Script { user, command }))
+    Ok(FreeOutcome::Asks(StoreCommand::Script { user, command }))
 }
 
 /// Answers a command that asks no store, unless it lacks a login.
-fn turn_of(alloc: Global, user: &Option<Octets>, command: &FreeCommand) -> Result<Turn, AllocError>
-    ensures { IfOk result (IsTurnAlone user.now (of_free command.now)) }
+fn turn_of(alloc: Global, user: &Option<Octets>, command: &FreeCommand) -> Result<CommandOutcome, AllocError>
+    ensures { IfOk result (IsOutcomeAlone user.now (of_free command.now)) }
 {
     if needs_login(command) && user.is_none() {
         return early(alloc);
@@ -65,26 +65,26 @@ fn turn_of(alloc: Global, user: &Option<Octets>, command: &FreeCommand) -> Resul
 
 /// Answers `CAPABILITY`, `NOOP`, `LOGOUT`, `UNAUTHENTICATE` and `CHECKSCRIPT` (RFC 5804, 2.3, 2.4, 2.12 to 2.14), in a
 /// session where this user is logged in, or nobody. Lack of memory is the only error.
-fn free(alloc: Global, user: &Option<Octets>, command: &FreeCommand) -> Result<Turn, AllocError>
-    ensures { IfOk result (IsTurn (HasUser user.now) (of_free command.now)) }
+fn free(alloc: Global, user: &Option<Octets>, command: &FreeCommand) -> Result<CommandOutcome, AllocError>
+    ensures { IfOk result (IsCommandOutcome (HasSessionUser user.now) (of_free command.now)) }
 {
     match command {
-        FreeCommand::Capability => Ok(with_sequel(capabilities(alloc, user)?, Sequel::Stay)),
-        FreeCommand::Noop(tag) => Ok(with_sequel(done_with(alloc, tag)?, Sequel::Stay)),
-        FreeCommand::Logout => Ok(with_sequel(accepted(alloc, b"Bye.")?, Sequel::Close)),
-        FreeCommand::Unauthenticate => Ok(with_sequel(accepted(alloc, b"Done.")?, Sequel::LogOut)),
-        FreeCommand::CheckScript(text) => Ok(with_sequel(
+        FreeCommand::Capability => Ok(with_session_change(capability_reply(alloc, user)?, SessionChange::Stay)),
+        FreeCommand::Noop(tag) => Ok(with_session_change(noop_reply(alloc, tag)?, SessionChange::Stay)),
+        FreeCommand::Logout => Ok(with_session_change(ok_reply(alloc, b"Bye.")?, SessionChange::Close)),
+        FreeCommand::Unauthenticate => Ok(with_session_change(ok_reply(alloc, b"Done.")?, SessionChange::LogOut)),
+        FreeCommand::CheckScript(text) => Ok(with_session_change(
             check_script(alloc, text.as_slice())?,
-            Sequel::Stay,
+            SessionChange::Stay,
         )),
     }
 }
 
 /// Answers a command that needs a login and comes before one.
-fn early(alloc: Global) -> Result<Turn, AllocError>
-    ensures { IfOk result (λ turn. turn ≡ record { reply = early_reply; sequel = Stay }) }
+fn early(alloc: Global) -> Result<CommandOutcome, AllocError>
+    ensures { IfOk result (λ turn. turn ≡ record { reply = early_reply; session_change = Stay }) }
 {
-    Ok(with_sequel(declined(alloc, None, b"Log in first.")?, Sequel::Stay))
+    Ok(with_session_change(negative_reply(alloc, None, b"Log in first.")?, SessionChange::Stay))
 }
 
 /// Whether only a user who is logged in may send the command. Takes no memory.
@@ -97,8 +97,8 @@ fn needs_login(command: &FreeCommand) -> bool
     )
 }
 
-fn with_sequel(reply: Reply, sequel: Sequel) -> Turn
-    ensures { result ≡ record { reply = reply; sequel = sequel } }
+fn with_session_change(reply: ServerReply, session_change: SessionChange) -> CommandOutcome
+    ensures { result ≡ record { reply = reply; session_change = session_change } }
 {
-    Turn { reply, sequel }
+    CommandOutcome { reply, session_change }
 }

@@ -1,5 +1,5 @@
 //! Laws on the definitions, as contracts: what a command comes to is the step that it makes.
-ghost use Rattle.sessions.specs.Laws.{ClosedSteps, EarlySteps, TurnSteps, ScriptSteps};
+ghost use Rattle.managesieve_sessions.specs.Laws.{ClosedSteps, EarlySteps, TurnSteps, ScriptSteps};
 
 /// A command that needs a login and comes before one is answered `NO "Log in first."`, and nothing changes.
 pub fn early_steps()

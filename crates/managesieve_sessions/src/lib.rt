@@ -11,11 +11,11 @@ pub mod replies;
 pub mod script_name;
 pub mod scripts;
 pub mod session;
-pub mod sort;
-pub mod turn;
+pub mod command_class;
+pub mod command_outcome;
 
-pub use decision::{Change, Decision};
-pub use progress::{First, Progress, Stepped};
+pub use decision::{ScriptChange, Decision};
+pub use progress::{FirstItem, Progress, FreeStep};
 pub use session::Session;
-pub use sort::Order;
-pub use turn::{Sequel, Turn};
+pub use command_class::StoreCommand;
+pub use command_outcome::{SessionChange, CommandOutcome};

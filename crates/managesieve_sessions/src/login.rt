@@ -1,17 +1,17 @@
 //! Logins by PLAIN (RFC 5804, section 2.1; RFC 4616).
 ghost use Rattle.std.specs.Prelude.{◌≡◌, Option, Some, None, IfOk};
-ghost use Rattle.msproto.specs.declared.commands.Command.TheVariants as command;
-ghost use Rattle.sessions.specs.Logins as s;
-ghost use Rattle.sessions.specs.Replies.{value_of};
-ghost use Rattle.sessions.specs.Sorts.{of_login};
-ghost use Rattle.sessions.specs.Turns as t;
+ghost use Rattle.managesieve_protocol.specs.declared.commands.ClientCommand.TheVariants as command;
+ghost use Rattle.managesieve_sessions.specs.Logins as s;
+ghost use Rattle.managesieve_sessions.specs.Replies.{borrowed_text};
+ghost use Rattle.managesieve_sessions.specs.CommandClasses.{of_login};
+ghost use Rattle.managesieve_sessions.specs.CommandOutcomes as t;
 
-use crate::replies::{accepted, challenge, declined, farewell};
-use crate::sort::LoginCommand;
-use crate::turn::{Sequel, Turn};
-use msproto::Reply;
+use crate::replies::{ok_reply, challenge_reply, negative_reply, bye_reply};
+use crate::command_class::LoginCommand;
+use crate::command_outcome::{SessionChange, CommandOutcome};
+use managesieve_protocol::ServerReply;
 use octets::Octets;
-use saslplain::{Login, ROUNDS, Record, accepts, digest};
+use sasl_plain::{Login, ROUNDS, PasswordHash, accepts, digest};
 use std::alloc::{AllocError, Global};
 
 /// How many logins may fail before a further failure ends the session: a limit of this project.
@@ -20,7 +20,7 @@ pub(crate) const MAX_FAILURES: u32 = 2;
 /// The text that decides a login, if the command has one and it is looked at: it isn't if somebody is logged in already,
 /// the mechanism isn't PLAIN, or the exchange is cancelled. Takes no memory.
 pub fn login_text<'a>(user: &Option<Octets>, command: &'a LoginCommand) -> Option<&'a [u8]>
-    ensures { value_of result ≡ t.login_text user.now (of_login command.entry.now) }
+    ensures { borrowed_text result ≡ t.login_text user.now (of_login command.entry.now) }
 {
     match command {
         LoginCommand::Authenticate {
@@ -34,8 +34,8 @@ pub fn login_text<'a>(user: &Option<Octets>, command: &'a LoginCommand) -> Optio
 }
 
 /// Whether the login's password is the one stored for its user. Takes no memory, and as much time as `accepts`.
-pub fn has_password(login: &Login, kept: &Record) -> bool
-    ensures { result ≡ s.has_password login.now.password (t.password_of kept.now) }
+pub fn has_password(login: &Login, kept: &PasswordHash) -> bool
+    ensures { result ≡ s.has_password login.now.password (t.account_password kept.now) }
 {
     accepts(kept, login.password.as_slice())
 }
@@ -57,8 +57,8 @@ pub fn exchange(
     failures: u32,
     command: &LoginCommand,
     who: Option<Octets>,
-) -> Result<Turn, AllocError>
-    ensures { let sent = of_login command.now in IfOk result (t.IsTurn (t.FitsLogin user.now failures sent who) sent) }
+) -> Result<CommandOutcome, AllocError>
+    ensures { let sent = of_login command.now in IfOk result (t.IsCommandOutcome (t.FitsLogin user.now failures sent who) sent) }
 {
     match command {
         LoginCommand::Authenticate {
@@ -77,8 +77,8 @@ fn authenticate(
     mechanism: &[u8],
     response: &Option<Octets>,
     who: Option<Octets>,
-) -> Result<Turn, AllocError>
-    ensures { let sent = command.Authenticate mechanism.now response.now in IfOk result (t.IsTurn (t.FitsLogin user.now failures sent who) sent) }
+) -> Result<CommandOutcome, AllocError>
+    ensures { let sent = command.Authenticate mechanism.now response.now in IfOk result (t.IsCommandOutcome (t.FitsLogin user.now failures sent who) sent) }
 {
     if user.is_some() {
         return stay(alloc, b"Already logged in.");
@@ -87,9 +87,9 @@ fn authenticate(
         return stay(alloc, b"Unknown mechanism.");
     }
     if response.is_none() {
-        return Ok(Turn {
-            reply: challenge(alloc)?,
-            sequel: Sequel::Challenge,
+        return Ok(CommandOutcome {
+            reply: challenge_reply(alloc)?,
+            session_change: SessionChange::Challenge,
         });
     }
     log_in(alloc, failures, who)
@@ -102,8 +102,8 @@ fn respond(
     failures: u32,
     text: &[u8],
     who: Option<Octets>,
-) -> Result<Turn, AllocError>
-    ensures { let sent = command.Response text.now in IfOk result (t.IsTurn (t.FitsLogin user.now failures sent who) sent) }
+) -> Result<CommandOutcome, AllocError>
+    ensures { let sent = command.Response text.now in IfOk result (t.IsCommandOutcome (t.FitsLogin user.now failures sent who) sent) }
 {
     if is_star(text) {
         return stay(alloc, b"Cancelled.");
@@ -112,52 +112,52 @@ fn respond(
 }
 
 // A login by this user, or a failed one.
-fn log_in(alloc: Global, failures: u32, who: Option<Octets>) -> Result<Turn, AllocError>
-    ensures { IfOk result (t.IsLoginTurn who failures) }
+fn log_in(alloc: Global, failures: u32, who: Option<Octets>) -> Result<CommandOutcome, AllocError>
+    ensures { IfOk result (t.IsLoginOutcome who failures) }
 {
     let Some(user) = who else {
         return fail(alloc, failures);
     };
-    let reply = accepted(alloc, b"Logged in.")?;
-    Ok(Turn {
+    let reply = ok_reply(alloc, b"Logged in.")?;
+    Ok(CommandOutcome {
         reply,
-        sequel: Sequel::LogIn(user),
+        session_change: SessionChange::LogIn(user),
     })
 }
 
-fn fail(alloc: Global, failures: u32) -> Result<Turn, AllocError>
-    ensures { IfOk result (t.IsLoginTurn None failures) }
+fn fail(alloc: Global, failures: u32) -> Result<CommandOutcome, AllocError>
+    ensures { IfOk result (t.IsLoginOutcome None failures) }
 {
     let reply = failure(alloc, failures)?;
-    Ok(Turn {
+    Ok(CommandOutcome {
         reply,
-        sequel: Sequel::Fail,
+        session_change: SessionChange::Fail,
     })
 }
 
-fn failure(alloc: Global, failures: u32) -> Result<Reply, AllocError>
+fn failure(alloc: Global, failures: u32) -> Result<ServerReply, AllocError>
     ensures { IfOk result (λ reply. reply ≡ s.login_reply None failures) }
 {
     if failures < MAX_FAILURES {
-        return declined(alloc, None, b"Authentication failed.");
+        return negative_reply(alloc, None, b"Authentication failed.");
     }
-    farewell(alloc, b"Too many failures.")
+    bye_reply(alloc, b"Too many failures.")
 }
 
 // `NO`, and the session stays as it is.
-fn stay(alloc: Global, text: &[u8]) -> Result<Turn, AllocError>
+fn stay(alloc: Global, text: &[u8]) -> Result<CommandOutcome, AllocError>
     ensures { IfOk result (λ turn. turn ≡ t.stays text.now) }
 {
-    let reply = declined(alloc, None, text)?;
-    Ok(Turn {
+    let reply = negative_reply(alloc, None, text)?;
+    Ok(CommandOutcome {
         reply,
-        sequel: Sequel::Stay,
+        session_change: SessionChange::Stay,
     })
 }
 
 // Whether it is PLAIN, the only mechanism, in upper or lower case.
 fn is_plain(mechanism: &[u8]) -> bool
-    ensures { result ≡ s.is_plain mechanism.now }
+    ensures { result ≡ s.is_plain_mechanism mechanism.now }
 {
     mechanism.eq_ignore_ascii_case(b"PLAIN")
 }

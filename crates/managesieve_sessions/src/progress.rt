@@ -1,6 +1,6 @@
 //! How a session goes on.
-use crate::sort::Order;
-use msproto::Command;
+use crate::command_class::StoreCommand;
+use managesieve_protocol::ClientCommand;
 
 /// How a session goes on after a step.
 #[derive(Clone, Copy, Debug, PartialEq, Eq)]
@@ -15,18 +15,18 @@ pub enum Progress {
 
 /// What the first item came to, unless it is a command.
 #[derive(Drop)]
-pub enum First {
+pub enum FirstItem {
     /// A step was made.
     Made(Progress),
     /// This command comes first.
-    Command(Command),
+    Command(ClientCommand),
 }
 
 /// What a step without the store came to.
 #[derive(Drop)]
-pub enum Stepped {
+pub enum FreeStep {
     /// A step was made.
     Made(Progress),
     /// The first item is this command, and the store has to be asked about it.
-    Asks(Order),
+    Asks(StoreCommand),
 }

@@ -1,63 +1,63 @@
 //! The replies of a session.
 ghost use Rattle.std.specs.Prelude.{◌≡◌, ◌++◌, ◌∷◌, [], Some, None, IfOk, OnOk};
-ghost use Rattle.sievelex.specs.Faults.{fault_line};
-ghost use Rattle.msproto.specs.declared.replies.Line.TheVariants as line;
-ghost use Rattle.sessions.specs.Replies as s;
+ghost use Rattle.sieve_lex.specs.Faults.{fault_line};
+ghost use Rattle.managesieve_protocol.specs.declared.replies.DataLine.TheVariants as line;
+ghost use Rattle.managesieve_sessions.specs.Replies as s;
 
-use msproto::{Code, Line, Reply, Status};
+use managesieve_protocol::{ReplyCode, DataLine, ServerReply, Status};
 use octets::{List, Octets};
-use sievelex::ScriptFault;
+use sieve_lex::ScriptFault;
 use std::alloc::{AllocError, Global};
 
 /// `OK` and a text.
-pub fn accepted(alloc: Global, text: &[u8]) -> Result<Reply, AllocError>
-    ensures { IfOk result (λ reply. reply ≡ s.accepted text.now) }
+pub fn ok_reply(alloc: Global, text: &[u8]) -> Result<ServerReply, AllocError>
+    ensures { IfOk result (λ reply. reply ≡ s.ok_reply text.now) }
 {
     let text = Octets::from_slice(alloc, text)?;
     Ok(of_one_line(alloc, Status::Ok, None, text))
 }
 
 /// `NO`, a code if there is one, and a text.
-pub fn declined(alloc: Global, code: Option<Code>, text: &[u8]) -> Result<Reply, AllocError>
-    ensures { IfOk result (λ reply. reply ≡ s.declined code text.now) }
+pub fn negative_reply(alloc: Global, code: Option<ReplyCode>, text: &[u8]) -> Result<ServerReply, AllocError>
+    ensures { IfOk result (λ reply. reply ≡ s.negative_reply code text.now) }
 {
     let text = Octets::from_slice(alloc, text)?;
     Ok(of_one_line(alloc, Status::No, code, text))
 }
 
 /// `NO` and `line N: TEXT`.
-pub fn faulty(alloc: Global, fault: ScriptFault) -> Result<Reply, AllocError>
-    ensures { IfOk result (λ reply. reply ≡ s.declined None (fault_line fault.line fault.kind)) }
+pub fn faulty(alloc: Global, fault: ScriptFault) -> Result<ServerReply, AllocError>
+    ensures { IfOk result (λ reply. reply ≡ s.negative_reply None (fault_line fault.line fault.kind)) }
 {
     let text = fault.told(alloc)?;
     Ok(of_one_line(alloc, Status::No, None, text))
 }
 
 /// `BYE` and a text.
-pub fn farewell(alloc: Global, text: &[u8]) -> Result<Reply, AllocError>
-    ensures { IfOk result (λ reply. reply ≡ s.farewell text.now) }
+pub fn bye_reply(alloc: Global, text: &[u8]) -> Result<ServerReply, AllocError>
+    ensures { IfOk result (λ reply. reply ≡ s.bye_reply text.now) }
 {
     let text = Octets::from_slice(alloc, text)?;
     Ok(of_one_line(alloc, Status::Bye, None, text))
 }
 
 /// `OK "Done."`, with the string that the client sent, if it sent one.
-pub fn done_with(alloc: Global, tag: &Option<Octets>) -> Result<Reply, AllocError>
-    ensures { IfOk result (λ reply. reply ≡ s.done_with tag.now) }
+pub fn noop_reply(alloc: Global, tag: &Option<Octets>) -> Result<ServerReply, AllocError>
+    ensures { IfOk result (λ reply. reply ≡ s.noop_reply tag.now) }
 {
     let Some(tag) = tag else {
-        return accepted(alloc, b"Done.");
+        return ok_reply(alloc, b"Done.");
     };
     let tag = tag.try_clone(alloc)?;
     let text = Octets::from_slice(alloc, b"Done.")?;
-    Ok(of_one_line(alloc, Status::Ok, Some(Code::Tag(tag)), text))
+    Ok(of_one_line(alloc, Status::Ok, Some(ReplyCode::Tag(tag)), text))
 }
 
 /// Lines, and `OK` alone.
-pub fn listed(lines: List<Line>) -> Reply
+pub fn listed(lines: List<DataLine>) -> ServerReply
     ensures { result ≡ s.listed lines }
 {
-    Reply {
+    ServerReply {
         lines,
         word: Some(Status::Ok),
         code: None,
@@ -66,12 +66,12 @@ pub fn listed(lines: List<Line>) -> Reply
 }
 
 /// The empty string of a challenge, without a last line.
-pub fn challenge(alloc: Global) -> Result<Reply, AllocError>
-    ensures { IfOk result (λ reply. reply ≡ s.challenge) }
+pub fn challenge_reply(alloc: Global) -> Result<ServerReply, AllocError>
+    ensures { IfOk result (λ reply. reply ≡ s.challenge_reply) }
 {
     let mut lines = List::new(alloc);
-    lines.push(Line::Empty)?;
-    Ok(Reply {
+    lines.push(DataLine::Empty)?;
+    Ok(ServerReply {
         lines,
         word: None,
         code: None,
@@ -80,8 +80,8 @@ pub fn challenge(alloc: Global) -> Result<Reply, AllocError>
 }
 
 /// What the server can do, and whose scripts it serves after a login: this is the greeting too (RFC 5804, 1.7).
-pub fn capabilities(alloc: Global, user: &Option<Octets>) -> Result<Reply, AllocError>
-    ensures { IfOk result (λ reply. reply ≡ s.capabilities user.now) }
+pub fn capability_reply(alloc: Global, user: &Option<Octets>) -> Result<ServerReply, AllocError>
+    ensures { IfOk result (λ reply. reply ≡ s.capability_reply user.now) }
 {
     let mut lines = List::new(alloc);
     add_capability(alloc, &mut lines, b"IMPLEMENTATION", Some(b"sieved 1"))?;
@@ -106,20 +106,20 @@ pub fn capabilities(alloc: Global, user: &Option<Octets>) -> Result<Reply, Alloc
 // Appends a capability, with its value if it has one.
 fn add_capability(
     alloc: Global,
-    lines: &mut List<Line>,
+    lines: &mut List<DataLine>,
     name: &[u8],
     value: Option<&[u8]>,
 ) -> Result<(), AllocError>
-    ensures { OnOk result (lines.new ≡ lines.old ++ line.Capability name.now (s.value_of value.entry) ∷ []) }
+    ensures { OnOk result (lines.new ≡ lines.old ++ line.Capability name.now (s.borrowed_text value.entry) ∷ []) }
 {
     let value = copy_of(alloc, value)?;
     let name = Octets::from_slice(alloc, name)?;
-    lines.push(Line::Capability { name, value })
+    lines.push(DataLine::Capability { name, value })
 }
 
 // A copy of the text, if there is one.
 fn copy_of(alloc: Global, text: Option<&[u8]>) -> Result<Option<Octets>, AllocError>
-    ensures { IfOk result (λ copy. copy ≡ s.value_of text.entry) }
+    ensures { IfOk result (λ copy. copy ≡ s.borrowed_text text.entry) }
 {
     match text {
         Some(text) => Ok(Some(Octets::from_slice(alloc, text)?)),
@@ -127,10 +127,10 @@ fn copy_of(alloc: Global, text: Option<&[u8]>) -> Result<Option<Octets>, AllocEr
     }
 }
 
-fn of_one_line(alloc: Global, status: Status, code: Option<Code>, text: Octets) -> Reply
+fn of_one_line(alloc: Global, status: Status, code: Option<ReplyCode>, text: Octets) -> ServerReply
     ensures { result ≡ record { lines = []; word = Some status; code = code; text = Some text } }
 {
-    Reply {
+    ServerReply {
         lines: List::new(alloc),
         word: Some(status),
         code,

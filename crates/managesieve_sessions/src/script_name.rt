@@ -2,7 +2,7 @@
 ghost use Rattle.std.specs.Prelude.{◌≡◌, length, MatchBool};
 ghost use Rattle.std.specs.List.{list_any};
 ghost use Rattle.std.specs.Str.{chars};
-ghost use Rattle.sessions.specs.Limits.{IsScriptName, is_forbidden_char as is_forbidden};
+ghost use Rattle.managesieve_sessions.specs.Limits.{IsScriptName, is_forbidden_char as is_forbidden};
 
 use std::str;
 

@@ -2,22 +2,22 @@
 ghost use Rattle.std.specs.Prelude.{◌≡◌, ℕ, ◌++◌, Bool, None, Some, IfOk, IsTrue, MatchBool, nat_eq, map};
 ghost use Rattle.std.specs.List.{list_any};
 ghost use Rattle.std.specs.Cmp.Lexicographic.{pointwise};
-ghost use Rattle.msproto.specs.declared.commands.Command.TheVariants as command;
-ghost use Rattle.sievelex.specs.Faults.{fault_line};
-ghost use Rattle.mailstore.specs.Account.{Account};
-ghost use Rattle.sessions.specs.Decisions.{AreNames, AreScripts, IsDecision};
-ghost use Rattle.sessions.specs.Replies as r;
-ghost use Rattle.sessions.specs.Scripts as s;
-ghost use Rattle.sessions.specs.Sorts.{of_named};
+ghost use Rattle.managesieve_protocol.specs.declared.commands.ClientCommand.TheVariants as command;
+ghost use Rattle.sieve_lex.specs.Faults.{fault_line};
+ghost use Rattle.store_accounts.specs.Account.{Account};
+ghost use Rattle.managesieve_sessions.specs.Decisions.{AreNames, AreScripts, IsDecision};
+ghost use Rattle.managesieve_sessions.specs.Replies as r;
+ghost use Rattle.managesieve_sessions.specs.Scripts as s;
+ghost use Rattle.managesieve_sessions.specs.CommandClasses.{of_named};
 
-use crate::decision::{Change, Decision};
-use crate::replies::{accepted, declined, faulty, listed};
+use crate::decision::{ScriptChange, Decision};
+use crate::replies::{ok_reply, negative_reply, faulty, listed};
 use crate::script_name::is_script_name;
-use crate::sort::NamedCommand;
-use msproto::{Code, Line, Reply};
+use crate::command_class::NamedCommand;
+use managesieve_protocol::{ReplyCode, DataLine, ServerReply};
 use octets::{List, Octets, Texts};
-use sievelex::{ScriptError, ScriptFault};
-use sievesyntax::check;
+use sieve_lex::{ScriptError, ScriptFault};
+use sieve_syntax::check;
 use std::alloc::{AllocError, Global};
 
 /// The largest size of a script in octets: a limit of this project.
@@ -30,13 +30,13 @@ pub const MAX_SCRIPTS: usize = 32;
 ///
 /// Time is linear in the names, plus that of `check` for `PUTSCRIPT`. The names that are listed aren't copied. Lack of memory is
 /// the only error.
-pub fn decide<'a>(
+pub fn decide_script_command<'a>(
     alloc: Global,
     names: Texts,
     active: Option<&[u8]>,
     command: &'a NamedCommand,
 ) -> Result<Decision<'a>, AllocError>
-    ensures { IfOk result (IsDecision (AreScripts names (r.value_of active.entry)) (of_named command.now)) }
+    ensures { IfOk result (IsDecision (AreScripts names (r.borrowed_text active.entry)) (of_named command.now)) }
 {
     let there = names.as_slice();
     match command {
@@ -54,28 +54,28 @@ pub fn decide<'a>(
 }
 
 /// `GETSCRIPT` (RFC 5804, 2.9), given the text of the script of that name, which isn't copied.
-pub fn get_script(alloc: Global, text: Option<Octets>) -> Result<Reply, AllocError>
+pub fn get_script(alloc: Global, text: Option<Octets>) -> Result<ServerReply, AllocError>
     ensures { IfOk result (λ reply. reply ≡ s.get_reply text) }
 {
     let Some(text) = text else {
-        return declined(alloc, Some(Code::NonExistent), b"No such script.");
+        return negative_reply(alloc, Some(ReplyCode::NonExistent), b"No such script.");
     };
     let mut lines = List::new(alloc);
-    lines.push(Line::Text(text))?;
+    lines.push(DataLine::Text(text))?;
     Ok(listed(lines))
 }
 
 /// `CHECKSCRIPT` (RFC 5804, 2.12): looks at the size and the text, and at no account.
-pub fn check_script(alloc: Global, script: &[u8]) -> Result<Reply, AllocError>
+pub fn check_script(alloc: Global, script: &[u8]) -> Result<ServerReply, AllocError>
     ensures { IfOk result (s.RepliesToCheck script.now) }
 {
     if script.len() > MAX_SCRIPT {
-        return declined(alloc, Some(Code::MaxSize), b"Script too large.");
+        return negative_reply(alloc, Some(ReplyCode::MaxSize), b"Script too large.");
     }
     if let Some(fault) = fault_in(alloc, script)? {
         return faulty(alloc, fault);
     }
-    accepted(alloc, b"Valid.")
+    ok_reply(alloc, b"Valid.")
 }
 
 // `HAVESPACE` (RFC 5804, 2.5).
@@ -91,10 +91,10 @@ fn have_space<'a>(
         return refuse(alloc, None, b"Bad script name.");
     }
     if size as usize > MAX_SCRIPT {
-        return refuse(alloc, Some(Code::MaxSize), b"Script too large.");
+        return refuse(alloc, Some(ReplyCode::MaxSize), b"Script too large.");
     }
     if !has_room(names, name) {
-        return refuse(alloc, Some(Code::MaxScripts), b"Too many scripts.");
+        return refuse(alloc, Some(ReplyCode::MaxScripts), b"Too many scripts.");
     }
     agree(alloc, b"Done.", None)
 }
@@ -112,15 +112,15 @@ fn put_script<'a>(
         return refuse(alloc, None, b"Bad script name.");
     }
     if script.len() > MAX_SCRIPT {
-        return refuse(alloc, Some(Code::MaxSize), b"Script too large.");
+        return refuse(alloc, Some(ReplyCode::MaxSize), b"Script too large.");
     }
     if !has_room(names, name) {
-        return refuse(alloc, Some(Code::MaxScripts), b"Too many scripts.");
+        return refuse(alloc, Some(ReplyCode::MaxScripts), b"Too many scripts.");
     }
     if let Some(fault) = fault_in(alloc, script)? {
         return tell(alloc, fault);
     }
-    agree(alloc, b"Stored.", Some(Change::Put { name, script }))
+    agree(alloc, b"Stored.", Some(ScriptChange::Put { name, script }))
 }
 
 // `LISTSCRIPTS` (RFC 5804, 2.7).
@@ -129,7 +129,7 @@ fn list_scripts<'a>(
     names: Texts,
     active: Option<&[u8]>,
 ) -> Result<Decision<'a>, AllocError>
-    ensures { IfOk result (IsDecision (AreScripts names (r.value_of active.entry)) command.ListScripts) }
+    ensures { IfOk result (IsDecision (AreScripts names (r.borrowed_text active.entry)) command.ListScripts) }
 {
     let lines = lines_of(alloc, names, active)?;
     Ok(Decision {
@@ -138,13 +138,13 @@ fn list_scripts<'a>(
     })
 }
 
-fn lines_of(alloc: Global, names: Texts, active: Option<&[u8]>) -> Result<List<Line>, AllocError>
-    ensures { IfOk result (λ lines. lines ≡ s.script_lines (r.value_of active.entry) names) }
+fn lines_of(alloc: Global, names: Texts, active: Option<&[u8]>) -> Result<List<DataLine>, AllocError>
+    ensures { IfOk result (λ lines. lines ≡ s.script_lines (r.borrowed_text active.entry) names) }
 {
     let mut lines = List::from_vec(Vec::with_capacity(alloc, names.len())?);
     for name in names.into_vec() {
         let active = is_active(active, name.as_slice());
-        lines.push(Line::Script { name, active })?;
+        lines.push(DataLine::Script { name, active })?;
     }
     Ok(lines)
 }
@@ -158,12 +158,12 @@ fn set_active<'a>(
     ensures { IfOk result (IsDecision (AreNames names.now) (command.SetActive name.entry.now)) }
 {
     if name.is_empty() {
-        return agree(alloc, b"Done.", Some(Change::Activate(None)));
+        return agree(alloc, b"Done.", Some(ScriptChange::Activate(None)));
     }
     if !has_script(names, name) {
-        return refuse(alloc, Some(Code::NonExistent), b"No such script.");
+        return refuse(alloc, Some(ReplyCode::NonExistent), b"No such script.");
     }
-    agree(alloc, b"Done.", Some(Change::Activate(Some(name))))
+    agree(alloc, b"Done.", Some(ScriptChange::Activate(Some(name))))
 }
 
 // `DELETESCRIPT` (RFC 5804, 2.10).
@@ -173,15 +173,15 @@ fn delete_script<'a>(
     active: Option<&[u8]>,
     name: &'a [u8],
 ) -> Result<Decision<'a>, AllocError>
-    ensures { IfOk result (IsDecision (AreScripts names.now (r.value_of active.entry)) (command.DeleteScript name.entry.now)) }
+    ensures { IfOk result (IsDecision (AreScripts names.now (r.borrowed_text active.entry)) (command.DeleteScript name.entry.now)) }
 {
     if !has_script(names, name) {
-        return refuse(alloc, Some(Code::NonExistent), b"No such script.");
+        return refuse(alloc, Some(ReplyCode::NonExistent), b"No such script.");
     }
     if is_active(active, name) {
-        return refuse(alloc, Some(Code::Active), b"Script is active.");
+        return refuse(alloc, Some(ReplyCode::Active), b"Script is active.");
     }
-    agree(alloc, b"Done.", Some(Change::Delete(name)))
+    agree(alloc, b"Done.", Some(ScriptChange::Delete(name)))
 }
 
 // `RENAMESCRIPT` (RFC 5804, 2.11).
@@ -194,30 +194,30 @@ fn rename_script<'a>(
     ensures { IfOk result (IsDecision (AreNames names.now) (command.RenameScript old.entry.now new.entry.now)) }
 {
     if !has_script(names, old) {
-        return refuse(alloc, Some(Code::NonExistent), b"No such script.");
+        return refuse(alloc, Some(ReplyCode::NonExistent), b"No such script.");
     }
     if !is_script_name(new) {
         return refuse(alloc, None, b"Bad script name.");
     }
     if has_script(names, new) {
-        return refuse(alloc, Some(Code::AlreadyExists), b"Name is taken.");
+        return refuse(alloc, Some(ReplyCode::AlreadyExists), b"Name is taken.");
     }
-    agree(alloc, b"Done.", Some(Change::Rename { old, new }))
+    agree(alloc, b"Done.", Some(ScriptChange::Rename { old, new }))
 }
 
 // `NO`, and nothing changes.
-fn refuse<'a>(alloc: Global, code: Option<Code>, text: &[u8]) -> Result<Decision<'a>, AllocError>
-    ensures { IfOk result (λ decision. decision ≡ record { reply = r.declined code text.now; change = None }) }
+fn refuse<'a>(alloc: Global, code: Option<ReplyCode>, text: &[u8]) -> Result<Decision<'a>, AllocError>
+    ensures { IfOk result (λ decision. decision ≡ record { reply = r.negative_reply code text.now; change = None }) }
 {
     Ok(Decision {
-        reply: declined(alloc, code, text)?,
+        reply: negative_reply(alloc, code, text)?,
         change: None,
     })
 }
 
 // `NO` and the fault, and nothing changes.
 fn tell<'a>(alloc: Global, fault: ScriptFault) -> Result<Decision<'a>, AllocError>
-    ensures { IfOk result (λ decision. decision ≡ record { reply = r.declined None (fault_line fault.line fault.kind); change = None }) }
+    ensures { IfOk result (λ decision. decision ≡ record { reply = r.negative_reply None (fault_line fault.line fault.kind); change = None }) }
 {
     Ok(Decision {
         reply: faulty(alloc, fault)?,
@@ -229,12 +229,12 @@ fn tell<'a>(alloc: Global, fault: ScriptFault) -> Result<Decision<'a>, AllocErro
 fn agree<'a>(
     alloc: Global,
     text: &[u8],
-    change: Option<Change<'a>>,
+    change: Option<ScriptChange<'a>>,
 ) -> Result<Decision<'a>, AllocError>
-    ensures { IfOk result (λ decision. decision ≡ record { reply = r.accepted text.now; change = change.entry }) }
+    ensures { IfOk result (λ decision. decision ≡ record { reply = r.ok_reply text.now; change = change.entry }) }
 {
     Ok(Decision {
-        reply: accepted(alloc, text)?,
+        reply: ok_reply(alloc, text)?,
         change,
     })
 }
@@ -272,7 +272,7 @@ fn has_name(names: &[Octets], name: &[u8]) -> bool
 
 // Whether the name is the active script's.
 fn is_active(active: Option<&[u8]>, name: &[u8]) -> bool
-    ensures { result ≡ s.is_active (r.value_of active.entry) name.now }
+    ensures { result ≡ s.is_active (r.borrowed_text active.entry) name.now }
 {
     match active {
         Some(active) => active == name,

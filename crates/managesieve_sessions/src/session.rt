@@ -1,28 +1,28 @@
 //! One client's session.
 ghost use Rattle.std.specs.Prelude.{◌≡◌, ◌≤◌, ◌++◌, cond, true, false, None, Some, is_some, length, IfOk, IfErr, OnOk, OnErr};
-ghost use Rattle.mailstore.specs.Cells.{contents};
-ghost use Rattle.msproto.specs.Replies.{spelled};
-ghost use Rattle.sessions.specs.Clients.{client_given, has_failed, is_item, is_ready, reach_in, without_first, left};
-ghost use Rattle.sessions.specs.Counts.{new_session, given_more, looked_in, scanned_past, scanned_in_step};
-ghost use Rattle.sessions.specs.GivenUp.{text_given_up, client_given_up, progress_given_up};
-ghost use Rattle.sessions.specs.Logins.{login_client};
-ghost use Rattle.sessions.specs.Replies as r;
+ghost use Rattle.store_accounts.specs.Cells.{borrowed_octets};
+ghost use Rattle.managesieve_protocol.specs.Replies.{reply_octets};
+ghost use Rattle.managesieve_sessions.specs.Clients.{client_given, has_failed, is_item, is_ready, reach_in, without_first, after_logout};
+ghost use Rattle.managesieve_sessions.specs.Counts.{new_session, given_more, looked_in, scanned_past, scanned_in_step};
+ghost use Rattle.managesieve_sessions.specs.GivenUp.{text_given_up, client_given_up, progress_given_up};
+ghost use Rattle.managesieve_sessions.specs.Logins.{login_client};
+ghost use Rattle.managesieve_sessions.specs.Replies as r;
 ghost use Rattle.sqlite.specs.Held.{state};
-ghost use Rattle.sessions.specs.declared.sort.Order.TheVariants.{Login, Script};
-ghost use Rattle.sessions.specs.Orders.{ActsStep, StepsAsked, MayRefuse};
-ghost use Rattle.sessions.specs.Refusing.{WasRefused};
-ghost use Rattle.sessions.specs.Steps.{progress_of, Asked, StepsFirst, StepsFree, IfOver, IfCommand, IfAsks, IfMade, gives_command, has_command, may_lack, may_fail};
-ghost use Rattle.sessions.specs.Turns.{followed};
+ghost use Rattle.managesieve_sessions.specs.declared.command_class.StoreCommand.TheVariants.{Login, Script};
+ghost use Rattle.managesieve_sessions.specs.Orders.{ActsStep, StepsAsked, MayRefuse};
+ghost use Rattle.managesieve_sessions.specs.Refusing.{WasRefused};
+ghost use Rattle.managesieve_sessions.specs.Steps.{progress_of, Asked, StepsFirst, StepsFree, IfOver, IfCommand, IfAsks, IfMade, gives_command, has_command, may_lack, may_fail};
+ghost use Rattle.managesieve_sessions.specs.CommandOutcomes.{client_after};
 
 use crate::account::{admitted, execute};
-use crate::free::{FreeTurn, free_turn};
+use crate::free::{FreeOutcome, free_outcome};
 use crate::login::{MAX_FAILURES, exchange, login_text};
-use crate::progress::{First, Progress, Stepped};
-use crate::replies::capabilities;
-use crate::sort::{LoginCommand, Order, ScriptCommand};
-use crate::turn::{Sequel, Turn};
-use mailstore::{Refusal, Store};
-use msproto::{Reach, Scan, command_at, spell};
+use crate::progress::{FirstItem, Progress, FreeStep};
+use crate::replies::capability_reply;
+use crate::command_class::{LoginCommand, StoreCommand, ScriptCommand};
+use crate::command_outcome::{SessionChange, CommandOutcome};
+use store_accounts::{Refusal, Store};
+use managesieve_protocol::{ItemExtent, Scan, command_at, spell};
 use octets::{Octets, Pending};
 use sqlite::Alter;
 use std::alloc::{AllocError, Global};
@@ -57,7 +57,7 @@ pub struct Session {
 }
 
 impl Model for Session {
-    ghost use Rattle.sessions.specs.Counts.{SessionView, IsScanned};
+    ghost use Rattle.managesieve_sessions.specs.Counts.{SessionView, IsScanned};
 
     ghost Value = { SessionView };
 
@@ -74,10 +74,10 @@ impl Session {
     /// A new session, whose greeting is appended to the output. Lack of memory is the only error, and the output then stays.
     pub fn new(alloc: Global, out: &mut Octets) -> Result<Session, AllocError>
         ensures begins { IfOk result (λ session. session ≡ new_session) }
-        ensures greets { OnOk result (out.new ≡ out.old ++ spelled (r.capabilities None)) }
+        ensures greets { OnOk result (out.new ≡ out.old ++ reply_octets (r.capability_reply None)) }
         ensures err { OnErr result (out.new ≡ out.old) }
     {
-        let greeting = capabilities(alloc, &None)?;
+        let greeting = capability_reply(alloc, &None)?;
         spell(alloc, &greeting, out)?;
         Ok(Session {
             alloc,
@@ -116,7 +116,7 @@ impl Session {
     pub fn ready(&self) -> bool
         ensures { result ≡ is_ready self.now.client }
     {
-        !self.closed && !matches!(self.scan.state(), Reach::Need)
+        !self.closed && !matches!(self.scan.state(), ItemExtent::Need)
     }
 
     /// The answer that `give_up` would return: empty if no item is whole, or if the session has ended. Takes no memory.
@@ -127,8 +127,8 @@ impl Session {
             return b"";
         }
         match self.scan.state() {
-            Reach::Need => b"",
-            Reach::TooBig => TOO_BIG,
+            ItemExtent::Need => b"",
+            ItemExtent::TooBig => TOO_BIG,
             _ => TRY_LATER,
         }
     }
@@ -141,8 +141,8 @@ impl Session {
             return Progress::Close;
         }
         match self.scan.state() {
-            Reach::Need => Progress::Need,
-            Reach::TooBig => Progress::Close,
+            ItemExtent::Need => Progress::Need,
+            ItemExtent::TooBig => Progress::Close,
             _ => Progress::Done,
         }
     }
@@ -163,7 +163,7 @@ impl Session {
 
     /// Who is logged in, if anybody is. Takes no memory.
     pub fn user(&self) -> Option<&[u8]>
-        ensures { contents result ≡ self.now.client.user }
+        ensures { borrowed_octets result ≡ self.now.client.user }
     {
         match &self.user {
             Some(user) => Some(user.as_slice()),
@@ -198,8 +198,8 @@ impl Session {
             return b"";
         }
         match self.scan.state() {
-            Reach::Need => b"",
-            Reach::TooBig => {
+            ItemExtent::Need => b"",
+            ItemExtent::TooBig => {
                 self.closed = true;
                 TOO_BIG
             }
@@ -213,7 +213,7 @@ impl Session {
     /// The step if no command comes first: a bad line and an item that is too big are answered; nothing is answered if
     /// no item is whole, or if the session has ended. A command that comes first is read and returned, and
     /// nothing changes then. Lack of memory is the only error, if there is something to answer; nothing changes then.
-    pub fn step_over(&mut self, out: &mut Octets) -> Result<First, AllocError>
+    pub fn step_over(&mut self, out: &mut Octets) -> Result<FirstItem, AllocError>
         ensures step { IfOk result (λ first. StepsFirst self.old.client self.new.client first out.old out.new) }
         ensures command { IfOk result (λ first. gives_command first ≡ has_command self.old.client) }
         ensures counts { OnOk result (self.new.given ≡ self.old.given) }
@@ -223,23 +223,23 @@ impl Session {
         ensures lacks { OnErr result (may_lack self.old.client ≡ true) }
     {
         if self.closed {
-            return Ok(First::Made(Progress::Close));
+            return Ok(FirstItem::Made(Progress::Close));
         }
         match self.scan.state() {
-            Reach::Need => Ok(First::Made(Progress::Need)),
-            Reach::Command(used) => {
+            ItemExtent::Need => Ok(FirstItem::Made(Progress::Need)),
+            ItemExtent::Command(used) => {
                 let command = command_at(self.alloc, self.unread.as_slice(), self.pending, used)?;
-                Ok(First::Command(command))
+                Ok(FirstItem::Command(command))
             }
-            Reach::Bad(_) => {
+            ItemExtent::Bad(_) => {
                 out.extend_from_slice(SYNTAX)?;
                 self.take_off(false);
-                Ok(First::Made(Progress::Done))
+                Ok(FirstItem::Made(Progress::Done))
             }
-            Reach::TooBig => {
+            ItemExtent::TooBig => {
                 out.extend_from_slice(TOO_BIG)?;
                 self.closed = true;
-                Ok(First::Made(Progress::Close))
+                Ok(FirstItem::Made(Progress::Close))
             }
         }
     }
@@ -248,7 +248,7 @@ impl Session {
     /// of `free`. Any other command is returned, and nothing changes then.
     ///
     /// Lack of memory is the only error, if there is something to answer; nothing changes then.
-    pub fn step_free(&mut self, out: &mut Octets) -> Result<Stepped, AllocError>
+    pub fn step_free(&mut self, out: &mut Octets) -> Result<FreeStep, AllocError>
         ensures step { IfOk result (λ stepped. StepsFree self.old.client self.new.client stepped out.old out.new) }
         ensures counts { OnOk result (self.new.given ≡ self.old.given) }
         ensures scans { IfOk result (λ stepped. IfMade stepped (self.new.scanned ≡ scanned_in_step self.old)) }
@@ -258,15 +258,15 @@ impl Session {
         ensures refused { OnErr result (WasRefused self.old.client) }
     {
         let command = match self.step_over(out)? {
-            First::Made(progress) => return Ok(Stepped::Made(progress)),
-            First::Command(command) => command,
+            FirstItem::Made(progress) => return Ok(FreeStep::Made(progress)),
+            FirstItem::Command(command) => command,
         };
-        match free_turn(self.alloc, &self.user, command)? {
-            FreeTurn::Made(turn) => {
-                let progress = self.take_turn(turn, out)?;
-                Ok(Stepped::Made(progress))
+        match free_outcome(self.alloc, &self.user, command)? {
+            FreeOutcome::Made(turn) => {
+                let progress = self.apply_outcome(turn, out)?;
+                Ok(FreeStep::Made(progress))
             }
-            FreeTurn::Asks(order) => Ok(Stepped::Asks(order)),
+            FreeOutcome::Asks(order) => Ok(FreeStep::Asks(order)),
         }
     }
 
@@ -290,8 +290,8 @@ impl Session {
         ensures unasked { may_fail self.old.client ≡ false → store.new ≡ store.old }
     {
         match self.step_free(out)? {
-            Stepped::Made(progress) => Ok(progress),
-            Stepped::Asks(order) => self.step_asked(store, &order, out),
+            FreeStep::Made(progress) => Ok(progress),
+            FreeStep::Asks(order) => self.step_asked(store, &order, out),
         }
     }
 
@@ -300,7 +300,7 @@ impl Session {
     pub fn step_asked<S: Alter>(
         &mut self,
         store: &mut Store<S>,
-        order: &Order,
+        order: &StoreCommand,
         out: &mut Octets,
     ) -> Result<Progress, Refusal>
         requires { Asked self.old.client order.now }
@@ -309,8 +309,8 @@ impl Session {
         ensures refused { OnErr result (WasRefused self.old.client) }
     {
         match order {
-            Order::Login(command) => self.step_login(store, command, out),
-            Order::Script { user, command } => self.step_scripts(store, user, command, out),
+            StoreCommand::Login(command) => self.step_login(store, command, out),
+            StoreCommand::Script { user, command } => self.step_scripts(store, user, command, out),
         }
     }
 
@@ -326,7 +326,7 @@ impl Session {
     {
         let who = admitted(self.alloc, store, login_text(&self.user, command))?;
         let turn = exchange(self.alloc, &self.user, self.failures, command, who)?;
-        let progress = self.take_turn(turn, out)?;
+        let progress = self.apply_outcome(turn, out)?;
         Ok(progress)
     }
 
@@ -342,25 +342,25 @@ impl Session {
         ensures { StepsAsked self.old self.new out.old out.new (state S.Store store.old) (state S.Store store.new) result }
     {
         let is_open = execute(self.alloc, store, user.as_slice(), command, out)?;
-        self.follow(sequel_of(is_open));
+        self.follow(session_change_of(is_open));
         Ok(Progress::Done)
     }
 
     /// Takes the first item, a command with this outcome, off: appends the answer to the output, and then changes the session.
     ///
     /// Lack of memory is the only error; nothing changes then, and the output stays.
-    pub fn take_turn(&mut self, turn: Turn, out: &mut Octets) -> Result<Progress, AllocError>
+    pub fn apply_outcome(&mut self, turn: CommandOutcome, out: &mut Octets) -> Result<Progress, AllocError>
         requires { is_item (reach_in self.old.client) ≡ true }
-        ensures told { OnOk result (out.new ≡ out.old ++ spelled turn.reply) }
-        ensures session { OnOk result (self.new.client ≡ followed turn.sequel (without_first false (reach_in self.old.client) self.old.client)) }
+        ensures told { OnOk result (out.new ≡ out.old ++ reply_octets turn.reply) }
+        ensures session { OnOk result (self.new.client ≡ client_after turn.session_change (without_first false (reach_in self.old.client) self.old.client)) }
         ensures goes_on { IfOk result (λ progress. progress ≡ progress_of self.new.client) }
         ensures counts { OnOk result (self.new.given ≡ self.old.given) }
         ensures scans { OnOk result (self.new.scanned ≡ scanned_past self.old) }
         ensures err { OnErr result ((self.new ≡ self.old) × (out.new ≡ out.old)) }
     {
-        let Turn { reply, sequel } = turn;
+        let CommandOutcome { reply, session_change } = turn;
         spell(self.alloc, &reply, out)?;
-        self.follow(sequel);
+        self.follow(session_change);
         Ok(self.progress())
     }
 
@@ -392,28 +392,28 @@ impl Session {
     }
 
     // Takes off the first item, and changes the session. Takes no memory.
-    fn follow(&mut self, sequel: Sequel)
+    fn follow(&mut self, session_change: SessionChange)
         requires { is_item (reach_in self.old.client) ≡ true }
-        ensures session { self.new.client ≡ followed sequel (without_first false (reach_in self.old.client) self.old.client) }
+        ensures session { self.new.client ≡ client_after session_change (without_first false (reach_in self.old.client) self.old.client) }
         ensures counts { self.new.given ≡ self.old.given }
         ensures scans { self.new.scanned ≡ scanned_past self.old }
     {
-        match sequel {
-            Sequel::Stay => self.take_off(false),
-            Sequel::Challenge => self.take_off(true),
-            Sequel::Close => {
+        match session_change {
+            SessionChange::Stay => self.take_off(false),
+            SessionChange::Challenge => self.take_off(true),
+            SessionChange::Close => {
                 self.take_off(false);
                 self.closed = true;
             }
-            Sequel::LogIn(user) => {
+            SessionChange::LogIn(user) => {
                 self.take_off(false);
                 self.log_in(user);
             }
-            Sequel::LogOut => {
+            SessionChange::LogOut => {
                 self.take_off(false);
                 self.log_out();
             }
-            Sequel::Fail => {
+            SessionChange::Fail => {
                 self.take_off(false);
                 self.fail();
             }
@@ -429,7 +429,7 @@ impl Session {
     }
 
     fn log_out(&mut self)
-        ensures client { self.new.client ≡ left self.old.client }
+        ensures client { self.new.client ≡ after_logout self.old.client }
         ensures counts { (self.new.given ≡ self.old.given) × (self.new.scanned ≡ self.old.scanned) }
     {
         self.user = None;
@@ -454,7 +454,7 @@ impl Session {
         ensures counts { self.new.given ≡ self.old.given }
         ensures scans { self.new.scanned ≡ scanned_past self.old }
     {
-        let (Reach::Command(used) | Reach::Bad(used)) = self.scan.state() else {
+        let (ItemExtent::Command(used) | ItemExtent::Bad(used)) = self.scan.state() else {
             return;
         };
         self.unread.drop_front(used);
@@ -467,12 +467,12 @@ impl Session {
 }
 
 /// How a command about the user's account changes the session, by whether the account is open.
-fn sequel_of(is_open: bool) -> Sequel
-    ensures { result ≡ cond is_open Sequel.Stay Sequel.LogOut }
+fn session_change_of(is_open: bool) -> SessionChange
+    ensures { result ≡ cond is_open SessionChange.Stay SessionChange.LogOut }
 {
     if is_open {
-        Sequel::Stay
+        SessionChange::Stay
     } else {
-        Sequel::LogOut
+        SessionChange::LogOut
     }
 }

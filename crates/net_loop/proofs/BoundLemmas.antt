@@ -6,29 +6,29 @@ use Rattle.std.specs.declared.cmp.Ordering.TheVariants.{Equal}
 use Rattle.std.specs.List.{list_any}
 use Rattle.std.specs.Map.{lookup, values_of}
 use Rattle.std.specs.Ordering.{nat_cmp, is_eq}
-use Rattle.wires.specs.declared.act.Act.{Act}
-use Rattle.wires.specs.declared.act.Act.TheVariants.{Woke, Timed, Late, Began, Roused, Worked, Came, NoneCame, Crowded, Displaced, Listened, InUse, Heard, ReadBlocked, Over, Sent, WriteBlocked, Lost, Noted, Waits, Full, Again, Shut, Dropped, Ended}
-use Rattle.wires.specs.declared.service.Client.{Client}
-use Rattle.wires.specs.declared.service.Phase.{Phase}
-use Rattle.wires.specs.declared.service.Phase.TheVariants as phase
-use Rattle.wires.specs.declared.service.Service.{Service}
-use Rattle.wires.specs.declared.turn.Turn.{Turn}
-use Rattle.wires.specs.declared.turn.Turn.TheVariants.{Free, Rested, Waked, Sweep, Door, Busy, Stuffed, Leaving}
-use Rattle.wires.specs.Life.{Move, Passes, kind_by, kind_on, Distinct, Bounded}
-use Rattle.wires.specs.Moves.{Moment}
-use Rattle.wires.specs.Rules.{Rules}
-use Rattle.wires.specs.Talk.{same, client_of, kind_of, Comes, Stays, Answers, Sends, Parts, OrNothing, Shuts, Drops, At, Talks}
-use Rattle.wires.specs.Turns.{Turns, open_of, Yields, Admits, Opens, Reads, Fails, Lacks, MayEnd, Rests, Calm, MayWait}
-use Rattle.wires.proofs.LifeLemmas.{cut, talks_of, turns_of}
-use Rattle.wires.proofs.TalkLemmas.{one_number}
+use Rattle.net_loop.specs.declared.act.Act.{Act}
+use Rattle.net_loop.specs.declared.act.Act.TheVariants.{Woke, Timed, Late, Began, Resumed, Worked, Came, NoneCame, Crowded, Displaced, Listened, InUse, Heard, ReadBlocked, Over, Sent, WriteBlocked, Lost, Noted, Waits, Full, Again, Shut, Dropped, Ended}
+use Rattle.net_loop.specs.declared.service.Client.{Client}
+use Rattle.net_loop.specs.declared.service.Phase.{Phase}
+use Rattle.net_loop.specs.declared.service.Phase.TheVariants as phase
+use Rattle.net_loop.specs.declared.service.Service.{Service}
+use Rattle.net_loop.specs.declared.turn.Turn.{Turn}
+use Rattle.net_loop.specs.declared.turn.Turn.TheVariants.{Free, Rested, Waked, Sweep, Accepting, Busy, OutOfMemory, Leaving}
+use Rattle.net_loop.specs.Life.{Move, PassesMoves, kind_by, kind_on, Distinct, Bounded}
+use Rattle.net_loop.specs.Moves.{Moment}
+use Rattle.net_loop.specs.Rules.{Rules}
+use Rattle.net_loop.specs.Talk.{is_same_id, client_of, client_kind, Comes, ClientStays, ClientAnswers, ClientSends, ClientParts, OrNothing, Shuts, DropsOctets, At, ClientTalks}
+use Rattle.net_loop.specs.Turns.{TurnAllows, open_count, Yields, MayAccept, ServiceOpens, ReadEnds, Fails, Lacks, MayEnd, RestsOrCalm, Calm, MayWait}
+use Rattle.net_loop.proofs.LifeLemmas.{cut, talks_of, turns_of}
+use Rattle.net_loop.proofs.TalkLemmas.{one_number}
 
 -- ---- numbers that differ
 
-same-self : (n : ℕ) → same n n ≡ true
+same-self : (n : ℕ) → is_same_id n n ≡ true
 same-self n = ap is_eq (sym (nat_cmp_is n n Equal refl))
 
-same-flips : (a b : ℕ) → same a b ≡ true → same b a ≡ true
-same-flips a b is = subst (λ n. same n a ≡ true) (one_number a b is) (same-self a)
+same-flips : (a b : ℕ) → is_same_id a b ≡ true → is_same_id b a ≡ true
+same-flips a b is = subst (λ n. is_same_id n a ≡ true) (one_number a b is) (same-self a)
 
 is_itself : (a b : ℕ) → a ≡ b → (a == b) ≡ true
 is_itself a b is = subst (λ n. (a == n) ≡ true) is (sym (unsigned_tied a a) ∙ same-self a)
@@ -39,7 +39,7 @@ weaker P Q (id ∷ ids) more d = (more id d.0, d.1, weaker P Q ids more d.2)
 
 abbrev without : ℕ → List ℕ → List ℕ
 without k [] = []
-without k (id ∷ ids) = cond (same id k) (without k ids) (id ∷ without k ids)
+without k (id ∷ ids) = cond (is_same_id id k) (without k ids) (id ∷ without k ids)
 
 or_left : (a b : Bool) → (a || b) ≡ false → a ≡ false
 or_left true b is = is
@@ -53,25 +53,25 @@ or_both : (a b : Bool) → a ≡ false → b ≡ false → (a || b) ≡ false
 or_both true b is it = let never : ⊥ = cc in absurd never
 or_both false b is it = it
 
-still_none : (k id : ℕ) (ids : List ℕ) → list_any (λ other. same other id) ids ≡ false → list_any (λ other. same other id) (without k ids) ≡ false
+still_none : (k id : ℕ) (ids : List ℕ) → list_any (λ other. is_same_id other id) ids ≡ false → list_any (λ other. is_same_id other id) (without k ids) ≡ false
 still_none k id [] none = refl
-still_none k id (x ∷ ids) none = go (same x k) (still_none k id ids (or_right (same x id) (list_any (λ other. same other id) ids) none))
+still_none k id (x ∷ ids) none = go (is_same_id x k) (still_none k id ids (or_right (is_same_id x id) (list_any (λ other. is_same_id other id) ids) none))
   where
-    go : (b : Bool) → list_any (λ other. same other id) (without k ids) ≡ false → list_any (λ other. same other id) (cond b (without k ids) (x ∷ without k ids)) ≡ false
+    go : (b : Bool) → list_any (λ other. is_same_id other id) (without k ids) ≡ false → list_any (λ other. is_same_id other id) (cond b (without k ids) (x ∷ without k ids)) ≡ false
     go true rest = rest
-    go false rest = or_both (same x id) (list_any (λ other. same other id) (without k ids)) (or_left (same x id) (list_any (λ other. same other id) ids) none) rest
+    go false rest = or_both (is_same_id x id) (list_any (λ other. is_same_id other id) (without k ids)) (or_left (is_same_id x id) (list_any (λ other. is_same_id other id) ids) none) rest
 
-others_differ : (P : ℕ → Type 0) (k : ℕ) (ids : List ℕ) → Distinct P ids → Distinct (λ id. P id × (same id k ≡ false)) (without k ids)
+others_differ : (P : ℕ → Type 0) (k : ℕ) (ids : List ℕ) → Distinct P ids → Distinct (λ id. P id × (is_same_id id k ≡ false)) (without k ids)
 others_differ P k [] d = tt
-others_differ P k (x ∷ ids) d = go (same x k) refl (others_differ P k ids d.2)
+others_differ P k (x ∷ ids) d = go (is_same_id x k) refl (others_differ P k ids d.2)
   where
-    go : (b : Bool) → same x k ≡ b → Distinct (λ id. P id × (same id k ≡ false)) (without k ids) → Distinct (λ id. P id × (same id k ≡ false)) (cond b (without k ids) (x ∷ without k ids))
+    go : (b : Bool) → is_same_id x k ≡ b → Distinct (λ id. P id × (is_same_id id k ≡ false)) (without k ids) → Distinct (λ id. P id × (is_same_id id k ≡ false)) (cond b (without k ids) (x ∷ without k ids))
     go true is rest = rest
     go false is rest = ((d.0, is), still_none k x ids d.1, rest)
 
-none_taken_out : (k : ℕ) (ids : List ℕ) → list_any (λ other. same other k) ids ≡ false → length (without k ids) ≡ length ids
+none_taken_out : (k : ℕ) (ids : List ℕ) → list_any (λ other. is_same_id other k) ids ≡ false → length (without k ids) ≡ length ids
 none_taken_out k [] none = refl
-none_taken_out k (x ∷ ids) none = go (same x k) (or_left (same x k) (list_any (λ other. same other k) ids) none) (none_taken_out k ids (or_right (same x k) (list_any (λ other. same other k) ids) none))
+none_taken_out k (x ∷ ids) none = go (is_same_id x k) (or_left (is_same_id x k) (list_any (λ other. is_same_id other k) ids) none) (none_taken_out k ids (or_right (is_same_id x k) (list_any (λ other. is_same_id other k) ids) none))
   where
     go : (b : Bool) → b ≡ false → length (without k ids) ≡ length ids → length (cond b (without k ids) (x ∷ without k ids)) ≡ length (x ∷ ids)
     go true is rest = let never : ⊥ = cc in absurd never
@@ -79,11 +79,11 @@ none_taken_out k (x ∷ ids) none = go (same x k) (or_left (same x k) (list_any 
 
 one_taken_out : (P : ℕ → Type 0) (k : ℕ) (ids : List ℕ) → Distinct P ids → length ids ≤ length (without k ids) + 1
 one_taken_out P k [] d = omega arith
-one_taken_out P k (x ∷ ids) d = go (same x k) refl (one_taken_out P k ids d.2)
+one_taken_out P k (x ∷ ids) d = go (is_same_id x k) refl (one_taken_out P k ids d.2)
   where
-    go : (b : Bool) → same x k ≡ b → length ids ≤ length (without k ids) + 1 → length (x ∷ ids) ≤ length (cond b (without k ids) (x ∷ without k ids)) + 1
+    go : (b : Bool) → is_same_id x k ≡ b → length ids ≤ length (without k ids) + 1 → length (x ∷ ids) ≤ length (cond b (without k ids) (x ∷ without k ids)) + 1
     go true is more =
-        let all : length (without k ids) ≡ length ids = none_taken_out k ids (subst (λ n. list_any (λ other. same other n) ids ≡ false) (one_number x k is) d.1) in
+        let all : length (without k ids) ≡ length ids = none_taken_out k ids (subst (λ n. list_any (λ other. is_same_id other n) ids ≡ false) (one_number x k is) d.1) in
         omega (arith, all)
     go false is more = omega (arith, more)
 
@@ -99,11 +99,11 @@ found es id = lookup (is_at (nat_cmp id)) es
 abbrev count_of : ℕ → List (ℕ × Client) → ℕ
 count_of kind es = length (filter (λ (c : Client). c.kind == kind) (values_of es))
 
-past_first : (kind : ℕ) (e : ℕ × Client) (es : List (ℕ × Client)) (id : ℕ) → same id e.0 ≡ false → is_of kind (found (e ∷ es) id) ≡ true → is_of kind (found es id) ≡ true
+past_first : (kind : ℕ) (e : ℕ × Client) (es : List (ℕ × Client)) (id : ℕ) → is_same_id id e.0 ≡ false → is_of kind (found (e ∷ es) id) ≡ true → is_of kind (found es id) ≡ true
 past_first kind e es id is h = subst (λ b. is_of kind (cond b (Some e.1) (found es id)) ≡ true) is h
 
 past_other : (kind : ℕ) (e : ℕ × Client) (es : List (ℕ × Client)) (id : ℕ) → (e.1.kind == kind) ≡ false → is_of kind (found (e ∷ es) id) ≡ true → is_of kind (found es id) ≡ true
-past_other kind e es id is h = go (same id e.0) h
+past_other kind e es id is h = go (is_same_id id e.0) h
   where
     go : (b : Bool) → is_of kind (cond b (Some e.1) (found es id)) ≡ true → is_of kind (found es id) ≡ true
     go true at = let never : ⊥ = cc in absurd never
@@ -118,7 +118,7 @@ no_more kind (e ∷ es) ids d = go (e.1.kind == kind) refl (λ others differ. no
         → ((others : List ℕ) → Distinct (λ id. is_of kind (found es id) ≡ true) others → length others ≤ count_of kind es)
         → length ids ≤ length (cond b (e.1 ∷ filter (λ (c : Client). c.kind == kind) (values_of es)) (filter (λ (c : Client). c.kind == kind) (values_of es)))
     go true is fewer =
-        let others = weaker (λ id. (is_of kind (found (e ∷ es) id) ≡ true) × (same id e.0 ≡ false)) (λ id. is_of kind (found es id) ≡ true) (without e.0 ids) (λ id h. past_first kind e es id h.1 h.0) (others_differ (λ id. is_of kind (found (e ∷ es) id) ≡ true) e.0 ids d) in
+        let others = weaker (λ id. (is_of kind (found (e ∷ es) id) ≡ true) × (is_same_id id e.0 ≡ false)) (λ id. is_of kind (found es id) ≡ true) (without e.0 ids) (λ id h. past_first kind e es id h.1 h.0) (others_differ (λ id. is_of kind (found (e ∷ es) id) ≡ true) e.0 ids d) in
         let some : length (without e.0 ids) ≤ count_of kind es = fewer (without e.0 ids) others in
         let one : length ids ≤ length (without e.0 ids) + 1 = one_taken_out (λ id. is_of kind (found (e ∷ es) id) ≡ true) e.0 ids d in
         omega (arith, some, one)
@@ -127,7 +127,7 @@ no_more kind (e ∷ es) ids d = go (e.1.kind == kind) refl (λ others differ. no
 -- ---- one that came and for which memory was lacking
 
 abbrev pub stuck : Turn → Option ℕ
-stuck (Stuffed id kind) = Some id
+stuck (OutOfMemory id kind) = Some id
 stuck (Leaving id kind) = Some id
 stuck _ = None
 
@@ -147,7 +147,7 @@ calm : {M N R : Type 0} (rules : Rules M N R) (m : M) (s : Service) (id : ℕ) �
 calm rules m s id (inl is) h = not_stuck id s.turn Free is refl h
 calm rules m s id (inr w) h = not_stuck id s.turn Sweep w.0 refl h
 
-rests : {M N R : Type 0} (rules : Rules M N R) (m : M) (s : Service) (id : ℕ) → Rests rules m s → stuck s.turn ≡ Some id → ⊥
+rests : {M N R : Type 0} (rules : Rules M N R) (m : M) (s : Service) (id : ℕ) → RestsOrCalm rules m s → stuck s.turn ≡ Some id → ⊥
 rests rules m s id (inl w) h = calm rules m s id w h
 rests rules m s id (inr is) h = not_stuck id s.turn Rested is refl h
 
@@ -155,7 +155,7 @@ waits : {M N R : Type 0} (rules : Rules M N R) (m : M) (s : Service) (id : ℕ) 
 waits rules m s id (inl is) h = not_stuck id s.turn Rested is refl h
 waits rules m s id (inr w) h = calm rules m s id w.0 h
 
-reads : {M N R : Type 0} (rules : Rules M N R) (m : M) (s : Service) (id n : ℕ) (to turn : Turn) → Reads rules m s n to turn → stuck s.turn ≡ Some id → ⊥
+reads : {M N R : Type 0} (rules : Rules M N R) (m : M) (s : Service) (id n : ℕ) (to turn : Turn) → ReadEnds rules m s n to turn → stuck s.turn ≡ Some id → ⊥
 reads rules m s id n to turn (inl w) h = not_stuck id s.turn (Busy n w.0) w.1.busy refl h
 reads rules m s id n to turn (inr w) h = not_stuck id s.turn (Busy n w.0) w.1.busy refl h
 
@@ -164,7 +164,7 @@ fails rules m s id n to turn (inl w) h = not_stuck id s.turn (Busy n w.0) w.1.bu
 fails rules m s id n to turn (inr w) h = reads rules m s id n to turn w h
 
 full : {M N R : Type 0} (rules : Rules M N R) (m k : M) (s u : Service) (id n : ℕ) → Lacks rules m s n k u → stuck s.turn ≡ Some id → stuck u.turn ≡ Some id
-full rules m k s u id n (inl l) h = subst (λ t. stuck t ≡ Some id) (sym l.3) (ap (λ i. Some i) (one_of id n s.turn (Stuffed n l.0) l.1 refl h))
+full rules m k s u id n (inl l) h = subst (λ t. stuck t ≡ Some id) (sym l.3) (ap (λ i. Some i) (one_of id n s.turn (OutOfMemory n l.0) l.1 refl h))
 full rules m k s u id n (inr (inl l)) h = absurd (not_stuck id s.turn (Busy n l.1.0) l.1.1.busy refl h)
 full rules m k s u id n (inr (inr l)) h = absurd (not_stuck id s.turn (Busy n l.1.0) l.1.1.busy refl h)
 
@@ -176,27 +176,27 @@ yields : {M N R : Type 0} (rules : Rules M N R) (m : M) (s : Service) (id n : �
 yields rules m s id n (inl w) h = not_stuck id s.turn (Busy n w.0) w.1 refl h
 yields rules m s id n (inr w) h = not_stuck id s.turn (Busy n w.0) w.1.busy refl h
 
-over : {M N R : Type 0} (rules : Rules M N R) (m k : M) (r q : R) (s u : Service) (id : ℕ) (act : Act N) (said : List ℕ) → Turns rules m r s act said k q u → stuck s.turn ≡ Some id → IsOver id act u.turn
+over : {M N R : Type 0} (rules : Rules M N R) (m k : M) (r q : R) (s u : Service) (id : ℕ) (act : Act N) (said : List ℕ) → TurnAllows rules m r s act said k q u → stuck s.turn ≡ Some id → IsOver id act u.turn
 over rules m k r q s u id (Full n) said t h = full rules m k s u id n t.1 h
 over rules m k r q s u id (Ended n) said t h = ended rules m s id n t.2.0 t.2.1 h
 over rules m k r q s u id (Woke within wakes) said t h = waits rules m s id t.1 h
 over rules m k r q s u id (Timed moment) said t h = not_stuck id s.turn Waked t.1 refl h
 over rules m k r q s u id (Late n) said t h = not_stuck id s.turn Sweep t.0 refl h
 over rules m k r q s u id (Began wake) said t h = rests rules m s id t.1 h
-over rules m k r q s u id (Roused n) said t h = rests rules m s id t.1 h
+over rules m k r q s u id (Resumed n) said t h = rests rules m s id t.1 h
 over rules m k r q s u id (Worked note) said t h = calm rules m s id t.2.calm h
-over rules m k r q s u id (Came n door) said t h = not_stuck id s.turn (Door door t.0.knocked) t.0.door refl h
-over rules m k r q s u id (NoneCame door) said t h = not_stuck id s.turn (Door door t.1.knocked) t.1.door refl h
-over rules m k r q s u id (Crowded door) said t h = not_stuck id s.turn (Door door t.1.knocked) t.1.none.door refl h
-over rules m k r q s u id (Displaced n) said t h = not_stuck id s.turn (Door t.0.0 true) t.0.1.door refl h
-over rules m k r q s u id (Listened door) said t h = not_stuck id s.turn (Door door false) t.1.door refl h
-over rules m k r q s u id (InUse n) said t h = not_stuck id s.turn (Door t.1.kind t.1.knocked) t.1.door refl h
+over rules m k r q s u id (Came n door) said t h = not_stuck id s.turn (Accepting door t.0.knocked) t.0.door refl h
+over rules m k r q s u id (NoneCame door) said t h = not_stuck id s.turn (Accepting door t.1.knocked) t.1.door refl h
+over rules m k r q s u id (Crowded door) said t h = not_stuck id s.turn (Accepting door t.1.knocked) t.1.none.door refl h
+over rules m k r q s u id (Displaced n) said t h = not_stuck id s.turn (Accepting t.0.0 true) t.0.1.door refl h
+over rules m k r q s u id (Listened door) said t h = not_stuck id s.turn (Accepting door false) t.1.door refl h
+over rules m k r q s u id (InUse n) said t h = not_stuck id s.turn (Accepting t.1.kind t.1.knocked) t.1.door refl h
 over rules m k r q s u id (Heard n piece) said t h = not_stuck id s.turn (Busy n t.count) t.wanted.busy refl h
 over rules m k r q s u id (ReadBlocked n) said t h = reads rules m s id n Free u.turn t.1 h
-over rules m k r q s u id (Over n) said t h = reads rules m s id n (Leaving n (kind_of (client_of s n))) u.turn t.1 h
+over rules m k r q s u id (Over n) said t h = reads rules m s id n (Leaving n (client_kind (client_of s n))) u.turn t.1 h
 over rules m k r q s u id (Sent n octets) said t h = not_stuck id s.turn (Busy n t.1.0) t.1.1.busy refl h
 over rules m k r q s u id (WriteBlocked n) said t h = not_stuck id s.turn (Busy n t.1.0) t.1.1.busy refl h
-over rules m k r q s u id (Lost n) said t h = fails rules m s id n (Leaving n (kind_of (client_of s n))) u.turn t.1 h
+over rules m k r q s u id (Lost n) said t h = fails rules m s id n (Leaving n (client_kind (client_of s n))) u.turn t.1 h
 over rules m k r q s u id (Noted n note) said t h = not_stuck id s.turn (Busy n t.1.count) t.1.wanted.busy refl h
 over rules m k r q s u id (Waits n) said t h = not_stuck id s.turn (Busy n t.1.0) t.1.1.busy refl h
 over rules m k r q s u id (Again n) said t h = yields rules m s id n t.1 h
@@ -208,25 +208,25 @@ over rules m k r q s u id (Dropped n count) said t h = not_stuck id s.turn (Busy
 abbrev IsKept : ℕ → ℕ → Option Client → Turn → Type 0
 IsKept id kind o turn = (is_of kind o ≡ true) ⊎ (stuck turn ≡ Some id)
 
-stays_keeps : (kind : ℕ) (before after : Client) (o p : Option Client) → o ≡ Some before → p ≡ Some after → Stays before after → is_of kind o ≡ true → is_of kind p ≡ true
+stays_keeps : (kind : ℕ) (before after : Client) (o p : Option Client) → o ≡ Some before → p ≡ Some after → ClientStays before after → is_of kind o ≡ true → is_of kind p ≡ true
 stays_keeps kind before after o p was is stays of =
     let first : is_of kind (Some before) ≡ true = subst (λ w. is_of kind w ≡ true) was of in
     let then : is_of kind (Some after) ≡ true = subst (λ k. (k == kind) ≡ true) (sym stays.kind) first in
     subst (λ w. is_of kind w ≡ true) (sym is) then
 
-answers_keeps : (now kind : ℕ) (said : List ℕ) (o p : Option Client) → Answers now said o p → is_of kind o ≡ true → is_of kind p ≡ true
+answers_keeps : (now kind : ℕ) (said : List ℕ) (o p : Option Client) → ClientAnswers now said o p → is_of kind o ≡ true → is_of kind p ≡ true
 answers_keeps now kind said o p a is = stays_keeps kind a.before a.after o p a.was a.is a.gathers.stays is
 
-parts_keeps : (at : Phase) (now kind : ℕ) (said : List ℕ) (o p : Option Client) → Parts at now said o p → is_of kind o ≡ true → is_of kind p ≡ true
+parts_keeps : (at : Phase) (now kind : ℕ) (said : List ℕ) (o p : Option Client) → ClientParts at now said o p → is_of kind o ≡ true → is_of kind p ≡ true
 parts_keeps at now kind said o p a is = subst (λ w. is_of kind w ≡ true) (sym a.after) (subst (λ w. is_of kind w ≡ true) a.was is)
 
-sends_keeps : (now kind : ℕ) (octets : List ℕ) (o p : Option Client) → Sends now octets o p → is_of kind o ≡ true → is_of kind p ≡ true
+sends_keeps : (now kind : ℕ) (octets : List ℕ) (o p : Option Client) → ClientSends now octets o p → is_of kind o ≡ true → is_of kind p ≡ true
 sends_keeps now kind octets o p a is = stays_keeps kind a.before a.after o p a.was a.is a.taken.stays is
 
 shuts_keeps : (now kind : ℕ) (o p : Option Client) → Shuts now o p → is_of kind o ≡ true → is_of kind p ≡ true
 shuts_keeps now kind o p a is = subst (λ w. is_of kind w ≡ true) (sym a.after) (subst (λ w. is_of kind w ≡ true) a.was is)
 
-drops_keeps : (count kind : ℕ) (o p : Option Client) → Drops count o p → is_of kind o ≡ true → is_of kind p ≡ true
+drops_keeps : (count kind : ℕ) (o p : Option Client) → DropsOctets count o p → is_of kind o ≡ true → is_of kind p ≡ true
 drops_keeps count kind o p a is = subst (λ w. is_of kind w ≡ true) (sym a.after) (subst (λ w. is_of kind w ≡ true) a.was is)
 
 same_keeps : (kind : ℕ) (o p : Option Client) → p ≡ o → is_of kind o ≡ true → is_of kind p ≡ true
@@ -247,56 +247,56 @@ keeps_or id kind o p from to right still (inr is) = inr (still is)
 some_is : (a b : ℕ) → Some a ≡ Some b → a ≡ b
 some_is a b is = cc
 
-opened : {M N R : Type 0} (rules : Rules M N R) (m k : M) (now n id door kind : ℕ) (said : List ℕ) (u : Service) → Opens rules m now n door said k u → n ≡ id → door ≡ kind → IsKept id kind (client_of u id) u.turn
+opened : {M N R : Type 0} (rules : Rules M N R) (m k : M) (now n id door kind : ℕ) (said : List ℕ) (u : Service) → ServiceOpens rules m now n door said k u → n ≡ id → door ≡ kind → IsKept id kind (client_of u id) u.turn
 opened rules m k now n id door kind said u (inl h) is of =
     inl (subst (λ i. is_of kind (client_of u i) ≡ true) is (subst (λ w. is_of kind w ≡ true) (sym h.1) (is_itself door kind of)))
 opened rules m k now n id door kind said u (inr h) is of = inr (subst (λ t. stuck t ≡ Some id) (sym h.1) (ap (λ i. Some i) is))
 
-kept_act : {M N R : Type 0} (rules : Rules M N R) (m k : M) (r q : R) (s u : Service) (id kind : ℕ) (o : Option ℕ) (act : Act N) (said : List ℕ) → Turns rules m r s act said k q u
-    → Talks s.moment id (client_of s id) act said (client_of u id) → (o ≡ Some kind → IsKept id kind (client_of s id) s.turn) → kind_by id o act ≡ Some kind → IsKept id kind (client_of u id) u.turn
-kept_act rules m k r q s u id kind o (Came n door) said t talks kept is = go (same n id) refl talks is
+kept_act : {M N R : Type 0} (rules : Rules M N R) (m k : M) (r q : R) (s u : Service) (id kind : ℕ) (o : Option ℕ) (act : Act N) (said : List ℕ) → TurnAllows rules m r s act said k q u
+    → ClientTalks s.moment id (client_of s id) act said (client_of u id) → (o ≡ Some kind → IsKept id kind (client_of s id) s.turn) → kind_by id o act ≡ Some kind → IsKept id kind (client_of u id) u.turn
+kept_act rules m k r q s u id kind o (Came n door) said t talks kept is = go (is_same_id n id) refl talks is
   where
-    go : (b : Bool) → same n id ≡ b → At b (Comes s.moment n door said (client_of s id) (client_of u id)) (client_of u id ≡ client_of s id) → cond b (Some door) o ≡ Some kind → IsKept id kind (client_of u id) u.turn
+    go : (b : Bool) → is_same_id n id ≡ b → At b (Comes s.moment n door said (client_of s id) (client_of u id)) (client_of u id ≡ client_of s id) → cond b (Some door) o ≡ Some kind → IsKept id kind (client_of u id) u.turn
     go true at comes of = opened rules m k s.moment n id door kind said u t.3 (one_number n id at) (some_is door kind of)
     go false at stays of = keeps_or id kind (client_of s id) (client_of u id) s.turn u.turn (same_keeps kind (client_of s id) (client_of u id) stays) (λ h. absurd (over rules m k r q s u id (Came n door) said t h)) (kept of)
-kept_act rules m k r q s u id kind o (Ended n) said t talks kept is = go (same n id) refl talks is
+kept_act rules m k r q s u id kind o (Ended n) said t talks kept is = go (is_same_id n id) refl talks is
   where
-    go : (b : Bool) → same n id ≡ b → At b (client_of u id ≡ None) (client_of u id ≡ client_of s id) → cond b None o ≡ Some kind → IsKept id kind (client_of u id) u.turn
+    go : (b : Bool) → is_same_id n id ≡ b → At b (client_of u id ≡ None) (client_of u id ≡ client_of s id) → cond b None o ≡ Some kind → IsKept id kind (client_of u id) u.turn
     go true at gone of = let never : ⊥ = cc in absurd never
     go false at stays of = keeps_or id kind (client_of s id) (client_of u id) s.turn u.turn (same_keeps kind (client_of s id) (client_of u id) stays)
-        (λ h. let is_one : same n id ≡ true = subst (λ i. same i id ≡ true) (sym (over rules m k r q s u id (Ended n) said t h)) (same-self id) in let never : ⊥ = cc in absurd never) (kept of)
+        (λ h. let is_one : is_same_id n id ≡ true = subst (λ i. is_same_id i id ≡ true) (sym (over rules m k r q s u id (Ended n) said t h)) (same-self id) in let never : ⊥ = cc in absurd never) (kept of)
 kept_act rules m k r q s u id kind o (Full n) said t talks kept is =
     keeps_or id kind (client_of s id) (client_of u id) s.turn u.turn (same_keeps kind (client_of s id) (client_of u id) talks) (λ h. over rules m k r q s u id (Full n) said t h) (kept is)
 kept_act rules m k r q s u id kind o (Heard n piece) said t talks kept is =
     keeps_or id kind (client_of s id) (client_of u id) s.turn u.turn
-    (at_keeps (same n id) (OrNothing (Answers s.moment said (client_of s id) (client_of u id)) said (client_of s id) (client_of u id)) kind (client_of s id) (client_of u id)
-    (or_nothing (Answers s.moment said (client_of s id) (client_of u id)) said kind (client_of s id) (client_of u id) (answers_keeps s.moment kind said (client_of s id) (client_of u id))) talks)
+    (at_keeps (is_same_id n id) (OrNothing (ClientAnswers s.moment said (client_of s id) (client_of u id)) said (client_of s id) (client_of u id)) kind (client_of s id) (client_of u id)
+    (or_nothing (ClientAnswers s.moment said (client_of s id) (client_of u id)) said kind (client_of s id) (client_of u id) (answers_keeps s.moment kind said (client_of s id) (client_of u id))) talks)
     (λ h. absurd (over rules m k r q s u id (Heard n piece) said t h)) (kept is)
 kept_act rules m k r q s u id kind o (Noted n note) said t talks kept is =
     keeps_or id kind (client_of s id) (client_of u id) s.turn u.turn
-    (at_keeps (same n id) (Answers s.moment said (client_of s id) (client_of u id)) kind (client_of s id) (client_of u id) (answers_keeps s.moment kind said (client_of s id) (client_of u id)) talks)
+    (at_keeps (is_same_id n id) (ClientAnswers s.moment said (client_of s id) (client_of u id)) kind (client_of s id) (client_of u id) (answers_keeps s.moment kind said (client_of s id) (client_of u id)) talks)
     (λ h. absurd (over rules m k r q s u id (Noted n note) said t h)) (kept is)
 kept_act rules m k r q s u id kind o (Late n) said t talks kept is =
     keeps_or id kind (client_of s id) (client_of u id) s.turn u.turn
-    (at_keeps (same n id) (OrNothing (Parts phase.Closing s.moment said (client_of s id) (client_of u id)) said (client_of s id) (client_of u id)) kind (client_of s id) (client_of u id)
-    (or_nothing (Parts phase.Closing s.moment said (client_of s id) (client_of u id)) said kind (client_of s id) (client_of u id) (parts_keeps phase.Closing s.moment kind said (client_of s id) (client_of u id))) talks)
+    (at_keeps (is_same_id n id) (OrNothing (ClientParts phase.Closing s.moment said (client_of s id) (client_of u id)) said (client_of s id) (client_of u id)) kind (client_of s id) (client_of u id)
+    (or_nothing (ClientParts phase.Closing s.moment said (client_of s id) (client_of u id)) said kind (client_of s id) (client_of u id) (parts_keeps phase.Closing s.moment kind said (client_of s id) (client_of u id))) talks)
     (λ h. absurd (over rules m k r q s u id (Late n) said t h)) (kept is)
 kept_act rules m k r q s u id kind o (Displaced n) said t talks kept is =
     keeps_or id kind (client_of s id) (client_of u id) s.turn u.turn
-    (at_keeps (same n id) (OrNothing (Parts phase.Yielding s.moment said (client_of s id) (client_of u id)) said (client_of s id) (client_of u id)) kind (client_of s id) (client_of u id)
-    (or_nothing (Parts phase.Yielding s.moment said (client_of s id) (client_of u id)) said kind (client_of s id) (client_of u id) (parts_keeps phase.Yielding s.moment kind said (client_of s id) (client_of u id))) talks)
+    (at_keeps (is_same_id n id) (OrNothing (ClientParts phase.Yielding s.moment said (client_of s id) (client_of u id)) said (client_of s id) (client_of u id)) kind (client_of s id) (client_of u id)
+    (or_nothing (ClientParts phase.Yielding s.moment said (client_of s id) (client_of u id)) said kind (client_of s id) (client_of u id) (parts_keeps phase.Yielding s.moment kind said (client_of s id) (client_of u id))) talks)
     (λ h. absurd (over rules m k r q s u id (Displaced n) said t h)) (kept is)
 kept_act rules m k r q s u id kind o (Sent n octets) said t talks kept is =
     keeps_or id kind (client_of s id) (client_of u id) s.turn u.turn
-    (at_keeps (same n id) (Sends s.moment octets (client_of s id) (client_of u id)) kind (client_of s id) (client_of u id) (sends_keeps s.moment kind octets (client_of s id) (client_of u id)) talks)
+    (at_keeps (is_same_id n id) (ClientSends s.moment octets (client_of s id) (client_of u id)) kind (client_of s id) (client_of u id) (sends_keeps s.moment kind octets (client_of s id) (client_of u id)) talks)
     (λ h. absurd (over rules m k r q s u id (Sent n octets) said t h)) (kept is)
 kept_act rules m k r q s u id kind o (Shut n) said t talks kept is =
     keeps_or id kind (client_of s id) (client_of u id) s.turn u.turn
-    (at_keeps (same n id) (Shuts s.moment (client_of s id) (client_of u id)) kind (client_of s id) (client_of u id) (shuts_keeps s.moment kind (client_of s id) (client_of u id)) talks)
+    (at_keeps (is_same_id n id) (Shuts s.moment (client_of s id) (client_of u id)) kind (client_of s id) (client_of u id) (shuts_keeps s.moment kind (client_of s id) (client_of u id)) talks)
     (λ h. absurd (over rules m k r q s u id (Shut n) said t h)) (kept is)
 kept_act rules m k r q s u id kind o (Dropped n count) said t talks kept is =
     keeps_or id kind (client_of s id) (client_of u id) s.turn u.turn
-    (at_keeps (same n id) (Drops count (client_of s id) (client_of u id)) kind (client_of s id) (client_of u id) (drops_keeps count kind (client_of s id) (client_of u id)) talks)
+    (at_keeps (is_same_id n id) (DropsOctets count (client_of s id) (client_of u id)) kind (client_of s id) (client_of u id) (drops_keeps count kind (client_of s id) (client_of u id)) talks)
     (λ h. absurd (over rules m k r q s u id (Dropped n count) said t h)) (kept is)
 kept_act rules m k r q s u id kind o act said t talks kept is =
     keeps_or id kind (client_of s id) (client_of u id) s.turn u.turn (same_keeps kind (client_of s id) (client_of u id) talks) (λ h. absurd (over rules m k r q s u id act said t h)) (kept is)
@@ -307,11 +307,11 @@ record Held {M N R : Type 0} (rules : Rules M N R) (open_kind : ℕ → Option �
   kept : (id kind : ℕ) → open_kind id ≡ Some kind → IsKept id kind (client_of s id) s.turn
   few : (kind : ℕ) (ids : List ℕ) → Distinct (λ id. open_kind id ≡ Some kind) ids → length ids ≤ rules.limit kind
 
-differ-flips : (a b : ℕ) → same a b ≡ false → same b a ≡ false
-differ-flips a b is = go (same b a) refl
+differ-flips : (a b : ℕ) → is_same_id a b ≡ false → is_same_id b a ≡ false
+differ-flips a b is = go (is_same_id b a) refl
   where
-    go : (v : Bool) → same b a ≡ v → v ≡ false
-    go true at = let one : same a b ≡ true = same-flips b a at in let never : ⊥ = cc in absurd never
+    go : (v : Bool) → is_same_id b a ≡ v → v ≡ false
+    go true at = let one : is_same_id a b ≡ true = same-flips b a at in let never : ⊥ = cc in absurd never
     go false at = refl
 
 at_door : (id kind : ℕ) (o : Option Client) (turn to : Turn) → turn ≡ to → stuck to ≡ None → IsKept id kind o turn → is_of kind o ≡ true
@@ -330,30 +330,30 @@ still_open : (b : Bool) (kind : ℕ) (o : Option ℕ) → cond b None o ≡ Some
 still_open true kind o h = let never : ⊥ = cc in absurd never
 still_open false kind o h = h
 
-few_came : {M N R : Type 0} (rules : Rules M N R) (open_kind : ℕ → Option ℕ) (s : Service) (n door kind : ℕ) (ids : List ℕ) → Held rules open_kind s → Admits rules s door
+few_came : {M N R : Type 0} (rules : Rules M N R) (open_kind : ℕ → Option ℕ) (s : Service) (n door kind : ℕ) (ids : List ℕ) → Held rules open_kind s → MayAccept rules s door
     → Distinct (λ id. kind_by {N = N} id (open_kind id) (Came n door) ≡ Some kind) ids → length ids ≤ rules.limit kind
 few_came {N = N} rules open_kind s n door kind ids held admits d = go (door == kind) refl
   where
     go : (b : Bool) → (door == kind) ≡ b → length ids ≤ rules.limit kind
     go true is =
         let others : Distinct (λ id. is_of kind (client_of s id) ≡ true) (without n ids) =
-        weaker (λ id. (kind_by {N = N} id (open_kind id) (Came n door) ≡ Some kind) × (same id n ≡ false)) (λ id. is_of kind (client_of s id) ≡ true) (without n ids)
-        (λ id h. at_door id kind (client_of s id) s.turn (Door door admits.knocked) admits.door refl (held.kept id kind (open_before (same n id) door kind (open_kind id) (differ-flips id n h.1) h.0)))
+        weaker (λ id. (kind_by {N = N} id (open_kind id) (Came n door) ≡ Some kind) × (is_same_id id n ≡ false)) (λ id. is_of kind (client_of s id) ≡ true) (without n ids)
+        (λ id h. at_door id kind (client_of s id) s.turn (Accepting door admits.knocked) admits.door refl (held.kept id kind (open_before (is_same_id n id) door kind (open_kind id) (differ-flips id n h.1) h.0)))
         (others_differ (λ id. kind_by {N = N} id (open_kind id) (Came n door) ≡ Some kind) n ids d) in
-        let some : length (without n ids) ≤ open_of kind s = no_more kind s.clients.entries (without n ids) others in
+        let some : length (without n ids) ≤ open_count kind s = no_more kind s.clients.entries (without n ids) others in
         let one : length ids ≤ length (without n ids) + 1 = one_taken_out (λ id. kind_by {N = N} id (open_kind id) (Came n door) ≡ Some kind) n ids d in
-        let place : open_of kind s < rules.limit kind = subst (λ k. open_of k s < rules.limit k) (one_number door kind (unsigned_tied door kind ∙ is)) admits.place in
+        let place : open_count kind s < rules.limit kind = subst (λ k. open_count k s < rules.limit k) (one_number door kind (unsigned_tied door kind ∙ is)) admits.place in
         omega (arith, some, one, place)
-    go false is = held.few kind ids (weaker (λ id. kind_by {N = N} id (open_kind id) (Came n door) ≡ Some kind) (λ id. open_kind id ≡ Some kind) ids (λ id h. other_kind (same n id) door kind (open_kind id) is h) d)
+    go false is = held.few kind ids (weaker (λ id. kind_by {N = N} id (open_kind id) (Came n door) ≡ Some kind) (λ id. open_kind id ≡ Some kind) ids (λ id h. other_kind (is_same_id n id) door kind (open_kind id) is h) d)
 
-few_act : {M N R : Type 0} (rules : Rules M N R) (m k : M) (r q : R) (s u : Service) (open_kind : ℕ → Option ℕ) (act : Act N) (said : List ℕ) (kind : ℕ) (ids : List ℕ) → Held rules open_kind s → Turns rules m r s act said k q u
+few_act : {M N R : Type 0} (rules : Rules M N R) (m k : M) (r q : R) (s u : Service) (open_kind : ℕ → Option ℕ) (act : Act N) (said : List ℕ) (kind : ℕ) (ids : List ℕ) → Held rules open_kind s → TurnAllows rules m r s act said k q u
     → Distinct (λ id. kind_by id (open_kind id) act ≡ Some kind) ids → length ids ≤ rules.limit kind
 few_act rules m k r q s u open_kind (Came n door) said kind ids held t d = few_came rules open_kind s n door kind ids held t.0 d
 few_act {N = N} rules m k r q s u open_kind (Ended n) said kind ids held t d =
-    held.few kind ids (weaker (λ id. kind_by {N = N} id (open_kind id) (Ended n) ≡ Some kind) (λ id. open_kind id ≡ Some kind) ids (λ id h. still_open (same n id) kind (open_kind id) h) d)
+    held.few kind ids (weaker (λ id. kind_by {N = N} id (open_kind id) (Ended n) ≡ Some kind) (λ id. open_kind id ≡ Some kind) ids (λ id h. still_open (is_same_id n id) kind (open_kind id) h) d)
 few_act rules m k r q s u open_kind _ said kind ids held t d = held.few kind ids d
 
-held_on : {M N R : Type 0} (rules : Rules M N R) (m : Moment M N R) (moves : List (Move N)) (n : Moment M N R) (open_kind : ℕ → Option ℕ) → Passes rules m moves n → Held rules open_kind m.service
+held_on : {M N R : Type 0} (rules : Rules M N R) (m : Moment M N R) (moves : List (Move N)) (n : Moment M N R) (open_kind : ℕ → Option ℕ) → PassesMoves rules m moves n → Held rules open_kind m.service
     → Held rules (λ id. kind_on id (open_kind id) moves) n.service
 held_on rules m [] n open_kind passes held = subst (λ (k : Moment _ _ _). Held rules open_kind k.service) (sym passes) held
 held_on rules m (move ∷ moves) n open_kind passes held =

@@ -1,21 +1,21 @@
 -- Right cases of the definitions, and near misses.
 use Rattle.std.proofs.Common.{◌≡◌, ℕ, ◌-◌, ◌^◌, true, false, if◌then◌else◌, List, [], ◌∷◌, Option, Some, None, refl, arith}
-use Rattle.wires.specs.declared.act.Act.TheVariants.{Woke, Began, Timed, Waits, Roused, Came, Sent, Noted, Ended}
-use Rattle.wires.specs.declared.machine.Claim.{Claim}
-use Rattle.wires.specs.declared.machine.Want.TheVariants as want
-use Rattle.wires.specs.declared.outcome.Wake.{Wake}
-use Rattle.wires.specs.declared.outcome.Wake.TheVariants.{Knock, Ready}
-use Rattle.wires.specs.declared.service.Client.{Client}
-use Rattle.wires.specs.declared.service.Service.{Service}
-use Rattle.wires.specs.declared.service.Phase.TheVariants as phase
-use Rattle.wires.specs.declared.turn.Task.TheVariants.{Send, Hear, Step, Rest, HangUp, Drain, End}
-use Rattle.wires.specs.Moves.{Queues, Waiters, Ticks, Marks, Leaves}
-use Rattle.wires.specs.Life.{Move, AreOpen}
-use Rattle.wires.specs.Rules.{Rules}
-use Rattle.wires.specs.Talk.{shut_from, Sends, Talks, is_late, newcomer, gathers, task, task_by}
-use Rattle.wires.proofs.TalkLemmas.{hear_quiet}
-use Rattle.wires.specs.Room.{goes_before, best_from, number_of, may_go}
-use Rattle.wires.specs.Turns.{numbers_between, came_among}
+use Rattle.net_loop.specs.declared.act.Act.TheVariants.{Woke, Began, Timed, Waits, Resumed, Came, Sent, Noted, Ended}
+use Rattle.net_loop.specs.declared.machine.Claim.{Claim}
+use Rattle.net_loop.specs.declared.machine.Want.TheVariants as want
+use Rattle.net_loop.specs.declared.outcome.Wake.{Wake}
+use Rattle.net_loop.specs.declared.outcome.Wake.TheVariants.{Knock, Ready}
+use Rattle.net_loop.specs.declared.service.Client.{Client}
+use Rattle.net_loop.specs.declared.service.Service.{Service}
+use Rattle.net_loop.specs.declared.service.Phase.TheVariants as phase
+use Rattle.net_loop.specs.declared.turn.Task.TheVariants.{Send, Hear, Step, Rest, HangUp, Drain, End}
+use Rattle.net_loop.specs.Moves.{ReadyAfter, WaitingAfter, MomentAfter, SinceAfter, LeavesRest}
+use Rattle.net_loop.specs.Life.{Move, AreOpen}
+use Rattle.net_loop.specs.Rules.{Rules}
+use Rattle.net_loop.specs.Talk.{shut_from, ClientSends, ClientTalks, is_late_at, newcomer, gathers, task, task_by}
+use Rattle.net_loop.proofs.TalkLemmas.{hear_quiet}
+use Rattle.net_loop.specs.Room.{goes_before, best_from, best_number, may_go}
+use Rattle.net_loop.specs.Turns.{numbers_between, came_among}
 
 -- ---- what is to be done
 
@@ -80,14 +80,14 @@ hears_nothing_yet rules m is = something 65 [] (hear_quiet rules m 0 0 1 (Some (
 
 -- ---- who is late
 
-late_at_its_moment : is_late 5 5 (newcomer 0 1 7 []) ≡ true
+late_at_its_moment : is_late_at 5 5 (newcomer 0 1 7 []) ≡ true
 late_at_its_moment = refl
 
-not_a_moment_before : is_late 4 5 (newcomer 0 1 7 []) ≡ false
+not_a_moment_before : is_late_at 4 5 (newcomer 0 1 7 []) ≡ false
 not_a_moment_before = refl
 
 -- where something is to be sent, another moment counts
-not_while_it_is_sent : is_late 5 5 (newcomer 0 1 7 (65 ∷ [])) ≡ false
+not_while_it_is_sent : is_late_at 5 5 (newcomer 0 1 7 (65 ∷ [])) ≡ false
 not_while_it_is_sent = refl
 
 -- ---- what is ready, who waits, the moment
@@ -95,26 +95,26 @@ not_while_it_is_sent = refl
 abbrev two_told : List Wake
 two_told = Knock 7 ∷ Ready 1 ∷ []
 
-the_first_is_taken_up : (N : Type 0) → Queues {N = N} two_told (Began (Knock 7)) (Ready 1 ∷ [])
+the_first_is_taken_up : (N : Type 0) → ReadyAfter {N = N} two_told (Began (Knock 7)) (Ready 1 ∷ [])
 the_first_is_taken_up N = refl
 
 -- near misses: out of order; the other one forgotten
-not_the_second : (N : Type 0) (later : List Wake) → Queues {N = N} two_told (Began (Ready 1)) later → ⊥
+not_the_second : (N : Type 0) (later : List Wake) → ReadyAfter {N = N} two_told (Began (Ready 1)) later → ⊥
 not_the_second N later is = cc
 
-not_forgotten : (N : Type 0) → Queues {N = N} two_told (Began (Knock 7)) [] → ⊥
+not_forgotten : (N : Type 0) → ReadyAfter {N = N} two_told (Began (Knock 7)) [] → ⊥
 not_forgotten N is = cc
 
-waits_once : (N : Type 0) → Waiters {N = N} (3 ∷ 4 ∷ []) (Waits 3) (3 ∷ 4 ∷ [])
+waits_once : (N : Type 0) → WaitingAfter {N = N} (3 ∷ 4 ∷ []) (Waits 3) (3 ∷ 4 ∷ [])
 waits_once N = refl
 
-waits_last : (N : Type 0) → Waiters {N = N} (3 ∷ []) (Waits 4) (3 ∷ 4 ∷ [])
+waits_last : (N : Type 0) → WaitingAfter {N = N} (3 ∷ []) (Waits 4) (3 ∷ 4 ∷ [])
 waits_last N = refl
 
-waits_no_more : (N : Type 0) → Waiters {N = N} (3 ∷ 4 ∷ []) (Roused 3) (4 ∷ [])
+waits_no_more : (N : Type 0) → WaitingAfter {N = N} (3 ∷ 4 ∷ []) (Resumed 3) (4 ∷ [])
 waits_no_more N = refl
 
-never_goes_back : (N : Type 0) → Ticks {N = N} 9 (Timed 8) 9
+never_goes_back : (N : Type 0) → MomentAfter {N = N} 9 (Timed 8) 9
 never_goes_back N = refl
 
 -- ---- what came since the last wait
@@ -122,11 +122,11 @@ never_goes_back N = refl
 numbers_go_round : numbers_between (2 ^ 32 - 1) 1 ≡ 2
 numbers_go_round = refl
 
-the_next_is_kept : (N : Type 0) (s : Service) → Marks {N = N} s (Woke 5 two_told) s.next
+the_next_is_kept : (N : Type 0) (s : Service) → SinceAfter {N = N} s (Woke 5 two_told) s.next
 the_next_is_kept N s = refl
 
 -- a near miss: one that comes changes it
-not_by_one_that_comes : (N : Type 0) (s : Service) → s.since ≡ 1 → Marks {N = N} s (Came 1 7) 2 → ⊥
+not_by_one_that_comes : (N : Type 0) (s : Service) → s.since ≡ 1 → SinceAfter {N = N} s (Came 1 7) 2 → ⊥
 not_by_one_that_comes N s was is = omega (arith, was, is)
 
 one_that_came : came_among 7 5 6 (newcomer 0 5 7 [] ∷ []) ≡ true
@@ -141,14 +141,14 @@ not_one_that_came_elsewhere = refl
 
 -- ---- what is neither sockets nor clock
 
-a_step_may_change_it : (N : Type 0) (note : N) → Leaves {R = ℕ} 7 (Noted 1 note) 8
+a_step_may_change_it : (N : Type 0) (note : N) → LeavesRest {R = ℕ} 7 (Noted 1 note) 8
 a_step_may_change_it N note = tt
 
 -- near misses: a send, or an end, changes it
-not_by_a_send : (N : Type 0) → Leaves {N = N} {R = ℕ} 7 (Sent 1 (65 ∷ [])) 8 → ⊥
+not_by_a_send : (N : Type 0) → LeavesRest {N = N} {R = ℕ} 7 (Sent 1 (65 ∷ [])) 8 → ⊥
 not_by_a_send N is = cc
 
-not_by_an_end : (N : Type 0) → Leaves {N = N} {R = ℕ} 7 (Ended 1) 8 → ⊥
+not_by_an_end : (N : Type 0) → LeavesRest {N = N} {R = ℕ} 7 (Ended 1) 8 → ⊥
 not_by_an_end N is = cc
 
 -- ---- who makes room
@@ -191,10 +191,10 @@ not_yet_deaf = refl
 abbrev all_alike : Client → Option Claim
 all_alike c = if may_go 0 7 c then Some (record { rank = 0; moment = 5 }) else None
 
-first_of_two : number_of (best_from all_alike None ((1, newcomer 0 1 7 []) ∷ (2, newcomer 0 2 7 []) ∷ [])) ≡ Some 1
+first_of_two : best_number (best_from all_alike None ((1, newcomer 0 1 7 []) ∷ (2, newcomer 0 2 7 []) ∷ [])) ≡ Some 1
 first_of_two = refl
 
-passed_over : number_of (best_from all_alike None ((1, record (newcomer 0 1 7 []) { phase = phase.Closing }) ∷ (2, newcomer 0 2 7 []) ∷ [])) ≡ Some 2
+passed_over : best_number (best_from all_alike None ((1, record (newcomer 0 1 7 []) { phase = phase.Closing }) ∷ (2, newcomer 0 2 7 []) ∷ [])) ≡ Some 2
 passed_over = refl
 
 -- ---- how many are open
@@ -221,8 +221,8 @@ not_another_kind told = let is = told.0 in cc
 -- ---- one connection
 
 -- near misses: nothing is sent; an end of another ends it
-sends_something : (o p : Option Client) → Sends 0 [] o p → ⊥
+sends_something : (o p : Option Client) → ClientSends 0 [] o p → ⊥
 sends_something o p h = omega (arith, h.some)
 
-ends_alone : (N : Type 0) → Talks {N = N} 0 1 (Some (newcomer 0 1 7 [])) (Ended 2) [] None → ⊥
+ends_alone : (N : Type 0) → ClientTalks {N = N} 0 1 (Some (newcomer 0 1 7 [])) (Ended 2) [] None → ⊥
 ends_alone N is = cc

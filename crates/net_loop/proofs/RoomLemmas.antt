@@ -3,11 +3,11 @@ use Rattle.std.proofs.Common.{◌≡◌, ◌⊎◌, ℕ, ◌≤◌, ◌<◌, nat
 use Rattle.std.specs.List.{All, Contains}
 use Rattle.std.proofs.lemmas.Bool.{ltb-false, ltb-true, lt-ltb, le-ltb}
 use Rattle.std.proofs.lemmas.List.Elements.{All-nil, All-cons, All-contains, Contains-append_left, Contains-append_right}
-use Rattle.wires.specs.declared.machine.Claim.{Claim}
-use Rattle.wires.specs.declared.service.Client.{Client}
-use Rattle.wires.specs.declared.service.Service.{Service}
-use Rattle.wires.specs.Room.{goes_before, better, best_from, number_of, may_go, claim_in, makes_room, MakesRoom, NobodyGoes, GoesOut, FirstGoes}
-use Rattle.wires.specs.Rules.{Rules}
+use Rattle.net_loop.specs.declared.machine.Claim.{Claim}
+use Rattle.net_loop.specs.declared.service.Client.{Client}
+use Rattle.net_loop.specs.declared.service.Service.{Service}
+use Rattle.net_loop.specs.Room.{goes_before, better, best_from, best_number, may_go, claim_in, makes_room, MakesRoom, NobodyGoes, RoomChoice, FirstGoes}
+use Rattle.net_loop.specs.Rules.{Rules}
 
 -- ---- the order of claims
 
@@ -190,14 +190,14 @@ module _ {M N R : Type 0} (rules : Rules M N R) (m : M) (s : Service) (kind : �
             first = λ other its among claims. All-contains (NotBefore claims_so it) s.clients.entries other found.least among its claims;
           }
 
-  by_first : (o : Option It) → OutOf claims_so None s.clients.entries o → GoesOut rules m s kind (number_of o)
+  by_first : (o : Option It) → OutOf claims_so None s.clients.entries o → RoomChoice rules m s kind (best_number o)
   by_first None out = λ it among. All-contains (Silent claims_so) s.clients.entries it out.1 among
   by_first (Some it) found = goes_by it found
 
-  goes_out : GoesOut rules m s kind (makes_room rules m s kind)
+  goes_out : RoomChoice rules m s kind (makes_room rules m s kind)
   goes_out = by_first (best_from claims_so None s.clients.entries) (first_is claims_so None s.clients.entries)
 
-  claims_of : (o : Option ℕ) (id : ℕ) → GoesOut rules m s kind o → o ≡ Some id → (its : Claim) × (rules.claim m s.moment id ≡ Some its)
+  claims_of : (o : Option ℕ) (id : ℕ) → RoomChoice rules m s kind o → o ≡ Some id → (its : Claim) × (rules.claim m s.moment id ≡ Some its)
   claims_of None id out is = let never : ◌≡◌ {A = Option ℕ} None (Some id) = is in cc
   claims_of (Some other) id out is = (out.claim, subst (λ n. rules.claim m s.moment n ≡ Some out.claim) (in_some other id is) out.claims)
 

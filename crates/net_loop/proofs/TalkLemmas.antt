@@ -4,22 +4,22 @@ use Rattle.std.specs.declared.cmp.Ordering.{Ordering}
 use Rattle.std.specs.declared.cmp.Ordering.TheVariants.{Less, Equal, Greater}
 use Rattle.std.specs.Ordering.{nat_cmp, is_eq}
 use Rattle.std.specs.FinMap.{nat_cmp-IsAntisymmetric}
-use Rattle.wires.specs.declared.act.Act.{Act}
-use Rattle.wires.specs.declared.act.Act.TheVariants.{Late, Came, Displaced, Heard, Sent, Noted, Shut, Dropped, Ended}
-use Rattle.wires.specs.declared.machine.Want.{Want}
-use Rattle.wires.specs.declared.machine.Want.TheVariants as want
-use Rattle.wires.specs.declared.service.Client.{Client}
-use Rattle.wires.specs.declared.service.Service.{Service}
-use Rattle.wires.specs.declared.service.Phase.{Phase}
-use Rattle.wires.specs.declared.service.Phase.TheVariants as phase
-use Rattle.wires.specs.declared.turn.Task.{Task}
-use Rattle.wires.specs.declared.turn.Task.TheVariants.{Send, Hear, Step, Rest, HangUp, Drain, End, Nothing}
-use Rattle.wires.specs.Rules.{Rules}
-use Rattle.wires.specs.Talk.{max_parting, after_span, parting_span, shut_from, same, client_of, waits, is_nothing, gathers, takes_more, is_quiet, is_quiet_by, task, task_by, task_sent, task_unsent, newcomer, Comes, Answers, Sends, Parts, OrNothing, Shuts, drained, Drops, At, Talks}
-use Rattle.wires.specs.Turns.{Turns}
-use Rattle.wires.specs.Life.{Told, tell, IsFrontOf, Farewell, concerns}
+use Rattle.net_loop.specs.declared.act.Act.{Act}
+use Rattle.net_loop.specs.declared.act.Act.TheVariants.{Late, Came, Displaced, Heard, Sent, Noted, Shut, Dropped, Ended}
+use Rattle.net_loop.specs.declared.machine.Want.{Want}
+use Rattle.net_loop.specs.declared.machine.Want.TheVariants as want
+use Rattle.net_loop.specs.declared.service.Client.{Client}
+use Rattle.net_loop.specs.declared.service.Service.{Service}
+use Rattle.net_loop.specs.declared.service.Phase.{Phase}
+use Rattle.net_loop.specs.declared.service.Phase.TheVariants as phase
+use Rattle.net_loop.specs.declared.turn.Task.{Task}
+use Rattle.net_loop.specs.declared.turn.Task.TheVariants.{Send, Hear, Step, Rest, HangUp, Drain, End, Nothing}
+use Rattle.net_loop.specs.Rules.{Rules}
+use Rattle.net_loop.specs.Talk.{max_parting, after_span, parting_span, shut_from, is_same_id, client_of, waits, is_nothing, gathers, takes_more, is_quiet, is_quiet_by, task, task_by, task_sent, task_unsent, newcomer, Comes, ClientAnswers, ClientSends, ClientParts, OrNothing, Shuts, drained, DropsOctets, At, ClientTalks}
+use Rattle.net_loop.specs.Turns.{TurnAllows}
+use Rattle.net_loop.specs.Life.{Told, told_by_act, IsPrefixOf, Farewell, concerns}
 
-pub one_number : (n id : ℕ) → same n id ≡ true → n ≡ id
+pub one_number : (n id : ℕ) → is_same_id n id ≡ true → n ≡ id
 one_number n id = go (nat_cmp n id) refl
   where
     go : (o : Ordering) → nat_cmp n id ≡ o → is_eq o ≡ true → n ≡ id
@@ -117,10 +117,10 @@ pub record Fits (t : Told) (c : Client) : Type 0 where
   pub shut : is_shut_by c.phase ≡ true → t.shut ≡ true
 
 abbrev pub Agrees : Told → Option Client → Type 0
-Agrees t None = IsFrontOf t.sent t.said
+Agrees t None = IsPrefixOf t.sent t.said
 Agrees t (Some c) = Fits t c
 
-pub front : (t : Told) (o : Option Client) → Agrees t o → IsFrontOf t.sent t.said
+pub front : (t : Told) (o : Option Client) → Agrees t o → IsPrefixOf t.sent t.said
 front t None agrees = agrees
 front t (Some c) agrees = (waits c, agrees.sent)
 
@@ -134,7 +134,7 @@ comes now id kind said o p h = go h.here
         let fits : Fits (record { said = said; sent = []; shut = false }) (newcomer now id kind said) = record { sent = append-nil said; shut = λ never. cc } in
         subst (λ q. Agrees (record { said = said; sent = []; shut = false }) q) (sym is) fits
     go (inr is) =
-        let none : IsFrontOf {X = ℕ} [] said = (said, refl) in
+        let none : IsPrefixOf {X = ℕ} [] said = (said, refl) in
         subst (λ q. Agrees (record { said = said; sent = []; shut = false }) q) (sym is) none
 
 -- all is sent where nothing waits
@@ -142,7 +142,7 @@ all_sent : (t : Told) (c : Client) → Fits t c → waits c ≡ [] → t.sent �
 all_sent t c fits none = sym (append-nil t.sent) ∙ ap (λ l. t.sent ++ l) (sym none) ∙ fits.sent
 
 -- what is said waits behind what waited
-answers : (t : Told) (now : ℕ) (said : List ℕ) (o p : Option Client) → Agrees t o → Answers now said o p → Agrees (record t { said = t.said ++ said }) p
+answers : (t : Told) (now : ℕ) (said : List ℕ) (o p : Option Client) → Agrees t o → ClientAnswers now said o p → Agrees (record t { said = t.said ++ said }) p
 answers t now said o p agrees h =
     let fits : Fits t h.before = subst (λ q. Agrees t q) h.was agrees in
     let after : Fits (record t { said = t.said ++ said }) h.after = record {
@@ -156,7 +156,7 @@ no_piece unsent [] is = refl
 no_piece [] (y ∷ behind) is = is
 no_piece (x ∷ unsent) (y ∷ behind) is = let never : ⊥ = cc in absurd never
 
-parts : (t : Told) (at : Phase) (now : ℕ) (said : List ℕ) (o p : Option Client) → is_shut_by at ≡ false → Agrees t o → waits_of o ≡ [] → Parts at now said o p → Agrees (record t { said = t.said ++ said }) p
+parts : (t : Told) (at : Phase) (now : ℕ) (said : List ℕ) (o p : Option Client) → is_shut_by at ≡ false → Agrees t o → waits_of o ≡ [] → ClientParts at now said o p → Agrees (record t { said = t.said ++ said }) p
 parts t at now said o p unshut agrees none h =
     let fits : Fits t h.before = subst (λ q. Agrees t q) h.was agrees in
     let empty : waits h.before ≡ [] = subst (λ q. waits_of q ≡ []) h.was none in
@@ -170,11 +170,11 @@ silent t said o p agrees none is =
     let same_said : t.said ≡ t.said ++ said = sym (append-nil t.said) ∙ ap (λ l. t.said ++ l) (sym none) in
     subst (λ l. Agrees (record t { said = l }) p) same_said (subst (λ q. Agrees t q) (sym is) agrees)
 
-hears : (t : Told) (now : ℕ) (said : List ℕ) (o p : Option Client) → Agrees t o → OrNothing (Answers now said o p) said o p → Agrees (record t { said = t.said ++ said }) p
+hears : (t : Told) (now : ℕ) (said : List ℕ) (o p : Option Client) → Agrees t o → OrNothing (ClientAnswers now said o p) said o p → Agrees (record t { said = t.said ++ said }) p
 hears t now said o p agrees (inl h) = answers t now said o p agrees h
 hears t now said o p agrees (inr h) = silent t said o p agrees h.0 h.1
 
-sends : (t : Told) (now : ℕ) (octets : List ℕ) (o p : Option Client) → Agrees t o → Sends now octets o p → Agrees (record t { sent = t.sent ++ octets }) p
+sends : (t : Told) (now : ℕ) (octets : List ℕ) (o p : Option Client) → Agrees t o → ClientSends now octets o p → Agrees (record t { sent = t.sent ++ octets }) p
 sends t now octets o p agrees h =
     let fits : Fits t h.before = subst (λ q. Agrees t q) h.was agrees in
     let after : Fits (record t { sent = t.sent ++ octets }) h.after = record {
@@ -201,7 +201,7 @@ still_shut count phase.Closing = refl
 still_shut count phase.Yielding = refl
 still_shut count (phase.Shut left) = refl
 
-drops : (t : Told) (count : ℕ) (o p : Option Client) → Agrees t o → Drops count o p → Agrees t p
+drops : (t : Told) (count : ℕ) (o p : Option Client) → Agrees t o → DropsOctets count o p → Agrees t p
 drops t count o p agrees h =
     let fits : Fits t h.before = subst (λ q. Agrees t q) h.was agrees in
     let after : Fits t (record h.before { phase = drained count h.before.phase }) = record { sent = fits.sent; shut = λ is. fits.shut (sym (still_shut count h.before.phase) ∙ is) } in
@@ -216,7 +216,7 @@ ends : (b : Bool) (t : Told) (o p : Option Client) → Agrees t o → At b (p �
 ends true t o p agrees is = subst (λ q. Agrees t q) (sym is) (front t o agrees)
 ends false t o p agrees is = stays t o p agrees is
 
-drops_at : (b : Bool) (t : Told) (count : ℕ) (o p : Option Client) → Agrees t o → At b (Drops count o p) (p ≡ o) → Agrees t p
+drops_at : (b : Bool) (t : Told) (count : ℕ) (o p : Option Client) → Agrees t o → At b (DropsOctets count o p) (p ≡ o) → Agrees t p
 drops_at true t count o p agrees h = drops t count o p agrees h
 drops_at false t count o p agrees is = stays t o p agrees is
 
@@ -225,34 +225,34 @@ at_act : (b : Bool) (t u : Told) (o p : Option Client) (Changes : Type 0) → (b
 at_act true t u o p Changes right agrees at = right refl at
 at_act false t u o p Changes right agrees at = subst (λ q. Agrees t q) (sym at) agrees
 
-lates : (t : Told) (at : Phase) (now : ℕ) (said : List ℕ) (o p : Option Client) → is_shut_by at ≡ false → Agrees t o → OrNothing (Parts at now said o p) said o p → Agrees (record t { said = t.said ++ said }) p
+lates : (t : Told) (at : Phase) (now : ℕ) (said : List ℕ) (o p : Option Client) → is_shut_by at ≡ false → Agrees t o → OrNothing (ClientParts at now said o p) said o p → Agrees (record t { said = t.said ++ said }) p
 lates t at now said o p unshut agrees (inl h) = parts t at now said o p unshut agrees (quiet o h.quiet) h
 lates t at now said o p unshut agrees (inr h) = silent t said o p agrees h.0 h.1
 
 pub agrees_act : {M N R : Type 0} (rules : Rules M N R) (m k : M) (r q : R) (s u : Service) (id : ℕ) (t : Told) (act : Act N) (said : List ℕ) → Agrees t (client_of s id)
-    → Talks s.moment id (client_of s id) act said (client_of u id) → Turns rules m r s act said k q u → Agrees (tell id t act said) (client_of u id)
+    → ClientTalks s.moment id (client_of s id) act said (client_of u id) → TurnAllows rules m r s act said k q u → Agrees (told_by_act id t act said) (client_of u id)
 agrees_act rules m k r q s u id t (Came n kind) said agrees talks turns =
-    at_act (same n id) t (record { said = said; sent = []; shut = false }) (client_of s id) (client_of u id) (Comes s.moment n kind said (client_of s id) (client_of u id)) (λ b h. comes s.moment n kind said (client_of s id) (client_of u id) h) agrees talks
+    at_act (is_same_id n id) t (record { said = said; sent = []; shut = false }) (client_of s id) (client_of u id) (Comes s.moment n kind said (client_of s id) (client_of u id)) (λ b h. comes s.moment n kind said (client_of s id) (client_of u id) h) agrees talks
 agrees_act rules m k r q s u id t (Heard n piece) said agrees talks turns =
-    at_act (same n id) t (record t { said = t.said ++ said }) (client_of s id) (client_of u id) (OrNothing (Answers s.moment said (client_of s id) (client_of u id)) said (client_of s id) (client_of u id))
+    at_act (is_same_id n id) t (record t { said = t.said ++ said }) (client_of s id) (client_of u id) (OrNothing (ClientAnswers s.moment said (client_of s id) (client_of u id)) said (client_of s id) (client_of u id))
     (λ b h. hears t s.moment said (client_of s id) (client_of u id) agrees h) agrees talks
 agrees_act rules m k r q s u id t (Noted n note) said agrees talks turns =
-    at_act (same n id) t (record t { said = t.said ++ said }) (client_of s id) (client_of u id) (Answers s.moment said (client_of s id) (client_of u id))
+    at_act (is_same_id n id) t (record t { said = t.said ++ said }) (client_of s id) (client_of u id) (ClientAnswers s.moment said (client_of s id) (client_of u id))
     (λ b h. answers t s.moment said (client_of s id) (client_of u id) agrees h) agrees talks
 agrees_act rules m k r q s u id t (Late n) said agrees talks turns =
-    at_act (same n id) t (record t { said = t.said ++ said }) (client_of s id) (client_of u id) (OrNothing (Parts phase.Closing s.moment said (client_of s id) (client_of u id)) said (client_of s id) (client_of u id))
+    at_act (is_same_id n id) t (record t { said = t.said ++ said }) (client_of s id) (client_of u id) (OrNothing (ClientParts phase.Closing s.moment said (client_of s id) (client_of u id)) said (client_of s id) (client_of u id))
     (λ b h. lates t phase.Closing s.moment said (client_of s id) (client_of u id) refl agrees h) agrees talks
 agrees_act rules m k r q s u id t (Sent n octets) said agrees talks turns =
-    at_act (same n id) t (record t { sent = t.sent ++ octets }) (client_of s id) (client_of u id) (Sends s.moment octets (client_of s id) (client_of u id))
+    at_act (is_same_id n id) t (record t { sent = t.sent ++ octets }) (client_of s id) (client_of u id) (ClientSends s.moment octets (client_of s id) (client_of u id))
     (λ b h. sends t s.moment octets (client_of s id) (client_of u id) agrees h) agrees talks
 agrees_act rules m k r q s u id t (Displaced n) said agrees talks turns =
-    at_act (same n id) t (record t { said = t.said ++ said }) (client_of s id) (client_of u id) (OrNothing (Parts phase.Yielding s.moment said (client_of s id) (client_of u id)) said (client_of s id) (client_of u id))
+    at_act (is_same_id n id) t (record t { said = t.said ++ said }) (client_of s id) (client_of u id) (OrNothing (ClientParts phase.Yielding s.moment said (client_of s id) (client_of u id)) said (client_of s id) (client_of u id))
     (λ b h. lates t phase.Yielding s.moment said (client_of s id) (client_of u id) refl agrees h) agrees talks
 agrees_act rules m k r q s u id t (Shut n) said agrees talks turns =
-    at_act (same n id) t (record t { shut = true }) (client_of s id) (client_of u id) (Shuts s.moment (client_of s id) (client_of u id))
+    at_act (is_same_id n id) t (record t { shut = true }) (client_of s id) (client_of u id) (Shuts s.moment (client_of s id) (client_of u id))
     (λ b h. shuts t s.moment (client_of s id) (client_of u id) agrees h) agrees talks
-agrees_act rules m k r q s u id t (Dropped n count) said agrees talks turns = drops_at (same n id) t count (client_of s id) (client_of u id) agrees talks
-agrees_act rules m k r q s u id t (Ended n) said agrees talks turns = ends (same n id) t (client_of s id) (client_of u id) agrees talks
+agrees_act rules m k r q s u id t (Dropped n count) said agrees talks turns = drops_at (is_same_id n id) t count (client_of s id) (client_of u id) agrees talks
+agrees_act rules m k r q s u id t (Ended n) said agrees talks turns = ends (is_same_id n id) t (client_of s id) (client_of u id) agrees talks
 agrees_act rules m k r q s u id t _ said agrees talks turns = stays t (client_of s id) (client_of u id) agrees talks
 
 -- ---- one that is closed in its turn
@@ -281,14 +281,14 @@ farewell rules m now count id t (Some c) agrees is = record {
 
 -- ---- acts of others
 
-pub untouched : {N : Type 0} (now id : ℕ) (o p : Option Client) (act : Act N) (said : List ℕ) → Talks now id o act said p → concerns id act ≡ false → p ≡ o
+pub untouched : {N : Type 0} (now id : ℕ) (o p : Option Client) (act : Act N) (said : List ℕ) → ClientTalks now id o act said p → concerns id act ≡ false → p ≡ o
 untouched now id o p (Came n kind) said talks is = subst (λ b. At b (Comes now n kind said o p) (p ≡ o)) is talks
-untouched now id o p (Heard n piece) said talks is = subst (λ b. At b (OrNothing (Answers now said o p) said o p) (p ≡ o)) is talks
-untouched now id o p (Noted n note) said talks is = subst (λ b. At b (Answers now said o p) (p ≡ o)) is talks
-untouched now id o p (Late n) said talks is = subst (λ b. At b (OrNothing (Parts phase.Closing now said o p) said o p) (p ≡ o)) is talks
-untouched now id o p (Displaced n) said talks is = subst (λ b. At b (OrNothing (Parts phase.Yielding now said o p) said o p) (p ≡ o)) is talks
-untouched now id o p (Sent n octets) said talks is = subst (λ b. At b (Sends now octets o p) (p ≡ o)) is talks
+untouched now id o p (Heard n piece) said talks is = subst (λ b. At b (OrNothing (ClientAnswers now said o p) said o p) (p ≡ o)) is talks
+untouched now id o p (Noted n note) said talks is = subst (λ b. At b (ClientAnswers now said o p) (p ≡ o)) is talks
+untouched now id o p (Late n) said talks is = subst (λ b. At b (OrNothing (ClientParts phase.Closing now said o p) said o p) (p ≡ o)) is talks
+untouched now id o p (Displaced n) said talks is = subst (λ b. At b (OrNothing (ClientParts phase.Yielding now said o p) said o p) (p ≡ o)) is talks
+untouched now id o p (Sent n octets) said talks is = subst (λ b. At b (ClientSends now octets o p) (p ≡ o)) is talks
 untouched now id o p (Shut n) said talks is = subst (λ b. At b (Shuts now o p) (p ≡ o)) is talks
-untouched now id o p (Dropped n count) said talks is = subst (λ b. At b (Drops count o p) (p ≡ o)) is talks
+untouched now id o p (Dropped n count) said talks is = subst (λ b. At b (DropsOctets count o p) (p ≡ o)) is talks
 untouched now id o p (Ended n) said talks is = subst (λ b. At b (p ≡ None) (p ≡ o)) is talks
 untouched now id o p _ said talks is = talks

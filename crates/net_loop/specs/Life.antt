@@ -1,14 +1,14 @@
 -- What is true of a life: of all acts, and of each prefix of them.
 use Rattle.std.specs.Prelude.{◌≡◌, ◌⊎◌, ℕ, ◌+◌, Bool, true, false, cond, List, [], ◌∷◌, ◌++◌, length, ◌≤◌, Option, Some, None, IsTrue}
 use Rattle.std.specs.List.{list_any}
-use Rattle.wires.specs.declared.act.Act.{Act}
-use Rattle.wires.specs.declared.act.Act.TheVariants.{Woke, Began, Late, Came, Displaced, Heard, Over, Sent, Lost, Noted, Full, Shut, Dropped, Ended}
-use Rattle.wires.specs.declared.outcome.Wake.{Wake}
-use Rattle.wires.specs.declared.service.Service.{Service}
-use Rattle.wires.specs.declared.turn.Turn.TheVariants.{Free}
-use Rattle.wires.specs.Moves.{Moment, Moves, at}
-use Rattle.wires.specs.Rules.{Rules}
-use Rattle.wires.specs.Talk.{same, client_of}
+use Rattle.net_loop.specs.declared.act.Act.{Act}
+use Rattle.net_loop.specs.declared.act.Act.TheVariants.{Woke, Began, Late, Came, Displaced, Heard, Over, Sent, Lost, Noted, Full, Shut, Dropped, Ended}
+use Rattle.net_loop.specs.declared.outcome.Wake.{Wake}
+use Rattle.net_loop.specs.declared.service.Service.{Service}
+use Rattle.net_loop.specs.declared.turn.Turn.TheVariants.{Free}
+use Rattle.net_loop.specs.Moves.{Moment, LoopMoves, at}
+use Rattle.net_loop.specs.Rules.{Rules}
+use Rattle.net_loop.specs.Talk.{is_same_id, client_of}
 
 -- an act, and what the machine says at it to its connection
 pub record Move (N : Type 0) : Type 0 where
@@ -20,16 +20,16 @@ acts_of [] = []
 acts_of (move ∷ moves) = move.act ∷ acts_of moves
 
 -- moves in turn
-abbrev pub Passes : {M N R : Type 0} → Rules M N R → Moment M N R → List (Move N) → Moment M N R → Type 0
-Passes rules m [] n = n ≡ m
-Passes {M = M} {N = N} {R = R} rules m (move ∷ moves) n =
-    (mid : Moment M N R) × (one : Moves rules m mid) × (one.act ≡ move.act) × (one.said ≡ move.said) × Passes rules mid moves n
+abbrev pub PassesMoves : {M N R : Type 0} → Rules M N R → Moment M N R → List (Move N) → Moment M N R → Type 0
+PassesMoves rules m [] n = n ≡ m
+PassesMoves {M = M} {N = N} {R = R} rules m (move ∷ moves) n =
+    (mid : Moment M N R) × (one : LoopMoves rules m mid) × (one.act ≡ move.act) × (one.said ≡ move.said) × PassesMoves rules mid moves n
 
 -- the acts seen grew by those of moves in turn
 pub record Lives {M N R : Type 0} (rules : Rules M N R) (m n : Moment M N R) : Type 0 where
   pub moves : List (Move N)
   pub grows : n.seen ≡ m.seen ++ acts_of moves
-  pub passes : Passes rules m moves n
+  pub passes : PassesMoves rules m moves n
 
 -- the same, if it is told
 abbrev pub LivesIf : {O M N R : Type 0} → (O → Bool) → (O → List (Act N)) → (O → R) → Rules M N R → O → M → Service → O → M → Service → Type 0
@@ -56,55 +56,55 @@ abbrev pub nothing_told : Told
 nothing_told = record { said = []; sent = []; shut = false }
 
 -- what one act tells of it
-abbrev pub tell : {N : Type 0} → ℕ → Told → Act N → List ℕ → Told
-tell id t (Came n kind) said = cond (same n id) (record { said = said; sent = []; shut = false }) t
-tell id t (Heard n piece) said = cond (same n id) (record t { said = t.said ++ said }) t
-tell id t (Noted n note) said = cond (same n id) (record t { said = t.said ++ said }) t
-tell id t (Late n) said = cond (same n id) (record t { said = t.said ++ said }) t
-tell id t (Displaced n) said = cond (same n id) (record t { said = t.said ++ said }) t
-tell id t (Sent n octets) said = cond (same n id) (record t { sent = t.sent ++ octets }) t
-tell id t (Shut n) said = cond (same n id) (record t { shut = true }) t
-tell id t _ said = t
+abbrev pub told_by_act : {N : Type 0} → ℕ → Told → Act N → List ℕ → Told
+told_by_act id t (Came n kind) said = cond (is_same_id n id) (record { said = said; sent = []; shut = false }) t
+told_by_act id t (Heard n piece) said = cond (is_same_id n id) (record t { said = t.said ++ said }) t
+told_by_act id t (Noted n note) said = cond (is_same_id n id) (record t { said = t.said ++ said }) t
+told_by_act id t (Late n) said = cond (is_same_id n id) (record t { said = t.said ++ said }) t
+told_by_act id t (Displaced n) said = cond (is_same_id n id) (record t { said = t.said ++ said }) t
+told_by_act id t (Sent n octets) said = cond (is_same_id n id) (record t { sent = t.sent ++ octets }) t
+told_by_act id t (Shut n) said = cond (is_same_id n id) (record t { shut = true }) t
+told_by_act id t _ said = t
 
-abbrev pub tell_on : {N : Type 0} → ℕ → Told → List (Move N) → Told
-tell_on id t [] = t
-tell_on id t (move ∷ moves) = tell_on id (tell id t move.act move.said) moves
+abbrev pub told_by_moves : {N : Type 0} → ℕ → Told → List (Move N) → Told
+told_by_moves id t [] = t
+told_by_moves id t (move ∷ moves) = told_by_moves id (told_by_act id t move.act move.said) moves
 
-abbrev pub told_of : {N : Type 0} → ℕ → List (Move N) → Told
-told_of id moves = tell_on id nothing_told moves
+abbrev pub told_since_start : {N : Type 0} → ℕ → List (Move N) → Told
+told_since_start id moves = told_by_moves id nothing_told moves
 
-abbrev pub IsFrontOf : {X : Type 0} → List X → List X → Type 0
-IsFrontOf {X = X} xs ys = (rest : List X) × (xs ++ rest ≡ ys)
+abbrev pub IsPrefixOf : {X : Type 0} → List X → List X → Type 0
+IsPrefixOf {X = X} xs ys = (rest : List X) × (xs ++ rest ≡ ys)
 
 -- ---- the laws
 
 -- at each prefix of the acts, what was sent on a connection is a prefix of what the machine said to it: nothing else, nothing twice
 abbrev pub OneConnection : {M N R : Type 0} → Rules M N R → Type 0
 OneConnection {M = M} {N = N} {R = R} rules =
-    (m n : Moment M N R) (some rest : List (Move N)) → Fresh m.service → Passes rules m (some ++ rest) n
-    → (id : ℕ) → IsFrontOf (told_of id some).sent (told_of id some).said
+    (m n : Moment M N R) (some rest : List (Move N)) → Fresh m.service → PassesMoves rules m (some ++ rest) n
+    → (id : ℕ) → IsPrefixOf (told_since_start id some).sent (told_since_start id some).said
 
 -- whether an act changes a connection
 abbrev pub concerns : {N : Type 0} → ℕ → Act N → Bool
-concerns id (Came n kind) = same n id
-concerns id (Heard n piece) = same n id
-concerns id (Noted n note) = same n id
-concerns id (Late n) = same n id
-concerns id (Displaced n) = same n id
-concerns id (Sent n octets) = same n id
-concerns id (Shut n) = same n id
-concerns id (Dropped n count) = same n id
-concerns id (Ended n) = same n id
+concerns id (Came n kind) = is_same_id n id
+concerns id (Heard n piece) = is_same_id n id
+concerns id (Noted n note) = is_same_id n id
+concerns id (Late n) = is_same_id n id
+concerns id (Displaced n) = is_same_id n id
+concerns id (Sent n octets) = is_same_id n id
+concerns id (Shut n) = is_same_id n id
+concerns id (Dropped n count) = is_same_id n id
+concerns id (Ended n) = is_same_id n id
 concerns id _ = false
 
-abbrev pub Untouched : {N : Type 0} → ℕ → List (Move N) → Type 0
-Untouched id [] = Unit {0}
-Untouched id (move ∷ moves) = (concerns id move.act ≡ false) × Untouched id moves
+abbrev pub ConcernsNone : {N : Type 0} → ℕ → List (Move N) → Type 0
+ConcernsNone id [] = Unit {0}
+ConcernsNone id (move ∷ moves) = (concerns id move.act ≡ false) × ConcernsNone id moves
 
 -- acts of others change nothing of a connection
 abbrev pub Apart : {M N R : Type 0} → Rules M N R → Type 0
 Apart {M = M} {N = N} {R = R} rules =
-    (m n : Moment M N R) (moves : List (Move N)) → Passes rules m moves n → (id : ℕ) → Untouched id moves
+    (m n : Moment M N R) (moves : List (Move N)) → PassesMoves rules m moves n → (id : ℕ) → ConcernsNone id moves
     → client_of n.service id ≡ client_of m.service id
 
 -- its peer sends no more, a read or a write failed, memory was lacking, it was late, or it made room for another
@@ -131,15 +131,15 @@ pub record Farewell (t : Told) : Type 0 where
 -- each end has its cause right before it, or is a farewell
 abbrev pub EndsRight : {M N R : Type 0} → Rules M N R → Type 0
 EndsRight {M = M} {N = N} {R = R} rules =
-    (m n : Moment M N R) (before after : List (Move N)) (end : Move N) (id : ℕ) → Fresh m.service → Passes rules m (before ++ end ∷ after) n
-    → end.act ≡ Ended id → CausedBy id before ⊎ Farewell (told_of id before)
+    (m n : Moment M N R) (before after : List (Move N)) (end : Move N) (id : ℕ) → Fresh m.service → PassesMoves rules m (before ++ end ∷ after) n
+    → end.act ≡ Ended id → CausedBy id before ⊎ Farewell (told_since_start id before)
 
 -- ---- how many are open
 
 -- the kind of a connection if it is open: it came, and hasn't ended since
 abbrev pub kind_by : {N : Type 0} → ℕ → Option ℕ → Act N → Option ℕ
-kind_by id o (Came n kind) = cond (same n id) (Some kind) o
-kind_by id o (Ended n) = cond (same n id) None o
+kind_by id o (Came n kind) = cond (is_same_id n id) (Some kind) o
+kind_by id o (Ended n) = cond (is_same_id n id) None o
 kind_by id o _ = o
 
 abbrev pub kind_on : {N : Type 0} → ℕ → Option ℕ → List (Move N) → Option ℕ
@@ -149,7 +149,7 @@ kind_on id o (move ∷ moves) = kind_on id (kind_by id o move.act) moves
 -- numbers that differ, of each of which this is true
 abbrev pub Distinct : (ℕ → Type 0) → List ℕ → Type 0
 Distinct Is [] = Unit {0}
-Distinct Is (id ∷ ids) = Is id × (list_any (λ other. same other id) ids ≡ false) × Distinct Is ids
+Distinct Is (id ∷ ids) = Is id × (list_any (λ other. is_same_id other id) ids ≡ false) × Distinct Is ids
 
 -- connections of a kind that are open after some moves
 abbrev pub AreOpen : {N : Type 0} → ℕ → List (Move N) → List ℕ → Type 0
@@ -158,16 +158,16 @@ AreOpen kind moves ids = Distinct (λ id. kind_on id None moves ≡ Some kind) i
 -- at each prefix of the acts no more connections of a kind are open than the machine's limit says
 abbrev pub Bounded : {M N R : Type 0} → Rules M N R → Type 0
 Bounded {M = M} {N = N} {R = R} rules =
-    (m n : Moment M N R) (some rest : List (Move N)) → Fresh m.service → Passes rules m (some ++ rest) n
+    (m n : Moment M N R) (some rest : List (Move N)) → Fresh m.service → PassesMoves rules m (some ++ rest) n
     → (kind : ℕ) (ids : List ℕ) → AreOpen kind some ids → length ids ≤ rules.limit kind
 
 -- ---- what waits told
 
 -- all that they told, in order
-abbrev pub told_in : {N : Type 0} → List (Act N) → List Wake
-told_in [] = []
-told_in (Woke within wakes ∷ acts) = wakes ++ told_in acts
-told_in (act ∷ acts) = told_in acts
+abbrev pub wakes_told : {N : Type 0} → List (Act N) → List Wake
+wakes_told [] = []
+wakes_told (Woke within wakes ∷ acts) = wakes ++ wakes_told acts
+wakes_told (act ∷ acts) = wakes_told acts
 
 -- all that was taken up, in order
 abbrev pub begun_in : {N : Type 0} → List (Act N) → List Wake
@@ -178,5 +178,5 @@ begun_in (act ∷ acts) = begun_in acts
 -- what waits told is taken up one by one, in its order and each once; what isn't yet is ready
 abbrev pub NoneForgotten : {M N R : Type 0} → Rules M N R → Type 0
 NoneForgotten {M = M} {N = N} {R = R} rules =
-    (m n : Moment M N R) (moves : List (Move N)) → Passes rules m moves n
-    → m.service.ready.items ++ told_in (acts_of moves) ≡ begun_in (acts_of moves) ++ n.service.ready.items
+    (m n : Moment M N R) (moves : List (Move N)) → PassesMoves rules m moves n
+    → m.service.ready.items ++ wakes_told (acts_of moves) ≡ begun_in (acts_of moves) ++ n.service.ready.items

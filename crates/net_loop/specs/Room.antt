@@ -1,11 +1,11 @@
 -- Which connection makes room for another of its kind when all places are taken.
 use Rattle.std.specs.Prelude.{◌≡◌, ℕ, ◌-◌, ◌==◌, ◌&&◌, nat_le, nat_lt, Bool, true, false, if◌then◌else◌, List, [], ◌∷◌, Option, Some, None, option_map}
 use Rattle.std.specs.List.{Contains}
-use Rattle.wires.specs.declared.machine.Claim.{Claim}
-use Rattle.wires.specs.declared.service.Client.{Client}
-use Rattle.wires.specs.declared.service.Service.{Service}
-use Rattle.wires.specs.Rules.{Rules}
-use Rattle.wires.specs.Talk.{waits, is_open_by, after_span, max_unsent}
+use Rattle.net_loop.specs.declared.machine.Claim.{Claim}
+use Rattle.net_loop.specs.declared.service.Client.{Client}
+use Rattle.net_loop.specs.declared.service.Service.{Service}
+use Rattle.net_loop.specs.Rules.{Rules}
+use Rattle.net_loop.specs.Talk.{waits, is_open_by, after_span, max_unsent}
 
 -- ---- of all that claim, the first
 
@@ -23,8 +23,8 @@ abbrev pub best_from : (Client → Option Claim) → Option (ℕ × Claim) → L
 best_from claim best [] = best
 best_from claim best (it ∷ entries) = best_from claim (better best it.1.id (claim it.1)) entries
 
-abbrev pub number_of : Option (ℕ × Claim) → Option ℕ
-number_of best = option_map (λ (it : ℕ × Claim). it.0) best
+abbrev pub best_number : Option (ℕ × Claim) → Option ℕ
+best_number best = option_map (λ (it : ℕ × Claim). it.0) best
 
 -- ---- who may go
 
@@ -45,7 +45,7 @@ claim_in rules m now kind c = if may_go now kind c then rules.claim m now c.id e
 
 -- the one that makes room for another of that kind: of those that may go the first that claims
 abbrev pub makes_room : {M N R : Type 0} → Rules M N R → M → Service → ℕ → Option ℕ
-makes_room rules m s kind = number_of (best_from (claim_in rules m s.moment kind) None s.clients.entries)
+makes_room rules m s kind = best_number (best_from (claim_in rules m s.moment kind) None s.clients.entries)
 
 -- ---- the law of it
 
@@ -64,9 +64,9 @@ pub record MakesRoom {M N R : Type 0} (rules : Rules M N R) (m : M) (s : Service
 abbrev pub NobodyGoes : {M N R : Type 0} → Rules M N R → M → Service → ℕ → Type 0
 NobodyGoes rules m s kind = (it : ℕ × Client) → Contains s.clients.entries it → claim_in rules m s.moment kind it.1 ≡ None
 
-abbrev pub GoesOut : {M N R : Type 0} → Rules M N R → M → Service → ℕ → Option ℕ → Type 0
-GoesOut rules m s kind (Some id) = MakesRoom rules m s kind id
-GoesOut rules m s kind None = NobodyGoes rules m s kind
+abbrev pub RoomChoice : {M N R : Type 0} → Rules M N R → M → Service → ℕ → Option ℕ → Type 0
+RoomChoice rules m s kind (Some id) = MakesRoom rules m s kind id
+RoomChoice rules m s kind None = NobodyGoes rules m s kind
 
 abbrev pub FirstGoes : {M N R : Type 0} → Rules M N R → Type 0
-FirstGoes {M = M} rules = (m : M) (s : Service) (kind : ℕ) → GoesOut rules m s kind (makes_room rules m s kind)
+FirstGoes {M = M} rules = (m : M) (s : Service) (kind : ℕ) → RoomChoice rules m s kind (makes_room rules m s kind)

@@ -1,9 +1,9 @@
 -- What a machine makes of what happens.
 use Rattle.std.specs.Prelude.{◌≡◌, ℕ, Bool, List, [], ◌∷◌, ◌++◌, Option, IsTrue}
-use Rattle.wires.specs.declared.act.Act.{Act}
-use Rattle.wires.specs.declared.act.Act.TheVariants.{Noted, Worked}
-use Rattle.wires.specs.declared.machine.Claim.{Claim}
-use Rattle.wires.specs.declared.machine.Want.{Want}
+use Rattle.net_loop.specs.declared.act.Act.{Act}
+use Rattle.net_loop.specs.declared.act.Act.TheVariants.{Noted, Worked}
+use Rattle.net_loop.specs.declared.machine.Claim.{Claim}
+use Rattle.net_loop.specs.declared.machine.Want.{Want}
 
 -- of a machine M that notes N and acts on R, all of the outside that is neither sockets nor clock: how many connections of a
 -- kind may be open; of a connection by its number whether it may make room at a moment, when that many are, what it wants,
@@ -26,24 +26,24 @@ pub record Rules (M N R : Type 0) : Type 1 where
   pub closes : M → ℕ → ℕ → M → Type 0
 
 -- a machine continued with a connection, and noted it in one act
-pub record Steps {M N R : Type 0} (rules : Rules M N R) (seen : List (Act N)) (m : M) (r : R) (now id : ℕ) (said : List ℕ)
+pub record MachineSteps {M N R : Type 0} (rules : Rules M N R) (seen : List (Act N)) (m : M) (r : R) (now id : ℕ) (said : List ℕ)
     (later : List (Act N)) (n : M) (q : R) : Type 0 where
   pub note : N
   pub grows : later ≡ seen ++ Noted id note ∷ []
   pub steps : rules.steps m r now id note said n q
 
 -- the same of its own work
-pub record Works {M N R : Type 0} (rules : Rules M N R) (seen : List (Act N)) (m : M) (r : R) (now : ℕ) (later : List (Act N)) (n : M) (q : R) : Type 0 where
+pub record MachineWorks {M N R : Type 0} (rules : Rules M N R) (seen : List (Act N)) (m : M) (r : R) (now : ℕ) (later : List (Act N)) (n : M) (q : R) : Type 0 where
   pub note : N
   pub grows : later ≡ seen ++ Worked note ∷ []
   pub works : rules.works m r now note n q
 
 -- the same, if it is told
 abbrev pub StepsIf : {O M N R : Type 0} → (O → Bool) → (O → List (Act N)) → (O → R) → Rules M N R → O → M → ℕ → ℕ → List ℕ → O → M → Type 0
-StepsIf tells seen rest rules o m now id said p n = IsTrue (tells p) → Steps rules (seen o) m (rest o) now id said (seen p) n (rest p)
+StepsIf tells seen rest rules o m now id said p n = IsTrue (tells p) → MachineSteps rules (seen o) m (rest o) now id said (seen p) n (rest p)
 
 abbrev pub WorksIf : {O M N R : Type 0} → (O → Bool) → (O → List (Act N)) → (O → R) → Rules M N R → O → M → ℕ → O → M → Type 0
-WorksIf tells seen rest rules o m now p n = IsTrue (tells p) → Works rules (seen o) m (rest o) now (seen p) n (rest p)
+WorksIf tells seen rest rules o m now p n = IsTrue (tells p) → MachineWorks rules (seen o) m (rest o) now (seen p) n (rest p)
 
 -- nothing was done outside, if it is told
 abbrev pub IdlesIf : {O N R : Type 0} → (O → Bool) → (O → List (Act N)) → (O → R) → O → O → Type 0

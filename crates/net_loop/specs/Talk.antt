@@ -3,27 +3,27 @@ use Rattle.std.specs.Prelude.{◌≡◌, ◌⊎◌, ℕ, ◌+◌, ◌-◌, ◌%�
 use Rattle.std.specs.Prelude.{◌∷◌, ◌++◌, length, Option, Some, None}
 use Rattle.std.specs.BTreeMap as tree
 use Rattle.std.specs.Ordering.{nat_cmp, is_eq}
-use Rattle.wires.specs.declared.act.Act.{Act}
-use Rattle.wires.specs.declared.act.Act.TheVariants.{Late, Came, Displaced, Heard, Sent, Noted, Shut, Dropped, Ended}
-use Rattle.wires.specs.declared.machine.Want.{Want}
-use Rattle.wires.specs.declared.machine.Want.TheVariants as want
-use Rattle.wires.specs.declared.service.Client.{Client}
-use Rattle.wires.specs.declared.service.Service.{Service}
-use Rattle.wires.specs.declared.service.Phase.{Phase}
-use Rattle.wires.specs.declared.service.Phase.TheVariants as phase
-use Rattle.wires.specs.declared.turn.Task.{Task}
-use Rattle.wires.specs.declared.turn.Task.TheVariants.{Send, Hear, Step, Rest, HangUp, Drain, End, Nothing}
-use Rattle.wires.specs.Rules.{Rules}
+use Rattle.net_loop.specs.declared.act.Act.{Act}
+use Rattle.net_loop.specs.declared.act.Act.TheVariants.{Late, Came, Displaced, Heard, Sent, Noted, Shut, Dropped, Ended}
+use Rattle.net_loop.specs.declared.machine.Want.{Want}
+use Rattle.net_loop.specs.declared.machine.Want.TheVariants as want
+use Rattle.net_loop.specs.declared.service.Client.{Client}
+use Rattle.net_loop.specs.declared.service.Service.{Service}
+use Rattle.net_loop.specs.declared.service.Phase.{Phase}
+use Rattle.net_loop.specs.declared.service.Phase.TheVariants as phase
+use Rattle.net_loop.specs.declared.turn.Task.{Task}
+use Rattle.net_loop.specs.declared.turn.Task.TheVariants.{Send, Hear, Step, Rest, HangUp, Drain, End, Nothing}
+use Rattle.net_loop.specs.Rules.{Rules}
 
-abbrev pub same : ℕ → ℕ → Bool
-same n id = is_eq (nat_cmp n id)
+abbrev pub is_same_id : ℕ → ℕ → Bool
+is_same_id n id = is_eq (nat_cmp n id)
 
 abbrev pub client_of : Service → ℕ → Option Client
 client_of s id = tree.get nat_cmp s.clients id
 
-abbrev pub kind_of : Option Client → ℕ
-kind_of (Some c) = c.kind
-kind_of None = 0
+abbrev pub client_kind : Option Client → ℕ
+client_kind (Some c) = c.kind
+client_kind None = 0
 
 -- what was said to a connection and isn't sent yet
 abbrev pub waits : Client → List ℕ
@@ -141,15 +141,15 @@ task rules m now count id (Some c) = task_by (waits c) (gathers c count) c.phase
 task rules m now count id None = Nothing
 
 -- the moment by which a connection is late: the machine's if it is open and all is sent, else by what is to be sent or dropped
-abbrev pub due_by : List ℕ → Phase → ℕ → ℕ → ℕ
-due_by [] phase.Open until deadline = deadline
-due_by [] phase.Closing until deadline = until
-due_by [] phase.Yielding until deadline = until
-due_by [] (phase.Shut left) until deadline = until
-due_by (x ∷ more) at until deadline = until
+abbrev pub client_due_by : List ℕ → Phase → ℕ → ℕ → ℕ
+client_due_by [] phase.Open until deadline = deadline
+client_due_by [] phase.Closing until deadline = until
+client_due_by [] phase.Yielding until deadline = until
+client_due_by [] (phase.Shut left) until deadline = until
+client_due_by (x ∷ more) at until deadline = until
 
-abbrev pub is_late : ℕ → ℕ → Client → Bool
-is_late now deadline c = not (nat_lt now (due_by (waits c) c.phase c.until deadline))
+abbrev pub is_late_at : ℕ → ℕ → Client → Bool
+is_late_at now deadline c = not (nat_lt now (client_due_by (waits c) c.phase c.until deadline))
 
 -- to one that comes, what the machine says then is to be sent
 abbrev pub newcomer : ℕ → ℕ → ℕ → List ℕ → Client
@@ -161,7 +161,7 @@ pub record Comes (now id kind : ℕ) (said : List ℕ) (o p : Option Client) : T
   pub here : (p ≡ Some (newcomer now id kind said)) ⊎ (p ≡ None)
 
 -- all else of a connection stays the same
-pub record Stays (before after : Client) : Type 0 where
+pub record ClientStays (before after : Client) : Type 0 where
   pub id : after.id ≡ before.id
   pub kind : after.kind ≡ before.kind
   pub phase : after.phase ≡ before.phase
@@ -175,10 +175,10 @@ due_after now (x ∷ more) until = until
 pub record Gathers (now : ℕ) (said : List ℕ) (before after : Client) : Type 0 where
   pub joins : waits after ≡ waits before ++ said
   pub until : after.until ≡ due_after now (waits before) before.until
-  pub stays : Stays before after
+  pub stays : ClientStays before after
 
 -- what the machine answers waits
-pub record Answers (now : ℕ) (said : List ℕ) (o p : Option Client) : Type 0 where
+pub record ClientAnswers (now : ℕ) (said : List ℕ) (o p : Option Client) : Type 0 where
   pub before : Client
   pub was : o ≡ Some before
   pub after : Client
@@ -201,10 +201,10 @@ due_taken now (phase.Shut left) until = until
 pub record Taken (now : ℕ) (octets : List ℕ) (before after : Client) : Type 0 where
   pub front : waits before ≡ octets ++ waits after
   pub until : after.until ≡ due_taken now before.phase before.until
-  pub stays : Stays before after
+  pub stays : ClientStays before after
 
 -- what is sent is a prefix of what waits, and not empty
-pub record Sends (now : ℕ) (octets : List ℕ) (o p : Option Client) : Type 0 where
+pub record ClientSends (now : ℕ) (octets : List ℕ) (o p : Option Client) : Type 0 where
   pub before : Client
   pub was : o ≡ Some before
   pub some : 0 < length octets
@@ -213,7 +213,7 @@ pub record Sends (now : ℕ) (octets : List ℕ) (o p : Option Client) : Type 0 
   pub taken : Taken now octets before after
 
 -- to one that was late or makes room for another, and to which nothing waits, something is said last, and it is at that phase then
-pub record Parts (at : Phase) (now : ℕ) (said : List ℕ) (o p : Option Client) : Type 0 where
+pub record ClientParts (at : Phase) (now : ℕ) (said : List ℕ) (o p : Option Client) : Type 0 where
   pub quiet : is_quiet o ≡ true
   pub before : Client
   pub was : o ≡ Some before
@@ -223,11 +223,11 @@ pub record Parts (at : Phase) (now : ℕ) (said : List ℕ) (o p : Option Client
 abbrev pub OrNothing : Type 0 → List ℕ → Option Client → Option Client → Type 0
 OrNothing says said o p = says ⊎ ((said ≡ []) × (p ≡ o))
 
-abbrev pub MayAnswer : ℕ → List ℕ → Option Client → Option Client → Type 0
-MayAnswer now said o p = OrNothing (Answers now said o p) said o p
+abbrev pub ClientMayAnswer : ℕ → List ℕ → Option Client → Option Client → Type 0
+ClientMayAnswer now said o p = OrNothing (ClientAnswers now said o p) said o p
 
-abbrev pub MayPart : Phase → ℕ → List ℕ → Option Client → Option Client → Type 0
-MayPart at now said o p = OrNothing (Parts at now said o p) said o p
+abbrev pub ClientMayPart : Phase → ℕ → List ℕ → Option Client → Option Client → Type 0
+ClientMayPart at now said o p = OrNothing (ClientParts at now said o p) said o p
 
 -- this side was shut: from now on what comes is dropped
 pub record Shuts (now : ℕ) (o p : Option Client) : Type 0 where
@@ -241,7 +241,7 @@ drained count phase.Closing = phase.Closing
 drained count phase.Yielding = phase.Yielding
 drained count (phase.Shut left) = phase.Shut (left - count)
 
-pub record Drops (count : ℕ) (o p : Option Client) : Type 0 where
+pub record DropsOctets (count : ℕ) (o p : Option Client) : Type 0 where
   pub before : Client
   pub was : o ≡ Some before
   pub after : p ≡ Some (record before { phase = drained count before.phase })
@@ -252,19 +252,19 @@ At true changes stays = changes
 At false changes stays = stays
 
 -- what an act makes of the connection `id` at a moment; `said` is what the machine says at it
-abbrev pub Talks : {N : Type 0} → ℕ → ℕ → Option Client → Act N → List ℕ → Option Client → Type 0
-Talks now id o (Came n kind) said p = At (same n id) (Comes now n kind said o p) (p ≡ o)
-Talks now id o (Heard n piece) said p = At (same n id) (MayAnswer now said o p) (p ≡ o)
-Talks now id o (Noted n note) said p = At (same n id) (Answers now said o p) (p ≡ o)
-Talks now id o (Sent n octets) said p = At (same n id) (Sends now octets o p) (p ≡ o)
-Talks now id o (Late n) said p = At (same n id) (MayPart phase.Closing now said o p) (p ≡ o)
-Talks now id o (Displaced n) said p = At (same n id) (MayPart phase.Yielding now said o p) (p ≡ o)
-Talks now id o (Shut n) said p = At (same n id) (Shuts now o p) (p ≡ o)
-Talks now id o (Dropped n count) said p = At (same n id) (Drops count o p) (p ≡ o)
-Talks now id o (Ended n) said p = At (same n id) (p ≡ None) (p ≡ o)
-Talks now id o _ said p = p ≡ o
+abbrev pub ClientTalks : {N : Type 0} → ℕ → ℕ → Option Client → Act N → List ℕ → Option Client → Type 0
+ClientTalks now id o (Came n kind) said p = At (is_same_id n id) (Comes now n kind said o p) (p ≡ o)
+ClientTalks now id o (Heard n piece) said p = At (is_same_id n id) (ClientMayAnswer now said o p) (p ≡ o)
+ClientTalks now id o (Noted n note) said p = At (is_same_id n id) (ClientAnswers now said o p) (p ≡ o)
+ClientTalks now id o (Sent n octets) said p = At (is_same_id n id) (ClientSends now octets o p) (p ≡ o)
+ClientTalks now id o (Late n) said p = At (is_same_id n id) (ClientMayPart phase.Closing now said o p) (p ≡ o)
+ClientTalks now id o (Displaced n) said p = At (is_same_id n id) (ClientMayPart phase.Yielding now said o p) (p ≡ o)
+ClientTalks now id o (Shut n) said p = At (is_same_id n id) (Shuts now o p) (p ≡ o)
+ClientTalks now id o (Dropped n count) said p = At (is_same_id n id) (DropsOctets count o p) (p ≡ o)
+ClientTalks now id o (Ended n) said p = At (is_same_id n id) (p ≡ None) (p ≡ o)
+ClientTalks now id o _ said p = p ≡ o
 
 -- one connection changes so, others are as they were
-abbrev pub Alone : ℕ → (Option Client → Option Client → Type 0) → Service → Service → Type 0
-Alone id Changes s t =
-    (other : ℕ) → At (same id other) (Changes (client_of s other) (client_of t other)) (client_of t other ≡ client_of s other)
+abbrev pub ChangesOnly : ℕ → (Option Client → Option Client → Type 0) → Service → Service → Type 0
+ChangesOnly id Changes s t =
+    (other : ℕ) → At (is_same_id id other) (Changes (client_of s other) (client_of t other)) (client_of t other ≡ client_of s other)

@@ -1,63 +1,63 @@
 -- What one call on the outside adds to the acts.
 use Rattle.std.specs.Prelude.{◌≡◌, ℕ, ◌≤◌, ◌<◌, Bool, List, [], ◌∷◌, ◌++◌, length, take, IsTrue}
-use Rattle.wires.specs.declared.act.Act.{Act}
-use Rattle.wires.specs.declared.act.Act.TheVariants.{Began, Late, Waits, Roused, Came, NoneCame, Displaced, InUse, Heard}
-use Rattle.wires.specs.declared.act.Act.TheVariants.{ReadBlocked, Over, Sent, WriteBlocked, Lost, Full, Dropped}
-use Rattle.wires.specs.declared.outcome.Accepted.{Accepted}
-use Rattle.wires.specs.declared.outcome.Accepted.TheVariants as accepted
-use Rattle.wires.specs.declared.outcome.Input.{Input}
-use Rattle.wires.specs.declared.outcome.Input.TheVariants as input
-use Rattle.wires.specs.declared.outcome.Output.{Output}
-use Rattle.wires.specs.declared.outcome.Output.TheVariants as output
+use Rattle.net_loop.specs.declared.act.Act.{Act}
+use Rattle.net_loop.specs.declared.act.Act.TheVariants.{Began, Late, Waits, Resumed, Came, NoneCame, Displaced, InUse, Heard}
+use Rattle.net_loop.specs.declared.act.Act.TheVariants.{ReadBlocked, Over, Sent, WriteBlocked, Lost, Full, Dropped}
+use Rattle.net_loop.specs.declared.outcome.Accepted.{Accepted}
+use Rattle.net_loop.specs.declared.outcome.Accepted.TheVariants as accepted
+use Rattle.net_loop.specs.declared.outcome.Input.{Input}
+use Rattle.net_loop.specs.declared.outcome.Input.TheVariants as input
+use Rattle.net_loop.specs.declared.outcome.Output.{Output}
+use Rattle.net_loop.specs.declared.outcome.Output.TheVariants as output
 
 -- no more octets of a connection are read at once
 abbrev pub largest_piece : ℕ
 largest_piece = 4096
 
 -- one act was added
-abbrev pub Tells : {N : Type 0} → List (Act N) → Act N → List (Act N) → Type 0
-Tells seen act later = later ≡ seen ++ act ∷ []
+abbrev pub TellsAct : {N : Type 0} → List (Act N) → Act N → List (Act N) → Type 0
+TellsAct seen act later = later ≡ seen ++ act ∷ []
 
 -- the same, if it is told
 abbrev pub TellsIf : {O N : Type 0} → (O → Bool) → (O → List (Act N)) → O → Act N → O → Type 0
-TellsIf tells seen old act new = IsTrue (tells new) → Tells (seen old) act (seen new)
+TellsIf tells seen old act new = IsTrue (tells new) → TellsAct (seen old) act (seen new)
 
 -- all that is neither sockets nor clock is as it was, if it is told
 abbrev pub LeavesIf : {O R : Type 0} → (O → Bool) → (O → R) → O → O → Type 0
 LeavesIf tells rest old new = IsTrue (tells new) → rest new ≡ rest old
 
 abbrev pub AfterAccept : {N : Type 0} → List (Act N) → ℕ → ℕ → Accepted → List (Act N) → Type 0
-AfterAccept seen kind id accepted.Came later = Tells seen (Came id kind) later
-AfterAccept seen kind id accepted.Nobody later = Tells seen (NoneCame kind) later
+AfterAccept seen kind id accepted.Came later = TellsAct seen (Came id kind) later
+AfterAccept seen kind id accepted.Nobody later = TellsAct seen (NoneCame kind) later
 
 -- the octets that were read come first in the buffer
 abbrev pub AfterRead : {N : Type 0} → List (Act N) → ℕ → List ℕ → Input → List (Act N) → Type 0
-AfterRead seen id buffer (input.Got count) later = Tells seen (Heard id (take count buffer)) later
-AfterRead seen id buffer input.Nothing later = Tells seen (ReadBlocked id) later
-AfterRead seen id buffer input.Over later = Tells seen (Over id) later
-AfterRead seen id buffer input.Lost later = Tells seen (Lost id) later
+AfterRead seen id buffer (input.Got count) later = TellsAct seen (Heard id (take count buffer)) later
+AfterRead seen id buffer input.Nothing later = TellsAct seen (ReadBlocked id) later
+AfterRead seen id buffer input.Over later = TellsAct seen (Over id) later
+AfterRead seen id buffer input.Lost later = TellsAct seen (Lost id) later
 
 abbrev pub AfterDiscard : {N : Type 0} → List (Act N) → ℕ → Input → List (Act N) → Type 0
-AfterDiscard seen id (input.Got count) later = Tells seen (Dropped id count) later
-AfterDiscard seen id input.Nothing later = Tells seen (ReadBlocked id) later
-AfterDiscard seen id input.Over later = Tells seen (Over id) later
-AfterDiscard seen id input.Lost later = Tells seen (Lost id) later
+AfterDiscard seen id (input.Got count) later = TellsAct seen (Dropped id count) later
+AfterDiscard seen id input.Nothing later = TellsAct seen (ReadBlocked id) later
+AfterDiscard seen id input.Over later = TellsAct seen (Over id) later
+AfterDiscard seen id input.Lost later = TellsAct seen (Lost id) later
 
 abbrev pub AfterWrite : {N : Type 0} → List (Act N) → ℕ → List ℕ → Output → List (Act N) → Type 0
-AfterWrite seen id octets (output.Taken count) later = Tells seen (Sent id (take count octets)) later
-AfterWrite seen id octets output.Nothing later = Tells seen (WriteBlocked id) later
-AfterWrite seen id octets output.Lost later = Tells seen (Lost id) later
+AfterWrite seen id octets (output.Taken count) later = TellsAct seen (Sent id (take count octets)) later
+AfterWrite seen id octets output.Nothing later = TellsAct seen (WriteBlocked id) later
+AfterWrite seen id octets output.Lost later = TellsAct seen (Lost id) later
 
 -- what the loop tells of itself, with nothing done outside
-abbrev pub IsOwn : {N : Type 0} → Act N → Type 0
-IsOwn (Began wake) = Unit {0}
-IsOwn (Late id) = Unit {0}
-IsOwn (Waits id) = Unit {0}
-IsOwn (Roused id) = Unit {0}
-IsOwn (Displaced id) = Unit {0}
-IsOwn (InUse id) = Unit {0}
-IsOwn (Full id) = Unit {0}
-IsOwn _ = ⊥
+abbrev pub IsLoopAct : {N : Type 0} → Act N → Type 0
+IsLoopAct (Began wake) = Unit {0}
+IsLoopAct (Late id) = Unit {0}
+IsLoopAct (Waits id) = Unit {0}
+IsLoopAct (Resumed id) = Unit {0}
+IsLoopAct (Displaced id) = Unit {0}
+IsLoopAct (InUse id) = Unit {0}
+IsLoopAct (Full id) = Unit {0}
+IsLoopAct _ = ⊥
 
 -- a count is within a buffer, and not zero
 abbrev pub ReadFits : List ℕ → Input → Type 0

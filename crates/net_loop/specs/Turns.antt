@@ -3,31 +3,31 @@ use Rattle.std.specs.Prelude.{◌≡◌, ◌⊎◌, ℕ, ◌+◌, ◌-◌, ◌%�
 use Rattle.std.specs.Prelude.{nat_lt, not, option_map, if◌then◌else◌, ◌&&◌, Option, Some, None, IsSome}
 use Rattle.std.specs.BTreeMap as tree
 use Rattle.std.specs.List.{list_any}
-use Rattle.wires.specs.declared.act.Act.{Act}
-use Rattle.wires.specs.declared.act.Act.TheVariants.{Woke, Timed, Late, Began, Roused, Worked, Came, NoneCame, Crowded, Displaced}
-use Rattle.wires.specs.declared.act.Act.TheVariants.{Listened, InUse, Heard, ReadBlocked, Over, Sent, WriteBlocked, Lost, Noted}
-use Rattle.wires.specs.declared.act.Act.TheVariants.{Waits, Full, Again, Shut, Dropped, Ended}
-use Rattle.wires.specs.declared.outcome.Wake.{Wake}
-use Rattle.wires.specs.declared.outcome.Wake.TheVariants.{Knock, Ready}
-use Rattle.wires.specs.declared.service.Client.{Client}
-use Rattle.wires.specs.declared.service.Phase.{Phase}
-use Rattle.wires.specs.declared.service.Service.{Service}
-use Rattle.wires.specs.declared.turn.Turn.{Turn}
-use Rattle.wires.specs.declared.turn.Turn.TheVariants.{Free, Rested, Waked, Sweep, Door, Busy, Stuffed, Leaving}
-use Rattle.wires.specs.declared.turn.Task.{Task}
-use Rattle.wires.specs.declared.turn.Task.TheVariants.{Send, Hear, Step, Rest, HangUp, Drain, End, Nothing}
-use Rattle.wires.specs.Room.{makes_room}
-use Rattle.wires.specs.Rules.{Rules}
-use Rattle.wires.specs.Talk.{same, client_of, kind_of, is_quiet, is_closing, is_late, fair, task, is_open_by, newcomer, Answers, Alone, MayAnswer, MayPart}
-use Rattle.wires.specs.Told.{largest_piece}
+use Rattle.net_loop.specs.declared.act.Act.{Act}
+use Rattle.net_loop.specs.declared.act.Act.TheVariants.{Woke, Timed, Late, Began, Resumed, Worked, Came, NoneCame, Crowded, Displaced}
+use Rattle.net_loop.specs.declared.act.Act.TheVariants.{Listened, InUse, Heard, ReadBlocked, Over, Sent, WriteBlocked, Lost, Noted}
+use Rattle.net_loop.specs.declared.act.Act.TheVariants.{Waits, Full, Again, Shut, Dropped, Ended}
+use Rattle.net_loop.specs.declared.outcome.Wake.{Wake}
+use Rattle.net_loop.specs.declared.outcome.Wake.TheVariants.{Knock, Ready}
+use Rattle.net_loop.specs.declared.service.Client.{Client}
+use Rattle.net_loop.specs.declared.service.Phase.{Phase}
+use Rattle.net_loop.specs.declared.service.Service.{Service}
+use Rattle.net_loop.specs.declared.turn.Turn.{Turn}
+use Rattle.net_loop.specs.declared.turn.Turn.TheVariants.{Free, Rested, Waked, Sweep, Accepting, Busy, OutOfMemory, Leaving}
+use Rattle.net_loop.specs.declared.turn.Task.{Task}
+use Rattle.net_loop.specs.declared.turn.Task.TheVariants.{Send, Hear, Step, Rest, HangUp, Drain, End, Nothing}
+use Rattle.net_loop.specs.Room.{makes_room}
+use Rattle.net_loop.specs.Rules.{Rules}
+use Rattle.net_loop.specs.Talk.{is_same_id, client_of, client_kind, is_quiet, is_closing, is_late_at, fair, task, is_open_by, newcomer, ClientAnswers, ChangesOnly, ClientMayAnswer, ClientMayPart}
+use Rattle.net_loop.specs.Told.{largest_piece}
 
 -- how many connections of a kind are open
-abbrev pub open_of : ℕ → Service → ℕ
-open_of kind s = length (filter (λ (c : Client). c.kind == kind) (tree.values s.clients))
+abbrev pub open_count : ℕ → Service → ℕ
+open_count kind s = length (filter (λ (c : Client). c.kind == kind) (tree.values s.clients))
 
 -- one more of that kind may come
 abbrev pub HasPlace : {M N R : Type 0} → Rules M N R → ℕ → Service → Type 0
-HasPlace rules kind s = open_of kind s < rules.limit kind
+HasPlace rules kind s = open_count kind s < rules.limit kind
 
 -- it is the turn of this connection, and that is to be done on it
 pub record Tasks {M N R : Type 0} (rules : Rules M N R) (m : M) (s : Service) (id count : ℕ) (wanted : Task) : Type 0 where
@@ -36,9 +36,9 @@ pub record Tasks {M N R : Type 0} (rules : Rules M N R) (m : M) (s : Service) (i
   pub task : task rules m s.moment count id (client_of s id) ≡ wanted
 
 -- whose turn begins by what a wait told: the listener's, or that of a connection which is there
-abbrev pub turn_by : ℕ → Option Client → Turn
-turn_by id (Some c) = Busy id 0
-turn_by id None = Free
+abbrev pub turn_at : ℕ → Option Client → Turn
+turn_at id (Some c) = Busy id 0
+turn_at id None = Free
 
 -- how many numbers are given from one number to another; after the last of all comes 0
 abbrev pub numbers_between : ℕ → ℕ → ℕ
@@ -53,48 +53,48 @@ abbrev pub came_since : ℕ → Service → Bool
 came_since kind s = came_among kind s.since s.next (tree.values s.clients)
 
 -- a knock counts only if none of its kind has come since it was told: who knocked may be the one that came
-abbrev pub turn_of : Wake → Service → Turn
-turn_of (Knock kind) s = Door kind (not (came_since kind s))
-turn_of (Ready id) s = turn_by id (client_of s id)
+abbrev pub turn_for_wake : Wake → Service → Turn
+turn_for_wake (Knock kind) s = Accepting kind (not (came_since kind s))
+turn_for_wake (Ready id) s = turn_at id (client_of s id)
 
 -- a connection that is late, the first by number
 abbrev pub first_late : {M N R : Type 0} → Rules M N R → M → Service → Option ℕ
-first_late rules m s = option_map (λ (c : Client). c.id) (find (λ (c : Client). is_late s.moment (rules.deadline m c.id) c) (tree.values s.clients))
+first_late rules m s = option_map (λ (c : Client). c.id) (find (λ (c : Client). is_late_at s.moment (rules.deadline m c.id) c) (tree.values s.clients))
 
 -- the first of those who wait that has something to do now
-abbrev pub goes_on : Task → Bool
-goes_on Rest = false
-goes_on _ = true
+abbrev pub is_runnable : Task → Bool
+is_runnable Rest = false
+is_runnable _ = true
 
-abbrev pub first_roused : {M N R : Type 0} → Rules M N R → M → Service → Option ℕ
-first_roused rules m s = find (λ id. goes_on (task rules m s.moment 0 id (client_of s id))) s.waiting.items
+abbrev pub first_resumable : {M N R : Type 0} → Rules M N R → M → Service → Option ℕ
+first_resumable rules m s = find (λ id. is_runnable (task rules m s.moment 0 id (client_of s id))) s.waiting.items
 
 -- nobody's turn, and nobody is late whom the last reading of the clock showed
 abbrev pub Calm : {M N R : Type 0} → Rules M N R → M → Service → Type 0
 Calm rules m s = (s.turn ≡ Free) ⊎ ((s.turn ≡ Sweep) × (first_late rules m s ≡ None))
 
-abbrev pub Rests : {M N R : Type 0} → Rules M N R → M → Service → Type 0
-Rests rules m s = Calm rules m s ⊎ (s.turn ≡ Rested)
+abbrev pub RestsOrCalm : {M N R : Type 0} → Rules M N R → M → Service → Type 0
+RestsOrCalm rules m s = Calm rules m s ⊎ (s.turn ≡ Rested)
 
 -- nothing is left of what the last wait told, and none of those who wait has something to do
 pub record Quiet {M N R : Type 0} (rules : Rules M N R) (m : M) (s : Service) : Type 0 where
   pub none : s.ready.items ≡ []
-  pub nobody : first_roused rules m s ≡ None
+  pub nobody : first_resumable rules m s ≡ None
 
 -- a wait follows if the machine has no work, or has just done some
 abbrev pub MayWait : {M N R : Type 0} → Rules M N R → M → Service → Type 0
 MayWait rules m s = (s.turn ≡ Rested) ⊎ (Calm rules m s × (rules.has_work m s.moment ≡ false))
 
 -- at the listener: one may come, under a number that is free
-pub record Admits {M N R : Type 0} (rules : Rules M N R) (s : Service) (kind : ℕ) : Type 0 where
+pub record MayAccept {M N R : Type 0} (rules : Rules M N R) (s : Service) (kind : ℕ) : Type 0 where
   pub knocked : Bool
-  pub door : s.turn ≡ Door kind knocked
+  pub door : s.turn ≡ Accepting kind knocked
   pub place : HasPlace rules kind s
   pub free : client_of s s.next ≡ None
 
 -- at the listener: no more may come
 pub record NoPlace {M N R : Type 0} (rules : Rules M N R) (s : Service) (kind : ℕ) (knocked : Bool) : Type 0 where
-  pub door : s.turn ≡ Door kind knocked
+  pub door : s.turn ≡ Accepting kind knocked
   pub full : ¬ HasPlace rules kind s
 
 -- the next number
@@ -102,16 +102,16 @@ abbrev pub after_number : ℕ → ℕ
 after_number id = (id + 1) % 2 ^ 32
 
 -- one that came is there and the listener's turn goes on, or memory was lacking for it
-abbrev pub Opens : {M N R : Type 0} → Rules M N R → M → ℕ → ℕ → ℕ → List ℕ → M → Service → Type 0
-Opens rules m now id kind said n t =
-    (rules.opens m now kind id said n × (client_of t id ≡ Some (newcomer now id kind said)) × (t.turn ≡ Door kind false))
-    ⊎ ((client_of t id ≡ None) × (t.turn ≡ Stuffed id kind) × (rules.opens m now kind id said n ⊎ rules.lacks m id n))
+abbrev pub ServiceOpens : {M N R : Type 0} → Rules M N R → M → ℕ → ℕ → ℕ → List ℕ → M → Service → Type 0
+ServiceOpens rules m now id kind said n t =
+    (rules.opens m now kind id said n × (client_of t id ≡ Some (newcomer now id kind said)) × (t.turn ≡ Accepting kind false))
+    ⊎ ((client_of t id ≡ None) × (t.turn ≡ OutOfMemory id kind) × (rules.opens m now kind id said n ⊎ rules.lacks m id n))
 
 -- one that came, and what is said to it
-pub record Enters {M N R : Type 0} (rules : Rules M N R) (m : M) (s : Service) (id kind : ℕ) (n : M) (t : Service) : Type 0 where
+pub record ServiceAccepts {M N R : Type 0} (rules : Rules M N R) (m : M) (s : Service) (id kind : ℕ) (n : M) (t : Service) : Type 0 where
   pub said : List ℕ
-  pub opens : Opens rules m s.moment id kind said n t
-  pub others : (other : ℕ) → same id other ≡ false → client_of t other ≡ client_of s other
+  pub opens : ServiceOpens rules m s.moment id kind said n t
+  pub others : (other : ℕ) → is_same_id id other ≡ false → client_of t other ≡ client_of s other
   pub next : t.next ≡ after_number id
   pub since : t.since ≡ s.since
   pub ready : t.ready ≡ s.ready
@@ -119,21 +119,21 @@ pub record Enters {M N R : Type 0} (rules : Rules M N R) (m : M) (s : Service) (
   pub moment : t.moment ≡ s.moment
 
 -- the machine answered and the turn goes on, or memory was lacking
-abbrev pub Goes : Type 0 → Type 0 → ℕ → ℕ → ℕ → List ℕ → Turn → Type 0
-Goes done lacks id kind count said turn = (done × (turn ≡ Busy id (count + 1))) ⊎ (lacks × (said ≡ []) × (turn ≡ Stuffed id kind))
+abbrev pub HeardOrLacking : Type 0 → Type 0 → ℕ → ℕ → ℕ → List ℕ → Turn → Type 0
+HeardOrLacking done lacks id kind count said turn = (done × (turn ≡ Busy id (count + 1))) ⊎ (lacks × (said ≡ []) × (turn ≡ OutOfMemory id kind))
 
 -- a piece is heard only if all is sent and the machine wants more
-pub record Hears {M N R : Type 0} (rules : Rules M N R) (m : M) (s : Service) (id : ℕ) (piece said : List ℕ) (n : M) (t : Service) : Type 0 where
+pub record ServiceHears {M N R : Type 0} (rules : Rules M N R) (m : M) (s : Service) (id : ℕ) (piece said : List ℕ) (n : M) (t : Service) : Type 0 where
   pub count : ℕ
   pub wanted : Tasks rules m s id count Hear
   pub some : 0 < length piece
   pub short : length piece ≤ largest_piece
-  pub goes : Goes (rules.gives m s.moment id piece said n) (rules.lacks m id n) id (kind_of (client_of s id)) count said t.turn
+  pub goes : HeardOrLacking (rules.gives m s.moment id piece said n) (rules.lacks m id n) id (client_kind (client_of s id)) count said t.turn
 
 -- what is said to a connection is to be sent, and its turn goes on, of which this many acts are done by then
-pub record Answered (id count : ℕ) (said : List ℕ) (s t : Service) : Type 0 where
+pub record ServiceAnswers (id count : ℕ) (said : List ℕ) (s t : Service) : Type 0 where
   pub turn : t.turn ≡ Busy id count
-  pub speaks : Alone id (Answers s.moment said) s t
+  pub speaks : ChangesOnly id (ClientAnswers s.moment said) s t
   pub next : t.next ≡ s.next
   pub since : t.since ≡ s.since
   pub ready : t.ready ≡ s.ready
@@ -141,10 +141,10 @@ pub record Answered (id count : ℕ) (said : List ℕ) (s t : Service) : Type 0 
   pub moment : t.moment ≡ s.moment
 
 -- a piece that was heard, and what the machine made of it
-pub record Given {M N R : Type 0} (rules : Rules M N R) (m : M) (s : Service) (id count : ℕ) (piece : List ℕ) (n : M) (t : Service) : Type 0 where
+pub record ServiceGiven {M N R : Type 0} (rules : Rules M N R) (m : M) (s : Service) (id count : ℕ) (piece : List ℕ) (n : M) (t : Service) : Type 0 where
   pub said : List ℕ
-  pub goes : Goes (rules.gives m s.moment id piece said n) (rules.lacks m id n) id (kind_of (client_of s id)) count said t.turn
-  pub talks : Alone id (MayAnswer s.moment said) s t
+  pub goes : HeardOrLacking (rules.gives m s.moment id piece said n) (rules.lacks m id n) id (client_kind (client_of s id)) count said t.turn
+  pub talks : ChangesOnly id (ClientMayAnswer s.moment said) s t
   pub next : t.next ≡ s.next
   pub since : t.since ≡ s.since
   pub ready : t.ready ≡ s.ready
@@ -156,11 +156,11 @@ abbrev pub Silent : {M : Type 0} → M → List ℕ → M → Type 0
 Silent m said n = (n ≡ m) × (said ≡ [])
 
 -- one act of a connection whose turn goes on
-abbrev pub GoesOn : {M N R : Type 0} → Rules M N R → M → Service → ℕ → Task → Turn → Type 0
-GoesOn rules m s id wanted turn = (count : ℕ) × Tasks rules m s id count wanted × (turn ≡ Busy id (count + 1))
+abbrev pub ContinuesTurn : {M N R : Type 0} → Rules M N R → M → Service → ℕ → Task → Turn → Type 0
+ContinuesTurn rules m s id wanted turn = (count : ℕ) × Tasks rules m s id count wanted × (turn ≡ Busy id (count + 1))
 
 -- a step of a connection whose turn goes on: one more act of it is done, or more if the step took long
-pub record StepsOn {M N R : Type 0} (rules : Rules M N R) (m : M) (s : Service) (id : ℕ) (turn : Turn) : Type 0 where
+pub record StepsTurn {M N R : Type 0} (rules : Rules M N R) (m : M) (s : Service) (id : ℕ) (turn : Turn) : Type 0 where
   pub count : ℕ
   pub wanted : Tasks rules m s id count Step
   pub over : ℕ
@@ -169,37 +169,37 @@ pub record StepsOn {M N R : Type 0} (rules : Rules M N R) (m : M) (s : Service) 
   pub within : over ≤ fair
 
 -- one that ends its turn by that
-abbrev pub Stops : {M N R : Type 0} → Rules M N R → M → Service → ℕ → Task → Turn → Turn → Type 0
-Stops rules m s id wanted to turn = (count : ℕ) × Tasks rules m s id count wanted × (turn ≡ to)
+abbrev pub StopsTurn : {M N R : Type 0} → Rules M N R → M → Service → ℕ → Task → Turn → Turn → Type 0
+StopsTurn rules m s id wanted to turn = (count : ℕ) × Tasks rules m s id count wanted × (turn ≡ to)
 
 -- a read may find nothing, or an end, when it is to be heard or drained
-abbrev pub Reads : {M N R : Type 0} → Rules M N R → M → Service → ℕ → Turn → Turn → Type 0
-Reads rules m s id to turn = Stops rules m s id Hear to turn ⊎ Stops rules m s id Drain to turn
+abbrev pub ReadEnds : {M N R : Type 0} → Rules M N R → M → Service → ℕ → Turn → Turn → Type 0
+ReadEnds rules m s id to turn = StopsTurn rules m s id Hear to turn ⊎ StopsTurn rules m s id Drain to turn
 
 -- a read or a write may fail
 abbrev pub Fails : {M N R : Type 0} → Rules M N R → M → Service → ℕ → Turn → Turn → Type 0
-Fails rules m s id to turn = Stops rules m s id Send to turn ⊎ Reads rules m s id to turn
+Fails rules m s id to turn = StopsTurn rules m s id Send to turn ⊎ ReadEnds rules m s id to turn
 
 -- memory may be lacking for it: it came or was heard without, or can't continue
 abbrev pub Lacks : {M N R : Type 0} → Rules M N R → M → Service → ℕ → M → Service → Type 0
 Lacks rules m s id n t =
-    ((kind : ℕ) × (s.turn ≡ Stuffed id kind) × (n ≡ m) × (t.turn ≡ Leaving id kind))
-    ⊎ ((rules.lacks m id n × Stops rules m s id Step (Leaving id (kind_of (client_of s id))) t.turn)
-    ⊎ ((n ≡ m) × Stops rules m s id Rest (Leaving id (kind_of (client_of s id))) t.turn))
+    ((kind : ℕ) × (s.turn ≡ OutOfMemory id kind) × (n ≡ m) × (t.turn ≡ Leaving id kind))
+    ⊎ ((rules.lacks m id n × StopsTurn rules m s id Step (Leaving id (client_kind (client_of s id))) t.turn)
+    ⊎ ((n ≡ m) × StopsTurn rules m s id Rest (Leaving id (client_kind (client_of s id))) t.turn))
 
 -- to one that is late or makes room and to which nothing waits something is said last; any other is closed, and so is one for which
 -- memory is lacking
 abbrev pub Parting : {M N R : Type 0} → Rules M N R → M → Service → ℕ → List ℕ → M → Service → Type 0
 Parting rules m s id said n t =
     ((is_quiet (client_of s id) ≡ true) × rules.lates m s.moment id said n × (t.turn ≡ Busy id 0) × (is_closing (client_of t id) ≡ true))
-    ⊎ ((said ≡ []) × (t.turn ≡ Leaving id (kind_of (client_of s id))) × ((n ≡ m) × (is_quiet (client_of s id) ≡ false)))
-    ⊎ ((said ≡ []) × (t.turn ≡ Leaving id (kind_of (client_of s id))) × rules.lacks m id n)
+    ⊎ ((said ≡ []) × (t.turn ≡ Leaving id (client_kind (client_of s id))) × ((n ≡ m) × (is_quiet (client_of s id) ≡ false)))
+    ⊎ ((said ≡ []) × (t.turn ≡ Leaving id (client_kind (client_of s id))) × rules.lacks m id n)
 
 -- what the machine says last to one that was late or makes room
-pub record Parted {M N R : Type 0} (rules : Rules M N R) (m : M) (s : Service) (id : ℕ) (at : Phase) (n : M) (t : Service) : Type 0 where
+pub record ServiceParted {M N R : Type 0} (rules : Rules M N R) (m : M) (s : Service) (id : ℕ) (at : Phase) (n : M) (t : Service) : Type 0 where
   pub said : List ℕ
   pub parting : Parting rules m s id said n t
-  pub talks : Alone id (MayPart at s.moment said) s t
+  pub talks : ChangesOnly id (ClientMayPart at s.moment said) s t
   pub next : t.next ≡ s.next
   pub since : t.since ≡ s.since
   pub ready : t.ready ≡ s.ready
@@ -212,12 +212,12 @@ Yields rules m s id = ((count : ℕ) × (s.turn ≡ Busy id count) × (fair ≤ 
 
 -- it is closed right after a cause, or when the machine is done with it, all is sent and its peer had time
 abbrev pub MayEnd : {M N R : Type 0} → Rules M N R → M → Service → ℕ → ℕ → Type 0
-MayEnd rules m s id kind = (s.turn ≡ Leaving id kind) ⊎ ((count : ℕ) × Tasks rules m s id count End × (kind ≡ kind_of (client_of s id)))
+MayEnd rules m s id kind = (s.turn ≡ Leaving id kind) ⊎ ((count : ℕ) × Tasks rules m s id count End × (kind ≡ client_kind (client_of s id)))
 
 -- one that waits goes on when nothing is left of what the last wait told, the first that has something to do
-pub record Rouses {M N R : Type 0} (rules : Rules M N R) (m : M) (s : Service) (id : ℕ) : Type 0 where
+pub record ResumesFirst {M N R : Type 0} (rules : Rules M N R) (m : M) (s : Service) (id : ℕ) : Type 0 where
   pub none : s.ready.items ≡ []
-  pub first : first_roused rules m s ≡ Some id
+  pub first : first_resumable rules m s ≡ Some id
 
 -- the machine works when nobody else has something to do, and it has
 pub record MayWork {M N R : Type 0} (rules : Rules M N R) (m : M) (s : Service) : Type 0 where
@@ -229,12 +229,12 @@ pub record MayWork {M N R : Type 0} (rules : Rules M N R) (m : M) (s : Service) 
 pub record Passed {M N R : Type 0} (rules : Rules M N R) (s : Service) (id : ℕ) (t : Service) : Type 0 where
   pub kind : ℕ
   pub knocked : Bool
-  pub door : s.turn ≡ Door kind knocked
+  pub door : s.turn ≡ Accepting kind knocked
   pub place : HasPlace rules kind s
   pub number : id ≡ s.next
   pub taken : IsSome (client_of s id)
   pub next : t.next ≡ after_number id
-  pub stays : t.turn ≡ Door kind knocked
+  pub stays : t.turn ≡ Accepting kind knocked
 
 -- there is no place, and nobody makes room
 pub record Crowds {M N R : Type 0} (rules : Rules M N R) (m : M) (s : Service) (kind : ℕ) : Type 0 where
@@ -243,29 +243,29 @@ pub record Crowds {M N R : Type 0} (rules : Rules M N R) (m : M) (s : Service) (
   pub nobody : makes_room rules m s kind ≡ None
 
 -- the acts that a turn allows, what the machine says at them and becomes, and whose turn follows
-abbrev pub Turns : {M N R : Type 0} → Rules M N R → M → R → Service → Act N → List ℕ → M → R → Service → Type 0
-Turns rules m r s (Woke within wakes) said n q t = Silent m said n × MayWait rules m s × Quiet rules m s × (within ≡ rules.patience m) × (t.turn ≡ Waked)
-Turns rules m r s (Timed moment) said n q t = Silent m said n × (s.turn ≡ Waked) × (t.turn ≡ Sweep)
-Turns rules m r s (Late id) said n q t = (s.turn ≡ Sweep) × (first_late rules m s ≡ Some id) × Parting rules m s id said n t
-Turns rules m r s (Began wake) said n q t = Silent m said n × Rests rules m s × (t.turn ≡ turn_of wake s)
-Turns rules m r s (Roused id) said n q t = Silent m said n × Rests rules m s × Rouses rules m s id × (t.turn ≡ turn_by id (client_of s id))
-Turns rules m r s (Worked note) said n q t = rules.works m r s.moment note n q × (said ≡ []) × MayWork rules m s × (t.turn ≡ Rested)
-Turns rules m r s (Came id kind) said n q t = Admits rules s kind × (id ≡ s.next) × (t.next ≡ after_number id) × Opens rules m s.moment id kind said n t
-Turns rules m r s (NoneCame kind) said n q t = Silent m said n × Admits rules s kind × (t.turn ≡ Free)
-Turns rules m r s (Crowded kind) said n q t = Silent m said n × Crowds rules m s kind × (t.turn ≡ Free)
-Turns rules m r s (Displaced id) said n q t = ((kind : ℕ) × NoPlace rules s kind true × (makes_room rules m s kind ≡ Some id)) × Parting rules m s id said n t
-Turns rules m r s (Listened kind) said n q t = Silent m said n × NoPlace rules s kind false × IsSome (makes_room rules m s kind) × (t.turn ≡ Free)
-Turns rules m r s (InUse id) said n q t = Silent m said n × Passed rules s id t
-Turns rules m r s (Heard id piece) said n q t = Hears rules m s id piece said n t
-Turns rules m r s (ReadBlocked id) said n q t = Silent m said n × Reads rules m s id Free t.turn
-Turns rules m r s (Over id) said n q t = Silent m said n × Reads rules m s id (Leaving id (kind_of (client_of s id))) t.turn
-Turns rules m r s (Sent id octets) said n q t = Silent m said n × GoesOn rules m s id Send t.turn
-Turns rules m r s (WriteBlocked id) said n q t = Silent m said n × Stops rules m s id Send Free t.turn
-Turns rules m r s (Lost id) said n q t = Silent m said n × Fails rules m s id (Leaving id (kind_of (client_of s id))) t.turn
-Turns rules m r s (Noted id note) said n q t = rules.steps m r s.moment id note said n q × StepsOn rules m s id t.turn
-Turns rules m r s (Waits id) said n q t = Silent m said n × Stops rules m s id Rest Free t.turn
-Turns rules m r s (Full id) said n q t = (said ≡ []) × Lacks rules m s id n t
-Turns rules m r s (Again id) said n q t = Silent m said n × Yields rules m s id × (t.turn ≡ Free)
-Turns rules m r s (Shut id) said n q t = Silent m said n × GoesOn rules m s id HangUp t.turn
-Turns rules m r s (Dropped id count) said n q t = Silent m said n × GoesOn rules m s id Drain t.turn
-Turns rules m r s (Ended id) said n q t = rules.closes m s.moment id n × (said ≡ []) × ((kind : ℕ) × MayEnd rules m s id kind × (t.turn ≡ Door kind false))
+abbrev pub TurnAllows : {M N R : Type 0} → Rules M N R → M → R → Service → Act N → List ℕ → M → R → Service → Type 0
+TurnAllows rules m r s (Woke within wakes) said n q t = Silent m said n × MayWait rules m s × Quiet rules m s × (within ≡ rules.patience m) × (t.turn ≡ Waked)
+TurnAllows rules m r s (Timed moment) said n q t = Silent m said n × (s.turn ≡ Waked) × (t.turn ≡ Sweep)
+TurnAllows rules m r s (Late id) said n q t = (s.turn ≡ Sweep) × (first_late rules m s ≡ Some id) × Parting rules m s id said n t
+TurnAllows rules m r s (Began wake) said n q t = Silent m said n × RestsOrCalm rules m s × (t.turn ≡ turn_for_wake wake s)
+TurnAllows rules m r s (Resumed id) said n q t = Silent m said n × RestsOrCalm rules m s × ResumesFirst rules m s id × (t.turn ≡ turn_at id (client_of s id))
+TurnAllows rules m r s (Worked note) said n q t = rules.works m r s.moment note n q × (said ≡ []) × MayWork rules m s × (t.turn ≡ Rested)
+TurnAllows rules m r s (Came id kind) said n q t = MayAccept rules s kind × (id ≡ s.next) × (t.next ≡ after_number id) × ServiceOpens rules m s.moment id kind said n t
+TurnAllows rules m r s (NoneCame kind) said n q t = Silent m said n × MayAccept rules s kind × (t.turn ≡ Free)
+TurnAllows rules m r s (Crowded kind) said n q t = Silent m said n × Crowds rules m s kind × (t.turn ≡ Free)
+TurnAllows rules m r s (Displaced id) said n q t = ((kind : ℕ) × NoPlace rules s kind true × (makes_room rules m s kind ≡ Some id)) × Parting rules m s id said n t
+TurnAllows rules m r s (Listened kind) said n q t = Silent m said n × NoPlace rules s kind false × IsSome (makes_room rules m s kind) × (t.turn ≡ Free)
+TurnAllows rules m r s (InUse id) said n q t = Silent m said n × Passed rules s id t
+TurnAllows rules m r s (Heard id piece) said n q t = ServiceHears rules m s id piece said n t
+TurnAllows rules m r s (ReadBlocked id) said n q t = Silent m said n × ReadEnds rules m s id Free t.turn
+TurnAllows rules m r s (Over id) said n q t = Silent m said n × ReadEnds rules m s id (Leaving id (client_kind (client_of s id))) t.turn
+TurnAllows rules m r s (Sent id octets) said n q t = Silent m said n × ContinuesTurn rules m s id Send t.turn
+TurnAllows rules m r s (WriteBlocked id) said n q t = Silent m said n × StopsTurn rules m s id Send Free t.turn
+TurnAllows rules m r s (Lost id) said n q t = Silent m said n × Fails rules m s id (Leaving id (client_kind (client_of s id))) t.turn
+TurnAllows rules m r s (Noted id note) said n q t = rules.steps m r s.moment id note said n q × StepsTurn rules m s id t.turn
+TurnAllows rules m r s (Waits id) said n q t = Silent m said n × StopsTurn rules m s id Rest Free t.turn
+TurnAllows rules m r s (Full id) said n q t = (said ≡ []) × Lacks rules m s id n t
+TurnAllows rules m r s (Again id) said n q t = Silent m said n × Yields rules m s id × (t.turn ≡ Free)
+TurnAllows rules m r s (Shut id) said n q t = Silent m said n × ContinuesTurn rules m s id HangUp t.turn
+TurnAllows rules m r s (Dropped id count) said n q t = Silent m said n × ContinuesTurn rules m s id Drain t.turn
+TurnAllows rules m r s (Ended id) said n q t = rules.closes m s.moment id n × (said ≡ []) × ((kind : ℕ) × MayEnd rules m s id kind × (t.turn ≡ Accepting kind false))

@@ -1,11 +1,11 @@
 //! Connections that come, and who makes room for them.
 ghost use Rattle.std.specs.Prelude.{◌≡◌, ◌==◌, ◌<◌, filter, true, Some, None, IsTrue};
-ghost use Rattle.wires.specs.Moves.{MovesIf};
-ghost use Rattle.wires.specs.Room.{goes_before, better, number_of, has_had_by, may_go, claim_in, makes_room};
-ghost use Rattle.wires.specs.Talk.{client_of, waits, is_open_by};
-ghost use Rattle.wires.specs.Turns.{Enters, Admits, NoPlace};
-ghost use Rattle.wires.specs.Turns.{open_of};
-ghost use Rattle.wires.specs.declared.turn.Turn.TheVariants.{Free, Door, Stuffed};
+ghost use Rattle.net_loop.specs.Moves.{LoopMovesIf};
+ghost use Rattle.net_loop.specs.Room.{goes_before, better, best_number, has_had_by, may_go, claim_in, makes_room};
+ghost use Rattle.net_loop.specs.Talk.{client_of, waits, is_open_by};
+ghost use Rattle.net_loop.specs.Turns.{ServiceAccepts, MayAccept, NoPlace};
+ghost use Rattle.net_loop.specs.Turns.{open_count};
+ghost use Rattle.net_loop.specs.declared.turn.Turn.TheVariants.{Free, Accepting, OutOfMemory};
 
 use crate::act::Act;
 use crate::machine::{Claim, Machine};
@@ -25,7 +25,7 @@ const MIN_DEAF: u64 = 1000;
 
 /// How many connections of that kind are open.
 fn count_open(service: &Service, kind: u32) -> usize
-    ensures { result ≡ open_of kind service.now }
+    ensures { result ≡ open_count kind service.now }
 {
     service
         .clients
@@ -42,9 +42,9 @@ pub fn door_once<O: Sockets + Clock, M: Machine<O>>(
     kind: u32,
     knocked: bool,
 )
-    requires { service.old.turn ≡ Door kind knocked }
+    requires { service.old.turn ≡ Accepting kind knocked }
     ensures kept { IsTrue (O.tells outside.new) → IsTrue (O.tells outside.old) }
-    ensures moves { MovesIf O.tells O.seen O.rest M.rules outside.old machine.old service.old outside.new machine.new service.new }
+    ensures moves { LoopMovesIf O.tells O.seen O.rest M.rules outside.old machine.old service.old outside.new machine.new service.new }
 {
     if count_open(service, kind) >= machine.limit(kind) {
         return crowd_once(outside, machine, service, kind, knocked);
@@ -69,7 +69,7 @@ fn crowd_once<O: Sockets + Clock, M: Machine<O>>(
 )
     requires { NoPlace M.rules service.old kind knocked }
     ensures kept { IsTrue (O.tells outside.new) → IsTrue (O.tells outside.old) }
-    ensures moves { MovesIf O.tells O.seen O.rest M.rules outside.old machine.old service.old outside.new machine.new service.new }
+    ensures moves { LoopMovesIf O.tells O.seen O.rest M.rules outside.old machine.old service.old outside.new machine.new service.new }
 {
     let Some(id) = find_room(machine, service, kind) else {
         outside.defer(kind);
@@ -94,7 +94,7 @@ fn displace_once<O: Sockets + Clock, M: Machine<O>>(
     requires none { NoPlace M.rules service.old kind true }
     requires one { makes_room M.rules machine.old service.old kind ≡ Some id }
     ensures kept { IsTrue (O.tells outside.new) → IsTrue (O.tells outside.old) }
-    ensures moves { MovesIf O.tells O.seen O.rest M.rules outside.old machine.old service.old outside.new machine.new service.new }
+    ensures moves { LoopMovesIf O.tells O.seen O.rest M.rules outside.old machine.old service.old outside.new machine.new service.new }
 {
     outside.note(Act::Displaced(id));
     dismiss(machine, service, id, Phase::Yielding);
@@ -183,7 +183,7 @@ fn goes_before(claim: Claim, other: Claim) -> bool
 }
 
 fn number_of(best: Option<(u32, Claim)>) -> Option<u32>
-    ensures { result ≡ number_of best }
+    ensures { result ≡ best_number best }
 {
     match best {
         Some((id, _)) => Some(id),
@@ -210,10 +210,10 @@ fn accept_once<O: Sockets + Clock, M: Machine<O>>(
     kind: u32,
     id: u32,
 )
-    requires admits { Admits M.rules service.old kind }
+    requires admits { MayAccept M.rules service.old kind }
     requires next { id ≡ service.old.next }
     ensures kept { IsTrue (O.tells outside.new) → IsTrue (O.tells outside.old) }
-    ensures moves { MovesIf O.tells O.seen O.rest M.rules outside.old machine.old service.old outside.new machine.new service.new }
+    ensures moves { LoopMovesIf O.tells O.seen O.rest M.rules outside.old machine.old service.old outside.new machine.new service.new }
 {
     match outside.accept(kind, id) {
         Accepted::Came => admit(machine, service, kind, id),
@@ -231,12 +231,12 @@ fn admit<O: Sockets + Clock, M: Machine<O>>(
     id: u32,
 )
     requires { client_of service.old id ≡ None }
-    ensures { Enters M.rules machine.old service.old id kind machine.new service.new }
+    ensures { ServiceAccepts M.rules machine.old service.old id kind machine.new service.new }
 {
     service.next = id.wrapping_add(1);
     let mut out = Octets::new(service.alloc);
     if machine.open(service.moment, kind, id, &mut out).is_err() {
-        service.turn = Turn::Stuffed(id, kind);
+        service.turn = Turn::OutOfMemory(id, kind);
         return;
     }
     let client = Client {
@@ -248,8 +248,8 @@ fn admit<O: Sockets + Clock, M: Machine<O>>(
         until: service.moment.wrapping_add(MAX_UNSENT),
     };
     if service.clients.insert(id, client).is_ok() {
-        service.turn = Turn::Door(kind, false);
+        service.turn = Turn::Accepting(kind, false);
     } else {
-        service.turn = Turn::Stuffed(id, kind);
+        service.turn = Turn::OutOfMemory(id, kind);
     }
 }

@@ -17,7 +17,7 @@ pub enum Act<N> {
     /// `id` waits for something other than its socket.
     Waits(u32),
     /// What `id` waited for is there.
-    Roused(u32),
+    Resumed(u32),
     /// The machine did something of its own.
     Worked(N),
     /// A connection was accepted, as `id`, of that `kind`.

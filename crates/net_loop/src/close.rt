@@ -1,8 +1,8 @@
 //! How connections end.
 ghost use Rattle.std.specs.Prelude.{◌≡◌, ◌==◌, ◌<◌, not, filter, IsTrue};
-ghost use Rattle.wires.specs.Moves.{MovesIf};
-ghost use Rattle.wires.specs.Turns.{Yields, MayEnd};
-ghost use Rattle.wires.specs.declared.turn.Turn.TheVariants.{Free, Door, Stuffed};
+ghost use Rattle.net_loop.specs.Moves.{LoopMovesIf};
+ghost use Rattle.net_loop.specs.Turns.{Yields, MayEnd};
+ghost use Rattle.net_loop.specs.declared.turn.Turn.TheVariants.{Free, Accepting, OutOfMemory};
 
 use crate::act::Act;
 use crate::machine::Machine;
@@ -26,7 +26,7 @@ pub fn again_once<O: Sockets + Clock, M: Machine<O>>(
 )
     requires { Yields M.rules machine.old service.old id }
     ensures kept { IsTrue (O.tells outside.new) → IsTrue (O.tells outside.old) }
-    ensures moves { MovesIf O.tells O.seen O.rest M.rules outside.old machine.old service.old outside.new machine.new service.new }
+    ensures moves { LoopMovesIf O.tells O.seen O.rest M.rules outside.old machine.old service.old outside.new machine.new service.new }
 {
     outside.again(id);
     service.turn = Turn::Free;
@@ -40,9 +40,9 @@ pub fn full_once<O: Sockets + Clock, M: Machine<O>>(
     id: u32,
     kind: u32,
 )
-    requires { service.old.turn ≡ Stuffed id kind }
+    requires { service.old.turn ≡ OutOfMemory id kind }
     ensures kept { IsTrue (O.tells outside.new) → IsTrue (O.tells outside.old) }
-    ensures moves { MovesIf O.tells O.seen O.rest M.rules outside.old machine.old service.old outside.new machine.new service.new }
+    ensures moves { LoopMovesIf O.tells O.seen O.rest M.rules outside.old machine.old service.old outside.new machine.new service.new }
 {
     outside.note(Act::Full(id));
     service.turn = Turn::Leaving(id, kind);
@@ -58,11 +58,11 @@ pub fn end_once<O: Sockets + Clock, M: Machine<O>>(
 )
     requires { MayEnd M.rules machine.old service.old id kind }
     ensures kept { IsTrue (O.tells outside.new) → IsTrue (O.tells outside.old) }
-    ensures moves { MovesIf O.tells O.seen O.rest M.rules outside.old machine.old service.old outside.new machine.new service.new }
+    ensures moves { LoopMovesIf O.tells O.seen O.rest M.rules outside.old machine.old service.old outside.new machine.new service.new }
 {
     outside.close(id);
     machine.close(service.moment, id);
     let _ = service.clients.remove(&id);
     forget(&mut service.waiting, id);
-    service.turn = Turn::Door(kind, false);
+    service.turn = Turn::Accepting(kind, false);
 }

@@ -1,11 +1,11 @@
 //! The turn of one connection: what is sent to it, read of it and done for it.
 ghost use Rattle.std.specs.Prelude.{ℕ, ◌≡◌, ◌==◌, ◌<◌, ◌≤◌, length, take, true, Some, None, IsTrue, IsSome};
-ghost use Rattle.wires.specs.Moves.{MovesIf};
-ghost use Rattle.wires.specs.Talk.{client_of, kind_of, waits, shut_from, is_nothing, gathers, task, task_by, task_sent};
-ghost use Rattle.wires.specs.Talk.{task_unsent, task_wanted, takes_more, next_piece, Gathers, Taken, Stays, drained, due_taken};
-ghost use Rattle.wires.specs.Turns.{Tasks, Answered, Given};
-ghost use Rattle.wires.specs.declared.turn.Turn.TheVariants.{Free, Busy, Stuffed};
-ghost use Rattle.wires.specs.declared.turn.Task.TheVariants.{Send, Hear, Step, Rest, HangUp, Drain};
+ghost use Rattle.net_loop.specs.Moves.{LoopMovesIf};
+ghost use Rattle.net_loop.specs.Talk.{client_of, client_kind, waits, shut_from, is_nothing, gathers, task, task_by, task_sent};
+ghost use Rattle.net_loop.specs.Talk.{task_unsent, task_wanted, takes_more, next_piece, Gathers, Taken, ClientStays, drained, due_taken};
+ghost use Rattle.net_loop.specs.Turns.{Tasks, ServiceAnswers, ServiceGiven};
+ghost use Rattle.net_loop.specs.declared.turn.Turn.TheVariants.{Free, Busy, OutOfMemory};
+ghost use Rattle.net_loop.specs.declared.turn.Task.TheVariants.{Send, Hear, Step, Rest, HangUp, Drain};
 
 use crate::accept::MAX_UNSENT;
 use crate::act::Act;
@@ -100,7 +100,7 @@ fn task_of_want(now: u64, want: Want) -> Task
 
 /// Of which kind it is.
 pub fn kind_of_client(service: &Service, id: u32) -> u32
-    ensures { result ≡ kind_of (client_of service.now id) }
+    ensures { result ≡ client_kind (client_of service.now id) }
 {
     match service.clients.get(&id) {
         Some(client) => client.kind,
@@ -118,7 +118,7 @@ pub fn busy_once<O: Sockets + Clock, M: Machine<O>>(
 )
     requires { service.old.turn ≡ Busy id count }
     ensures kept { IsTrue (O.tells outside.new) → IsTrue (O.tells outside.old) }
-    ensures moves { MovesIf O.tells O.seen O.rest M.rules outside.old machine.old service.old outside.new machine.new service.new }
+    ensures moves { LoopMovesIf O.tells O.seen O.rest M.rules outside.old machine.old service.old outside.new machine.new service.new }
 {
     if count >= MAX_ACTS {
         return again_once(outside, machine, service, id);
@@ -146,9 +146,9 @@ fn send_once<O: Sockets + Clock, M: Machine<O>>(
     kind: u32,
 )
     requires turn { Tasks M.rules machine.old service.old id count Send }
-    requires kind { kind ≡ kind_of (client_of service.old id) }
+    requires kind { kind ≡ client_kind (client_of service.old id) }
     ensures kept { IsTrue (O.tells outside.new) → IsTrue (O.tells outside.old) }
-    ensures moves { MovesIf O.tells O.seen O.rest M.rules outside.old machine.old service.old outside.new machine.new service.new }
+    ensures moves { LoopMovesIf O.tells O.seen O.rest M.rules outside.old machine.old service.old outside.new machine.new service.new }
 {
     let Some(client) = service.clients.get_mut(&id) else {
         return;
@@ -203,7 +203,7 @@ fn bring_up(client: &mut Client, alloc: Global)
     ensures first { client.new.unsent ≡ next_piece client.old.unsent client.old.behind }
     ensures waits { waits client.new ≡ waits client.old }
     ensures until { client.new.until ≡ client.old.until }
-    ensures stays { Stays client.old client.new }
+    ensures stays { ClientStays client.old client.new }
 {
     if !client.unsent.is_empty() {
         return;
@@ -222,9 +222,9 @@ fn hear_once<O: Sockets + Clock, M: Machine<O>>(
     kind: u32,
 )
     requires turn { Tasks M.rules machine.old service.old id count Hear }
-    requires kind { kind ≡ kind_of (client_of service.old id) }
+    requires kind { kind ≡ client_kind (client_of service.old id) }
     ensures kept { IsTrue (O.tells outside.new) → IsTrue (O.tells outside.old) }
-    ensures moves { MovesIf O.tells O.seen O.rest M.rules outside.old machine.old service.old outside.new machine.new service.new }
+    ensures moves { LoopMovesIf O.tells O.seen O.rest M.rules outside.old machine.old service.old outside.new machine.new service.new }
 {
     let mut buffer = [0u8; MAX_PIECE];
     match outside.read(id, &mut buffer) {
@@ -251,14 +251,14 @@ fn give<O: Sockets + Clock, M: Machine<O>>(
     piece: &[u8],
 )
     requires turn { Tasks M.rules machine.old service.old id count Hear }
-    requires kind { kind ≡ kind_of (client_of service.old id) }
-    ensures { Given M.rules machine.old service.old id count piece.now machine.new service.new }
+    requires kind { kind ≡ client_kind (client_of service.old id) }
+    ensures { ServiceGiven M.rules machine.old service.old id count piece.now machine.new service.new }
 {
     let mut out = Octets::new(service.alloc);
     if machine.give(service.moment, id, piece, &mut out).is_ok() {
         answer(service, id, count + 1, out);
     } else {
-        service.turn = Turn::Stuffed(id, kind);
+        service.turn = Turn::OutOfMemory(id, kind);
     }
 }
 
@@ -266,7 +266,7 @@ fn give<O: Sockets + Clock, M: Machine<O>>(
 fn answer(service: &mut Service, id: u32, count: u32, said: Octets)
     requires some { IsSome (client_of service.old id) }
     requires more { takes_more (client_of service.old id) ≡ true }
-    ensures { Answered id count said service.old service.new }
+    ensures { ServiceAnswers id count said service.old service.new }
 {
     service.turn = Turn::Busy(id, count);
     let Some(client) = service.clients.get_mut(&id) else {
@@ -300,9 +300,9 @@ fn step_once<O: Sockets + Clock, M: Machine<O>>(
     kind: u32,
 )
     requires turn { Tasks M.rules machine.old service.old id count Step }
-    requires kind { kind ≡ kind_of (client_of service.old id) }
+    requires kind { kind ≡ client_kind (client_of service.old id) }
     ensures kept { IsTrue (O.tells outside.new) → IsTrue (O.tells outside.old) }
-    ensures moves { MovesIf O.tells O.seen O.rest M.rules outside.old machine.old service.old outside.new machine.new service.new }
+    ensures moves { LoopMovesIf O.tells O.seen O.rest M.rules outside.old machine.old service.old outside.new machine.new service.new }
 {
     let mut out = Octets::new(service.alloc);
     if machine.step(outside, service.moment, id, &mut out).is_ok() {
@@ -337,9 +337,9 @@ fn rest_once<O: Sockets + Clock, M: Machine<O>>(
     kind: u32,
 )
     requires turn { (count : ℕ) × Tasks M.rules machine.old service.old id count Rest }
-    requires kind { kind ≡ kind_of (client_of service.old id) }
+    requires kind { kind ≡ client_kind (client_of service.old id) }
     ensures kept { IsTrue (O.tells outside.new) → IsTrue (O.tells outside.old) }
-    ensures moves { MovesIf O.tells O.seen O.rest M.rules outside.old machine.old service.old outside.new machine.new service.new }
+    ensures moves { LoopMovesIf O.tells O.seen O.rest M.rules outside.old machine.old service.old outside.new machine.new service.new }
 {
     if service.waiting.contains(&id) {
         outside.note(Act::Waits(id));
@@ -365,7 +365,7 @@ fn shut_once<O: Sockets + Clock, M: Machine<O>>(
 )
     requires { Tasks M.rules machine.old service.old id count HangUp }
     ensures kept { IsTrue (O.tells outside.new) → IsTrue (O.tells outside.old) }
-    ensures moves { MovesIf O.tells O.seen O.rest M.rules outside.old machine.old service.old outside.new machine.new service.new }
+    ensures moves { LoopMovesIf O.tells O.seen O.rest M.rules outside.old machine.old service.old outside.new machine.new service.new }
 {
     let Some(client) = service.clients.get_mut(&id) else {
         return;
@@ -396,9 +396,9 @@ fn drain_once<O: Sockets + Clock, M: Machine<O>>(
     kind: u32,
 )
     requires turn { Tasks M.rules machine.old service.old id count Drain }
-    requires kind { kind ≡ kind_of (client_of service.old id) }
+    requires kind { kind ≡ client_kind (client_of service.old id) }
     ensures kept { IsTrue (O.tells outside.new) → IsTrue (O.tells outside.old) }
-    ensures moves { MovesIf O.tells O.seen O.rest M.rules outside.old machine.old service.old outside.new machine.new service.new }
+    ensures moves { LoopMovesIf O.tells O.seen O.rest M.rules outside.old machine.old service.old outside.new machine.new service.new }
 {
     let Some(client) = service.clients.get_mut(&id) else {
         return;

@@ -1,6 +1,6 @@
 //! Laws of what is served, each the contract of a function that does nothing.
-ghost use Rattle.wires.specs.Life.{OneConnection, Apart, EndsRight, Bounded, NoneForgotten};
-ghost use Rattle.wires.specs.Room.{FirstGoes};
+ghost use Rattle.net_loop.specs.Life.{OneConnection, Apart, EndsRight, Bounded, NoneForgotten};
+ghost use Rattle.net_loop.specs.Room.{FirstGoes};
 
 use crate::machine::Machine;
 use crate::outside::Outside;

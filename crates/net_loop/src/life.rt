@@ -1,9 +1,9 @@
 //! A life of the loop.
 ghost use Rattle.std.specs.Prelude.{IsTrue, OnOk, OnErr};
-ghost use Rattle.wires.specs.Life.{AddsIf, LivesIf};
+ghost use Rattle.net_loop.specs.Life.{AddsIf, LivesIf};
 
 use crate::machine::Machine;
-use crate::outcome::Fault;
+use crate::outcome::WaitError;
 use crate::outside::{Clock, Sockets};
 use crate::service::{Service, act};
 
@@ -17,7 +17,7 @@ pub fn serve<O: Sockets + Clock, M: Machine<O>>(
     machine: &mut M,
     service: &mut Service,
     acts: u64,
-) -> Result<(), Fault>
+) -> Result<(), WaitError>
     ensures kept { IsTrue (O.tells outside.new) → IsTrue (O.tells outside.old) }
     ensures passed { OnOk result (AddsIf O.tells O.seen outside.old acts outside.new) }
     ensures lives { LivesIf O.tells O.seen O.rest M.rules outside.old machine.old service.old outside.new machine.new service.new }

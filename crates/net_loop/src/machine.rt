@@ -1,6 +1,6 @@
 //! What is served.
 ghost use Rattle.std.specs.Prelude.{◌≡◌, [], IsTrue, OnOk, OnErr};
-ghost use Rattle.wires.specs.Rules.{Rules, StepsIf, WorksIf, IdlesIf};
+ghost use Rattle.net_loop.specs.Rules.{Rules, StepsIf, WorksIf, IdlesIf};
 
 use crate::outside::Outside;
 use octets::Octets;

@@ -43,7 +43,7 @@ pub enum Output {
 
 /// Why a daemon ends.
 #[derive(Clone, Copy, Debug, PartialEq, Eq)]
-pub enum Fault {
+pub enum WaitError {
     /// A wait failed.
     Wait,
 }

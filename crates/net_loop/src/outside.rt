@@ -1,11 +1,11 @@
 //! All that is outside: one list of acts, and the sockets.
 ghost use Rattle.std.specs.Prelude.{◌≡◌, Bool, List, [], ◌<◌, length, IsTrue, OnOk, OnErr};
-ghost use Rattle.wires.specs.Told.{IsOwn, TellsIf, LeavesIf, AfterAccept, AfterRead, AfterDiscard, AfterWrite, ReadFits, DiscardFits, WriteFits};
-ghost use Rattle.wires.specs.declared.act.Act.TheVariants.{Woke, Timed, Again, Crowded, Listened, Shut, Ended};
-ghost use Rattle.wires.specs.declared.act.Act.{Act};
+ghost use Rattle.net_loop.specs.Told.{IsLoopAct, TellsIf, LeavesIf, AfterAccept, AfterRead, AfterDiscard, AfterWrite, ReadFits, DiscardFits, WriteFits};
+ghost use Rattle.net_loop.specs.declared.act.Act.TheVariants.{Woke, Timed, Again, Crowded, Listened, Shut, Ended};
+ghost use Rattle.net_loop.specs.declared.act.Act.{Act};
 
 use crate::act::Act;
-use crate::outcome::{Accepted, Fault, Input, Output, Wake};
+use crate::outcome::{Accepted, WaitError, Input, Output, Wake};
 use std::collections::VecDeque;
 
 /// Where acts happen. Sockets, a clock and a store are traits over one such value, so that all acts stand in one order.
@@ -39,7 +39,7 @@ pub trait Sockets: Outside {
     /// # Errors
     ///
     /// If the system can't wait; nothing is told.
-    fn wait(&mut self, within: u32, ready: &mut VecDeque<Wake>) -> Result<(), Fault>
+    fn wait(&mut self, within: u32, ready: &mut VecDeque<Wake>) -> Result<(), WaitError>
         requires { ready.old.items ≡ [] }
         ensures ok { OnOk result (TellsIf Self.tells Self.seen self.old (Woke within ready.new.items) self.new) }
         ensures err { OnErr result (IsTrue (Self.tells self.new) → Self.seen self.new ≡ Self.seen self.old) }
@@ -109,7 +109,7 @@ pub trait Sockets: Outside {
 
     /// Notes what the loop does by itself.
     fn note(&mut self, act: Act<Self::Note>)
-        requires { IsOwn act }
+        requires { IsLoopAct act }
         ensures seen { TellsIf Self.tells Self.seen self.old act self.new }
         ensures left { LeavesIf Self.tells Self.rest self.old self.new }
         ensures kept { IsTrue (Self.tells self.new) → IsTrue (Self.tells self.old) };

@@ -1,17 +1,17 @@
 //! While it is no connection's turn: chooses the next one, closes who is late, and takes up what a wait told.
 ghost use Rattle.std.specs.Prelude.{◌≡◌, ◌==◌, ◌<◌, ◌↔◌, [], find, true, Some, None, IsTrue, OnErr};
-ghost use Rattle.wires.specs.Moves.{MovesIf, MovesOrIf};
-ghost use Rattle.wires.specs.Talk.{client_of, kind_of, waits, is_closing_by, parting_span, is_quiet, is_late, task};
-ghost use Rattle.wires.specs.Turns.{Parted, MayWait, Calm, Rests, Quiet};
-ghost use Rattle.wires.specs.Turns.{came_since, turn_of, first_late, first_roused, goes_on};
-ghost use Rattle.wires.specs.declared.turn.Turn.TheVariants.{Free, Rested, Waked, Sweep, Door, Busy};
-ghost use Rattle.wires.specs.declared.turn.Task.TheVariants.{Rest};
+ghost use Rattle.net_loop.specs.Moves.{LoopMovesIf, LoopMovesOrIf};
+ghost use Rattle.net_loop.specs.Talk.{client_of, client_kind, waits, is_closing_by, parting_span, is_quiet, is_late_at, task};
+ghost use Rattle.net_loop.specs.Turns.{ServiceParted, MayWait, Calm, RestsOrCalm, Quiet};
+ghost use Rattle.net_loop.specs.Turns.{came_since, turn_for_wake, first_late, first_resumable, is_runnable};
+ghost use Rattle.net_loop.specs.declared.turn.Turn.TheVariants.{Free, Rested, Waked, Sweep, Accepting, Busy};
+ghost use Rattle.net_loop.specs.declared.turn.Task.TheVariants.{Rest};
 
 use crate::act::Act;
 use crate::close::forget;
 use crate::connection::{kind_of_client, task_of};
 use crate::machine::Machine;
-use crate::outcome::{Fault, Wake};
+use crate::outcome::{WaitError, Wake};
 use crate::outside::{Clock, Sockets};
 use crate::service::{Client, Phase, Service};
 use crate::turn::{Task, Turn};
@@ -26,19 +26,19 @@ pub fn calm_once<O: Sockets + Clock, M: Machine<O>>(
     outside: &mut O,
     machine: &mut M,
     service: &mut Service,
-) -> Result<(), Fault>
+) -> Result<(), WaitError>
     requires { Calm M.rules machine.old service.old }
     ensures kept { IsTrue (O.tells outside.new) → IsTrue (O.tells outside.old) }
-    ensures moves { MovesOrIf O.tells O.seen O.rest M.rules outside.old machine.old service.old outside.new machine.new service.new result }
+    ensures moves { LoopMovesOrIf O.tells O.seen O.rest M.rules outside.old machine.old service.old outside.new machine.new service.new result }
     ensures broke { OnErr result (IsTrue (O.broken outside.new)) }
 {
     if !service.ready.is_empty() {
         begin_once(outside, machine, service);
         return Ok(());
     }
-    match first_to_rouse(machine, service) {
+    match first_to_resume(machine, service) {
         Some(id) => {
-            rouse_once(outside, machine, service, id);
+            resume_once(outside, machine, service, id);
             Ok(())
         }
         None => idle_once(outside, machine, service),
@@ -50,11 +50,11 @@ fn idle_once<O: Sockets + Clock, M: Machine<O>>(
     outside: &mut O,
     machine: &mut M,
     service: &mut Service,
-) -> Result<(), Fault>
+) -> Result<(), WaitError>
     requires calm { Calm M.rules machine.old service.old }
     requires quiet { Quiet M.rules machine.old service.old }
     ensures kept { IsTrue (O.tells outside.new) → IsTrue (O.tells outside.old) }
-    ensures moves { MovesOrIf O.tells O.seen O.rest M.rules outside.old machine.old service.old outside.new machine.new service.new result }
+    ensures moves { LoopMovesOrIf O.tells O.seen O.rest M.rules outside.old machine.old service.old outside.new machine.new service.new result }
     ensures broke { OnErr result (IsTrue (O.broken outside.new)) }
 {
     if machine.has_work(service.moment) {
@@ -69,19 +69,19 @@ pub fn rested_once<O: Sockets + Clock, M: Machine<O>>(
     outside: &mut O,
     machine: &mut M,
     service: &mut Service,
-) -> Result<(), Fault>
+) -> Result<(), WaitError>
     requires { service.old.turn ≡ Rested }
     ensures kept { IsTrue (O.tells outside.new) → IsTrue (O.tells outside.old) }
-    ensures moves { MovesOrIf O.tells O.seen O.rest M.rules outside.old machine.old service.old outside.new machine.new service.new result }
+    ensures moves { LoopMovesOrIf O.tells O.seen O.rest M.rules outside.old machine.old service.old outside.new machine.new service.new result }
     ensures broke { OnErr result (IsTrue (O.broken outside.new)) }
 {
     if !service.ready.is_empty() {
         begin_once(outside, machine, service);
         return Ok(());
     }
-    match first_to_rouse(machine, service) {
+    match first_to_resume(machine, service) {
         Some(id) => {
-            rouse_once(outside, machine, service, id);
+            resume_once(outside, machine, service, id);
             Ok(())
         }
         None => wait_once(outside, machine, service),
@@ -96,7 +96,7 @@ pub fn time_once<O: Sockets + Clock, M: Machine<O>>(
 )
     requires { service.old.turn ≡ Waked }
     ensures kept { IsTrue (O.tells outside.new) → IsTrue (O.tells outside.old) }
-    ensures moves { MovesIf O.tells O.seen O.rest M.rules outside.old machine.old service.old outside.new machine.new service.new }
+    ensures moves { LoopMovesIf O.tells O.seen O.rest M.rules outside.old machine.old service.old outside.new machine.new service.new }
 {
     let moment = outside.now();
     if service.moment < moment {
@@ -110,10 +110,10 @@ pub fn sweep_once<O: Sockets + Clock, M: Machine<O>>(
     outside: &mut O,
     machine: &mut M,
     service: &mut Service,
-) -> Result<(), Fault>
+) -> Result<(), WaitError>
     requires { service.old.turn ≡ Sweep }
     ensures kept { IsTrue (O.tells outside.new) → IsTrue (O.tells outside.old) }
-    ensures moves { MovesOrIf O.tells O.seen O.rest M.rules outside.old machine.old service.old outside.new machine.new service.new result }
+    ensures moves { LoopMovesOrIf O.tells O.seen O.rest M.rules outside.old machine.old service.old outside.new machine.new service.new result }
     ensures broke { OnErr result (IsTrue (O.broken outside.new)) }
 {
     match first_that_is_late(machine, service) {
@@ -145,7 +145,7 @@ fn first_that_is_late<O: Sockets + Clock, M: Machine<O>>(
 
 /// Whether it is late; `deadline` is the machine's, for one that is open and to which all is sent.
 fn is_client_late(client: &Client, now: u64, deadline: u64) -> bool
-    ensures { result ≡ is_late now deadline client.now }
+    ensures { result ≡ is_late_at now deadline client.now }
 {
     if is_client_quiet(client) {
         deadline <= now
@@ -176,8 +176,8 @@ pub fn is_all_sent(client: &Client) -> bool
 }
 
 /// The first of those who wait that has something to do now.
-fn first_to_rouse<O: Sockets + Clock, M: Machine<O>>(machine: &M, service: &Service) -> Option<u32>
-    ensures { result ≡ first_roused M.rules machine.now service.now }
+fn first_to_resume<O: Sockets + Clock, M: Machine<O>>(machine: &M, service: &Service) -> Option<u32>
+    ensures { result ≡ first_resumable M.rules machine.now service.now }
 {
     first_among(machine, service, service.waiting.as_slice())
 }
@@ -188,7 +188,7 @@ fn first_among<O: Sockets + Clock, M: Machine<O>>(
     service: &Service,
     ids: &[u32],
 ) -> Option<u32>
-    ensures { result ≡ find (λ id. goes_on (task M.rules machine.now service.now.moment 0 id (client_of service.now id))) ids.now }
+    ensures { result ≡ find (λ id. is_runnable (task M.rules machine.now service.now.moment 0 id (client_of service.now id))) ids.now }
 {
     let mut rest = ids;
     while let Some((id, others)) = rest.split_first() {
@@ -202,13 +202,13 @@ fn first_among<O: Sockets + Clock, M: Machine<O>>(
 
 /// Whether it has something to do now.
 fn may_go_on<O: Sockets + Clock, M: Machine<O>>(machine: &M, service: &Service, id: u32) -> bool
-    ensures { result ≡ goes_on (task M.rules machine.now service.now.moment 0 id (client_of service.now id)) }
+    ensures { result ≡ is_runnable (task M.rules machine.now service.now.moment 0 id (client_of service.now id)) }
 {
     is_to_go_on(task_of(machine, service, id, 0))
 }
 
 fn is_to_go_on(task: Task) -> bool
-    ensures { result ≡ goes_on task }
+    ensures { result ≡ is_runnable task }
 {
     match task {
         Task::Rest => false,
@@ -226,7 +226,7 @@ fn late_once<O: Sockets + Clock, M: Machine<O>>(
     requires turn { service.old.turn ≡ Sweep }
     requires late { first_late M.rules machine.old service.old ≡ Some id }
     ensures kept { IsTrue (O.tells outside.new) → IsTrue (O.tells outside.old) }
-    ensures moves { MovesIf O.tells O.seen O.rest M.rules outside.old machine.old service.old outside.new machine.new service.new }
+    ensures moves { LoopMovesIf O.tells O.seen O.rest M.rules outside.old machine.old service.old outside.new machine.new service.new }
 {
     outside.note(Act::Late(id));
     dismiss(machine, service, id, Phase::Closing);
@@ -240,7 +240,7 @@ pub fn dismiss<O: Sockets + Clock, M: Machine<O>>(
     at: Phase,
 )
     requires { is_closing_by at ≡ true }
-    ensures { Parted M.rules machine.old service.old id at machine.new service.new }
+    ensures { ServiceParted M.rules machine.old service.old id at machine.new service.new }
 {
     let kind = kind_of_client(service, id);
     if is_quiet_at(service, id) {
@@ -268,9 +268,9 @@ fn part<O: Sockets + Clock, M: Machine<O>>(
     at: Phase,
 )
     requires quiet { is_quiet (client_of service.old id) ≡ true }
-    requires kind { kind ≡ kind_of (client_of service.old id) }
+    requires kind { kind ≡ client_kind (client_of service.old id) }
     requires at { is_closing_by at ≡ true }
-    ensures { Parted M.rules machine.old service.old id at machine.new service.new }
+    ensures { ServiceParted M.rules machine.old service.old id at machine.new service.new }
 {
     let mut out = Octets::new(service.alloc);
     if machine.late(service.moment, id, &mut out).is_err() {
@@ -302,10 +302,10 @@ fn begin_once<O: Sockets + Clock, M: Machine<O>>(
     machine: &mut M,
     service: &mut Service,
 )
-    requires rests { Rests M.rules machine.old service.old }
+    requires rests { RestsOrCalm M.rules machine.old service.old }
     requires some { ¬ (service.old.ready.items ≡ []) }
     ensures kept { IsTrue (O.tells outside.new) → IsTrue (O.tells outside.old) }
-    ensures moves { MovesIf O.tells O.seen O.rest M.rules outside.old machine.old service.old outside.new machine.new service.new }
+    ensures moves { LoopMovesIf O.tells O.seen O.rest M.rules outside.old machine.old service.old outside.new machine.new service.new }
 {
     let Some(wake) = service.ready.pop_front() else {
         return;
@@ -315,29 +315,29 @@ fn begin_once<O: Sockets + Clock, M: Machine<O>>(
 }
 
 /// Lets one that waited go on.
-fn rouse_once<O: Sockets + Clock, M: Machine<O>>(
+fn resume_once<O: Sockets + Clock, M: Machine<O>>(
     outside: &mut O,
     machine: &mut M,
     service: &mut Service,
     id: u32,
 )
-    requires rests { Rests M.rules machine.old service.old }
+    requires rests { RestsOrCalm M.rules machine.old service.old }
     requires none { service.old.ready.items ≡ [] }
-    requires first { first_roused M.rules machine.old service.old ≡ Some id }
+    requires first { first_resumable M.rules machine.old service.old ≡ Some id }
     ensures kept { IsTrue (O.tells outside.new) → IsTrue (O.tells outside.old) }
-    ensures moves { MovesIf O.tells O.seen O.rest M.rules outside.old machine.old service.old outside.new machine.new service.new }
+    ensures moves { LoopMovesIf O.tells O.seen O.rest M.rules outside.old machine.old service.old outside.new machine.new service.new }
 {
-    outside.note(Act::Roused(id));
+    outside.note(Act::Resumed(id));
     forget(&mut service.waiting, id);
     service.turn = turn_of_wake(service, Wake::Ready(id));
 }
 
 /// Whose turn begins by what a wait told.
 fn turn_of_wake(service: &Service, wake: Wake) -> Turn
-    ensures { result ≡ turn_of wake service.now }
+    ensures { result ≡ turn_for_wake wake service.now }
 {
     match wake {
-        Wake::Knock(kind) => Turn::Door(kind, !has_come(service, kind)),
+        Wake::Knock(kind) => Turn::Accepting(kind, !has_come(service, kind)),
         Wake::Ready(id) => match service.clients.get(&id) {
             Some(_) => Turn::Busy(id, 0),
             None => Turn::Free,
@@ -364,7 +364,7 @@ fn work_once<O: Sockets + Clock, M: Machine<O>>(
     requires quiet { Quiet M.rules machine.old service.old }
     requires work { M.rules.has_work machine.old service.old.moment ≡ true }
     ensures kept { IsTrue (O.tells outside.new) → IsTrue (O.tells outside.old) }
-    ensures moves { MovesIf O.tells O.seen O.rest M.rules outside.old machine.old service.old outside.new machine.new service.new }
+    ensures moves { LoopMovesIf O.tells O.seen O.rest M.rules outside.old machine.old service.old outside.new machine.new service.new }
 {
     machine.work(outside, service.moment);
     service.turn = Turn::Rested;
@@ -375,11 +375,11 @@ fn wait_once<O: Sockets + Clock, M: Machine<O>>(
     outside: &mut O,
     machine: &mut M,
     service: &mut Service,
-) -> Result<(), Fault>
+) -> Result<(), WaitError>
     requires quiet { Quiet M.rules machine.old service.old }
     requires may { MayWait M.rules machine.old service.old }
     ensures kept { IsTrue (O.tells outside.new) → IsTrue (O.tells outside.old) }
-    ensures moves { MovesOrIf O.tells O.seen O.rest M.rules outside.old machine.old service.old outside.new machine.new service.new result }
+    ensures moves { LoopMovesOrIf O.tells O.seen O.rest M.rules outside.old machine.old service.old outside.new machine.new service.new result }
     ensures broke { OnErr result (IsTrue (O.broken outside.new)) }
 {
     outside.wait(machine.patience(), &mut service.ready)?;

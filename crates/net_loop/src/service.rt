@@ -1,13 +1,13 @@
 //! The loop: one act a call.
 ghost use Rattle.std.specs.Prelude.{◌≡◌, ◌<◌, [], IsTrue, OnErr};
-ghost use Rattle.wires.specs.Moves.{MovesOrIf};
-ghost use Rattle.wires.specs.declared.turn.Turn.TheVariants.{Free, Rested, Waked, Sweep, Door, Busy, Stuffed};
+ghost use Rattle.net_loop.specs.Moves.{LoopMovesOrIf};
+ghost use Rattle.net_loop.specs.declared.turn.Turn.TheVariants.{Free, Rested, Waked, Sweep, Accepting, Busy, OutOfMemory};
 
 use crate::accept::door_once;
 use crate::close::{end_once, full_once};
 use crate::connection::busy_once;
 use crate::machine::Machine;
-use crate::outcome::{Fault, Wake};
+use crate::outcome::{WaitError, Wake};
 use crate::outside::{Clock, Sockets};
 use crate::schedule::{calm_once, rested_once, sweep_once, time_once};
 use crate::turn::Turn;
@@ -93,9 +93,9 @@ pub fn act<O: Sockets + Clock, M: Machine<O>>(
     outside: &mut O,
     machine: &mut M,
     service: &mut Service,
-) -> Result<(), Fault>
+) -> Result<(), WaitError>
     ensures kept { IsTrue (O.tells outside.new) → IsTrue (O.tells outside.old) }
-    ensures moves { MovesOrIf O.tells O.seen O.rest M.rules outside.old machine.old service.old outside.new machine.new service.new result }
+    ensures moves { LoopMovesOrIf O.tells O.seen O.rest M.rules outside.old machine.old service.old outside.new machine.new service.new result }
     ensures broke { OnErr result (IsTrue (O.broken outside.new)) }
 {
     match service.turn {
@@ -106,7 +106,7 @@ pub fn act<O: Sockets + Clock, M: Machine<O>>(
             Ok(())
         }
         Turn::Sweep => sweep_once(outside, machine, service),
-        Turn::Door(kind, knocked) => {
+        Turn::Accepting(kind, knocked) => {
             door_once(outside, machine, service, kind, knocked);
             Ok(())
         }
@@ -114,7 +114,7 @@ pub fn act<O: Sockets + Clock, M: Machine<O>>(
             busy_once(outside, machine, service, id, count);
             Ok(())
         }
-        Turn::Stuffed(id, kind) => {
+        Turn::OutOfMemory(id, kind) => {
             full_once(outside, machine, service, id, kind);
             Ok(())
         }

@@ -11,11 +11,11 @@ pub enum Turn {
     /// Nobody's: the clock was read, and those who are late come first.
     Sweep,
     /// Connections of that kind are accepted; true if the last wait told of one and none has come since.
-    Door(u32, bool),
+    Accepting(u32, bool),
     /// A connection's, after this many acts of it.
     Busy(u32, u32),
     /// That of a connection for which memory is lacking, and its kind.
-    Stuffed(u32, u32),
+    OutOfMemory(u32, u32),
     /// That of a connection that has to be closed, and its kind.
     Leaving(u32, u32),
 }

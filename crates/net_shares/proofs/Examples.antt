@@ -1,11 +1,11 @@
 -- Right cases of the definitions, and near misses.
 use Rattle.std.proofs.Common.{◌≡◌, ◌==◌, ℕ, Bool, true, false, List, [], ◌∷◌, refl}
-use Rattle.wires.specs.declared.outcome.Wake.{Wake}
-use Rattle.wires.specs.declared.outcome.Wake.TheVariants.{Knock, Ready}
-use Rattle.timeshares.specs.declared.account.Account.TheVariants.{Guests, Senders, User}
-use Rattle.timeshares.specs.declared.share.Share.{Share}
-use Rattle.timeshares.specs.Shares.{same, spent_in, added, spent_by, noted}
-use Rattle.timeshares.specs.Order.{all_of, served, waiting}
+use Rattle.net_loop.specs.declared.outcome.Wake.{Wake}
+use Rattle.net_loop.specs.declared.outcome.Wake.TheVariants.{Knock, Ready}
+use Rattle.net_shares.specs.declared.account.TimeAccount.TheVariants.{Guests, Senders, User}
+use Rattle.net_shares.specs.declared.share.Share.{Share}
+use Rattle.net_shares.specs.Shares.{is_same_account, spent_in, with_spent, spent_by, with_share}
+use Rattle.net_shares.specs.Order.{all_wakes, served, waiting}
 
 -- one that had 40 ms in the third slot and 20 in the one before
 abbrev share : Share
@@ -21,7 +21,7 @@ forgets_then : spent_in 5 share ≡ 0
 forgets_then = refl
 
 -- a slot later what it had in this one is what it had before
-goes_on : spent_in 4 (added 4 1000 share) ≡ 41000
+goes_on : spent_in 4 (with_spent 4 1000 share) ≡ 41000
 goes_on = refl
 
 of_that_account : spent_by (User (97 ∷ [])) 1999 (share ∷ []) ≡ 60000
@@ -34,7 +34,7 @@ not_of_another = refl
 not_of_guests : spent_by Guests 1999 (share ∷ []) ≡ 0
 not_of_guests = refl
 
-not_the_same : same Guests Senders ≡ false
+not_the_same : is_same_account Guests Senders ≡ false
 not_the_same = refl
 
 -- of connections 1 to 3 the second had too much
@@ -63,19 +63,19 @@ the_other_waits : waiting each (Ready 2 ∷ Ready 4 ∷ []) ≡ Ready 4 ∷ []
 the_other_waits = refl
 
 -- one of which a wait tells again is there once
-told_once : all_of (Ready 2 ∷ []) (Ready 2 ∷ Ready 3 ∷ []) ≡ Ready 2 ∷ Ready 3 ∷ []
+told_once : all_wakes (Ready 2 ∷ []) (Ready 2 ∷ Ready 3 ∷ []) ≡ Ready 2 ∷ Ready 3 ∷ []
 told_once = refl
 
 -- an account that is known had more, and one that isn't is known from then on
 abbrev another : Share
 another = record { account = User (98 ∷ []); slot = 3; spent = 7; before = 0 }
 
-more_of_the_second : noted (User (98 ∷ [])) 3 5 (share ∷ another ∷ []) ≡ share ∷ record another { spent = 12 } ∷ []
+more_of_the_second : with_share (User (98 ∷ [])) 3 5 (share ∷ another ∷ []) ≡ share ∷ record another { spent = 12 } ∷ []
 more_of_the_second = refl
 
-known_then : noted Guests 3 5 (share ∷ []) ≡ share ∷ record { account = Guests; slot = 3; spent = 5; before = 0 } ∷ []
+known_then : with_share Guests 3 5 (share ∷ []) ≡ share ∷ record { account = Guests; slot = 3; spent = 5; before = 0 } ∷ []
 known_then = refl
 
 -- a near miss: another account of a name that begins so had nothing
-not_by_its_beginning : noted (User (97 ∷ 98 ∷ [])) 3 5 (share ∷ []) ≡ share ∷ record { account = User (97 ∷ 98 ∷ []); slot = 3; spent = 5; before = 0 } ∷ []
+not_by_its_beginning : with_share (User (97 ∷ 98 ∷ [])) 3 5 (share ∷ []) ≡ share ∷ record { account = User (97 ∷ 98 ∷ []); slot = 3; spent = 5; before = 0 } ∷ []
 not_by_its_beginning = refl

@@ -3,7 +3,7 @@ use Rattle.std.proofs.Common.{◌≡◌, ℕ, ◌+◌, ◌<◌, Bool, true, fals
 use Rattle.std.specs.List.{position, position_from}
 use Rattle.std.proofs.lemmas.Iterator.Adapters.{position_from-zero}
 use Rattle.std.proofs.lemmas.List.Quantifiers.{position-Some}
-use Rattle.timeshares.specs.Shares.{change_first}
+use Rattle.net_shares.specs.Shares.{change_first}
 
 module _ {X : Type 0} (which : X → Bool) (change : X → X) where
   -- there it is changed

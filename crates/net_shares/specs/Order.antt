@@ -3,12 +3,12 @@ use Rattle.std.specs.Prelude.{◌≡◌, ◌⊎◌, ℕ, ◌==◌, nat_lt, nat_e
 use Rattle.std.specs.List.{list_any}
 use Rattle.std.specs.Ordering.{nat_cmp}
 use Rattle.std.specs.BTreeMap as tree
-use Rattle.wires.specs.declared.outcome.Wake.{Wake}
-use Rattle.wires.specs.declared.outcome.Wake.TheVariants.{Knock, Ready}
-use Rattle.timeshares.specs.Shares.{spent_by}
-use Rattle.timeshares.specs.declared.account.Account.{Account}
-use Rattle.timeshares.specs.declared.share.Share.{Share}
-use Rattle.timeshares.specs.declared.turns.Turns.{Turns}
+use Rattle.net_loop.specs.declared.outcome.Wake.{Wake}
+use Rattle.net_loop.specs.declared.outcome.Wake.TheVariants.{Knock, Ready}
+use Rattle.net_shares.specs.Shares.{spent_by}
+use Rattle.net_shares.specs.declared.account.TimeAccount.{TimeAccount}
+use Rattle.net_shares.specs.declared.share.Share.{Share}
+use Rattle.net_shares.specs.declared.turns.Scheduler.{Scheduler}
 
 -- the wake is of this connection
 abbrev pub is_of : ℕ → Wake → Bool
@@ -19,17 +19,17 @@ is_of id (Knock kind) = false
 abbrev pub max_spent : ℕ
 max_spent = 50000
 
-abbrev pub had_too_much : List Share → ℕ → Option Account → Bool
-had_too_much shares now None = false
-had_too_much shares now (Some account) = nat_lt max_spent (spent_by account now shares)
+abbrev pub spent_too_much : List Share → ℕ → Option TimeAccount → Bool
+spent_too_much shares now None = false
+spent_too_much shares now (Some account) = nat_lt max_spent (spent_by account now shares)
 
 -- the wake is of a connection whose account used more
-abbrev pub is_late : List Share → tree.BTreeMap ℕ Account → ℕ → Wake → Bool
-is_late shares accounts now (Ready id) = had_too_much shares now (tree.get nat_cmp accounts id)
-is_late shares accounts now (Knock kind) = false
+abbrev pub is_late_wake : List Share → tree.BTreeMap ℕ TimeAccount → ℕ → Wake → Bool
+is_late_wake shares accounts now (Ready id) = spent_too_much shares now (tree.get nat_cmp accounts id)
+is_late_wake shares accounts now (Knock kind) = false
 
-abbrev pub late_in : Turns → ℕ → Wake → Bool
-late_in turns now wake = is_late turns.shares.entries.items turns.accounts now wake
+abbrev pub late_in : Scheduler → ℕ → Wake → Bool
+late_in turns now wake = is_late_wake turns.shares.entries.items turns.accounts now wake
 
 abbrev pub same_wake : Wake → Wake → Bool
 same_wake (Ready id) (Ready other) = nat_eq id other
@@ -45,8 +45,8 @@ abbrev pub others : List Wake → List Wake → List Wake
 others waited told = filter (λ wake. not (is_among waited wake)) told
 
 -- those that waited, and those others, so each once
-abbrev pub all_of : List Wake → List Wake → List Wake
-all_of waited told = waited ++ others waited told
+abbrev pub all_wakes : List Wake → List Wake → List Wake
+all_wakes waited told = waited ++ others waited told
 
 -- who goes on: of all, those whose account used little recently, in their order; if there are none, the first
 abbrev pub served : (Wake → Bool) → List Wake → List Wake
@@ -59,9 +59,9 @@ waiting late all = if length (filter late all) == length all then drop 1 (filter
 -- if there is no memory to tell them apart, all go on, or only the new ones
 abbrev pub Unordered : List Wake → List Wake → List Wake → List Wake → Type 0
 Unordered waited told left ready =
-    ((ready ≡ all_of waited told) × (left ≡ [])) ⊎ ((ready ≡ others waited told) × (left ≡ waited))
+    ((ready ≡ all_wakes waited told) × (left ≡ [])) ⊎ ((ready ≡ others waited told) × (left ≡ waited))
 
 -- nobody is forgotten: each of all goes on or waits
-pub record Orders (now : ℕ) (before : Turns) (told : List Wake) (after : Turns) (ready : List Wake) : Type 0 where
-  pub go : ready ≡ served (late_in before now) (all_of before.put_off.items told)
-  pub wait : after.put_off.items ≡ waiting (late_in before now) (all_of before.put_off.items told)
+pub record Orders (now : ℕ) (before : Scheduler) (told : List Wake) (after : Scheduler) (ready : List Wake) : Type 0 where
+  pub go : ready ≡ served (late_in before now) (all_wakes before.put_off.items told)
+  pub wait : after.put_off.items ≡ waiting (late_in before now) (all_wakes before.put_off.items told)

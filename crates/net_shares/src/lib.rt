@@ -5,6 +5,6 @@ mod account;
 mod share;
 mod turns;
 
-pub use account::Account;
+pub use account::TimeAccount;
 pub use share::Shares;
-pub use turns::Turns;
+pub use turns::Scheduler;

@@ -1,9 +1,9 @@
 //! How much time accounts have used recently.
 ghost use Rattle.std.specs.Prelude.{◌≡◌, ◌==◌, ◌<◌, ◌/◌, [], length, not, filter, find, option_copied, slice_get, slice_set, position, Some, OnOk, OnErr};
-ghost use Rattle.timeshares.specs.declared.share.Share.{Share as ShareOf};
-ghost use Rattle.timeshares.specs.Shares as s;
+ghost use Rattle.net_shares.specs.declared.share.Share.{Share as ShareOf};
+ghost use Rattle.net_shares.specs.Shares as s;
 
-use crate::account::Account;
+use crate::account::TimeAccount;
 use std::alloc::{AllocError, Global};
 
 /// The length of a slot, in milliseconds. Time counts in the slot in which it was spent and in the next one: for at least half a second
@@ -16,7 +16,7 @@ const MAX_ACCOUNTS: usize = 1000;
 /// What an account used, in microseconds.
 #[derive(Drop)]
 pub struct Share {
-    account: Account,
+    account: TimeAccount,
     /// The last slot in which it used time.
     slot: u64,
     /// What it used in that slot.
@@ -41,7 +41,7 @@ impl Share {
 
     /// Adds that many microseconds, used in a slot.
     fn add(&mut self, slot: u64, micros: u64)
-        ensures { self.new ≡ s.added slot micros self.old }
+        ensures { self.new ≡ s.with_spent slot micros self.old }
     {
         if slot == self.slot {
             self.spent = self.spent.saturating_add(micros);
@@ -91,15 +91,15 @@ impl Shares {
     }
 
     /// How many microseconds an account used recently, at a moment in milliseconds. Time is linear in the number of known accounts.
-    pub fn spent(&self, account: &Account, now: u64) -> u64
+    pub fn spent(&self, account: &TimeAccount, now: u64) -> u64
         ensures { result ≡ s.spent_by account.now now self.now.entries.items }
     {
         spent_of(self.find(account), now / SLOT)
     }
 
     /// What is known of an account.
-    fn find(&self, account: &Account) -> Option<&Share>
-        ensures { option_copied result ≡ find (λ share. s.same share.account account.now) self.now.entries.items }
+    fn find(&self, account: &TimeAccount) -> Option<&Share>
+        ensures { option_copied result ≡ find (λ share. s.is_same_account share.account account.now) self.now.entries.items }
     {
         self.entries.iter().find(|share| share.account.is(account))
     }
@@ -111,11 +111,11 @@ impl Shares {
     pub fn add(
         &mut self,
         alloc: Global,
-        account: &Account,
+        account: &TimeAccount,
         now: u64,
         micros: u64,
     ) -> Result<(), AllocError>
-        ensures ok { OnOk result (self.new.entries.items ≡ s.noted account.now (now / s.slot_span) micros self.old.entries.items) }
+        ensures ok { OnOk result (self.new.entries.items ≡ s.with_share account.now (now / s.slot_span) micros self.old.entries.items) }
         ensures err { OnErr result (self.new.entries.items ≡ s.cleared (now / s.slot_span) self.old.entries.items) }
     {
         let slot = now / SLOT;
@@ -128,7 +128,7 @@ impl Shares {
     }
 
     /// Adds microseconds to a known account, in a slot.
-    fn raise(&mut self, account: &Account, slot: u64, micros: u64)
+    fn raise(&mut self, account: &TimeAccount, slot: u64, micros: u64)
         ensures { self.new.entries.items ≡ s.more_of account.now slot micros self.old.entries.items }
     {
         if let Some(at) = self.place_of(account) {
@@ -136,8 +136,8 @@ impl Shares {
         }
     }
 
-    fn place_of(&self, account: &Account) -> Option<usize>
-        ensures { result ≡ position (λ share. s.same share.account account.now) self.now.entries.items }
+    fn place_of(&self, account: &TimeAccount) -> Option<usize>
+        ensures { result ≡ position (λ share. s.is_same_account share.account account.now) self.now.entries.items }
     {
         self.entries
             .iter()
@@ -146,7 +146,7 @@ impl Shares {
 
     fn raise_at(&mut self, at: usize, slot: u64, micros: u64)
         requires { at < length self.old.entries.items }
-        ensures { (share : ShareOf) → slice_get self.old.entries.items at ≡ Some share → self.new.entries.items ≡ slice_set self.old.entries.items at (s.added slot micros share) }
+        ensures { (share : ShareOf) → slice_get self.old.entries.items at ≡ Some share → self.new.entries.items ≡ slice_set self.old.entries.items at (s.with_spent slot micros share) }
     {
         self.entries[at].add(slot, micros);
     }
@@ -164,11 +164,11 @@ impl Shares {
     fn begin(
         &mut self,
         alloc: Global,
-        account: &Account,
+        account: &TimeAccount,
         slot: u64,
         micros: u64,
     ) -> Result<(), AllocError>
-        ensures ok { OnOk result (self.new.entries.items ≡ s.joined account.now slot micros self.old.entries.items) }
+        ensures ok { OnOk result (self.new.entries.items ≡ s.with_new_share account.now slot micros self.old.entries.items) }
         ensures err { OnErr result (self.new.entries.items ≡ self.old.entries.items) }
     {
         if self.entries.len() >= MAX_ACCOUNTS {

@@ -2,16 +2,16 @@
 ghost use Rattle.std.specs.Prelude.{◌≡◌, ◌/◌, [], not, filter, true, false, Some, IfOk, OnOk, OnErr, IsTrue, option_copied};
 ghost use Rattle.std.specs.Ordering.{nat_cmp};
 ghost use Rattle.std.specs.BTreeMap as tree;
-ghost use Rattle.timeshares.specs.Order as o;
-ghost use Rattle.timeshares.specs.Order.{Orders, Unordered};
-ghost use Rattle.timeshares.specs.Shares as s;
+ghost use Rattle.net_shares.specs.Order as o;
+ghost use Rattle.net_shares.specs.Order.{Orders, Unordered};
+ghost use Rattle.net_shares.specs.Shares as s;
 
-use crate::account::Account;
+use crate::account::TimeAccount;
 use crate::share::Shares;
 use std::alloc::{AllocError, Global};
 use std::collections::{BTreeMap, VecDeque};
 use std::mem::swap;
-use wires::outcome::Wake;
+use net_loop::outcome::Wake;
 
 /// Connections of an account that used more than this many microseconds recently wait after all others.
 const MAX_SPENT: u64 = 50_000;
@@ -19,19 +19,19 @@ const MAX_SPENT: u64 = 50_000;
 /// How much time accounts used, for which account each connection had its last act, and the wakes of those that wait after the
 /// others.
 #[derive(Drop)]
-pub struct Turns {
+pub struct Scheduler {
     alloc: Global,
     shares: Shares,
-    accounts: BTreeMap<u32, Account>,
+    accounts: BTreeMap<u32, TimeAccount>,
     put_off: VecDeque<Wake>,
 }
 
-impl Turns {
+impl Scheduler {
     /// Nobody used time, and nobody waits. Takes no memory.
-    pub fn new(alloc: Global) -> Turns
+    pub fn new(alloc: Global) -> Scheduler
         ensures { result.put_off.items ≡ [] }
     {
-        Turns {
+        Scheduler {
             alloc,
             shares: Shares::new(alloc),
             accounts: BTreeMap::new(alloc),
@@ -42,7 +42,7 @@ impl Turns {
     /// A connection comes: its acts count for that account, as long as nothing else is known.
     ///
     /// Lack of memory is the only error; nothing changes then.
-    pub fn enter(&mut self, id: u32, account: Account) -> Result<(), AllocError>
+    pub fn enter(&mut self, id: u32, account: TimeAccount) -> Result<(), AllocError>
         ensures ok { OnOk result (tree.Updates nat_cmp self.old.accounts self.new.accounts id (Some account)) }
         ensures err { OnErr result (tree.IsUnchanged self.old.accounts self.new.accounts) }
         ensures shares { self.new.shares ≡ self.old.shares }
@@ -60,11 +60,11 @@ impl Turns {
     pub fn charge(
         &mut self,
         id: u32,
-        account: Account,
+        account: TimeAccount,
         now: u64,
         micros: u64,
     ) -> Result<(), AllocError>
-        ensures spent { OnOk result (self.new.shares.entries.items ≡ s.noted account (now / s.slot_span) micros self.old.shares.entries.items) }
+        ensures spent { OnOk result (self.new.shares.entries.items ≡ s.with_share account (now / s.slot_span) micros self.old.shares.entries.items) }
         ensures account { OnOk result (tree.Updates nat_cmp self.old.accounts self.new.accounts id (Some account)) }
         ensures put_off { self.new.put_off ≡ self.old.put_off }
     {
@@ -73,7 +73,7 @@ impl Turns {
     }
 
     /// The account for which a connection had its last act, if it is known.
-    pub fn account(&self, id: u32) -> Option<&Account>
+    pub fn account(&self, id: u32) -> Option<&TimeAccount>
         ensures { option_copied result ≡ tree.get nat_cmp self.now.accounts id }
     {
         self.accounts.get(&id)
@@ -115,7 +115,7 @@ impl Turns {
 /// Joins those that waited and the new wakes in `told`, each once; nobody waits then. Returns false if there is no memory for that, and
 /// each stays where it is.
 fn join(waited: &mut VecDeque<Wake>, told: &mut VecDeque<Wake>) -> bool
-    ensures joined { result ≡ true → told.new.items ≡ o.all_of waited.old.items told.old.items }
+    ensures joined { result ≡ true → told.new.items ≡ o.all_wakes waited.old.items told.old.items }
     ensures empty { result ≡ true → waited.new.items ≡ [] }
     ensures apart { result ≡ false → told.new.items ≡ o.others waited.old.items told.old.items }
     ensures stays { result ≡ false → waited.new.items ≡ waited.old.items }
@@ -154,14 +154,14 @@ fn is_same(wake: Wake, other: Wake) -> bool
 /// Of all, those go on that aren't late; if all are late, the first of them.
 fn part(
     shares: &Shares,
-    accounts: &BTreeMap<u32, Account>,
+    accounts: &BTreeMap<u32, TimeAccount>,
     now: u64,
     all: &mut VecDeque<Wake>,
     late: &mut VecDeque<Wake>,
 )
-    requires { late.old.items ≡ filter (o.is_late shares.now.entries.items accounts.now now) all.old.items }
-    ensures served { all.new.items ≡ o.served (o.is_late shares.now.entries.items accounts.now now) all.old.items }
-    ensures waiting { late.new.items ≡ o.waiting (o.is_late shares.now.entries.items accounts.now now) all.old.items }
+    requires { late.old.items ≡ filter (o.is_late_wake shares.now.entries.items accounts.now now) all.old.items }
+    ensures served { all.new.items ≡ o.served (o.is_late_wake shares.now.entries.items accounts.now now) all.old.items }
+    ensures waiting { late.new.items ≡ o.waiting (o.is_late_wake shares.now.entries.items accounts.now now) all.old.items }
 {
     if late.len() == all.len() {
         all.truncate(1);
@@ -174,17 +174,17 @@ fn part(
 /// Keeps those that aren't late.
 fn leave_early(
     shares: &Shares,
-    accounts: &BTreeMap<u32, Account>,
+    accounts: &BTreeMap<u32, TimeAccount>,
     now: u64,
     wakes: &mut VecDeque<Wake>,
 )
-    ensures { wakes.new.items ≡ filter (λ wake. not (o.is_late shares.now.entries.items accounts.now now wake)) wakes.old.items }
+    ensures { wakes.new.items ≡ filter (λ wake. not (o.is_late_wake shares.now.entries.items accounts.now now wake)) wakes.old.items }
 {
     wakes.retain(|wake| !is_late(shares, accounts, now, wake));
 }
 
 /// Forgets a connection.
-fn forget(accounts: &mut BTreeMap<u32, Account>, id: u32) {
+fn forget(accounts: &mut BTreeMap<u32, TimeAccount>, id: u32) {
     let _ = accounts.remove(&id);
 }
 
@@ -199,8 +199,8 @@ fn is_of(id: u32, wake: Wake) -> bool
 }
 
 /// Whether the wake is of a connection whose account used too much time recently.
-fn is_late(shares: &Shares, accounts: &BTreeMap<u32, Account>, now: u64, wake: &Wake) -> bool
-    ensures { result ≡ o.is_late shares.now.entries.items accounts.now now wake.now }
+fn is_late(shares: &Shares, accounts: &BTreeMap<u32, TimeAccount>, now: u64, wake: &Wake) -> bool
+    ensures { result ≡ o.is_late_wake shares.now.entries.items accounts.now now wake.now }
 {
     match wake {
         Wake::Ready(id) => match accounts.get(id) {
@@ -214,11 +214,11 @@ fn is_late(shares: &Shares, accounts: &BTreeMap<u32, Account>, now: u64, wake: &
 /// The wakes of such connections.
 fn late_of(
     shares: &Shares,
-    accounts: &BTreeMap<u32, Account>,
+    accounts: &BTreeMap<u32, TimeAccount>,
     now: u64,
     wakes: &VecDeque<Wake>,
 ) -> Result<VecDeque<Wake>, AllocError>
-    ensures { IfOk result (λ late. late.items ≡ filter (o.is_late shares.now.entries.items accounts.now now) wakes.now.items) }
+    ensures { IfOk result (λ late. late.items ≡ filter (o.is_late_wake shares.now.entries.items accounts.now now) wakes.now.items) }
 {
     let mut late = copied(wakes)?;
     leave_late(shares, accounts, now, &mut late);
@@ -228,11 +228,11 @@ fn late_of(
 /// Keeps those that are late.
 fn leave_late(
     shares: &Shares,
-    accounts: &BTreeMap<u32, Account>,
+    accounts: &BTreeMap<u32, TimeAccount>,
     now: u64,
     wakes: &mut VecDeque<Wake>,
 )
-    ensures { wakes.new.items ≡ filter (o.is_late shares.now.entries.items accounts.now now) wakes.old.items }
+    ensures { wakes.new.items ≡ filter (o.is_late_wake shares.now.entries.items accounts.now now) wakes.old.items }
 {
     wakes.retain(|wake| is_late(shares, accounts, now, wake));
 }

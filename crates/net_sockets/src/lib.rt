@@ -1,5 +1,18 @@
-//! Connections with a server over the system's sockets.
+//! Sockets of the system, for the loop of `net_loop`: listeners, each for a kind of connection, and their connections, each under a
+//! number. None of them blocks; the system is asked which are ready.
 #![tactic(auto)]
+
+pub mod listener;
+pub mod place;
+pub mod sockets;
+pub mod stream;
+
+pub use listener::Listener;
+pub use place::{bind_path, inherit};
+pub use sockets::SystemSockets;
+pub use stream::Stream;
+
+// Connections with a server over the system's sockets.
 
 pub mod socket_peer;
 pub mod target;

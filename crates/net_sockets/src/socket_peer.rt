@@ -2,7 +2,7 @@
 ghost use Rattle.std.specs.Prelude.{◌≤◌, length, IfOk, IfSome};
 
 use crate::target::Target;
-use mailsenders::{Lost, MOMENT, Patience, Peer};
+use smtp_send::{Lost, MOMENT, Patience, SmtpPeer};
 use std::io::{ErrorKind, Read, Write};
 use std::net::{Net, TcpStream};
 use std::os::unix::net::UnixStream;
@@ -41,7 +41,7 @@ impl<'a, N: Net<Stream = TcpStream>> SocketPeer<'a, N> {
     }
 }
 
-impl<'a, N: Net<Stream = TcpStream>> Peer for SocketPeer<'a, N> {
+impl<'a, N: Net<Stream = TcpStream>> SmtpPeer for SocketPeer<'a, N> {
     ghost passed = { λ peer sent came. ⊥ };
 
     fn connect(&mut self) -> Result<(), Lost> {

@@ -1,6 +1,6 @@
 //! Listeners and their connections.
 ghost use Rattle.std.specs.Prelude.{◌≡◌, ◌<◌, [], length, OnErr};
-ghost use Rattle.wires.specs.Told.{ReadFits, DiscardFits, WriteFits};
+ghost use Rattle.net_loop.specs.Told.{ReadFits, DiscardFits, WriteFits};
 
 use crate::listener::Listener;
 use crate::stream::Stream;
@@ -11,7 +11,7 @@ use std::io;
 use std::io::ErrorKind;
 use std::net::Net;
 use std::time::{Clock, Duration, Instant};
-use wires::outcome::{Accepted, Fault, Input, Output, Wake};
+use net_loop::outcome::{Accepted, WaitError, Input, Output, Wake};
 
 /// The tokens of connections come after those of listeners.
 const FIRST_CONNECTION: usize = 64;
@@ -30,7 +30,7 @@ const MAX_DISCARD: usize = 4096;
 
 /// A listener, and the moment up to which it rests, in milliseconds, if it does.
 #[derive(Drop)]
-struct Door {
+struct ListenerState {
     listener: Listener,
     rests_until: Option<u64>,
 }
@@ -57,7 +57,7 @@ pub struct SystemSockets<'n, N: Net + Clock> {
     events: Events,
     /// What the last poll told, as far as it wasn't handed out yet.
     told: VecDeque<Wake>,
-    doors: Vec<Door>,
+    listener_states: Vec<ListenerState>,
     links: BTreeMap<u32, Link>,
 }
 
@@ -79,7 +79,7 @@ impl<'n, N: Net + Clock> SystemSockets<'n, N> {
             poll: Poll::new(system)?,
             events: Events::with_capacity(alloc, MAX_EVENTS)?,
             told: VecDeque::with_capacity(alloc, 2 * MAX_EVENTS)?,
-            doors: Vec::with_capacity(alloc, listeners.len())?,
+            listener_states: Vec::with_capacity(alloc, listeners.len())?,
             links: BTreeMap::new(alloc),
         };
         for listener in listeners {
@@ -90,15 +90,15 @@ impl<'n, N: Net + Clock> SystemSockets<'n, N> {
 
     /// Has waits tell of a listener, under the next kind.
     fn watch(&mut self, listener: Listener) -> io::Result<()> {
-        let mut door = Door {
+        let mut door = ListenerState {
             listener,
             rests_until: None,
         };
-        let token = Token(self.doors.len().min(FIRST_CONNECTION - 1));
+        let token = Token(self.listener_states.len().min(FIRST_CONNECTION - 1));
         self.poll
             .registry()
             .register(&mut door.listener, token, Interest::READABLE)?;
-        self.doors.push(door)?;
+        self.listener_states.push(door)?;
         Ok(())
     }
 
@@ -117,14 +117,14 @@ impl<'n, N: Net + Clock> SystemSockets<'n, N> {
     /// # Errors
     ///
     /// If the system can't wait.
-    pub fn wait(&mut self, within: u32, ready: &mut VecDeque<Wake>) -> Result<(), Fault>
+    pub fn wait(&mut self, within: u32, ready: &mut VecDeque<Wake>) -> Result<(), WaitError>
         requires { ready.old.items ≡ [] }
         ensures { OnErr result (ready.new ≡ ready.old) }
     {
         let within = if self.told.is_empty() { within } else { 0 };
         let has_room = self.told.len() <= MAX_EVENTS;
         if has_room && self.ask(within).is_err() && self.told.is_empty() {
-            return Err(Fault::Wait);
+            return Err(WaitError::Wait);
         }
         for _ in 0..MAX_EVENTS {
             let Some(wake) = self.told.front() else {
@@ -170,12 +170,12 @@ impl<'n, N: Net + Clock> SystemSockets<'n, N> {
 
     /// For how many milliseconds the listener that rests shortest does; the greatest number if none rests.
     fn shortest_rest(&mut self) -> u64 {
-        if self.doors.iter().all(|door| door.rests_until.is_none()) {
+        if self.listener_states.iter().all(|door| door.rests_until.is_none()) {
             return u64::MAX;
         }
         let now = self.now();
         let mut shortest = u64::MAX;
-        for door in self.doors.iter() {
+        for door in self.listener_states.iter() {
             if let Some(until) = door.rests_until {
                 shortest = shortest.min(until.saturating_sub(now));
             }
@@ -186,8 +186,8 @@ impl<'n, N: Net + Clock> SystemSockets<'n, N> {
     /// Has waits tell again of each listener whose rest is over.
     fn end_rests(&mut self) {
         let now = self.moment;
-        for kind in 0..self.doors.len() {
-            let over = match self.doors.get(kind) {
+        for kind in 0..self.listener_states.len() {
+            let over = match self.listener_states.get(kind) {
                 Some(door) => door.rests_until.is_some_and(|until| until <= now),
                 None => false,
             };
@@ -204,7 +204,7 @@ impl<'n, N: Net + Clock> SystemSockets<'n, N> {
 
     /// Has a wait tell of those that wait at a listener.
     fn listen_again(&mut self, kind: usize) {
-        let Some(door) = self.doors.get_mut(kind) else {
+        let Some(door) = self.listener_states.get_mut(kind) else {
             return;
         };
         door.rests_until = None;
@@ -218,7 +218,7 @@ impl<'n, N: Net + Clock> SystemSockets<'n, N> {
     /// Accepts a waiting connection of that kind, under this number. After a failure its listener rests, and a wait tells of it again.
     pub fn accept(&mut self, kind: u32, id: u32) -> Accepted {
         let kind = kind as usize;
-        let Some(door) = self.doors.get(kind) else {
+        let Some(door) = self.listener_states.get(kind) else {
             return Accepted::Nobody;
         };
         match door.listener.accept() {
@@ -259,7 +259,7 @@ impl<'n, N: Net + Clock> SystemSockets<'n, N> {
     /// Lets a listener rest for this many milliseconds.
     fn rest_for(&mut self, kind: usize, span: u64) {
         let until = self.now().saturating_add(span);
-        if let Some(door) = self.doors.get_mut(kind) {
+        if let Some(door) = self.listener_states.get_mut(kind) {
             door.rests_until = Some(until);
         }
     }

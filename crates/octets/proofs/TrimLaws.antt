@@ -2,7 +2,7 @@
 use Rattle.std.proofs.Common.{◌≡◌, ℕ, Bool, true, false, ◌&&◌, List, [], ◌∷◌, ◌++◌, refl, sym, ap, ◌∙◌}
 use Rattle.std.proofs.lemmas.List.{append-nil}
 use Rattle.std.specs.List.{list_all}
-use Rattle.octets.specs.Ascii.{is_blank, trim_front, before, trim_back, trimmed}
+use Rattle.octets.specs.Ascii.{is_blank, trim_front, prepend_trimmed, trim_back, trimmed}
 use Rattle.octets.specs.Trimming.{Trims}
 
 both : (a b : Bool) → (a && b) ≡ true → (a ≡ true) × (b ≡ true)
@@ -31,13 +31,13 @@ back_none (octet ∷ back) all =
 
 back_gone : (kept back : List ℕ) → list_all is_blank back ≡ true → trim_back (kept ++ back) ≡ trim_back kept
 back_gone [] back all = back_none back all
-back_gone (octet ∷ kept) back all = ap (before octet) (back_gone kept back all)
+back_gone (octet ∷ kept) back all = ap (prepend_trimmed octet) (back_gone kept back all)
 
 -- what has no blank at its end stays
 back_kept : (kept : List ℕ) → ((rest : List ℕ) (octet : ℕ) → kept ≡ rest ++ octet ∷ [] → is_blank octet ≡ false) → trim_back kept ≡ kept
 back_kept [] ends = refl
 back_kept (octet ∷ []) ends = let last = ends [] octet refl in rw last refl
-back_kept (octet ∷ (next ∷ kept)) ends = ap (before octet) (back_kept (next ∷ kept) (λ rest last is. ends (octet ∷ rest) last (ap (λ t. octet ∷ t) is)))
+back_kept (octet ∷ (next ∷ kept)) ends = ap (prepend_trimmed octet) (back_kept (next ∷ kept) (λ rest last is. ends (octet ∷ rest) last (ap (λ t. octet ∷ t) is)))
 
 front_kept : (kept back : List ℕ) → list_all is_blank back ≡ true → ((octet : ℕ) (rest : List ℕ) → kept ≡ octet ∷ rest → is_blank octet ≡ false) → trim_back (trim_front (kept ++ back)) ≡ trim_back kept
 front_kept [] back all begins =
@@ -111,7 +111,7 @@ back_more octet text [] none cut = by_blank (is_blank octet) refl where
 
   by_blank : (test : Bool) → is_blank octet ≡ test → BackCut (octet ∷ text)
   by_blank true is =
-      let goes : trim_back (octet ∷ text) ≡ [] = ap (before octet) none ∙ (rw is refl) in
+      let goes : trim_back (octet ∷ text) ≡ [] = ap (prepend_trimmed octet) none ∙ (rw is refl) in
       record {
         back = octet ∷ cut.back;
         spelled = ap (λ t. octet ∷ t) all ∙ ap (λ t. t ++ octet ∷ cut.back) (sym goes);
@@ -119,7 +119,7 @@ back_more octet text [] none cut = by_blank (is_blank octet) refl where
         ends = λ rest last e. absurd (empty rest last (sym goes ∙ e));
       }
   by_blank false is =
-      let stays : trim_back (octet ∷ text) ≡ octet ∷ [] = ap (before octet) none ∙ (rw is refl) in
+      let stays : trim_back (octet ∷ text) ≡ octet ∷ [] = ap (prepend_trimmed octet) none ∙ (rw is refl) in
       record {
         back = cut.back;
         spelled = ap (λ t. octet ∷ t) all ∙ ap (λ t. t ++ cut.back) (sym stays);
@@ -127,7 +127,7 @@ back_more octet text [] none cut = by_blank (is_blank octet) refl where
         ends = λ rest last e. ap is_blank (sym (alone rest octet last (sym stays ∙ e))) ∙ is;
       }
 back_more octet text (next ∷ kept) some cut =
-    let stays : trim_back (octet ∷ text) ≡ octet ∷ trim_back text = ap (before octet) some ∙ ap (λ t. octet ∷ t) (sym some) in
+    let stays : trim_back (octet ∷ text) ≡ octet ∷ trim_back text = ap (prepend_trimmed octet) some ∙ ap (λ t. octet ∷ t) (sym some) in
     record {
       back = cut.back;
       spelled = ap (λ t. octet ∷ t) cut.spelled ∙ ap (λ t. t ++ cut.back) (sym stays);
@@ -145,8 +145,8 @@ first_stays [] begins octet rest is = absurd (cc is)
 first_stays (first ∷ text) begins octet rest is =
     let one : octet ≡ first = front_of (trim_back text) is in
     ap is_blank one ∙ begins first text refl where
-      front_of : (kept : List ℕ) → before first kept ≡ octet ∷ rest → octet ≡ first
-      front_of [] e = let stays : before first [] ≡ first ∷ [] = (let bare = begins first text refl in rw bare refl) in let same : octet ∷ rest ≡ first ∷ [] = sym e ∙ stays in cc
+      front_of : (kept : List ℕ) → prepend_trimmed first kept ≡ octet ∷ rest → octet ≡ first
+      front_of [] e = let stays : prepend_trimmed first [] ≡ first ∷ [] = (let bare = begins first text refl in rw bare refl) in let same : octet ∷ rest ≡ first ∷ [] = sym e ∙ stays in cc
       front_of (next ∷ kept) e = cc
 
 -- and a text has one

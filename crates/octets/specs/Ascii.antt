@@ -28,14 +28,14 @@ trim_front [] = []
 trim_front (octet ∷ rest) = cond (is_blank octet) (trim_front rest) (octet ∷ rest)
 
 -- an octet before a text, unless that makes a lone blank
-abbrev pub before : ℕ → List ℕ → List ℕ
-before octet [] = cond (is_blank octet) [] (octet ∷ [])
-before octet (next ∷ rest) = octet ∷ (next ∷ rest)
+abbrev pub prepend_trimmed : ℕ → List ℕ → List ℕ
+prepend_trimmed octet [] = cond (is_blank octet) [] (octet ∷ [])
+prepend_trimmed octet (next ∷ rest) = octet ∷ (next ∷ rest)
 
 -- the text without the blanks at its end
 abbrev pub trim_back : List ℕ → List ℕ
 trim_back [] = []
-trim_back (octet ∷ rest) = before octet (trim_back rest)
+trim_back (octet ∷ rest) = prepend_trimmed octet (trim_back rest)
 
 -- the text without the blanks at its ends
 abbrev pub trimmed : List ℕ → List ℕ

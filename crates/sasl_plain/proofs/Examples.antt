@@ -1,10 +1,10 @@
 -- Messages of PLAIN at work: what the definition takes, and one beside it that it doesn't.
 use Rattle.std.proofs.Common.{◌≡◌, ℕ, inl, inr, List, [], ◌∷◌, ◌++◌, refl, arith}
 use Rattle.sha2.specs.Sha256.{sha256}
-use Rattle.saslplain.specs.Login.{NoNul, IsMessage}
-use Rattle.saslplain.specs.Password.{digest_of}
-use Rattle.saslplain.proofs.Messages.{login_said}
-use Rattle.saslplain.proofs.Rounds.{digest_of-zero, digest_of-more}
+use Rattle.sasl_plain.specs.Login.{NoNul, IsMessage}
+use Rattle.sasl_plain.specs.Password.{digest_of}
+use Rattle.sasl_plain.proofs.Messages.{login_said}
+use Rattle.sasl_plain.proofs.Rounds.{digest_of-zero, digest_of-more}
 
 -- NUL `a` NUL `b` is user `a` with password `b`
 message : IsMessage (0 ∷ 97 ∷ 0 ∷ 98 ∷ []) (97 ∷ []) (98 ∷ [])

@@ -4,8 +4,8 @@ use Rattle.std.specs.Prelude.{nat_eq, nat_lt}
 use Rattle.std.specs.Cmp.Lexicographic.{pointwise}
 use Rattle.std.proofs.lemmas.Bool.{eqb-true, eqb-false, ne_eqb, eq-eqb, le-ltb, ltb-false, and_parts, and_cases, and_right, or_parts, or_from, not-false}
 use Rattle.std.proofs.lemmas.List.{take_at, drop_at, length-append, nil_from_length}
-use Rattle.saslplain.specs.Login.{NoNul, IsMessage}
-use Rattle.saslplain.specs.Parts.{Pair, nul_place, cut_in, checked, cut_twice, login_in}
+use Rattle.sasl_plain.specs.Login.{NoNul, IsMessage}
+use Rattle.sasl_plain.specs.Parts.{TextPair, nul_place, cut_in, checked, cut_twice, login_in}
 
 -- ---- the first NUL
 
@@ -71,7 +71,7 @@ record IsCut (text first rest : List ℕ) : Type 0 where
 is_cut : (t a b : List ℕ) → cut_in t ≡ Some (a, b) → IsCut t a b
 is_cut t a b e = go (nul_place t == length t) refl e
   where
-    go : (d : Bool) → (nul_place t == length t) ≡ d → cond {A = Pair} d None (Some (take (nul_place t) t, drop (nul_place t + 1) t)) ≡ Some (a, b) → IsCut t a b
+    go : (d : Bool) → (nul_place t == length t) ≡ d → cond {A = TextPair} d None (Some (take (nul_place t) t, drop (nul_place t + 1) t)) ≡ Some (a, b) → IsCut t a b
     go true d e = absurd cc
     go false d e =
         let lt : nul_place t < length t = omega (arith, place_small t, eqb-false (nul_place t) (length t) d) in
@@ -128,11 +128,11 @@ login_said = said
 read_checked : (message authzid rest user password : List ℕ) → IsCut message authzid rest → checked authzid (cut_in rest) ≡ Some (user, password) → IsMessage message user password
 read_checked message authzid rest user password cut e = go (cut_in rest) refl e
   where
-    go : (p : Pair) → cut_in rest ≡ p → checked authzid p ≡ Some (user, password) → IsMessage message user password
+    go : (p : TextPair) → cut_in rest ≡ p → checked authzid p ≡ Some (user, password) → IsMessage message user password
     go None d e = absurd cc
     go (Some (u, q)) d e = by_tests (length u == 0 || length q == 0 || nat_lt (nul_place q) (length q)) refl (not (length authzid == 0) && not (pointwise nat_eq authzid u)) refl e
       where
-        by_tests : (a : Bool) → (length u == 0 || length q == 0 || nat_lt (nul_place q) (length q)) ≡ a → (b : Bool) → (not (length authzid == 0) && not (pointwise nat_eq authzid u)) ≡ b → cond {A = Pair} a None (cond {A = Pair} b None (Some (u, q))) ≡ Some (user, password) → IsMessage message user password
+        by_tests : (a : Bool) → (length u == 0 || length q == 0 || nat_lt (nul_place q) (length q)) ≡ a → (b : Bool) → (not (length authzid == 0) && not (pointwise nat_eq authzid u)) ≡ b → cond {A = TextPair} a None (cond {A = TextPair} b None (Some (u, q))) ≡ Some (user, password) → IsMessage message user password
         by_tests true ea b eb e = absurd cc
         by_tests false ea true eb e = absurd cc
         by_tests false ea false eb e =
@@ -161,6 +161,6 @@ read_checked message authzid rest user password cut e = go (cut_in rest) refl e
 pub login_read : (message user password : List ℕ) → login_in message ≡ Some (user, password) → IsMessage message user password
 login_read message user password e = go (cut_in message) refl e
   where
-    go : (p : Pair) → cut_in message ≡ p → cut_twice p ≡ Some (user, password) → IsMessage message user password
+    go : (p : TextPair) → cut_in message ≡ p → cut_twice p ≡ Some (user, password) → IsMessage message user password
     go None d e = absurd cc
     go (Some (a, rest)) d e = read_checked message a rest user password (is_cut message a rest d) e

@@ -1,7 +1,7 @@
 -- A digest and the one a round later.
 use Rattle.std.proofs.Common.{◌≡◌, ℕ, suc, ◌+◌, List, ◌++◌, refl, ap, ◌∙◌, arith}
 use Rattle.sha2.specs.Sha256.{sha256}
-use Rattle.saslplain.specs.Password.{digest_of}
+use Rattle.sasl_plain.specs.Password.{digest_of}
 
 pub digest_of-zero : (salt password : List ℕ) → sha256 (salt ++ password) ≡ digest_of salt password 0
 unfolding digest_of

@@ -1,6 +1,6 @@
 -- The message of PLAIN (RFC 4616, section 2).
 use Rattle.std.specs.Prelude.{◌≡◌, ◌≢◌, ℕ, ◌⊎◌, List, [], ◌∷◌, ◌++◌, Option, Some, None}
-use Rattle.saslplain.specs.declared.message.Login.{Login}
+use Rattle.sasl_plain.specs.declared.message.Login.{Login}
 use Rattle.base64.specs.Engines.{standard}
 use Rattle.base64.specs.GeneralPurpose.{IsBytes, encode_of}
 
@@ -27,6 +27,6 @@ pub record IsLogin (text user password : List ℕ) : Type 0 where
   pub said : IsMessage message user password
 
 -- the login in a text; `None` if it has none
-abbrev pub IsFound : List ℕ → Option Login → Type 0
-IsFound text None = (user password : List ℕ) → IsLogin text user password → ⊥
-IsFound text (Some login) = IsLogin text login.user login.password
+abbrev pub FindsLogin : List ℕ → Option Login → Type 0
+FindsLogin text None = (user password : List ℕ) → IsLogin text user password → ⊥
+FindsLogin text (Some login) = IsLogin text login.user login.password

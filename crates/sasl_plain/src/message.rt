@@ -1,7 +1,7 @@
 //! The client's message in PLAIN.
 ghost use Rattle.std.specs.Prelude.{◌≡◌, ◌≤◌, length, IfOk};
-ghost use Rattle.saslplain.specs.Login.{IsFound};
-ghost use Rattle.saslplain.specs.Parts.{login_in, login_of, login_shown, cut_in, cut_shown, nul_place as place_of};
+ghost use Rattle.sasl_plain.specs.Login.{FindsLogin};
+ghost use Rattle.sasl_plain.specs.Parts.{login_in, login_of, login_shown, cut_in, message_cuts, nul_place as place_of};
 
 use base64::DecodeAllocError;
 use base64::engine::general_purpose::STANDARD;
@@ -23,7 +23,7 @@ pub struct Login {
 /// isn't empty has to be the same. The base64 is strict: padded, and with spare bits of zero. Time and memory are
 /// linear in the text; lack of memory is the only error.
 pub fn plain(alloc: Global, text: &[u8]) -> Result<Option<Login>, AllocError>
-    ensures found { IfOk result (IsFound text.now) }
+    ensures found { IfOk result (FindsLogin text.now) }
     ensures value { IfOk result (λ found. login_shown found ≡ login_of text.now) }
 {
     match STANDARD.decode(alloc, text) {
@@ -57,7 +57,7 @@ fn read_login(alloc: Global, message: &[u8]) -> Result<Option<Login>, AllocError
 
 // What comes before the first NUL, and what comes after it.
 fn cut(text: &[u8]) -> Option<(&[u8], &[u8])>
-    ensures { cut_shown result ≡ cut_in text.now }
+    ensures { message_cuts result ≡ cut_in text.now }
 {
     let place = nul_place(text);
     if place == text.len() {

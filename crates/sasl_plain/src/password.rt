@@ -1,7 +1,7 @@
 //! Passwords as they are stored.
 ghost use Rattle.std.specs.Prelude.{◌≡◌, ◌↔◌, ◌++◌, IsTrue};
 ghost use Rattle.sha2.specs.Sha256.{sha256};
-ghost use Rattle.saslplain.specs.Password.{digest_of};
+ghost use Rattle.sasl_plain.specs.Password.{digest_of};
 
 use octets::Octets;
 use sha2::{Digest, Sha256};
@@ -11,7 +11,7 @@ pub const ROUNDS: u32 = 10_000;
 
 /// A password as it is stored: the salt, the number of rounds, and the digest after them.
 #[derive(Drop)]
-pub struct Record {
+pub struct PasswordHash {
     /// What is hashed before the password.
     pub salt: Octets,
     /// How many times the digest was hashed again.
@@ -33,7 +33,7 @@ pub fn digest(salt: &[u8], rounds: u32, password: &[u8]) -> [u8; 32]
 }
 
 /// Whether the password has the record's digest. Takes no memory, and as much time as `digest`.
-pub fn accepts(kept: &Record, password: &[u8]) -> bool
+pub fn accepts(kept: &PasswordHash, password: &[u8]) -> bool
     ensures { IsTrue result ↔ (digest_of kept.now.salt password.now kept.now.rounds ≡ kept.now.digest) }
 {
     let given = digest(kept.salt.as_slice(), kept.rounds, password);

@@ -1,16 +1,16 @@
 -- Right examples and near misses of the definitions.
 use Rattle.std.proofs.Common.{◌≡◌, ℕ, zero, suc, ◌<◌, Bool, true, false, List, [], ◌∷◌, length, Option, Some, None, refl, ap, subst, arith}
 use Rattle.std.proofs.lemmas.Option.{same_Some}
-use Rattle.sievesyntax.specs.declared.tree.action.Action.TheVariants.{Keep, Discard}
-use Rattle.sievesyntax.specs.declared.tree.checks.Check.{Check}
-use Rattle.sievesyntax.specs.RunState.{RunState, at_first, Going, TooMuchWork, inbox}
-use Rattle.sievesyntax.specs.Tree.{no, choose, branch, no_branches, Commands, command, no_commands}
-use Rattle.sievesyntax.specs.Tree as T
-use Rattle.sievesyntax.specs.Meaning.{Outcome, Done, Failed}
-use Rattle.sievesyntax.specs.Work.{max_work}
-use Rattle.sievecode.specs.Instructions.{Instruction, set, look, flip, jump, jump_if, jump_unless, act, stop}
-use Rattle.sievecode.specs.Jumps.{jumps_from, jumps, IsCodeOf, LeadsForward, IsForward}
-use Rattle.sievecode.specs.Size.{size}
+use Rattle.sieve_syntax.specs.declared.tree.action.Action.TheVariants.{Keep, Discard}
+use Rattle.sieve_syntax.specs.declared.tree.checks.MailCheck.{MailCheck}
+use Rattle.sieve_syntax.specs.RunState.{RunState, at_first, Going, TooMuchWork, inbox}
+use Rattle.sieve_syntax.specs.Tree.{no, choose, branch, no_branches, Commands, command, no_commands}
+use Rattle.sieve_syntax.specs.Tree as T
+use Rattle.sieve_syntax.specs.Meaning.{Outcome, Done, Failed}
+use Rattle.sieve_syntax.specs.Work.{max_work}
+use Rattle.sieve_code.specs.Instructions.{Instruction, set, look, flip, jump, jump_if, jump_unless, act, stop}
+use Rattle.sieve_code.specs.Jumps.{jumps_from, jumps, IsCodeOf, LeadsForward, IsForward}
+use Rattle.sieve_code.specs.Size.{size}
 
 -- if false { stop; } discard;
 abbrev tree : Commands
@@ -29,17 +29,17 @@ abbrev dropped : Outcome
 dropped = Done (record { filed = []; sent = []; reply = None })
 
 -- a run is still going where a turn is left over, and one that is at the end needs none
-going : (truth : RunState → Check → Bool) (work : RunState → Check → ℕ) → jumps truth work (stop ∷ []) 0 ≡ None
+going : (truth : RunState → MailCheck → Bool) (work : RunState → MailCheck → ℕ) → jumps truth work (stop ∷ []) 0 ≡ None
 going truth work = refl
 
-at_end : (truth : RunState → Check → Bool) (work : RunState → Check → ℕ) → jumps truth work [] 0 ≡ Some kept
+at_end : (truth : RunState → MailCheck → Bool) (work : RunState → MailCheck → ℕ) → jumps truth work [] 0 ≡ Some kept
 at_end truth work = refl
 
 -- a test is asked at what the run has done by then: behind `discard` the implicit keep is cancelled, before it it isn't
-behind : (check : Check) → jumps (λ so_far check. so_far.cancelled) (λ so_far check. 1) (act Discard ∷ look check ∷ jump_unless 4 ∷ act (Keep None) ∷ []) 4 ≡ Some kept
+behind : (check : MailCheck) → jumps (λ so_far check. so_far.cancelled) (λ so_far check. 1) (act Discard ∷ look check ∷ jump_unless 4 ∷ act (Keep None) ∷ []) 4 ≡ Some kept
 behind check = refl
 
-ahead : (check : Check) → jumps (λ so_far check. so_far.cancelled) (λ so_far check. 1) (look check ∷ act Discard ∷ jump_unless 4 ∷ act (Keep None) ∷ []) 4 ≡ Some dropped
+ahead : (check : MailCheck) → jumps (λ so_far check. so_far.cancelled) (λ so_far check. 1) (look check ∷ act Discard ∷ jump_unless 4 ∷ act (Keep None) ∷ []) 4 ≡ Some dropped
 ahead check = refl
 
 filed_by : Option Outcome → ℕ
@@ -54,20 +54,20 @@ too_far of = let kept_once = ap filed_by (of (λ so_far check. true) (λ so_far 
 
 -- what is asked is paid for, also behind `not`, and what is passed over isn't: `anyof (not CHECK, CHECK)` asks both where the first
 -- doesn't hold, and one where it does
-abbrev either : Check → List Instruction
+abbrev either : MailCheck → List Instruction
 either check = look check ∷ flip ∷ jump_if 5 ∷ look check ∷ jump_if 5 ∷ []
 
-both_asked : (check : Check) → jumps_from (λ so_far check. true) (λ so_far check. 7) (either check) 5 0 false at_first ≡ Some (record { flow = Going at_first; work = 14 })
+both_asked : (check : MailCheck) → jumps_from (λ so_far check. true) (λ so_far check. 7) (either check) 5 0 false at_first ≡ Some (record { flow = Going at_first; work = 14 })
 both_asked check = refl
 
-one_asked : (check : Check) → jumps_from (λ so_far check. false) (λ so_far check. 7) (either check) 5 0 false at_first ≡ Some (record { flow = Going at_first; work = 7 })
+one_asked : (check : MailCheck) → jumps_from (λ so_far check. false) (λ so_far check. 7) (either check) 5 0 false at_first ≡ Some (record { flow = Going at_first; work = 7 })
 one_asked check = refl
 
 -- a run may take as much as that, and fails with one more, though `stop` came; the work is that of the run, not of one test
-enough : (check : Check) → jumps (λ so_far check. false) (λ so_far check. max_work) (look check ∷ act Discard ∷ stop ∷ []) 3 ≡ Some dropped
+enough : (check : MailCheck) → jumps (λ so_far check. false) (λ so_far check. max_work) (look check ∷ act Discard ∷ stop ∷ []) 3 ≡ Some dropped
 enough check = refl
 
-too_much : (check : Check) → jumps (λ so_far check. false) (λ so_far check. max_work) (look check ∷ act Discard ∷ look check ∷ stop ∷ []) 4 ≡ Some (Failed TooMuchWork)
+too_much : (check : MailCheck) → jumps (λ so_far check. false) (λ so_far check. max_work) (look check ∷ act Discard ∷ look check ∷ stop ∷ []) 4 ≡ Some (Failed TooMuchWork)
 too_much check = refl
 
 -- a jump to the end leads forward, and one to its own place doesn't

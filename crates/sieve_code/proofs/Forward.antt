@@ -4,14 +4,14 @@ use Rattle.std.specs.Prelude.{slice_get}
 use Rattle.std.specs.Option.{option_map}
 use Rattle.std.proofs.lemmas.List.{length-drop, length-map, drop-drop}
 use Rattle.std.proofs.lemmas.Option.{same_Some, slice_get-map, slice_get_past}
-use Rattle.sievesyntax.specs.declared.tree.checks.Check.{Check}
-use Rattle.sievesyntax.specs.RunState.{RunState, at_first, Flow, Going, Stopped, Failed, performed}
-use Rattle.sievesyntax.specs.Tree.{TestTree, yes, no, looks, not_of, all_of, any_of, Tests, no_tests, test, CommandTree, require, choose, stop, act, Branches, no_branches, branch, Commands, no_commands, command}
-use Rattle.sievecode.specs.Instructions.{Instruction, set, look, flip, jump, jump_if, jump_unless}
-use Rattle.sievecode.specs.Instructions as I
-use Rattle.sievecode.specs.Jumps.{Course, Run, after_work, after_action, instr_work, turn, at_place, paid_turn, jumps_from, LeadsForward, IsForward, IsCodeOf, outcome_of}
-use Rattle.sievecode.specs.Layout.{test_code, all_code, any_code, command_code, branches_code, commands_code, forward, turned}
-use Rattle.sievecode.proofs.Runs.{behind_none, then_runs, run, past, ends_length, all_ends, any_ends, branches_ends, commands_ends, whole_runs}
+use Rattle.sieve_syntax.specs.declared.tree.checks.MailCheck.{MailCheck}
+use Rattle.sieve_syntax.specs.RunState.{RunState, at_first, Flow, Going, Stopped, Failed, performed}
+use Rattle.sieve_syntax.specs.Tree.{TestTree, yes, no, looks, not_of, all_of, any_of, Tests, no_tests, test, CommandTree, require, choose, stop, act, Branches, no_branches, branch, Commands, no_commands, command}
+use Rattle.sieve_code.specs.Instructions.{Instruction, set, look, flip, jump, jump_if, jump_unless}
+use Rattle.sieve_code.specs.Instructions as I
+use Rattle.sieve_code.specs.Jumps.{Course, Run, after_work, after_action, instr_work, turn, at_place, paid_turn, jumps_from, LeadsForward, IsForward, IsCodeOf, outcome_of}
+use Rattle.sieve_code.specs.Layout.{test_code, all_code, any_code, command_code, branches_code, commands_code, forward, code_in_order}
+use Rattle.sieve_code.proofs.Runs.{behind_none, then_runs, run, past, ends_length, all_ends, any_ends, branches_ends, commands_ends, whole_runs}
 
 -- a target that is counted from the end lies in the code that is left
 abbrev pub IsWithin : ℕ → Instruction → Type 0
@@ -84,25 +84,25 @@ past_end code k e = omega (arith, length-drop k code, ap length e)
 left_at : (code : List Instruction) (k : ℕ) (instr : Instruction) (rest : List Instruction) → drop k code ≡ instr ∷ rest → length code ≡ k + suc (length rest)
 left_at code k instr rest e = omega (arith, length-drop k code, ap length e)
 
-nothing_at : (back : List Instruction) (k : ℕ) → drop k back ≡ [] → slice_get (turned back) k ≡ None
+nothing_at : (back : List Instruction) (k : ℕ) → drop k back ≡ [] → slice_get (code_in_order back) k ≡ None
 nothing_at back k e =
     let same = length-map back (forward (length back)) in
     let end = past_end back k e in
-    slice_get_past (turned back) k (omega arith)
+    slice_get_past (code_in_order back) k (omega arith)
 
-something_at : (back : List Instruction) (k : ℕ) (instr : Instruction) (rest : List Instruction) → drop k back ≡ instr ∷ rest → slice_get (turned back) k ≡ Some (forward (length back) instr)
+something_at : (back : List Instruction) (k : ℕ) (instr : Instruction) (rest : List Instruction) → drop k back ≡ instr ∷ rest → slice_get (code_in_order back) k ≡ Some (forward (length back) instr)
 something_at back k instr rest e =
     slice_get-map (forward (length back)) back k ∙ ap (option_map (forward (length back))) (at_drop back k instr rest e).0
 
 -- what comes next does what the code does that is left there
-abbrev Goes : (RunState → Check → Bool) → (RunState → Check → ℕ) → List Instruction → ℕ → Run → Type 0
+abbrev Goes : (RunState → MailCheck → Bool) → (RunState → MailCheck → ℕ) → List Instruction → ℕ → Run → Type 0
 Goes truth work back n next = (place : ℕ) (flag : Bool) (so_far : RunState) → length back ≤ place + n → next place flag so_far ≡ Some (run truth work zero (drop place back) flag so_far)
 
 -- an instruction that takes no work
 no_work : (given : Option Course) (course : Course) → given ≡ Some course → after_work 0 given ≡ Some course
 no_work given course e = ap (after_work 0) e ∙ ap Some (behind_none course)
 
-module _ (truth : RunState → Check → Bool) (work : RunState → Check → ℕ) (back : List Instruction) (n : ℕ) (next : Run) (place : ℕ) (rest : List Instruction) (enough : length back ≤ place + suc n) (left : length back ≡ place + suc (length rest)) (after : drop (suc place) back ≡ rest) where
+module _ (truth : RunState → MailCheck → Bool) (work : RunState → MailCheck → ℕ) (back : List Instruction) (n : ℕ) (next : Run) (place : ℕ) (rest : List Instruction) (enough : length back ≤ place + suc n) (left : length back ≡ place + suc (length rest)) (after : drop (suc place) back ≡ rest) where
   goes_next : Goes truth work back n next → (flag : Bool) (so_far : RunState) → next (place + 1) flag so_far ≡ Some (run truth work zero rest flag so_far)
   goes_next goes flag so_far =
       goes (place + 1) flag so_far (omega arith) ∙ ap (λ k. Some (run truth work zero (drop k back) flag so_far)) (add-one place) ∙ ap (λ code. Some (run truth work zero code flag so_far)) after
@@ -134,22 +134,22 @@ module _ (truth : RunState → Check → Bool) (work : RunState → Check → �
   turn_goes goes I.stop within flag so_far = no_work _ _ refl
 
 -- from each place it does what the code does that is left there
-follows : (truth : RunState → Check → Bool) (work : RunState → Check → ℕ) (back : List Instruction) → AreWithin back → (n place : ℕ) (flag : Bool) (so_far : RunState) (rest : List Instruction) → drop place back ≡ rest → length back ≤ place + n → jumps_from truth work (turned back) n place flag so_far ≡ Some (run truth work zero rest flag so_far)
+follows : (truth : RunState → MailCheck → Bool) (work : RunState → MailCheck → ℕ) (back : List Instruction) → AreWithin back → (n place : ℕ) (flag : Bool) (so_far : RunState) (rest : List Instruction) → drop place back ≡ rest → length back ≤ place + n → jumps_from truth work (code_in_order back) n place flag so_far ≡ Some (run truth work zero rest flag so_far)
 follows truth work back within zero place flag so_far [] e enough =
     ap (λ o. at_place o (λ instr. None) so_far) (nothing_at back place e)
 follows truth work back within zero place flag so_far (instr ∷ rest) e enough =
     let left = left_at back place instr rest e in absurd (omega arith)
 follows truth work back within (suc n) place flag so_far [] e enough =
-    ap (λ o. at_place o (λ instr. paid_turn truth work (jumps_from truth work (turned back) n) instr place flag so_far) so_far) (nothing_at back place e)
+    ap (λ o. at_place o (λ instr. paid_turn truth work (jumps_from truth work (code_in_order back) n) instr place flag so_far) so_far) (nothing_at back place e)
 follows truth work back within (suc n) place flag so_far (instr ∷ rest) e enough =
-    let next = jumps_from truth work (turned back) n in
+    let next = jumps_from truth work (code_in_order back) n in
     let here = subst AreWithin e (within_drop place back within) in
     ap (λ o. at_place o (λ instr. paid_turn truth work next instr place flag so_far) so_far) (something_at back place instr rest e)
     ∙ turn_goes truth work back n next place rest enough (left_at back place instr rest e) (at_drop back place instr rest e).1
     (λ p f s enough. follows truth work back within n p f s (drop p back) refl enough) instr here.0 flag so_far
 
 -- turned round, the code of commands stands for them
-pub turned_is_code : (commands : Commands) (code : List Instruction) → code ≡ turned (commands_code commands []) → IsCodeOf code commands
+pub turned_is_code : (commands : Commands) (code : List Instruction) → code ≡ code_in_order (commands_code commands []) → IsCodeOf code commands
 turned_is_code commands code e truth work =
     let back = commands_code commands [] in
     let long : length code ≡ length back = ap length e ∙ length-map back (forward (length back)) in
@@ -168,7 +168,7 @@ leads back place (jump_unless until) rest left within = (omega arith, omega arit
 leads back place (I.act action) rest left within = tt
 leads back place I.stop rest left within = tt
 
-forward_at : (back : List Instruction) → AreWithin back → (place : ℕ) (instr : Instruction) (rest : List Instruction) → drop place back ≡ rest → slice_get (turned back) place ≡ Some instr → LeadsForward place (length back) instr
+forward_at : (back : List Instruction) → AreWithin back → (place : ℕ) (instr : Instruction) (rest : List Instruction) → drop place back ≡ rest → slice_get (code_in_order back) place ≡ Some instr → LeadsForward place (length back) instr
 forward_at back within place instr [] e here = absurd (none_is_some (sym (nothing_at back place e) ∙ here))
   where
     none_is_some : None ≡ Some instr → ⊥
@@ -178,7 +178,7 @@ forward_at back within place instr (first ∷ rest) e here =
     let same : forward (length back) first ≡ instr = same_Some _ _ (sym (something_at back place first rest e) ∙ here) in
     subst (LeadsForward place (length back)) same (leads back place first rest (left_at back place first rest e) first_within.0)
 
-pub turned_forward : (commands : Commands) (code : List Instruction) → code ≡ turned (commands_code commands []) → IsForward code
+pub turned_forward : (commands : Commands) (code : List Instruction) → code ≡ code_in_order (commands_code commands []) → IsForward code
 turned_forward commands code e place instr here =
     let back = commands_code commands [] in
     let long : length back ≡ length code = sym (ap length e ∙ length-map back (forward (length back))) in

@@ -1,46 +1,46 @@
 -- Code that is read from its front, with targets counted from the end, does what the tree does, and takes what it takes.
 use Rattle.std.proofs.Common.{◌≡◌, ℕ, zero, suc, ◌-◌, ◌≤◌, Bool, true, false, not, ◌&&◌, ◌||◌, cond, List, [], ◌∷◌, ◌++◌, length, drop, refl, sym, ap, ◌∙◌, ◌+◌, arith, append_assoc, length-append, add_assoc, add-zero, zero-add}
 use Rattle.std.proofs.lemmas.List.{drop_at}
-use Rattle.sievesyntax.specs.declared.tree.checks.Check.{Check}
-use Rattle.sievesyntax.specs.RunState.{RunState, Flow, Going, Stopped, Failed, and_then, performed}
-use Rattle.sievesyntax.specs.Tree.{TestTree, yes, no, looks, not_of, all_of, any_of, Tests, no_tests, test, CommandTree, require, choose, stop, act, Branches, no_branches, branch, Commands, no_commands, command}
-use Rattle.sievesyntax.specs.Meaning.{holds, all_hold, some_holds, does, chooses, does_all}
-use Rattle.sievesyntax.specs.Work.{asked, all_asked, some_asked, then_takes, takes, choice_takes, all_take}
-use Rattle.sievecode.specs.Instructions.{Instruction, set, look, flip, jump, jump_if, jump_unless}
-use Rattle.sievecode.specs.Instructions as I
-use Rattle.sievecode.specs.Jumps.{Course, over, behind}
-use Rattle.sievecode.specs.Layout.{test_code, all_code, any_code, command_code, branches_code, commands_code}
+use Rattle.sieve_syntax.specs.declared.tree.checks.MailCheck.{MailCheck}
+use Rattle.sieve_syntax.specs.RunState.{RunState, Flow, Going, Stopped, Failed, and_then, performed}
+use Rattle.sieve_syntax.specs.Tree.{TestTree, yes, no, looks, not_of, all_of, any_of, Tests, no_tests, test, CommandTree, require, choose, stop, act, Branches, no_branches, branch, Commands, no_commands, command}
+use Rattle.sieve_syntax.specs.Meaning.{holds, all_hold, some_holds, does, chooses, does_all}
+use Rattle.sieve_syntax.specs.Work.{asked, all_asked, some_asked, then_takes, takes, choice_takes, all_take}
+use Rattle.sieve_code.specs.Instructions.{Instruction, set, look, flip, jump, jump_if, jump_unless}
+use Rattle.sieve_code.specs.Instructions as I
+use Rattle.sieve_code.specs.Jumps.{Course, course_of, with_work}
+use Rattle.sieve_code.specs.Layout.{test_code, all_code, any_code, command_code, branches_code, commands_code}
 
 -- no work, and work behind work
-pub behind_none : (course : Course) → behind 0 course ≡ course
+pub behind_none : (course : Course) → with_work 0 course ≡ course
 behind_none course = ap (λ n. record course { work = n }) (zero-add course.work)
 
-pub behind_both : (one two : ℕ) (course : Course) → behind one (behind two course) ≡ behind (one + two) course
+pub behind_both : (one two : ℕ) (course : Course) → with_work one (with_work two course) ≡ with_work (one + two) course
 behind_both one two course = ap (λ n. record course { work = n }) (sym (add_assoc one two course.work))
 
-no_more : (work : ℕ) (course : Course) → behind work course ≡ behind (work + 0) course
-no_more work course = ap (λ n. behind n course) (sym (add-zero work))
+no_more : (work : ℕ) (course : Course) → with_work work course ≡ with_work (work + 0) course
+no_more work course = ap (λ n. with_work n course) (sym (add-zero work))
 
 -- what comes next is run where the run goes on
 abbrev pub then_runs : Flow → (RunState → Course) → Course
 then_runs (Going so_far) next = next so_far
-then_runs (Stopped so_far) next = over (Stopped so_far)
-then_runs (Failed failure) next = over (Failed failure)
+then_runs (Stopped so_far) next = course_of (Stopped so_far)
+then_runs (Failed failure) next = course_of (Failed failure)
 
 -- what code does after it has passed over that many instructions
-abbrev pub run : (RunState → Check → Bool) → (RunState → Check → ℕ) → ℕ → List Instruction → Bool → RunState → Course
-run truth work k [] flag so_far = over (Going so_far)
+abbrev pub run : (RunState → MailCheck → Bool) → (RunState → MailCheck → ℕ) → ℕ → List Instruction → Bool → RunState → Course
+run truth work k [] flag so_far = course_of (Going so_far)
 run truth work (suc k) (instr ∷ code) flag so_far = run truth work k code flag so_far
 run truth work zero (set value ∷ code) flag so_far = run truth work zero code value so_far
-run truth work zero (look check ∷ code) flag so_far = behind (work so_far check) (run truth work zero code (truth so_far check) so_far)
+run truth work zero (look check ∷ code) flag so_far = with_work (work so_far check) (run truth work zero code (truth so_far check) so_far)
 run truth work zero (flip ∷ code) flag so_far = run truth work zero code (not flag) so_far
 run truth work zero (jump left ∷ code) flag so_far = run truth work (length code - left) code flag so_far
 run truth work zero (jump_if left ∷ code) flag so_far = run truth work (cond flag (length code - left) zero) code flag so_far
 run truth work zero (jump_unless left ∷ code) flag so_far = run truth work (cond flag zero (length code - left)) code flag so_far
 run truth work zero (I.act action ∷ code) flag so_far = then_runs (performed action so_far) (run truth work zero code flag)
-run truth work zero (I.stop ∷ code) flag so_far = over (Stopped so_far)
+run truth work zero (I.stop ∷ code) flag so_far = course_of (Stopped so_far)
 
-pub past : (truth : RunState → Check → Bool) (work : RunState → Check → ℕ) (k : ℕ) (code : List Instruction) (flag : Bool) (so_far : RunState) → run truth work k code flag so_far ≡ run truth work zero (drop k code) flag so_far
+pub past : (truth : RunState → MailCheck → Bool) (work : RunState → MailCheck → ℕ) (k : ℕ) (code : List Instruction) (flag : Bool) (so_far : RunState) → run truth work k code flag so_far ≡ run truth work zero (drop k code) flag so_far
 past truth work zero code flag so_far = refl
 past truth work (suc k) [] flag so_far = refl
 past truth work (suc k) (instr ∷ code) flag so_far = past truth work k code flag so_far
@@ -62,7 +62,7 @@ ends_through code middle rest a b = record { front = a.front ++ b.front; is = a.
 pub ends_length : (code rest : List Instruction) → Ends code rest → length rest ≤ length code
 ends_length code rest e = omega (arith, ap length e.is, length-append e.front rest)
 
-skips : (truth : RunState → Check → Bool) (work : RunState → Check → ℕ) (code rest : List Instruction) → Ends code rest → (flag : Bool) (so_far : RunState) → run truth work (length code - length rest) code flag so_far ≡ run truth work zero rest flag so_far
+skips : (truth : RunState → MailCheck → Bool) (work : RunState → MailCheck → ℕ) (code rest : List Instruction) → Ends code rest → (flag : Bool) (so_far : RunState) → run truth work (length code - length rest) code flag so_far ≡ run truth work zero rest flag so_far
 skips truth work code rest e flag so_far =
     let n = length code - length rest in
     let front : length e.front ≡ n = omega (arith, ap length e.is, length-append e.front rest) in
@@ -111,11 +111,11 @@ mutual
   commands_ends no_commands rest = ends_here rest
   commands_ends (command first more) rest = ends_through _ (commands_code more rest) rest (command_ends first (commands_code more rest)) (commands_ends more rest)
 
-module _ (truth : RunState → Check → Bool) (work : RunState → Check → ℕ) where
+module _ (truth : RunState → MailCheck → Bool) (work : RunState → MailCheck → ℕ) where
   -- the code of a test sets the flag to whether the test holds, and takes the test's work
   mutual
     pub test_runs : (tree : TestTree) (rest : List Instruction) (flag : Bool) (so_far : RunState)
-        → run truth work zero (test_code tree rest) flag so_far ≡ behind (asked (truth so_far) (work so_far) tree) (run truth work zero rest (holds (truth so_far) tree) so_far)
+        → run truth work zero (test_code tree rest) flag so_far ≡ with_work (asked (truth so_far) (work so_far) tree) (run truth work zero rest (holds (truth so_far) tree) so_far)
     test_runs yes rest flag so_far = sym (behind_none (run truth work zero rest true so_far))
     test_runs no rest flag so_far = sym (behind_none (run truth work zero rest false so_far))
     test_runs (looks check) rest flag so_far = refl
@@ -124,61 +124,61 @@ module _ (truth : RunState → Check → Bool) (work : RunState → Check → �
     test_runs (any_of inner) rest flag so_far = any_runs inner rest flag so_far
 
     all_runs : (tests : Tests) (rest : List Instruction) (flag : Bool) (so_far : RunState)
-        → run truth work zero (all_code tests (length rest) (set true ∷ rest)) flag so_far ≡ behind (all_asked (truth so_far) (work so_far) tests) (run truth work zero rest (all_hold (truth so_far) tests) so_far)
+        → run truth work zero (all_code tests (length rest) (set true ∷ rest)) flag so_far ≡ with_work (all_asked (truth so_far) (work so_far) tests) (run truth work zero rest (all_hold (truth so_far) tests) so_far)
     all_runs no_tests rest flag so_far = sym (behind_none (run truth work zero rest true so_far))
     all_runs (test first more) rest flag so_far =
         let after = all_code more (length rest) (set true ∷ rest) in
         let ends = ends_through after (set true ∷ rest) rest (all_ends more (length rest) (set true ∷ rest)) (ends_more (set true) rest rest (ends_here rest)) in
         let cost = asked (truth so_far) (work so_far) first in
         test_runs first (jump_unless (length rest) ∷ after) flag so_far
-        ∙ (elim (holds (truth so_far) first) as (λ first. behind cost (run truth work (cond first zero (length after - length rest)) after first so_far)
-        ≡ behind (cost + cond first (all_asked (truth so_far) (work so_far) more) 0) (run truth work zero rest (first && all_hold (truth so_far) more) so_far)) [
-          | true ↦ ap (behind cost) (all_runs more rest true so_far) ∙ behind_both cost (all_asked (truth so_far) (work so_far) more) (run truth work zero rest (all_hold (truth so_far) more) so_far)
-          | false ↦ ap (behind cost) (skips truth work after rest ends false so_far) ∙ no_more cost (run truth work zero rest false so_far)
+        ∙ (elim (holds (truth so_far) first) as (λ first. with_work cost (run truth work (cond first zero (length after - length rest)) after first so_far)
+        ≡ with_work (cost + cond first (all_asked (truth so_far) (work so_far) more) 0) (run truth work zero rest (first && all_hold (truth so_far) more) so_far)) [
+          | true ↦ ap (with_work cost) (all_runs more rest true so_far) ∙ behind_both cost (all_asked (truth so_far) (work so_far) more) (run truth work zero rest (all_hold (truth so_far) more) so_far)
+          | false ↦ ap (with_work cost) (skips truth work after rest ends false so_far) ∙ no_more cost (run truth work zero rest false so_far)
         ])
 
     any_runs : (tests : Tests) (rest : List Instruction) (flag : Bool) (so_far : RunState)
-        → run truth work zero (any_code tests (length rest) (set false ∷ rest)) flag so_far ≡ behind (some_asked (truth so_far) (work so_far) tests) (run truth work zero rest (some_holds (truth so_far) tests) so_far)
+        → run truth work zero (any_code tests (length rest) (set false ∷ rest)) flag so_far ≡ with_work (some_asked (truth so_far) (work so_far) tests) (run truth work zero rest (some_holds (truth so_far) tests) so_far)
     any_runs no_tests rest flag so_far = sym (behind_none (run truth work zero rest false so_far))
     any_runs (test first more) rest flag so_far =
         let after = any_code more (length rest) (set false ∷ rest) in
         let ends = ends_through after (set false ∷ rest) rest (any_ends more (length rest) (set false ∷ rest)) (ends_more (set false) rest rest (ends_here rest)) in
         let cost = asked (truth so_far) (work so_far) first in
         test_runs first (jump_if (length rest) ∷ after) flag so_far
-        ∙ (elim (holds (truth so_far) first) as (λ first. behind cost (run truth work (cond first (length after - length rest) zero) after first so_far)
-        ≡ behind (cost + cond first 0 (some_asked (truth so_far) (work so_far) more)) (run truth work zero rest (first || some_holds (truth so_far) more) so_far)) [
-          | true ↦ ap (behind cost) (skips truth work after rest ends true so_far) ∙ no_more cost (run truth work zero rest true so_far)
-          | false ↦ ap (behind cost) (any_runs more rest false so_far) ∙ behind_both cost (some_asked (truth so_far) (work so_far) more) (run truth work zero rest (some_holds (truth so_far) more) so_far)
+        ∙ (elim (holds (truth so_far) first) as (λ first. with_work cost (run truth work (cond first (length after - length rest) zero) after first so_far)
+        ≡ with_work (cost + cond first 0 (some_asked (truth so_far) (work so_far) more)) (run truth work zero rest (first || some_holds (truth so_far) more) so_far)) [
+          | true ↦ ap (with_work cost) (skips truth work after rest ends true so_far) ∙ no_more cost (run truth work zero rest true so_far)
+          | false ↦ ap (with_work cost) (any_runs more rest false so_far) ∙ behind_both cost (some_asked (truth so_far) (work so_far) more) (run truth work zero rest (some_holds (truth so_far) more) so_far)
         ])
 
   -- what is run after code that has this effect and takes this work, with some flag
   abbrev Comes : List Instruction → Flow → ℕ → Course → Type 0
-  Comes rest effect cost whole = (flag : Bool) × (whole ≡ behind cost (then_runs effect (run truth work zero rest flag)))
+  Comes rest effect cost whole = (flag : Bool) × (whole ≡ with_work cost (then_runs effect (run truth work zero rest flag)))
 
   -- one effect after another
   comes_on : (middle rest : List Instruction) (effect : Flow) (next : RunState → Flow) (cost : ℕ) (later : RunState → ℕ) (whole : Course) → Comes middle effect cost whole
       → ((flag : Bool) (so_far : RunState) → Comes rest (next so_far) (later so_far) (run truth work zero middle flag so_far)) → Comes rest (and_then effect next) (cost + then_takes effect later) whole
   comes_on middle rest (Going so_far) next cost later whole a b =
-      let c = b a.0 so_far in (c.0, a.1 ∙ ap (behind cost) c.1 ∙ behind_both cost (later so_far) (then_runs (next so_far) (run truth work zero rest c.0)))
-  comes_on middle rest (Stopped so_far) next cost later whole a b = (false, a.1 ∙ no_more cost (over (Stopped so_far)))
-  comes_on middle rest (Failed failure) next cost later whole a b = (false, a.1 ∙ no_more cost (over (Failed failure)))
+      let c = b a.0 so_far in (c.0, a.1 ∙ ap (with_work cost) c.1 ∙ behind_both cost (later so_far) (then_runs (next so_far) (run truth work zero rest c.0)))
+  comes_on middle rest (Stopped so_far) next cost later whole a b = (false, a.1 ∙ no_more cost (course_of (Stopped so_far)))
+  comes_on middle rest (Failed failure) next cost later whole a b = (false, a.1 ∙ no_more cost (course_of (Failed failure)))
 
   -- the same effect before code that does the same
   comes_to : (middle rest : List Instruction) (effect : Flow) (cost : ℕ) (whole : Course) → ((flag : Bool) (so_far : RunState) → run truth work zero middle flag so_far ≡ run truth work zero rest flag so_far) → Comes middle effect cost whole → Comes rest effect cost whole
-  comes_to middle rest (Going so_far) cost whole same a = (a.0, a.1 ∙ ap (behind cost) (same a.0 so_far))
+  comes_to middle rest (Going so_far) cost whole same a = (a.0, a.1 ∙ ap (with_work cost) (same a.0 so_far))
   comes_to middle rest (Stopped so_far) cost whole same a = (false, a.1)
   comes_to middle rest (Failed failure) cost whole same a = (false, a.1)
 
   -- behind other work
-  comes_behind : (rest : List Instruction) (effect : Flow) (before cost : ℕ) (whole : Course) → Comes rest effect cost whole → Comes rest effect (before + cost) (behind before whole)
-  comes_behind rest effect before cost whole a = (a.0, ap (behind before) a.1 ∙ behind_both before cost (then_runs effect (run truth work zero rest a.0)))
+  comes_behind : (rest : List Instruction) (effect : Flow) (before cost : ℕ) (whole : Course) → Comes rest effect cost whole → Comes rest effect (before + cost) (with_work before whole)
+  comes_behind rest effect before cost whole a = (a.0, ap (with_work before) a.1 ∙ behind_both before cost (then_runs effect (run truth work zero rest a.0)))
 
   -- the code of commands does what they do
   mutual
     pub command_runs : (tree : CommandTree) (rest : List Instruction) (flag : Bool) (so_far : RunState) → Comes rest (does truth tree so_far) (takes truth work tree so_far) (run truth work zero (command_code tree rest) flag so_far)
     command_runs (require names) rest flag so_far = (flag, sym (behind_none (run truth work zero rest flag so_far)))
     command_runs (choose branches) rest flag so_far = branches_run branches rest flag so_far
-    command_runs stop rest flag so_far = (flag, sym (behind_none (over (Stopped so_far))))
+    command_runs stop rest flag so_far = (flag, sym (behind_none (course_of (Stopped so_far))))
     command_runs (act action) rest flag so_far = (flag, sym (behind_none (then_runs (performed action so_far) (run truth work zero rest flag))))
 
     branches_run : (branches : Branches) (rest : List Instruction) (flag : Bool) (so_far : RunState) → Comes rest (chooses truth branches so_far) (choice_takes truth work branches so_far) (run truth work zero (branches_code branches (length rest) rest) flag so_far)
@@ -208,10 +208,10 @@ module _ (truth : RunState → Check → Bool) (work : RunState → Check → �
   pub whole_runs : (commands : Commands) (so_far : RunState) → run truth work zero (commands_code commands []) false so_far ≡ record { flow = does_all truth commands so_far; work = all_take truth work commands so_far }
   whole_runs commands so_far =
       let run = commands_run commands [] false so_far in
-      run.1 ∙ ap (behind (all_take truth work commands so_far)) (nothing_more (does_all truth commands so_far))
+      run.1 ∙ ap (with_work (all_take truth work commands so_far)) (nothing_more (does_all truth commands so_far))
       ∙ ap (λ n. record { flow = does_all truth commands so_far; work = n }) (add-zero (all_take truth work commands so_far))
     where
-      nothing_more : (flow : Flow) → then_runs flow (λ so_far. over (Going so_far)) ≡ over flow
+      nothing_more : (flow : Flow) → then_runs flow (λ so_far. course_of (Going so_far)) ≡ course_of flow
       nothing_more (Going so_far) = refl
       nothing_more (Stopped so_far) = refl
       nothing_more (Failed failure) = refl

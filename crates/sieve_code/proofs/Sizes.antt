@@ -1,10 +1,10 @@
 -- Code has at most two instructions for each command, branch and test.
 use Rattle.std.proofs.Common.{◌≡◌, ℕ, ◌+◌, ◌*◌, ◌≤◌, true, false, List, [], ◌∷◌, length, ap, ◌∙◌, arith}
 use Rattle.std.proofs.lemmas.List.{length-map}
-use Rattle.sievesyntax.specs.Tree.{TestTree, yes, no, looks, not_of, all_of, any_of, Tests, no_tests, test, CommandTree, require, choose, stop, act, Branches, no_branches, branch, Commands, no_commands, command}
-use Rattle.sievecode.specs.Instructions.{Instruction, set, flip, jump, jump_if, jump_unless}
-use Rattle.sievecode.specs.Layout.{test_code, all_code, any_code, command_code, branches_code, commands_code, forward, turned}
-use Rattle.sievecode.specs.Size.{test_size, tests_size, command_size, branches_size, size}
+use Rattle.sieve_syntax.specs.Tree.{TestTree, yes, no, looks, not_of, all_of, any_of, Tests, no_tests, test, CommandTree, require, choose, stop, act, Branches, no_branches, branch, Commands, no_commands, command}
+use Rattle.sieve_code.specs.Instructions.{Instruction, set, flip, jump, jump_if, jump_unless}
+use Rattle.sieve_code.specs.Layout.{test_code, all_code, any_code, command_code, branches_code, commands_code, forward, code_in_order}
+use Rattle.sieve_code.specs.Size.{test_size, tests_size, command_size, branches_size, size}
 
 mutual
   test_short : (tree : TestTree) (rest : List Instruction) → length (test_code tree rest) + 1 ≤ 2 * test_size tree + length rest
@@ -47,7 +47,7 @@ mutual
   commands_short (command first more) rest =
       let f = command_short first (commands_code more rest) in let m = commands_short more rest in omega (arith, f, m)
 
-pub turned_short : (commands : Commands) (code : List Instruction) → code ≡ turned (commands_code commands []) → length code ≤ 2 * size commands
+pub turned_short : (commands : Commands) (code : List Instruction) → code ≡ code_in_order (commands_code commands []) → length code ≤ 2 * size commands
 turned_short commands code e =
     let back = commands_code commands [] in
     let short = commands_short commands [] in

@@ -1,14 +1,14 @@
 -- Instructions, as contracts see them.
 use Rattle.std.specs.Prelude.{ℕ, Bool, List, map, reverse}
-use Rattle.sievesyntax.specs.declared.tree.action.Action.{Action}
-use Rattle.sievesyntax.specs.declared.tree.checks.Check.{Check}
-use Rattle.sievecode.specs.declared.instr.Instr.{Instr}
-use Rattle.sievecode.specs.declared.instr.Instr.TheVariants.{Set, Look, Flip, Jump, JumpIf, JumpUnless, Act, Stop}
+use Rattle.sieve_syntax.specs.declared.tree.action.Action.{Action}
+use Rattle.sieve_syntax.specs.declared.tree.checks.MailCheck.{MailCheck}
+use Rattle.sieve_code.specs.declared.instr.Instr.{Instr}
+use Rattle.sieve_code.specs.declared.instr.Instr.TheVariants.{Set, Look, Flip, Jump, JumpIf, JumpUnless, Act, Stop}
 
 -- an instruction, with the test or the action that it refers to
 pub data Instruction : Type 0 where
   set : Bool → Instruction
-  look : Check → Instruction
+  look : MailCheck → Instruction
   flip : Instruction
   jump : ℕ → Instruction
   jump_if : ℕ → Instruction
@@ -28,5 +28,5 @@ instr_view (Act action) = act action.now
 instr_view Stop = stop
 
 -- instructions that were written from the last to the first, in order
-abbrev pub seen : List Instr → List Instruction
-seen rows = map instr_view (reverse rows)
+abbrev pub instructions_of : List Instr → List Instruction
+instructions_of rows = map instr_view (reverse rows)

@@ -1,11 +1,11 @@
 -- What flat code does and the work that it takes, for any truth and any work of the tests that look at the message or at what the run has done.
 use Rattle.std.specs.Prelude.{◌≡◌, ℕ, zero, suc, ◌+◌, ◌<◌, ◌≤◌, Bool, false, not, cond, List, length, Option, Some, None, slice_get}
-use Rattle.sievesyntax.specs.declared.tree.checks.Check.{Check}
-use Rattle.sievesyntax.specs.RunState.{RunState, at_first, Flow, Going, Stopped, Failed, performed}
-use Rattle.sievesyntax.specs.Tree.{Commands}
-use Rattle.sievesyntax.specs.Meaning.{Outcome, ended}
-use Rattle.sievesyntax.specs.Work.{within_work, outcome_within}
-use Rattle.sievecode.specs.Instructions.{Instruction, set, look, flip, jump, jump_if, jump_unless, act, stop}
+use Rattle.sieve_syntax.specs.declared.tree.checks.MailCheck.{MailCheck}
+use Rattle.sieve_syntax.specs.RunState.{RunState, at_first, Flow, Going, Stopped, Failed, performed}
+use Rattle.sieve_syntax.specs.Tree.{Commands}
+use Rattle.sieve_syntax.specs.Meaning.{Outcome, outcome_after}
+use Rattle.sieve_syntax.specs.Work.{within_work, outcome_within}
+use Rattle.sieve_code.specs.Instructions.{Instruction, set, look, flip, jump, jump_if, jump_unless, act, stop}
 
 -- the state of a run that is over, and the work that it took
 pub record Course : Type 0 where
@@ -13,11 +13,11 @@ pub record Course : Type 0 where
   pub work : ℕ
 
 -- over without work, and after some more work
-abbrev pub over : Flow → Course
-over flow = record { flow = flow; work = 0 }
+abbrev pub course_of : Flow → Course
+course_of flow = record { flow = flow; work = 0 }
 
-abbrev pub behind : ℕ → Course → Course
-behind work course = record course { work = work + course.work }
+abbrev pub with_work : ℕ → Course → Course
+with_work work course = record course { work = work + course.work }
 
 -- the course of a run from a place, a flag and what has been done so far; none if it is still going
 abbrev pub Run : Type 0
@@ -26,16 +26,16 @@ Run = ℕ → Bool → RunState → Option Course
 -- the same after some work
 abbrev pub after_work : ℕ → Option Course → Option Course
 after_work work None = None
-after_work work (Some course) = Some (behind work course)
+after_work work (Some course) = Some (with_work work course)
 
 -- a run goes on after an action that didn't fail
 abbrev pub after_action : Flow → (RunState → Option Course) → Option Course
 after_action (Going so_far) next = next so_far
-after_action (Stopped so_far) next = Some (over (Stopped so_far))
-after_action (Failed failure) next = Some (over (Failed failure))
+after_action (Stopped so_far) next = Some (course_of (Stopped so_far))
+after_action (Failed failure) next = Some (course_of (Failed failure))
 
 -- the work of an instruction: that of the test that it evaluates
-abbrev pub instr_work : (RunState → Check → ℕ) → Instruction → RunState → ℕ
+abbrev pub instr_work : (RunState → MailCheck → ℕ) → Instruction → RunState → ℕ
 instr_work work (set value) so_far = 0
 instr_work work (look check) so_far = work so_far check
 instr_work work flip so_far = 0
@@ -46,7 +46,7 @@ instr_work work (act action) so_far = 0
 instr_work work stop so_far = 0
 
 -- one step, and then the run from the next place on
-abbrev pub turn : (RunState → Check → Bool) → Run → Instruction → Run
+abbrev pub turn : (RunState → MailCheck → Bool) → Run → Instruction → Run
 turn truth next (set value) place flag so_far = next (place + 1) value so_far
 turn truth next (look check) place flag so_far = next (place + 1) (truth so_far check) so_far
 turn truth next flip place flag so_far = next (place + 1) (not flag) so_far
@@ -54,34 +54,34 @@ turn truth next (jump target) place flag so_far = next target flag so_far
 turn truth next (jump_if target) place flag so_far = next (cond flag target (place + 1)) flag so_far
 turn truth next (jump_unless target) place flag so_far = next (cond flag (place + 1) target) flag so_far
 turn truth next (act action) place flag so_far = after_action (performed action so_far) (next (place + 1) flag)
-turn truth next stop place flag so_far = Some (over (Stopped so_far))
+turn truth next stop place flag so_far = Some (course_of (Stopped so_far))
 
 -- at the end of the code a run is over, without a step
 abbrev pub at_place : Option Instruction → (Instruction → Option Course) → RunState → Option Course
-at_place None go so_far = Some (over (Going so_far))
+at_place None go so_far = Some (course_of (Going so_far))
 at_place (Some instr) go so_far = go instr
 
 -- a step with its work, and then the run from the next place on
-abbrev pub paid_turn : (RunState → Check → Bool) → (RunState → Check → ℕ) → Run → Instruction → Run
+abbrev pub paid_turn : (RunState → MailCheck → Bool) → (RunState → MailCheck → ℕ) → Run → Instruction → Run
 paid_turn truth work next instr place flag so_far = after_work (instr_work work instr so_far) (turn truth next instr place flag so_far)
 
 -- the course of flat code from a place on in at most n steps, or none if it is still going
-abbrev pub jumps_from : (RunState → Check → Bool) → (RunState → Check → ℕ) → List Instruction → ℕ → Run
+abbrev pub jumps_from : (RunState → MailCheck → Bool) → (RunState → MailCheck → ℕ) → List Instruction → ℕ → Run
 jumps_from truth work code zero place flag so_far = at_place (slice_get code place) (λ instr. None) so_far
 jumps_from truth work code (suc n) place flag so_far = at_place (slice_get code place) (λ instr. paid_turn truth work (jumps_from truth work code n) instr place flag so_far) so_far
 
 -- the outcome of a run that is over
 abbrev pub outcome_of : Option Course → Option Outcome
 outcome_of None = None
-outcome_of (Some course) = Some (within_work course.work (ended course.flow))
+outcome_of (Some course) = Some (within_work course.work (outcome_after course.flow))
 
 -- the outcome of flat code in at most n steps, or none if it is still going
-abbrev pub jumps : (RunState → Check → Bool) → (RunState → Check → ℕ) → List Instruction → ℕ → Option Outcome
+abbrev pub jumps : (RunState → MailCheck → Bool) → (RunState → MailCheck → ℕ) → List Instruction → ℕ → Option Outcome
 jumps truth work code n = outcome_of (jumps_from truth work code n 0 false at_first)
 
 -- the code does what the tree does and takes the work that it takes, in at most as many steps as the code is long, whichever tests hold
 abbrev pub IsCodeOf : List Instruction → Commands → Type 0
-IsCodeOf code tree = (truth : RunState → Check → Bool) (work : RunState → Check → ℕ) → jumps truth work code (length code) ≡ Some (outcome_within truth work tree)
+IsCodeOf code tree = (truth : RunState → MailCheck → Bool) (work : RunState → MailCheck → ℕ) → jumps truth work code (length code) ≡ Some (outcome_within truth work tree)
 
 -- a jump from this place leads past it, and not past the end of code of this length
 abbrev pub LeadsForward : ℕ → ℕ → Instruction → Type 0

@@ -1,8 +1,8 @@
 -- The code of a tree, before the code that follows it. A target is the number of instructions from it to the end.
 use Rattle.std.specs.Prelude.{ℕ, ◌-◌, true, false, List, ◌∷◌, length, map}
-use Rattle.sievesyntax.specs.Tree.{TestTree, yes, no, looks, not_of, all_of, any_of, Tests, no_tests, test, CommandTree, require, choose, stop, act, Branches, no_branches, branch, Commands, no_commands, command}
-use Rattle.sievecode.specs.Instructions.{Instruction, set, look, flip, jump, jump_if, jump_unless}
-use Rattle.sievecode.specs.Instructions as I
+use Rattle.sieve_syntax.specs.Tree.{TestTree, yes, no, looks, not_of, all_of, any_of, Tests, no_tests, test, CommandTree, require, choose, stop, act, Branches, no_branches, branch, Commands, no_commands, command}
+use Rattle.sieve_code.specs.Instructions.{Instruction, set, look, flip, jump, jump_if, jump_unless}
+use Rattle.sieve_code.specs.Instructions as I
 
 abbrev mutual
   pub test_code : TestTree → List Instruction → List Instruction
@@ -50,5 +50,5 @@ forward len (I.act action) = I.act action
 forward len I.stop = I.stop
 
 -- the code in order, with the places that jumps lead to
-abbrev pub turned : List Instruction → List Instruction
-turned back = map (forward (length back)) back
+abbrev pub code_in_order : List Instruction → List Instruction
+code_in_order back = map (forward (length back)) back

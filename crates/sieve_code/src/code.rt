@@ -1,14 +1,14 @@
 //! Compiled scripts.
 ghost use Rattle.std.specs.Prelude.{◌≡◌, ◌≤◌, ◌*◌, length, map, IfOk};
-ghost use Rattle.sievesyntax.specs.View.{script_tree};
-ghost use Rattle.sievecode.specs.Instructions.{instr_view, seen};
-ghost use Rattle.sievecode.specs.Jumps.{IsCodeOf};
-ghost use Rattle.sievecode.specs.Layout.{turned as turned_of};
-ghost use Rattle.sievecode.specs.Size.{size};
+ghost use Rattle.sieve_syntax.specs.View.{script_tree};
+ghost use Rattle.sieve_code.specs.Instructions.{instr_view, instructions_of};
+ghost use Rattle.sieve_code.specs.Jumps.{IsCodeOf};
+ghost use Rattle.sieve_code.specs.Layout.{code_in_order as turned_of};
+ghost use Rattle.sieve_code.specs.Size.{size};
 
 use crate::emit::emit_commands;
 use crate::instr::Instr;
-use sievesyntax::Script;
+use sieve_syntax::Script;
 use std::alloc::{AllocError, Global};
 use std::marker::Model;
 
@@ -21,8 +21,8 @@ pub struct Code<'a> {
 
 impl<'a> Model for Code<'a> {
     ghost use Rattle.std.specs.Prelude.{List, map};
-    ghost use Rattle.sievecode.specs.Instructions.{Instruction, instr_view};
-    ghost use Rattle.sievecode.specs.Jumps.{IsForward};
+    ghost use Rattle.sieve_code.specs.Instructions.{Instruction, instr_view};
+    ghost use Rattle.sieve_code.specs.Jumps.{IsForward};
 
     ghost Value = { List Instruction };
 
@@ -32,7 +32,7 @@ impl<'a> Model for Code<'a> {
 }
 
 impl<'a> Code<'a> {
-    ghost use Rattle.sievecode.specs.Jumps.{IsForward};
+    ghost use Rattle.sieve_code.specs.Jumps.{IsForward};
 
     /// The instructions, in order.
     pub fn instrs(&self) -> &[Instr<'a>]
@@ -59,13 +59,13 @@ pub fn compile<'a>(alloc: Global, script: &'a Script) -> Result<Code<'a>, AllocE
     let mut rows = Vec::new(alloc);
     emit_commands(&mut rows, script.commands())?;
     Ok(Code {
-        instrs: turned(alloc, rows.as_slice())?,
+        instrs: reversed_code(alloc, rows.as_slice())?,
     })
 }
 
 /// Puts instructions that were written from the last to the first in order, with the places that jumps lead to.
-fn turned<'a>(alloc: Global, rows: &[Instr<'a>]) -> Result<Vec<Instr<'a>>, AllocError>
-    ensures { IfOk result (λ code. map instr_view code.items ≡ turned_of (seen rows.now)) }
+fn reversed_code<'a>(alloc: Global, rows: &[Instr<'a>]) -> Result<Vec<Instr<'a>>, AllocError>
+    ensures { IfOk result (λ code. map instr_view code.items ≡ turned_of (instructions_of rows.now)) }
 {
     let len = rows.len();
     rows.iter().rev().map(|row| row.forward(len)).collect(alloc)

@@ -1,18 +1,18 @@
 //! Code is written from its last instruction to its first, so the place that a jump leads to is known when the
 //! jump is written. Until the code is reversed, a target is the number of instructions from it to the end.
 ghost use Rattle.std.specs.Prelude.{◌≡◌, ◌∷◌, OnOk};
-ghost use Rattle.sievesyntax.specs.View.{test_view, tests_view, command_view, commands_view, branches_view};
-ghost use Rattle.sievesyntax.specs.Tree.{all_of, any_of, choose};
-ghost use Rattle.sievecode.specs.Instructions.{seen, instr_view};
-ghost use Rattle.sievecode.specs.Layout.{test_code, command_code, commands_code};
+ghost use Rattle.sieve_syntax.specs.View.{test_view, tests_view, command_view, commands_view, branches_view};
+ghost use Rattle.sieve_syntax.specs.Tree.{all_of, any_of, choose};
+ghost use Rattle.sieve_code.specs.Instructions.{instructions_of, instr_view};
+ghost use Rattle.sieve_code.specs.Layout.{test_code, command_code, commands_code};
 
 use crate::instr::Instr;
-use sievesyntax::{Branch, Command, Test};
+use sieve_syntax::{Branch, Command, Test};
 use std::alloc::{AllocError, Global};
 
 /// Puts one instruction before the code.
 fn put<'a>(rows: &mut Vec<Instr<'a>>, instr: Instr<'a>) -> Result<(), AllocError>
-    ensures { OnOk result (seen rows.new.items ≡ instr_view instr.entry ∷ seen rows.old.items) }
+    ensures { OnOk result (instructions_of rows.new.items ≡ instr_view instr.entry ∷ instructions_of rows.old.items) }
 {
     rows.push(instr)?;
     Ok(())
@@ -21,7 +21,7 @@ fn put<'a>(rows: &mut Vec<Instr<'a>>, instr: Instr<'a>) -> Result<(), AllocError
 /// Puts the code of a test before the code: it sets the flag to whether the test holds.
 #[cycle(tests)]
 fn emit_test<'a>(rows: &mut Vec<Instr<'a>>, test: &'a Test) -> Result<(), AllocError>
-    ensures { OnOk result (seen rows.new.items ≡ test_code (test_view test.now) (seen rows.old.items)) }
+    ensures { OnOk result (instructions_of rows.new.items ≡ test_code (test_view test.now) (instructions_of rows.old.items)) }
 {
     match test {
         Test::True => put(rows, Instr::Set(true)),
@@ -39,7 +39,7 @@ fn emit_test<'a>(rows: &mut Vec<Instr<'a>>, test: &'a Test) -> Result<(), AllocE
 /// Puts the code of tests before the code: it sets the flag to whether each holds.
 #[cycle(tests)]
 fn emit_all<'a>(rows: &mut Vec<Instr<'a>>, tests: &'a [Test]) -> Result<(), AllocError>
-    ensures { OnOk result (seen rows.new.items ≡ test_code (all_of (tests_view tests.now)) (seen rows.old.items)) }
+    ensures { OnOk result (instructions_of rows.new.items ≡ test_code (all_of (tests_view tests.now)) (instructions_of rows.old.items)) }
 {
     let end = rows.len();
     put(rows, Instr::Set(true))?;
@@ -53,7 +53,7 @@ fn emit_all<'a>(rows: &mut Vec<Instr<'a>>, tests: &'a [Test]) -> Result<(), Allo
 /// Puts the code of tests before the code: it sets the flag to whether some test holds.
 #[cycle(tests)]
 fn emit_any<'a>(rows: &mut Vec<Instr<'a>>, tests: &'a [Test]) -> Result<(), AllocError>
-    ensures { OnOk result (seen rows.new.items ≡ test_code (any_of (tests_view tests.now)) (seen rows.old.items)) }
+    ensures { OnOk result (instructions_of rows.new.items ≡ test_code (any_of (tests_view tests.now)) (instructions_of rows.old.items)) }
 {
     let end = rows.len();
     put(rows, Instr::Set(false))?;
@@ -70,7 +70,7 @@ pub(crate) fn emit_commands<'a>(
     rows: &mut Vec<Instr<'a>>,
     commands: &'a [Command],
 ) -> Result<(), AllocError>
-    ensures { OnOk result (seen rows.new.items ≡ commands_code (commands_view commands.now) (seen rows.old.items)) }
+    ensures { OnOk result (instructions_of rows.new.items ≡ commands_code (commands_view commands.now) (instructions_of rows.old.items)) }
 {
     for command in commands.iter().rev() {
         emit_command(rows, command)?;
@@ -81,7 +81,7 @@ pub(crate) fn emit_commands<'a>(
 /// Puts the code of a command before the code.
 #[cycle(commands)]
 fn emit_command<'a>(rows: &mut Vec<Instr<'a>>, command: &'a Command) -> Result<(), AllocError>
-    ensures { OnOk result (seen rows.new.items ≡ command_code (command_view command.now) (seen rows.old.items)) }
+    ensures { OnOk result (instructions_of rows.new.items ≡ command_code (command_view command.now) (instructions_of rows.old.items)) }
 {
     match command {
         Command::Require(_) => Ok(()),
@@ -94,7 +94,7 @@ fn emit_command<'a>(rows: &mut Vec<Instr<'a>>, command: &'a Command) -> Result<(
 /// Puts the code of branches before the code: the first block whose test holds is run, and then a jump past the last.
 #[cycle(commands)]
 fn emit_branches<'a>(rows: &mut Vec<Instr<'a>>, branches: &'a [Branch]) -> Result<(), AllocError>
-    ensures { OnOk result (seen rows.new.items ≡ command_code (choose (branches_view branches.now)) (seen rows.old.items)) }
+    ensures { OnOk result (instructions_of rows.new.items ≡ command_code (choose (branches_view branches.now)) (instructions_of rows.old.items)) }
 {
     let end = rows.len();
     for branch in branches.iter().rev() {

@@ -1,5 +1,5 @@
 //! The instructions.
-use sievesyntax::{Action, Check};
+use sieve_syntax::{Action, MailCheck};
 
 /// An instruction. A machine has a place in the code, which begins at 0, and a flag, which tests set and jumps
 /// look at. Unless something else is said, it goes on at the next place, and it is done at the end of the code.
@@ -8,7 +8,7 @@ pub enum Instr<'a> {
     /// Sets the flag to this.
     Set(bool),
     /// Sets the flag to whether this test holds (RFC 5228, 5).
-    Look(&'a Check),
+    Look(&'a MailCheck),
     /// Negates the flag (`not`: RFC 5228, 5.8).
     Flip,
     /// Goes on at this place.
@@ -25,8 +25,8 @@ pub enum Instr<'a> {
 
 impl<'a> Instr<'a> {
     ghost use Rattle.std.specs.Prelude.{◌≡◌};
-    ghost use Rattle.sievecode.specs.Instructions.{instr_view};
-    ghost use Rattle.sievecode.specs.Layout.{forward};
+    ghost use Rattle.sieve_code.specs.Instructions.{instr_view};
+    ghost use Rattle.sieve_code.specs.Layout.{forward};
 
     /// The same instruction in code of this length, if its target was counted from the end.
     pub(crate) fn forward(self, len: usize) -> Instr<'a>

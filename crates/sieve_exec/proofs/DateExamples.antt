@@ -2,27 +2,27 @@
 use Rattle.std.proofs.Common.{◌≡◌, ◌∙◌, ◌∷◌, ◌++◌, ℕ, ℤ, pos, List, [], Some, None, true, false, refl, sym, inr, arith, rules}
 use Rattle.std.specs.Prelude.{codes}
 use Rattle.std.proofs.lemmas.Int.{ints}
-use Rattle.maildates.specs.declared.date_time.DateTime.{DateTime}
-use Rattle.maildates.specs.DateTimes.{IsDateTime, local_minutes}
-use Rattle.maildates.specs.Finding.{date_of, is_civil}
-use Rattle.maildates.specs.Pieces.{goes_on}
-use Rattle.maildates.specs.Words.{number_in, two_digits, day_of, year_of, is_named, month_of, weekday_of, mark_of}
-use Rattle.maildates.specs.Zones.{offset_of, numeric_of, hours_west, named_of, zone_of}
-use Rattle.maildates.specs.Reading.{next_state, after_gap, cut, piece, reads, after_name, day_from, second_from, time_from, parts_from}
-use Rattle.sievesyntax.specs.declared.tree.checks.DateZone.TheVariants.{Given, Original}
-use Rattle.sieveexec.specs.declared.when.When.{When}
-use Rattle.sieveexec.specs.Mails.{MailSpec, mail_of}
-use Rattle.sieveexec.specs.Dates.{IsBehindLast, IsFieldDate, IsDateCount, IsShown, field_date}
-use Rattle.sieveexec.proofs.DateLemmas.{behind_again, field_date_is, field_date_again}
+use Rattle.mail_dates.specs.declared.date_time.DateTime.{DateTime}
+use Rattle.mail_dates.specs.DateTimes.{IsDateTime, local_minutes}
+use Rattle.mail_dates.specs.Finding.{date_of, is_civil}
+use Rattle.mail_dates.specs.Pieces.{goes_on}
+use Rattle.mail_dates.specs.Words.{number_in, two_digits, day_of, year_of, is_named, month_of, weekday_of, mark_of}
+use Rattle.mail_dates.specs.Zones.{offset_of, numeric_of, hours_west, named_of, zone_of}
+use Rattle.mail_dates.specs.Reading.{next_state, after_gap, cut, piece, reads, after_name, day_from, second_from, time_from, parts_from}
+use Rattle.sieve_syntax.specs.declared.tree.checks.DateZone.TheVariants.{Given, Original}
+use Rattle.sieve_exec.specs.declared.when.When.{When}
+use Rattle.sieve_exec.specs.Mails.{MailSpec, mail_spec_of}
+use Rattle.sieve_exec.specs.Dates.{IsAfterLast, IsFieldDate, IsDateCount, IsDateShown, field_date}
+use Rattle.sieve_exec.proofs.DateLemmas.{behind_again, field_date_is, field_date_again}
 
 -- what stands behind the last semicolon, and not behind the first
-behind : IsBehindLast (codes "a;b;c") (codes "c")
+behind : IsAfterLast (codes "a;b;c") (codes "c")
 behind = record { before = codes "a;b"; cut = refl; last = refl }
 
-not_behind : IsBehindLast (codes "a;b;c") (codes "b;c") → ⊥
+not_behind : IsAfterLast (codes "a;b;c") (codes "b;c") → ⊥
 not_behind is = let no : true ≡ false = is.last in absurd (cc no)
 
-bare : (text : List ℕ) → IsBehindLast (codes "abc") text → ⊥
+bare : (text : List ℕ) → IsAfterLast (codes "abc") text → ⊥
 bare text is = let no : None ≡ Some text = behind_again (codes "abc") text is in absurd (cc no)
 
 -- two hours east of UTC
@@ -30,7 +30,7 @@ abbrev start : When
 start = record { moment = 0; zone = pos 120; within = (search (rules, ints), search (rules, ints)) }
 
 abbrev mail : List ℕ → List ℕ → MailSpec
-mail one two = mail_of (one ++ 10 ∷ (two ++ 10 ∷ [])) (record { from = []; to = [] }) start
+mail one two = mail_spec_of (one ++ 10 ∷ (two ++ 10 ∷ [])) (record { from = []; to = [] }) start
 
 abbrev at : ℕ → ℕ → ℤ → DateTime
 at hour minute zone = record { year = 2026; month = 10; day = 5; hour = hour; minute = minute; second = 0; zone = zone }
@@ -63,14 +63,14 @@ received_found = refl
 is_date : (hour : ℕ) (zone : ℤ) → hour ≡ 8 → zone ≡ pos 0 → IsDateTime (at hour 20 zone)
 is_date hour zone early utc = record { civil = search rules; hour = omega (arith, early); minute = omega arith; second = omega arith; zone = (omega (arith, ints, utc), omega (arith, ints, utc)) }
 
-shown : (m : MailSpec) → IsShown m (Given (pos 0)) (at 10 20 (pos 120)) (at 8 20 (pos 0))
+shown : (m : MailSpec) → IsDateShown m (Given (pos 0)) (at 10 20 (pos 120)) (at 8 20 (pos 0))
 unfolding local_minutes
 shown m = record { is_date = is_date 8 (pos 0) refl refl; zone_is = refl; minutes = omega (arith, ints); second = refl }
 
-not_shown : (m : MailSpec) → IsShown m (Given (pos 0)) (at 10 20 (pos 120)) (at 10 20 (pos 0)) → ⊥
+not_shown : (m : MailSpec) → IsDateShown m (Given (pos 0)) (at 10 20 (pos 120)) (at 10 20 (pos 0)) → ⊥
 unfolding local_minutes
 not_shown m is = omega (arith, ints, is.minutes)
 
 -- by its own clock it is what it was
-own : (m : MailSpec) → IsShown m Original (at 10 20 (pos 120)) (at 10 20 (pos 120))
+own : (m : MailSpec) → IsDateShown m Original (at 10 20 (pos 120)) (at 10 20 (pos 120))
 own m = refl

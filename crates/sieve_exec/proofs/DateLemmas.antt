@@ -11,17 +11,17 @@ use Rattle.std.proofs.lemmas.List.{get_or-drop, get_or_default, take-append-drop
 use Rattle.std.proofs.lemmas.List.Folds.{list_any_none}
 use Rattle.octets.proofs.Lists.{some_is}
 use Rattle.memchr.specs.Find.{Nowhere, NoneAfter, Passes, is_byte}
-use Rattle.sievesyntax.specs.declared.tree.checks.DateZone.{DateZone}
-use Rattle.sievesyntax.specs.declared.tree.checks.DateZone.TheVariants.{Host, Given, Original}
-use Rattle.maildates.specs.declared.date_time.DateTime.{DateTime}
-use Rattle.maildates.specs.DateTexts.{IsDateText}
-use Rattle.maildates.specs.DateTimes.{IsMoment}
-use Rattle.maildates.specs.Finding.{date_of, moment_passes}
-use Rattle.maildates.proofs.FindingLaws.{date_of_is, date_of_again, same_moment_decides, moment_decides}
-use Rattle.maildates.proofs.MomentLaws.{one_same, one_moment}
-use Rattle.maildates.proofs.WordLemmas.{then_some}
-use Rattle.sieveexec.specs.Mails.{MailSpec, values_of}
-use Rattle.sieveexec.specs.Dates.{is_semicolon, IsBehindLast, is_received, IsDatePart, IsFieldDate, IsDateCount, IsShown, behind_last, date_part_of, first_date, field_date, date_count, shown_passes, found_passes}
+use Rattle.sieve_syntax.specs.declared.tree.checks.DateZone.{DateZone}
+use Rattle.sieve_syntax.specs.declared.tree.checks.DateZone.TheVariants.{Host, Given, Original}
+use Rattle.mail_dates.specs.declared.date_time.DateTime.{DateTime}
+use Rattle.mail_dates.specs.DateTexts.{IsDateText}
+use Rattle.mail_dates.specs.DateTimes.{IsMoment}
+use Rattle.mail_dates.specs.Finding.{date_of, moment_passes}
+use Rattle.mail_dates.proofs.FindingLaws.{date_of_is, date_of_again, same_moment_decides, moment_decides}
+use Rattle.mail_dates.proofs.MomentLaws.{one_same, one_moment}
+use Rattle.mail_dates.proofs.WordLemmas.{then_some}
+use Rattle.sieve_exec.specs.Mails.{MailSpec, field_values}
+use Rattle.sieve_exec.specs.Dates.{is_semicolon, IsAfterLast, is_received, IsDatePart, IsFieldDate, IsDateCount, IsDateShown, after_last, date_part_of, first_date, field_date, date_count, shown_passes, found_passes}
 
 -- ---- what stands behind the last semicolon
 
@@ -29,34 +29,34 @@ any_after : (before behind : List ℕ) → list_any is_semicolon (before ++ 59 �
 any_after [] behind = refl
 any_after (octet ∷ more) behind = ap (λ later. is_semicolon octet || later) (any_after more behind) ∙ or-true (is_semicolon octet)
 
-cut_behind : (before behind : List ℕ) → list_any is_semicolon behind ≡ false → behind_last (before ++ 59 ∷ behind) ≡ Some behind
+cut_behind : (before behind : List ℕ) → list_any is_semicolon behind ≡ false → after_last (before ++ 59 ∷ behind) ≡ Some behind
 cut_behind [] behind last = cond-false (list_any is_semicolon behind) _ _ last
 cut_behind (octet ∷ more) behind last = cond-true _ _ _ (any_after more behind) ∙ cut_behind more behind last
 
-pub behind_again : (text behind : List ℕ) → IsBehindLast text behind → behind_last text ≡ Some behind
-behind_again text behind is = ap behind_last is.cut ∙ cut_behind is.before behind is.last
+pub behind_again : (text behind : List ℕ) → IsAfterLast text behind → after_last text ≡ Some behind
+behind_again text behind is = ap after_last is.cut ∙ cut_behind is.before behind is.last
 
-pub behind_is : (text behind : List ℕ) → behind_last text ≡ Some behind → IsBehindLast text behind
+pub behind_is : (text behind : List ℕ) → after_last text ≡ Some behind → IsAfterLast text behind
 behind_is [] behind found = absurd (cc found)
 behind_is (octet ∷ rest) behind found = split (λ there. behind_is rest behind there) (list_any is_semicolon rest) refl
   where
-    here : (semicolon : Bool) → is_semicolon octet ≡ semicolon → list_any is_semicolon rest ≡ false → cond semicolon (Some rest) None ≡ Some behind → IsBehindLast (octet ∷ rest) behind
+    here : (semicolon : Bool) → is_semicolon octet ≡ semicolon → list_any is_semicolon rest ≡ false → cond semicolon (Some rest) None ≡ Some behind → IsAfterLast (octet ∷ rest) behind
     here true is none e =
         let same : rest ≡ behind = some_is rest behind e in
         record { before = []; cut = ap (λ o. o ∷ rest) (eqb-true octet 59 is) ∙ ap (λ l. 59 ∷ l) same; last = subst (λ (l : List ℕ). list_any is_semicolon l ≡ false) same none }
     here false is none e = absurd (cc e)
 
-    split : (behind_last rest ≡ Some behind → IsBehindLast rest behind) → (later : Bool) → list_any is_semicolon rest ≡ later → IsBehindLast (octet ∷ rest) behind
+    split : (after_last rest ≡ Some behind → IsAfterLast rest behind) → (later : Bool) → list_any is_semicolon rest ≡ later → IsAfterLast (octet ∷ rest) behind
     split further true more =
         let one = further (sym (cond-true _ _ _ more) ∙ found) in
         record { before = octet ∷ one.before; cut = ap (λ l. octet ∷ l) one.cut; last = one.last }
     split further false none = here (is_semicolon octet) refl none (sym (cond-false (list_any is_semicolon rest) _ _ none) ∙ found)
 
-pub nothing_behind : (text : List ℕ) → list_any is_semicolon text ≡ false → behind_last text ≡ None
+pub nothing_behind : (text : List ℕ) → list_any is_semicolon text ≡ false → after_last text ≡ None
 nothing_behind [] none = refl
 nothing_behind (octet ∷ rest) none = step (is_semicolon octet) (list_any is_semicolon rest) none
   where
-    step : (one later : Bool) → (one || later) ≡ false → cond later (behind_last rest) (cond one (Some rest) None) ≡ None
+    step : (one later : Bool) → (one || later) ≡ false → cond later (after_last rest) (cond one (Some rest) None) ≡ None
     step true later e = absurd (cc e)
     step false true e = absurd (cc e)
     step false false e = refl
@@ -76,9 +76,9 @@ field_date_again mail name date is =
     ap (first_date (is_received name)) is.first ∙ (ap (option_and_then date_of) (part_again (is_received name) is.value is.part is.is_part) ∙ date_of_again is.part date is.reads)
 
 pub field_date_is : (mail : MailSpec) (name : List ℕ) (date : DateTime) → field_date mail name ≡ Some date → IsFieldDate mail name date
-field_date_is mail name date found = split (values_of mail name) refl
+field_date_is mail name date found = split (field_values mail name) refl
   where
-    split : (values : List (List ℕ)) → values_of mail name ≡ values → IsFieldDate mail name date
+    split : (values : List (List ℕ)) → field_values mail name ≡ values → IsFieldDate mail name date
     split [] none = let bad : None ≡ Some date = sym (ap (first_date (is_received name)) none) ∙ found in absurd (cc bad)
     split (value ∷ more) some =
         let there : option_and_then date_of (date_part_of (is_received name) value) ≡ Some date = sym (ap (first_date (is_received name)) some) ∙ found in
@@ -109,18 +109,18 @@ count_decides mail name r Q decides =
 -- ---- whether it passes by the clock of a zone
 
 module _ (passes : DateTime → Bool) (P : DateTime → Type 0) (each : (date : DateTime) → Decides (passes date) (P date)) where
-  shown_decides : (mail : MailSpec) (zone : DateZone) (date : DateTime) → Decides (shown_passes mail zone passes date) ((shown : DateTime) × IsShown mail zone date shown × P shown)
+  shown_decides : (mail : MailSpec) (zone : DateZone) (date : DateTime) → Decides (shown_passes mail zone passes date) ((shown : DateTime) × IsDateShown mail zone date shown × P shown)
   shown_decides mail Host date = same_moment_decides passes P each date mail.zone
   shown_decides mail (Given zone) date = same_moment_decides passes P each date zone
   shown_decides mail Original date =
       Decides-like _ (λ holds. (date, refl, holds)) (λ (shown, same, holds). subst P same holds) (each date)
 
   pub found_decides : (mail : MailSpec) (zone : DateZone) (name : List ℕ)
-      → Decides (found_passes mail zone passes (field_date mail name)) ((found : DateTime) × (shown : DateTime) × IsFieldDate mail name found × IsShown mail zone found shown × P shown)
+      → Decides (found_passes mail zone passes (field_date mail name)) ((found : DateTime) × (shown : DateTime) × IsFieldDate mail name found × IsDateShown mail zone found shown × P shown)
   found_decides mail zone name = split (field_date mail name) refl
     where
       split : (there : Option DateTime) → field_date mail name ≡ there
-          → Decides (found_passes mail zone passes (field_date mail name)) ((found : DateTime) × (shown : DateTime) × IsFieldDate mail name found × IsShown mail zone found shown × P shown)
+          → Decides (found_passes mail zone passes (field_date mail name)) ((found : DateTime) × (shown : DateTime) × IsFieldDate mail name found × IsDateShown mail zone found shown × P shown)
       split None none = (
         λ h. let bad : false ≡ true = sym (ap (found_passes mail zone passes) none) ∙ h in absurd (cc bad),
         λ (found, shown, is, so, holds). let bad : None ≡ Some found = sym none ∙ field_date_again mail name found is in absurd (cc bad),
@@ -130,11 +130,11 @@ module _ (passes : DateTime → Bool) (P : DateTime → Type 0) (each : (date : 
           (λ h. let one = (shown_decides mail zone date).0 (sym (ap (found_passes mail zone passes) some) ∙ h) in (date, one.0, field_date_is mail name date some, one.1, one.2))
           (λ (found, shown, is, so, holds).
           let same : found ≡ date = some_is found date (sym (field_date_again mail name found is) ∙ some) in
-          ap (found_passes mail zone passes) some ∙ (shown_decides mail zone date).1 (shown, subst (λ (d : DateTime). IsShown mail zone d shown) same so, holds))
+          ap (found_passes mail zone passes) some ∙ (shown_decides mail zone date).1 (shown, subst (λ (d : DateTime). IsDateShown mail zone d shown) same so, holds))
           (λ h. h, λ h. h)
 
 -- a date by the clock of a zone is one
-one_shown : (mail : MailSpec) (zone : DateZone) (date one two : DateTime) → IsShown mail zone date one → IsShown mail zone date two → one ≡ two
+one_shown : (mail : MailSpec) (zone : DateZone) (date one two : DateTime) → IsDateShown mail zone date one → IsDateShown mail zone date two → one ≡ two
 one_shown mail Host date one two a b = one_same date mail.zone one two a b
 one_shown mail (Given zone) date one two a b = one_same date zone one two a b
 one_shown mail Original date one two a b = a ∙ sym b
@@ -143,15 +143,15 @@ itself : (b : Bool) → Decides b (b ≡ true)
 itself b = (λ h. h, λ h. h)
 
 -- where it is found, whether it passes; where it isn't, nothing passes
-pub shown_found : (mail : MailSpec) (zone : DateZone) (passes : DateTime → Bool) (date shown : DateTime) → IsShown mail zone date shown → passes shown ≡ shown_passes mail zone passes date
+pub shown_found : (mail : MailSpec) (zone : DateZone) (passes : DateTime → Bool) (date shown : DateTime) → IsDateShown mail zone date shown → passes shown ≡ shown_passes mail zone passes date
 shown_found mail zone passes date shown is =
     same_from_decides (passes shown) (shown_passes mail zone passes date)
     (Decides-like (passes shown) (λ (h : passes shown ≡ true). (shown, is, h)) (λ (other, so, h). subst (λ (d : DateTime). passes d ≡ true) (one_shown mail zone date other shown so is) h) (itself (passes shown)))
     (shown_decides passes (λ d. passes d ≡ true) (λ d. itself (passes d)) mail zone date)
 
-pub shown_nowhere : (mail : MailSpec) (zone : DateZone) (passes : DateTime → Bool) (date : DateTime) → ((shown : DateTime) → IsShown mail zone date shown → ⊥) → false ≡ shown_passes mail zone passes date
+pub shown_nowhere : (mail : MailSpec) (zone : DateZone) (passes : DateTime → Bool) (date : DateTime) → ((shown : DateTime) → IsDateShown mail zone date shown → ⊥) → false ≡ shown_passes mail zone passes date
 shown_nowhere mail zone passes date none =
-    same_from_decides {P = (shown : DateTime) × IsShown mail zone date shown × (passes shown ≡ true)} false (shown_passes mail zone passes date)
+    same_from_decides {P = (shown : DateTime) × IsDateShown mail zone date shown × (passes shown ≡ true)} false (shown_passes mail zone passes date)
     (λ h. absurd (cc h), λ (shown, is, h). absurd (none shown is)) (shown_decides passes (λ d. passes d ≡ true) (λ d. itself (passes d)) mail zone date)
 
 -- the same of a moment
@@ -187,7 +187,7 @@ none_from text from nowhere = list_any_none is_semicolon (drop from text) (λ k 
     false_from_ne_true _ (λ passes. nowhere (from + k) (omega arith) inside (ap is_semicolon (sym same) ∙ passes)))
 
 -- the place that a search from the end found, and where it found none
-pub behind_found : (text : List ℕ) (k : ℕ) → NoneAfter (Passes (is_byte 59) text) 0 (length text) k → is_byte 59 (get_or text k 0) ≡ true → behind_last text ≡ Some (drop (k + 1) text)
+pub behind_found : (text : List ℕ) (k : ℕ) → NoneAfter (Passes (is_byte 59) text) 0 (length text) k → is_byte 59 (get_or text k 0) ≡ true → after_last text ≡ Some (drop (k + 1) text)
 behind_found text k after here =
     behind_again text (drop (k + 1) text) (record {
       before = take k text;
@@ -195,7 +195,7 @@ behind_found text k after here =
       last = none_from text (k + 1) after.after;
     })
 
-pub behind_nowhere : (text : List ℕ) → Nowhere (Passes (is_byte 59) text) 0 (length text) → behind_last text ≡ None
+pub behind_nowhere : (text : List ℕ) → Nowhere (Passes (is_byte 59) text) 0 (length text) → after_last text ≡ None
 behind_nowhere text nowhere = nothing_behind text (none_from text 0 nowhere)
 
 pub read_same : (text : List ℕ) (found : Option DateTime) → MatchOption found ((date : DateTime) → IsDateText text date → ⊥) (λ date. IsDateText text date) → found ≡ date_of text
@@ -203,7 +203,7 @@ read_same text None nothing = read_nothing text nothing
 read_same text (Some date) is = read_found text date is
 
 -- what is found in a value, whose part it is told
-pub date_behind : (received : Bool) (value part : List ℕ) (found : Option DateTime) → received ≡ true → behind_last value ≡ Some part → found ≡ date_of part → found ≡ option_and_then date_of (date_part_of received value)
+pub date_behind : (received : Bool) (value part : List ℕ) (found : Option DateTime) → received ≡ true → after_last value ≡ Some part → found ≡ date_of part → found ≡ option_and_then date_of (date_part_of received value)
 date_behind received value part found on there is =
     is ∙ sym (ap (λ (b : Bool). option_and_then date_of (date_part_of b value)) on ∙ ap (option_and_then date_of) there)
 

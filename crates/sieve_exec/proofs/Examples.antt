@@ -1,25 +1,25 @@
 -- The definitions at a few mails: what they fit, and what is near it that they don't.
 use Rattle.std.proofs.Common.{◌≡◌, lit<, ℕ, List, true, false, Some, None, inl, inr, [], ◌∷◌, ◌++◌, codes, decimal, refl, arith, pos, neg_ℤ, rules}
 use Rattle.std.proofs.lemmas.Int.{ints}
-use Rattle.sievesyntax.specs.declared.tree.checks.Matching.TheVariants.{Is, Contains, Matches, Value, Count}
-use Rattle.sievesyntax.specs.declared.tree.checks.Relation.TheVariants as R
-use Rattle.sievesyntax.specs.declared.tree.checks.AddressPart.TheVariants.{LocalPart, Domain, User, Detail}
-use Rattle.sievesyntax.specs.declared.tree.checks.AddressPart.TheVariants as part
-use Rattle.sievesyntax.specs.declared.tree.checks.Bound.TheVariants.{Over, Under}
-use Rattle.sievesyntax.specs.declared.tree.checks.Collation.TheVariants.{Octet, AsciiCasemap, AsciiNumeric}
-use Rattle.addrparts.specs.declared.address.Addr.{Addr}
-use Rattle.addrparts.specs.Reading.{addrs}
-use Rattle.addrparts.specs.Reading as reading
-use Rattle.addrparts.proofs.Lists.{addrs-are}
-use Rattle.maildates.specs.DateTimes.{IsZone}
-use Rattle.sieveexec.specs.declared.when.When.{When}
-use Rattle.sieveexec.specs.Mails.{MailSpec, mail_of, values_of, text_shown, has_addresses, addresses_of}
-use Rattle.sieveexec.specs.Matches.{matches_key, matches_some}
-use Rattle.sieveexec.specs.Counts.{fields_counted, envelope_counted}
-use Rattle.sieveexec.specs.Parts.{CutsAtFirst, IsPartOf, part_of, Cuts, CutsAtLast, IsPart, part_in}
-use Rattle.sieveexec.specs.FlagKeys.{flag_keys}
-use Rattle.sieveexec.specs.Holding.{IsBeyond, IsNamed, SomeAddress}
-use Rattle.sieveexec.specs.Truth.{flag_holds}
+use Rattle.sieve_syntax.specs.declared.tree.checks.Matching.TheVariants.{Is, Contains, Matches, Value, Count}
+use Rattle.sieve_syntax.specs.declared.tree.checks.Relation.TheVariants as R
+use Rattle.sieve_syntax.specs.declared.tree.checks.AddressPart.TheVariants.{LocalPart, Domain, User, Detail}
+use Rattle.sieve_syntax.specs.declared.tree.checks.AddressPart.TheVariants as part
+use Rattle.sieve_syntax.specs.declared.tree.checks.Bound.TheVariants.{Over, Under}
+use Rattle.sieve_syntax.specs.declared.tree.checks.Collation.TheVariants.{Octet, AsciiCasemap, AsciiNumeric}
+use Rattle.mail_address.specs.declared.address.Addr.{Addr}
+use Rattle.mail_address.specs.Reading.{addrs}
+use Rattle.mail_address.specs.Reading as reading
+use Rattle.mail_address.proofs.Lists.{addrs-are}
+use Rattle.mail_dates.specs.DateTimes.{IsZone}
+use Rattle.sieve_exec.specs.declared.when.When.{When}
+use Rattle.sieve_exec.specs.Mails.{MailSpec, mail_spec_of, field_values, text_shown, has_addresses, field_addresses}
+use Rattle.sieve_exec.specs.Matches.{matches_key, matches_some}
+use Rattle.sieve_exec.specs.Counts.{fields_counted, envelope_counted}
+use Rattle.sieve_exec.specs.Parts.{CutsAtFirst, IsAddressPart, address_part_of, Cuts, CutsAtLast, IsEnvelopePart, envelope_part_of}
+use Rattle.sieve_exec.specs.FlagKeys.{flag_keys}
+use Rattle.sieve_exec.specs.Holding.{IsBeyond, IsEnvelopeAddress, SomeAddress}
+use Rattle.sieve_exec.specs.Truth.{flag_holds}
 
 -- the first second of 1970, two hours east of UTC
 abbrev start : When
@@ -27,7 +27,7 @@ start = record { moment = 0; zone = pos 120; within = (search (rules, ints), sea
 
 -- "To: a@b", LF, "to: c", LF, from `x@y@z` to nobody
 abbrev sample : MailSpec
-sample = mail_of (codes "To: a@b" ++ 10 ∷ codes "to: c" ++ 10 ∷ []) (record { from = codes "x@y@z"; to = [] }) start
+sample = mail_spec_of (codes "To: a@b" ++ 10 ∷ codes "to: c" ++ 10 ∷ []) (record { from = codes "x@y@z"; to = [] }) start
 
 -- the mail has the moment and the zone of its delivery
 sample-when : (sample.moment ≡ 0) × (sample.zone ≡ pos 120)
@@ -41,14 +41,14 @@ no_day : (IsZone (pos 1440) → ⊥) × (IsZone (neg_ℤ (pos 1440)) → ⊥)
 no_day = (λ east. omega (arith, ints, east.1), λ west. omega (arith, ints, west.0))
 
 -- two fields have the name, in any case
-values-here : values_of sample (codes "TO") ≡ codes " a@b" ∷ codes " c" ∷ []
+values-here : field_values sample (codes "TO") ≡ codes " a@b" ∷ codes " c" ∷ []
 values-here = refl
 
 -- none has a part of the name, and none the name with a colon
-values-part : values_of sample (codes "t") ≡ []
+values-part : field_values sample (codes "t") ≡ []
 values-part = refl
 
-values-colon : values_of sample (codes "to:") ≡ []
+values-colon : field_values sample (codes "to:") ≡ []
 values-colon = refl
 
 -- the blanks at the ends of a text are off, those inside stay
@@ -78,7 +78,7 @@ in_to = record { fields = refl; there = (0, codes " a@b", lit< tt, refl, (addrs 
 no_subject : (mail : MailSpec) (P : Addr → Type 0) → SomeAddress mail (codes "subject") P → ⊥
 no_subject mail P some = let no : false ≡ true = some.fields in absurd (cc no)
 
-subject_gives_none : addresses_of (mail_of (codes "Subject: a@b") (record { from = []; to = [] }) start) (codes "subject") ≡ []
+subject_gives_none : field_addresses (mail_spec_of (codes "Subject: a@b") (record { from = []; to = [] }) start) (codes "subject") ≡ []
 subject_gives_none = refl
 
 -- an address is cut at its last `@`, and not at its first
@@ -89,42 +89,42 @@ cut-first : CutsAtLast (codes "x@y@z") (codes "x") (codes "y@z") → ⊥
 cut-first at = let no : true ≡ false = at.last in cc
 
 -- without `@` the domain is empty
-bare-domain : IsPart Domain (codes "root") []
+bare-domain : IsEnvelopePart Domain (codes "root") []
 bare-domain = (codes "root", inr (record { whole = refl; none = refl; bare = refl }))
 
-bare-local : part_in LocalPart (codes "root") ≡ Some (codes "root")
+bare-local : envelope_part_of LocalPart (codes "root") ≡ Some (codes "root")
 bare-local = refl
 
 -- each part of the null reverse-path is the empty text (RFC 5228, 5.4)
-null-parts : (part_in part.All [] ≡ Some []) × ((part_in LocalPart [] ≡ Some []) × ((part_in Domain [] ≡ Some []) × ((part_in User [] ≡ Some []) × (part_in Detail [] ≡ Some []))))
+null-parts : (envelope_part_of part.All [] ≡ Some []) × ((envelope_part_of LocalPart [] ≡ Some []) × ((envelope_part_of Domain [] ≡ Some []) × ((envelope_part_of User [] ≡ Some []) × (envelope_part_of Detail [] ≡ Some []))))
 null-parts = (refl, (refl, (refl, (refl, refl))))
 
-null-detail : IsPart Detail [] []
+null-detail : IsEnvelopePart Detail [] []
 null-detail = inr (refl, refl)
 
 -- a sender without a detail has none (RFC 5233, 4), nor has one whose local part is empty
-no-null-detail : (part_in Detail (codes "a@b") ≡ None) × (part_in Detail (codes "@b") ≡ None)
+no-null-detail : (envelope_part_of Detail (codes "a@b") ≡ None) × (envelope_part_of Detail (codes "@b") ≡ None)
 no-null-detail = (refl, refl)
 
 -- the parts of an address of a field
-parts-of : part_of part.All (record { local = codes "a"; domain = codes "b" }) ≡ Some (codes "a@b")
+parts-of : address_part_of part.All (record { local = codes "a"; domain = codes "b" }) ≡ Some (codes "a@b")
 parts-of = refl
 
 -- a local part is cut at its first `+`, and not at its last
-user-of : IsPartOf User (record { local = codes "a+b+c"; domain = codes "d" }) (codes "a")
+user-of : IsAddressPart User (record { local = codes "a+b+c"; domain = codes "d" }) (codes "a")
 user-of = inl (codes "b+c", record { cut = refl; first = refl })
 
-detail-of : IsPart Detail (codes "a+b+c@d") (codes "b+c")
+detail-of : IsEnvelopePart Detail (codes "a+b+c@d") (codes "b+c")
 detail-of = inl (codes "a+b+c", codes "d", inl (record { cut = refl; last = refl }), (codes "a", record { cut = refl; first = refl }))
 
 cut-last-plus : CutsAtFirst (codes "a+b+c") (codes "a+b") (codes "c") → ⊥
 cut-last-plus at = let no : true ≡ false = at.first in cc
 
 -- a detail may be empty; without `+` there is none, and the user is the whole local part
-empty-detail : part_in Detail (codes "a+@d") ≡ Some []
+empty-detail : envelope_part_of Detail (codes "a+@d") ≡ Some []
 empty-detail = refl
 
-no-detail : (part_of Detail (record { local = codes "a"; domain = codes "b+c" }) ≡ None) × (part_of User (record { local = codes "a"; domain = codes "b+c" }) ≡ Some (codes "a"))
+no-detail : (address_part_of Detail (record { local = codes "a"; domain = codes "b+c" }) ≡ None) × (address_part_of User (record { local = codes "a"; domain = codes "b+c" }) ≡ Some (codes "a"))
 no-detail = (refl, refl)
 
 -- a size that is the limit is neither over nor under it
@@ -167,14 +167,14 @@ counted : matches_some AsciiNumeric (Count R.Equal) (codes "02" ∷ []) (codes "
 counted = refl
 
 -- the null reverse-path isn't counted
-envelope-null : envelope_counted (mail_of [] (record { from = []; to = codes "x@y" }) start) (record { comparator = AsciiNumeric; part = part.All; matching = Count R.Equal; parts = record { from = true; to = true }; keys = [] }) ≡ 1
+envelope-null : envelope_counted (mail_spec_of [] (record { from = []; to = codes "x@y" }) start) (record { comparator = AsciiNumeric; part = part.All; matching = Count R.Equal; parts = record { from = true; to = true }; keys = [] }) ≡ 1
 envelope-null = refl
 
 -- a test that names the recipient alone doesn't look at the sender
-named-to : IsNamed (record { from = false; to = true }) sample []
+named-to : IsEnvelopeAddress (record { from = false; to = true }) sample []
 named-to = inr (refl, refl)
 
-not_named-from : IsNamed (record { from = false; to = true }) sample (codes "x@y@z") → ⊥
+not_named-from : IsEnvelopeAddress (record { from = false; to = true }) sample (codes "x@y@z") → ⊥
 not_named-from (inl (asked, same)) = cc
 not_named-from (inr (asked, same)) = cc
 

@@ -1,20 +1,20 @@
 -- Values asked key by key, or keys value by value.
 use Rattle.std.proofs.Common.{◌≡◌, ◌↔◌, IsTrue, ℕ, Bool, true, false, ◌||◌, length, slice_index, List, [], ◌∷◌, Option, Some, None, refl, sym, ap, ◌∙◌}
 use Rattle.std.specs.List.{list_any}
-use Rattle.sievesyntax.specs.declared.tree.checks.Collation.{Collation}
-use Rattle.sievesyntax.specs.declared.tree.checks.Matching.{Matching}
+use Rattle.sieve_syntax.specs.declared.tree.checks.Collation.{Collation}
+use Rattle.sieve_syntax.specs.declared.tree.checks.Matching.{Matching}
 use Rattle.std.specs.Char.{to_ascii_uppercase}
 use Rattle.std.proofs.lemmas.Bool.Decides.{same_from_decides}
-use Rattle.collation.specs.Comparators.{ContainsBy}
-use Rattle.collation.specs.Places.{AreMasks}
-use Rattle.collation.specs.Search.{fits_key}
-use Rattle.collation.specs.declared.masks.Masks.{Masks}
-use Rattle.sievesyntax.specs.declared.tree.checks.Collation.TheVariants.{Octet, AsciiCasemap, AsciiNumeric}
-use Rattle.sievesyntax.specs.declared.tree.checks.Matching.TheVariants.{Is, Contains, Matches, Value, Count}
-use Rattle.sieveexec.specs.Matches.{matches_key}
-use Rattle.sieveexec.specs.Ready.{IsReady, some_passes}
-use Rattle.sieveexec.proofs.MatchLemmas.{image_decides}
-use Rattle.sieveexec.specs.Truth.{part_matches}
+use Rattle.sieve_match.specs.Comparators.{ContainsBy}
+use Rattle.sieve_match.specs.Places.{AreMasks}
+use Rattle.sieve_match.specs.Search.{fits_key}
+use Rattle.sieve_match.specs.declared.masks.Masks.{Masks}
+use Rattle.sieve_syntax.specs.declared.tree.checks.Collation.TheVariants.{Octet, AsciiCasemap, AsciiNumeric}
+use Rattle.sieve_syntax.specs.declared.tree.checks.Matching.TheVariants.{Is, Contains, Matches, Value, Count}
+use Rattle.sieve_exec.specs.Matches.{matches_key}
+use Rattle.sieve_exec.specs.Ready.{IsReady, some_passes}
+use Rattle.sieve_exec.proofs.MatchLemmas.{image_decides}
+use Rattle.sieve_exec.specs.Truth.{part_matches}
 
 pub none_pass : {X : Type 0} (xs : List X) → list_any (λ (x : X). false) xs ≡ false
 none_pass [] = refl

@@ -6,24 +6,24 @@ use Rattle.std.specs.declared.alloc.AllocError.{AllocError}
 use Rattle.std.proofs.lemmas.Bool.{lt-ltb, le-ltb}
 use Rattle.std.proofs.lemmas.List.{length-map}
 use Rattle.std.proofs.lemmas.Option.{slice_get-map, slice_get_past, slice_get_read, slice_get_within}
-use Rattle.sievesyntax.specs.declared.tree.checks.Check.{Check}
-use Rattle.sievesyntax.specs.RunState.{RunState, TooMuchWork, Flow, Going}
-use Rattle.sievesyntax.specs.RunState as F
-use Rattle.sievesyntax.specs.Meaning.{Outcome as OutcomeSpec, Failed, ended}
-use Rattle.sievesyntax.specs.Work.{max_work}
-use Rattle.sievecode.specs.declared.instr.Instr.{Instr}
-use Rattle.sievecode.specs.Instructions.{Instruction, instr_view}
-use Rattle.sievecode.specs.Jumps.{Course, over, behind, IsForward, LeadsForward, Run, after_work, instr_work, turn, at_place, paid_turn, jumps_from, outcome_of}
-use Rattle.sievecode.proofs.Runs.{behind_none, behind_both}
-use Rattle.sievecode.proofs.Endings.{turn_ends, comes_to_an_end}
-use Rattle.sieveexec.specs.Mails.{MailSpec}
-use Rattle.sieveexec.specs.Truth.{truth_at}
-use Rattle.sieveexec.specs.Work.{work_at}
-use Rattle.sieveexec.specs.declared.outcome.Outcome.{Outcome}
-use Rattle.sieveexec.specs.declared.machine.Turn.{Turn}
-use Rattle.sieveexec.specs.declared.machine.Turn.TheVariants.{Next, Stopped}
-use Rattle.sieveexec.specs.declared.machine.Turn.TheVariants as T
-use Rattle.sieveexec.specs.Runs.{after_turn, failure_view, MovesOn, outcome_view}
+use Rattle.sieve_syntax.specs.declared.tree.checks.MailCheck.{MailCheck}
+use Rattle.sieve_syntax.specs.RunState.{RunState, TooMuchWork, Flow, Going}
+use Rattle.sieve_syntax.specs.RunState as F
+use Rattle.sieve_syntax.specs.Meaning.{Outcome as OutcomeSpec, Failed, outcome_after}
+use Rattle.sieve_syntax.specs.Work.{max_work}
+use Rattle.sieve_code.specs.declared.instr.Instr.{Instr}
+use Rattle.sieve_code.specs.Instructions.{Instruction, instr_view}
+use Rattle.sieve_code.specs.Jumps.{Course, course_of, with_work, IsForward, LeadsForward, Run, after_work, instr_work, turn, at_place, paid_turn, jumps_from, outcome_of}
+use Rattle.sieve_code.proofs.Runs.{behind_none, behind_both}
+use Rattle.sieve_code.proofs.Endings.{turn_ends, comes_to_an_end}
+use Rattle.sieve_exec.specs.Mails.{MailSpec}
+use Rattle.sieve_exec.specs.Truth.{truth_at}
+use Rattle.sieve_exec.specs.Work.{work_at}
+use Rattle.sieve_exec.specs.declared.outcome.Outcome.{Outcome}
+use Rattle.sieve_exec.specs.declared.machine.InstrOutcome.{InstrOutcome}
+use Rattle.sieve_exec.specs.declared.machine.InstrOutcome.TheVariants.{Next, Stopped}
+use Rattle.sieve_exec.specs.declared.machine.InstrOutcome.TheVariants as T
+use Rattle.sieve_exec.specs.Runs.{after_turn, failure_view, MovesOn, outcome_view}
 
 -- no work, and work behind work
 none_after : (given : Option Course) → after_work 0 given ≡ given
@@ -35,7 +35,7 @@ both_after one two None = refl
 both_after one two (Some course) = ap Some (behind_both one two course)
 
 -- with as many turns as there are places left, and so much work that was taken, the code gives this from here
-pub record Gives (truth : RunState → Check → Bool) (work : RunState → Check → ℕ) (code : List Instruction) (whole : Option Course) (place : ℕ) (flag : Bool) (state : RunState) (left : ℕ) : Type 0 where
+pub record Gives (truth : RunState → MailCheck → Bool) (work : RunState → MailCheck → ℕ) (code : List Instruction) (whole : Option Course) (place : ℕ) (flag : Bool) (state : RunState) (left : ℕ) : Type 0 where
   pub turns : ℕ
   pub taken : ℕ
   pub enough : length code ≤ place + turns
@@ -46,16 +46,16 @@ pub record Gives (truth : RunState → Check → Bool) (work : RunState → Chec
 pub record IsOver (whole : Option Course) (flow : Flow) : Type 0 where
   pub taken : ℕ
   pub within : taken ≤ max_work
-  pub is : Some (behind taken (over flow)) ≡ whole
+  pub is : Some (with_work taken (course_of flow)) ≡ whole
 
 -- what a turn leaves to do
-abbrev pub Leaves : (RunState → Check → Bool) → (RunState → Check → ℕ) → List Instruction → Option Course → Turn → Bool → RunState → ℕ → Type 0
+abbrev pub Leaves : (RunState → MailCheck → Bool) → (RunState → MailCheck → ℕ) → List Instruction → Option Course → InstrOutcome → Bool → RunState → ℕ → Type 0
 Leaves truth work code whole (Next place) flag state left = Gives truth work code whole place flag state left
 Leaves truth work code whole Stopped flag state left = IsOver whole (F.Stopped state)
 Leaves truth work code whole (T.Failed failure) flag state left = IsOver whole (F.Failed (failure_view failure))
 
 -- at first
-pub gives_first : (truth : RunState → Check → Bool) (work : RunState → Check → ℕ) (code : List Instruction) (state : RunState) → Gives truth work code (jumps_from truth work code (length code) 0 false state) 0 false state max_work
+pub gives_first : (truth : RunState → MailCheck → Bool) (work : RunState → MailCheck → ℕ) (code : List Instruction) (state : RunState) → Gives truth work code (jumps_from truth work code (length code) 0 false state) 0 false state max_work
 gives_first truth work code state = record {
   turns = length code;
   taken = 0;
@@ -64,9 +64,9 @@ gives_first truth work code state = record {
   is = none_after (jumps_from truth work code (length code) 0 false state);
 }
 
-module _ (truth : RunState → Check → Bool) (work : RunState → Check → ℕ) (code : List Instruction) (whole : Option Course) (place : ℕ) where
+module _ (truth : RunState → MailCheck → Bool) (work : RunState → MailCheck → ℕ) (code : List Instruction) (whole : Option Course) (place : ℕ) where
   -- the rest is what the turn leaves
-  rest_of : (m taken left : ℕ) → length code ≤ place + suc m → taken + left ≡ max_work → (made : Turn) (flag : Bool) (state : RunState) → MovesOn place made
+  rest_of : (m taken left : ℕ) → length code ≤ place + suc m → taken + left ≡ max_work → (made : InstrOutcome) (flag : Bool) (state : RunState) → MovesOn place made
       → after_work taken (after_turn made (jumps_from truth work code m) flag state) ≡ whole → Leaves truth work code whole made flag state left
   rest_of m taken left enough within (Next place') flag state forward e = record { turns = m; taken = taken; enough = omega (arith, enough, forward); within = within; is = e }
   rest_of m taken left enough within Stopped flag state forward e = record { taken = taken; within = omega (arith, within); is = e }
@@ -78,7 +78,7 @@ module _ (truth : RunState → Check → Bool) (work : RunState → Check → �
   here_given m instr flag state here = ap (λ o. at_place o (λ instr. paid_turn truth work (jumps_from truth work code m) instr place flag state) state) here
 
   -- one turn, and its work
-  one_turn : (instr : Instruction) (made : Turn) (flag flag' : Bool) (state state' : RunState) (before left : ℕ) → Gives truth work code whole place flag state before → slice_get code place ≡ Some instr
+  one_turn : (instr : Instruction) (made : InstrOutcome) (flag flag' : Bool) (state state' : RunState) (before left : ℕ) → Gives truth work code whole place flag state before → slice_get code place ≡ Some instr
       → left + instr_work work instr state ≡ before → ((next : Run) → turn truth next instr place flag state ≡ after_turn made next flag' state') → MovesOn place made → Leaves truth work code whole made flag' state' left
   one_turn instr made flag flag' state state' before left gives here paid turned forward = step gives.turns gives.enough gives.is
     where
@@ -105,7 +105,7 @@ module _ (truth : RunState → Check → Bool) (work : RunState → Check → �
           let all = gives.taken + (w + inner.0.work) in
           let high : nat_lt max_work all ≡ true = lt-ltb max_work all (omega (arith, gives.within, more)) in
           ap outcome_of (sym e ∙ ap (after_work gives.taken) (here_given m instr flag state here ∙ ap (after_work w) inner.1))
-          ∙ ap (λ b. Some (cond b (Failed TooMuchWork) (ended inner.0.flow))) high
+          ∙ ap (λ b. Some (cond b (Failed TooMuchWork) (outcome_after inner.0.flow))) high
 
   -- after the last place
   pub at_end : (flag : Bool) (state : RunState) (left : ℕ) → Gives truth work code whole place flag state left → length code ≤ place → IsOver whole (Going state)
@@ -129,7 +129,7 @@ at_the_place instrs code place instr seen within here =
     ap (λ l. slice_get l place) (sym seen) ∙ slice_get-map instr_view instrs place ∙ ap (option_map instr_view) (slice_get_read instrs (length instrs) place instr refl within here)
 
 -- a turn of the machine that was paid for, with the clauses of what it calls; paying changes nothing but what is left
-pub machine_turn : (mail cached paying : MailSpec) (instrs : List Instr) (code : List Instruction) (whole : Option Course) (place : ℕ) (instr : Instr) (made made' : Turn) (flag0 flag flag' : Bool) (state0 state state' : RunState) (before left left' : ℕ)
+pub machine_turn : (mail cached paying : MailSpec) (instrs : List Instr) (code : List Instruction) (whole : Option Course) (place : ℕ) (instr : Instr) (made made' : InstrOutcome) (flag0 flag flag' : Bool) (state0 state state' : RunState) (before left left' : ℕ)
     → cached ≡ mail → paying ≡ mail → flag ≡ flag0 → state ≡ state0 → left' ≡ left → map instr_view instrs ≡ code → IsForward code → place < length instrs → instr ≡ get_or instrs place instr
     → left + instr_work (work_at paying) (instr_view instr) state0 ≡ before
     → ((next : Run) → turn (truth_at cached) next (instr_view instr) place flag state ≡ after_turn made next flag' state')
@@ -163,10 +163,10 @@ pub after_all : (instrs : List Instr) (code : List Instruction) (place : ℕ) �
 after_all instrs code place seen past = let long = length-map instrs instr_view in omega (arith, ap length seen)
 
 -- what a run that is over comes to
-pub over_is : (whole : Option Course) (flow : Flow) → IsOver whole flow → outcome_of whole ≡ Some (ended flow)
+pub over_is : (whole : Option Course) (flow : Flow) → IsOver whole flow → outcome_of whole ≡ Some (outcome_after flow)
 over_is whole flow is =
     let low : nat_lt max_work (is.taken + 0) ≡ false = le-ltb max_work (is.taken + 0) (omega (arith, is.within)) in
-    ap outcome_of (sym is.is) ∙ ap (λ b. Some (cond b (Failed TooMuchWork) (ended flow))) low
+    ap outcome_of (sym is.is) ∙ ap (λ b. Some (cond b (Failed TooMuchWork) (outcome_after flow))) low
 
 -- the outcome of a run that is over
 pub over_so : (result : Result Outcome AllocError) (end : OutcomeSpec) (whole : Option Course) → outcome_of whole ≡ Some end → IfOk result (λ done. outcome_view done ≡ end) → IfOk result (λ done. Some (outcome_view done) ≡ outcome_of whole)

@@ -4,19 +4,19 @@ use Rattle.std.specs.Bool.{Decides}
 use Rattle.std.proofs.lemmas.Bool.Decides.{Decides-and, Decides-or, Decides-eqb}
 use Rattle.std.proofs.lemmas.Slice.Eq.{bytes_eq-Decides}
 use Rattle.std.specs.Char.{to_ascii_uppercase}
-use Rattle.collation.specs.Comparators.{ContainsBy}
-use Rattle.collation.specs.Numbers.{number_at}
-use Rattle.globmatch.specs.Glob.{items, Glob}
-use Rattle.globmatch.specs.declared.pattern.Item.{Item}
-use Rattle.globmatch.specs.declared.pattern.Item.TheVariants.{Star, One, Exact}
-use Rattle.sievesyntax.specs.declared.tree.checks.Collation.{Collation}
-use Rattle.sievesyntax.specs.declared.tree.checks.Matching.{Matching}
-use Rattle.sievesyntax.specs.declared.tree.checks.Matching.TheVariants.{Is, Contains, Matches, Value, Count}
-use Rattle.sievesyntax.specs.declared.tree.checks.Collation.TheVariants.{Octet, AsciiCasemap, AsciiNumeric}
-use Rattle.sievesyntax.specs.declared.tree.checks.Relation.TheVariants as R
-use Rattle.sieveexec.specs.Matches.{MatchesByImage, MatchesByNumber, MatchesKey, MatchesSome, begins_with, some_end, is_contained, is_globbed, order_by, number_order, matches_by_image, matches_by_number, matches_key, matches_some}
-use Rattle.sieveexec.proofs.Decisions.{decides_as, any_decides}
-use Rattle.sieveexec.proofs.OrderLemmas.{image_ranked, image_relates, number_ranked, number_relates}
+use Rattle.sieve_match.specs.Comparators.{ContainsBy}
+use Rattle.sieve_match.specs.Numbers.{number_at}
+use Rattle.sieve_match.specs.Glob.{items, Glob}
+use Rattle.sieve_match.specs.declared.pattern.GlobItem.{GlobItem}
+use Rattle.sieve_match.specs.declared.pattern.GlobItem.TheVariants.{Star, One, Exact}
+use Rattle.sieve_syntax.specs.declared.tree.checks.Collation.{Collation}
+use Rattle.sieve_syntax.specs.declared.tree.checks.Matching.{Matching}
+use Rattle.sieve_syntax.specs.declared.tree.checks.Matching.TheVariants.{Is, Contains, Matches, Value, Count}
+use Rattle.sieve_syntax.specs.declared.tree.checks.Collation.TheVariants.{Octet, AsciiCasemap, AsciiNumeric}
+use Rattle.sieve_syntax.specs.declared.tree.checks.Relation.TheVariants as R
+use Rattle.sieve_exec.specs.Matches.{MatchesByImage, MatchesByNumber, MatchesKey, MatchesSome, begins_with_key, some_end, is_contained, is_globbed, order_by, number_order, matches_by_image, matches_by_number, matches_key, matches_some}
+use Rattle.sieve_exec.proofs.Decisions.{decides_as, any_decides}
+use Rattle.sieve_exec.proofs.OrderLemmas.{image_ranked, image_relates, number_ranked, number_relates}
 
 -- the images of a key stand first in those of a text
 abbrev BeginsBy : (ℕ → ℕ) → List ℕ → List ℕ → Type 0
@@ -37,7 +37,7 @@ nothing a x same = absurd (let no : ⊥ = cc in no)
 never : {P : Type 0} → false ≡ true → P
 never same = absurd (let no : ⊥ = cc in no)
 
-begins_decides : (image : ℕ → ℕ) (key value : List ℕ) → Decides (begins_with image key value) (BeginsBy image key value)
+begins_decides : (image : ℕ → ℕ) (key value : List ℕ) → Decides (begins_with_key image key value) (BeginsBy image key value)
 begins_decides image [] value = (λ h. (value, refl), λ begins. refl)
 begins_decides image (one ∷ key) [] = (λ h. never h, λ (after, same). nothing (image one) (map image (key ++ after)) same)
 begins_decides image (one ∷ key) (other ∷ value) =
@@ -89,7 +89,7 @@ some_end_decides passes P each (octet ∷ rest) =
     decides_as _ (end_later P octet rest) (λ (k, below, holds). end_first P octet rest k below holds)
     (Decides-or _ _ (each (octet ∷ rest)) (some_end_decides passes P each rest))
 
-globbed_decides : (image : ℕ → ℕ) (more : List Item) (text : List ℕ) → Decides (is_globbed image more text) (Glob image more text)
+globbed_decides : (image : ℕ → ℕ) (more : List GlobItem) (text : List ℕ) → Decides (is_globbed image more text) (Glob image more text)
 unfolding is_globbed Glob
 globbed_decides image [] [] = (λ h. refl, λ same. refl)
 globbed_decides image [] (octet ∷ rest) = (λ h. never h, λ same. nothing octet rest (sym same))

@@ -6,13 +6,13 @@ use Rattle.std.specs.Char.{to_ascii_lowercase}
 use Rattle.std.proofs.lemmas.Bool.Decides.{nat_tests}
 use Rattle.std.proofs.lemmas.Slice.Eq.{bytes_eq-Decides}
 use Rattle.octets.specs.Ascii.{lowered}
-use Rattle.mailhead.specs.Fields.{FieldText, IsField, is_name, field_of}
-use Rattle.mailhead.specs.Heads.{header_of, unfold_of}
-use Rattle.mailhead.proofs.FormLemmas.{field_is}
-use Rattle.sieveexec.specs.declared.envelope.Envelope.{Envelope}
-use Rattle.sieveexec.specs.declared.when.When.{When}
-use Rattle.sieveexec.specs.Mails.{mail_of, values_of}
-use Rattle.sieveexec.specs.Indexes.{raws_keyed}
+use Rattle.mail_head.specs.Fields.{FieldText, IsField, is_name, field_of}
+use Rattle.mail_head.specs.Heads.{header_of, unfold_of}
+use Rattle.mail_head.proofs.FormLemmas.{field_is}
+use Rattle.sieve_exec.specs.declared.envelope.Envelope.{Envelope}
+use Rattle.sieve_exec.specs.declared.when.When.{When}
+use Rattle.sieve_exec.specs.Mails.{mail_spec_of, field_values}
+use Rattle.sieve_exec.specs.Indexes.{raws_keyed}
 
 -- case is nothing to a name's octets
 lower_name : (octet : ℕ) → is_name (to_ascii_lowercase octet) ≡ is_name octet
@@ -58,5 +58,5 @@ no_raws (line ∷ more) name invalid = split (no_raws more name invalid) (field_
         ap (λ has. map (λ f. f.raw) (cond has (field ∷ filter (λ f. pointwise nat_eq (lowered f.name) (lowered name)) (filter_map field_of more)) (filter (λ f. pointwise nat_eq (lowered f.name) (lowered name)) (filter_map field_of more))))
         (not_of line field name invalid (field_is line field some)) ∙ rest
 
-pub names_nothing : (message : List ℕ) (envelope : Envelope) (when : When) (name : List ℕ) → (list_all is_name name ≡ false) ⊎ (name ≡ []) → values_of (mail_of message envelope when) name ≡ []
+pub names_nothing : (message : List ℕ) (envelope : Envelope) (when : When) (name : List ℕ) → (list_all is_name name ≡ false) ⊎ (name ≡ []) → field_values (mail_spec_of message envelope when) name ≡ []
 names_nothing message envelope when name invalid = ap (map unfold_of) (no_raws (header_of message) name invalid)

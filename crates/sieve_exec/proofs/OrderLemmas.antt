@@ -6,14 +6,14 @@ use Rattle.std.specs.declared.cmp.Ordering.{Ordering}
 use Rattle.std.specs.declared.cmp.Ordering.TheVariants.{Less, Equal, Greater}
 use Rattle.std.specs.Ordering.{MatchOrdering, nat_cmp, ordering_then}
 use Rattle.std.proofs.lemmas.Cmp.{ranked}
-use Rattle.collation.specs.Comparators.{EqualBy}
-use Rattle.collation.specs.Sorting.{ComesBefore}
-use Rattle.collation.specs.Numbers.{IsLessNumber, IsBelow, EqualNumbers, number_at}
-use Rattle.collation.proofs.SortingLemmas.{Lesser, before_of, before_chained, before_strict}
-use Rattle.collation.proofs.NumberLemmas.{below_of, equal_of, below_chained, below_strict}
-use Rattle.sievesyntax.specs.declared.tree.checks.Relation.{Relation}
-use Rattle.sievesyntax.specs.declared.tree.checks.Relation.TheVariants as R
-use Rattle.sieveexec.specs.Matches.{Relates, order_by, number_order, relates}
+use Rattle.sieve_match.specs.Comparators.{EqualBy}
+use Rattle.sieve_match.specs.Sorting.{ComesBefore}
+use Rattle.sieve_match.specs.Numbers.{IsLessNumber, IsBelow, EqualNumbers, number_at}
+use Rattle.sieve_match.proofs.SortingLemmas.{Lesser, before_of, before_chained, before_strict}
+use Rattle.sieve_match.proofs.NumberLemmas.{below_of, equal_of, below_chained, below_strict}
+use Rattle.sieve_syntax.specs.declared.tree.checks.Relation.{Relation}
+use Rattle.sieve_syntax.specs.declared.tree.checks.Relation.TheVariants as R
+use Rattle.sieve_exec.specs.Matches.{Relates, order_by, number_order, relates}
 
 both_same : (a b : ℕ) (x y : List ℕ) → a ≡ b → x ≡ y → a ∷ x ≡ b ∷ y
 both_same a b x y one more = cc

@@ -6,11 +6,11 @@ use Rattle.std.proofs.Math.Seq.{drop-cons}
 use Rattle.std.proofs.lemmas.Bool.{eqb-true, cond-true, cond-false, false_from_ne_true, or_parts}
 use Rattle.std.proofs.lemmas.List.{get_or-drop, get_or-take, get_or_default, length-take-le, take-append-drop}
 use Rattle.std.proofs.lemmas.List.Folds.{list_any_none}
-use Rattle.addrparts.specs.declared.address.Addr.{Addr}
+use Rattle.mail_address.specs.declared.address.Addr.{Addr}
 use Rattle.memchr.specs.Find.{Nowhere, NoneBefore, NoneAfter, Passes, is_byte}
-use Rattle.sievesyntax.specs.declared.tree.checks.AddressPart.{AddressPart}
-use Rattle.sievesyntax.specs.declared.tree.checks.AddressPart.TheVariants.{All, LocalPart, Domain, User, Detail}
-use Rattle.sieveexec.specs.Parts.{is_plus, has_plus, CutsAtFirst, IsUser, IsDetail, user_of, detail_of, IsPartOf, part_of, is_at, has_at, CutsAtLast, Cuts, local_of, domain_of, IsPart, part_in}
+use Rattle.sieve_syntax.specs.declared.tree.checks.AddressPart.{AddressPart}
+use Rattle.sieve_syntax.specs.declared.tree.checks.AddressPart.TheVariants.{All, LocalPart, Domain, User, Detail}
+use Rattle.sieve_exec.specs.Parts.{is_plus, has_plus, CutsAtFirst, IsUser, IsDetail, user_of, detail_of, IsAddressPart, address_part_of, is_at, has_at, CutsAtLast, Cuts, local_of, domain_of, IsEnvelopePart, envelope_part_of}
 
 -- an octet other than the last `@`
 goes_on : (at later : Bool) (text : List ℕ) → at ≡ false → cond (at && not later) [] text ≡ text
@@ -193,14 +193,14 @@ detail_absent text nowhere = bare_detail text (no_plus text nowhere)
 -- ---- parts
 
 -- a part of an address of a field is the one that is found, if one is
-pub part_of_is : (part : AddressPart) (address : Addr) (found : List ℕ) → part_of part address ≡ Some found → IsPartOf part address found
-part_of_is All address found there = given (IsPartOf All address) _ found there refl
-part_of_is LocalPart address found there = given (IsPartOf LocalPart address) _ found there refl
-part_of_is Domain address found there = given (IsPartOf Domain address) _ found there refl
-part_of_is User address found there = given (IsPartOf User address) _ found there (user_is address.local)
+pub part_of_is : (part : AddressPart) (address : Addr) (found : List ℕ) → address_part_of part address ≡ Some found → IsAddressPart part address found
+part_of_is All address found there = given (IsAddressPart All address) _ found there refl
+part_of_is LocalPart address found there = given (IsAddressPart LocalPart address) _ found there refl
+part_of_is Domain address found there = given (IsAddressPart Domain address) _ found there refl
+part_of_is User address found there = given (IsAddressPart User address) _ found there (user_is address.local)
 part_of_is Detail address found there = detail_is address.local found there
 
-pub part_of_only : (part : AddressPart) (address : Addr) (one : List ℕ) → IsPartOf part address one → part_of part address ≡ Some one
+pub part_of_only : (part : AddressPart) (address : Addr) (one : List ℕ) → IsAddressPart part address one → address_part_of part address ≡ Some one
 part_of_only All address one same = ap Some (sym same)
 part_of_only LocalPart address one same = ap Some (sym same)
 part_of_only Domain address one same = ap Some (sym same)
@@ -208,16 +208,16 @@ part_of_only User address one is = ap Some (sym (user_only address.local one is)
 part_of_only Detail address one is = detail_only address.local one is
 
 -- and so is one of an address of the envelope
-pub part_is : (part : AddressPart) (text found : List ℕ) → part_in part text ≡ Some found → IsPart part text found
-part_is All text found there = given (IsPart All text) _ found there refl
-part_is LocalPart text found there = given (IsPart LocalPart text) _ found there (domain_of text, cuts_of text)
-part_is Domain text found there = given (IsPart Domain text) _ found there (local_of text, cuts_of text)
-part_is User text found there = given (IsPart User text) _ found there (local_of text, domain_of text, cuts_of text, user_is (local_of text))
-part_is Detail [] found there = given (IsPart Detail []) _ found there (inr (refl, refl))
+pub part_is : (part : AddressPart) (text found : List ℕ) → envelope_part_of part text ≡ Some found → IsEnvelopePart part text found
+part_is All text found there = given (IsEnvelopePart All text) _ found there refl
+part_is LocalPart text found there = given (IsEnvelopePart LocalPart text) _ found there (domain_of text, cuts_of text)
+part_is Domain text found there = given (IsEnvelopePart Domain text) _ found there (local_of text, cuts_of text)
+part_is User text found there = given (IsEnvelopePart User text) _ found there (local_of text, domain_of text, cuts_of text, user_is (local_of text))
+part_is Detail [] found there = given (IsEnvelopePart Detail []) _ found there (inr (refl, refl))
 part_is Detail (octet ∷ rest) found there =
     let text = octet ∷ rest in inl (local_of text, domain_of text, cuts_of text, detail_is (local_of text) found there)
 
-pub part_only : (part : AddressPart) (text one : List ℕ) → IsPart part text one → part_in part text ≡ Some one
+pub part_only : (part : AddressPart) (text one : List ℕ) → IsEnvelopePart part text one → envelope_part_of part text ≡ Some one
 part_only All text one same = ap Some (sym same)
 part_only LocalPart text one (domain, cut) = ap Some (sym (cuts_only text one domain cut).0)
 part_only Domain text one (local, cut) = ap Some (sym (cuts_only text local one cut).1)

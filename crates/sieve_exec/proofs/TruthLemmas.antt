@@ -6,32 +6,32 @@ use Rattle.std.specs.Bool.{Decides, MatchBool}
 use Rattle.std.specs.List.{list_any, list_all, flat_map, Any, All}
 use Rattle.std.proofs.lemmas.List.Folds.{list_any-append}
 use Rattle.std.proofs.lemmas.Bool.Decides.{Decides-and, Decides-or, Decides-not, Decides-eqb, Decides-ltb, same_from_decides}
-use Rattle.sievesyntax.specs.declared.tree.checks.Bound.{Bound}
-use Rattle.sievesyntax.specs.declared.tree.checks.Bound.TheVariants.{Over, Under}
-use Rattle.sievesyntax.specs.declared.tree.checks.Collation.{Collation}
-use Rattle.sievesyntax.specs.declared.tree.checks.Matching.{Matching}
-use Rattle.sievesyntax.specs.declared.tree.checks.EnvelopeTest.{EnvelopeTest}
-use Rattle.sievesyntax.specs.declared.tree.checks.Check.{Check}
-use Rattle.sievesyntax.specs.declared.tree.checks.Check.TheVariants.{Size, Exists, Header, Address, Envelope, MailboxExists, Date, CurrentDate, HasFlag}
-use Rattle.sievesyntax.specs.Valid.{IsMailbox}
-use Rattle.addrparts.specs.declared.address.Addr.{Addr}
-use Rattle.addrparts.specs.Parts.{AreAddresses}
-use Rattle.addrparts.specs.Reading.{addrs}
-use Rattle.addrparts.proofs.Lists.{addrs-are, addrs-only}
-use Rattle.maildates.specs.Parts.{part_text}
-use Rattle.maildates.proofs.FindingLaws.{moment_decides}
-use Rattle.sieveexec.specs.FlagKeys.{flag_keys}
-use Rattle.sieveexec.specs.Dates.{field_date, date_count}
-use Rattle.sieveexec.proofs.DateLemmas.{count_decides, found_decides}
-use Rattle.sieveexec.specs.Mails.{MailSpec, values_of, texts_of, has_addresses, addresses_of}
-use Rattle.sieveexec.specs.Matches.{MatchesSome}
-use Rattle.sieveexec.specs.Parts.{IsPartOf, part_of, IsPart, part_in}
-use Rattle.sieveexec.specs.Counts.{is_count, is_some_of, fields_counted, addresses_counted, envelope_counted}
-use Rattle.sieveexec.specs.Holding.{IsBeyond, IsNamed, SomeAddress, TestHolds}
-use Rattle.sieveexec.specs.Truth.{is_beyond, is_mailbox, is_some_there, part_matches, envelope_matches, date_matches, truth_by}
-use Rattle.sieveexec.proofs.Decisions.{decides_as, any_decides, all_decides}
-use Rattle.sieveexec.proofs.MatchLemmas.{matches_some_decides}
-use Rattle.sieveexec.proofs.PartLemmas.{given, part_of_is, part_of_only, part_is, part_only}
+use Rattle.sieve_syntax.specs.declared.tree.checks.Bound.{Bound}
+use Rattle.sieve_syntax.specs.declared.tree.checks.Bound.TheVariants.{Over, Under}
+use Rattle.sieve_syntax.specs.declared.tree.checks.Collation.{Collation}
+use Rattle.sieve_syntax.specs.declared.tree.checks.Matching.{Matching}
+use Rattle.sieve_syntax.specs.declared.tree.checks.EnvelopeTest.{EnvelopeTest}
+use Rattle.sieve_syntax.specs.declared.tree.checks.MailCheck.{MailCheck}
+use Rattle.sieve_syntax.specs.declared.tree.checks.MailCheck.TheVariants.{Size, Exists, Header, Address, Envelope, MailboxExists, Date, CurrentDate, HasFlag}
+use Rattle.sieve_syntax.specs.Valid.{IsMailboxName}
+use Rattle.mail_address.specs.declared.address.Addr.{Addr}
+use Rattle.mail_address.specs.Parts.{AreAddresses}
+use Rattle.mail_address.specs.Reading.{addrs}
+use Rattle.mail_address.proofs.Lists.{addrs-are, addrs-only}
+use Rattle.mail_dates.specs.Parts.{part_text}
+use Rattle.mail_dates.proofs.FindingLaws.{moment_decides}
+use Rattle.sieve_exec.specs.FlagKeys.{flag_keys}
+use Rattle.sieve_exec.specs.Dates.{field_date, date_count}
+use Rattle.sieve_exec.proofs.DateLemmas.{count_decides, found_decides}
+use Rattle.sieve_exec.specs.Mails.{MailSpec, field_values, field_texts, has_addresses, field_addresses}
+use Rattle.sieve_exec.specs.Matches.{MatchesSome}
+use Rattle.sieve_exec.specs.Parts.{IsAddressPart, address_part_of, IsEnvelopePart, envelope_part_of}
+use Rattle.sieve_exec.specs.Counts.{is_count, is_some_of, fields_counted, addresses_counted, envelope_counted}
+use Rattle.sieve_exec.specs.Holding.{IsBeyond, IsEnvelopeAddress, SomeAddress, TestHolds}
+use Rattle.sieve_exec.specs.Truth.{is_beyond, is_mailbox, is_some_there, part_matches, envelope_matches, date_matches, truth_by}
+use Rattle.sieve_exec.proofs.Decisions.{decides_as, any_decides, all_decides}
+use Rattle.sieve_exec.proofs.MatchLemmas.{matches_some_decides}
+use Rattle.sieve_exec.proofs.PartLemmas.{given, part_of_is, part_of_only, part_is, part_only}
 
 beyond_decides : (bound : Bound) (size limit : ℕ) → Decides (is_beyond bound size limit) (IsBeyond bound size limit)
 beyond_decides Over size limit = Decides-ltb limit size
@@ -60,23 +60,23 @@ module _ (collation : Collation) (matching : Matching) (keys : List (List ℕ)) 
 
 -- a part of an address of the envelope matches
 abbrev Part : EnvelopeTest → List ℕ → Type 0
-Part test address = (part : List ℕ) × IsPart test.part address part × MatchesSome test.comparator test.matching test.keys part
+Part test address = (part : List ℕ) × IsEnvelopePart test.part address part × MatchesSome test.comparator test.matching test.keys part
 
 matching_decides : (test : EnvelopeTest) (address : List ℕ) → Decides (envelope_matches test address) (Part test address)
 matching_decides test address =
-    part_decides test.comparator test.matching test.keys (part_in test.part address) (IsPart test.part address) (part_is test.part address) (part_only test.part address)
+    part_decides test.comparator test.matching test.keys (envelope_part_of test.part address) (IsEnvelopePart test.part address) (part_is test.part address) (part_only test.part address)
 
 abbrev Named : MailSpec → EnvelopeTest → Type 0
-Named mail test = (one : List ℕ) × (part : List ℕ) × IsNamed test.parts mail one × IsPart test.part one part × MatchesSome test.comparator test.matching test.keys part
+Named mail test = (one : List ℕ) × (part : List ℕ) × IsEnvelopeAddress test.parts mail one × IsEnvelopePart test.part one part × MatchesSome test.comparator test.matching test.keys part
 
 named : (mail : MailSpec) (test : EnvelopeTest) → ((test.parts.from ≡ true) × Part test mail.from) ⊎ ((test.parts.to ≡ true) × Part test mail.to) → Named mail test
 named mail test (inl (asked, (part, is, matches))) = (mail.from, part, inl (asked, refl), is, matches)
 named mail test (inr (asked, (part, is, matches))) = (mail.to, part, inr (asked, refl), is, matches)
 
-part_there : (test : EnvelopeTest) (address one part : List ℕ) → one ≡ address → IsPart test.part one part → MatchesSome test.comparator test.matching test.keys part → Part test address
-part_there test address one part same is matches = (part, subst (λ (a : List ℕ). IsPart test.part a part) same is, matches)
+part_there : (test : EnvelopeTest) (address one part : List ℕ) → one ≡ address → IsEnvelopePart test.part one part → MatchesSome test.comparator test.matching test.keys part → Part test address
+part_there test address one part same is matches = (part, subst (λ (a : List ℕ). IsEnvelopePart test.part a part) same is, matches)
 
-asked_for : (mail : MailSpec) (test : EnvelopeTest) (one part : List ℕ) → IsNamed test.parts mail one → IsPart test.part one part → MatchesSome test.comparator test.matching test.keys part
+asked_for : (mail : MailSpec) (test : EnvelopeTest) (one part : List ℕ) → IsEnvelopeAddress test.parts mail one → IsEnvelopePart test.part one part → MatchesSome test.comparator test.matching test.keys part
     → ((test.parts.from ≡ true) × Part test mail.from) ⊎ ((test.parts.to ≡ true) × Part test mail.to)
 asked_for mail test one part (inl (asked, same)) is matches = inl (asked, part_there test mail.from one part same is matches)
 asked_for mail test one part (inr (asked, same)) is matches = inr (asked, part_there test mail.to one part same is matches)
@@ -95,11 +95,11 @@ module _ (p : Addr → Bool) (P : Addr → Type 0) (each : (one : Addr) → Deci
   in_values values =
       subst (λ b. Decides b (Any (λ value. (found : List Addr) × AreAddresses value found × Any P found) values)) (sym (any_read values)) (any_decides _ _ in_value values)
 
-  some_decides : (mail : MailSpec) (name : List ℕ) → Decides (list_any p (addresses_of mail name)) (SomeAddress mail name P)
+  some_decides : (mail : MailSpec) (name : List ℕ) → Decides (list_any p (field_addresses mail name)) (SomeAddress mail name P)
   some_decides mail name = split (has_addresses name) refl
     where
-      split : (has : Bool) → has_addresses name ≡ has → Decides (list_any p (cond has (flat_map addrs (values_of mail name)) [])) (SomeAddress mail name P)
-      split true has = decides_as _ (λ any. record { fields = has; there = any }) (λ some. some.there) (in_values (values_of mail name))
+      split : (has : Bool) → has_addresses name ≡ has → Decides (list_any p (cond has (flat_map addrs (field_values mail name)) [])) (SomeAddress mail name P)
+      split true has = decides_as _ (λ any. record { fields = has; there = any }) (λ some. some.there) (in_values (field_values mail name))
       split false has = (λ none. absurd (cc none), λ some. let no : false ≡ true = sym has ∙ some.fields in absurd (cc no))
 
 some_decides_of : (name : List ℕ) → Decides (is_some_of name) (name ≢ [])
@@ -107,7 +107,7 @@ some_decides_of [] = (λ h. absurd (cc h), λ some. absurd (some refl))
 some_decides_of (octet ∷ rest) = (λ h same. let no : ⊥ = cc in no, λ some. refl)
 
 -- whether a text is the name of a mailbox
-mailbox_decides : (name : List ℕ) → Decides (is_mailbox name) (IsMailbox name)
+mailbox_decides : (name : List ℕ) → Decides (is_mailbox name) (IsMailboxName name)
 mailbox_decides name =
     decides_as _ (λ (some, rest). record { some = some; short = rest.0; plain = rest.1.0; utf8 = rest.1.1 }) (λ is. (is.some, (is.short, (is.plain, is.utf8))))
     (Decides-and _ _ (some_decides_of name)
@@ -116,8 +116,8 @@ mailbox_decides name =
     (λ octet. Decides-and _ _ (decides_as _ (λ above. omega (arith, above)) (λ least. omega (arith, least)) (Decides-ltb 31 octet)) (Decides-not _ (Decides-eqb octet 127))) name) (IsUtf8-from_is_utf8 name, is_utf8-from_IsUtf8 name))))
 
 -- the names of `mailboxexists`, by another test of them
-pub mailboxes_same : (result : Bool) (names : List (List ℕ)) → (result ≡ true) ↔ All IsMailbox names → result ≡ list_all is_mailbox names
-mailboxes_same result names is = same_from_decides result (list_all is_mailbox names) (is.0, is.1) (all_decides is_mailbox IsMailbox mailbox_decides names)
+pub mailboxes_same : (result : Bool) (names : List (List ℕ)) → (result ≡ true) ↔ All IsMailboxName names → result ≡ list_all is_mailbox names
+mailboxes_same result names is = same_from_decides result (list_all is_mailbox names) (is.0, is.1) (all_decides is_mailbox IsMailboxName mailbox_decides names)
 
 is_asked : (asked : Bool) → Decides asked (asked ≡ true)
 is_asked asked = (λ h. h, λ h. h)
@@ -128,19 +128,19 @@ counts_decides true one other P Q first second = first
 counts_decides false one other P Q first second = second
 
 -- a test is true exactly where it holds
-pub truth_decides : (mail : MailSpec) (flags : List (List ℕ)) (check : Check) → Decides (truth_by mail flags check) (TestHolds mail flags check)
+pub truth_decides : (mail : MailSpec) (flags : List (List ℕ)) (check : MailCheck) → Decides (truth_by mail flags check) (TestHolds mail flags check)
 truth_decides mail flags (Size size) = beyond_decides size.bound mail.size size.limit
-truth_decides mail flags (Exists names) = all_decides (λ name. is_some_there (values_of mail name)) (λ name. values_of mail name ≢ []) (λ name. there_decides (values_of mail name)) names
+truth_decides mail flags (Exists names) = all_decides (λ name. is_some_there (field_values mail name)) (λ name. field_values mail name ≢ []) (λ name. there_decides (field_values mail name)) names
 truth_decides mail flags (Header header) =
     counts_decides (is_count header.matching) _ _ _ _
     (matches_some_decides header.comparator header.matching header.keys (decimal (fields_counted mail header.fields)))
-    (any_decides _ _ (λ name. any_decides _ _ (matches_some_decides header.comparator header.matching header.keys) (texts_of mail name)) header.fields)
+    (any_decides _ _ (λ name. any_decides _ _ (matches_some_decides header.comparator header.matching header.keys) (field_texts mail name)) header.fields)
 truth_decides mail flags (Address address) =
     counts_decides (is_count address.matching) _ _ _ _
     (matches_some_decides address.comparator address.matching address.keys (decimal (addresses_counted mail address.part address.fields)))
     (any_decides _ _ (λ name. some_decides _ _ (λ one.
-    part_decides address.comparator address.matching address.keys (part_of address.part one) (IsPartOf address.part one) (part_of_is address.part one) (part_of_only address.part one)) mail name) address.fields)
-truth_decides mail flags (MailboxExists names) = all_decides is_mailbox IsMailbox mailbox_decides names
+    part_decides address.comparator address.matching address.keys (address_part_of address.part one) (IsAddressPart address.part one) (part_of_is address.part one) (part_of_only address.part one)) mail name) address.fields)
+truth_decides mail flags (MailboxExists names) = all_decides is_mailbox IsMailboxName mailbox_decides names
 truth_decides mail flags (Date test) =
     counts_decides (is_count test.matching) _ _ _ _
     (count_decides mail test.field _ (MatchesSome test.comparator test.matching test.keys) (matches_some_decides test.comparator test.matching test.keys (decimal (date_count (field_date mail test.field)))))

@@ -1,20 +1,20 @@
 -- No test of the language before `imap4flags` looks at the flags.
 use Rattle.std.proofs.Common.{◌≡◌, ◌&&◌, ◌||◌, ℕ, Bool, cond, not, List, [], refl, ap, ◌∙◌}
-use Rattle.sievesyntax.specs.declared.tree.checks.Check.{Check}
-use Rattle.sievesyntax.specs.declared.tree.checks.Check.TheVariants.{Size, Exists, Header, Address, Envelope, MailboxExists, Date, CurrentDate, HasFlag}
-use Rattle.sievesyntax.specs.Before.{outcome_in, IsUnflaggedCheck, EachCheck, EachCheckOf, EachAsks, EachAsksInBranches, EachAsksIn}
-use Rattle.sievesyntax.specs.Languages.{unflagged}
-use Rattle.sievesyntax.specs.Meaning.{holds, all_hold, some_holds, does, chooses, does_all, ended, outcome}
-use Rattle.sievesyntax.specs.Means.{MeansIn}
-use Rattle.sievesyntax.specs.RunState.{RunState, at_first, Flow, Going, Stopped, Failed, and_then}
-use Rattle.sievesyntax.specs.Work.{within_work}
-use Rattle.sievesyntax.specs.Tree.{TestTree, yes, no, looks, not_of, all_of, any_of, Tests, no_tests, test, CommandTree, require, choose, stop, act, Branches, no_branches, branch, Commands, no_commands, command}
-use Rattle.sievesyntax.proofs.LanguageLaws.{means_unflagged}
-use Rattle.sieveexec.specs.Mails.{MailSpec}
-use Rattle.sieveexec.specs.Outcomes.{outcome_at, work_of}
-use Rattle.sieveexec.specs.Truth.{truth_at, truth_by}
+use Rattle.sieve_syntax.specs.declared.tree.checks.MailCheck.{MailCheck}
+use Rattle.sieve_syntax.specs.declared.tree.checks.MailCheck.TheVariants.{Size, Exists, Header, Address, Envelope, MailboxExists, Date, CurrentDate, HasFlag}
+use Rattle.sieve_syntax.specs.Before.{outcome_in, IsUnflaggedCheck, EachCheck, EachCheckOf, EachAsks, EachAsksInBranches, EachAsksIn}
+use Rattle.sieve_syntax.specs.Languages.{unflagged}
+use Rattle.sieve_syntax.specs.Meaning.{holds, all_hold, some_holds, does, chooses, does_all, outcome_after, outcome}
+use Rattle.sieve_syntax.specs.Means.{MeansIn}
+use Rattle.sieve_syntax.specs.RunState.{RunState, at_first, Flow, Going, Stopped, Failed, and_then}
+use Rattle.sieve_syntax.specs.Work.{within_work}
+use Rattle.sieve_syntax.specs.Tree.{TestTree, yes, no, looks, not_of, all_of, any_of, Tests, no_tests, test, CommandTree, require, choose, stop, act, Branches, no_branches, branch, Commands, no_commands, command}
+use Rattle.sieve_syntax.proofs.LanguageLaws.{means_unflagged}
+use Rattle.sieve_exec.specs.Mails.{MailSpec}
+use Rattle.sieve_exec.specs.Outcomes.{outcome_at, work_of}
+use Rattle.sieve_exec.specs.Truth.{truth_at, truth_by}
 
-pub same_without : (mail : MailSpec) (one other : List (List ℕ)) (check : Check) → IsUnflaggedCheck check → truth_by mail one check ≡ truth_by mail other check
+pub same_without : (mail : MailSpec) (one other : List (List ℕ)) (check : MailCheck) → IsUnflaggedCheck check → truth_by mail one check ≡ truth_by mail other check
 same_without mail one other (Size size) plain = refl
 same_without mail one other (Exists names) plain = refl
 same_without mail one other (Header header) plain = refl
@@ -26,7 +26,7 @@ same_without mail one other (CurrentDate asked) plain = refl
 same_without mail one other (HasFlag asked) plain = absurd plain
 
 -- two truths that agree on the tests of a tree
-module _ (P : Check → Type 0) (one other : Check → Bool) (agree : (check : Check) → P check → one check ≡ other check) where
+module _ (P : MailCheck → Type 0) (one other : MailCheck → Bool) (agree : (check : MailCheck) → P check → one check ≡ other check) where
   mutual
     same_test : (condition : TestTree) → EachCheck P condition → holds one condition ≡ holds other condition
     same_test yes each = refl
@@ -44,7 +44,7 @@ module _ (P : Check → Type 0) (one other : Check → Bool) (agree : (check : C
     same_some no_tests each = refl
     same_some (test first more) each = λ i. same_test first each.0 i || same_some more each.1 i
 
-module _ (P : Check → Type 0) (one other : RunState → Check → Bool) (agree : (so_far : RunState) (check : Check) → P check → one so_far check ≡ other so_far check) where
+module _ (P : MailCheck → Type 0) (one other : RunState → MailCheck → Bool) (agree : (so_far : RunState) (check : MailCheck) → P check → one so_far check ≡ other so_far check) where
   then_same : (flow : Flow) (first second : RunState → Flow) → ((state : RunState) → first state ≡ second state) → and_then flow first ≡ and_then flow second
   then_same (Going state) first second same = same state
   then_same (Stopped state) first second same = refl
@@ -69,7 +69,7 @@ module _ (P : Check → Type 0) (one other : RunState → Check → Bool) (agree
         ∙ then_same (does other first so_far) (does_all one more) (does_all other more) (same_commands more each.1)
 
   same_outcome : (tree : Commands) → EachAsksIn P tree → outcome one tree ≡ outcome other tree
-  same_outcome tree each = ap ended (same_commands tree each at_first)
+  same_outcome tree each = ap outcome_after (same_commands tree each at_first)
 
 pub outcome_then : (mail : MailSpec) (text : List ℕ) (tree : Commands) → MeansIn unflagged text tree → outcome_at mail tree ≡ within_work (work_of mail tree) (outcome_in unflagged (λ so_far. truth_by mail []) tree)
 outcome_then mail text tree was =

@@ -4,13 +4,13 @@ use Rattle.std.specs.List.{list_any}
 use Rattle.std.specs.Option.{option_and_then}
 use Rattle.std.specs.Cmp.Lexicographic.{pointwise}
 use Rattle.octets.specs.Ascii.{lowered}
-use Rattle.sievesyntax.specs.declared.tree.checks.DateZone.{DateZone}
-use Rattle.sievesyntax.specs.declared.tree.checks.DateZone.TheVariants.{Host, Given, Original}
-use Rattle.maildates.specs.declared.date_time.DateTime.{DateTime}
-use Rattle.maildates.specs.DateTexts.{IsDateText}
-use Rattle.maildates.specs.DateTimes.{IsSameMoment}
-use Rattle.maildates.specs.Finding.{date_of, same_moment_passes}
-use Rattle.sieveexec.specs.Mails.{MailSpec, values_of}
+use Rattle.sieve_syntax.specs.declared.tree.checks.DateZone.{DateZone}
+use Rattle.sieve_syntax.specs.declared.tree.checks.DateZone.TheVariants.{Host, Given, Original}
+use Rattle.mail_dates.specs.declared.date_time.DateTime.{DateTime}
+use Rattle.mail_dates.specs.DateTexts.{IsDateText}
+use Rattle.mail_dates.specs.DateTimes.{IsSameMoment}
+use Rattle.mail_dates.specs.Finding.{date_of, same_moment_passes}
+use Rattle.sieve_exec.specs.Mails.{MailSpec, field_values}
 
 -- ---- the date of a field
 
@@ -19,7 +19,7 @@ abbrev pub is_semicolon : ℕ → Bool
 is_semicolon octet = octet == 59
 
 -- a text, and what follows its last semicolon
-pub record IsBehindLast (text behind : List ℕ) : Type 0 where
+pub record IsAfterLast (text behind : List ℕ) : Type 0 where
   pub before : List ℕ
   pub cut : text ≡ before ++ 59 ∷ behind
   pub last : list_any is_semicolon behind ≡ false
@@ -30,7 +30,7 @@ is_received name = pointwise nat_eq (lowered name) (codes "received")
 
 -- what has to read as a date: in such a field what follows there, otherwise the whole value
 abbrev pub IsDatePart : Bool → List ℕ → List ℕ → Type 0
-IsDatePart true value part = IsBehindLast value part
+IsDatePart true value part = IsAfterLast value part
 IsDatePart false value part = part ≡ value
 
 -- the date in the first field with a name (RFC 5260, 4), whose value isn't decoded
@@ -38,7 +38,7 @@ pub record IsFieldDate (mail : MailSpec) (name : List ℕ) (date : DateTime) : T
   pub value : List ℕ
   pub more : List (List ℕ)
   pub part : List ℕ
-  pub first : values_of mail name ≡ value ∷ more
+  pub first : field_values mail name ≡ value ∷ more
   pub is_part : IsDatePart (is_received name) value part
   pub reads : IsDateText part date
 
@@ -48,21 +48,21 @@ IsDateCount mail name count =
     ((count ≡ 1) × ((date : DateTime) × IsFieldDate mail name date)) ⊎ ((count ≡ 0) × ((date : DateTime) → IsFieldDate mail name date → ⊥))
 
 -- a date by the clock of the zone that a test asks for (RFC 5260, 4.1)
-abbrev pub IsShown : MailSpec → DateZone → DateTime → DateTime → Type 0
-IsShown mail Host date shown = IsSameMoment date mail.zone shown
-IsShown mail (Given zone) date shown = IsSameMoment date zone shown
-IsShown mail Original date shown = shown ≡ date
+abbrev pub IsDateShown : MailSpec → DateZone → DateTime → DateTime → Type 0
+IsDateShown mail Host date shown = IsSameMoment date mail.zone shown
+IsDateShown mail (Given zone) date shown = IsSameMoment date zone shown
+IsDateShown mail Original date shown = shown ≡ date
 
 -- ---- the same as functions
 
 -- what follows the last semicolon of a text, if it has one
-abbrev pub behind_last : List ℕ → Option (List ℕ)
-behind_last [] = None
-behind_last (octet ∷ rest) = cond (list_any is_semicolon rest) (behind_last rest) (cond (is_semicolon octet) (Some rest) None)
+abbrev pub after_last : List ℕ → Option (List ℕ)
+after_last [] = None
+after_last (octet ∷ rest) = cond (list_any is_semicolon rest) (after_last rest) (cond (is_semicolon octet) (Some rest) None)
 
 -- what has to read as a date, if it is there
 abbrev pub date_part_of : Bool → List ℕ → Option (List ℕ)
-date_part_of received value = cond received (behind_last value) (Some value)
+date_part_of received value = cond received (after_last value) (Some value)
 
 -- the date of the first value, if there is one
 abbrev pub first_date : Bool → List (List ℕ) → Option DateTime
@@ -71,7 +71,7 @@ first_date received (value ∷ more) = option_and_then date_of (date_part_of rec
 
 -- the date in the first field with a name, if there is one
 abbrev pub field_date : MailSpec → List ℕ → Option DateTime
-field_date mail name = first_date (is_received name) (values_of mail name)
+field_date mail name = first_date (is_received name) (field_values mail name)
 
 -- how many dates that is
 abbrev pub date_count : Option DateTime → ℕ

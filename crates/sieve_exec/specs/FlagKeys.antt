@@ -1,10 +1,10 @@
 -- What `hasflag` compares the flags with (RFC 5232, 4).
 use Rattle.std.specs.Prelude.{ℕ, Bool, true, false, cond, List}
 use Rattle.std.specs.List.{filter, flat_map}
-use Rattle.mailflags.specs.Flags.{between_blanks}
-use Rattle.sievesyntax.specs.declared.tree.checks.Matching.{Matching}
-use Rattle.sievesyntax.specs.declared.tree.checks.Matching.TheVariants.{Is, Contains}
-use Rattle.sieveexec.specs.Counts.{is_some_of}
+use Rattle.mail_flags.specs.Flags.{between_blanks}
+use Rattle.sieve_syntax.specs.declared.tree.checks.Matching.{Matching}
+use Rattle.sieve_syntax.specs.declared.tree.checks.Matching.TheVariants.{Is, Contains}
+use Rattle.sieve_exec.specs.Counts.{is_some_of}
 
 -- the words of a text: what is between its blanks and isn't empty
 abbrev pub words_of : List ℕ → List (List ℕ)

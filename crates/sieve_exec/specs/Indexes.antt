@@ -5,11 +5,11 @@ use Rattle.std.specs.Ordering.{nat_cmp}
 use Rattle.std.specs.Cmp.Lexicographic.{pointwise, slice_cmp}
 use Rattle.std.specs.BTreeMap.{BTreeMap, get}
 use Rattle.octets.specs.Ascii.{lowered}
-use Rattle.mailhead.specs.Fields.{FieldText}
-use Rattle.mailhead.specs.Heads.{unfold_of}
-use Rattle.addrparts.specs.declared.address.Addr.{Addr}
-use Rattle.addrparts.specs.Reading.{addrs}
-use Rattle.sieveexec.specs.Mails.{MailSpec, text_shown, address_fields}
+use Rattle.mail_head.specs.Fields.{FieldText}
+use Rattle.mail_head.specs.Heads.{unfold_of}
+use Rattle.mail_address.specs.declared.address.Addr.{Addr}
+use Rattle.mail_address.specs.Reading.{addrs}
+use Rattle.sieve_exec.specs.Mails.{MailSpec, text_shown, address_fields}
 
 -- the raw values of the fields whose name in lower case is the key, in order
 abbrev pub raws_keyed : List FieldText → List ℕ → List (List ℕ)

@@ -3,13 +3,13 @@ use Rattle.std.specs.Prelude.{ℕ, ℤ, Bool, cond, codes, List, [], ◌∷◌, 
 use Rattle.std.specs.List.{filter, flat_map, list_any}
 use Rattle.std.specs.Cmp.Lexicographic.{pointwise}
 use Rattle.octets.specs.Ascii.{lowered, trimmed}
-use Rattle.mailhead.specs.Fields.{FieldText}
-use Rattle.mailhead.specs.Heads.{fields_of, size_of, unfold_of}
-use Rattle.encwords.specs.Values.{text_of}
-use Rattle.addrparts.specs.declared.address.Addr.{Addr}
-use Rattle.addrparts.specs.Reading.{addrs}
-use Rattle.sieveexec.specs.declared.envelope.Envelope.{Envelope}
-use Rattle.sieveexec.specs.declared.when.When.{When}
+use Rattle.mail_head.specs.Fields.{FieldText}
+use Rattle.mail_head.specs.Heads.{fields_of, size_of, unfold_of}
+use Rattle.mail_words.specs.Values.{decoded_text}
+use Rattle.mail_address.specs.declared.address.Addr.{Addr}
+use Rattle.mail_address.specs.Reading.{addrs}
+use Rattle.sieve_exec.specs.declared.envelope.Envelope.{Envelope}
+use Rattle.sieve_exec.specs.declared.when.When.{When}
 
 -- what tests see of a message, its envelope and its delivery
 pub record MailSpec : Type 0 where
@@ -28,8 +28,8 @@ pub record MailSpec : Type 0 where
   pub zone : ℤ
 
 -- the mail of a message, its envelope and the moment of delivery
-abbrev pub mail_of : List ℕ → Envelope → When → MailSpec
-mail_of message envelope when =
+abbrev pub mail_spec_of : List ℕ → Envelope → When → MailSpec
+mail_spec_of message envelope when =
     record {
       fields = fields_of message;
       from = envelope.from;
@@ -49,16 +49,16 @@ abbrev pub has_name : List ℕ → FieldText → Bool
 has_name name field = pointwise nat_eq (lowered field.name) (lowered name)
 
 -- the unfolded values of the fields with a name, in order (RFC 5322, 2.2.3); a field that is absent has none
-abbrev pub values_of : MailSpec → List ℕ → List (List ℕ)
-values_of mail name = map unfold_of (map (λ field. field.raw) (filter (λ field. has_name name field) mail.fields))
+abbrev pub field_values : MailSpec → List ℕ → List (List ℕ)
+field_values mail name = map unfold_of (map (λ field. field.raw) (filter (λ field. has_name name field) mail.fields))
 
 -- the text of an unfolded value: it is decoded (RFC 2047), and then the blanks at its ends are removed (RFC 5228, 5.7)
 abbrev pub text_shown : List ℕ → List ℕ
-text_shown value = trimmed (text_of value)
+text_shown value = trimmed (decoded_text value)
 
 -- the texts of the fields with a name
-abbrev pub texts_of : MailSpec → List ℕ → List (List ℕ)
-texts_of mail name = map text_shown (values_of mail name)
+abbrev pub field_texts : MailSpec → List ℕ → List (List ℕ)
+field_texts mail name = map text_shown (field_values mail name)
 
 -- the names of the fields that have addresses, in lower case
 abbrev pub address_fields : List (List ℕ)
@@ -72,5 +72,5 @@ abbrev pub has_addresses : List ℕ → Bool
 has_addresses name = list_any (λ field. pointwise nat_eq field (lowered name)) address_fields
 
 -- the addresses of the unfolded values, which aren't decoded, of the fields with a name; none if such fields have no addresses
-abbrev pub addresses_of : MailSpec → List ℕ → List Addr
-addresses_of mail name = cond (has_addresses name) (flat_map addrs (values_of mail name)) []
+abbrev pub field_addresses : MailSpec → List ℕ → List Addr
+field_addresses mail name = cond (has_addresses name) (flat_map addrs (field_values mail name)) []

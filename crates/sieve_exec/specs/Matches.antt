@@ -6,18 +6,18 @@ use Rattle.std.specs.Cmp.Lexicographic.{pointwise, slice_cmp}
 use Rattle.std.specs.declared.cmp.Ordering.{Ordering}
 use Rattle.std.specs.declared.cmp.Ordering.TheVariants.{Less, Equal, Greater}
 use Rattle.std.specs.Ordering.{nat_cmp, is_gt, is_ge, is_lt, is_le, is_eq, is_ne}
-use Rattle.collation.specs.Comparators.{EqualBy, ContainsBy}
-use Rattle.collation.specs.Sorting.{ComesBefore}
-use Rattle.collation.specs.Numbers.{IsBelow, EqualNumbers, number_at}
-use Rattle.globmatch.specs.Glob.{items, Glob}
-use Rattle.globmatch.specs.declared.pattern.Item.{Item}
-use Rattle.globmatch.specs.declared.pattern.Item.TheVariants.{Star, One, Exact}
-use Rattle.sievesyntax.specs.declared.tree.checks.Collation.{Collation}
-use Rattle.sievesyntax.specs.declared.tree.checks.Collation.TheVariants.{Octet, AsciiCasemap, AsciiNumeric}
-use Rattle.sievesyntax.specs.declared.tree.checks.Matching.{Matching}
-use Rattle.sievesyntax.specs.declared.tree.checks.Matching.TheVariants.{Is, Contains, Matches, Value, Count}
-use Rattle.sievesyntax.specs.declared.tree.checks.Relation.{Relation}
-use Rattle.sievesyntax.specs.declared.tree.checks.Relation.TheVariants as R
+use Rattle.sieve_match.specs.Comparators.{EqualBy, ContainsBy}
+use Rattle.sieve_match.specs.Sorting.{ComesBefore}
+use Rattle.sieve_match.specs.Numbers.{IsBelow, EqualNumbers, number_at}
+use Rattle.sieve_match.specs.Glob.{items, Glob}
+use Rattle.sieve_match.specs.declared.pattern.GlobItem.{GlobItem}
+use Rattle.sieve_match.specs.declared.pattern.GlobItem.TheVariants.{Star, One, Exact}
+use Rattle.sieve_syntax.specs.declared.tree.checks.Collation.{Collation}
+use Rattle.sieve_syntax.specs.declared.tree.checks.Collation.TheVariants.{Octet, AsciiCasemap, AsciiNumeric}
+use Rattle.sieve_syntax.specs.declared.tree.checks.Matching.{Matching}
+use Rattle.sieve_syntax.specs.declared.tree.checks.Matching.TheVariants.{Is, Contains, Matches, Value, Count}
+use Rattle.sieve_syntax.specs.declared.tree.checks.Relation.{Relation}
+use Rattle.sieve_syntax.specs.declared.tree.checks.Relation.TheVariants as R
 
 -- a value is in a relation to a key, given an order and an equality (RFC 5231, 4)
 abbrev pub Relates : Relation → (List ℕ → List ℕ → Type 0) → (List ℕ → List ℕ → Type 0) → List ℕ → List ℕ → Type 0
@@ -78,10 +78,10 @@ abbrev pub is_equal : (ℕ → ℕ) → List ℕ → List ℕ → Bool
 is_equal image key value = pointwise nat_eq (map image key) (map image value)
 
 -- whether a text begins with the images of a key
-abbrev pub begins_with : (ℕ → ℕ) → List ℕ → List ℕ → Bool
-begins_with image [] value = true
-begins_with image (octet ∷ rest) [] = false
-begins_with image (one ∷ key) (other ∷ value) = (image one == image other) && begins_with image key value
+abbrev pub begins_with_key : (ℕ → ℕ) → List ℕ → List ℕ → Bool
+begins_with_key image [] value = true
+begins_with_key image (octet ∷ rest) [] = false
+begins_with_key image (one ∷ key) (other ∷ value) = (image one == image other) && begins_with_key image key value
 
 -- whether some end of a text, from the whole to the empty one, passes
 abbrev pub some_end : (List ℕ → Bool) → List ℕ → Bool
@@ -90,10 +90,10 @@ some_end passes (octet ∷ rest) = passes (octet ∷ rest) || some_end passes re
 
 -- whether the images of a key occur in those of a text
 abbrev pub is_contained : (ℕ → ℕ) → List ℕ → List ℕ → Bool
-is_contained image key value = some_end (begins_with image key) value
+is_contained image key value = some_end (begins_with_key image key) value
 
 -- whether items match the whole text
-unfoldable pub is_globbed : (ℕ → ℕ) → List Item → List ℕ → Bool
+unfoldable pub is_globbed : (ℕ → ℕ) → List GlobItem → List ℕ → Bool
 is_globbed image [] [] = true
 is_globbed image [] (octet ∷ rest) = false
 is_globbed image (Star ∷ more) text = some_end (is_globbed image more) text

@@ -1,12 +1,12 @@
 -- The outcome of a script on a mail.
 use Rattle.std.specs.Prelude.{ℕ}
-use Rattle.sievesyntax.specs.RunState.{at_first}
-use Rattle.sievesyntax.specs.Tree.{Commands}
-use Rattle.sievesyntax.specs.Meaning.{Outcome}
-use Rattle.sievesyntax.specs.Work.{all_take, outcome_within}
-use Rattle.sieveexec.specs.Mails.{MailSpec}
-use Rattle.sieveexec.specs.Truth.{truth_at}
-use Rattle.sieveexec.specs.Work.{work_at}
+use Rattle.sieve_syntax.specs.RunState.{at_first}
+use Rattle.sieve_syntax.specs.Tree.{Commands}
+use Rattle.sieve_syntax.specs.Meaning.{Outcome}
+use Rattle.sieve_syntax.specs.Work.{all_take, outcome_within}
+use Rattle.sieve_exec.specs.Mails.{MailSpec}
+use Rattle.sieve_exec.specs.Truth.{truth_at}
+use Rattle.sieve_exec.specs.Work.{work_at}
 
 -- the outcome of a script, if its tests have the truth and the work that they have for the mail and what the run has done by then
 abbrev pub outcome_at : MailSpec → Commands → Outcome

@@ -1,10 +1,10 @@
 -- The parts of an address (RFC 5228, 2.7.4), and those of its local part (RFC 5233, 4).
 use Rattle.std.specs.Prelude.{◌≡◌, ◌==◌, ℕ, Bool, false, ◌&&◌, ◌⊎◌, not, cond, List, [], ◌∷◌, ◌++◌, Option, Some, None}
 use Rattle.std.specs.List.{list_any}
-use Rattle.addrparts.specs.declared.address.Addr.{Addr}
-use Rattle.addrparts.specs.Spelling.{all_of}
-use Rattle.sievesyntax.specs.declared.tree.checks.AddressPart.{AddressPart}
-use Rattle.sievesyntax.specs.declared.tree.checks.AddressPart.TheVariants.{All, LocalPart, Domain, User, Detail}
+use Rattle.mail_address.specs.declared.address.Addr.{Addr}
+use Rattle.mail_address.specs.Spelling.{unquoted_address}
+use Rattle.sieve_syntax.specs.declared.tree.checks.AddressPart.{AddressPart}
+use Rattle.sieve_syntax.specs.declared.tree.checks.AddressPart.TheVariants.{All, LocalPart, Domain, User, Detail}
 
 -- ---- user and detail of a local part
 
@@ -42,20 +42,20 @@ detail_of (octet ∷ rest) = cond (is_plus octet) (Some rest) (detail_of rest)
 -- ---- an address of a field
 
 -- a part of it
-abbrev pub IsPartOf : AddressPart → Addr → List ℕ → Type 0
-IsPartOf All address part = part ≡ all_of address
-IsPartOf LocalPart address part = part ≡ address.local
-IsPartOf Domain address part = part ≡ address.domain
-IsPartOf User address part = IsUser address.local part
-IsPartOf Detail address part = IsDetail address.local part
+abbrev pub IsAddressPart : AddressPart → Addr → List ℕ → Type 0
+IsAddressPart All address part = part ≡ unquoted_address address
+IsAddressPart LocalPart address part = part ≡ address.local
+IsAddressPart Domain address part = part ≡ address.domain
+IsAddressPart User address part = IsUser address.local part
+IsAddressPart Detail address part = IsDetail address.local part
 
 -- the part that is in IsPartOf with it, if there is one
-abbrev pub part_of : AddressPart → Addr → Option (List ℕ)
-part_of All address = Some (all_of address)
-part_of LocalPart address = Some address.local
-part_of Domain address = Some address.domain
-part_of User address = Some (user_of address.local)
-part_of Detail address = detail_of address.local
+abbrev pub address_part_of : AddressPart → Addr → Option (List ℕ)
+address_part_of All address = Some (unquoted_address address)
+address_part_of LocalPart address = Some address.local
+address_part_of Domain address = Some address.domain
+address_part_of User address = Some (user_of address.local)
+address_part_of Detail address = detail_of address.local
 
 -- ---- an address of the envelope
 
@@ -99,18 +99,18 @@ InLocal P text = (local : List ℕ) × (domain : List ℕ) × Cuts text local do
 
 -- a part of an address of the envelope; each part of the null reverse-path is empty (RFC 5228, 5.4), though its local
 -- part has no detail
-abbrev pub IsPart : AddressPart → List ℕ → List ℕ → Type 0
-IsPart All text part = part ≡ text
-IsPart LocalPart text part = (domain : List ℕ) × Cuts text part domain
-IsPart Domain text part = (local : List ℕ) × Cuts text local part
-IsPart User text part = InLocal (λ local. IsUser local part) text
-IsPart Detail text part = InLocal (λ local. IsDetail local part) text ⊎ ((text ≡ []) × (part ≡ []))
+abbrev pub IsEnvelopePart : AddressPart → List ℕ → List ℕ → Type 0
+IsEnvelopePart All text part = part ≡ text
+IsEnvelopePart LocalPart text part = (domain : List ℕ) × Cuts text part domain
+IsEnvelopePart Domain text part = (local : List ℕ) × Cuts text local part
+IsEnvelopePart User text part = InLocal (λ local. IsUser local part) text
+IsEnvelopePart Detail text part = InLocal (λ local. IsDetail local part) text ⊎ ((text ≡ []) × (part ≡ []))
 
 -- the part of an address of the envelope that is in IsPart with it, if there is one
-abbrev pub part_in : AddressPart → List ℕ → Option (List ℕ)
-part_in All text = Some text
-part_in LocalPart text = Some (local_of text)
-part_in Domain text = Some (domain_of text)
-part_in User text = Some (user_of (local_of text))
-part_in Detail [] = Some []
-part_in Detail (octet ∷ rest) = detail_of (local_of (octet ∷ rest))
+abbrev pub envelope_part_of : AddressPart → List ℕ → Option (List ℕ)
+envelope_part_of All text = Some text
+envelope_part_of LocalPart text = Some (local_of text)
+envelope_part_of Domain text = Some (domain_of text)
+envelope_part_of User text = Some (user_of (local_of text))
+envelope_part_of Detail [] = Some []
+envelope_part_of Detail (octet ∷ rest) = detail_of (local_of (octet ∷ rest))

@@ -1,14 +1,14 @@
 -- A key of a test, and how it is prepared before it is compared with many values.
 use Rattle.std.specs.Prelude.{ℕ, Bool, false, List, length, slice_index, Option, Some, None}
 use Rattle.std.specs.Char.{to_ascii_uppercase}
-use Rattle.collation.specs.Places.{AreMasks}
-use Rattle.collation.specs.Search.{fits_key}
-use Rattle.collation.specs.declared.masks.Masks.{Masks}
-use Rattle.sievesyntax.specs.declared.tree.checks.Collation.{Collation}
-use Rattle.sievesyntax.specs.declared.tree.checks.Collation.TheVariants.{Octet, AsciiCasemap, AsciiNumeric}
-use Rattle.sievesyntax.specs.declared.tree.checks.Matching.{Matching}
-use Rattle.sievesyntax.specs.declared.tree.checks.Matching.TheVariants.{Contains}
-use Rattle.sieveexec.specs.Matches.{matches_key}
+use Rattle.sieve_match.specs.Places.{AreMasks}
+use Rattle.sieve_match.specs.Search.{fits_key}
+use Rattle.sieve_match.specs.declared.masks.Masks.{Masks}
+use Rattle.sieve_syntax.specs.declared.tree.checks.Collation.{Collation}
+use Rattle.sieve_syntax.specs.declared.tree.checks.Collation.TheVariants.{Octet, AsciiCasemap, AsciiNumeric}
+use Rattle.sieve_syntax.specs.declared.tree.checks.Matching.{Matching}
+use Rattle.sieve_syntax.specs.declared.tree.checks.Matching.TheVariants.{Contains}
+use Rattle.sieve_exec.specs.Matches.{matches_key}
 
 -- a key, and how values are compared with it
 pub record KeySpec : Type 0 where
@@ -16,8 +16,8 @@ pub record KeySpec : Type 0 where
   pub matching : Matching
   pub key : List ℕ
 
-abbrev pub key_of : Collation → Matching → List ℕ → KeySpec
-key_of collation matching key = record { collation = collation; matching = matching; key = key }
+abbrev pub key_spec_of : Collation → Matching → List ℕ → KeySpec
+key_spec_of collation matching key = record { collation = collation; matching = matching; key = key }
 
 -- whether a value matches it
 abbrev pub matches_of : KeySpec → List ℕ → Bool

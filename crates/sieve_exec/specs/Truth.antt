@@ -2,31 +2,31 @@
 use Rattle.std.specs.Prelude.{◌==◌, ℕ, Bool, true, false, cond, not, ◌&&◌, ◌||◌, ◌/◌, ◌%◌, nat_lt, length, decimal, List, [], ◌∷◌, Option, Some, None, unwrap_or}
 use Rattle.std.specs.List.{list_any, list_all}
 use Rattle.std.specs.Str.{is_utf8}
-use Rattle.sievesyntax.specs.declared.tree.checks.Bound.{Bound}
-use Rattle.sievesyntax.specs.declared.tree.checks.Bound.TheVariants.{Over, Under}
-use Rattle.sievesyntax.specs.declared.tree.checks.Header.{Header as HeaderTest}
-use Rattle.sievesyntax.specs.declared.tree.checks.Address.{Address as AddressTest}
-use Rattle.sievesyntax.specs.declared.tree.checks.EnvelopeTest.{EnvelopeTest}
-use Rattle.sievesyntax.specs.declared.tree.checks.DateTest.{DateTest}
-use Rattle.sievesyntax.specs.declared.tree.checks.CurrentDate.{CurrentDate}
-use Rattle.sievesyntax.specs.declared.tree.checks.HasFlag.{HasFlag}
-use Rattle.sievesyntax.specs.declared.tree.checks.Collation.{Collation}
-use Rattle.sievesyntax.specs.declared.tree.checks.Matching.{Matching}
-use Rattle.sievesyntax.specs.declared.tree.checks.Check.{Check}
-use Rattle.sievesyntax.specs.declared.tree.checks.Check.TheVariants.{Size, Exists, Header, Address, Envelope, MailboxExists, Date}
-use Rattle.sievesyntax.specs.declared.tree.checks.Check.TheVariants as Q
-use Rattle.sievesyntax.specs.RunState.{RunState}
-use Rattle.addrparts.specs.declared.address.Addr.{Addr}
-use Rattle.maildates.specs.declared.date_time.DateTime.{DateTime}
-use Rattle.maildates.specs.declared.part.DatePart.{DatePart}
-use Rattle.maildates.specs.Finding.{moment_passes}
-use Rattle.maildates.specs.Parts.{part_text}
-use Rattle.sieveexec.specs.FlagKeys.{flag_keys}
-use Rattle.sieveexec.specs.Dates.{field_date, date_count, found_passes}
-use Rattle.sieveexec.specs.Mails.{MailSpec, values_of, texts_of, addresses_of}
-use Rattle.sieveexec.specs.Matches.{matches_some}
-use Rattle.sieveexec.specs.Parts.{part_of, part_in}
-use Rattle.sieveexec.specs.Counts.{is_count, is_some_of, fields_counted, addresses_counted, envelope_counted}
+use Rattle.sieve_syntax.specs.declared.tree.checks.Bound.{Bound}
+use Rattle.sieve_syntax.specs.declared.tree.checks.Bound.TheVariants.{Over, Under}
+use Rattle.sieve_syntax.specs.declared.tree.checks.Header.{Header as HeaderTest}
+use Rattle.sieve_syntax.specs.declared.tree.checks.Address.{Address as AddressTest}
+use Rattle.sieve_syntax.specs.declared.tree.checks.EnvelopeTest.{EnvelopeTest}
+use Rattle.sieve_syntax.specs.declared.tree.checks.DateTest.{DateTest}
+use Rattle.sieve_syntax.specs.declared.tree.checks.CurrentDate.{CurrentDate}
+use Rattle.sieve_syntax.specs.declared.tree.checks.HasFlag.{HasFlag}
+use Rattle.sieve_syntax.specs.declared.tree.checks.Collation.{Collation}
+use Rattle.sieve_syntax.specs.declared.tree.checks.Matching.{Matching}
+use Rattle.sieve_syntax.specs.declared.tree.checks.MailCheck.{MailCheck}
+use Rattle.sieve_syntax.specs.declared.tree.checks.MailCheck.TheVariants.{Size, Exists, Header, Address, Envelope, MailboxExists, Date}
+use Rattle.sieve_syntax.specs.declared.tree.checks.MailCheck.TheVariants as Q
+use Rattle.sieve_syntax.specs.RunState.{RunState}
+use Rattle.mail_address.specs.declared.address.Addr.{Addr}
+use Rattle.mail_dates.specs.declared.date_time.DateTime.{DateTime}
+use Rattle.mail_dates.specs.declared.part.DatePart.{DatePart}
+use Rattle.mail_dates.specs.Finding.{moment_passes}
+use Rattle.mail_dates.specs.Parts.{part_text}
+use Rattle.sieve_exec.specs.FlagKeys.{flag_keys}
+use Rattle.sieve_exec.specs.Dates.{field_date, date_count, found_passes}
+use Rattle.sieve_exec.specs.Mails.{MailSpec, field_values, field_texts, field_addresses}
+use Rattle.sieve_exec.specs.Matches.{matches_some}
+use Rattle.sieve_exec.specs.Parts.{address_part_of, envelope_part_of}
+use Rattle.sieve_exec.specs.Counts.{is_count, is_some_of, fields_counted, addresses_counted, envelope_counted}
 
 -- whether a size is over or under a limit
 abbrev pub is_beyond : Bound → ℕ → ℕ → Bool
@@ -44,7 +44,7 @@ is_some_there (one ∷ more) = true
 
 -- whether there are fields with these names
 abbrev pub all_exist : MailSpec → List (List ℕ) → Bool
-all_exist mail names = list_all (λ name. is_some_there (values_of mail name)) names
+all_exist mail names = list_all (λ name. is_some_there (field_values mail name)) names
 
 -- whether a text matches a key of `header`
 abbrev pub text_matches : HeaderTest → List ℕ → Bool
@@ -52,7 +52,7 @@ text_matches header text = matches_some header.comparator header.matching header
 
 -- whether some text matches a key of `header`
 abbrev pub some_text_matches : MailSpec → HeaderTest → Bool
-some_text_matches mail header = list_any (λ name. list_any (text_matches header) (texts_of mail name)) header.fields
+some_text_matches mail header = list_any (λ name. list_any (text_matches header) (field_texts mail name)) header.fields
 
 -- whether a number in decimal matches a key
 abbrev pub count_matches : Collation → Matching → List (List ℕ) → ℕ → Bool
@@ -72,11 +72,11 @@ part_matches collation matching keys (Some part) = matches_some collation matchi
 
 -- whether the part of an address matches a key of `address`
 abbrev pub address_matches : AddressTest → Addr → Bool
-address_matches address one = part_matches address.comparator address.matching address.keys (part_of address.part one)
+address_matches address one = part_matches address.comparator address.matching address.keys (address_part_of address.part one)
 
 -- whether some address matches a key of `address`
 abbrev pub some_address_matches : MailSpec → AddressTest → Bool
-some_address_matches mail address = list_any (λ name. list_any (address_matches address) (addresses_of mail name)) address.fields
+some_address_matches mail address = list_any (λ name. list_any (address_matches address) (field_addresses mail name)) address.fields
 
 -- whether `address` holds
 abbrev pub address_holds : MailSpec → AddressTest → Bool
@@ -87,7 +87,7 @@ address_holds mail address =
 
 -- whether a part of an address of the envelope matches a key of the test
 abbrev pub envelope_matches : EnvelopeTest → List ℕ → Bool
-envelope_matches test address = part_matches test.comparator test.matching test.keys (part_in test.part address)
+envelope_matches test address = part_matches test.comparator test.matching test.keys (envelope_part_of test.part address)
 
 -- whether an address of the envelope that the test names matches a key
 abbrev pub some_named_matches : MailSpec → EnvelopeTest → Bool
@@ -131,7 +131,7 @@ flag_holds flags test =
     (some_flag_matches flags test)
 
 -- whether a test that looks at the message, its envelope or the flags holds
-abbrev pub truth_by : MailSpec → (flags : List (List ℕ)) → Check → Bool
+abbrev pub truth_by : MailSpec → (flags : List (List ℕ)) → MailCheck → Bool
 truth_by mail flags (Size size) = is_beyond size.bound mail.size size.limit
 truth_by mail flags (Exists names) = all_exist mail names
 truth_by mail flags (Header header) = header_holds mail header
@@ -143,5 +143,5 @@ truth_by mail flags (Q.CurrentDate test) = current_holds mail test
 truth_by mail flags (Q.HasFlag test) = flag_holds flags test
 
 -- the same for a run that has done this so far
-abbrev pub truth_at : MailSpec → RunState → Check → Bool
+abbrev pub truth_at : MailSpec → RunState → MailCheck → Bool
 truth_at mail so_far check = truth_by mail so_far.flags check

@@ -3,18 +3,18 @@
 use Rattle.std.specs.Prelude.{◌≡◌, ◌==◌, ℕ, ◌+◌, ◌-◌, ◌*◌, ◌<◌, ◌≤◌, Bool, true, false, cond, nat_lt, length, List, [], ◌∷◌, Option, Some, None, sum_by, count_by}
 use Rattle.std.specs.List.{list_any}
 use Rattle.octets.specs.Ascii.{lowered}
-use Rattle.addrparts.specs.declared.address.Addr.{Addr}
-use Rattle.addrparts.specs.Spelling.{all_of}
-use Rattle.sievesyntax.specs.declared.tree.checks.EnvelopeParts.{EnvelopeParts}
-use Rattle.sievesyntax.specs.declared.tree.checks.Matching.{Matching}
-use Rattle.sievesyntax.specs.declared.tree.checks.Matching.TheVariants.{Contains, Matches}
-use Rattle.sievesyntax.specs.declared.tree.checks.Check.{Check}
-use Rattle.sievesyntax.specs.declared.tree.checks.Check.TheVariants.{Size, Exists, Header, Address, Envelope, MailboxExists, Date, CurrentDate, HasFlag}
-use Rattle.sievesyntax.specs.RunState.{RunState}
-use Rattle.sieveexec.specs.declared.sizes.Sizes.{Sizes}
-use Rattle.sieveexec.specs.Counts.{is_count}
-use Rattle.sieveexec.specs.Indexes.{raws_keyed}
-use Rattle.sieveexec.specs.Mails.{MailSpec, texts_of, addresses_of}
+use Rattle.mail_address.specs.declared.address.Addr.{Addr}
+use Rattle.mail_address.specs.Spelling.{unquoted_address}
+use Rattle.sieve_syntax.specs.declared.tree.checks.EnvelopeParts.{EnvelopeParts}
+use Rattle.sieve_syntax.specs.declared.tree.checks.Matching.{Matching}
+use Rattle.sieve_syntax.specs.declared.tree.checks.Matching.TheVariants.{Contains, Matches}
+use Rattle.sieve_syntax.specs.declared.tree.checks.MailCheck.{MailCheck}
+use Rattle.sieve_syntax.specs.declared.tree.checks.MailCheck.TheVariants.{Size, Exists, Header, Address, Envelope, MailboxExists, Date, CurrentDate, HasFlag}
+use Rattle.sieve_syntax.specs.RunState.{RunState}
+use Rattle.sieve_exec.specs.declared.sizes.Sizes.{Sizes}
+use Rattle.sieve_exec.specs.Counts.{is_count}
+use Rattle.sieve_exec.specs.Indexes.{raws_keyed}
+use Rattle.sieve_exec.specs.Mails.{MailSpec, field_texts, field_addresses}
 
 -- the size of a text: its octets, and eight more, since short texts take time too
 abbrev pub text_size : List ℕ → ℕ
@@ -41,8 +41,8 @@ abbrev pub is_question : ℕ → Bool
 is_question octet = octet == 63
 
 -- `*`
-abbrev pub is_star : ℕ → Bool
-is_star octet = octet == 42
+abbrev pub is_asterisk : ℕ → Bool
+is_asterisk octet = octet == 42
 
 -- a key of more than 63 octets, each of which may be compared several times
 abbrev pub is_long : List ℕ → Bool
@@ -58,7 +58,7 @@ ready_work names sizes key = sizes.octets + names * (text_size key + 256)
 
 -- the same of a pattern: what is between two stars is prepared anew for each value
 abbrev pub starred : Sizes → List ℕ → ℕ
-starred sizes key = paired sizes (text_size key) + 256 * (sizes.count * (count_by is_star key - 1))
+starred sizes key = paired sizes (text_size key) + 256 * (sizes.count * (count_by is_asterisk key - 1))
 
 -- the work of a key that may be tried at each octet of values: a pair of octets counts eight times
 abbrev pub tried_work : ℕ → List ℕ → ℕ
@@ -102,14 +102,14 @@ abbrev pub named_sizes : (List ℕ → Sizes) → List (List ℕ) → Sizes
 named_sizes sizes names = record { octets = sum_by (λ name. (sizes name).octets) names; count = sum_by (λ name. (sizes name).count) names }
 
 abbrev pub header_sizes : MailSpec → List (List ℕ) → Sizes
-header_sizes mail names = named_sizes (λ name. sizes_of (texts_of mail name)) names
+header_sizes mail names = named_sizes (λ name. sizes_of (field_texts mail name)) names
 
 -- the sizes of addresses as `:all` has them
 abbrev pub sizes_of_addresses : List Addr → Sizes
-sizes_of_addresses found = record { octets = sum_by (λ one. text_size (all_of one)) found; count = length found }
+sizes_of_addresses found = record { octets = sum_by (λ one. text_size (unquoted_address one)) found; count = length found }
 
 abbrev pub address_sizes : MailSpec → List (List ℕ) → Sizes
-address_sizes mail names = named_sizes (λ name. sizes_of_addresses (addresses_of mail name)) names
+address_sizes mail names = named_sizes (λ name. sizes_of_addresses (field_addresses mail name)) names
 
 -- the sizes of the envelope's addresses that a test names
 abbrev pub one_sizes : Bool → List ℕ → Sizes
@@ -138,7 +138,7 @@ abbrev pub date_work : MailSpec → List ℕ → ℕ
 date_work mail field = 16 * (text_size field + first_size (raws_keyed mail.fields (lowered field)))
 
 -- the work of a test that looks at the message, its envelope or the flags of the run. A key of `hasflag` may have a word at every octet
-abbrev pub work_by : MailSpec → (flags : List (List ℕ)) → Check → ℕ
+abbrev pub work_by : MailSpec → (flags : List (List ℕ)) → MailCheck → ℕ
 work_by mail flags (Size size) = 1
 work_by mail flags (Exists names) = names_work names
 work_by mail flags (Header header) = fields_work header.fields header.matching (header_sizes mail header.fields) header.keys
@@ -150,13 +150,13 @@ work_by mail flags (CurrentDate test) = keys_work 1 test.matching short_sizes te
 work_by mail flags (HasFlag test) = texts_size flags + texts_size test.keys + sum_by (tried_work (texts_size flags)) test.keys
 
 -- the same for a run that has done this so far
-abbrev pub work_at : MailSpec → RunState → Check → ℕ
+abbrev pub work_at : MailSpec → RunState → MailCheck → ℕ
 work_at mail so_far check = work_by mail so_far.flags check
 
 -- these sizes, unless there are more than `most` octets
-abbrev pub IsWithin : ℕ → Sizes → Option Sizes → Type 0
-IsWithin most sizes None = most < sizes.octets
-IsWithin most sizes (Some found) = (found ≡ sizes) × ((found.octets ≤ most) × (found.count ≤ found.octets))
+abbrev pub AreSizesWithin : ℕ → Sizes → Option Sizes → Type 0
+AreSizesWithin most sizes None = most < sizes.octets
+AreSizesWithin most sizes (Some found) = (found ≡ sizes) × ((found.octets ≤ most) × (found.count ≤ found.octets))
 
 -- what is left of the work that may be taken, after this much, if that may be taken
 abbrev pub IsLeft : ℕ → ℕ → Option ℕ → Type 0

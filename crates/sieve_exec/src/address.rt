@@ -1,24 +1,24 @@
 //! What `address` looks at: the addresses of fields (RFC 5228, 5.1).
 ghost use Rattle.std.specs.Prelude.{◌≡◌, ◌≤◌, IfOk, cond, map, count_by};
 ghost use Rattle.std.specs.List.{list_any, flat_map};
-ghost use Rattle.mailhead.specs.Heads.{unfold_of};
-ghost use Rattle.addrparts.specs.Reading.{addrs};
-ghost use Rattle.sieveexec.specs.Counts.{has_part};
-ghost use Rattle.sieveexec.specs.Indexes.{is_address_key};
-ghost use Rattle.sieveexec.specs.Parts.{part_of};
-ghost use Rattle.sieveexec.specs.Ready.{key_of, matches_of, some_passes};
-ghost use Rattle.sieveexec.specs.Truth.{address_matches};
-ghost use Rattle.sieveexec.specs.Work.{IsWithin, sizes_of_addresses};
+ghost use Rattle.mail_head.specs.Heads.{unfold_of};
+ghost use Rattle.mail_address.specs.Reading.{addrs};
+ghost use Rattle.sieve_exec.specs.Counts.{has_part};
+ghost use Rattle.sieve_exec.specs.Indexes.{is_address_key};
+ghost use Rattle.sieve_exec.specs.Parts.{address_part_of};
+ghost use Rattle.sieve_exec.specs.Ready.{key_spec_of, matches_of, some_passes};
+ghost use Rattle.sieve_exec.specs.Truth.{address_matches};
+ghost use Rattle.sieve_exec.specs.Work.{AreSizesWithin, sizes_of_addresses};
 
 use crate::field_cache::{FieldTest, FieldValues};
 use crate::joined_address::{JoinedAddress, push_joined};
 use crate::mail::Mail;
 use crate::ready_key::ReadyKey;
 use crate::sizes::Sizes;
-use addrparts::addresses;
-use mailhead::unfolded;
+use mail_address::addresses;
+use mail_head::unfold_value;
 use octets::{List, Octets};
-use sievesyntax::{Address, AddressPart};
+use sieve_syntax::{Address, AddressPart};
 use std::alloc::{AllocError, Global};
 
 /// The names of the fields that have addresses, in lower case.
@@ -40,8 +40,8 @@ const ADDRESS_FIELDS: [&[u8]; 14] = [
 ];
 
 impl FieldValues for List<JoinedAddress> {
-    ghost use Rattle.sieveexec.specs.Indexes.{addresses_keyed};
-    ghost use Rattle.sieveexec.specs.Work.{sizes_of_addresses};
+    ghost use Rattle.sieve_exec.specs.Indexes.{addresses_keyed};
+    ghost use Rattle.sieve_exec.specs.Work.{sizes_of_addresses};
 
     ghost keyed = { addresses_keyed };
 
@@ -70,8 +70,8 @@ impl FieldValues for List<JoinedAddress> {
 impl FieldTest<List<JoinedAddress>> for Address {
     ghost use Rattle.std.specs.Prelude.{count_by};
     ghost use Rattle.std.specs.List.{list_any};
-    ghost use Rattle.sieveexec.specs.Counts.{has_part};
-    ghost use Rattle.sieveexec.specs.Truth.{address_matches};
+    ghost use Rattle.sieve_exec.specs.Counts.{has_part};
+    ghost use Rattle.sieve_exec.specs.Truth.{address_matches};
 
     ghost names = { λ address. address.fields };
 
@@ -105,7 +105,7 @@ fn addresses_in(alloc: Global, raws: &[&[u8]]) -> Result<List<JoinedAddress>, Al
 {
     let mut found = List::new(alloc);
     for raw in raws {
-        let value = unfolded(alloc, raw)?;
+        let value = unfold_value(alloc, raw)?;
         let more = addresses(alloc, value.as_slice())?;
         push_joined(alloc, &mut found, more.as_slice())?;
     }
@@ -114,7 +114,7 @@ fn addresses_in(alloc: Global, raws: &[&[u8]]) -> Result<List<JoinedAddress>, Al
 
 /// The sizes of addresses as `:all` has them, or `None` if they have more than `most` octets.
 fn address_sizes(found: &[JoinedAddress], most: u64) -> Option<Sizes>
-    ensures { IsWithin most (sizes_of_addresses found.now) result }
+    ensures { AreSizesWithin most (sizes_of_addresses found.now) result }
 {
     let mut sizes = Sizes::NONE;
     for one in found {
@@ -154,7 +154,7 @@ fn address_matches(address: &Address, found: &[JoinedAddress]) -> bool
 
 /// Whether some key matches the part of some address. A key is prepared once for all addresses.
 fn key_matches(address: &Address, found: &[JoinedAddress]) -> bool
-    ensures { result ≡ list_any (λ key. list_any (λ one. some_passes (matches_of (key_of address.now.comparator address.now.matching key)) (part_of address.now.part one)) found.now) address.now.keys }
+    ensures { result ≡ list_any (λ key. list_any (λ one. some_passes (matches_of (key_spec_of address.now.comparator address.now.matching key)) (address_part_of address.now.part one)) found.now) address.now.keys }
 {
     for key in address.keys.as_slice() {
         let ready = ReadyKey::new(address.comparator, address.matching, key.as_slice());
@@ -167,14 +167,14 @@ fn key_matches(address: &Address, found: &[JoinedAddress]) -> bool
 
 /// Whether the part of some address matches a key.
 fn ready_matches(ready: &ReadyKey<'_>, part: AddressPart, found: &[JoinedAddress]) -> bool
-    ensures { result ≡ list_any (λ one. some_passes (matches_of ready.now) (part_of part one)) found.now }
+    ensures { result ≡ list_any (λ one. some_passes (matches_of ready.now) (address_part_of part one)) found.now }
 {
     found.iter().any(|one| one_matches(ready, part, one))
 }
 
 /// Whether the part of an address is there and matches a key.
 fn one_matches(ready: &ReadyKey<'_>, part: AddressPart, one: &JoinedAddress) -> bool
-    ensures { result ≡ some_passes (matches_of ready.now) (part_of part one.now) }
+    ensures { result ≡ some_passes (matches_of ready.now) (address_part_of part one.now) }
 {
     match one.part(part) {
         Some(text) => ready.matches(text),

@@ -1,11 +1,11 @@
 //! What the tests of a run look at.
 ghost use Rattle.std.specs.Prelude.{◌≡◌, ◌↔◌, ◌≤◌, ◌+◌, ◌*◌, ◌&&◌, All, IsTrue, IfOk, cond};
 ghost use Rattle.octets.specs.Ascii.{lowered};
-ghost use Rattle.sievesyntax.specs.Valid.{IsMailbox};
-ghost use Rattle.sieveexec.specs.Indexes.{raws_keyed};
-ghost use Rattle.sieveexec.specs.Work.{IsLeft, text_size, header_sizes, address_sizes, envelope_sizes as envelope_sizes_of, first_size, short_sizes, fields_work, date_work, keys_work, values_work, work_by};
-ghost use Rattle.sieveexec.specs.Counts.{is_counted, envelope_counted};
-ghost use Rattle.sieveexec.specs.Truth.{truth_by, is_beyond, header_holds, address_holds, envelope_holds, some_named_matches, envelope_matches};
+ghost use Rattle.sieve_syntax.specs.Valid.{IsMailboxName};
+ghost use Rattle.sieve_exec.specs.Indexes.{raws_keyed};
+ghost use Rattle.sieve_exec.specs.Work.{IsLeft, text_size, header_sizes, address_sizes, envelope_sizes as envelope_sizes_of, first_size, short_sizes, fields_work, date_work, keys_work, values_work, work_by};
+ghost use Rattle.sieve_exec.specs.Counts.{is_counted, envelope_counted};
+ghost use Rattle.sieve_exec.specs.Truth.{truth_by, is_beyond, header_holds, address_holds, envelope_holds, some_named_matches, envelope_matches};
 
 use crate::date::{current_holds, date_holds};
 use crate::envelope::part_in;
@@ -14,15 +14,10 @@ use crate::flags::flag_holds;
 use crate::joined_address::JoinedAddress;
 use crate::mail::Mail;
 use crate::matching::{count_matches, is_count, matches_some};
-use crate::work::{
-    SHORT, envelope_sizes, spend, spend_flags, spend_keys, spend_names, spend_text, spend_texts,
-    spend_values,
-};
-use mailflags::Flags;
+use crate::work::{SHORT, envelope_sizes, spend, spend_flags, spend_keys, spend_names, spend_text, spend_texts, spend_values};
+use mail_flags::Flags;
 use octets::{List, Octets, Texts, lowered};
-use sievesyntax::{
-    Address, AddressPart, Bound, Check, DateTest, EnvelopeTest, Header, Size, is_mailbox,
-};
+use sieve_syntax::{Address, AddressPart, Bound, MailCheck, DateTest, EnvelopeTest, Header, Size, is_mailbox};
 use std::alloc::{AllocError, Global};
 use std::marker::Model;
 
@@ -39,7 +34,7 @@ pub struct CachedMail<'m, 'a> {
 
 impl<'m, 'a> Model for CachedMail<'m, 'a> {
     ghost use Rattle.std.specs.Prelude.{◌≡◌, IfSome};
-    ghost use Rattle.sieveexec.specs.Mails.{MailSpec};
+    ghost use Rattle.sieve_exec.specs.Mails.{MailSpec};
 
     ghost Value = { MailSpec };
 
@@ -71,22 +66,22 @@ impl<'m, 'a> CachedMail<'m, 'a> {
     pub fn evaluate(
         &mut self,
         alloc: Global,
-        check: &Check,
+        check: &MailCheck,
         flags: &Flags,
     ) -> Result<bool, AllocError>
         ensures truth { IfOk result (λ holds. holds ≡ truth_by self.old flags.now check.now) }
         ensures kept { self.new ≡ self.old }
     {
         match check {
-            Check::Size(size) => Ok(is_beyond(*size, self.size())),
-            Check::Exists(names) => self.mail.all_exist(alloc, names.as_slice()),
-            Check::Header(header) => self.header_holds(alloc, header),
-            Check::Address(address) => self.address_holds(alloc, address),
-            Check::Envelope(test) => Ok(envelope_holds(self.mail, test)),
-            Check::MailboxExists(names) => Ok(are_mailboxes(names.as_slice())),
-            Check::Date(test) => date_holds(alloc, self.mail, test),
-            Check::CurrentDate(test) => current_holds(alloc, self.mail, test),
-            Check::HasFlag(test) => Ok(flag_holds(flags.names(), test)),
+            MailCheck::Size(size) => Ok(is_beyond(*size, self.size())),
+            MailCheck::Exists(names) => self.mail.all_exist(alloc, names.as_slice()),
+            MailCheck::Header(header) => self.header_holds(alloc, header),
+            MailCheck::Address(address) => self.address_holds(alloc, address),
+            MailCheck::Envelope(test) => Ok(envelope_holds(self.mail, test)),
+            MailCheck::MailboxExists(names) => Ok(are_mailboxes(names.as_slice())),
+            MailCheck::Date(test) => date_holds(alloc, self.mail, test),
+            MailCheck::CurrentDate(test) => current_holds(alloc, self.mail, test),
+            MailCheck::HasFlag(test) => Ok(flag_holds(flags.names(), test)),
         }
     }
 
@@ -97,7 +92,7 @@ impl<'m, 'a> CachedMail<'m, 'a> {
     pub(crate) fn spend(
         &mut self,
         alloc: Global,
-        check: &Check,
+        check: &MailCheck,
         flags: &Flags,
         left: u64,
     ) -> Result<Option<u64>, AllocError>
@@ -105,21 +100,21 @@ impl<'m, 'a> CachedMail<'m, 'a> {
         ensures kept { self.new ≡ self.old }
     {
         match check {
-            Check::Size(_) => Ok(spend(left, 1)),
-            Check::Exists(names) => Ok(spend_names(left, names.as_slice())),
-            Check::Header(header) => self.spend_header(alloc, header, left),
-            Check::Address(address) => self.spend_address(alloc, address, left),
-            Check::Envelope(test) => Ok(spend_envelope(self.mail, test, left)),
-            Check::MailboxExists(names) => Ok(spend_texts(left, names.as_slice())),
-            Check::Date(test) => spend_date(alloc, self.mail, test, left),
-            Check::CurrentDate(test) => Ok(spend_keys(
+            MailCheck::Size(_) => Ok(spend(left, 1)),
+            MailCheck::Exists(names) => Ok(spend_names(left, names.as_slice())),
+            MailCheck::Header(header) => self.spend_header(alloc, header, left),
+            MailCheck::Address(address) => self.spend_address(alloc, address, left),
+            MailCheck::Envelope(test) => Ok(spend_envelope(self.mail, test, left)),
+            MailCheck::MailboxExists(names) => Ok(spend_texts(left, names.as_slice())),
+            MailCheck::Date(test) => spend_date(alloc, self.mail, test, left),
+            MailCheck::CurrentDate(test) => Ok(spend_keys(
                 left,
                 1,
                 test.matching,
                 SHORT,
                 test.keys.as_slice(),
             )),
-            Check::HasFlag(test) => Ok(spend_flags(left, flags.names(), test.keys.as_slice())),
+            MailCheck::HasFlag(test) => Ok(spend_flags(left, flags.names(), test.keys.as_slice())),
         }
     }
 
@@ -278,7 +273,7 @@ fn is_beyond(wanted: Size, size: u64) -> bool
 
 /// Whether each name is that of a mailbox: each such mailbox exists as soon as something is filed into it. Linear; takes no memory.
 fn are_mailboxes(names: &[Octets]) -> bool
-    ensures { IsTrue result ↔ All IsMailbox names.now }
+    ensures { IsTrue result ↔ All IsMailboxName names.now }
 {
     names.iter().all(|name| is_mailbox(name.as_slice()))
 }

@@ -1,9 +1,9 @@
 //! Copies of the arguments of actions.
 ghost use Rattle.std.specs.Prelude.{◌≡◌, IfOk};
 
-use addrparts::Addr;
+use mail_address::Addr;
 use octets::{List, Octets};
-use sievesyntax::{ReplyFrom, VacArgs};
+use sieve_syntax::{ReplyFrom, VacationArgs};
 use std::alloc::{AllocError, Global};
 
 /// Copies an address.
@@ -17,10 +17,10 @@ pub(crate) fn copied_address(alloc: Global, address: &Addr) -> Result<Addr, Allo
 }
 
 /// Copies the arguments of `vacation`.
-pub(crate) fn copied_args(alloc: Global, args: &VacArgs) -> Result<VacArgs, AllocError>
+pub(crate) fn copied_args(alloc: Global, args: &VacationArgs) -> Result<VacationArgs, AllocError>
     ensures { IfOk result (λ copy. copy ≡ args.now) }
 {
-    Ok(VacArgs {
+    Ok(VacationArgs {
         days: args.days,
         seconds: args.seconds,
         subject: copied_text(alloc, &args.subject)?,

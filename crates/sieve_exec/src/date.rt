@@ -2,21 +2,21 @@
 ghost use Rattle.std.specs.Prelude.{◌≡◌, ◌↔◌, IsTrue, None, Some, MatchOption, IfOk, IfSome, codes, nat_eq};
 ghost use Rattle.std.specs.Option.{option_and_then};
 ghost use Rattle.std.specs.Cmp.Lexicographic.{pointwise};
-ghost use Rattle.maildates.specs.declared.date_time.DateTime.{DateTime};
-ghost use Rattle.maildates.specs.DateTimes.{IsDateTime, IsZone, IsMoment, IsSameMoment};
-ghost use Rattle.maildates.specs.Finding.{date_of};
-ghost use Rattle.sieveexec.specs.Dates.{IsShown, date_part_of};
-ghost use Rattle.sieveexec.specs.Dates as dates;
-ghost use Rattle.sieveexec.specs.Truth.{date_matches};
-ghost use Rattle.sieveexec.specs.Truth as truth;
+ghost use Rattle.mail_dates.specs.declared.date_time.DateTime.{DateTime};
+ghost use Rattle.mail_dates.specs.DateTimes.{IsDateTime, IsZone, IsMoment, IsSameMoment};
+ghost use Rattle.mail_dates.specs.Finding.{date_of};
+ghost use Rattle.sieve_exec.specs.Dates.{IsDateShown, date_part_of};
+ghost use Rattle.sieve_exec.specs.Dates as dates;
+ghost use Rattle.sieve_exec.specs.Truth.{date_matches};
+ghost use Rattle.sieve_exec.specs.Truth as truth;
 
 use crate::mail::Mail;
 use crate::matching::{count_matches, is_count, matches_some};
-use maildates::{DateTime, read_date, write_part};
-use mailhead::unfolded;
+use mail_dates::{DateTime, read_date, write_part};
+use mail_head::unfold_value;
 use memchr::memrchr;
 use octets::{Octets, lowered};
-use sievesyntax::{Collation, CurrentDate, DatePart, DateTest, DateZone, Matching};
+use sieve_syntax::{Collation, CurrentDate, DatePart, DateTest, DateZone, Matching};
 use std::alloc::{AllocError, Global};
 
 /// Whether `date` holds (RFC 5260, 4). Linear in the value of the one field that is read.
@@ -110,7 +110,7 @@ fn part_matches(
 /// A date by the clock of the zone that a test asks for; `None` if its year there isn't from 0 to 9999.
 fn shown(mail: &Mail<'_>, zone: DateZone, date: DateTime) -> Option<DateTime>
     requires { IsDateTime date }
-    ensures exact { MatchOption result ((other : DateTime) → IsShown mail.now zone date other → ⊥) (λ other. IsShown mail.now zone date other) }
+    ensures exact { MatchOption result ((other : DateTime) → IsDateShown mail.now zone date other → ⊥) (λ other. IsDateShown mail.now zone date other) }
     ensures valid { IfSome result IsDateTime }
 {
     match zone {
@@ -156,7 +156,7 @@ fn field_date(alloc: Global, mail: &Mail<'_>, name: &[u8]) -> Result<Option<Date
     let key = lowered(alloc, name)?;
     match mail.first_raw(&key) {
         Some(raw) => {
-            let value = unfolded(alloc, raw)?;
+            let value = unfold_value(alloc, raw)?;
             Ok(date_in(key.as_slice(), value.as_slice()))
         }
         None => Ok(None),
@@ -169,15 +169,15 @@ fn date_in(key: &[u8], value: &[u8]) -> Option<DateTime>
     ensures valid { IfSome result IsDateTime }
 {
     if key == b"received".as_slice() {
-        read_date(behind_last(value)?)
+        read_date(after_last(value)?)
     } else {
         read_date(value)
     }
 }
 
 /// What follows the last semicolon of a text (RFC 5322, 3.6.7). Linear; takes no memory.
-fn behind_last(text: &[u8]) -> Option<&[u8]>
-    ensures { MatchOption result (dates.behind_last text.now ≡ None) (λ behind. dates.behind_last text.now ≡ Some behind.now) }
+fn after_last(text: &[u8]) -> Option<&[u8]>
+    ensures { MatchOption result (dates.after_last text.now ≡ None) (λ behind. dates.after_last text.now ≡ Some behind.now) }
 {
     let at = memrchr(b';', text)?;
     Some(text.split_at(at + 1).1)

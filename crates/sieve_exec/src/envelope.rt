@@ -1,11 +1,11 @@
 //! The envelope of a message.
 ghost use Rattle.std.specs.Prelude.{◌≡◌, None, Some, MatchOption, IfOk};
-ghost use Rattle.sieveexec.specs.Parts.{part_in, local_of, domain_of};
+ghost use Rattle.sieve_exec.specs.Parts.{envelope_part_of, local_of, domain_of};
 
 use crate::local_part::{detail_in, user_in};
 use memchr::memrchr;
 use octets::Octets;
-use sievesyntax::AddressPart;
+use sieve_syntax::AddressPart;
 use std::alloc::{AllocError, Global};
 
 /// The addresses with which a message was received, as they were written; the null reverse-path is empty.
@@ -34,7 +34,7 @@ impl Envelope {
 ///
 /// Each part of the null reverse-path is empty (RFC 5228, 5.4). Linear in the address; takes no memory.
 pub(crate) fn part_in(part: AddressPart, address: &[u8]) -> Option<&[u8]>
-    ensures { MatchOption result (part_in part address.now ≡ None) (λ text. part_in part address.now ≡ Some text.now) }
+    ensures { MatchOption result (envelope_part_of part address.now ≡ None) (λ text. envelope_part_of part address.now ≡ Some text.now) }
 {
     match part {
         AddressPart::All => Some(address),

@@ -2,7 +2,7 @@
 ghost use Rattle.std.specs.Prelude.{◌≡◌, IfOk, sum_by};
 ghost use Rattle.std.specs.List.{list_any};
 ghost use Rattle.octets.specs.Ascii.{lowered};
-ghost use Rattle.sieveexec.specs.Work.{IsWithin, named_sizes};
+ghost use Rattle.sieve_exec.specs.Work.{AreSizesWithin, named_sizes};
 
 use crate::mail::Mail;
 use crate::sizes::Sizes;
@@ -15,9 +15,9 @@ use std::mem;
 /// What is read from the fields with a name.
 pub trait FieldValues: Sized + Drop {
     ghost use Rattle.std.specs.Prelude.{◌≡◌, ℕ, List, IfOk};
-    ghost use Rattle.sieveexec.specs.declared.sizes.Sizes.{Sizes};
-    ghost use Rattle.sieveexec.specs.Mails.{MailSpec};
-    ghost use Rattle.sieveexec.specs.Work.{IsWithin};
+    ghost use Rattle.sieve_exec.specs.declared.sizes.Sizes.{Sizes};
+    ghost use Rattle.sieve_exec.specs.Mails.{MailSpec};
+    ghost use Rattle.sieve_exec.specs.Work.{AreSizesWithin};
 
     ghost keyed: { MailSpec → List ℕ → Self };
 
@@ -29,7 +29,7 @@ pub trait FieldValues: Sized + Drop {
 
     /// How large the values are, or `None` if they have more than `most` octets.
     fn sizes(&self, most: u64) -> Option<Sizes>
-        ensures { IsWithin most (sizes_of self.now) result };
+        ensures { AreSizesWithin most (sizes_of self.now) result };
 }
 
 /// A test that looks at what is read from fields.
@@ -65,8 +65,8 @@ pub struct FieldCache<'m, 'a, V: FieldValues> {
 }
 
 impl<'m, 'a, V: FieldValues> Model for FieldCache<'m, 'a, V> {
-    ghost use Rattle.sieveexec.specs.Mails.{MailSpec};
-    ghost use Rattle.sieveexec.specs.Indexes.{AreKnown};
+    ghost use Rattle.sieve_exec.specs.Mails.{MailSpec};
+    ghost use Rattle.sieve_exec.specs.Indexes.{AreKnown};
 
     ghost Value = { MailSpec };
 
@@ -123,7 +123,7 @@ impl<'m, 'a, V: FieldValues> FieldCache<'m, 'a, V> {
         names: &[Octets],
         most: u64,
     ) -> Result<Option<Sizes>, AllocError>
-        ensures sizes { IfOk result (IsWithin most (named_sizes (λ name. V.sizes_of (V.keyed self.old (lowered name))) names.now)) }
+        ensures sizes { IfOk result (AreSizesWithin most (named_sizes (λ name. V.sizes_of (V.keyed self.old (lowered name))) names.now)) }
         ensures kept { self.new ≡ self.old }
     {
         let mut sizes = Sizes::NONE;
@@ -146,7 +146,7 @@ impl<'m, 'a, V: FieldValues> FieldCache<'m, 'a, V> {
         name: &[u8],
         most: u64,
     ) -> Result<Option<Sizes>, AllocError>
-        ensures sizes { IfOk result (IsWithin most (V.sizes_of (V.keyed self.old (lowered name.now)))) }
+        ensures sizes { IfOk result (AreSizesWithin most (V.sizes_of (V.keyed self.old (lowered name.now)))) }
         ensures kept { self.new ≡ self.old }
     {
         let key = self.key_of(alloc, name)?;

@@ -1,14 +1,14 @@
 //! What `hasflag` looks at: the flags that the run has set (RFC 5232, 4).
 ghost use Rattle.std.specs.Prelude.{◌≡◌, ◌&&◌};
 ghost use Rattle.std.specs.List.{flat_map};
-ghost use Rattle.sieveexec.specs.Counts.{is_some_of};
-ghost use Rattle.sieveexec.specs.FlagKeys.{asks_words, flag_keys, words_of};
-ghost use Rattle.sieveexec.specs.Matches.{matches_key as matches_key_of, matches_some as matches_some_of};
-ghost use Rattle.sieveexec.specs.Truth as truth;
+ghost use Rattle.sieve_exec.specs.Counts.{is_some_of};
+ghost use Rattle.sieve_exec.specs.FlagKeys.{asks_words, flag_keys, words_of};
+ghost use Rattle.sieve_exec.specs.Matches.{matches_key as matches_key_of, matches_some as matches_some_of};
+ghost use Rattle.sieve_exec.specs.Truth as truth;
 
 use crate::matching::{count_matches, is_count, matches_key, matches_some};
 use octets::{Octets, is_blank};
-use sievesyntax::{HasFlag, Matching};
+use sieve_syntax::{HasFlag, Matching};
 
 /// Whether `hasflag` holds of these flags (RFC 5232, 4; RFC 5231, 4.2).
 ///

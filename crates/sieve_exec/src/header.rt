@@ -1,24 +1,24 @@
 //! What `header` looks at: the texts of fields (RFC 5228, 5.7).
 ghost use Rattle.std.specs.Prelude.{◌≡◌, IfOk, map};
 ghost use Rattle.std.specs.List.{list_any};
-ghost use Rattle.mailhead.specs.Heads.{unfold_of};
-ghost use Rattle.sieveexec.specs.Mails.{text_shown};
-ghost use Rattle.sieveexec.specs.Ready.{key_of, matches_of};
-ghost use Rattle.sieveexec.specs.Truth.{text_matches};
+ghost use Rattle.mail_head.specs.Heads.{unfold_of};
+ghost use Rattle.sieve_exec.specs.Mails.{text_shown};
+ghost use Rattle.sieve_exec.specs.Ready.{key_spec_of, matches_of};
+ghost use Rattle.sieve_exec.specs.Truth.{text_matches};
 
 use crate::field_cache::{FieldTest, FieldValues};
 use crate::mail::Mail;
 use crate::ready_key::ReadyKey;
 use crate::sizes::{Sizes, sizes_in};
-use encwords::decoded;
-use mailhead::unfolded;
+use mail_words::decoded;
+use mail_head::unfold_value;
 use octets::{Octets, Texts, trim_blanks};
-use sievesyntax::Header;
+use sieve_syntax::Header;
 use std::alloc::{AllocError, Global};
 
 impl FieldValues for Texts {
-    ghost use Rattle.sieveexec.specs.Indexes.{texts_keyed};
-    ghost use Rattle.sieveexec.specs.Work.{sizes_of};
+    ghost use Rattle.sieve_exec.specs.Indexes.{texts_keyed};
+    ghost use Rattle.sieve_exec.specs.Work.{sizes_of};
 
     ghost keyed = { texts_keyed };
 
@@ -39,7 +39,7 @@ impl FieldValues for Texts {
 impl FieldTest<Texts> for Header {
     ghost use Rattle.std.specs.Prelude.{length};
     ghost use Rattle.std.specs.List.{list_any};
-    ghost use Rattle.sieveexec.specs.Truth.{text_matches};
+    ghost use Rattle.sieve_exec.specs.Truth.{text_matches};
 
     ghost names = { λ header. header.fields };
 
@@ -75,7 +75,7 @@ fn texts_in(alloc: Global, raws: &[&[u8]]) -> Result<Texts, AllocError>
 fn text_in(alloc: Global, raw: &[u8]) -> Result<Octets, AllocError>
     ensures { IfOk result (λ text. text ≡ text_shown (unfold_of raw.now)) }
 {
-    let value = unfolded(alloc, raw)?;
+    let value = unfold_value(alloc, raw)?;
     let text = decoded(alloc, value.as_slice())?;
     Octets::from_slice(alloc, trim_blanks(text.as_slice()))
 }
@@ -89,7 +89,7 @@ fn text_matches(header: &Header, texts: &[Octets]) -> bool
 
 /// Whether some key matches some text. A key is prepared once for all texts.
 fn key_matches(header: &Header, texts: &[Octets]) -> bool
-    ensures { result ≡ list_any (λ key. list_any (matches_of (key_of header.now.comparator header.now.matching key)) texts.now) header.now.keys }
+    ensures { result ≡ list_any (λ key. list_any (matches_of (key_spec_of header.now.comparator header.now.matching key)) texts.now) header.now.keys }
 {
     for key in header.keys.as_slice() {
         let ready = ReadyKey::new(header.comparator, header.matching, key.as_slice());

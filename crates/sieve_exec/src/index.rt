@@ -1,10 +1,10 @@
 //! The fields of a message by their names.
 ghost use Rattle.std.specs.Prelude.{◌≡◌, IfOk};
-ghost use Rattle.mailhead.specs.Fields.{texts_of};
-ghost use Rattle.sieveexec.specs.Indexes.{IsIndex};
+ghost use Rattle.mail_head.specs.Fields.{field_texts_of};
+ghost use Rattle.sieve_exec.specs.Indexes.{IsIndex};
 
 use crate::raw_values::RawValues;
-use mailhead::Field;
+use mail_head::Field;
 use octets::{Octets, lowered};
 use std::alloc::{AllocError, Global};
 use std::collections::BTreeMap;
@@ -16,7 +16,7 @@ pub(crate) fn index_of<'a>(
     alloc: Global,
     fields: &[Field<'a>],
 ) -> Result<BTreeMap<Octets, RawValues<'a>>, AllocError>
-    ensures { IfOk result (λ index. IsIndex (texts_of fields.now) index) }
+    ensures { IfOk result (λ index. IsIndex (field_texts_of fields.now) index) }
 {
     let mut index = BTreeMap::new(alloc);
     for field in fields {

@@ -1,12 +1,12 @@
 //! Addresses that are written out once.
 ghost use Rattle.std.specs.Prelude.{◌≡◌, ◌++◌, length, None, Some, MatchOption, IfOk, OnOk};
-ghost use Rattle.addrparts.specs.Spelling.{all_of};
-ghost use Rattle.sieveexec.specs.Parts.{part_of};
+ghost use Rattle.mail_address.specs.Spelling.{unquoted_address};
+ghost use Rattle.sieve_exec.specs.Parts.{address_part_of};
 
 use crate::local_part::{detail_in, user_in};
-use addrparts::Addr;
+use mail_address::Addr;
 use octets::{List, Octets};
-use sievesyntax::AddressPart;
+use sieve_syntax::AddressPart;
 use std::alloc::{AllocError, Global};
 use std::marker::Model;
 
@@ -19,9 +19,9 @@ pub struct JoinedAddress {
 
 impl Model for JoinedAddress {
     ghost use Rattle.std.specs.Prelude.{◌≡◌, ◌+◌, take, drop};
-    ghost use Rattle.addrparts.specs.declared.address.Addr.{Addr};
-    ghost use Rattle.addrparts.specs.Spelling.{all_of};
-    ghost use Rattle.sieveexec.specs.Joined.{address_joined, IsJoined};
+    ghost use Rattle.mail_address.specs.declared.address.Addr.{Addr};
+    ghost use Rattle.mail_address.specs.Spelling.{unquoted_address};
+    ghost use Rattle.sieve_exec.specs.Joined.{address_joined, IsJoined};
 
     ghost Value = { Addr };
 
@@ -43,14 +43,14 @@ impl JoinedAddress {
 
     /// The number of its octets as `:all` compares it.
     pub(crate) fn len(&self) -> usize
-        ensures { result ≡ length (all_of self.now) }
+        ensures { result ≡ length (unquoted_address self.now) }
     {
         self.all.len()
     }
 
     /// A part of the address (RFC 5228, 2.7.4; RFC 5233, 4); `None` for the detail of a local part without `+`.
     pub(crate) fn part(&self, part: AddressPart) -> Option<&[u8]>
-        ensures { MatchOption result (part_of part self.now ≡ None) (λ text. part_of part self.now ≡ Some text.now) }
+        ensures { MatchOption result (address_part_of part self.now ≡ None) (λ text. address_part_of part self.now ≡ Some text.now) }
     {
         let all = self.all.as_slice();
         match part {

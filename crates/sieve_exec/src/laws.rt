@@ -1,32 +1,32 @@
 //! Laws of the definitions, each the contract of a function that does nothing.
 ghost use Rattle.std.specs.Prelude.{◌≡◌, ◌↔◌, ◌⊎◌, ℕ, List, [], Some, IsTrue, false};
 ghost use Rattle.std.specs.List.{list_all};
-ghost use Rattle.mailhead.specs.Fields.{is_name};
-ghost use Rattle.mailhead.specs.Heads.{fields_of, size_of};
-ghost use Rattle.mailfronts.specs.Fronts.{HasHeaderOf};
-ghost use Rattle.sievesyntax.specs.Before.{outcome_in, IsUnflaggedCheck};
-ghost use Rattle.sievesyntax.specs.Languages.{unflagged};
-ghost use Rattle.sievesyntax.specs.Means.{MeansIn};
-ghost use Rattle.sievesyntax.specs.RunState.{RunState};
-ghost use Rattle.sievesyntax.specs.Tree.{Commands};
-ghost use Rattle.sievesyntax.specs.Work.{within_work};
-ghost use Rattle.sievesyntax.specs.declared.tree.checks.Check.{Check};
-ghost use Rattle.sieveexec.specs.declared.envelope.Envelope.{Envelope};
-ghost use Rattle.sieveexec.specs.declared.when.When.{When};
-ghost use Rattle.sieveexec.specs.Mails.{MailSpec, mail_of, values_of, with_size};
-ghost use Rattle.sieveexec.specs.Outcomes.{outcome_at, work_of};
-ghost use Rattle.sieveexec.specs.Parts.{IsUser, IsDetail, user_of, detail_of, Cuts, local_of, domain_of};
-ghost use Rattle.sieveexec.specs.Holding.{TestHolds};
-ghost use Rattle.sieveexec.specs.Truth.{truth_at, truth_by};
+ghost use Rattle.mail_head.specs.Fields.{is_name};
+ghost use Rattle.mail_head.specs.Heads.{fields_of, size_of};
+ghost use Rattle.mail_head.specs.Prefixes.{IsHeaderPrefix};
+ghost use Rattle.sieve_syntax.specs.Before.{outcome_in, IsUnflaggedCheck};
+ghost use Rattle.sieve_syntax.specs.Languages.{unflagged};
+ghost use Rattle.sieve_syntax.specs.Means.{MeansIn};
+ghost use Rattle.sieve_syntax.specs.RunState.{RunState};
+ghost use Rattle.sieve_syntax.specs.Tree.{Commands};
+ghost use Rattle.sieve_syntax.specs.Work.{within_work};
+ghost use Rattle.sieve_syntax.specs.declared.tree.checks.MailCheck.{MailCheck};
+ghost use Rattle.sieve_exec.specs.declared.envelope.Envelope.{Envelope};
+ghost use Rattle.sieve_exec.specs.declared.when.When.{When};
+ghost use Rattle.sieve_exec.specs.Mails.{MailSpec, mail_spec_of, field_values, with_size};
+ghost use Rattle.sieve_exec.specs.Outcomes.{outcome_at, work_of};
+ghost use Rattle.sieve_exec.specs.Parts.{IsUser, IsDetail, user_of, detail_of, Cuts, local_of, domain_of};
+ghost use Rattle.sieve_exec.specs.Holding.{TestHolds};
+ghost use Rattle.sieve_exec.specs.Truth.{truth_at, truth_by};
 
 /// A test that looks at the message, its envelope or the flags is true exactly if it holds.
 pub fn truth_of_a_check()
-    ensures { (mail : MailSpec) (so_far : RunState) (check : Check) → IsTrue (truth_at mail so_far check) ↔ TestHolds mail so_far.flags check }
+    ensures { (mail : MailSpec) (so_far : RunState) (check : MailCheck) → IsTrue (truth_at mail so_far check) ↔ TestHolds mail so_far.flags check }
 {}
 
 /// A test that the language before `imap4flags` (RFC 5232) had doesn't look at the flags.
 pub fn truth_without_flags()
-    ensures { (mail : MailSpec) (one other : List (List ℕ)) (check : Check) → IsUnflaggedCheck check → truth_by mail one check ≡ truth_by mail other check }
+    ensures { (mail : MailSpec) (one other : List (List ℕ)) (check : MailCheck) → IsUnflaggedCheck check → truth_by mail one check ≡ truth_by mail other check }
 {}
 
 /// So a text that meant a tree in that language has on every mail the outcome that it had then, when tests looked only at the mail,
@@ -39,13 +39,13 @@ pub fn outcome_without_flags()
 /// The outcome of a script on a message depends only on the message's fields and its size.
 pub fn outcome_by_fields_and_size()
     ensures { (one other : List ℕ) (envelope : Envelope) (when : When) (tree : Commands) → fields_of one ≡ fields_of other → size_of one ≡ size_of other
-        → outcome_at (mail_of one envelope when) tree ≡ outcome_at (mail_of other envelope when) tree }
+        → outcome_at (mail_spec_of one envelope when) tree ≡ outcome_at (mail_spec_of other envelope when) tree }
 {}
 
 /// So its outcome is the same on a prefix of the message that has an empty line, given the message's size.
 pub fn outcome_of_a_front()
-    ensures { (front message : List ℕ) (envelope : Envelope) (when : When) (tree : Commands) → HasHeaderOf front message
-        → outcome_at (with_size (Some (size_of message)) (mail_of front envelope when)) tree ≡ outcome_at (mail_of message envelope when) tree }
+    ensures { (front message : List ℕ) (envelope : Envelope) (when : When) (tree : Commands) → IsHeaderPrefix front message
+        → outcome_at (with_size (Some (size_of message)) (mail_spec_of front envelope when)) tree ≡ outcome_at (mail_spec_of message envelope when) tree }
 {}
 
 /// An address of the envelope is cut in exactly one way.
@@ -64,5 +64,5 @@ pub fn parts_of_a_local_part()
 /// A name that can't be a field's name, since it is empty or has an octet that such a name can't have, names no field.
 pub fn invalid_names()
     ensures { (message : List ℕ) (envelope : Envelope) (when : When) (name : List ℕ) → (list_all is_name name ≡ false) ⊎ (name ≡ [])
-        → values_of (mail_of message envelope when) name ≡ [] }
+        → field_values (mail_spec_of message envelope when) name ≡ [] }
 {}

@@ -27,7 +27,7 @@ mod work;
 
 pub use cached_mail::CachedMail;
 pub use envelope::{Envelope, domain_in, local_in};
-pub use machine::run;
+pub use machine::run_code;
 pub use mail::Mail;
 pub use outcome::{Failure, Outcome};
 pub use run_state::INBOX;

@@ -1,6 +1,6 @@
 //! The parts of a local part: user and detail (RFC 5233, 4).
 ghost use Rattle.std.specs.Prelude.{◌≡◌, None, Some, MatchOption};
-ghost use Rattle.sieveexec.specs.Parts.{user_of, detail_of};
+ghost use Rattle.sieve_exec.specs.Parts.{user_of, detail_of};
 
 use memchr::memchr;
 

@@ -1,23 +1,23 @@
 //! The run of flat code.
 ghost use Rattle.std.specs.Prelude.{◌≡◌, ℕ, ◌<◌, ◌+◌, ◌^◌, Option, Some, length, IfOk, OnOk};
-ghost use Rattle.sieveexec.specs.Truth.{truth_at};
-ghost use Rattle.sieveexec.specs.Work.{IsPaid, work_at};
-ghost use Rattle.sieveexec.specs.Runs.{run_state_of, failure_view, outcome_view, after_turn, MovesOn};
-ghost use Rattle.sievesyntax.specs.RunState.{Going};
-ghost use Rattle.sievesyntax.specs.Meaning.{Failed, ended};
-ghost use Rattle.sievecode.specs.Instructions.{instr_view};
-ghost use Rattle.sievecode.specs.Jumps.{LeadsForward, Run, instr_work, jumps, turn as turn_of};
+ghost use Rattle.sieve_exec.specs.Truth.{truth_at};
+ghost use Rattle.sieve_exec.specs.Work.{IsPaid, work_at};
+ghost use Rattle.sieve_exec.specs.Runs.{run_state_of, failure_view, outcome_view, after_turn, MovesOn};
+ghost use Rattle.sieve_syntax.specs.RunState.{Going};
+ghost use Rattle.sieve_syntax.specs.Meaning.{Failed, outcome_after};
+ghost use Rattle.sieve_code.specs.Instructions.{instr_view};
+ghost use Rattle.sieve_code.specs.Jumps.{LeadsForward, Run, instr_work, jumps, turn as turn_of};
 
 use crate::cached_mail::CachedMail;
 use crate::mail::Mail;
 use crate::outcome::{Failure, Outcome};
 use crate::run_state::RunState;
 use crate::work::MAX_WORK;
-use sievecode::{Code, Instr};
+use sieve_code::{Code, Instr};
 use std::alloc::{AllocError, Global};
 
 /// What an instruction leads to.
-pub enum Turn {
+pub enum InstrOutcome {
     /// The run goes on at this place.
     Next(usize),
     /// The run is over.
@@ -28,7 +28,7 @@ pub enum Turn {
 
 /// What a run has looked at and done so far, with the flag that tests set.
 #[derive(Drop)]
-pub struct Machine<'m, 'a> {
+pub struct ScriptRun<'m, 'a> {
     cached: CachedMail<'m, 'a>,
     flag: bool,
     state: RunState,
@@ -45,11 +45,11 @@ pub struct Machine<'m, 'a> {
 /// # Errors
 ///
 /// [`AllocError`] if an allocation failed.
-pub fn run(alloc: Global, code: &Code<'_>, mail: &Mail<'_>) -> Result<Outcome, AllocError>
+pub fn run_code(alloc: Global, code: &Code<'_>, mail: &Mail<'_>) -> Result<Outcome, AllocError>
     ensures { IfOk result (λ done. Some (outcome_view done) ≡ jumps (truth_at mail.now) (work_at mail.now) code.now (length code.now)) }
 {
     let instrs = code.instrs();
-    let mut machine = Machine {
+    let mut machine = ScriptRun {
         cached: CachedMail::new(alloc, mail),
         flag: false,
         state: RunState::new(alloc),
@@ -63,18 +63,18 @@ pub fn run(alloc: Global, code: &Code<'_>, mail: &Mail<'_>) -> Result<Outcome, A
             return Ok(machine.fail(Failure::TooMuchWork));
         }
         match machine.turn(alloc, instr, place)? {
-            Turn::Next(next) => place = next,
-            Turn::Stopped => return machine.finish(alloc),
-            Turn::Failed(failure) => return Ok(machine.fail(failure)),
+            InstrOutcome::Next(next) => place = next,
+            InstrOutcome::Stopped => return machine.finish(alloc),
+            InstrOutcome::Failed(failure) => return Ok(machine.fail(failure)),
         }
     }
     machine.finish(alloc)
 }
 
-impl<'m, 'a> Machine<'m, 'a> {
+impl<'m, 'a> ScriptRun<'m, 'a> {
     /// The outcome of a run that is over.
     fn finish(self, alloc: Global) -> Result<Outcome, AllocError>
-        ensures { IfOk result (λ done. outcome_view done ≡ ended (Going (run_state_of self.entry.state))) }
+        ensures { IfOk result (λ done. outcome_view done ≡ outcome_after (Going (run_state_of self.entry.state))) }
     {
         self.state.finish(alloc)
     }
@@ -106,7 +106,7 @@ impl<'m, 'a> Machine<'m, 'a> {
     }
 
     /// One step: carries out the instruction at this place.
-    fn turn(&mut self, alloc: Global, instr: &Instr<'_>, place: usize) -> Result<Turn, AllocError>
+    fn turn(&mut self, alloc: Global, instr: &Instr<'_>, place: usize) -> Result<InstrOutcome, AllocError>
         requires { place + 1 < 2 ^ 64 }
         ensures turn { IfOk result (λ turn. (next : Run) →
             turn_of (truth_at self.old.cached) next (instr_view instr.now) place self.old.flag (run_state_of self.old.state)
@@ -122,18 +122,18 @@ impl<'m, 'a> Machine<'m, 'a> {
                 .cached
                 .evaluate(alloc, check, &self.state.flags)?,
             Instr::Flip => self.flag = !self.flag,
-            Instr::Jump(target) => return Ok(Turn::Next(*target)),
-            Instr::JumpIf(target) => return Ok(Turn::Next(if self.flag { *target } else { next })),
+            Instr::Jump(target) => return Ok(InstrOutcome::Next(*target)),
+            Instr::JumpIf(target) => return Ok(InstrOutcome::Next(if self.flag { *target } else { next })),
             Instr::JumpUnless(target) => {
-                return Ok(Turn::Next(if self.flag { next } else { *target }));
+                return Ok(InstrOutcome::Next(if self.flag { next } else { *target }));
             }
             Instr::Act(action) => {
                 if let Some(failure) = self.state.act(alloc, action)? {
-                    return Ok(Turn::Failed(failure));
+                    return Ok(InstrOutcome::Failed(failure));
                 }
             }
-            Instr::Stop => return Ok(Turn::Stopped),
+            Instr::Stop => return Ok(InstrOutcome::Stopped),
         }
-        Ok(Turn::Next(next))
+        Ok(InstrOutcome::Next(next))
     }
 }

@@ -1,16 +1,16 @@
 //! A message with its envelope and when it is delivered, as the tests of a script see it.
 ghost use Rattle.std.specs.Prelude.{◌≡◌, ℕ, List, [], ◌∷◌, Some, IfOk, MatchOption, unwrap_or, option_copied};
-ghost use Rattle.mailhead.specs.Fields.{texts_of};
-ghost use Rattle.maildates.specs.DateTimes.{IsZone};
-ghost use Rattle.sieveexec.specs.Mails.{mail_of, with_size};
-ghost use Rattle.sieveexec.specs.Indexes.{raws_keyed};
-ghost use Rattle.sieveexec.specs.Truth.{is_some_there, all_exist};
+ghost use Rattle.mail_head.specs.Fields.{field_texts_of};
+ghost use Rattle.mail_dates.specs.DateTimes.{IsZone};
+ghost use Rattle.sieve_exec.specs.Mails.{mail_spec_of, with_size};
+ghost use Rattle.sieve_exec.specs.Indexes.{raws_keyed};
+ghost use Rattle.sieve_exec.specs.Truth.{is_some_there, all_exist};
 
 use crate::envelope::Envelope;
 use crate::index::index_of;
 use crate::raw_values::RawValues;
 use crate::when::When;
-use mailhead::{Field, Head};
+use mail_head::{Field, Head};
 use octets::{Octets, lowered};
 use std::alloc::{AllocError, Global};
 use std::collections::BTreeMap;
@@ -28,13 +28,13 @@ pub struct Mail<'a> {
 }
 
 impl<'a> Model for Mail<'a> {
-    ghost use Rattle.mailhead.specs.Heads.{fields_of};
-    ghost use Rattle.sieveexec.specs.Mails.{MailSpec, mail_of, with_size};
-    ghost use Rattle.sieveexec.specs.Indexes.{IsIndex};
+    ghost use Rattle.mail_head.specs.Heads.{fields_of};
+    ghost use Rattle.sieve_exec.specs.Mails.{MailSpec, mail_spec_of, with_size};
+    ghost use Rattle.sieve_exec.specs.Indexes.{IsIndex};
 
     ghost Value = { MailSpec };
 
-    ghost view = { λ mail. with_size mail.counted (mail_of mail.head mail.envelope mail.when) };
+    ghost view = { λ mail. with_size mail.counted (mail_spec_of mail.head mail.envelope mail.when) };
 
     ghost invariant = { λ mail. IsIndex (fields_of mail.head) mail.index };
 }
@@ -50,7 +50,7 @@ impl<'a> Mail<'a> {
         envelope: Envelope,
         when: When,
     ) -> Result<Mail<'a>, AllocError>
-        ensures { IfOk result (λ mail. mail ≡ mail_of message.now envelope when) }
+        ensures { IfOk result (λ mail. mail ≡ mail_spec_of message.now envelope when) }
     {
         read_counted(alloc, message, envelope, when, None)
     }
@@ -59,21 +59,21 @@ impl<'a> Mail<'a> {
     ///
     /// If the prefix has an empty line, the outcome of a script on it is that on the message (`laws::outcome_of_a_front`). Otherwise
     /// like `read`.
-    pub fn read_front(
+    pub fn read_prefix(
         alloc: Global,
         front: &'a [u8],
         size: u64,
         envelope: Envelope,
         when: When,
     ) -> Result<Mail<'a>, AllocError>
-        ensures { IfOk result (λ mail. mail ≡ with_size (Some size) (mail_of front.now envelope when)) }
+        ensures { IfOk result (λ mail. mail ≡ with_size (Some size) (mail_spec_of front.now envelope when)) }
     {
         read_counted(alloc, front, envelope, when, Some(size))
     }
 
     /// The fields, in order.
     pub fn fields(&self) -> &[Field<'a>]
-        ensures { texts_of result.now ≡ self.now.fields }
+        ensures { field_texts_of result.now ≡ self.now.fields }
     {
         self.head.fields()
     }
@@ -172,7 +172,7 @@ fn read_counted(
     when: When,
     counted: Option<u64>,
 ) -> Result<Mail<'_>, AllocError>
-    ensures { IfOk result (λ mail. mail ≡ with_size counted (mail_of message.now envelope when)) }
+    ensures { IfOk result (λ mail. mail ≡ with_size counted (mail_spec_of message.now envelope when)) }
 {
     let head = Head::read(alloc, message)?;
     let index = index_of(alloc, head.fields())?;

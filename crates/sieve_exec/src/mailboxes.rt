@@ -2,9 +2,9 @@
 ghost use Rattle.std.specs.Prelude.{◌≡◌, nat_eq, OnOk};
 ghost use Rattle.std.specs.List.{position};
 ghost use Rattle.std.specs.Cmp.Lexicographic.{pointwise};
-ghost use Rattle.sievesyntax.specs.RunState.{is_filed as is_filed_in, has_room as has_room_for, with_filed};
+ghost use Rattle.sieve_syntax.specs.RunState.{is_filed as is_filed_in, has_room as has_room_for, with_filed};
 
-use mailflags::Placement;
+use mail_flags::Placement;
 use std::alloc::AllocError;
 
 /// The most mailboxes into which a run files a message, including that of the implicit keep. Each costs a row of the store and

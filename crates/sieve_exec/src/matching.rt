@@ -1,16 +1,14 @@
 //! Whether a value matches keys (RFC 5228, 2.7.1; RFC 5231).
 ghost use Rattle.std.specs.Prelude.{◌≡◌};
-ghost use Rattle.sieveexec.specs.Counts.{is_count};
-ghost use Rattle.sieveexec.specs.Matches.{relates, matches_by_image, matches_by_number, matches_key, matches_some};
-ghost use Rattle.sieveexec.specs.Truth.{count_matches};
+ghost use Rattle.sieve_exec.specs.Counts.{is_count};
+ghost use Rattle.sieve_exec.specs.Matches.{relates, matches_by_image, matches_by_number, matches_key, matches_some};
+ghost use Rattle.sieve_exec.specs.Truth.{count_matches};
 
-use collation::{
-    AsciiCasemap, Comparator, Octet, are_equal_numbers, compare, compare_numbers, contains, is,
-};
-use globmatch::matches;
+use sieve_match::{AsciiCasemap, Comparator, Octet, are_equal_numbers, compare, compare_numbers, contains, is};
+use sieve_match::matches;
 use itoa::Buffer;
 use octets::Octets;
-use sievesyntax::{Collation, Matching, Relation};
+use sieve_syntax::{Collation, Matching, Relation};
 use std::cmp::Ordering;
 
 /// Whether values are counted.

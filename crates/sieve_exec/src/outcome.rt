@@ -1,8 +1,8 @@
 //! The outcome of a script.
-use addrparts::Addr;
-use mailflags::Placement;
+use mail_address::Addr;
+use mail_flags::Placement;
 use octets::List;
-use sievesyntax::VacArgs;
+use sieve_syntax::VacationArgs;
 
 /// The outcome of a script on a message.
 #[derive(Drop)]
@@ -15,7 +15,7 @@ pub enum Outcome {
         /// The addresses that the message is sent to, each once, in the order of the first command that says so.
         sent: List<Addr>,
         /// The arguments of the `vacation` that was executed, if one was (RFC 5230).
-        reply: Option<VacArgs>,
+        reply: Option<VacationArgs>,
     },
     /// A run-time error: no action of the script is carried out (RFC 5228, 2.10.6).
     Failed(Failure),

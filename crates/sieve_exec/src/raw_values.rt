@@ -1,6 +1,6 @@
 //! The raw values of the fields with one name.
 ghost use Rattle.std.specs.Prelude.{◌≡◌, [], ◌∷◌, ◌++◌, map, not, OnOk};
-ghost use Rattle.sieveexec.specs.Truth.{is_some_there};
+ghost use Rattle.sieve_exec.specs.Truth.{is_some_there};
 
 use std::alloc::{AllocError, Global};
 use std::marker::Model;

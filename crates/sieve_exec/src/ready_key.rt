@@ -1,10 +1,10 @@
 //! A key that is compared with many values.
 ghost use Rattle.std.specs.Prelude.{◌≡◌, IfSome};
-ghost use Rattle.sieveexec.specs.Ready.{IsReady, key_of, matches_of};
+ghost use Rattle.sieve_exec.specs.Ready.{IsReady, key_spec_of, matches_of};
 
 use crate::matching::matches_key;
-use collation::{AsciiCasemap, Masks, Octet, contains_places, places_of};
-use sievesyntax::{Collation, Matching};
+use sieve_match::{AsciiCasemap, Masks, Octet, contains_places, places_of};
+use sieve_syntax::{Collation, Matching};
 use std::marker::Model;
 
 /// A key of a test, prepared to be compared with many values. Contracts see the key, and how it is compared.
@@ -19,11 +19,11 @@ pub(crate) struct ReadyKey<'k> {
 
 impl<'k> Model for ReadyKey<'k> {
     ghost use Rattle.std.specs.Prelude.{IfSome};
-    ghost use Rattle.sieveexec.specs.Ready.{IsReady, KeySpec, key_of};
+    ghost use Rattle.sieve_exec.specs.Ready.{IsReady, KeySpec, key_spec_of};
 
     ghost Value = { KeySpec };
 
-    ghost view = { λ ready. key_of ready.collation ready.matching ready.key.now };
+    ghost view = { λ ready. key_spec_of ready.collation ready.matching ready.key.now };
 
     ghost invariant = { λ ready. IfSome ready.places (λ places. IsReady ready.collation ready.matching ready.key.now places) };
 }
@@ -31,7 +31,7 @@ impl<'k> Model for ReadyKey<'k> {
 impl<'k> ReadyKey<'k> {
     /// Prepares a key. Linear in the key.
     pub(crate) fn new(collation: Collation, matching: Matching, key: &'k [u8]) -> ReadyKey<'k>
-        ensures { result ≡ key_of collation matching key.now }
+        ensures { result ≡ key_spec_of collation matching key.now }
     {
         ReadyKey {
             collation,

@@ -1,17 +1,17 @@
 //! What a run has done so far.
 ghost use Rattle.std.specs.Prelude.{◌≡◌, Bool, true, not, [], ◌∷◌, ◌++◌, None, IfOk};
 ghost use Rattle.std.specs.List.{list_any};
-ghost use Rattle.sievesyntax.specs.RunState.{performed, at_first, filed_into, flags_given as flags_given_of, mailbox_named as mailbox_of, same_target as same_target_of, sent_to, replied_by};
-ghost use Rattle.sievesyntax.specs.RunState.{Going};
-ghost use Rattle.sievesyntax.specs.Meaning.{ended};
+ghost use Rattle.sieve_syntax.specs.RunState.{performed, at_first, filed_into, flags_given as flags_given_of, mailbox_named as mailbox_of, same_target as same_target_of, sent_to, replied_by};
+ghost use Rattle.sieve_syntax.specs.RunState.{Going};
+ghost use Rattle.sieve_syntax.specs.Meaning.{outcome_after};
 
 use crate::copies::{copied_address, copied_args};
 use crate::mailboxes::{file, has_room};
 use crate::outcome::{Failure, Outcome};
-use addrparts::Addr;
-use mailflags::{Flags, Placement};
+use mail_address::Addr;
+use mail_flags::{Flags, Placement};
 use octets::{List, Octets, Texts};
-use sievesyntax::{Action, FileInto, Redirect, VacArgs};
+use sieve_syntax::{Action, FileInto, Redirect, VacationArgs};
 use std::alloc::{AllocError, Global};
 
 /// The mailbox of `keep`, of the implicit keep, and of a message that no script files.
@@ -31,13 +31,13 @@ pub struct RunState {
     /// The addresses that the message is sent to, each once, in the order of the first command that says so.
     pub sent: List<Addr>,
     /// The arguments of the `vacation` that was run, if one was.
-    pub reply: Option<VacArgs>,
+    pub reply: Option<VacationArgs>,
     /// Whether the implicit keep is cancelled.
     pub cancelled: bool,
 }
 
 impl RunState {
-    ghost use Rattle.sieveexec.specs.Runs.{run_state_of, flow_of, outcome_view};
+    ghost use Rattle.sieve_exec.specs.Runs.{run_state_of, flow_of, outcome_view};
 
     /// Nothing has been done yet. Takes no memory.
     pub(crate) fn new(alloc: Global) -> RunState
@@ -93,7 +93,7 @@ impl RunState {
 
     /// The outcome of a run that is over: the implicit keep comes last, with the flags that are set then.
     pub(crate) fn finish(mut self, alloc: Global) -> Result<Outcome, AllocError>
-        ensures { IfOk result (λ done. outcome_view done ≡ ended (Going (run_state_of self))) }
+        ensures { IfOk result (λ done. outcome_view done ≡ outcome_after (Going (run_state_of self))) }
     {
         if !self.cancelled {
             if let Some(failure) = self.file_into(alloc, INBOX, &None, true)? {
@@ -160,7 +160,7 @@ impl RunState {
         Ok(None)
     }
 
-    fn reply_by(&mut self, alloc: Global, args: &VacArgs) -> Result<Option<Failure>, AllocError>
+    fn reply_by(&mut self, alloc: Global, args: &VacationArgs) -> Result<Option<Failure>, AllocError>
         ensures { IfOk result (λ failed. flow_of failed (run_state_of self.new) ≡ replied_by args.now (run_state_of self.old)) }
     {
         if self.reply.is_some() {

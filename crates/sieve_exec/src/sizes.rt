@@ -1,7 +1,7 @@
 //! The sizes of what a test looks at.
 ghost use Rattle.std.specs.Prelude.{◌+◌, ◌^◌, ◌≤◌, ◌<◌};
 ghost use Rattle.std.specs.Option.{SomeIff};
-ghost use Rattle.sieveexec.specs.Work.{IsWithin, sizes_of, sizes_and};
+ghost use Rattle.sieve_exec.specs.Work.{AreSizesWithin, sizes_of, sizes_and};
 
 use octets::Octets;
 
@@ -26,7 +26,7 @@ impl Sizes {
         requires here { self.count ≤ self.octets }
         requires there { other.count ≤ other.octets }
         requires room { self.octets ≤ most }
-        ensures { IsWithin most (sizes_and self other) result }
+        ensures { AreSizesWithin most (sizes_and self other) result }
     {
         if most - self.octets < other.octets {
             return None;
@@ -41,7 +41,7 @@ impl Sizes {
     pub(crate) fn and_text(self, len: usize, most: u64) -> Option<Sizes>
         requires here { self.count ≤ self.octets }
         requires room { self.octets ≤ most }
-        ensures { IsWithin most (sizes_and self (record { octets = len + 8; count = 1 })) result }
+        ensures { AreSizesWithin most (sizes_and self (record { octets = len + 8; count = 1 })) result }
     {
         let octets = text_size(len)?;
         self.and(Sizes { octets, count: 1 }, most)
@@ -57,7 +57,7 @@ pub(crate) fn text_size(len: usize) -> Option<u64>
 
 /// The sizes of texts, or `None` if they have more than `most` octets. One pass over the list; takes no memory.
 pub(crate) fn sizes_in(texts: &[Octets], most: u64) -> Option<Sizes>
-    ensures { IsWithin most (sizes_of texts.now) result }
+    ensures { AreSizesWithin most (sizes_of texts.now) result }
 {
     let mut sizes = Sizes::NONE;
     for text in texts {

@@ -1,6 +1,6 @@
 //! When a message is delivered.
 ghost use Rattle.std.specs.Prelude.{◌≡◌, pos, IfSome, IfNone};
-ghost use Rattle.maildates.specs.DateTimes.{IsZone};
+ghost use Rattle.mail_dates.specs.DateTimes.{IsZone};
 
 /// When a message is delivered: a moment, and the zone of the host at that moment.
 #[derive(Debug, Clone, Copy)]

@@ -2,14 +2,14 @@
 ghost use Rattle.std.specs.Prelude.{◌≡◌, ◌<◌, ◌+◌, ◌*◌, ◌^◌, sum_by, count_by};
 ghost use Rattle.std.specs.List.{list_any};
 ghost use Rattle.std.specs.Option.{SomeIff};
-ghost use Rattle.sieveexec.specs.Work.{IsLeft, IsWithin, is_question, is_star, tried_work, paired as paired_of, starred as starred_of, contains_work, pattern_work, key_work, keys_work, names_work, compared as compared_by, values_work, text_size, texts_size, envelope_sizes as envelope_sizes_of, one_sizes as one_sizes_of};
+ghost use Rattle.sieve_exec.specs.Work.{IsLeft, AreSizesWithin, is_question, is_asterisk, tried_work, paired as paired_of, starred as starred_of, contains_work, pattern_work, key_work, keys_work, names_work, compared as compared_by, values_work, text_size, texts_size, envelope_sizes as envelope_sizes_of, one_sizes as one_sizes_of};
 
 use crate::mail::Mail;
 use crate::matching::is_count;
 use crate::sizes::{Sizes, text_size as size_of};
-use collation::MAX_PLACES;
+use sieve_match::MAX_PLACES;
 use octets::Octets;
-use sievesyntax::{EnvelopeParts, Matching};
+use sieve_syntax::{EnvelopeParts, Matching};
 
 /// How much work the tests of a run may take together. A unit is about one octet that is looked at or compared, and takes 0.3 ns of a
 /// processor in the mean of random runs, and 1.3 ns in the worst that was found (patterns with a `?` over one long value). So
@@ -174,7 +174,7 @@ fn spend_tried(left: u64, octets: u64, key: &[u8]) -> Option<u64>
 
 /// The number of stars.
 fn count_stars(key: &[u8]) -> u64
-    ensures { result ≡ count_by is_star key.now }
+    ensures { result ≡ count_by is_asterisk key.now }
 {
     let mut count = 0;
     for octet in key {
@@ -214,7 +214,7 @@ fn spend_words(left: u64, octets: u64, keys: &[Octets]) -> Option<u64>
 
 /// The sizes of the addresses of the envelope that a test names.
 pub(crate) fn envelope_sizes(mail: &Mail<'_>, parts: EnvelopeParts, most: u64) -> Option<Sizes>
-    ensures { IsWithin most (envelope_sizes_of mail.now parts) result }
+    ensures { AreSizesWithin most (envelope_sizes_of mail.now parts) result }
 {
     let sender = one_sizes(parts.from, mail.from(), most)?;
     let recipient = one_sizes(parts.to, mail.to(), most)?;
@@ -223,7 +223,7 @@ pub(crate) fn envelope_sizes(mail: &Mail<'_>, parts: EnvelopeParts, most: u64) -
 
 /// The sizes of an address, if it is asked for, otherwise of nothing.
 fn one_sizes(asked: bool, address: &[u8], most: u64) -> Option<Sizes>
-    ensures { IsWithin most (one_sizes_of asked address.now) result }
+    ensures { AreSizesWithin most (one_sizes_of asked address.now) result }
 {
     if !asked {
         return Some(Sizes::NONE);

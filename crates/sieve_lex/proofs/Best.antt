@@ -1,16 +1,16 @@
 -- The longest spelling at a front, and the token that it is.
 use Rattle.std.proofs.Common.{◌≡◌, ◌⊎◌, ℕ, ◌<◌, ◌≤◌, List, length, take, drop, subst, inl, inr, arith}
-use Rattle.sievelex.specs.declared.token.Content.{Content}
-use Rattle.sievelex.specs.declared.front.Front.{Front}
-use Rattle.sievelex.specs.Shape.{IsShape}
-use Rattle.sievelex.specs.Spelling.{IsToken, IsInRange, OpensText}
-use Rattle.sievelex.specs.Front.{IsFront}
+use Rattle.sieve_lex.specs.declared.token.Content.{Content}
+use Rattle.sieve_lex.specs.declared.front.Front.{Front}
+use Rattle.sieve_lex.specs.Shape.{IsTokenShape}
+use Rattle.sieve_lex.specs.Spelling.{IsToken, IsNumberInRange, OpensText}
+use Rattle.sieve_lex.specs.Front.{IsFront}
 
 -- the first n octets spell this, and whatever else a front spells is shorter
 pub record IsBest (octets : List ℕ) (v : Content) (n : ℕ) : Type 0 where
   pub within : n ≤ length octets
-  pub shape : IsShape v (take n octets) (drop n octets)
-  pub best : (v' : Content) (m : ℕ) → m ≤ length octets → IsShape v' (take m octets) (drop m octets) → (m < n) ⊎ ((m ≡ n) × (v' ≡ v))
+  pub shape : IsTokenShape v (take n octets) (drop n octets)
+  pub best : (v' : Content) (m : ℕ) → m ≤ length octets → IsTokenShape v' (take m octets) (drop m octets) → (m < n) ⊎ ((m ≡ n) × (v' ≡ v))
 
 -- any token at that front is this one
 pub best_only : (octets : List ℕ) (v : Content) (n : ℕ) → IsBest octets v n → (v' : Content) (m : ℕ) → IsToken octets v' m → (m ≡ n) × (v' ≡ v)
@@ -23,7 +23,7 @@ best_front octets f g b t =
     λ i. record { content = same.1 i; len = same.0 i }
 
 -- it is a token where its number is in range and no text of several lines is meant
-pub best_found : (octets : List ℕ) (f : Front) → IsBest octets f.content f.len → IsInRange f.content → (OpensText f.content (drop f.len octets) → ⊥) → IsFront octets f × ((g : Front) → IsFront octets g → g ≡ f)
+pub best_found : (octets : List ℕ) (f : Front) → IsBest octets f.content f.len → IsNumberInRange f.content → (OpensText f.content (drop f.len octets) → ⊥) → IsFront octets f × ((g : Front) → IsFront octets g → g ≡ f)
 best_found octets f b range bare = (
   record {
     within = b.within;
@@ -36,10 +36,10 @@ best_found octets f b range bare = (
 )
 
 -- where its number is too large there is no token
-pub best_too_large : (octets : List ℕ) (v : Content) (n : ℕ) → IsBest octets v n → (IsInRange v → ⊥) → (g : Front) → IsFront octets g → ⊥
+pub best_too_large : (octets : List ℕ) (v : Content) (n : ℕ) → IsBest octets v n → (IsNumberInRange v → ⊥) → (g : Front) → IsFront octets g → ⊥
 best_too_large octets v n b out g t =
     let same : (g.len ≡ n) × (g.content ≡ v) = best_only octets v n b _ _ t in
-    out (subst IsInRange same.1 t.in_range)
+    out (subst IsNumberInRange same.1 t.in_range)
 
 -- the one token at the front
 abbrev pub IsFound : List ℕ → Front → Type 0

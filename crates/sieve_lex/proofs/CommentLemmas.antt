@@ -3,13 +3,13 @@ use Rattle.std.proofs.Common.{◌≡◌, ℕ, zero, suc, ◌+◌, ◌<◌, ◌�
 use Rattle.std.proofs.lemmas.List.{drop_all}
 use Rattle.std.proofs.lemmas.Bool.{false_from_ne_true}
 use Rattle.memchr.specs.Find.{IsFirstByte, is_byte}
-use Rattle.sievelex.specs.declared.space.Place.TheVariants.{Between, Comment}
-use Rattle.sievelex.specs.Skip.{place_after, space_from}
+use Rattle.sieve_lex.specs.declared.space.SpaceState.TheVariants.{Between, Comment}
+use Rattle.sieve_lex.specs.Skip.{space_state_after, space_from}
 
-feed_ends : (b : ℕ) → (b == 10) ≡ true → place_after Comment b ≡ Between
+feed_ends : (b : ℕ) → (b == 10) ≡ true → space_state_after Comment b ≡ Between
 feed_ends b e = rw e refl
 
-other_stays : (b : ℕ) → (b == 10) ≡ false → place_after Comment b ≡ Comment
+other_stays : (b : ℕ) → (b == 10) ≡ false → space_state_after Comment b ≡ Comment
 other_stays b e = rw e refl
 
 -- the octets before the first line feed belong to it

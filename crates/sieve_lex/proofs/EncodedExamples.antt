@@ -2,7 +2,7 @@
 use Rattle.std.proofs.Common.{◌≡◌, [], ◌∷◌, ◌++◌, Some, None, refl}
 use Rattle.std.specs.Prelude.{codes}
 use Rattle.std.specs.Char.{encode_utf8}
-use Rattle.sievelex.specs.Encoded.{decoded}
+use Rattle.sieve_lex.specs.Encoded.{decoded}
 
 -- ---- the examples that stand there
 

@@ -1,20 +1,20 @@
 -- Examples of the definitions: a right one and a near miss each.
 use Rattle.std.proofs.Common.{◌≡◌, ℕ, [], ◌∷◌, ◌++◌, get_or, refl, ap, arith, lit<, lit≤}
 use Rattle.std.specs.Prelude.{codes}
-use Rattle.sievelex.specs.declared.token.Content.TheVariants.{Identifier, Number, Text}
-use Rattle.sievelex.specs.declared.front.Front.{Front}
-use Rattle.sievelex.specs.Shape.{IsQuotedString}
-use Rattle.sievelex.specs.Shape.Piece.{Plain, Escaped, BareLineEnd}
-use Rattle.sievelex.specs.Text.{IsText}
-use Rattle.sievelex.specs.Front.{IsFront}
-use Rattle.sievelex.specs.Spelling.{IsToken}
-use Rattle.sievelex.proofs.Best.{IsFound, best_only}
-use Rattle.sievelex.proofs.Named.{identifier_best, identifier_found}
-use Rattle.sievelex.proofs.Several.{several_found, several_none}
-use Rattle.sievelex.specs.Space.{IsGap, IsTail}
-use Rattle.sievelex.specs.Space.Space.{White, Bracketed}
-use Rattle.sievelex.proofs.Numbered.{number_found, number_none}
-use Rattle.sievelex.proofs.Strings.{string_none}
+use Rattle.sieve_lex.specs.declared.token.Content.TheVariants.{Identifier, Number, Text}
+use Rattle.sieve_lex.specs.declared.front.Front.{Front}
+use Rattle.sieve_lex.specs.Shape.{IsQuotedString}
+use Rattle.sieve_lex.specs.Shape.StringPiece.{Plain, Escaped, BareLineEnd}
+use Rattle.sieve_lex.specs.Text.{IsScriptText}
+use Rattle.sieve_lex.specs.Front.{IsFront}
+use Rattle.sieve_lex.specs.Spelling.{IsToken}
+use Rattle.sieve_lex.proofs.Best.{IsFound, best_only}
+use Rattle.sieve_lex.proofs.Named.{identifier_best, identifier_found}
+use Rattle.sieve_lex.proofs.Several.{several_found, several_none}
+use Rattle.sieve_lex.specs.Space.{IsGap, IsTail}
+use Rattle.sieve_lex.specs.Space.Space.{White, Bracketed}
+use Rattle.sieve_lex.proofs.Numbered.{number_found, number_none}
+use Rattle.sieve_lex.proofs.Strings.{string_none}
 
 -- `keep` begins `keep;`, and `kee` is no token there
 keep_found : IsFound (codes "keep;") (record { content = Identifier (codes "keep"); len = 4 })
@@ -70,5 +70,5 @@ apart : (a b : ℕ) → a ≡ 0 → b ≡ 10 → a ≡ b → ⊥
 apart a b p q e = omega arith
 
 -- a CR at the end is in no text
-lone_return : IsText (13 ∷ []) → ⊥
+lone_return : IsScriptText (13 ∷ []) → ⊥
 lone_return t = apart 0 10 refl refl (t.octets.no_lone_cr 0 refl)

@@ -1,7 +1,7 @@
 use Rattle.std.proofs.Common.{ℕ}
-use Rattle.sievelex.specs.declared.fault.ScriptError.{ScriptError}
-use Rattle.sievelex.specs.declared.fault.ScriptError.TheVariants.{Memory, Fault}
-use Rattle.sievelex.specs.Finding.{OnFault, OnFaultLine, on_line}
+use Rattle.sieve_lex.specs.declared.fault.ScriptError.{ScriptError}
+use Rattle.sieve_lex.specs.declared.fault.ScriptError.TheVariants.{Memory, Fault}
+use Rattle.sieve_lex.specs.Finding.{OnFault, OnFaultLine, on_line}
 
 -- what follows from what holds at a fault holds there too
 pub fault_on : (e : ScriptError) (P Q : Type 0) → (P → Q) → OnFault e P → OnFault e Q

@@ -5,18 +5,18 @@ use Rattle.std.proofs.lemmas.List.{append-nil, append_cancel_right, take-append-
 use Rattle.std.proofs.lemmas.Bool.{false_from_ne_true, ne_eqb}
 use Rattle.std.proofs.lemmas.Bool.Decides.{nat_tests}
 use Rattle.octets.specs.Ascii.{is_digit}
-use Rattle.sievelex.specs.declared.token.Content.{Content}
-use Rattle.sievelex.specs.declared.class.Class.TheVariants.{White as OfWhite}
-use Rattle.sievelex.specs.declared.space.Place.TheVariants.{Between}
-use Rattle.sievelex.specs.Class.{is_name_start, is_white, class_of}
-use Rattle.sievelex.specs.Shape.{IsShape}
-use Rattle.sievelex.specs.Space.{space_of, IsGap, IsTail}
-use Rattle.sievelex.specs.Skip.{begins_space, space_from}
-use Rattle.sievelex.proofs.Prefixes.{take_none, front_of}
-use Rattle.sievelex.proofs.Opening.{Opens, IsOpened, shape_opened, front_opened}
-use Rattle.sievelex.proofs.Opening.Opens.{Named, Worded, Numbered, Tagged, Quoted, Marked}
-use Rattle.sievelex.proofs.Marks.{none_opened}
-use Rattle.sievelex.proofs.Spaces.{IsSpaced, spaces_again, last_again, spaced}
+use Rattle.sieve_lex.specs.declared.token.Content.{Content}
+use Rattle.sieve_lex.specs.declared.class.Class.TheVariants.{White as OfWhite}
+use Rattle.sieve_lex.specs.declared.space.SpaceState.TheVariants.{Between}
+use Rattle.sieve_lex.specs.Class.{is_name_start, is_white, octet_class_of}
+use Rattle.sieve_lex.specs.Shape.{IsTokenShape}
+use Rattle.sieve_lex.specs.Space.{space_of, IsGap, IsTail}
+use Rattle.sieve_lex.specs.Skip.{begins_space, space_from}
+use Rattle.sieve_lex.proofs.Prefixes.{take_none, front_of}
+use Rattle.sieve_lex.proofs.Opening.{Opens, IsOpened, shape_opened, front_opened}
+use Rattle.sieve_lex.proofs.Opening.Opens.{Named, Worded, Numbered, Tagged, Quoted, Marked}
+use Rattle.sieve_lex.proofs.Marks.{none_opened}
+use Rattle.sieve_lex.proofs.Spaces.{IsSpaced, spaces_again, last_again, spaced}
 
 -- no white octet begins a name or a number
 white_no_start : (b : ℕ) → is_white b ≡ true → is_name_start b ≡ false
@@ -25,7 +25,7 @@ white_no_start b h = grind (arith, nat_tests)
 white_no_digit : (b : ℕ) → is_white b ≡ true → is_digit b ≡ false
 white_no_digit b h = grind (arith, nat_tests)
 
-class_white : (b : ℕ) → is_white b ≡ true → class_of b ≡ OfWhite
+class_white : (b : ℕ) → is_white b ≡ true → octet_class_of b ≡ OfWhite
 class_white b h =
     let unnamed : is_name_start b ≡ false = white_no_start b h in
     let unnumbered : is_digit b ≡ false = white_no_digit b h in
@@ -34,7 +34,7 @@ class_white b h =
 -- no token begins with a white octet
 opens_white : (b : ℕ) (v : Content) → is_white b ≡ true → Opens b v → ⊥
 opens_white b v h o =
-    let white : class_of b ≡ OfWhite = class_white b h in
+    let white : octet_class_of b ≡ OfWhite = class_white b h in
     elim o [
       | Named name s c ve ↦ (cc)
       | Worded value s c ve ↦ (cc)
@@ -66,12 +66,12 @@ token_ends : (b : ℕ) (more : List ℕ) (v : Content) → Opens b v → space_f
 token_ends b more v o = rw (opens_no_space b more v o) refl
 
 -- a spelling at the front of a text tells its first octet
-opened_text : (octets : List ℕ) (v : Content) (n : ℕ) (rest : List ℕ) → IsShape v (take n octets) rest → (b : ℕ) × ((more : List ℕ) × ((octets ≡ b ∷ more) × Opens b v))
+opened_text : (octets : List ℕ) (v : Content) (n : ℕ) (rest : List ℕ) → IsTokenShape v (take n octets) rest → (b : ℕ) × ((more : List ℕ) × ((octets ≡ b ∷ more) × Opens b v))
 opened_text [] v n rest s = let o : IsOpened v (take n []) = shape_opened v _ rest s in let e : [] ≡ o.first ∷ o.more = sym (take_none n) ∙ o.spelled in absurd (cc)
 opened_text (b ∷ more) v n rest s = (b, (more, (refl, (front_opened b more v n rest s).1)))
 
 -- after a gap before a token the token is what follows the white space
-pub gap_only : (octets : List ℕ) (u : ℕ) (v : Content) (n : ℕ) (rest : List ℕ) → IsGap (take u octets) → IsShape v (take n (drop u octets)) rest → space_from Between octets ≡ Some (drop u octets)
+pub gap_only : (octets : List ℕ) (u : ℕ) (v : Content) (n : ℕ) (rest : List ℕ) → IsGap (take u octets) → IsTokenShape v (take n (drop u octets)) rest → space_from Between octets ≡ Some (drop u octets)
 gap_only octets u v n rest g s =
     let o : (b : ℕ) × ((more : List ℕ) × ((drop u octets ≡ b ∷ more) × Opens b v)) = opened_text (drop u octets) v n rest s in
     let whole : octets ≡ flat_map space_of g.pieces ++ drop u octets = front_of octets _ u g.spelled in
@@ -107,12 +107,12 @@ tail_is octets rest h none =
     }
 
 -- and no token stands after it
-pub empty_none : (octets : List ℕ) (v : Content) (n : ℕ) (rest : List ℕ) → length octets ≡ 0 → IsShape v (take n octets) rest → ⊥
+pub empty_none : (octets : List ℕ) (v : Content) (n : ℕ) (rest : List ℕ) → length octets ≡ 0 → IsTokenShape v (take n octets) rest → ⊥
 empty_none octets v n rest e s =
     let o : (b : ℕ) × ((more : List ℕ) × ((octets ≡ b ∷ more) × Opens b v)) = opened_text octets v n rest s in
     omega (arith, ap length o.1.1.0)
 
 -- a spelling is not empty
-pub shape_some : (octets : List ℕ) (v : Content) (n : ℕ) (rest : List ℕ) → IsShape v (take n octets) rest → 0 < n
+pub shape_some : (octets : List ℕ) (v : Content) (n : ℕ) (rest : List ℕ) → IsTokenShape v (take n octets) rest → 0 < n
 shape_some octets v zero rest s = let o : IsOpened v [] = shape_opened v _ rest s in let e : [] ≡ o.first ∷ o.more = o.spelled in absurd (cc)
 shape_some octets v (suc n) rest s = omega arith

@@ -2,18 +2,18 @@
 use Rattle.std.proofs.Common.{◌≡◌, ◌⊎◌, ℕ, ◌+◌, ◌<◌, ◌≤◌, suc, zero, true, false, List, [], ◌∷◌, ◌++◌, length, take, drop, get_or, refl, ap, sym, ◌∙◌, subst, inl, inr, arith}
 use Rattle.std.specs.List.{list_all, flat_map, prefix_len}
 use Rattle.std.proofs.lemmas.List.Sums.{prefix_len-le-length}
-use Rattle.sievelex.specs.declared.token.Content.{Content}
-use Rattle.sievelex.specs.declared.token.Content.TheVariants.{Identifier, Tag, Text}
-use Rattle.sievelex.specs.declared.class.Class.TheVariants.{Letter}
-use Rattle.sievelex.specs.Class.{is_name_start, is_name_octet, class_of}
-use Rattle.sievelex.specs.Shape.{IsShape, IsName, IsQuotedString, spelling_of}
-use Rattle.sievelex.specs.Lines.{IsMultiline}
-use Rattle.sievelex.proofs.Worded.{word_is, word_opens, multi_word}
-use Rattle.sievelex.proofs.Prefixes.{at_most, all_prefix, prefix_all, one_more}
-use Rattle.sievelex.proofs.Opening.{Opens, front_opened, shape_at, class_start}
-use Rattle.sievelex.proofs.Opening.Opens.{Named, Worded, Numbered, Tagged, Quoted, Marked}
-use Rattle.sievelex.specs.Spelling.{OpensText}
-use Rattle.sievelex.proofs.Best.{IsBest, IsFound, best_found, found_at}
+use Rattle.sieve_lex.specs.declared.token.Content.{Content}
+use Rattle.sieve_lex.specs.declared.token.Content.TheVariants.{Identifier, Tag, Text}
+use Rattle.sieve_lex.specs.declared.class.Class.TheVariants.{Letter}
+use Rattle.sieve_lex.specs.Class.{is_name_start, is_name_octet, octet_class_of}
+use Rattle.sieve_lex.specs.Shape.{IsTokenShape, IsName, IsQuotedString, spelling_of}
+use Rattle.sieve_lex.specs.Lines.{IsMultiline}
+use Rattle.sieve_lex.proofs.Worded.{word_is, word_opens, multi_word}
+use Rattle.sieve_lex.proofs.Prefixes.{at_most, all_prefix, prefix_all, one_more}
+use Rattle.sieve_lex.proofs.Opening.{Opens, front_opened, shape_at, class_start}
+use Rattle.sieve_lex.proofs.Opening.Opens.{Named, Worded, Numbered, Tagged, Quoted, Marked}
+use Rattle.sieve_lex.specs.Spelling.{OpensText}
+use Rattle.sieve_lex.proofs.Best.{IsBest, IsFound, best_found, found_at}
 
 start_octet : (b : ℕ) → is_name_start b ≡ true → is_name_octet b ≡ true
 start_octet b h = rw h refl
@@ -37,7 +37,7 @@ name_bound octets m within h = all_prefix is_name_octet octets m within (name_oc
 -- where a letter stands first, only an identifier does, or a string of several lines
 only_named : (b : ℕ) (v : Content) → is_name_start b ≡ true → Opens b v → ((name : List ℕ) × (v ≡ Identifier name)) ⊎ ((value : List ℕ) × (v ≡ Text value))
 only_named b v h o =
-    let letter : class_of b ≡ Letter = class_start b h in
+    let letter : octet_class_of b ≡ Letter = class_start b h in
     elim o [
       | Named name s c ve ↦ inl (name, ve)
       | Worded value s c ve ↦ inr (value, ve)
@@ -62,12 +62,12 @@ pub data IsNamed (octets : List ℕ) (v : Content) (m : ℕ) : Type 0 where
   AName : v ≡ Identifier (take m octets) → IsName (take m octets) → IsNamed octets v m
   Several : (value : List ℕ) → v ≡ Text value → IsMultiline (take m octets) value (drop m octets) → IsNamed octets v m
 
-pub named_is : (octets : List ℕ) (v : Content) (m : ℕ) → is_name_start (get_or octets 0 0) ≡ true → IsShape v (take m octets) (drop m octets) → IsNamed octets v m
+pub named_is : (octets : List ℕ) (v : Content) (m : ℕ) → is_name_start (get_or octets 0 0) ≡ true → IsTokenShape v (take m octets) (drop m octets) → IsNamed octets v m
 named_is [] v m h s = absurd (cc)
 named_is (b ∷ more) v m h s = elim (only_named b v h (front_opened b more v m _ s).1) [
-  | inl n ↦ (let shape : IsShape (Identifier n.0) (take m (b ∷ more)) (drop m (b ∷ more)) = shape_at _ _ _ _ n.1 s in
+  | inl n ↦ (let shape : IsTokenShape (Identifier n.0) (take m (b ∷ more)) (drop m (b ∷ more)) = shape_at _ _ _ _ n.1 s in
       AName (n.1 ∙ ap Identifier (sym shape.0)) (subst IsName (sym shape.0) shape.1))
-  | inr n ↦ (let shape : IsShape (Text n.0) (take m (b ∷ more)) (drop m (b ∷ more)) = shape_at _ _ _ _ n.1 s in
+  | inr n ↦ (let shape : IsTokenShape (Text n.0) (take m (b ∷ more)) (drop m (b ∷ more)) = shape_at _ _ _ _ n.1 s in
       elim shape [ inl q ↦ absurd (unquoted b more n.0 m h q) | inr t ↦ Several n.0 n.1 t ])
 ]
 
@@ -99,14 +99,14 @@ only_tagged v o = elim o [
 ]
 
 -- a tag at the front has a name after its colon
-tag_name : (more : List ℕ) (v : Content) (m : ℕ) (rest : List ℕ) → IsShape v (take (suc m) (58 ∷ more)) rest → (v ≡ Tag (take m more)) × IsName (take m more)
+tag_name : (more : List ℕ) (v : Content) (m : ℕ) (rest : List ℕ) → IsTokenShape v (take (suc m) (58 ∷ more)) rest → (v ≡ Tag (take m more)) × IsName (take m more)
 tag_name more v m rest s =
     let tag : (name : List ℕ) × (v ≡ Tag name) = only_tagged v (front_opened 58 more v (suc m) rest s).1 in
-    let shape : IsShape (Tag tag.0) (58 ∷ take m more) rest = shape_at _ _ _ _ tag.1 s in
+    let shape : IsTokenShape (Tag tag.0) (58 ∷ take m more) rest = shape_at _ _ _ _ tag.1 s in
     let same : tag.0 ≡ take m more = cc (shape.0) in
     (tag.1 ∙ ap Tag same, subst IsName same shape.1)
 
-tag_bound : (more : List ℕ) (v : Content) (m : ℕ) → m ≤ length (58 ∷ more) → IsShape v (take m (58 ∷ more)) (drop m (58 ∷ more))
+tag_bound : (more : List ℕ) (v : Content) (m : ℕ) → m ≤ length (58 ∷ more) → IsTokenShape v (take m (58 ∷ more)) (drop m (58 ∷ more))
     → (m < 1 + prefix_len is_name_octet more) ⊎ ((m ≡ 1 + prefix_len is_name_octet more) × (v ≡ Tag (take (prefix_len is_name_octet more) more)))
 tag_bound more v zero within s = absurd (let p : 0 < 0 = (front_opened 58 more v zero _ s).0 in omega arith)
 tag_bound more v (suc m) within s =
@@ -128,7 +128,7 @@ no_name [] (suc m) h n = n
 no_name (b ∷ more) (suc m) h n = cc (n.0)
 
 -- a colon without a name after it is no token
-pub tag_none : (more : List ℕ) → is_name_start (get_or more 0 0) ≡ false → (v : Content) (m : ℕ) (rest : List ℕ) → IsShape v (take m (58 ∷ more)) rest → ⊥
+pub tag_none : (more : List ℕ) → is_name_start (get_or more 0 0) ≡ false → (v : Content) (m : ℕ) (rest : List ℕ) → IsTokenShape v (take m (58 ∷ more)) rest → ⊥
 tag_none more h v zero rest s = let p : 0 < 0 = (front_opened 58 more v zero _ s).0 in omega arith
 tag_none more h v (suc m) rest s = no_name more m h (tag_name more v m rest s).1
 

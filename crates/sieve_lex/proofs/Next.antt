@@ -4,18 +4,18 @@ use Rattle.std.proofs.lemmas.Bool.{cases_lt}
 use Rattle.std.proofs.lemmas.List.{length-drop, drop-drop, nil_from_length}
 use Rattle.std.proofs.lemmas.List.Sums.{sum_by-append}
 use Rattle.octets.proofs.Lists.{some_is}
-use Rattle.sievelex.specs.declared.space.Place.TheVariants.{Between}
-use Rattle.sievelex.specs.declared.token.Token.{Token}
-use Rattle.sievelex.specs.declared.front.Front.{Front}
-use Rattle.sievelex.specs.Text.{line_ends}
-use Rattle.sievelex.specs.Front.{IsFront}
-use Rattle.sievelex.specs.Space.{IsTail}
-use Rattle.sievelex.specs.Skip.{space_from}
-use Rattle.sievelex.specs.declared.scanner.Piece.{Piece}
-use Rattle.sievelex.specs.Spelling.{IsToken, IsNext, IsPlaced, SpellsFrom, placed}
-use Rattle.sievelex.specs.Shape.{IsShape}
-use Rattle.sievelex.proofs.Prefixes.{take_sum}
-use Rattle.sievelex.proofs.Gaps.{gap_is, gap_only, tail_is, tail_all, empty_none, shape_some}
+use Rattle.sieve_lex.specs.declared.space.SpaceState.TheVariants.{Between}
+use Rattle.sieve_lex.specs.declared.token.Token.{Token}
+use Rattle.sieve_lex.specs.declared.front.Front.{Front}
+use Rattle.sieve_lex.specs.Text.{line_ends}
+use Rattle.sieve_lex.specs.Front.{IsFront}
+use Rattle.sieve_lex.specs.Space.{IsTail}
+use Rattle.sieve_lex.specs.Skip.{space_from}
+use Rattle.sieve_lex.specs.declared.scanner.Piece.{Piece}
+use Rattle.sieve_lex.specs.Spelling.{IsToken, IsNextToken, IsPlaced, SpellsFrom, placed}
+use Rattle.sieve_lex.specs.Shape.{IsTokenShape}
+use Rattle.sieve_lex.proofs.Prefixes.{take_sum}
+use Rattle.sieve_lex.proofs.Gaps.{gap_is, gap_only, tail_is, tail_all, empty_none, shape_some}
 
 -- the lines up to the end of a gap
 pub lines_on : (text : List ℕ) (m n : ℕ) → line_ends (take (m + n) text) ≡ line_ends (take m text) + line_ends (take n (drop m text))
@@ -49,22 +49,22 @@ pub gap_line : (text ahead gap : List ℕ) (at start line feeds : ℕ) → at �
 gap_line text ahead gap at start line feeds order ae ge le fe = line_is text ahead gap at (start - at) line feeds ae ge le fe ∙ ap (λ i. 1 + line_ends (take i text)) (omega arith)
 
 -- the next token stands within the text
-pub next_inside : (text : List ℕ) (at : ℕ) (t : Token) → IsNext text at t → t.start < length text
+pub next_inside : (text : List ℕ) (at : ℕ) (t : Token) → IsNextToken text at t → t.start < length text
 next_inside text at t h = elim (cases_lt t.start (length text)) [
   | inl l ↦ l
   | inr ge ↦ absurd (empty_none (drop t.start text) t.content _ _ (omega (arith, length-drop t.start text)) h.token.shape)
 ]
 
 -- after the white space
-pub next_start : (text : List ℕ) (at : ℕ) (t : Token) → IsNext text at t → space_from Between (drop at text) ≡ Some (drop t.start text)
+pub next_start : (text : List ℕ) (at : ℕ) (t : Token) → IsNextToken text at t → space_from Between (drop at text) ≡ Some (drop t.start text)
 next_start text at t h =
     let ahead : at ≤ t.start = h.ahead in
     let n : ℕ = t.end - t.start in
     let same : drop t.start text ≡ drop (t.start - at) (drop at text) = ap (λ i. drop i text) (omega arith) ∙ sym (drop-drop (t.start - at) at text) in
-    let P : List ℕ → Type 0 = λ x. IsShape t.content (take n x) (drop n x) in
+    let P : List ℕ → Type 0 = λ x. IsTokenShape t.content (take n x) (drop n x) in
     gap_only (drop at text) (t.start - at) t.content n _ h.gap (subst P same h.token.shape) ∙ ap (λ x. Some x) (sym same)
 
-same_start : (text octets : List ℕ) (at start : ℕ) (t : Token) → IsAhead text at start octets → IsNext text at t → t.start ≡ start
+same_start : (text octets : List ℕ) (at start : ℕ) (t : Token) → IsAhead text at start octets → IsNextToken text at t → t.start ≡ start
 same_start text octets at start t a h =
     let inside : t.start < length text = next_inside text at t h in
     let within : start ≤ length text = a.inside in
@@ -72,7 +72,7 @@ same_start text octets at start t a h =
     omega (arith, ap length e, length-drop start text, length-drop t.start text)
 
 -- and it is not empty
-pub next_further : (text : List ℕ) (at : ℕ) (t : Token) → IsNext text at t → (at < t.end) × (t.end ≤ length text)
+pub next_further : (text : List ℕ) (at : ℕ) (t : Token) → IsNextToken text at t → (at < t.end) × (t.end ≤ length text)
 next_further text at t h =
     let some : 0 < t.end - t.start = shape_some (drop t.start text) t.content _ _ h.token.shape in
     let ahead : at ≤ t.start = h.ahead in
@@ -81,7 +81,7 @@ next_further text at t h =
     (omega arith, omega (arith, length-drop t.start text))
 
 pub next_found : (text octets : List ℕ) (at start line : ℕ) (f : Front) → IsAhead text at start octets → (length octets ≡ 0 → ⊥) → line ≡ 1 + line_ends (take start text) → IsFront octets f
-    → IsNext text at (record { content = f.content; start = start; end = start + f.len; line = line })
+    → IsNextToken text at (record { content = f.content; start = start; end = start + f.len; line = line })
 next_found text octets at start line f a some le h =
     let order : at ≤ start = a.order in
     let same : octets ≡ drop (start - at) (drop at text) = a.octets_are ∙ ap (λ i. drop i text) (omega arith) ∙ sym (drop-drop (start - at) at text) in
@@ -96,7 +96,7 @@ next_found text octets at start line f a some le h =
     }
 
 pub next_only : (text octets : List ℕ) (at start line : ℕ) (f : Front) → IsAhead text at start octets → line ≡ 1 + line_ends (take start text) → ((g : Front) → IsFront octets g → g ≡ f)
-    → (t : Token) → IsNext text at t → Some (record { content = f.content; start = start; end = start + f.len; line = line }) ≡ Some t
+    → (t : Token) → IsNextToken text at t → Some (record { content = f.content; start = start; end = start + f.len; line = line }) ≡ Some t
 next_only text octets at start line f a le only t h =
     let same : t.start ≡ start = same_start text octets at start t a h in
     let octets_are : drop t.start text ≡ octets = ap (λ i. drop i text) same ∙ sym a.octets_are in
@@ -114,7 +114,7 @@ pub next_empty : (text octets : List ℕ) (at start : ℕ) → IsAhead text at s
 next_empty text octets at start a e = tail_is (drop at text) octets a.skipped (nil_from_length octets e)
 
 -- after white space up to the end of the text no token comes
-pub tail_no_next : (text : List ℕ) (at : ℕ) (t : Token) → IsTail (drop at text) → IsNext text at t → ⊥
+pub tail_no_next : (text : List ℕ) (at : ℕ) (t : Token) → IsTail (drop at text) → IsNextToken text at t → ⊥
 tail_no_next text at t g h =
     let inside : t.start < length text = next_inside text at t h in
     let e : drop t.start text ≡ [] = some_is _ _ (sym (next_start text at t h) ∙ tail_all (drop at text) g) in
@@ -135,7 +135,7 @@ open_none text ahead at ae h [] g = let e : None ≡ Some [] = sym h ∙ ap (spa
 open_none text ahead at ae h (t ∷ ts) g = let e : None ≡ Some (drop t.start text) = sym h ∙ ap (space_from Between) ae ∙ next_start text at t g.0 in cc
 
 -- it stands at its place
-pub next_placed : (text : List ℕ) (at : ℕ) (t : Token) → IsNext text at t → (at < t.end) × IsPlaced text t
+pub next_placed : (text : List ℕ) (at : ℕ) (t : Token) → IsNextToken text at t → (at < t.end) × IsPlaced text t
 next_placed text at t h =
     let further : (at < t.end) × (t.end ≤ length text) = next_further text at t h in
     (further.0, record { forward = h.forward; inside = further.1; line = h.line })
@@ -150,6 +150,6 @@ line_after text rest spelled feeds t h re se fe =
     omega (arith, lines_on text t.start (t.end - t.start))
 
 -- a token with its line
-pub lined : (text : List ℕ) (at line : ℕ) (p : Piece) → line ≡ 1 + line_ends (take p.start text) → IsNext text at (placed text p)
-    → IsNext text at (record { content = p.content; start = p.start; end = p.end; line = line })
+pub lined : (text : List ℕ) (at line : ℕ) (p : Piece) → line ≡ 1 + line_ends (take p.start text) → IsNextToken text at (placed text p)
+    → IsNextToken text at (record { content = p.content; start = p.start; end = p.end; line = line })
 lined text at line p le h = record { ahead = h.ahead; gap = h.gap; forward = h.forward; token = h.token; line = le }

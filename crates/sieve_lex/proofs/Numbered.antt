@@ -7,18 +7,18 @@ use Rattle.std.proofs.lemmas.Bool.Decides.{nat_tests}
 use Rattle.octets.specs.Ascii.{is_digit}
 use Rattle.octets.specs.Decimal.{number_of}
 use Rattle.octets.proofs.Lists.{some_is}
-use Rattle.sievelex.specs.declared.front.Front.{Front}
-use Rattle.sievelex.specs.declared.token.Content.{Content}
-use Rattle.sievelex.specs.declared.token.Content.TheVariants.{Number}
-use Rattle.sievelex.specs.declared.class.Class.TheVariants.{Digit}
-use Rattle.sievelex.specs.Class.{class_of}
-use Rattle.sievelex.specs.Shape.{IsShape, IsNumber, factor_of}
-use Rattle.sievelex.specs.Digits.{letter_len}
-use Rattle.sievelex.specs.Front.{IsFront}
-use Rattle.sievelex.proofs.Prefixes.{one_more, at_most, all_prefix, prefix_all, prefix_len-passed, front_of, take_sum}
-use Rattle.sievelex.proofs.Opening.{Opens, front_opened, shape_at, class_digit}
-use Rattle.sievelex.proofs.Opening.Opens.{Named, Worded, Numbered, Tagged, Quoted, Marked}
-use Rattle.sievelex.proofs.Best.{IsBest, IsFound, best_found, best_too_large, found_at}
+use Rattle.sieve_lex.specs.declared.front.Front.{Front}
+use Rattle.sieve_lex.specs.declared.token.Content.{Content}
+use Rattle.sieve_lex.specs.declared.token.Content.TheVariants.{Number}
+use Rattle.sieve_lex.specs.declared.class.Class.TheVariants.{Digit}
+use Rattle.sieve_lex.specs.Class.{octet_class_of}
+use Rattle.sieve_lex.specs.Shape.{IsTokenShape, IsNumberText, factor_of}
+use Rattle.sieve_lex.specs.Digits.{letter_len}
+use Rattle.sieve_lex.specs.Front.{IsFront}
+use Rattle.sieve_lex.proofs.Prefixes.{one_more, at_most, all_prefix, prefix_all, prefix_len-passed, front_of, take_sum}
+use Rattle.sieve_lex.proofs.Opening.{Opens, front_opened, shape_at, class_digit}
+use Rattle.sieve_lex.proofs.Opening.Opens.{Named, Worded, Numbered, Tagged, Quoted, Marked}
+use Rattle.sieve_lex.proofs.Best.{IsBest, IsFound, best_found, best_too_large, found_at}
 
 -- no multiplier is a digit
 pub letter_no_digit : (c f : ℕ) → factor_of (c ∷ []) ≡ Some f → is_digit c ≡ false
@@ -27,7 +27,7 @@ letter_no_digit c f h = grind (arith, nat_tests)
 -- where a digit stands first, only a number does
 only_numbered : (b : ℕ) (v : Content) → is_digit b ≡ true → Opens b v → (n : ℕ) × (v ≡ Number n)
 only_numbered b v h o =
-    let digit : class_of b ≡ Digit = class_digit b h in
+    let digit : octet_class_of b ≡ Digit = class_digit b h in
     elim o [
       | Named name s c ve ↦ absurd (cc)
       | Worded value s c ve ↦ absurd (cc)
@@ -100,7 +100,7 @@ some_digits [] h e = cc
 some_digits (b ∷ more) h e = let s : b ∷ take (prefix_len is_digit more) more ≡ [] = rw (h, one_more (prefix_len is_digit more)) at e in cc
 
 -- where a digit stands first the spelling is a number's
-number_spelled : (octets : List ℕ) (v : Content) (m : ℕ) → is_digit (get_or octets 0 0) ≡ true → IsShape v (take m octets) (drop m octets) → (n : ℕ) × ((v ≡ Number n) × IsNumber (take m octets) n)
+number_spelled : (octets : List ℕ) (v : Content) (m : ℕ) → is_digit (get_or octets 0 0) ≡ true → IsTokenShape v (take m octets) (drop m octets) → (n : ℕ) × ((v ≡ Number n) × IsNumberText (take m octets) n)
 number_spelled [] v m h s = absurd (cc)
 number_spelled (b ∷ more) v m h s =
     let number : (n : ℕ) × (v ≡ Number n) = only_numbered b v h (front_opened b more v m _ s).1 in
@@ -122,8 +122,8 @@ number_best octets factor h hf w = record {
     valued = refl;
   };
   best = λ v m within s.
-      let t : (n : ℕ) × ((v ≡ Number n) × IsNumber (take m octets) n) = number_spelled octets v m h s in
-      let n : IsNumber (take m octets) t.0 = t.1.1 in
+      let t : (n : ℕ) × ((v ≡ Number n) × IsNumberText (take m octets) n) = number_spelled octets v m h s in
+      let n : IsNumberText (take m octets) t.0 = t.1.1 in
       elim (number_bound octets factor m t.0 hf within n.digits n.letter n.factor n.spelled n.decimal n.scaled n.valued) [
         | inl less ↦ inl less
         | inr same ↦ inr (same.0, t.1.0 ∙ ap Number same.1)

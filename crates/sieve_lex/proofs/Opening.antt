@@ -5,34 +5,34 @@ use Rattle.std.specs.Prelude.{codes}
 use Rattle.std.specs.Char.{to_ascii_lowercase}
 use Rattle.std.proofs.lemmas.Bool.Decides.{nat_tests}
 use Rattle.octets.specs.Ascii.{is_digit, lowered}
-use Rattle.sievelex.specs.declared.token.Content.{Content}
-use Rattle.sievelex.specs.declared.token.Content.TheVariants.{Identifier, Tag, Number, Text}
-use Rattle.sievelex.specs.declared.token.Content.TheVariants as C
-use Rattle.sievelex.specs.declared.token.Mark.{Mark}
-use Rattle.sievelex.specs.declared.class.Class.TheVariants.{Letter, Digit, Colon, Quote}
-use Rattle.sievelex.specs.declared.class.Class.TheVariants as Class
-use Rattle.sievelex.specs.Class.{is_name_start, class_of}
-use Rattle.sievelex.specs.Shape.{IsShape, IsQuotedString, spelling_of}
-use Rattle.sievelex.proofs.Prefixes.{both}
+use Rattle.sieve_lex.specs.declared.token.Content.{Content}
+use Rattle.sieve_lex.specs.declared.token.Content.TheVariants.{Identifier, Tag, Number, Text}
+use Rattle.sieve_lex.specs.declared.token.Content.TheVariants as C
+use Rattle.sieve_lex.specs.declared.token.Mark.{Mark}
+use Rattle.sieve_lex.specs.declared.class.Class.TheVariants.{Letter, Digit, Colon, Quote}
+use Rattle.sieve_lex.specs.declared.class.Class.TheVariants as Class
+use Rattle.sieve_lex.specs.Class.{is_name_start, octet_class_of}
+use Rattle.sieve_lex.specs.Shape.{IsTokenShape, IsQuotedString, spelling_of}
+use Rattle.sieve_lex.proofs.Prefixes.{both}
 
 -- no digit begins a name
 pub digit_no_start : (b : ℕ) → is_digit b ≡ true → is_name_start b ≡ false
 digit_no_start b h = grind (arith, nat_tests)
 
-pub class_start : (b : ℕ) → is_name_start b ≡ true → class_of b ≡ Letter
+pub class_start : (b : ℕ) → is_name_start b ≡ true → octet_class_of b ≡ Letter
 class_start b h = rw h refl
 
-pub class_digit : (b : ℕ) → is_digit b ≡ true → class_of b ≡ Digit
+pub class_digit : (b : ℕ) → is_digit b ≡ true → octet_class_of b ≡ Digit
 class_digit b h = let no : is_name_start b ≡ false = digit_no_start b h in rw (no, h) refl
 
 -- what stands where this octet begins a token
 pub data Opens (b : ℕ) (v : Content) : Type 0 where
-  Named : (name : List ℕ) → is_name_start b ≡ true → class_of b ≡ Letter → v ≡ Identifier name → Opens b v
-  Numbered : (n : ℕ) → is_digit b ≡ true → class_of b ≡ Digit → v ≡ Number n → Opens b v
-  Tagged : (name : List ℕ) → b ≡ 58 → class_of b ≡ Colon → v ≡ Tag name → Opens b v
-  Worded : (value : List ℕ) → is_name_start b ≡ true → class_of b ≡ Letter → v ≡ Text value → Opens b v
-  Quoted : (value : List ℕ) → b ≡ 34 → class_of b ≡ Quote → v ≡ Text value → Opens b v
-  Marked : (mark : Mark) → class_of b ≡ Class.Mark mark → v ≡ C.Mark mark → Opens b v
+  Named : (name : List ℕ) → is_name_start b ≡ true → octet_class_of b ≡ Letter → v ≡ Identifier name → Opens b v
+  Numbered : (n : ℕ) → is_digit b ≡ true → octet_class_of b ≡ Digit → v ≡ Number n → Opens b v
+  Tagged : (name : List ℕ) → b ≡ 58 → octet_class_of b ≡ Colon → v ≡ Tag name → Opens b v
+  Worded : (value : List ℕ) → is_name_start b ≡ true → octet_class_of b ≡ Letter → v ≡ Text value → Opens b v
+  Quoted : (value : List ℕ) → b ≡ 34 → octet_class_of b ≡ Quote → v ≡ Text value → Opens b v
+  Marked : (mark : Mark) → octet_class_of b ≡ Class.Mark mark → v ≡ C.Mark mark → Opens b v
 
 -- a spelling is not empty, and its first octet tells what it is
 pub record IsOpened (v : Content) (s : List ℕ) : Type 0 where
@@ -71,12 +71,12 @@ quote_no_word (b ∷ word) tail s h e =
     cc
 
 -- where a quotation mark stands first a string is a quoted one
-pub quoted_shape : (value s rest : List ℕ) → IsShape (Text value) (34 ∷ s) rest → IsQuotedString (34 ∷ s) value
+pub quoted_shape : (value s rest : List ℕ) → IsTokenShape (Text value) (34 ∷ s) rest → IsQuotedString (34 ∷ s) value
 quoted_shape value s rest (inl q) = q
 quoted_shape value s rest (inr m) =
     absurd (quote_no_word m.word _ s m.named m.spelled)
 
-pub shape_opened : (v : Content) (s rest : List ℕ) → IsShape v s rest → IsOpened v s
+pub shape_opened : (v : Content) (s rest : List ℕ) → IsTokenShape v s rest → IsOpened v s
 shape_opened (C.Mark mark) s rest h = record { first = h.0; more = []; spelled = h.1.1; opens = Marked mark h.1.0 refl }
 shape_opened (Identifier []) s rest h = absurd h.1
 shape_opened (Identifier (b ∷ name)) s rest h = record { first = b; more = name; spelled = h.0; opens = Named (b ∷ name) h.1.0 (class_start b h.1.0) refl }
@@ -88,7 +88,7 @@ shape_opened (Text value) s rest h = elim h [
 shape_opened (Number n) s rest h = number_opened s n h.digits h.letter h.spelled h.present h.decimal
 
 -- the same of a front of a text
-pub front_opened : (b : ℕ) (more : List ℕ) (v : Content) (m : ℕ) (rest : List ℕ) → IsShape v (take m (b ∷ more)) rest → (0 < m) × Opens b v
+pub front_opened : (b : ℕ) (more : List ℕ) (v : Content) (m : ℕ) (rest : List ℕ) → IsTokenShape v (take m (b ∷ more)) rest → (0 < m) × Opens b v
 front_opened b more v zero rest h = let o : IsOpened v [] = shape_opened v _ rest h in absurd (let e : [] ≡ o.first ∷ o.more = o.spelled in cc)
 front_opened b more v (suc m) rest h =
     let o : IsOpened v (b ∷ take m more) = shape_opened v _ rest h in
@@ -98,7 +98,7 @@ front_opened b more v (suc m) rest h =
     (omega arith, subst P same o.opens)
 
 -- a shape whose content is known
-pub shape_at : (v w : Content) (s rest : List ℕ) → v ≡ w → IsShape v s rest → IsShape w s rest
+pub shape_at : (v w : Content) (s rest : List ℕ) → v ≡ w → IsTokenShape v s rest → IsTokenShape w s rest
 shape_at v w s rest e h =
-    let P : Content → Type 0 = λ x. IsShape x s rest in
+    let P : Content → Type 0 = λ x. IsTokenShape x s rest in
     subst P e h

@@ -1,11 +1,11 @@
 -- Packed tokens.
 use Rattle.std.proofs.Common.{◌≡◌, ℕ, List, [], ◌∷◌, ◌++◌, length, take, drop, ap, sym, ◌∙◌, append-nil, refl, slice_index, arith}
-use Rattle.sievelex.specs.declared.token.Content.{Content}
-use Rattle.sievelex.specs.declared.packed.PackedKind.{PackedKind}
-use Rattle.sievelex.specs.declared.packed.PackedKind.TheVariants as K
-use Rattle.sievelex.specs.declared.packed.Packed.{Packed}
-use Rattle.sievelex.specs.Unpacked.{unpacked}
-use Rattle.sievelex.specs.Contents.{contents, HoldsContents}
+use Rattle.sieve_lex.specs.declared.token.Content.{Content}
+use Rattle.sieve_lex.specs.declared.packed.PackedKind.{PackedKind}
+use Rattle.sieve_lex.specs.declared.packed.PackedKind.TheVariants as K
+use Rattle.sieve_lex.specs.declared.packed.Packed.{Packed}
+use Rattle.sieve_lex.specs.Unpacked.{unpacked}
+use Rattle.sieve_lex.specs.Contents.{contents, HoldsContents}
 
 -- a kind whose tokens say octets: a number tells how many
 record SaysOctets (kind : PackedKind) (content : List ℕ → Content) : Type 0 where

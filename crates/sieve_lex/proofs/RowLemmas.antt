@@ -4,11 +4,11 @@ use Rattle.std.specs.Prelude.{IsTrue}
 use Rattle.std.specs.List.{list_all, flat_map}
 use Rattle.std.proofs.lemmas.Grind.{common_steps}
 use Rattle.std.proofs.lemmas.List.{append-nil}
-use Rattle.sievelex.specs.Class.{is_white}
-use Rattle.sievelex.specs.Encoded.{is_hex, is_inner, ended, words_from}
-use Rattle.sievelex.specs.Rows.{Numeral, IsNumeral, AreNumerals, numeral_spelling, IsRow}
-use Rattle.sievelex.proofs.EncodedLemmas.{words_digit, words_white}
-use Rattle.sievelex.proofs.Prefixes.{both}
+use Rattle.sieve_lex.specs.Class.{is_white}
+use Rattle.sieve_lex.specs.Encoded.{is_hex, is_inner, nonempty_word, words_from}
+use Rattle.sieve_lex.specs.Rows.{Numeral, IsNumeral, AreNumerals, numeral_spelling, AreNumeralWords}
+use Rattle.sieve_lex.proofs.EncodedLemmas.{words_digit, words_white}
+use Rattle.sieve_lex.proofs.Prefixes.{both}
 
 pub hex_not_white : (b : ℕ) → is_hex b ≡ true → is_white b ≡ false
 hex_not_white b is = grind (arith, common_steps)
@@ -34,11 +34,11 @@ blanks_read : (blanks rest : List ℕ) → list_all is_white blanks ≡ true →
 blanks_read [] rest all = refl
 blanks_read (b ∷ more) rest all = let parts = both _ _ all in words_white [] b (more ++ rest) parts.0 ∙ blanks_read more rest parts.1
 
-word_read : (word blanks rest : List ℕ) → blanks ≢ [] → list_all is_white blanks ≡ true → words_from word (blanks ++ rest) ≡ ended word ++ words_from [] rest
+word_read : (word blanks rest : List ℕ) → blanks ≢ [] → list_all is_white blanks ≡ true → words_from word (blanks ++ rest) ≡ nonempty_word word ++ words_from [] rest
 word_read word [] rest some all = absurd (some refl)
-word_read word (b ∷ more) rest some all = let parts = both _ _ all in words_white word b (more ++ rest) parts.0 ∙ ap (λ ws. ended word ++ ws) (blanks_read more rest parts.1)
+word_read word (b ∷ more) rest some all = let parts = both _ _ all in words_white word b (more ++ rest) parts.0 ∙ ap (λ ws. nonempty_word word ++ ws) (blanks_read more rest parts.1)
 
-ended_word : (word : List ℕ) → word ≢ [] → ended word ≡ word ∷ []
+ended_word : (word : List ℕ) → word ≢ [] → nonempty_word word ≡ word ∷ []
 ended_word [] some = absurd (some refl)
 ended_word (b ∷ word) some = refl
 
@@ -46,7 +46,7 @@ last_read : (word blanks : List ℕ) → word ≢ [] → list_all is_white blank
 last_read word [] some all = ended_word word some
 last_read word (b ∷ more) some all =
     let parts = both _ _ all in
-    words_white word b (more ++ []) parts.0 ∙ ap (λ ws. ended word ++ ws) (blanks_read more [] parts.1) ∙ append-nil (ended word) ∙ ended_word word some
+    words_white word b (more ++ []) parts.0 ∙ ap (λ ws. nonempty_word word ++ ws) (blanks_read more [] parts.1) ∙ append-nil (nonempty_word word) ∙ ended_word word some
 
 numerals_read : (numerals : List Numeral) → AreNumerals numerals → words_from [] (flat_map numeral_spelling numerals) ≡ map (λ n. n.word) numerals
 numerals_read [] are = refl
@@ -57,7 +57,7 @@ numerals_read (n ∷ (next ∷ more)) (is, (parted, others)) =
     ap (words_from []) (append_assoc n.word n.blanks rest) ∙ digits_read [] n.word (n.blanks ++ rest) is.digits ∙ word_read n.word n.blanks rest parted is.white
     ∙ ap (λ ws. ws ++ words_from [] rest) (ended_word n.word is.some) ∙ ap (λ ws. n.word ∷ ws) (numerals_read (next ∷ more) others)
 
-pub row_words : (s : List ℕ) (words : List (List ℕ)) → IsRow s words → words_from [] s ≡ words
+pub row_words : (s : List ℕ) (words : List (List ℕ)) → AreNumeralWords s words → words_from [] s ≡ words
 row_words s words row =
     ap (words_from []) row.spelled ∙ blanks_read row.lead (flat_map numeral_spelling row.numerals) row.blank ∙ numerals_read row.numerals row.each ∙ sym row.named
 
@@ -68,7 +68,7 @@ with_numeral n [] is parted are = is
 with_numeral n (next ∷ more) is parted are = (is, (parted, are))
 
 -- a word that has ended, and blanks
-ends : (word : List ℕ) (b : ℕ) (s : List ℕ) → list_all is_hex word ≡ true → is_white b ≡ true → IsRow s (words_from [] s) → IsRow (word ++ b ∷ s) (ended word ++ words_from [] s)
+ends : (word : List ℕ) (b : ℕ) (s : List ℕ) → list_all is_hex word ≡ true → is_white b ≡ true → AreNumeralWords s (words_from [] s) → AreNumeralWords (word ++ b ∷ s) (nonempty_word word ++ words_from [] s)
 ends [] b s digits white row = record {
   lead = b ∷ row.lead;
   numerals = row.numerals;
@@ -94,14 +94,14 @@ all_hex (d ∷ word) b all is = let parts = both _ _ all in and_true _ _ parts.0
 
 -- one octet more, where the rest is so after any digits
 more : (word : List ℕ) (b : ℕ) (s : List ℕ) (white : Bool) → is_white b ≡ white → list_all is_hex word ≡ true → is_inner b ≡ true
-    → ((w : List ℕ) → list_all is_hex w ≡ true → IsRow (w ++ s) (words_from w s)) → IsRow (word ++ b ∷ s) (words_from word (b ∷ s))
-more word b s true white digits inner rest = subst (IsRow (word ++ b ∷ s)) (sym (words_white word b s white)) (ends word b s digits white (rest [] refl))
+    → ((w : List ℕ) → list_all is_hex w ≡ true → AreNumeralWords (w ++ s) (words_from w s)) → AreNumeralWords (word ++ b ∷ s) (words_from word (b ∷ s))
+more word b s true white digits inner rest = subst (AreNumeralWords (word ++ b ∷ s)) (sym (words_white word b s white)) (ends word b s digits white (rest [] refl))
 more word b s false white digits inner rest =
     let hex = inner_is (is_hex b) (is_white b) inner white in
-    subst (λ l. IsRow l (words_from word (b ∷ s))) (append_assoc word (b ∷ []) s)
-    (subst (IsRow ((word ++ b ∷ []) ++ s)) (sym (words_digit word b s white)) (rest (word ++ b ∷ []) (all_hex word b digits hex)))
+    subst (λ l. AreNumeralWords l (words_from word (b ∷ s))) (append_assoc word (b ∷ []) s)
+    (subst (AreNumeralWords ((word ++ b ∷ []) ++ s)) (sym (words_digit word b s white)) (rest (word ++ b ∷ []) (all_hex word b digits hex)))
 
-row_of : (word s : List ℕ) → list_all is_hex word ≡ true → list_all is_inner s ≡ true → IsRow (word ++ s) (words_from word s)
+row_of : (word s : List ℕ) → list_all is_hex word ≡ true → list_all is_inner s ≡ true → AreNumeralWords (word ++ s) (words_from word s)
 row_of [] [] digits inner = record { lead = []; numerals = []; blank = refl; each = tt; spelled = refl; named = refl }
 row_of (d ∷ word) [] digits inner = record {
   lead = [];
@@ -113,5 +113,5 @@ row_of (d ∷ word) [] digits inner = record {
 }
 row_of word (b ∷ s) digits inner = let parts = both _ _ inner in more word b s (is_white b) refl digits parts.0 (λ w all. row_of w s all parts.1)
 
-pub words_are : (s : List ℕ) (words : List (List ℕ)) → IsTrue (list_all is_inner s) → (words_from [] s ≡ words) ↔ IsRow s words
-words_are s words inner = (λ same. subst (IsRow s) same (row_of [] s refl inner), row_words s words)
+pub words_are : (s : List ℕ) (words : List (List ℕ)) → IsTrue (list_all is_inner s) → (words_from [] s ≡ words) ↔ AreNumeralWords s words
+words_are s words inner = (λ same. subst (AreNumeralWords s) same (row_of [] s refl inner), row_words s words)

@@ -11,14 +11,14 @@ use Rattle.std.proofs.Math.ListN.{get_or-eq_default}
 use Rattle.std.proofs.lemmas.List.Folds.{list_all-append, list_any-append}
 use Rattle.std.proofs.lemmas.Grind.{common_steps}
 use Rattle.octets.specs.Ascii.{lowered}
-use Rattle.sievelex.specs.declared.encoded.Coding.{Coding}
-use Rattle.sievelex.specs.declared.encoded.Coding.TheVariants.{Hex, Unicode}
-use Rattle.sievelex.specs.declared.encoded.Sequence.TheVariants.{Absent}
-use Rattle.sievelex.specs.Class.{is_white}
-use Rattle.sievelex.specs.Encoded.{is_hex, is_inner, inner_len, is_closed, values_of, words_from, begins_with, opening_of, valued, closed_by, sequence_at}
-use Rattle.sievelex.specs.Rows.{Numeral, AreNumerals, numeral_spelling, IsRow, opening, IsSequence, BeginsWithSequence}
-use Rattle.sievelex.proofs.Prefixes.{both, prefix_len-passed, prefix_all}
-use Rattle.sievelex.proofs.RowLemmas.{and_true, hex_not_white, row_words, words_are}
+use Rattle.sieve_lex.specs.declared.encoded.Coding.{Coding}
+use Rattle.sieve_lex.specs.declared.encoded.Coding.TheVariants.{Hex, Unicode}
+use Rattle.sieve_lex.specs.declared.encoded.Sequence.TheVariants.{Absent}
+use Rattle.sieve_lex.specs.Class.{is_white}
+use Rattle.sieve_lex.specs.Encoded.{is_hex, is_inner, inner_len, is_closed, words_value, words_from, begins_with, opening_of, sequence_with, closed_by, sequence_at}
+use Rattle.sieve_lex.specs.Rows.{Numeral, AreNumerals, numeral_spelling, AreNumeralWords, sequence_opening, IsSequence, BeginsWithSequence}
+use Rattle.sieve_lex.proofs.Prefixes.{both, prefix_len-passed, prefix_all}
+use Rattle.sieve_lex.proofs.RowLemmas.{and_true, hex_not_white, row_words, words_are}
 
 -- ---- how it opens
 
@@ -35,14 +35,14 @@ and_false : (a : Bool) → (a && false) ≡ false
 and_false true = refl
 and_false false = refl
 
-unicode_no_hex : (front rest : List ℕ) → lowered front ≡ opening Unicode → begins_with (codes "${hex:") (front ++ rest) ≡ false
+unicode_no_hex : (front rest : List ℕ) → lowered front ≡ sequence_opening Unicode → begins_with (codes "${hex:") (front ++ rest) ≡ false
 unicode_no_hex front rest same =
     let n = front_long (codes "${unicode:") front same in
     let taken : lowered (take 6 (front ++ rest)) ≡ codes "${unic" =
     ap lowered (take-append-le 6 front rest (omega (arith, n))) ∙ sym (take-map _ 6 front) ∙ ap (take 6) same in
     ap (λ l. nat_le 6 (length (front ++ rest)) && pointwise nat_eq l (codes "${hex:")) taken ∙ and_false (nat_le 6 (length (front ++ rest)))
 
-opening_is : (coding : Coding) (front rest : List ℕ) → lowered front ≡ opening coding → opening_of (front ++ rest) ≡ Some (coding, length front)
+opening_is : (coding : Coding) (front rest : List ℕ) → lowered front ≡ sequence_opening coding → opening_of (front ++ rest) ≡ Some (coding, length front)
 opening_is Hex front rest same =
     ap (λ b. cond b (Some (Hex, 6)) (cond (begins_with (codes "${unicode:") (front ++ rest)) (Some (Unicode, 10)) None)) (begins_so (codes "${hex:") front rest same)
     ∙ ap (λ n. Some (Hex, n)) (front_long (codes "${hex:") front same)
@@ -74,7 +74,7 @@ inner_numerals (n ∷ []) are = inner_two (n.word ++ n.blanks) [] (inner_two n.w
 inner_numerals (n ∷ (next ∷ more)) (is, (parted, others)) =
     inner_two (n.word ++ n.blanks) (flat_map numeral_spelling (next ∷ more)) (inner_two n.word n.blanks (inner_hex n.word is.digits) (inner_white n.blanks is.white)) (inner_numerals (next ∷ more) others)
 
-pub row_inner : (s : List ℕ) (words : List (List ℕ)) → IsRow s words → list_all is_inner s ≡ true
+pub row_inner : (s : List ℕ) (words : List (List ℕ)) → AreNumeralWords s words → list_all is_inner s ≡ true
 row_inner s words row =
     ap (list_all is_inner) row.spelled ∙ inner_two row.lead (flat_map numeral_spelling row.numerals) (inner_white row.lead row.blank) (inner_numerals row.numerals row.each)
 
@@ -95,13 +95,13 @@ numerals_any (n ∷ []) are some = ap (list_any is_hex) (append_assoc n.word n.b
 numerals_any (n ∷ (next ∷ more)) (is, others) some =
     let rest = flat_map numeral_spelling (next ∷ more) in ap (list_any is_hex) (append_assoc n.word n.blanks rest) ∙ any_first n.word (n.blanks ++ rest) is.some is.digits
 
-row_any : (s : List ℕ) (words : List (List ℕ)) → IsRow s words → words ≢ [] → list_any is_hex s ≡ true
+row_any : (s : List ℕ) (words : List (List ℕ)) → AreNumeralWords s words → words ≢ [] → list_any is_hex s ≡ true
 row_any s words row some =
     ap (list_any is_hex) row.spelled ∙ any_right row.lead (flat_map numeral_spelling row.numerals) (numerals_any row.numerals row.each (λ e. some (row.named ∙ e)))
 
 -- ---- a sequence of the grammar is read
 
-module _ (row rest : List ℕ) (words : List (List ℕ)) (is : IsRow row words) (some : words ≢ []) where
+module _ (row rest : List ℕ) (words : List (List ℕ)) (is : AreNumeralWords row words) (some : words ≢ []) where
   inner_is_row : inner_len (row ++ 125 ∷ rest) ≡ length row
   inner_is_row = let e = prefix_len-passed is_inner row (125 ∷ rest) (row_inner row words is) in omega (arith, e)
 
@@ -113,7 +113,7 @@ module _ (row rest : List ℕ) (words : List (List ℕ)) (is : IsRow row words) 
       let brace : get_or (row ++ 125 ∷ rest) (inner_len (row ++ 125 ∷ rest)) 0 ≡ 125 = ap (λ n. get_or (row ++ 125 ∷ rest) n 0) inner_is_row ∙ get_or-append_seam row 125 rest 0 in
       and_true _ _ (ap (λ b. b == 125) brace) (ap (list_any is_hex) row_taken ∙ row_any row words is some)
 
-pub sequence_read : (coding : Coding) (s rest : List ℕ) (words : List (List ℕ)) → IsSequence coding s words → sequence_at (s ++ rest) ≡ valued coding (length s) (values_of coding words)
+pub sequence_read : (coding : Coding) (s rest : List ℕ) (words : List (List ℕ)) → IsSequence coding s words → sequence_at (s ++ rest) ≡ sequence_with coding (length s) (words_value coding words)
 sequence_read coding s rest words q =
     let after : List ℕ = q.row ++ 125 ∷ rest in
     let text : s ++ rest ≡ q.front ++ after =
@@ -124,10 +124,10 @@ sequence_read coding s rest words q =
     let len : length q.front + inner_len after + 1 ≡ length s =
     omega (arith, inner_is_row q.row rest words q.numbers q.some, ap length q.spelled, length-append q.front (q.row ++ 125 ∷ []), length-append q.row (125 ∷ [])) in
     ap sequence_at text ∙ ap (λ o. closed_by o (q.front ++ after)) opens
-    ∙ ap (λ t. cond (is_closed t) (valued coding (length q.front + inner_len t + 1) (values_of coding (words_from [] (take (inner_len t) t)))) Absent) behind
-    ∙ ap (λ b. cond b (valued coding (length q.front + inner_len after + 1) (values_of coding (words_from [] (take (inner_len after) after)))) Absent) (row_closed q.row rest words q.numbers q.some)
-    ∙ ap (λ n. valued coding n (values_of coding (words_from [] (take (inner_len after) after)))) len
-    ∙ ap (λ ws. valued coding (length s) (values_of coding ws)) read
+    ∙ ap (λ t. cond (is_closed t) (sequence_with coding (length q.front + inner_len t + 1) (words_value coding (words_from [] (take (inner_len t) t)))) Absent) behind
+    ∙ ap (λ b. cond b (sequence_with coding (length q.front + inner_len after + 1) (words_value coding (words_from [] (take (inner_len after) after)))) Absent) (row_closed q.row rest words q.numbers q.some)
+    ∙ ap (λ n. sequence_with coding n (words_value coding (words_from [] (take (inner_len after) after)))) len
+    ∙ ap (λ ws. sequence_with coding (length s) (words_value coding ws)) read
 
 -- ---- what is read is a sequence of the grammar
 
@@ -143,7 +143,7 @@ row_none : (s : List ℕ) (numerals : List Numeral) (lead : List ℕ) → s ≡ 
 row_none s [] lead spelled white named = ap (list_any is_hex) (spelled ∙ append-nil lead) ∙ none_hex lead white
 row_none s (n ∷ more) lead spelled white named = absurd (cc named)
 
-words_some : (row : List ℕ) (words : List (List ℕ)) → IsRow row words → list_any is_hex row ≡ true → words ≢ []
+words_some : (row : List ℕ) (words : List (List ℕ)) → AreNumeralWords row words → list_any is_hex row ≡ true → words ≢ []
 words_some row words is any e =
     let none = row_none row is.numerals is.lead is.spelled is.blank (sym e ∙ is.named) in
     let bad : false ≡ true = sym none ∙ any in cc bad
@@ -154,7 +154,7 @@ inside t k is = elim (cases_lt k (length t)) [ inl below ↦ below | inr past �
 is_same : (a b : ℕ) → (a == b) ≡ true → a ≡ b
 is_same a b is = grind (arith, common_steps)
 
-module _ (text : List ℕ) (coding : Coding) (n : ℕ) (opens : lowered (take n text) ≡ opening coding) where
+module _ (text : List ℕ) (coding : Coding) (n : ℕ) (opens : lowered (take n text) ≡ sequence_opening coding) where
   closed_found : is_closed (drop n text) ≡ true → BeginsWithSequence text
   closed_found closed =
       let t : List ℕ = drop n text in
@@ -162,7 +162,7 @@ module _ (text : List ℕ) (coding : Coding) (n : ℕ) (opens : lowered (take n 
       let row : List ℕ = take k t in
       let both_are = both _ _ closed in
       let brace : get_or t k 0 ≡ 125 = is_same _ _ both_are.0 in
-      let numbers : IsRow row (words_from [] row) = (words_are row (words_from [] row) (prefix_all is_inner t)).0 refl in
+      let numbers : AreNumeralWords row (words_from [] row) = (words_are row (words_from [] row) (prefix_all is_inner t)).0 refl in
       let here : t ≡ row ++ 125 ∷ drop (k + 1) t =
       sym (take-append-drop k t) ∙ ap (λ l. row ++ l) (drop_more t k 0 (inside t k brace) ∙ ap (λ b. b ∷ drop (k + 1) t) brace) in
       let whole : text ≡ (take n text ++ (row ++ 125 ∷ [])) ++ drop (k + 1) t =
@@ -179,7 +179,7 @@ module _ (text : List ℕ) (coding : Coding) (n : ℕ) (opens : lowered (take n 
   by_closed : (closed : Bool) → is_closed (drop n text) ≡ closed → (closed_by (Some (coding, n)) text ≡ Absent → ⊥) → BeginsWithSequence text
   by_closed true is some = closed_found is
   by_closed false is some =
-      absurd (some (ap (λ b. cond b (valued coding (n + inner_len (drop n text) + 1) (values_of coding (words_from [] (take (inner_len (drop n text)) (drop n text))))) Absent) is))
+      absurd (some (ap (λ b. cond b (sequence_with coding (n + inner_len (drop n text) + 1) (words_value coding (words_from [] (take (inner_len (drop n text)) (drop n text))))) Absent) is))
 
 begun : (word text : List ℕ) → begins_with word text ≡ true → lowered (take (length word) text) ≡ lowered word
 begun word text is = (bytes_decides _ _).0 (both _ _ is).1

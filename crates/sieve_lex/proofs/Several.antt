@@ -7,21 +7,21 @@ use Rattle.std.proofs.lemmas.List.{length-map, map-append, append_cancel_right, 
 use Rattle.std.proofs.lemmas.Bool.{cases_lt}
 use Rattle.octets.specs.Ascii.{lowered}
 use Rattle.octets.proofs.Lists.{some_is, some_pair}
-use Rattle.sievelex.specs.declared.front.Front.{Front}
-use Rattle.sievelex.specs.declared.token.Content.{Content}
-use Rattle.sievelex.specs.declared.token.Content.TheVariants.{Identifier, Text}
-use Rattle.sievelex.specs.declared.multiline.Stage.TheVariants.{Opening}
-use Rattle.sievelex.specs.Class.{is_name_octet, is_name_start}
-use Rattle.sievelex.specs.Body.{body_from}
-use Rattle.sievelex.specs.Lines.{IsFinal, line_end, line_spelling}
-use Rattle.sievelex.specs.Spelling.{OpensText}
-use Rattle.sievelex.specs.Front.{IsFront}
-use Rattle.sievelex.proofs.Prefixes.{take_sum}
-use Rattle.sievelex.proofs.Bodies.{IsOpening, opening_is, IsBody, body_is}
-use Rattle.sievelex.proofs.Worded.{IsWord, word_is, word_len, word_opens, multi_again}
-use Rattle.sievelex.proofs.Named.{IsNamed, named_is, name_bound, longest_name}
-use Rattle.sievelex.proofs.Named.IsNamed.{AName, Several}
-use Rattle.sievelex.proofs.Best.{IsBest, IsFound, best_found}
+use Rattle.sieve_lex.specs.declared.front.Front.{Front}
+use Rattle.sieve_lex.specs.declared.token.Content.{Content}
+use Rattle.sieve_lex.specs.declared.token.Content.TheVariants.{Identifier, Text}
+use Rattle.sieve_lex.specs.declared.multiline.BodyState.TheVariants.{Opening}
+use Rattle.sieve_lex.specs.Class.{is_name_octet, is_name_start}
+use Rattle.sieve_lex.specs.Body.{body_from}
+use Rattle.sieve_lex.specs.Lines.{IsFinal, body_line_end, line_spelling}
+use Rattle.sieve_lex.specs.Spelling.{OpensText}
+use Rattle.sieve_lex.specs.Front.{IsFront}
+use Rattle.sieve_lex.proofs.Prefixes.{take_sum}
+use Rattle.sieve_lex.proofs.Bodies.{IsOpening, opening_is, IsBody, body_is}
+use Rattle.sieve_lex.proofs.Worded.{IsWord, word_is, word_len, word_opens, multi_again}
+use Rattle.sieve_lex.proofs.Named.{IsNamed, named_is, name_bound, longest_name}
+use Rattle.sieve_lex.proofs.Named.IsNamed.{AName, Several}
+use Rattle.sieve_lex.proofs.Best.{IsBest, IsFound, best_found}
 
 word_starts : (octets : List ℕ) → IsWord octets → is_name_start (get_or octets 0 0) ≡ true
 word_starts octets w = ap (λ x. is_name_start (get_or x 0 0)) w.octets_are ∙ w.a_starts
@@ -53,9 +53,9 @@ several_best octets value n named within h =
     let rest : List ℕ = drop n (drop 5 octets) in
     let o : IsOpening body value rest = opening_is body value rest h in
     let l : IsBody o.after value rest = body_is (length o.after) o.after value rest (omega arith) o.read in
-    let spelled : List ℕ = o.blanks ++ (o.comment ++ (line_end o.bare ++ (flat_map line_spelling l.lines ++ 46 ∷ l.final))) in
-    let parts : body ≡ o.blanks ++ (o.comment ++ (line_end o.bare ++ (flat_map line_spelling l.lines ++ (46 ∷ (l.final ++ rest))))) = o.spelled ∙ ap (λ x. o.blanks ++ (o.comment ++ (line_end o.bare ++ x))) l.spelled in
-    let apart : spelled ++ rest ≡ o.blanks ++ (o.comment ++ (line_end o.bare ++ (flat_map line_spelling l.lines ++ (46 ∷ (l.final ++ rest))))) = simp append_assoc in
+    let spelled : List ℕ = o.blanks ++ (o.comment ++ (body_line_end o.bare ++ (flat_map line_spelling l.lines ++ 46 ∷ l.final))) in
+    let parts : body ≡ o.blanks ++ (o.comment ++ (body_line_end o.bare ++ (flat_map line_spelling l.lines ++ (46 ∷ (l.final ++ rest))))) = o.spelled ∙ ap (λ x. o.blanks ++ (o.comment ++ (body_line_end o.bare ++ x))) l.spelled in
+    let apart : spelled ++ rest ≡ o.blanks ++ (o.comment ++ (body_line_end o.bare ++ (flat_map line_spelling l.lines ++ (46 ∷ (l.final ++ rest))))) = simp append_assoc in
     let front : take n body ≡ spelled = append_cancel_right _ _ rest (take-append-drop n body ∙ parts ∙ sym apart) in
     let after : drop (5 + n) octets ≡ rest = sym (drop-drop n 5 octets) in
     let F : List ℕ → Type 0 = λ x. IsFinal l.final x in

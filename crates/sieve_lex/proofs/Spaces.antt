@@ -5,14 +5,14 @@ use Rattle.std.proofs.lemmas.Bool.{eqb-true, eqb-false, not-true}
 use Rattle.std.proofs.Math.Bool.{or-false}
 use Rattle.std.proofs.lemmas.Bool.Decides.{nat_tests}
 use Rattle.octets.proofs.Lists.{fork, some_is}
-use Rattle.sievelex.specs.declared.space.Place.{Place}
-use Rattle.sievelex.specs.declared.space.Place.TheVariants.{Between, Comment, Opening, Inner, Star}
-use Rattle.sievelex.specs.Class.{is_white}
-use Rattle.sievelex.specs.Text.{is_line_feed}
-use Rattle.sievelex.specs.Space.{Space, IsInLine, HasNoEnd, IsSpace, AreSpaces, space_of, IsLastComment}
-use Rattle.sievelex.specs.Space.Space.{White, Hash, Bracketed}
-use Rattle.sievelex.specs.Skip.{begins_space, place_after, space_from}
-use Rattle.sievelex.proofs.Prefixes.{both}
+use Rattle.sieve_lex.specs.declared.space.SpaceState.{SpaceState}
+use Rattle.sieve_lex.specs.declared.space.SpaceState.TheVariants.{Between, Comment, Opening, Inner, Star}
+use Rattle.sieve_lex.specs.Class.{is_white}
+use Rattle.sieve_lex.specs.Text.{is_line_feed}
+use Rattle.sieve_lex.specs.Space.{Space, IsInLine, HasNoEnd, IsSpace, AreSpaces, space_of, IsLastComment}
+use Rattle.sieve_lex.specs.Space.Space.{White, Hash, Bracketed}
+use Rattle.sieve_lex.specs.Skip.{begins_space, space_state_after, space_from}
+use Rattle.sieve_lex.proofs.Prefixes.{both}
 
 -- a test is true or false
 pub tests : (t : Bool) → (t ≡ true) ⊎ (t ≡ false)
@@ -20,41 +20,41 @@ tests true = inl refl
 tests false = inr refl
 
 -- the places after an octet
-at_place : (p q : Place) (s : List ℕ) → p ≡ q → space_from p s ≡ space_from q s
+at_place : (p q : SpaceState) (s : List ℕ) → p ≡ q → space_from p s ≡ space_from q s
 at_place p q s e = ap (λ x. space_from x s) e
 
-inner_star : (b : ℕ) → (b == 42) ≡ true → place_after Inner b ≡ Star
+inner_star : (b : ℕ) → (b == 42) ≡ true → space_state_after Inner b ≡ Star
 inner_star b e = rw e refl
 
-inner_on : (b : ℕ) → (b == 42) ≡ false → place_after Inner b ≡ Inner
+inner_on : (b : ℕ) → (b == 42) ≡ false → space_state_after Inner b ≡ Inner
 inner_on b e = rw e refl
 
-star_ends : (b : ℕ) → (b == 47) ≡ true → place_after Star b ≡ Between
+star_ends : (b : ℕ) → (b == 47) ≡ true → space_state_after Star b ≡ Between
 star_ends b e = rw e refl
 
-star_star : (b : ℕ) → (b == 47) ≡ false → (b == 42) ≡ true → place_after Star b ≡ Star
+star_star : (b : ℕ) → (b == 47) ≡ false → (b == 42) ≡ true → space_state_after Star b ≡ Star
 star_star b n e = rw (n, e) refl
 
-star_on : (b : ℕ) → (b == 47) ≡ false → (b == 42) ≡ false → place_after Star b ≡ Inner
+star_on : (b : ℕ) → (b == 47) ≡ false → (b == 42) ≡ false → space_state_after Star b ≡ Inner
 star_on b n e = rw (n, e) refl
 
-comment_ends : (b : ℕ) → is_line_feed b ≡ true → place_after Comment b ≡ Between
+comment_ends : (b : ℕ) → is_line_feed b ≡ true → space_state_after Comment b ≡ Between
 comment_ends b e = rw e refl
 
-comment_on : (b : ℕ) → is_line_feed b ≡ false → place_after Comment b ≡ Comment
+comment_on : (b : ℕ) → is_line_feed b ≡ false → space_state_after Comment b ≡ Comment
 comment_on b e = rw e refl
 
-between_hash : (b : ℕ) → (b == 35) ≡ true → place_after Between b ≡ Comment
+between_hash : (b : ℕ) → (b == 35) ≡ true → space_state_after Between b ≡ Comment
 between_hash b e = rw e refl
 
-between_slash : (b : ℕ) → (b == 35) ≡ false → (b == 47) ≡ true → place_after Between b ≡ Opening
+between_slash : (b : ℕ) → (b == 35) ≡ false → (b == 47) ≡ true → space_state_after Between b ≡ Opening
 between_slash b n e = rw (n, e) refl
 
-between_on : (b : ℕ) → (b == 35) ≡ false → (b == 47) ≡ false → place_after Between b ≡ Between
+between_on : (b : ℕ) → (b == 35) ≡ false → (b == 47) ≡ false → space_state_after Between b ≡ Between
 between_on b n e = rw (n, e) refl
 
 -- inside a comment in brackets, after a star or not
-abbrev inner : Bool → Place
+abbrev inner : Bool → SpaceState
 inner true = Star
 inner false = Inner
 
@@ -94,7 +94,7 @@ line_ends_text (b ∷ body) h =
     let other : is_line_feed b ≡ false = not-true _ parts.0 in
     at_place _ _ body (comment_on b other) ∙ line_ends_text body parts.1
 
-white_place : (b : ℕ) → is_white b ≡ true → place_after Between b ≡ Between
+white_place : (b : ℕ) → is_white b ≡ true → space_state_after Between b ≡ Between
 white_place b h =
     let p : (b == 35) ≡ false = grind (arith, nat_tests) in
     let q : (b == 47) ≡ false = grind (arith, nat_tests) in
@@ -104,7 +104,7 @@ white_place b h =
 pub spaces_again : (pieces : List Space) (rest : List ℕ) → AreSpaces pieces → space_from Between (flat_map space_of pieces ++ rest) ≡ space_from Between rest
 spaces_again [] rest h = refl
 spaces_again (White b ∷ more) rest h =
-    let place : place_after Between b ≡ Between = white_place b h.0 in
+    let place : space_state_after Between b ≡ Between = white_place b h.0 in
     rw h.0 (at_place _ _ (flat_map space_of more ++ rest) place ∙ spaces_again more rest h.1)
 spaces_again (Hash body ∷ more) rest h =
     let e : ((body ++ 10 ∷ []) ++ flat_map space_of more) ++ rest ≡ body ++ (10 ∷ (flat_map space_of more ++ rest)) = simp append_assoc in

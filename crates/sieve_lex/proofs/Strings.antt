@@ -4,25 +4,25 @@ use Rattle.std.specs.List.{flat_map, prefix_len}
 use Rattle.std.proofs.lemmas.List.{append_cancel_right, drop_more}
 use Rattle.std.proofs.lemmas.Bool.{eqb-true}
 use Rattle.octets.proofs.Lists.{fork, some_pair}
-use Rattle.sievelex.specs.declared.quoted.Mode.{Mode}
-use Rattle.sievelex.specs.declared.quoted.Mode.TheVariants.{Inside, Escape, Return}
-use Rattle.sievelex.specs.declared.token.Content.{Content}
-use Rattle.sievelex.specs.declared.token.Content.TheVariants.{Text}
-use Rattle.sievelex.specs.declared.front.Front.{Front}
-use Rattle.sievelex.specs.Inside.{onto, string_from, is_plain}
-use Rattle.sievelex.specs.Front.{IsFront}
-use Rattle.sievelex.specs.Shape.{Piece, IsPiece, ArePieces, spelling_of, value_of, IsQuotedString, IsShape}
-use Rattle.sievelex.specs.Shape.Piece.{Plain, Escaped, LineEnd, BareLineEnd}
-use Rattle.sievelex.proofs.Prefixes.{one_more, front_of}
-use Rattle.sievelex.proofs.Opening.{Opens, front_opened, shape_at, quoted_shape}
-use Rattle.sievelex.proofs.Opening.Opens.{Named, Worded, Numbered, Tagged, Quoted, Marked}
-use Rattle.sievelex.proofs.Best.{IsBest, IsFound, best_found}
+use Rattle.sieve_lex.specs.declared.quoted.Mode.{Mode}
+use Rattle.sieve_lex.specs.declared.quoted.Mode.TheVariants.{Inside, Escape, Return}
+use Rattle.sieve_lex.specs.declared.token.Content.{Content}
+use Rattle.sieve_lex.specs.declared.token.Content.TheVariants.{Text}
+use Rattle.sieve_lex.specs.declared.front.Front.{Front}
+use Rattle.sieve_lex.specs.Inside.{onto, string_from, is_plain_octet}
+use Rattle.sieve_lex.specs.Front.{IsFront}
+use Rattle.sieve_lex.specs.Shape.{StringPiece, IsStringPiece, AreStringPieces, spelling_of, piece_value, IsQuotedString, IsTokenShape}
+use Rattle.sieve_lex.specs.Shape.StringPiece.{Plain, Escaped, LineEnd, BareLineEnd}
+use Rattle.sieve_lex.proofs.Prefixes.{one_more, front_of}
+use Rattle.sieve_lex.proofs.Opening.{Opens, front_opened, shape_at, quoted_shape}
+use Rattle.sieve_lex.proofs.Opening.Opens.{Named, Worded, Numbered, Tagged, Quoted, Marked}
+use Rattle.sieve_lex.proofs.Best.{IsBest, IsFound, best_found}
 
 -- what is spelled so is read so, whatever follows
-pub string_again : (ps : List Piece) (rest : List ℕ) → ArePieces ps → string_from Inside (flat_map spelling_of ps ++ (34 ∷ rest)) ≡ Some (flat_map value_of ps, rest)
+pub string_again : (ps : List StringPiece) (rest : List ℕ) → AreStringPieces ps → string_from Inside (flat_map spelling_of ps ++ (34 ∷ rest)) ≡ Some (flat_map piece_value ps, rest)
 string_again [] rest h = refl
-string_again (Plain b ∷ ps) rest h = let p : IsPiece (Plain b) = h.0 in rw (p.0, p.1, p.2, p.3) (ap (onto (b ∷ [])) (string_again ps rest h.1))
-string_again (Escaped b ∷ ps) rest h = let p : IsPiece (Escaped b) = h.0 in rw (p.0, p.1, p.2) (ap (onto (b ∷ [])) (string_again ps rest h.1))
+string_again (Plain b ∷ ps) rest h = let p : IsStringPiece (Plain b) = h.0 in rw (p.0, p.1, p.2, p.3) (ap (onto (b ∷ [])) (string_again ps rest h.1))
+string_again (Escaped b ∷ ps) rest h = let p : IsStringPiece (Escaped b) = h.0 in rw (p.0, p.1, p.2) (ap (onto (b ∷ [])) (string_again ps rest h.1))
 string_again (LineEnd ∷ ps) rest h = ap (onto (13 ∷ (10 ∷ []))) (string_again ps rest h.1)
 string_again (BareLineEnd ∷ ps) rest h = ap (onto (13 ∷ (10 ∷ []))) (string_again ps rest h.1)
 
@@ -34,18 +34,18 @@ begun Return = 13 ∷ []
 
 -- these octets are pieces, a quotation mark and a rest
 record IsRead (s value rest : List ℕ) : Type 0 where
-  pieces : List Piece
-  each : ArePieces pieces
+  pieces : List StringPiece
+  each : AreStringPieces pieces
   spelled : s ≡ flat_map spelling_of pieces ++ (34 ∷ rest)
-  valued : value ≡ flat_map value_of pieces
+  valued : value ≡ flat_map piece_value pieces
 
 -- a piece more before what was read
-more_read : (p : Piece) (s value rest : List ℕ) → IsPiece p → IsRead s value rest → IsRead (spelling_of p ++ s) (value_of p ++ value) rest
+more_read : (p : StringPiece) (s value rest : List ℕ) → IsStringPiece p → IsRead s value rest → IsRead (spelling_of p ++ s) (piece_value p ++ value) rest
 more_read p s value rest good r = record {
   pieces = p ∷ r.pieces;
   each = (good, r.each);
   spelled = ap (λ x. spelling_of p ++ x) r.spelled ∙ sym (append_assoc (spelling_of p) (flat_map spelling_of r.pieces) (34 ∷ rest));
-  valued = ap (λ x. value_of p ++ x) r.valued;
+  valued = ap (λ x. piece_value p ++ x) r.valued;
 }
 
 -- what was put before a value
@@ -116,7 +116,7 @@ record IsStringAt (more : List ℕ) (v : Content) (m : ℕ) : Type 0 where
   text : v ≡ Text value
   read : string_from Inside more ≡ Some (value, drop m more)
 
-string_at : (more : List ℕ) (v : Content) (m : ℕ) (rest : List ℕ) → IsShape v (take (suc m) (34 ∷ more)) rest → IsStringAt more v m
+string_at : (more : List ℕ) (v : Content) (m : ℕ) (rest : List ℕ) → IsTokenShape v (take (suc m) (34 ∷ more)) rest → IsStringAt more v m
 string_at more v m rest s =
     let text : (value : List ℕ) × (v ≡ Text value) = only_quoted v (front_opened 34 more v (suc m) rest s).1 in
     let shape : IsQuotedString (34 ∷ take m more) text.0 = quoted_shape text.0 (take m more) rest (shape_at _ _ _ _ text.1 s) in
@@ -132,7 +132,7 @@ string_at more v m rest s =
 same_rest : (xs : List ℕ) (m n : ℕ) → m ≤ length xs → n ≤ length xs → drop m xs ≡ drop n xs → m ≡ n
 same_rest xs m n mw nw e = omega (arith, simp length-drop at (ap length e))
 
-string_bound : (more value : List ℕ) (n : ℕ) → n ≤ length more → string_from Inside more ≡ Some (value, drop n more) → (v : Content) (m : ℕ) → m ≤ length (34 ∷ more) → IsShape v (take m (34 ∷ more)) (drop m (34 ∷ more))
+string_bound : (more value : List ℕ) (n : ℕ) → n ≤ length more → string_from Inside more ≡ Some (value, drop n more) → (v : Content) (m : ℕ) → m ≤ length (34 ∷ more) → IsTokenShape v (take m (34 ∷ more)) (drop m (34 ∷ more))
     → (m < 1 + n) ⊎ ((m ≡ 1 + n) × (v ≡ Text value))
 string_bound more value n w h v zero within s = absurd (let p : 0 < 0 = (front_opened 34 more v zero _ s).0 in omega arith)
 string_bound more value n w h v (suc m) within s =
@@ -155,7 +155,7 @@ string_best more value n w h =
     }
 
 -- a string without its end is no token
-pub string_none : (more : List ℕ) → string_from Inside more ≡ None → (v : Content) (m : ℕ) (rest : List ℕ) → IsShape v (take m (34 ∷ more)) rest → ⊥
+pub string_none : (more : List ℕ) → string_from Inside more ≡ None → (v : Content) (m : ℕ) (rest : List ℕ) → IsTokenShape v (take m (34 ∷ more)) rest → ⊥
 string_none more h v zero rest s = let p : 0 < 0 = (front_opened 34 more v zero _ s).0 in omega arith
 string_none more h v (suc m) rest s = let t : IsStringAt more v m = string_at more v m rest s in let e : None ≡ Some (t.value, drop m more) = sym h ∙ t.read in cc
 
@@ -175,14 +175,14 @@ all_false false false false true h = absurd (cc)
 all_false false false false false h = (refl, (refl, (refl, refl)))
 
 -- an octet that stands for itself
-plain_here : (b : ℕ) (s : List ℕ) → is_plain b ≡ true → string_from Inside (b ∷ s) ≡ onto (b ∷ []) (string_from Inside s)
+plain_here : (b : ℕ) (s : List ℕ) → is_plain_octet b ≡ true → string_from Inside (b ∷ s) ≡ onto (b ∷ []) (string_from Inside s)
 plain_here b s h = let p = all_false (b == 34) (b == 92) (b == 13) (b == 10) h in rw (p.0, p.1.0, p.1.1.0, p.1.1.1) refl
 
-plain_at : (b : ℕ) (s rest : List ℕ) (v : Bool) → is_plain b ≡ v → drop (prefix_len is_plain (b ∷ s)) (b ∷ s) ≡ 34 ∷ rest
-    → (drop (prefix_len is_plain s) s ≡ 34 ∷ rest → string_from Inside s ≡ Some (take (prefix_len is_plain s) s, rest))
-    → string_from Inside (b ∷ s) ≡ Some (take (prefix_len is_plain (b ∷ s)) (b ∷ s), rest)
+plain_at : (b : ℕ) (s rest : List ℕ) (v : Bool) → is_plain_octet b ≡ v → drop (prefix_len is_plain_octet (b ∷ s)) (b ∷ s) ≡ 34 ∷ rest
+    → (drop (prefix_len is_plain_octet s) s ≡ 34 ∷ rest → string_from Inside s ≡ Some (take (prefix_len is_plain_octet s) s, rest))
+    → string_from Inside (b ∷ s) ≡ Some (take (prefix_len is_plain_octet (b ∷ s)) (b ∷ s), rest)
 plain_at b s rest true e h more =
-    let n : ℕ = prefix_len is_plain s in
+    let n : ℕ = prefix_len is_plain_octet s in
     let here : drop (1 + n) (b ∷ s) ≡ 34 ∷ rest = rw e at h in
     let later : drop n s ≡ 34 ∷ rest = ap (λ k. drop k (b ∷ s)) (sym (one_more n)) ∙ here in
     rw e (plain_here b s e ∙ ap (onto (b ∷ [])) (more later) ∙ ap (λ k. Some (take k (b ∷ s), rest)) (sym (one_more n)))
@@ -191,9 +191,9 @@ plain_at b s rest false e h more =
     rw e (ap (string_from Inside) here)
 
 -- octets that stand for themselves, and a quotation mark
-pub plain_string : (s rest : List ℕ) → drop (prefix_len is_plain s) s ≡ 34 ∷ rest → string_from Inside s ≡ Some (take (prefix_len is_plain s) s, rest)
+pub plain_string : (s rest : List ℕ) → drop (prefix_len is_plain_octet s) s ≡ 34 ∷ rest → string_from Inside s ≡ Some (take (prefix_len is_plain_octet s) s, rest)
 plain_string [] rest h = absurd (cc)
-plain_string (b ∷ s) rest h = plain_at b s rest (is_plain b) refl h (plain_string s rest)
+plain_string (b ∷ s) rest h = plain_at b s rest (is_plain_octet b) refl h (plain_string s rest)
 
 -- what follows an octet
 pub rest_after : (s rest : List ℕ) (i b : ℕ) → drop i s ≡ b ∷ rest → (i < length s) × (rest ≡ drop (i + 1) s)

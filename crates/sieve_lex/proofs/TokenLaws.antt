@@ -6,25 +6,25 @@ use Rattle.std.proofs.lemmas.List.{take_at, drop_at, length-take-le}
 use Rattle.octets.specs.Ascii.{is_digit}
 use Rattle.octets.specs.Decimal.{number_of}
 use Rattle.octets.proofs.Lists.{some_is, some_pair}
-use Rattle.sievelex.specs.declared.token.Content.{Content}
-use Rattle.sievelex.specs.declared.token.Content.TheVariants.{Identifier, Tag, Number, Text}
-use Rattle.sievelex.specs.declared.token.Content.TheVariants as C
-use Rattle.sievelex.specs.declared.token.Mark.{Mark}
-use Rattle.sievelex.specs.declared.token.Token.{Token}
-use Rattle.sievelex.specs.declared.quoted.Mode.TheVariants.{Inside}
-use Rattle.sievelex.specs.Class.{is_name_start}
-use Rattle.sievelex.specs.Inside.{string_from}
-use Rattle.sievelex.specs.Shape.{IsName, IsNumber, IsQuotedString, IsShape, factor_of, spelling_of}
-use Rattle.sievelex.specs.Spelling.{IsToken, IsNext, SpellsFrom, Spells}
-use Rattle.sievelex.specs.Text.{line_ends}
-use Rattle.sievelex.proofs.Named.{name_bound}
-use Rattle.sievelex.proofs.Next.{next_start, next_inside, tail_no_next}
-use Rattle.sievelex.proofs.Numbered.{letter_no_digit}
-use Rattle.sievelex.proofs.Opening.{Opens, shape_opened, shape_at, quoted_shape}
-use Rattle.sievelex.proofs.Opening.Opens.{Named, Worded, Numbered, Tagged, Quoted, Marked}
-use Rattle.sievelex.proofs.Prefixes.{prefix_len-passed}
-use Rattle.sievelex.proofs.Strings.{string_again}
-use Rattle.sievelex.proofs.Worded.{short, word_is, word_len, multi_word, multi_again}
+use Rattle.sieve_lex.specs.declared.token.Content.{Content}
+use Rattle.sieve_lex.specs.declared.token.Content.TheVariants.{Identifier, Tag, Number, Text}
+use Rattle.sieve_lex.specs.declared.token.Content.TheVariants as C
+use Rattle.sieve_lex.specs.declared.token.Mark.{Mark}
+use Rattle.sieve_lex.specs.declared.token.Token.{Token}
+use Rattle.sieve_lex.specs.declared.quoted.Mode.TheVariants.{Inside}
+use Rattle.sieve_lex.specs.Class.{is_name_start}
+use Rattle.sieve_lex.specs.Inside.{string_from}
+use Rattle.sieve_lex.specs.Shape.{IsName, IsNumberText, IsQuotedString, IsTokenShape, factor_of, spelling_of}
+use Rattle.sieve_lex.specs.Spelling.{IsToken, IsNextToken, SpellsFrom, SpellsTokens}
+use Rattle.sieve_lex.specs.Text.{line_ends}
+use Rattle.sieve_lex.proofs.Named.{name_bound}
+use Rattle.sieve_lex.proofs.Next.{next_start, next_inside, tail_no_next}
+use Rattle.sieve_lex.proofs.Numbered.{letter_no_digit}
+use Rattle.sieve_lex.proofs.Opening.{Opens, shape_opened, shape_at, quoted_shape}
+use Rattle.sieve_lex.proofs.Opening.Opens.{Named, Worded, Numbered, Tagged, Quoted, Marked}
+use Rattle.sieve_lex.proofs.Prefixes.{prefix_len-passed}
+use Rattle.sieve_lex.proofs.Strings.{string_again}
+use Rattle.sieve_lex.proofs.Worded.{short, word_is, word_len, multi_word, multi_again}
 
 -- where both are spelled alike, they are of these kinds
 data Alike (v w : Content) : Type 0 where
@@ -88,7 +88,7 @@ alike b v w one two = elim one [
   ]
 ]
 
-shapes_alike : (s rest : List ℕ) (v w : Content) → IsShape v s rest → IsShape w s rest → Alike v w
+shapes_alike : (s rest : List ℕ) (v w : Content) → IsTokenShape v s rest → IsTokenShape w s rest → Alike v w
 shapes_alike s rest v w one two =
     let a = shape_opened v s rest one in
     let b = shape_opened w s rest two in
@@ -105,7 +105,7 @@ digits_len digits (c ∷ []) f all scaled =
     prefix_len-passed is_digit digits (c ∷ []) all ∙ (rw none (omega arith))
 digits_len digits (c ∷ (d ∷ more)) f all scaled = absurd (cc)
 
-number_only : (s : List ℕ) (m n : ℕ) → IsNumber s m → IsNumber s n → m ≡ n
+number_only : (s : List ℕ) (m n : ℕ) → IsNumberText s m → IsNumberText s n → m ≡ n
 number_only s m n one two =
     let a : prefix_len is_digit s ≡ length one.digits = ap (prefix_len is_digit) one.spelled ∙ digits_len one.digits one.letter one.factor one.decimal one.scaled in
     let b : prefix_len is_digit s ≡ length two.digits = ap (prefix_len is_digit) two.spelled ∙ digits_len two.digits two.letter two.factor two.decimal two.scaled in
@@ -127,21 +127,21 @@ quoted_only : (s a b : List ℕ) → IsQuotedString s a → IsQuotedString s b �
 quoted_only s a b one two = (some_pair (a, []) (b, []) (sym (quoted_value s a one) ∙ quoted_value s b two)).0
 
 -- a string that begins as a quoted one is one
-quoted_too : (s rest a b : List ℕ) → IsQuotedString s a → IsShape (Text b) s rest → IsQuotedString s b
+quoted_too : (s rest a b : List ℕ) → IsQuotedString s a → IsTokenShape (Text b) s rest → IsQuotedString s b
 quoted_too s rest a b q shape =
-    let P : List ℕ → Type 0 = λ t. IsShape (Text b) t rest in
+    let P : List ℕ → Type 0 = λ t. IsTokenShape (Text b) t rest in
     let Q : List ℕ → Type 0 = λ t. IsQuotedString t b in
     subst Q (sym q.spelled) (quoted_shape b (flat_map spelling_of q.pieces ++ 34 ∷ []) rest (subst P q.spelled shape))
 
 module _ (octets : List ℕ) (n : ℕ) where
   -- a string has one value
-  text_only : (a b : List ℕ) → IsShape (Text a) (take n octets) (drop n octets) → IsShape (Text b) (take n octets) (drop n octets) → a ≡ b
+  text_only : (a b : List ℕ) → IsTokenShape (Text a) (take n octets) (drop n octets) → IsTokenShape (Text b) (take n octets) (drop n octets) → a ≡ b
   text_only a b (inl q) two = quoted_only (take n octets) a b q (quoted_too (take n octets) (drop n octets) a b q two)
   text_only a b (inr m) (inl q) = quoted_only (take n octets) a b (quoted_too (take n octets) (drop n octets) b a q (inr m)) q
   text_only a b (inr m) (inr l) = (some_pair (a, drop n octets) (b, drop n octets) (sym (multi_again octets a n m) ∙ multi_again octets b n l)).0
 
   -- no name is spelled as a string
-  name_no_text : (a b : List ℕ) → n ≤ length octets → IsShape (Identifier a) (take n octets) (drop n octets) → IsShape (Text b) (take n octets) (drop n octets) → ⊥
+  name_no_text : (a b : List ℕ) → n ≤ length octets → IsTokenShape (Identifier a) (take n octets) (drop n octets) → IsTokenShape (Text b) (take n octets) (drop n octets) → ⊥
   name_no_text a b within name (inl q) = absurd (first a (sym name.0 ∙ q.spelled) name.1) where
     first : (a : List ℕ) {more : List ℕ} → a ≡ 34 ∷ more → IsName a → ⊥
     first [] e is = is
@@ -154,7 +154,7 @@ module _ (octets : List ℕ) (n : ℕ) where
       omega (arith, four, bound, five, long, length-take-le n octets within)
 
   -- what the same octets spell is one thing
-  shape_only : (v w : Content) → n ≤ length octets → IsShape v (take n octets) (drop n octets) → IsShape w (take n octets) (drop n octets) → v ≡ w
+  shape_only : (v w : Content) → n ≤ length octets → IsTokenShape v (take n octets) (drop n octets) → IsTokenShape w (take n octets) (drop n octets) → v ≡ w
   shape_only v w within one two = elim (shapes_alike (take n octets) (drop n octets) v w one two) [
     | Names a b ve we ↦
         let x = shape_at _ _ _ _ ve one in
@@ -184,7 +184,7 @@ module _ (octets : List ℕ) (n : ℕ) where
 token_only : (octets : List ℕ) (v w : Content) (m n : ℕ) → IsToken octets v m → IsToken octets w n → (m ≡ n) × (v ≡ w)
 token_only octets v w m n one two =
     let same : m ≡ n = same_len in
-    let P : ℕ → Type 0 = λ i. IsShape v (take i octets) (drop i octets) in
+    let P : ℕ → Type 0 = λ i. IsTokenShape v (take i octets) (drop i octets) in
     (same, shape_only octets n v w two.within (subst P same one.shape) two.shape) where
       same_len : m ≡ n
       same_len = elim (cases_lt m n) [
@@ -196,7 +196,7 @@ token_only octets v w m n one two =
       ]
 
 -- one token at most comes next
-next_same : (text : List ℕ) (at : ℕ) (t u : Token) → IsNext text at t → IsNext text at u → t ≡ u
+next_same : (text : List ℕ) (at : ℕ) (t u : Token) → IsNextToken text at t → IsNextToken text at u → t ≡ u
 next_same text at t u one two =
     let dropped : drop t.start text ≡ drop u.start text = some_is _ _ (sym (next_start text at t one) ∙ next_start text at u two) in
     let in_one = next_inside text at t one in
@@ -219,5 +219,5 @@ rest_same text at (t ∷ ts) (u ∷ us) one two =
     ap (λ x. x ∷ ts) same ∙ ap (λ xs. u ∷ xs) later
 
 -- a text has one list of tokens
-pub tokens_only : (text : List ℕ) (ts us : List Token) → Spells text ts → Spells text us → ts ≡ us
+pub tokens_only : (text : List ℕ) (ts us : List Token) → SpellsTokens text ts → SpellsTokens text us → ts ≡ us
 tokens_only text ts us one two = rest_same text 0 ts us one.spelled two.spelled

@@ -6,15 +6,15 @@ use Rattle.std.specs.List.{flat_map, prefix_len}
 use Rattle.std.proofs.lemmas.List.{length-map, take_at, drop_at}
 use Rattle.std.proofs.lemmas.Bool.Decides.{nat_tests}
 use Rattle.octets.specs.Ascii.{lowered}
-use Rattle.sievelex.specs.declared.token.Content.TheVariants.{Identifier}
-use Rattle.sievelex.specs.declared.multiline.Stage.TheVariants.{Opening}
-use Rattle.sievelex.specs.Class.{is_name_octet, is_name_start}
-use Rattle.sievelex.specs.Body.{body_from}
-use Rattle.sievelex.specs.Lines.{IsMultiline, line_end, line_spelling}
-use Rattle.sievelex.specs.Spelling.{OpensText}
-use Rattle.sievelex.proofs.Prefixes.{front_of}
-use Rattle.sievelex.proofs.Opening.{letter_start}
-use Rattle.sievelex.proofs.Bodies.{opening_again, lines_again}
+use Rattle.sieve_lex.specs.declared.token.Content.TheVariants.{Identifier}
+use Rattle.sieve_lex.specs.declared.multiline.BodyState.TheVariants.{Opening}
+use Rattle.sieve_lex.specs.Class.{is_name_octet, is_name_start}
+use Rattle.sieve_lex.specs.Body.{body_from}
+use Rattle.sieve_lex.specs.Lines.{IsMultiline, body_line_end, line_spelling}
+use Rattle.sieve_lex.specs.Spelling.{OpensText}
+use Rattle.sieve_lex.proofs.Prefixes.{front_of}
+use Rattle.sieve_lex.proofs.Opening.{letter_start}
+use Rattle.sieve_lex.proofs.Bodies.{opening_again, lines_again}
 
 -- the word and its colon stand first
 pub record IsWord (octets : List ℕ) : Type 0 where
@@ -77,7 +77,7 @@ word_opens octets w =
 
 -- what a string of several lines is before what follows it
 multi_whole : (octets value : List ℕ) (m : ℕ) (s : IsMultiline (take m octets) value (drop m octets))
-    → octets ≡ s.word ++ (s.blanks ++ (s.comment ++ (line_end s.bare ++ (flat_map line_spelling s.lines ++ (46 ∷ (s.final ++ drop m octets))))))
+    → octets ≡ s.word ++ (s.blanks ++ (s.comment ++ (body_line_end s.bare ++ (flat_map line_spelling s.lines ++ (46 ∷ (s.final ++ drop m octets))))))
 multi_whole octets value m s = front_of octets _ m s.spelled ∙ (simp append_assoc)
 
 pub multi_word : (octets value : List ℕ) (m : ℕ) → IsMultiline (take m octets) value (drop m octets) → lowered (take 5 octets) ≡ codes "text:"

@@ -1,9 +1,9 @@
 -- What an octet begins, outside strings (RFC 5228, 8.1).
 use Rattle.std.specs.Prelude.{ℕ, Bool, ◌==◌, ◌||◌, cond}
 use Rattle.octets.specs.Ascii.{is_blank, is_letter, is_digit}
-use Rattle.sievelex.specs.declared.class.Class.{Class}
-use Rattle.sievelex.specs.declared.class.Class.TheVariants.{Letter, Digit, White, Colon, Quote, Mark, Other}
-use Rattle.sievelex.specs.declared.token.Mark.TheVariants.{Semicolon, OpenBrace, CloseBrace, OpenBracket, CloseBracket, OpenParen, CloseParen, Comma}
+use Rattle.sieve_lex.specs.declared.class.Class.{Class}
+use Rattle.sieve_lex.specs.declared.class.Class.TheVariants.{Letter, Digit, White, Colon, Quote, Mark, Other}
+use Rattle.sieve_lex.specs.declared.token.Mark.TheVariants.{Semicolon, OpenBrace, CloseBrace, OpenBracket, CloseBracket, OpenParen, CloseParen, Comma}
 
 -- a letter or `_` begins an identifier
 abbrev pub is_name_start : ℕ → Bool
@@ -18,8 +18,8 @@ abbrev pub is_white : ℕ → Bool
 is_white b = is_blank b || (b == 13 || b == 10)
 
 -- what an octet begins: `:` a tag, `"` a string, `; { } [ ] ( ) ,` stand for themselves
-abbrev pub class_of : ℕ → Class
-class_of b =
+abbrev pub octet_class_of : ℕ → Class
+octet_class_of b =
     cond (is_name_start b) Letter
     (cond (is_digit b) Digit
     (cond (is_white b) White

@@ -1,13 +1,13 @@
 -- What tokens are and say, without their positions.
 use Rattle.std.specs.Prelude.{◌≡◌, ℕ, List, [], ◌∷◌, ◌++◌, Option, Some, None, map, slice_get}
-use Rattle.sievelex.specs.declared.token.Content.{Content}
-use Rattle.sievelex.specs.declared.token.Content.TheVariants.{Identifier, Tag, Number, Text, Mark}
-use Rattle.sievelex.specs.declared.token.Token.{Token}
-use Rattle.sievelex.specs.declared.packed.PackedKind.{PackedKind}
-use Rattle.sievelex.specs.declared.packed.Packed.{Packed}
-use Rattle.sievelex.specs.declared.packed.ContentRef.{ContentRef}
-use Rattle.sievelex.specs.declared.packed.ContentRef.TheVariants as R
-use Rattle.sievelex.specs.Unpacked.{unpacked}
+use Rattle.sieve_lex.specs.declared.token.Content.{Content}
+use Rattle.sieve_lex.specs.declared.token.Content.TheVariants.{Identifier, Tag, Number, Text, Mark}
+use Rattle.sieve_lex.specs.declared.token.Token.{Token}
+use Rattle.sieve_lex.specs.declared.packed.PackedKind.{PackedKind}
+use Rattle.sieve_lex.specs.declared.packed.Packed.{Packed}
+use Rattle.sieve_lex.specs.declared.packed.ContentRef.{ContentRef}
+use Rattle.sieve_lex.specs.declared.packed.ContentRef.TheVariants as R
+use Rattle.sieve_lex.specs.Unpacked.{unpacked}
 
 -- what tokens in a row are and say
 abbrev pub contents_of : List Token → List Content
@@ -18,12 +18,12 @@ abbrev pub contents : Packed → List Content
 contents packed = unpacked packed.kinds.items packed.numbers.items packed.octets.items
 
 -- the same of a token that was read
-abbrev pub content_of : ContentRef → Content
-content_of (R.Identifier name) = Identifier name.now
-content_of (R.Tag name) = Tag name.now
-content_of (R.Number n) = Number n
-content_of (R.Text value) = Text value.now
-content_of (R.Mark mark) = Mark mark
+abbrev pub content_view : ContentRef → Content
+content_view (R.Identifier name) = Identifier name.now
+content_view (R.Tag name) = Tag name.now
+content_view (R.Number n) = Number n
+content_view (R.Text value) = Text value.now
+content_view (R.Mark mark) = Mark mark
 
 -- the line of this token, or 1
 abbrev pub line_or : Option Token → ℕ

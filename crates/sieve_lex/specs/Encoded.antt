@@ -4,11 +4,11 @@ use Rattle.std.specs.Char.{encode_utf8}
 use Rattle.std.specs.List.{list_any, prefix_len}
 use Rattle.std.specs.Cmp.Lexicographic.{pointwise}
 use Rattle.octets.specs.Ascii.{lowered}
-use Rattle.sievelex.specs.declared.encoded.Coding.{Coding}
-use Rattle.sievelex.specs.declared.encoded.Coding.TheVariants.{Hex, Unicode}
-use Rattle.sievelex.specs.declared.encoded.Sequence.{Sequence}
-use Rattle.sievelex.specs.declared.encoded.Sequence.TheVariants.{Absent, OutOfRange, Present}
-use Rattle.sievelex.specs.Class.{is_white}
+use Rattle.sieve_lex.specs.declared.encoded.Coding.{Coding}
+use Rattle.sieve_lex.specs.declared.encoded.Coding.TheVariants.{Hex, Unicode}
+use Rattle.sieve_lex.specs.declared.encoded.Sequence.{Sequence}
+use Rattle.sieve_lex.specs.declared.encoded.Sequence.TheVariants.{Absent, OutOfRange, Present}
+use Rattle.sieve_lex.specs.Class.{is_white}
 
 -- ---- numbers
 
@@ -34,36 +34,36 @@ is_character number = nat_le number 0xD7FF || (nat_le 0xE000 number && nat_le nu
 
 -- what a number of that many digits stands for: hex-pair = 1*2HEXDIG is an octet (two digits write none above 255); unicode-hex =
 -- 1*HEXDIG is the UTF-8 of a character, 0 to D7FF or E000 to 10FFFF
-abbrev pub value_of : Coding → (digits number : ℕ) → Option (List ℕ)
-value_of Hex digits number = cond (nat_le digits 2 && nat_lt number 256) (Some (number ∷ [])) None
-value_of Unicode digits number = cond (is_character number) (Some (encode_utf8 number)) None
+abbrev pub number_value : Coding → (digits number : ℕ) → Option (List ℕ)
+number_value Hex digits number = cond (nat_le digits 2 && nat_lt number 256) (Some (number ∷ [])) None
+number_value Unicode digits number = cond (is_character number) (Some (encode_utf8 number)) None
 
 -- the same of a word that was read: if there are no digits there is no word
 abbrev pub word_value : Coding → (digits number : ℕ) → Option (List ℕ)
-word_value coding digits number = cond (digits == 0) (Some []) (value_of coding digits number)
+word_value coding digits number = cond (digits == 0) (Some []) (number_value coding digits number)
 
 -- ---- sequences
 
 -- one text after another, if both are there
-abbrev pub joined : Option (List ℕ) → Option (List ℕ) → Option (List ℕ)
-joined None rest = None
-joined (Some front) None = None
-joined (Some front) (Some rest) = Some (front ++ rest)
+abbrev pub joined_texts : Option (List ℕ) → Option (List ℕ) → Option (List ℕ)
+joined_texts None rest = None
+joined_texts (Some front) None = None
+joined_texts (Some front) (Some rest) = Some (front ++ rest)
 
 -- what words stand for, one after another
-abbrev pub values_of : Coding → List (List ℕ) → Option (List ℕ)
-values_of coding [] = Some []
-values_of coding (word ∷ more) = joined (value_of coding (length word) (hex_number word)) (values_of coding more)
+abbrev pub words_value : Coding → List (List ℕ) → Option (List ℕ)
+words_value coding [] = Some []
+words_value coding (word ∷ more) = joined_texts (number_value coding (length word) (hex_number word)) (words_value coding more)
 
 -- a word, unless it is empty
-abbrev pub ended : List ℕ → List (List ℕ)
-ended [] = []
-ended (b ∷ word) = (b ∷ word) ∷ []
+abbrev pub nonempty_word : List ℕ → List (List ℕ)
+nonempty_word [] = []
+nonempty_word (b ∷ word) = (b ∷ word) ∷ []
 
 -- the words that white octets separate, if `word` has begun before: blank = WSP / CRLF
 abbrev pub words_from : List ℕ → List ℕ → List (List ℕ)
-words_from word [] = ended word
-words_from word (b ∷ s) = cond (is_white b) (ended word ++ words_from [] s) (words_from (word ++ b ∷ []) s)
+words_from word [] = nonempty_word word
+words_from word (b ∷ s) = cond (is_white b) (nonempty_word word ++ words_from [] s) (words_from (word ++ b ∷ []) s)
 
 -- ---- in a text
 
@@ -90,17 +90,17 @@ abbrev pub is_closed : List ℕ → Bool
 is_closed text = slice_index text (inner_len text) == 125 && list_any is_hex (take (inner_len text) text)
 
 -- a sequence of that many octets with this value: absent if a word isn't a hex-pair, and out of range if one isn't a character's number
-abbrev pub valued : Coding → ℕ → Option (List ℕ) → Sequence
-valued coding len (Some value) = Present value len
-valued Hex len None = Absent
-valued Unicode len None = OutOfRange
+abbrev pub sequence_with : Coding → ℕ → Option (List ℕ) → Sequence
+sequence_with coding len (Some value) = Present value len
+sequence_with Hex len None = Absent
+sequence_with Unicode len None = OutOfRange
 
 -- the sequence, given what it opens with
 abbrev pub closed_by : Option (Coding × ℕ) → List ℕ → Sequence
 closed_by None text = Absent
 closed_by (Some opening) text =
     cond (is_closed (drop opening.1 text))
-    (valued opening.0 (opening.1 + inner_len (drop opening.1 text) + 1) (values_of opening.0 (words_from [] (take (inner_len (drop opening.1 text)) (drop opening.1 text)))))
+    (sequence_with opening.0 (opening.1 + inner_len (drop opening.1 text) + 1) (words_value opening.0 (words_from [] (take (inner_len (drop opening.1 text)) (drop opening.1 text)))))
     Absent
 
 -- the sequence that the text begins with: encoded-arb-octets = "${hex:" hex-pair-seq "}", encoded-unicode-char = "${unicode:" unicode-hex-seq "}"
@@ -108,10 +108,10 @@ abbrev pub sequence_at : List ℕ → Sequence
 sequence_at text = closed_by (opening_of text) text
 
 -- a sequence has one or more octets, and no more than the text has
-abbrev pub IsWithin : Sequence → List ℕ → Type 0
-IsWithin Absent text = Unit {0}
-IsWithin OutOfRange text = Unit {0}
-IsWithin (Present value len) text = (0 < len) × (len ≤ length text)
+abbrev pub IsSequenceWithin : Sequence → List ℕ → Type 0
+IsSequenceWithin Absent text = Unit {0}
+IsSequenceWithin OutOfRange text = Unit {0}
+IsSequenceWithin (Present value len) text = (0 < len) × (len ≤ length text)
 
 -- what the text stands for from a position on, if its first `taken` octets belong to a sequence before it: what isn't a sequence
 -- stays as it is written, and what has been decoded isn't decoded again
@@ -119,9 +119,9 @@ abbrev pub decoded_after : (taken : ℕ) → List ℕ → Option (List ℕ)
 decoded_after taken [] = Some []
 decoded_after (suc taken) (b ∷ s) = decoded_after taken s
 decoded_after zero (b ∷ s) = elim (sequence_at (b ∷ s)) [
-  | Absent ↦ joined (Some (b ∷ [])) (decoded_after 0 s)
+  | Absent ↦ joined_texts (Some (b ∷ [])) (decoded_after 0 s)
   | OutOfRange ↦ None
-  | Present value len ↦ joined (Some value) (decoded_after (len - 1) s)
+  | Present value len ↦ joined_texts (Some value) (decoded_after (len - 1) s)
 ]
 
 -- what a string stands for if `encoded-character` is required; nothing if a sequence has a number that isn't a character's

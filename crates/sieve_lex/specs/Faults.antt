@@ -1,59 +1,59 @@
 use Rattle.std.specs.Prelude.{ℕ, List, ◌++◌, codes, decimal}
-use Rattle.sievelex.specs.declared.fault.FaultKind.{FaultKind}
-use Rattle.sievelex.specs.declared.fault.FaultKind.TheVariants.{NotUtf8, BadByte, OpenString, OpenComment, NumberTooLarge, Unexpected, UnknownCommand, UnknownTest, UnknownTag, DoubleTag, MissingArgument, ExtraArgument, WrongArgument, NotRequired, UnknownCapability, LateRequire, StrayElse, TooDeep, BadMailbox, BadAddress, BadMime, LongReasonLine, BadCharacter}
+use Rattle.sieve_lex.specs.declared.fault.FaultKind.{FaultKind}
+use Rattle.sieve_lex.specs.declared.fault.FaultKind.TheVariants.{NotUtf8, BadByte, OpenString, OpenComment, NumberTooLarge, Unexpected, UnknownCommand, UnknownTest, UnknownTag, DoubleTag, MissingArgument, ExtraArgument, WrongArgument, NotRequired, UnknownCapability, LateRequire, StrayElse, TooDeep, BadMailbox, BadAddress, BadMime, LongReasonLine, BadCharacter}
 
 -- the number of a fault's kind
-abbrev pub number_of : FaultKind → ℕ
-number_of NotUtf8 = 1
-number_of BadByte = 2
-number_of OpenString = 3
-number_of OpenComment = 4
-number_of NumberTooLarge = 5
-number_of Unexpected = 6
-number_of UnknownCommand = 7
-number_of UnknownTest = 8
-number_of UnknownTag = 9
-number_of DoubleTag = 10
-number_of MissingArgument = 11
-number_of ExtraArgument = 12
-number_of WrongArgument = 13
-number_of NotRequired = 14
-number_of UnknownCapability = 15
-number_of LateRequire = 16
-number_of StrayElse = 17
-number_of TooDeep = 18
-number_of BadMailbox = 19
-number_of BadAddress = 20
-number_of BadMime = 21
-number_of LongReasonLine = 22
-number_of BadCharacter = 23
+abbrev pub fault_number : FaultKind → ℕ
+fault_number NotUtf8 = 1
+fault_number BadByte = 2
+fault_number OpenString = 3
+fault_number OpenComment = 4
+fault_number NumberTooLarge = 5
+fault_number Unexpected = 6
+fault_number UnknownCommand = 7
+fault_number UnknownTest = 8
+fault_number UnknownTag = 9
+fault_number DoubleTag = 10
+fault_number MissingArgument = 11
+fault_number ExtraArgument = 12
+fault_number WrongArgument = 13
+fault_number NotRequired = 14
+fault_number UnknownCapability = 15
+fault_number LateRequire = 16
+fault_number StrayElse = 17
+fault_number TooDeep = 18
+fault_number BadMailbox = 19
+fault_number BadAddress = 20
+fault_number BadMime = 21
+fault_number LongReasonLine = 22
+fault_number BadCharacter = 23
 
 -- the words for a script's author about a fault
-abbrev pub text_of : FaultKind → List ℕ
-text_of NotUtf8 = codes "not UTF-8"
-text_of BadByte = codes "bad octet"
-text_of OpenString = codes "string is not closed"
-text_of OpenComment = codes "comment is not closed"
-text_of NumberTooLarge = codes "number too large"
-text_of Unexpected = codes "unexpected token"
-text_of UnknownCommand = codes "unknown command"
-text_of UnknownTest = codes "unknown test"
-text_of UnknownTag = codes "unknown tag"
-text_of DoubleTag = codes "tag given twice"
-text_of MissingArgument = codes "missing argument"
-text_of ExtraArgument = codes "too many arguments"
-text_of WrongArgument = codes "wrong argument"
-text_of NotRequired = codes "extension not required"
-text_of UnknownCapability = codes "unknown capability"
-text_of LateRequire = codes "require after another command"
-text_of StrayElse = codes "elsif or else without if"
-text_of TooDeep = codes "nested too deep"
-text_of BadMailbox = codes "bad mailbox name"
-text_of BadAddress = codes "bad address"
-text_of BadMime = codes "bad MIME reason"
-text_of LongReasonLine = codes "reason line too long"
-text_of BadCharacter = codes "no such character"
+abbrev pub fault_text : FaultKind → List ℕ
+fault_text NotUtf8 = codes "not UTF-8"
+fault_text BadByte = codes "bad octet"
+fault_text OpenString = codes "string is not closed"
+fault_text OpenComment = codes "comment is not closed"
+fault_text NumberTooLarge = codes "number too large"
+fault_text Unexpected = codes "unexpected token"
+fault_text UnknownCommand = codes "unknown command"
+fault_text UnknownTest = codes "unknown test"
+fault_text UnknownTag = codes "unknown tag"
+fault_text DoubleTag = codes "tag given twice"
+fault_text MissingArgument = codes "missing argument"
+fault_text ExtraArgument = codes "too many arguments"
+fault_text WrongArgument = codes "wrong argument"
+fault_text NotRequired = codes "extension not required"
+fault_text UnknownCapability = codes "unknown capability"
+fault_text LateRequire = codes "require after another command"
+fault_text StrayElse = codes "elsif or else without if"
+fault_text TooDeep = codes "nested too deep"
+fault_text BadMailbox = codes "bad mailbox name"
+fault_text BadAddress = codes "bad address"
+fault_text BadMime = codes "bad MIME reason"
+fault_text LongReasonLine = codes "reason line too long"
+fault_text BadCharacter = codes "no such character"
 
 -- a fault in words: the line, counted from 1, and what is wrong there
 abbrev pub fault_line : ℕ → FaultKind → List ℕ
-fault_line line kind = codes "line " ++ (decimal line ++ (codes ": " ++ text_of kind))
+fault_line line kind = codes "line " ++ (decimal line ++ (codes ": " ++ fault_text kind))

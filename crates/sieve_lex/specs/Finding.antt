@@ -1,6 +1,6 @@
 use Rattle.std.specs.Prelude.{◌≡◌, ℕ, Result, Ok, Err}
-use Rattle.sievelex.specs.declared.fault.ScriptError.{ScriptError}
-use Rattle.sievelex.specs.declared.fault.ScriptError.TheVariants.{Memory, Fault}
+use Rattle.sieve_lex.specs.declared.fault.ScriptError.{ScriptError}
+use Rattle.sieve_lex.specs.declared.fault.ScriptError.TheVariants.{Memory, Fault}
 
 -- this holds if the error is a fault of the script; lack of memory says nothing
 abbrev pub OnFault : ScriptError → Type 0 → Type 0
@@ -28,6 +28,6 @@ IfFaultLine (Ok _) p = Unit {0}
 IfFaultLine (Err e) p = OnFaultLine e p
 
 -- the only x with P, or a fault if there is none
-abbrev pub Finds : {X : Type 0} → (X → Type 0) → Result X ScriptError → Type 0
-Finds {X} P (Ok x) = P x × ((y : X) → P y → y ≡ x)
-Finds {X} P (Err e) = OnFault e ((y : X) → P y → ⊥)
+abbrev pub FindsOne : {X : Type 0} → (X → Type 0) → Result X ScriptError → Type 0
+FindsOne {X} P (Ok x) = P x × ((y : X) → P y → y ≡ x)
+FindsOne {X} P (Err e) = OnFault e ((y : X) → P y → ⊥)

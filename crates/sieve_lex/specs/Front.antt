@@ -1,7 +1,7 @@
 -- What the readers of single tokens return.
 use Rattle.std.specs.Prelude.{ℕ, List}
-use Rattle.sievelex.specs.declared.front.Front.{Front}
-use Rattle.sievelex.specs.Spelling.{IsToken}
+use Rattle.sieve_lex.specs.declared.front.Front.{Front}
+use Rattle.sieve_lex.specs.Spelling.{IsToken}
 
 -- the octets begin with this token
 abbrev pub IsFront : List ℕ → Front → Type 0

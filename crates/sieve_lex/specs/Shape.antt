@@ -3,11 +3,11 @@ use Rattle.std.specs.Prelude.{◌≡◌, ◌≢◌, ◌⊎◌, ℕ, ◌*◌, ◌
 use Rattle.std.specs.List.{list_all, flat_map}
 use Rattle.octets.specs.Ascii.{is_digit}
 use Rattle.octets.specs.Decimal.{number_of}
-use Rattle.sievelex.specs.declared.token.Content.{Content}
-use Rattle.sievelex.specs.declared.token.Content.TheVariants.{Identifier, Tag, Number, Text, Mark}
-use Rattle.sievelex.specs.declared.class.Class.TheVariants as Class
-use Rattle.sievelex.specs.Lines.{IsMultiline}
-use Rattle.sievelex.specs.Class.{is_name_start, is_name_octet, class_of}
+use Rattle.sieve_lex.specs.declared.token.Content.{Content}
+use Rattle.sieve_lex.specs.declared.token.Content.TheVariants.{Identifier, Tag, Number, Text, Mark}
+use Rattle.sieve_lex.specs.declared.class.Class.TheVariants as Class
+use Rattle.sieve_lex.specs.Lines.{IsMultiline}
+use Rattle.sieve_lex.specs.Class.{is_name_start, is_name_octet, octet_class_of}
 
 -- a letter or `_`, then letters, digits and `_`
 abbrev pub IsName : List ℕ → Type 0
@@ -24,7 +24,7 @@ factor_of (b ∷ []) =
 factor_of _ = None
 
 -- digits and perhaps a multiplier, and the number that they stand for
-pub record IsNumber (s : List ℕ) (n : ℕ) : Type 0 where
+pub record IsNumberText (s : List ℕ) (n : ℕ) : Type 0 where
   pub digits : List ℕ
   pub letter : List ℕ
   pub factor : ℕ
@@ -35,48 +35,48 @@ pub record IsNumber (s : List ℕ) (n : ℕ) : Type 0 where
   pub valued : n ≡ number_of digits * factor
 
 -- a piece of a quoted string: an octet, one after a backslash, CRLF, or a bare LF, which is read as CRLF
-pub data Piece : Type 0 where
-  Plain : ℕ → Piece
-  Escaped : ℕ → Piece
-  LineEnd : Piece
-  BareLineEnd : Piece
+pub data StringPiece : Type 0 where
+  Plain : ℕ → StringPiece
+  Escaped : ℕ → StringPiece
+  LineEnd : StringPiece
+  BareLineEnd : StringPiece
 
 -- `"`, `\`, CR and LF aren't plain octets; a backslash may precede any octet but NUL, CR and LF
-abbrev pub IsPiece : Piece → Type 0
-IsPiece (Plain b) = IsFalse (b == 34) × IsFalse (b == 92) × IsFalse (b == 13) × IsFalse (b == 10)
-IsPiece (Escaped b) = IsFalse (b == 0) × IsFalse (b == 13) × IsFalse (b == 10)
-IsPiece LineEnd = Unit {0}
-IsPiece BareLineEnd = Unit {0}
+abbrev pub IsStringPiece : StringPiece → Type 0
+IsStringPiece (Plain b) = IsFalse (b == 34) × IsFalse (b == 92) × IsFalse (b == 13) × IsFalse (b == 10)
+IsStringPiece (Escaped b) = IsFalse (b == 0) × IsFalse (b == 13) × IsFalse (b == 10)
+IsStringPiece LineEnd = Unit {0}
+IsStringPiece BareLineEnd = Unit {0}
 
-abbrev pub ArePieces : List Piece → Type 0
-ArePieces [] = Unit {0}
-ArePieces (p ∷ ps) = IsPiece p × ArePieces ps
+abbrev pub AreStringPieces : List StringPiece → Type 0
+AreStringPieces [] = Unit {0}
+AreStringPieces (p ∷ ps) = IsStringPiece p × AreStringPieces ps
 
 -- how a piece is written
-abbrev pub spelling_of : Piece → List ℕ
+abbrev pub spelling_of : StringPiece → List ℕ
 spelling_of (Plain b) = b ∷ []
 spelling_of (Escaped b) = 92 ∷ (b ∷ [])
 spelling_of LineEnd = 13 ∷ (10 ∷ [])
 spelling_of BareLineEnd = 10 ∷ []
 
 -- what it stands for
-abbrev pub value_of : Piece → List ℕ
-value_of (Plain b) = b ∷ []
-value_of (Escaped b) = b ∷ []
-value_of LineEnd = 13 ∷ (10 ∷ [])
-value_of BareLineEnd = 13 ∷ (10 ∷ [])
+abbrev pub piece_value : StringPiece → List ℕ
+piece_value (Plain b) = b ∷ []
+piece_value (Escaped b) = b ∷ []
+piece_value LineEnd = 13 ∷ (10 ∷ [])
+piece_value BareLineEnd = 13 ∷ (10 ∷ [])
 
 -- a quoted string and what it stands for (RFC 5228, 2.4.2)
 pub record IsQuotedString (s value : List ℕ) : Type 0 where
-  pub pieces : List Piece
-  pub each : ArePieces pieces
+  pub pieces : List StringPiece
+  pub each : AreStringPieces pieces
   pub spelled : s ≡ 34 ∷ (flat_map spelling_of pieces ++ 34 ∷ [])
-  pub valued : value ≡ flat_map value_of pieces
+  pub valued : value ≡ flat_map piece_value pieces
 
 -- s spells this token, and the rest of the text follows
-abbrev pub IsShape : Content → List ℕ → List ℕ → Type 0
-IsShape (Identifier name) s rest = (s ≡ name) × IsName name
-IsShape (Tag name) s rest = (s ≡ 58 ∷ name) × IsName name
-IsShape (Number n) s rest = IsNumber s n
-IsShape (Text value) s rest = IsQuotedString s value ⊎ IsMultiline s value rest
-IsShape (Mark mark) s rest = (b : ℕ) × ((class_of b ≡ Class.Mark mark) × (s ≡ b ∷ []))
+abbrev pub IsTokenShape : Content → List ℕ → List ℕ → Type 0
+IsTokenShape (Identifier name) s rest = (s ≡ name) × IsName name
+IsTokenShape (Tag name) s rest = (s ≡ 58 ∷ name) × IsName name
+IsTokenShape (Number n) s rest = IsNumberText s n
+IsTokenShape (Text value) s rest = IsQuotedString s value ⊎ IsMultiline s value rest
+IsTokenShape (Mark mark) s rest = (b : ℕ) × ((octet_class_of b ≡ Class.Mark mark) × (s ≡ b ∷ []))

@@ -1,7 +1,7 @@
 -- The octets that a name or a string says.
 use Rattle.std.specs.Prelude.{ℕ, List}
-use Rattle.sievelex.specs.declared.said.Source.{Source}
-use Rattle.sievelex.specs.declared.said.Source.TheVariants as S
+use Rattle.sieve_lex.specs.declared.said.Source.{Source}
+use Rattle.sieve_lex.specs.declared.said.Source.TheVariants as S
 
 -- these octets
 abbrev pub octets_at : Source → List ℕ

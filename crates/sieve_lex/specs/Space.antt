@@ -1,8 +1,8 @@
 -- White space between tokens (RFC 5228, 2.3 and 8.1).
 use Rattle.std.specs.Prelude.{◌≡◌, ◌≢◌, ℕ, not, List, [], ◌∷◌, ◌++◌, slice_index, IsTrue}
 use Rattle.std.specs.List.{list_all, flat_map}
-use Rattle.sievelex.specs.Class.{is_white}
-use Rattle.sievelex.specs.Text.{is_line_feed}
+use Rattle.sieve_lex.specs.Class.{is_white}
+use Rattle.sieve_lex.specs.Text.{is_line_feed}
 
 -- a piece of white space: a blank or an octet of a line end; a comment from `#` to the end of its line; a comment
 -- in `/*` and `*/`

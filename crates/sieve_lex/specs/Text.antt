@@ -8,7 +8,7 @@ pub record HasGoodOctets (text : List ℕ) : Type 0 where
   pub no_lone_cr : (i : ℕ) → slice_index text i ≡ 13 → slice_index text (i + 1) ≡ 10
 
 -- a text of a script is UTF-8, without NUL and without a lone CR
-pub record IsText (text : List ℕ) : Type 0 where
+pub record IsScriptText (text : List ℕ) : Type 0 where
   pub utf8 : IsUtf8 text
   pub octets : HasGoodOctets text
 

@@ -1,9 +1,9 @@
 -- Packed tokens: a row of kinds, and besides it the numbers and the octets that they say.
 use Rattle.std.specs.Prelude.{ℕ, List, [], ◌∷◌, take, drop, slice_index}
-use Rattle.sievelex.specs.declared.token.Content.{Content}
-use Rattle.sievelex.specs.declared.token.Content.TheVariants.{Identifier, Tag, Number, Text, Mark}
-use Rattle.sievelex.specs.declared.packed.PackedKind.{PackedKind}
-use Rattle.sievelex.specs.declared.packed.PackedKind.TheVariants as K
+use Rattle.sieve_lex.specs.declared.token.Content.{Content}
+use Rattle.sieve_lex.specs.declared.token.Content.TheVariants.{Identifier, Tag, Number, Text, Mark}
+use Rattle.sieve_lex.specs.declared.packed.PackedKind.{PackedKind}
+use Rattle.sieve_lex.specs.declared.packed.PackedKind.TheVariants as K
 
 -- what the tokens are and say: a number takes the first number; a name or a string takes the first number, and as
 -- many of the octets

@@ -1,6 +1,6 @@
 //! The classes of octets: what an octet outside strings begins.
 ghost use Rattle.std.specs.Prelude.{◌≡◌};
-ghost use Rattle.sievelex.specs.Class.{class_of, is_name_start, is_name_octet, is_white};
+ghost use Rattle.sieve_lex.specs.Class.{octet_class_of, is_name_start, is_name_octet, is_white};
 
 use crate::token::Mark;
 use octets::is_blank;
@@ -47,7 +47,7 @@ pub(crate) fn is_white(octet: u8) -> bool
 
 /// What an octet begins where a token may stand.
 pub(crate) fn class_of(octet: u8) -> Class
-    ensures { result ≡ class_of octet }
+    ensures { result ≡ octet_class_of octet }
 {
     match octet {
         b'a'..=b'z' | b'A'..=b'Z' | b'_' => Class::Letter,

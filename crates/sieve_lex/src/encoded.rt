@@ -1,7 +1,7 @@
 //! Encoded characters in strings (RFC 5228, 2.4.2.4).
 ghost use Rattle.std.specs.Prelude.{◌≡◌, ◌≤◌, [], length, Some, None, IfOk, MatchBool, MatchOption};
 ghost use Rattle.std.specs.List.{list_any};
-ghost use Rattle.sievelex.specs.Encoded as spec;
+ghost use Rattle.sieve_lex.specs.Encoded as spec;
 
 use crate::class::is_white;
 use memchr::memchr;
@@ -69,7 +69,7 @@ pub fn decode(alloc: Global, text: &[u8]) -> Result<Option<Octets>, AllocError>
 /// The sequence that a text begins with. Looks no further than the first octet that isn't part of it.
 fn sequence_at(alloc: Global, text: &[u8]) -> Result<Sequence, AllocError>
     ensures found { IfOk result (λ found. found ≡ spec.sequence_at text.now) }
-    ensures within { IfOk result (λ found. spec.IsWithin found text.now) }
+    ensures within { IfOk result (λ found. spec.IsSequenceWithin found text.now) }
 {
     let Some((coding, front)) = opening(text) else {
         return Ok(Sequence::Absent);
@@ -137,7 +137,7 @@ fn is_hex(octet: u8) -> bool
 
 /// What the words of these octets stand for.
 fn values(alloc: Global, coding: Coding, body: &[u8]) -> Result<Option<Octets>, AllocError>
-    ensures { IfOk result (λ value. value ≡ spec.values_of coding (spec.words_from [] body.now)) }
+    ensures { IfOk result (λ value. value ≡ spec.words_value coding (spec.words_from [] body.now)) }
 {
     let mut value = Octets::new(alloc);
     let mut digits = 0;
@@ -189,7 +189,7 @@ fn append_value(
     number: u32,
 ) -> Result<bool, AllocError>
     ensures { IfOk result (λ fits. MatchBool fits
-        (spec.joined (Some value.old) (spec.word_value coding digits number) ≡ Some value.new)
+        (spec.joined_texts (Some value.old) (spec.word_value coding digits number) ≡ Some value.new)
         (spec.word_value coding digits number ≡ None)) }
 {
     if digits == 0 {

@@ -1,5 +1,5 @@
 ghost use Rattle.std.specs.Prelude.{◌≡◌, IfOk};
-ghost use Rattle.sievelex.specs.Faults.{fault_line};
+ghost use Rattle.sieve_lex.specs.Faults.{fault_line};
 
 use octets::{Octets, write_decimal};
 use std::alloc::{AllocError, AllocFailed, Global};
@@ -58,18 +58,18 @@ pub enum FaultKind {
 }
 
 impl FaultKind {
-    ghost use Rattle.sievelex.specs.Faults.{number_of, text_of};
+    ghost use Rattle.sieve_lex.specs.Faults.{fault_number, fault_text};
 
     /// The kind's number, from 1 to 23.
     pub fn number(self) -> u8
-        ensures { result ≡ number_of self }
+        ensures { result ≡ fault_number self }
     {
         self as u8
     }
 
     /// The kind in words for the script's author.
     pub fn text(self) -> &'static str
-        ensures { result.now ≡ text_of self }
+        ensures { result.now ≡ fault_text self }
     {
         match self {
             FaultKind::NotUtf8 => "not UTF-8",
@@ -147,7 +147,7 @@ pub enum ScriptError {
 }
 
 impl From<AllocError> for ScriptError {
-    ghost use Rattle.sievelex.specs.declared.fault.ScriptError.TheVariants.{Memory};
+    ghost use Rattle.sieve_lex.specs.declared.fault.ScriptError.TheVariants.{Memory};
 
     ghost from_gives = { λ _ e. e ≡ Memory };
 
@@ -157,7 +157,7 @@ impl From<AllocError> for ScriptError {
 }
 
 impl<T: Drop> From<AllocFailed<T>> for ScriptError {
-    ghost use Rattle.sievelex.specs.declared.fault.ScriptError.TheVariants.{Memory};
+    ghost use Rattle.sieve_lex.specs.declared.fault.ScriptError.TheVariants.{Memory};
 
     ghost from_gives = { λ _ e. e ≡ Memory };
 

@@ -1,10 +1,10 @@
 //! The token that a text begins with.
 ghost use Rattle.std.specs.Prelude.{◌≡◌, ◌∷◌, ◌↔◌, IsTrue, slice_index, take, codes};
-ghost use Rattle.sievelex.specs.Spelling.{OpensText};
+ghost use Rattle.sieve_lex.specs.Spelling.{OpensText};
 ghost use Rattle.std.specs.List.{prefix_len};
-ghost use Rattle.sievelex.specs.Class.{is_name_start, is_name_octet};
-ghost use Rattle.sievelex.specs.Finding.{Finds, IfFaultLine};
-ghost use Rattle.sievelex.specs.Front.{IsFront};
+ghost use Rattle.sieve_lex.specs.Class.{is_name_start, is_name_octet};
+ghost use Rattle.sieve_lex.specs.Finding.{FindsOne, IfFaultLine};
+ghost use Rattle.sieve_lex.specs.Front.{IsFront};
 ghost use Rattle.octets.specs.Ascii.{is_digit, lowered};
 
 use crate::class::{Class, class_of, is_name_octet, is_name_start};
@@ -31,7 +31,7 @@ pub(crate) fn read_front<'a>(
     octets: &'a [u8],
     line: u64,
 ) -> Result<Front<'a>, ScriptError>
-    ensures found { Finds (IsFront octets.now) result }
+    ensures found { FindsOne (IsFront octets.now) result }
     ensures lines { IfFaultLine result (λ n. n ≡ line) }
 {
     let bad = ScriptError::Fault(ScriptFault {
@@ -66,7 +66,7 @@ pub(crate) fn read_front<'a>(
 #[inline(always)]
 fn read_identifier<'a>(alloc: Global, octets: &'a [u8], line: u64) -> Result<Front<'a>, ScriptError>
     requires { IsTrue (is_name_start (slice_index octets.now 0)) }
-    ensures found { Finds (IsFront octets.now) result }
+    ensures found { FindsOne (IsFront octets.now) result }
     ensures lines { IfFaultLine result (λ n. n ≡ line) }
 {
     let (name, rest) = octets.split_at(name_len(octets));
@@ -82,7 +82,7 @@ fn read_identifier<'a>(alloc: Global, octets: &'a [u8], line: u64) -> Result<Fro
 /// Reads the string of several lines that begins with the text's first octets, `text:`.
 fn read_multiline<'a>(alloc: Global, octets: &'a [u8], line: u64) -> Result<Front<'a>, ScriptError>
     requires { lowered (take 5 octets.now) ≡ codes "text:" }
-    ensures found { Finds (IsFront octets.now) result }
+    ensures found { FindsOne (IsFront octets.now) result }
     ensures lines { IfFaultLine result (λ n. n ≡ line) }
 {
     let (_, body) = octets.split_at(5);
@@ -103,7 +103,7 @@ fn opens_text(name: &[u8], rest: &[u8]) -> bool
 /// Reads the tag whose colon precedes this text.
 #[inline(always)]
 fn read_tag<'a>(octets: &'a [u8], line: u64) -> Result<Front<'a>, ScriptError>
-    ensures found { Finds (IsFront (58 ∷ octets.now)) result }
+    ensures found { FindsOne (IsFront (58 ∷ octets.now)) result }
     ensures lines { IfFaultLine result (λ n. n ≡ line) }
 {
     if !begins_name(octets) {
@@ -123,7 +123,7 @@ fn read_tag<'a>(octets: &'a [u8], line: u64) -> Result<Front<'a>, ScriptError>
 #[inline(always)]
 fn read_number<'a>(octets: &'a [u8], line: u64) -> Result<Front<'a>, ScriptError>
     requires { IsTrue (is_digit (slice_index octets.now 0)) }
-    ensures found { Finds (IsFront octets.now) result }
+    ensures found { FindsOne (IsFront octets.now) result }
     ensures lines { IfFaultLine result (λ n. n ≡ line) }
 {
     let (digits, rest) = octets.split_at(digit_count(octets));
@@ -143,7 +143,7 @@ fn read_number<'a>(octets: &'a [u8], line: u64) -> Result<Front<'a>, ScriptError
 /// Reads the quoted string whose opening quotation mark precedes this text.
 #[inline(always)]
 fn read_string<'a>(alloc: Global, octets: &'a [u8], line: u64) -> Result<Front<'a>, ScriptError>
-    ensures found { Finds (IsFront (34 ∷ octets.now)) result }
+    ensures found { FindsOne (IsFront (34 ∷ octets.now)) result }
     ensures lines { IfFaultLine result (λ n. n ≡ line) }
 {
     let (value, len) = read_quoted(alloc, octets, line)?;

@@ -1,8 +1,8 @@
 //! Strings of several lines.
 ghost use Rattle.std.specs.Prelude.{◌≡◌, ◌≤◌, ◌++◌, length, drop, IfOk, OnOk, Some, None};
-ghost use Rattle.sievelex.specs.Finding.{IfFault, IfFaultLine};
-ghost use Rattle.sievelex.specs.Body.{body_from, emitted, stage_after};
-ghost use Rattle.sievelex.specs.declared.multiline.Stage.TheVariants.{Opening};
+ghost use Rattle.sieve_lex.specs.Finding.{IfFault, IfFaultLine};
+ghost use Rattle.sieve_lex.specs.Body.{body_from, emitted, body_state_after};
+ghost use Rattle.sieve_lex.specs.declared.multiline.BodyState.TheVariants.{Opening};
 
 use crate::fault::{FaultKind, ScriptError, ScriptFault};
 use octets::{Octets, is_blank};
@@ -10,7 +10,7 @@ use std::alloc::{AllocError, Global};
 
 /// Where in a string of several lines an octet is.
 #[derive(Clone, Copy)]
-pub(crate) enum Stage {
+pub(crate) enum BodyState {
     /// After `text:` and blanks.
     Opening,
     /// In the comment after them.
@@ -33,83 +33,83 @@ pub(crate) enum Stage {
     Broken,
 }
 
-impl Stage {
+impl BodyState {
     /// Where the octet after this one is.
-    fn after(self, octet: u8) -> Stage
-        ensures { result ≡ stage_after self octet }
+    fn after(self, octet: u8) -> BodyState
+        ensures { result ≡ body_state_after self octet }
     {
         match self {
-            Stage::Opening => after_opening(octet),
-            Stage::Comment => match octet {
-                b'\n' => Stage::Start,
-                _ => Stage::Comment,
+            BodyState::Opening => after_opening(octet),
+            BodyState::Comment => match octet {
+                b'\n' => BodyState::Start,
+                _ => BodyState::Comment,
             },
-            Stage::OpeningReturn | Stage::Return => match octet {
-                b'\n' => Stage::Start,
-                _ => Stage::Broken,
+            BodyState::OpeningReturn | BodyState::Return => match octet {
+                b'\n' => BodyState::Start,
+                _ => BodyState::Broken,
             },
-            Stage::Start => match octet {
-                b'.' => Stage::Dot,
-                b'\r' => Stage::Return,
-                b'\n' => Stage::Start,
-                _ => Stage::Inside,
+            BodyState::Start => match octet {
+                b'.' => BodyState::Dot,
+                b'\r' => BodyState::Return,
+                b'\n' => BodyState::Start,
+                _ => BodyState::Inside,
             },
-            Stage::Dot => match octet {
-                b'\r' => Stage::DotReturn,
-                b'\n' => Stage::Done,
-                _ => Stage::Inside,
+            BodyState::Dot => match octet {
+                b'\r' => BodyState::DotReturn,
+                b'\n' => BodyState::Done,
+                _ => BodyState::Inside,
             },
-            Stage::DotReturn => match octet {
-                b'\n' => Stage::Done,
-                _ => Stage::Broken,
+            BodyState::DotReturn => match octet {
+                b'\n' => BodyState::Done,
+                _ => BodyState::Broken,
             },
-            Stage::Inside => match octet {
-                b'\r' => Stage::Return,
-                b'\n' => Stage::Start,
-                _ => Stage::Inside,
+            BodyState::Inside => match octet {
+                b'\r' => BodyState::Return,
+                b'\n' => BodyState::Start,
+                _ => BodyState::Inside,
             },
-            Stage::Done => Stage::Done,
-            Stage::Broken => Stage::Broken,
+            BodyState::Done => BodyState::Done,
+            BodyState::Broken => BodyState::Broken,
         }
     }
 }
 
 /// Where the octet after this one is, if this one is after `text:` and blanks.
-fn after_opening(octet: u8) -> Stage
-    ensures { result ≡ stage_after Opening octet }
+fn after_opening(octet: u8) -> BodyState
+    ensures { result ≡ body_state_after Opening octet }
 {
     if is_blank(octet) {
-        return Stage::Opening;
+        return BodyState::Opening;
     }
     match octet {
-        b'#' => Stage::Comment,
-        b'\r' => Stage::OpeningReturn,
-        b'\n' => Stage::Start,
-        _ => Stage::Broken,
+        b'#' => BodyState::Comment,
+        b'\r' => BodyState::OpeningReturn,
+        b'\n' => BodyState::Start,
+        _ => BodyState::Broken,
     }
 }
 
 /// Appends what the octet adds to the string's value.
-fn emit(value: &mut Octets, stage: Stage, octet: u8) -> Result<(), AllocError>
+fn emit(value: &mut Octets, stage: BodyState, octet: u8) -> Result<(), AllocError>
     ensures { OnOk result (value.new ≡ value.old ++ emitted stage octet) }
 {
     match stage {
-        Stage::Start => match octet {
+        BodyState::Start => match octet {
             b'.' | b'\r' => Ok(()),
             b'\n' => value.extend_from_slice(b"\r\n"),
             _ => value.push(octet),
         },
-        Stage::Dot => match octet {
+        BodyState::Dot => match octet {
             b'\r' | b'\n' => Ok(()),
             b'.' => value.push(b'.'),
             _ => value.extend_from_slice(&[b'.', octet]),
         },
-        Stage::Inside => match octet {
+        BodyState::Inside => match octet {
             b'\r' => Ok(()),
             b'\n' => value.extend_from_slice(b"\r\n"),
             _ => value.push(octet),
         },
-        Stage::Return => match octet {
+        BodyState::Return => match octet {
             b'\n' => value.extend_from_slice(b"\r\n"),
             _ => Ok(()),
         },
@@ -130,17 +130,17 @@ pub(crate) fn read_body(
     ensures lines { IfFaultLine result (λ n. n ≡ line) }
 {
     let mut value = Octets::new(alloc);
-    let mut stage = Stage::Opening;
+    let mut stage = BodyState::Opening;
     for (i, octet) in octets.iter().enumerate() {
-        if let Stage::Done = stage {
+        if let BodyState::Done = stage {
             return Ok((value, i));
         }
         emit(&mut value, stage, *octet)?;
         stage = stage.after(*octet);
     }
     match stage {
-        Stage::Done | Stage::Dot => Ok((value, octets.len())),
-        Stage::Opening | Stage::OpeningReturn | Stage::Broken => Err(ScriptError::Fault(
+        BodyState::Done | BodyState::Dot => Ok((value, octets.len())),
+        BodyState::Opening | BodyState::OpeningReturn | BodyState::Broken => Err(ScriptError::Fault(
             ScriptFault {
                 line,
                 kind: FaultKind::Unexpected,

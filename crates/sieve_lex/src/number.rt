@@ -3,8 +3,8 @@ ghost use Rattle.std.specs.Prelude.{◌≡◌, ◌*◌, ◌<◌, ◌≤◌, ◌^
 ghost use Rattle.std.specs.List.{prefix_len};
 ghost use Rattle.octets.specs.Ascii.{is_digit};
 ghost use Rattle.octets.specs.Decimal.{number_of};
-ghost use Rattle.sievelex.specs.Digits.{letter_len};
-ghost use Rattle.sievelex.specs.Shape.{factor_of};
+ghost use Rattle.sieve_lex.specs.Digits.{letter_len};
+ghost use Rattle.sieve_lex.specs.Shape.{factor_of};
 
 /// The greatest number of a script.
 const MAX_NUMBER: u64 = 9_223_372_036_854_775_807;

@@ -1,10 +1,10 @@
 //! The tokens of a text in little memory: what they are and what they say, without their positions.
 ghost use Rattle.std.specs.Prelude.{◌≡◌, ◌+◌, ◌^◌, ◌<◌, ◌≤◌, ℕ, List, [], ◌∷◌, ◌++◌, length, take, drop, slice_index, IfOk, OnOk, MatchOption};
-ghost use Rattle.sievelex.specs.declared.token.Token.{Token};
-ghost use Rattle.sievelex.specs.Finding.{IfFault, IfFaultLine};
-ghost use Rattle.sievelex.specs.Spelling.{SpellsFrom, Spells};
-ghost use Rattle.sievelex.specs.Text.{line_ends};
-ghost use Rattle.sievelex.specs.Contents.{contents, contents_of, content_of, line_at, Appends};
+ghost use Rattle.sieve_lex.specs.declared.token.Token.{Token};
+ghost use Rattle.sieve_lex.specs.Finding.{IfFault, IfFaultLine};
+ghost use Rattle.sieve_lex.specs.Spelling.{SpellsFrom, SpellsTokens};
+ghost use Rattle.sieve_lex.specs.Text.{line_ends};
+ghost use Rattle.sieve_lex.specs.Contents.{contents, contents_of, content_view, line_at, Appends};
 
 use crate::fault::ScriptError;
 use crate::scanner::{end_line, next, next_piece};
@@ -117,8 +117,8 @@ pub struct Cursor<'a> {
 
 impl<'a> Model for Cursor<'a> {
     ghost use Rattle.std.specs.Prelude.{List};
-    ghost use Rattle.sievelex.specs.declared.token.Content.{Content};
-    ghost use Rattle.sievelex.specs.Unpacked.{unpacked};
+    ghost use Rattle.sieve_lex.specs.declared.token.Content.{Content};
+    ghost use Rattle.sieve_lex.specs.Unpacked.{unpacked};
 
     ghost Value = { List Content };
 
@@ -137,7 +137,7 @@ impl<'a> Cursor<'a> {
     /// The next token, and what follows it; `None` at the end. Copies nothing.
     #[inline(always)]
     pub fn split_first(&self) -> Option<(ContentRef<'a>, Cursor<'a>)>
-        ensures { MatchOption result (self.now ≡ []) (λ found. self.now ≡ content_of found.0 ∷ found.1) }
+        ensures { MatchOption result (self.now ≡ []) (λ found. self.now ≡ content_view found.0 ∷ found.1) }
     {
         let (kind, kinds) = self.kinds.split_first()?;
         let (content, rows) = match *kind {
@@ -167,9 +167,9 @@ impl<'a> Cursor<'a> {
 ///
 /// It returns the same faults, in the same time. Besides the result it takes the memory of one token.
 pub fn pack(alloc: Global, text: &[u8]) -> Result<Packed, ScriptError>
-    ensures found { IfOk result (λ packed. (ts : List Token) × (Spells text.now ts × (contents packed ≡ contents_of ts))) }
-    ensures only { IfOk result (λ packed. (us : List Token) → Spells text.now us → contents_of us ≡ contents packed) }
-    ensures fault { IfFault result ((ts : List Token) → Spells text.now ts → ⊥) }
+    ensures found { IfOk result (λ packed. (ts : List Token) × (SpellsTokens text.now ts × (contents packed ≡ contents_of ts))) }
+    ensures only { IfOk result (λ packed. (us : List Token) → SpellsTokens text.now us → contents_of us ≡ contents packed) }
+    ensures fault { IfFault result ((ts : List Token) → SpellsTokens text.now ts → ⊥) }
     ensures lines { IfFaultLine result (λ n. (1 ≤ n) × (n ≤ 1 + line_ends text.now)) }
 {
     if let Some(fault) = text_fault(text) {
@@ -236,9 +236,9 @@ fn append_octets(packed: &mut Packed, kind: PackedKind, octets: &[u8]) -> Result
 ///
 /// One pass up to that token. Besides the result it takes the memory of one token.
 pub fn line_of(alloc: Global, text: &[u8], index: usize) -> Result<u64, ScriptError>
-    ensures found { IfOk result (λ line. (ts : List Token) → Spells text.now ts → line ≡ line_at index ts) }
+    ensures found { IfOk result (λ line. (ts : List Token) → SpellsTokens text.now ts → line ≡ line_at index ts) }
     ensures lines { IfOk result (λ n. (1 ≤ n) × (n ≤ 1 + line_ends text.now)) }
-    ensures fault { IfFault result ((ts : List Token) → Spells text.now ts → ⊥) }
+    ensures fault { IfFault result ((ts : List Token) → SpellsTokens text.now ts → ⊥) }
     ensures fault_lines { IfFaultLine result (λ n. (1 ≤ n) × (n ≤ 1 + line_ends text.now)) }
 {
     let mut at = 0;

@@ -1,9 +1,9 @@
 //! The inside of quoted strings.
 ghost use Rattle.std.specs.Prelude.{◌≡◌, ◌≤◌, length, drop, IfOk, Some, None};
 ghost use Rattle.std.specs.List.{prefix_len};
-ghost use Rattle.sievelex.specs.Finding.{IfFault, IfFaultLine};
-ghost use Rattle.sievelex.specs.Inside.{string_from, is_plain};
-ghost use Rattle.sievelex.specs.declared.quoted.Mode.TheVariants.{Inside};
+ghost use Rattle.sieve_lex.specs.Finding.{IfFault, IfFaultLine};
+ghost use Rattle.sieve_lex.specs.Inside.{string_from, is_plain_octet};
+ghost use Rattle.sieve_lex.specs.declared.quoted.Mode.TheVariants.{Inside};
 
 use crate::fault::{FaultKind, ScriptError, ScriptFault};
 use crate::said::Said;
@@ -44,14 +44,14 @@ pub(crate) fn read_quoted<'a>(
 
 /// How many octets at the beginning stand for themselves.
 fn plain_len(octets: &[u8]) -> usize
-    ensures { result ≡ prefix_len is_plain octets.now }
+    ensures { result ≡ prefix_len is_plain_octet octets.now }
 {
     octets.iter().take_while(|octet| is_plain(**octet)).count()
 }
 
 /// Whether the octet is neither a quotation mark nor a backslash nor part of a line end.
 fn is_plain(octet: u8) -> bool
-    ensures { result ≡ is_plain octet }
+    ensures { result ≡ is_plain_octet octet }
 {
     octet != b'"' && octet != b'\\' && octet != b'\r' && octet != b'\n'
 }

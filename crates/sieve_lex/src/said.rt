@@ -23,7 +23,7 @@ pub struct Said<'a> {
 
 impl<'a> Model for Said<'a> {
     ghost use Rattle.std.specs.Prelude.{ℕ, List};
-    ghost use Rattle.sievelex.specs.Sources.{octets_at};
+    ghost use Rattle.sieve_lex.specs.Sources.{octets_at};
 
     ghost Value = { List ℕ };
 

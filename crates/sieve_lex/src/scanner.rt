@@ -1,9 +1,9 @@
 //! The tokens of a text.
 ghost use Rattle.std.specs.Prelude.{◌≡◌, ◌+◌, ◌<◌, ◌≤◌, List, [], Some, length, take, IfOk, MatchOption};
-ghost use Rattle.sievelex.specs.Finding.{IfFault, IfFaultLine, on_line};
-ghost use Rattle.sievelex.specs.Spelling.{IsNext, IsPlaced, SpellsFrom, Spells, placed};
-ghost use Rattle.sievelex.specs.Text.{line_ends};
-ghost use Rattle.sievelex.specs.declared.token.Token.{Token};
+ghost use Rattle.sieve_lex.specs.Finding.{IfFault, IfFaultLine, on_line};
+ghost use Rattle.sieve_lex.specs.Spelling.{IsNextToken, IsPlaced, SpellsFrom, SpellsTokens, placed};
+ghost use Rattle.sieve_lex.specs.Text.{line_ends};
+ghost use Rattle.sieve_lex.specs.declared.token.Token.{Token};
 
 use crate::fault::{FaultKind, ScriptError, ScriptFault};
 use crate::front::read_front;
@@ -19,9 +19,9 @@ use std::alloc::Global;
 /// NUL and lone CRs one pass goes from the beginning to the end, in time linear in the text's length. Only
 /// those values of strings are copied that aren't spelled as they are, each once.
 pub fn tokens<'a>(alloc: Global, text: &'a [u8]) -> Result<Vec<Token<'a>>, ScriptError>
-    ensures found { IfOk result (λ ts. Spells text.now ts.items) }
-    ensures only { IfOk result (λ ts. (us : List Token) → Spells text.now us → us ≡ ts.items) }
-    ensures fault { IfFault result ((ts : List Token) → Spells text.now ts → ⊥) }
+    ensures found { IfOk result (λ ts. SpellsTokens text.now ts.items) }
+    ensures only { IfOk result (λ ts. (us : List Token) → SpellsTokens text.now us → us ≡ ts.items) }
+    ensures fault { IfFault result ((ts : List Token) → SpellsTokens text.now ts → ⊥) }
     ensures lines { IfFaultLine result (λ n. (1 ≤ n) × (n ≤ 1 + line_ends text.now)) }
 {
     if let Some(fault) = text_fault(text) {
@@ -68,8 +68,8 @@ pub(crate) fn next<'a>(
 ) -> Result<Option<Token<'a>>, ScriptError>
     requires inside { at ≤ length text.now }
     requires on_line { line ≡ 1 + line_ends (take at text.now) }
-    ensures found { IfOk result (λ o. MatchOption o (SpellsFrom text.now at []) (λ t. IsNext text.now at t)) }
-    ensures only { IfOk result (λ o. (t : Token) → IsNext text.now at t → o ≡ Some t) }
+    ensures found { IfOk result (λ o. MatchOption o (SpellsFrom text.now at []) (λ t. IsNextToken text.now at t)) }
+    ensures only { IfOk result (λ o. (t : Token) → IsNextToken text.now at t → o ≡ Some t) }
     ensures further { IfOk result (λ o. MatchOption o (Unit {0}) (λ t. (at < t.end) × IsPlaced text.now t)) }
     ensures fault { IfFault result ((ts : List Token) → SpellsFrom text.now at ts → ⊥) }
     ensures lines { IfFaultLine result (λ n. (1 ≤ n) × (n ≤ 1 + line_ends text.now)) }
@@ -100,8 +100,8 @@ pub(crate) fn next_piece<'a>(
     at: usize,
 ) -> Result<Option<Piece<'a>>, ScriptError>
     requires { at ≤ length text.now }
-    ensures found { IfOk result (λ o. MatchOption o (SpellsFrom text.now at []) (λ p. IsNext text.now at (placed text.now p))) }
-    ensures only { IfOk result (λ o. (t : Token) → IsNext text.now at t → MatchOption o ⊥ (λ p. Some (placed text.now p) ≡ Some t)) }
+    ensures found { IfOk result (λ o. MatchOption o (SpellsFrom text.now at []) (λ p. IsNextToken text.now at (placed text.now p))) }
+    ensures only { IfOk result (λ o. (t : Token) → IsNextToken text.now at t → MatchOption o ⊥ (λ p. Some (placed text.now p) ≡ Some t)) }
     ensures further { IfOk result (λ o. MatchOption o (Unit {0}) (λ p. (at ≤ p.start) × (p.start ≤ p.end) × (at < p.end) × (p.end ≤ length text.now))) }
     ensures fault { IfFault result ((ts : List Token) → SpellsFrom text.now at ts → ⊥) }
     ensures lines { IfFaultLine result (λ n. (1 ≤ n) × (n ≤ 1 + line_ends text.now)) }

@@ -1,14 +1,14 @@
 //! White space: blanks, line ends and comments.
 ghost use Rattle.std.specs.Prelude.{◌≡◌, ◌<◌, ◌≤◌, length, drop, MatchResult, Some, None};
-ghost use Rattle.sievelex.specs.Skip.{begins_space, space_from};
-ghost use Rattle.sievelex.specs.declared.space.Place.TheVariants.{Between, Comment};
+ghost use Rattle.sieve_lex.specs.Skip.{begins_space, space_from};
+ghost use Rattle.sieve_lex.specs.declared.space.SpaceState.TheVariants.{Between, Comment};
 
 use crate::class::is_white;
 use memchr::memchr;
 
 /// Where in white space an octet is.
 #[derive(Clone, Copy)]
-pub(crate) enum Place {
+pub(crate) enum SpaceState {
     /// After whole pieces.
     Between,
     /// After a `#`.
@@ -21,32 +21,32 @@ pub(crate) enum Place {
     Star,
 }
 
-impl Place {
-    ghost use Rattle.sievelex.specs.Skip.{place_after};
+impl SpaceState {
+    ghost use Rattle.sieve_lex.specs.Skip.{space_state_after};
 
     /// Where the octet after this one is.
-    fn after(self, octet: u8) -> Place
-        ensures { result ≡ place_after self octet }
+    fn after(self, octet: u8) -> SpaceState
+        ensures { result ≡ space_state_after self octet }
     {
         match self {
-            Place::Between => match octet {
-                b'#' => Place::Comment,
-                b'/' => Place::Opening,
-                _ => Place::Between,
+            SpaceState::Between => match octet {
+                b'#' => SpaceState::Comment,
+                b'/' => SpaceState::Opening,
+                _ => SpaceState::Between,
             },
-            Place::Comment => match octet {
-                b'\n' => Place::Between,
-                _ => Place::Comment,
+            SpaceState::Comment => match octet {
+                b'\n' => SpaceState::Between,
+                _ => SpaceState::Comment,
             },
-            Place::Opening => Place::Inner,
-            Place::Inner => match octet {
-                b'*' => Place::Star,
-                _ => Place::Inner,
+            SpaceState::Opening => SpaceState::Inner,
+            SpaceState::Inner => match octet {
+                b'*' => SpaceState::Star,
+                _ => SpaceState::Inner,
             },
-            Place::Star => match octet {
-                b'/' => Place::Between,
-                b'*' => Place::Star,
-                _ => Place::Inner,
+            SpaceState::Star => match octet {
+                b'/' => SpaceState::Between,
+                b'*' => SpaceState::Star,
+                _ => SpaceState::Inner,
             },
         }
     }
@@ -83,13 +83,13 @@ pub(crate) fn space_len(octets: &[u8]) -> Result<usize, usize>
         (λ n. (n ≤ length octets.now) × (space_from Between octets.now ≡ Some (drop n octets.now)))
         (λ opened. (opened ≤ length octets.now) × (space_from Between octets.now ≡ None)) }
 {
-    let mut place = Place::Between;
+    let mut place = SpaceState::Between;
     let mut opened = 0;
     let mut at = 0;
     while at < octets.len() {
         let (_, ahead) = octets.split_at(at);
         match place {
-            Place::Between => {
+            SpaceState::Between => {
                 if !begins_space(ahead) {
                     return Ok(at);
                 }
@@ -97,9 +97,9 @@ pub(crate) fn space_len(octets: &[u8]) -> Result<usize, usize>
                 place = place.after(octets[at]);
                 at += 1;
             }
-            Place::Comment => {
+            SpaceState::Comment => {
                 at += comment_len(ahead);
-                place = Place::Between;
+                place = SpaceState::Between;
             }
             _ => {
                 place = place.after(octets[at]);
@@ -108,7 +108,7 @@ pub(crate) fn space_len(octets: &[u8]) -> Result<usize, usize>
         }
     }
     match place {
-        Place::Between | Place::Comment => Ok(octets.len()),
+        SpaceState::Between | SpaceState::Comment => Ok(octets.len()),
         _ => Err(opened),
     }
 }

@@ -3,7 +3,7 @@ ghost use Rattle.std.specs.Prelude.{◌≡◌, ◌+◌, ◌<◌, ◌≤◌, leng
 ghost use Rattle.std.specs.Char.{is_ascii};
 ghost use Rattle.std.specs.List.{list_all};
 ghost use Rattle.std.specs.Str.{IsUtf8};
-ghost use Rattle.sievelex.specs.Text.{IsText, HasGoodOctets, line_ends};
+ghost use Rattle.sieve_lex.specs.Text.{IsScriptText, HasGoodOctets, line_ends};
 
 use crate::fault::{FaultKind, ScriptFault};
 use memchr::memchr2;
@@ -11,7 +11,7 @@ use std::str;
 
 /// Why the text can't be a script, whatever its tokens: it is not UTF-8, or has a NUL or a lone CR.
 pub(crate) fn text_fault(text: &[u8]) -> Option<ScriptFault>
-    ensures fault { MatchOption result (IsText text.now) (λ _. IsText text.now → ⊥) }
+    ensures fault { MatchOption result (IsScriptText text.now) (λ _. IsScriptText text.now → ⊥) }
     ensures lines { IfSome result (λ f. (1 ≤ f.line) × (f.line ≤ 1 + line_ends text.now)) }
 {
     let (place, kind) = match broken_at(text) {

@@ -1,11 +1,11 @@
 -- The definitions at a few texts: one that they fit, and one near it that they don't.
 use Rattle.std.proofs.Common.{refl, [], ◌∷◌, get_or, ap, arith, ◌≡◌, Some, None, codes, lit<}
 use Rattle.std.specs.Char.{to_ascii_uppercase}
-use Rattle.collation.specs.Comparators.{EqualBy, ContainsBy}
-use Rattle.collation.specs.Sorting.{ComesBefore}
-use Rattle.collation.specs.Numbers.{number_at, IsBelow}
-use Rattle.collation.proofs.NumberLemmas.{below_of}
-use Rattle.collation.proofs.SortingLemmas.{before_strict}
+use Rattle.sieve_match.specs.Comparators.{EqualBy, ContainsBy}
+use Rattle.sieve_match.specs.Sorting.{ComesBefore}
+use Rattle.sieve_match.specs.Numbers.{number_at, IsBelow}
+use Rattle.sieve_match.proofs.NumberLemmas.{below_of}
+use Rattle.sieve_match.proofs.SortingLemmas.{before_strict}
 
 -- "ab" and "AB" are equal by letters
 equal_by_letters : EqualBy to_ascii_uppercase (97 ∷ 98 ∷ []) (65 ∷ 66 ∷ [])

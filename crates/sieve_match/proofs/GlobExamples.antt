@@ -1,8 +1,8 @@
 -- The definitions at a few patterns: what they fit, and what is near it that they don't.
 use Rattle.std.proofs.Common.{refl, ◌≡◌, [], ◌∷◌, arith}
 use Rattle.std.specs.Char.{to_ascii_uppercase}
-use Rattle.globmatch.specs.Glob.{items, Glob}
-use Rattle.globmatch.specs.declared.pattern.Item.TheVariants.{Star, One, Exact}
+use Rattle.sieve_match.specs.Glob.{items, Glob}
+use Rattle.sieve_match.specs.declared.pattern.GlobItem.TheVariants.{Star, One, Exact}
 
 -- the pattern "a*?" has three items
 items-plain : items (97 ∷ 42 ∷ 63 ∷ []) ≡ Exact 97 ∷ Star ∷ One ∷ []

@@ -5,3 +5,7 @@ pub mod NumberLemmas
 pub mod Orders
 pub mod SortingLemmas
 pub mod Standing
+pub mod Cursors
+pub mod GlobExamples
+pub mod Patterns
+pub mod Steps

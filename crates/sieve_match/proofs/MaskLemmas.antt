@@ -3,9 +3,9 @@ use Rattle.std.proofs.Common.{◌≡◌, ◌≢◌, ◌==◌, ◌↔◌, ◌⊎�
 use Rattle.std.specs.Int.{bit_at}
 use Rattle.std.proofs.lemmas.Bool.{cases_lt, cases_eq, eqb-true, eq-eqb}
 use Rattle.std.proofs.lemmas.Nat.Bits.{bit_at_and, bit_at_or, bit_at_cat_low, bit_at-suc, bit_at_mask_inside, bit_at_mask_below, bit_at_set_same, bit_at_set_other}
-use Rattle.collation.specs.Places.{AreMasks, FitsAt}
-use Rattle.collation.specs.Unasked.{AreUnasked}
-use Rattle.collation.specs.declared.masks.Masks.{Masks}
+use Rattle.sieve_match.specs.Places.{AreMasks, FitsAt}
+use Rattle.sieve_match.specs.Unasked.{AreUnasked}
+use Rattle.sieve_match.specs.declared.masks.Masks.{Masks}
 
 -- a term of the type given
 abbrev by : (A : Type 0) → A → A

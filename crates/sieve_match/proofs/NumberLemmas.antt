@@ -8,10 +8,10 @@ use Rattle.std.proofs.lemmas.Cmp.{ranked}
 use Rattle.std.proofs.lemmas.Bool.{cases_lt, and_parts, leb-true}
 use Rattle.octets.specs.Ascii.{is_digit}
 use Rattle.octets.specs.Decimal.{with_digit, number_of}
-use Rattle.collation.specs.Comparators.{EqualBy}
-use Rattle.collation.specs.Sorting.{ComesBefore}
-use Rattle.collation.specs.Numbers.{HasNoDigit, StandsFor, IsLessNumber, IsBelow, EqualNumbers, digits_of, number_in, number_at, ArePlainDigits}
-use Rattle.collation.proofs.SortingLemmas.{Lesser, lesser_of}
+use Rattle.sieve_match.specs.Comparators.{EqualBy}
+use Rattle.sieve_match.specs.Sorting.{ComesBefore}
+use Rattle.sieve_match.specs.Numbers.{HasNoDigit, StandsForNumber, IsLessNumber, IsBelow, EqualNumbers, digits_of, number_if_any, number_at, ArePlainDigits}
+use Rattle.sieve_match.proofs.SortingLemmas.{Lesser, lesser_of}
 
 never : {P : Type 0} → false ≡ true → P
 never same = absurd (let no : ⊥ = cc in no)
@@ -70,17 +70,17 @@ digits_before [] rest all ends = none_first rest ends
 digits_before (digit ∷ more) rest all ends =
     ap (λ b. cond b (digit ∷ digits_of (more ++ rest)) []) (all 0 0 (omega arith)) ∙ ap (λ l. digit ∷ l) (digits_before more rest (all_tail digit more all) ends)
 
-stands_only : (text : List ℕ) (number : Option ℕ) → StandsFor text number → number ≡ number_at text
-stands_only text None none = sym (ap number_in (none_first text none))
+stands_only : (text : List ℕ) (number : Option ℕ) → StandsForNumber text number → number ≡ number_at text
+stands_only text None none = sym (ap number_if_any (none_first text none))
 stands_only text (Some number) begins =
     let same : digits_of text ≡ begins.digits = ap digits_of begins.spelled ∙ digits_before begins.digits begins.rest begins.writes.digits begins.ends in
-    written begins.digits (begins.writes.present) begins.writes.value ∙ sym (ap number_in same)
+    written begins.digits (begins.writes.present) begins.writes.value ∙ sym (ap number_if_any same)
   where
-    written : (digits : List ℕ) → (digits ≡ [] → ⊥) → number_of digits ≡ number → Some number ≡ number_in digits
+    written : (digits : List ℕ) → (digits ≡ [] → ⊥) → number_of digits ≡ number → Some number ≡ number_if_any digits
     written [] some value = absurd (some refl)
     written (digit ∷ more) some value = ap Some (sym value)
 
-stands : (text digits : List ℕ) → digits_of text ≡ digits → Front text → StandsFor text (number_in digits)
+stands : (text digits : List ℕ) → digits_of text ≡ digits → Front text → StandsForNumber text (number_if_any digits)
 stands text [] same f = subst HasNoDigit (sym (f.spelled ∙ ap (λ l. l ++ f.rest) same)) f.ends
 stands text (digit ∷ more) same f =
     record {
@@ -91,11 +91,11 @@ stands text (digit ∷ more) same f =
       ends = f.ends;
     }
 
-pub stands_for : (text : List ℕ) → StandsFor text (number_at text)
+pub stands_for : (text : List ℕ) → StandsForNumber text (number_at text)
 stands_for text = stands text (digits_of text) refl (front text)
 
-pub stands_iff : (text : List ℕ) (number : Option ℕ) → StandsFor text number ↔ (number ≡ number_at text)
-stands_iff text number = (stands_only text number, λ same. subst (StandsFor text) (sym same) (stands_for text))
+pub stands_iff : (text : List ℕ) (number : Option ℕ) → StandsForNumber text number ↔ (number ≡ number_at text)
+stands_iff text number = (stands_only text number, λ same. subst (StandsForNumber text) (sym same) (stands_for text))
 
 -- ---- the order of numbers
 
@@ -107,7 +107,7 @@ less_of one other h =
     subst (λ n. IsLessNumber n (number_at other)) (stands_only one h.one h.is) (subst (λ n. IsLessNumber h.one n) (stands_only other h.two h.other_is) h.less)
 
 pub equal_of : (one other : List ℕ) → number_at one ≡ number_at other → EqualNumbers one other
-equal_of one other same = (number_at one, stands_for one, subst (StandsFor other) (sym same) (stands_for other))
+equal_of one other same = (number_at one, stands_for one, subst (StandsForNumber other) (sym same) (stands_for other))
 
 pub same_of : (one other : List ℕ) → EqualNumbers one other → number_at one ≡ number_at other
 same_of one other (both, is, too) = sym (stands_only one both is) ∙ stands_only other both too

@@ -4,9 +4,9 @@ use Rattle.std.specs.declared.cmp.Ordering.{Ordering}
 use Rattle.std.specs.Ordering.{MatchOrdering, nat_cmp}
 use Rattle.std.proofs.lemmas.Cmp.{ranked}
 use Rattle.std.specs.declared.cmp.Ordering.TheVariants.{Less, Equal, Greater}
-use Rattle.collation.specs.Search.{Precedes}
-use Rattle.collation.specs.declared.twoway.Order.{Order}
-use Rattle.collation.specs.declared.twoway.Order.TheVariants.{Rising, Falling}
+use Rattle.sieve_match.specs.Search.{Precedes}
+use Rattle.sieve_match.specs.declared.twoway.Order.{Order}
+use Rattle.sieve_match.specs.declared.twoway.Order.TheVariants.{Rising, Falling}
 
 pub Precedes-trans : (order : Order) (a b c : ℕ) → Precedes order a b → Precedes order b c → Precedes order a c
 unfolding Precedes

@@ -2,11 +2,11 @@
 use Rattle.std.proofs.Common.{refl, ◌≡◌, ◌==◌, ℕ, ◌+◌, ◌<◌, ◌≤◌, List, [], ◌∷◌, length, drop, get_or, sym, ap, subst, ◌∙◌, ⊎_elim, arith}
 use Rattle.std.proofs.lemmas.List.{drop_more, drop_all, length-drop}
 use Rattle.std.proofs.lemmas.Bool.{cases_lt, cond-false, ne_eqb}
-use Rattle.globmatch.specs.Glob.{unquoted_item, items}
-use Rattle.globmatch.specs.Segments.{octet_of}
-use Rattle.globmatch.specs.declared.pattern.Item.{Item}
-use Rattle.globmatch.specs.declared.pattern.Item.TheVariants.{Exact}
-use Rattle.globmatch.specs.declared.pattern.TheConstants.{QUOTE}
+use Rattle.sieve_match.specs.Glob.{unquoted_item, items}
+use Rattle.sieve_match.specs.Segments.{item_octet}
+use Rattle.sieve_match.specs.declared.pattern.GlobItem.{GlobItem}
+use Rattle.sieve_match.specs.declared.pattern.GlobItem.TheVariants.{Exact}
+use Rattle.sieve_match.specs.declared.pattern.TheConstants.{QUOTE}
 
 pub items-nil : items [] ≡ []
 unfolding items
@@ -57,12 +57,12 @@ module _ (p : List ℕ) (k : ℕ) where
         (cases_lt (k + 1) (length p))
 
   -- a place from which items are left lies in the pattern
-  pub inside_pattern : (is : List Item) (n : ℕ) → items (drop k p) ≡ drop n is → n < length is → k < length p
+  pub inside_pattern : (is : List GlobItem) (n : ℕ) → items (drop k p) ≡ drop n is → n < length is → k < length p
   inside_pattern is n cursor more = ⊎_elim
       (λ inside. inside)
       (λ past. absurd (omega (arith, length-drop n is, ap length (sym cursor ∙ items-past past))))
       (cases_lt k (length p))
 
 -- an item that is an octet is the one of its octet
-pub Exact-octet : (item : Item) (octet : ℕ) → item ≡ Exact octet → item ≡ Exact (octet_of item)
-Exact-octet item octet e = subst (λ i. i ≡ Exact (octet_of i)) (sym e) refl
+pub Exact-octet : (item : GlobItem) (octet : ℕ) → item ≡ Exact octet → item ≡ Exact (item_octet item)
+Exact-octet item octet e = subst (λ i. i ≡ Exact (item_octet i)) (sym e) refl

@@ -5,9 +5,9 @@ use Rattle.std.specs.declared.cmp.Ordering.TheVariants.{Less, Equal, Greater}
 use Rattle.std.specs.Ordering.{MatchOrdering, nat_cmp}
 use Rattle.std.proofs.lemmas.Bool.{cases_lt}
 use Rattle.std.proofs.lemmas.Cmp.{ranked}
-use Rattle.collation.specs.Comparators.{EqualBy, SameFrom}
-use Rattle.collation.specs.Sorting.{IsLess, ComesBefore}
-use Rattle.collation.proofs.Standing.{EqualBy-from}
+use Rattle.sieve_match.specs.Comparators.{EqualBy, SameFrom}
+use Rattle.sieve_match.specs.Sorting.{IsLess, ComesBefore}
+use Rattle.sieve_match.proofs.Standing.{EqualBy-from}
 
 abbrev pub Lesser : List ℕ → List ℕ → Type 0
 Lesser [] [] = ⊥

@@ -4,10 +4,10 @@ use Rattle.std.proofs.lemmas.List.{length-map, map-append, append_assoc, take-ap
 use Rattle.std.proofs.Math.ListN.{get_or-map}
 use Rattle.std.proofs.lemmas.Bool.{cases_lt, false≢true, eqb-true, eq-eqb}
 use Rattle.memchr.specs.Find.{IsFirst}
-use Rattle.collation.specs.Comparators.{EqualBy, ContainsBy, SameFrom}
+use Rattle.sieve_match.specs.Comparators.{EqualBy, ContainsBy, SameFrom}
 use Rattle.memchr.proofs.lemmas.FindLemmas.{IsFirst-agree}
-use Rattle.collation.specs.Places.{FitsAt}
-use Rattle.collation.specs.Search.{fits_key, image_at, StandsAt}
+use Rattle.sieve_match.specs.Places.{FitsAt}
+use Rattle.sieve_match.specs.Search.{fits_key, image_at, StandsAt}
 
 module _ (f : ℕ → ℕ) (xs ys : List ℕ) where
   pub EqualBy-at : EqualBy f xs ys → (k : ℕ) → f (get_or xs k 0) ≡ f (get_or ys k 0)

@@ -4,3 +4,6 @@ pub mod Places
 pub mod Unasked
 pub mod Sorting
 pub mod Numbers
+pub mod Glob
+pub mod Reading
+pub mod Segments

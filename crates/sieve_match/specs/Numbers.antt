@@ -10,7 +10,7 @@ HasNoDigit [] = Unit {0}
 HasNoDigit (octet ∷ rest) = is_digit octet ≡ false
 
 -- a text begins with digits that write a number, and no digit follows them
-pub record BeginsWith (text : List ℕ) (number : ℕ) : Type 0 where
+pub record BeginsWithNumber (text : List ℕ) (number : ℕ) : Type 0 where
   pub digits : List ℕ
   pub rest : List ℕ
   pub spelled : text ≡ digits ++ rest
@@ -18,9 +18,9 @@ pub record BeginsWith (text : List ℕ) (number : ℕ) : Type 0 where
   pub ends : HasNoDigit rest
 
 -- what a text stands for: the number that it begins with; one that begins with no digit is positive infinity, which is None here
-abbrev pub StandsFor : List ℕ → Option ℕ → Type 0
-StandsFor text (Some number) = BeginsWith text number
-StandsFor text None = HasNoDigit text
+abbrev pub StandsForNumber : List ℕ → Option ℕ → Type 0
+StandsForNumber text (Some number) = BeginsWithNumber text number
+StandsForNumber text None = HasNoDigit text
 
 -- one is less than the other; infinity is less than nothing
 abbrev pub IsLessNumber : Option ℕ → Option ℕ → Type 0
@@ -32,13 +32,13 @@ IsLessNumber None _ = ⊥
 pub record IsBelow (text other : List ℕ) : Type 0 where
   pub one : Option ℕ
   pub two : Option ℕ
-  pub is : StandsFor text one
-  pub other_is : StandsFor other two
+  pub is : StandsForNumber text one
+  pub other_is : StandsForNumber other two
   pub less : IsLessNumber one two
 
 -- two texts stand for the same number, or both for infinity
 abbrev pub EqualNumbers : List ℕ → List ℕ → Type 0
-EqualNumbers text other = (both : Option ℕ) × StandsFor text both × StandsFor other both
+EqualNumbers text other = (both : Option ℕ) × StandsForNumber text both × StandsForNumber other both
 
 -- the digits at the beginning of a text
 abbrev pub digits_of : List ℕ → List ℕ
@@ -46,13 +46,13 @@ digits_of [] = []
 digits_of (octet ∷ rest) = cond (is_digit octet) (octet ∷ digits_of rest) []
 
 -- the number that digits write, if there are any
-abbrev pub number_in : List ℕ → Option ℕ
-number_in [] = None
-number_in (digit ∷ more) = Some (number_of (digit ∷ more))
+abbrev pub number_if_any : List ℕ → Option ℕ
+number_if_any [] = None
+number_if_any (digit ∷ more) = Some (number_of (digit ∷ more))
 
 -- what a text stands for: the one that is in StandsFor with it
 abbrev pub number_at : List ℕ → Option ℕ
-number_at text = number_in (digits_of text)
+number_at text = number_if_any (digits_of text)
 
 -- the first digit isn't zero
 abbrev pub HasNoZero : List ℕ → Type 0

@@ -1,7 +1,7 @@
 -- Consecutive places, each of which takes some octets, and where such octets are in a text.
 use Rattle.std.specs.Prelude.{◌≡◌, ◌↔◌, ℕ, ◌+◌, ◌<◌, ◌≤◌, Bool, true, List, length, slice_index, bit_and}
 use Rattle.std.specs.Int.{bit_at}
-use Rattle.collation.specs.declared.masks.Masks.{Masks}
+use Rattle.sieve_match.specs.declared.masks.Masks.{Masks}
 
 -- the n octets of the text from a place on are taken by the n places, as fits says
 pub record FitsAt (fits : ℕ → ℕ → Bool) (n : ℕ) (text : List ℕ) (place : ℕ) : Type 0 where

@@ -3,9 +3,9 @@ use Rattle.std.specs.Prelude.{◌≡◌, ◌≢◌, ◌==◌, ℕ, Bool, ◌+◌
 use Rattle.memchr.specs.Critical.{IsCritical, NoPeriodBelow}
 use Rattle.memchr.specs.Find.{IsFirst}
 use Rattle.memchr.specs.TwoWay.{OccursIn}
-use Rattle.collation.specs.declared.twoway.Order.{Order}
-use Rattle.collation.specs.declared.twoway.Order.TheVariants.{Rising, Falling}
-use Rattle.collation.specs.declared.twoway.Cut.{Cut}
+use Rattle.sieve_match.specs.declared.twoway.Order.{Order}
+use Rattle.sieve_match.specs.declared.twoway.Order.TheVariants.{Rising, Falling}
+use Rattle.sieve_match.specs.declared.twoway.Cut.{Cut}
 
 -- the image of the octet at an index
 abbrev pub image_at : (ℕ → ℕ) → (ℕ → ℕ) → ℕ → ℕ
@@ -43,7 +43,7 @@ Precedes Rising a b = a < b
 Precedes Falling a b = b < a
 
 -- a key of m octets is cut at a critical position, has no period below the shift, and what is kept is repeated after the shift
-pub record IsCut (x : ℕ → ℕ) (m : ℕ) (cut : Cut) : Type 0 where
+pub record IsKeyCut (x : ℕ → ℕ) (m : ℕ) (cut : Cut) : Type 0 where
   pub below : cut.critical.index < m
   pub critical : IsCritical x m cut.critical.index
   pub moves : 0 < cut.shift

@@ -1,15 +1,11 @@
 //! Patterns with `*` and `?` (`:matches`, RFC 5228, section 2.7.1), by any comparator. Nothing here takes memory.
-#![tactic(auto)]
 
 ghost use Rattle.std.specs.Prelude.{◌↔◌, IsTrue};
-ghost use Rattle.globmatch.specs.Glob.{items, Glob};
+ghost use Rattle.sieve_match.specs.Glob.{items, Glob};
 
-mod parts;
-mod pattern;
 
-use collation::Comparator;
-use parts::Segment;
-pub use pattern::Item;
+use crate::Comparator;
+use crate::parts::Segment;
 
 /// Whether a pattern matches the whole of `value`: `*` stands for any number of octets, `?` for one octet, a backslash
 /// makes the next octet stand for itself, and a lone backslash at the end stands for itself.

@@ -1,8 +1,8 @@
 //! Laws of the definitions, each the contract of a function that does nothing.
 ghost use Rattle.std.specs.Prelude.{◌≡◌, ◌↔◌, ◌⊎◌, ℕ, List, Option};
-ghost use Rattle.collation.specs.Comparators.{EqualBy};
-ghost use Rattle.collation.specs.Sorting.{ComesBefore};
-ghost use Rattle.collation.specs.Numbers.{StandsFor, number_at, IsBelow, EqualNumbers};
+ghost use Rattle.sieve_match.specs.Comparators.{EqualBy};
+ghost use Rattle.sieve_match.specs.Sorting.{ComesBefore};
+ghost use Rattle.sieve_match.specs.Numbers.{StandsForNumber, number_at, IsBelow, EqualNumbers};
 
 /// The order of texts by images is total and transitive, and of two equal texts neither comes before the other.
 pub fn order_of_texts()
@@ -20,5 +20,5 @@ pub fn order_of_numbers()
 
 /// A text stands for exactly one number, or for infinity.
 pub fn number_of_a_text()
-    ensures { (text : List ℕ) (number : Option ℕ) → StandsFor text number ↔ number ≡ number_at text }
+    ensures { (text : List ℕ) (number : Option ℕ) → StandsForNumber text number ↔ number ≡ number_at text }
 {}

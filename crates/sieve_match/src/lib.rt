@@ -5,7 +5,7 @@
 ghost use Rattle.std.specs.Prelude.{◌≡◌, ◌↔◌, ◌⊎◌, ℕ, ◌+◌, ◌^◌, ◌<◌, ◌≤◌, length, refl, IsTrue};
 ghost use Rattle.std.specs.Char.{to_ascii_uppercase};
 ghost use Rattle.std.proofs.lemmas.Str.Ascii.{uppercase-uppercase};
-ghost use Rattle.collation.specs.Comparators.{EqualBy, ContainsBy, SameFrom};
+ghost use Rattle.sieve_match.specs.Comparators.{EqualBy, ContainsBy, SameFrom};
 
 pub mod laws;
 mod masks;
@@ -14,12 +14,17 @@ mod order;
 mod places;
 mod spelling;
 mod twoway;
+mod parts;
+mod pattern;
+mod glob;
 
+pub use crate::pattern::GlobItem;
+pub use glob::matches;
 pub use masks::{MAX_PLACES, Masks};
 pub use numeric::{are_equal_numbers, compare_numbers};
 pub use order::compare;
 pub use places::{contains_places, places_of};
-pub use spelling::{Key, Plain, Spot};
+pub use spelling::{Key, PlainKey, KeyCursor};
 pub use twoway::find;
 
 /// A comparator (RFC 4790, section 4): octets are the same if their images are.
@@ -124,5 +129,5 @@ fn same_run<C: Comparator>(key: &[u8], value: &[u8], from: usize, count: usize) 
 pub fn contains<C: Comparator>(key: &[u8], value: &[u8]) -> bool
     ensures { IsTrue result ↔ ContainsBy C.image_of key.now value.now }
 {
-    find::<C, Plain>(&Plain { octets: key }, value, 0).is_some()
+    find::<C, PlainKey>(&PlainKey { octets: key }, value, 0).is_some()
 }

@@ -2,7 +2,7 @@
 ghost use Rattle.std.specs.Prelude.{◌≡◌, ◌≢◌, ◌==◌, ◌↔◌, ℕ, Bool, true, ◌+◌, ◌<◌, ◌≤◌, length, slice_index, IsTrue};
 ghost use Rattle.std.specs.Int.{bit_at};
 ghost use Rattle.memchr.specs.Find.{IsFirst};
-ghost use Rattle.collation.specs.Unasked.{AreUnasked};
+ghost use Rattle.sieve_match.specs.Unasked.{AreUnasked};
 
 use crate::Comparator;
 
@@ -49,7 +49,7 @@ fn is_clear(number: u64, bit: usize) -> bool
 }
 
 impl Masks {
-    ghost use Rattle.collation.specs.Places.{AreMasks, FitsAt};
+    ghost use Rattle.sieve_match.specs.Places.{AreMasks, FitsAt};
 
     /// No place.
     pub fn new() -> Masks

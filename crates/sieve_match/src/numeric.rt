@@ -4,7 +4,7 @@ ghost use Rattle.std.specs.List.{AllPass};
 ghost use Rattle.std.specs.Ordering.{MatchOrdering};
 ghost use Rattle.octets.specs.Ascii.{is_digit};
 ghost use Rattle.octets.specs.Decimal.{number_of};
-ghost use Rattle.collation.specs.Numbers.{number_at, digits_of, ArePlainDigits, IsBelow, EqualNumbers};
+ghost use Rattle.sieve_match.specs.Numbers.{number_at, digits_of, ArePlainDigits, IsBelow, EqualNumbers};
 
 use crate::Octet;
 use crate::order::compare;

@@ -1,8 +1,8 @@
 //! The order of texts by a comparator (RFC 4790, sections 9.2 and 9.3).
 ghost use Rattle.std.specs.Prelude.{◌≢◌, ◌<◌, ◌≤◌, length, slice_index};
 ghost use Rattle.std.specs.Ordering.{MatchOrdering};
-ghost use Rattle.collation.specs.Comparators.{EqualBy, SameFrom};
-ghost use Rattle.collation.specs.Sorting.{ComesBefore};
+ghost use Rattle.sieve_match.specs.Comparators.{EqualBy, SameFrom};
+ghost use Rattle.sieve_match.specs.Sorting.{ComesBefore};
 
 use crate::Comparator;
 use std::cmp::Ordering;

@@ -1,14 +1,14 @@
 //! Segments: the items of a pattern from one star to the next.
 ghost use Rattle.std.specs.Prelude.{◌≡◌, ◌↔◌, ℕ, ◌+◌, ◌<◌, ◌≤◌, length, drop, slice_index_or, IsTrue};
 ghost use Rattle.memchr.specs.Find.{IsFirst};
-ghost use Rattle.collation.specs.Places.{AreMasks};
-ghost use Rattle.collation.specs.declared.spelling.Spot.{Spot};
-ghost use Rattle.globmatch.specs.declared.pattern.Item.TheVariants.{Star};
-ghost use Rattle.globmatch.specs.Glob.{items};
-ghost use Rattle.globmatch.specs.Segments.{octet_of, places_of, StandAt};
+ghost use Rattle.sieve_match.specs.Places.{AreMasks};
+ghost use Rattle.sieve_match.specs.declared.spelling.KeyCursor.{KeyCursor};
+ghost use Rattle.sieve_match.specs.declared.pattern.GlobItem.TheVariants.{Star};
+ghost use Rattle.sieve_match.specs.Glob.{items};
+ghost use Rattle.sieve_match.specs.Segments.{item_octet, item_takes_at, ItemsStandAt};
 
-use crate::pattern::{Item, read_item};
-use collation::{Comparator, Key, MAX_PLACES, Masks, Spot, find};
+use crate::pattern::{GlobItem, read_item};
+use crate::{Comparator, Key, MAX_PLACES, Masks, KeyCursor, find};
 
 /// The items of a pattern up to a star or the pattern's end.
 #[derive(Clone, Copy)]
@@ -25,7 +25,7 @@ pub(crate) struct Segment<'p> {
 }
 
 impl<'p> Segment<'p> {
-    ghost use Rattle.globmatch.specs.Reading.{IsSegment};
+    ghost use Rattle.sieve_match.specs.Reading.{IsSegment};
 
     // The segment that begins at a place of the pattern.
     pub(crate) fn read(pattern: &'p [u8], from: usize) -> Segment<'p>
@@ -38,9 +38,9 @@ impl<'p> Segment<'p> {
         while end < pattern.len() {
             let (item, next) = read_item(pattern, end);
             match item {
-                Item::Star => break,
-                Item::One => literal = false,
-                Item::Exact(_) => {}
+                GlobItem::Star => break,
+                GlobItem::One => literal = false,
+                GlobItem::Exact(_) => {}
             }
             end = next;
             count += 1;
@@ -58,7 +58,7 @@ impl<'p> Segment<'p> {
     pub(crate) fn stands_at<C: Comparator>(&self, value: &[u8], at: usize) -> bool
         requires segment { IsSegment self.now }
         requires within { at ≤ length value.now }
-        ensures { IsTrue result ↔ StandAt C.image_of (items (drop self.now.from self.now.pattern.now))
+        ensures { IsTrue result ↔ ItemsStandAt C.image_of (items (drop self.now.from self.now.pattern.now))
             self.now.count value.now at }
     {
         if value.len() - at < self.count {
@@ -68,9 +68,9 @@ impl<'p> Segment<'p> {
         for j in 0..self.count {
             let (item, next) = read_item(self.pattern, place);
             match item {
-                Item::Star => return false,
-                Item::One => {}
-                Item::Exact(octet) => {
+                GlobItem::Star => return false,
+                GlobItem::One => {}
+                GlobItem::Exact(octet) => {
                     if C::image(octet) != C::image(value[at + j]) {
                         return false;
                     }
@@ -85,16 +85,16 @@ impl<'p> Segment<'p> {
     fn masks<C: Comparator>(&self) -> Masks
         requires segment { IsSegment self.now }
         requires short { self.now.count ≤ 63 }
-        ensures { AreMasks (places_of C.image_of (items (drop self.now.from self.now.pattern.now))) self.now.count result }
+        ensures { AreMasks (item_takes_at C.image_of (items (drop self.now.from self.now.pattern.now))) self.now.count result }
     {
         let mut masks = Masks::new();
         let mut place = self.from;
         for j in 0..self.count {
             let (item, next) = read_item(self.pattern, place);
             match item {
-                Item::Star => return masks,
-                Item::One => masks.push_any(),
-                Item::Exact(octet) => masks.push::<C>(octet),
+                GlobItem::Star => return masks,
+                GlobItem::One => masks.push_any(),
+                GlobItem::Exact(octet) => masks.push::<C>(octet),
             }
             place = next;
         }
@@ -106,7 +106,7 @@ impl<'p> Segment<'p> {
         requires segment { IsSegment self.now }
         requires short { self.now.count ≤ 63 }
         requires within { from ≤ length value.now }
-        ensures { IsFirst (StandAt C.image_of (items (drop self.now.from self.now.pattern.now)) self.now.count value.now)
+        ensures { IsFirst (ItemsStandAt C.image_of (items (drop self.now.from self.now.pattern.now)) self.now.count value.now)
             from (length value.now + 1) result }
     {
         self.masks::<C>().find(value, from)
@@ -116,7 +116,7 @@ impl<'p> Segment<'p> {
     pub(crate) fn find<C: Comparator>(&self, value: &[u8], from: usize) -> Option<usize>
         requires segment { IsSegment self.now }
         requires within { from ≤ length value.now }
-        ensures { IsFirst (StandAt C.image_of (items (drop self.now.from self.now.pattern.now)) self.now.count value.now)
+        ensures { IsFirst (ItemsStandAt C.image_of (items (drop self.now.from self.now.pattern.now)) self.now.count value.now)
             from (length value.now + 1) result }
     {
         if self.literal {
@@ -151,7 +151,7 @@ pub(crate) struct Literal<'p> {
 impl Key for Literal<'_> {
     ghost size = { λ key. key.count };
 
-    ghost octet_at = { λ key k. octet_of (slice_index_or (items (drop key.from key.pattern.now)) k Star) };
+    ghost octet_at = { λ key k. item_octet (slice_index_or (items (drop key.from key.pattern.now)) k Star) };
 
     ghost is_spot = { λ key spot. items (drop spot.place key.pattern.now) ≡ drop spot.index (items (drop key.from key.pattern.now)) };
 
@@ -161,22 +161,22 @@ impl Key for Literal<'_> {
     }
 
     #[inline(always)]
-    fn first(&self) -> Spot {
-        Spot {
+    fn first(&self) -> KeyCursor {
+        KeyCursor {
             index: 0,
             place: self.from,
         }
     }
 
     #[inline(always)]
-    fn octet(&self, spot: Spot) -> u8 {
+    fn octet(&self, spot: KeyCursor) -> u8 {
         read_item(self.pattern, spot.place).0.octet()
     }
 
     #[inline(always)]
-    fn next(&self, spot: Spot) -> Spot {
+    fn next(&self, spot: KeyCursor) -> KeyCursor {
         let (_, place) = read_item(self.pattern, spot.place);
-        Spot {
+        KeyCursor {
             index: spot.index + 1,
             place,
         }

@@ -1,12 +1,12 @@
 //! A key that is searched for in many values.
 ghost use Rattle.std.specs.Prelude.{◌↔◌, ℕ, List, ◌<◌, length, slice_index, IsTrue, IfSome, IfNone};
-ghost use Rattle.collation.specs.Comparators.{ContainsBy};
-ghost use Rattle.collation.specs.Places.{AreMasks};
-ghost use Rattle.collation.specs.Search.{fits_key};
+ghost use Rattle.sieve_match.specs.Comparators.{ContainsBy};
+ghost use Rattle.sieve_match.specs.Places.{AreMasks};
+ghost use Rattle.sieve_match.specs.Search.{fits_key};
 
 use crate::Comparator;
 use crate::masks::{MAX_PLACES, Masks};
-use crate::spelling::Plain;
+use crate::spelling::PlainKey;
 use crate::twoway::masks_of;
 
 /// The places of a key, to search for it in many values; `None` for a key of more than 63 octets.
@@ -17,7 +17,7 @@ pub fn places_of<C: Comparator>(key: &[u8]) -> Option<Masks>
     if key.len() > MAX_PLACES {
         return None;
     }
-    Some(masks_of::<C, Plain>(&Plain { octets: key }))
+    Some(masks_of::<C, PlainKey>(&PlainKey { octets: key }))
 }
 
 /// Whether the images of a key occur in those of `value`, given the key's places. Looks at each octet once.

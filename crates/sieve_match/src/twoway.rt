@@ -7,12 +7,12 @@ ghost use Rattle.std.specs.Prelude.{◌≡◌, ◌≢◌, ◌↔◌, ℕ, ◌+�
 ghost use Rattle.std.specs.Ordering.{MatchOrdering};
 ghost use Rattle.memchr.specs.Critical.{IsSuffixAt, IsCutPlace};
 ghost use Rattle.memchr.specs.Find.{Nowhere, IsFirst};
-ghost use Rattle.collation.specs.Places.{AreMasks};
-ghost use Rattle.collation.specs.Search.{image_at, image_in, HasImage, fits_key, GoesPast, StandsAt, FindsKey, Precedes, IsCut};
+ghost use Rattle.sieve_match.specs.Places.{AreMasks};
+ghost use Rattle.sieve_match.specs.Search.{image_at, image_in, HasImage, fits_key, GoesPast, StandsAt, FindsKey, Precedes, IsKeyCut};
 
 use crate::Comparator;
 use crate::masks::{MAX_PLACES, Masks};
-use crate::spelling::{Key, Spot};
+use crate::spelling::{Key, KeyCursor};
 use memchr::memchr2;
 use std::cmp::Ordering;
 
@@ -39,7 +39,7 @@ impl Order {
 // The greatest suffix of a key by an order of octets, and the least period of that suffix.
 #[derive(Clone, Copy)]
 struct Suffix {
-    start: Spot,
+    start: KeyCursor,
     period: usize,
 }
 
@@ -47,9 +47,9 @@ struct Suffix {
 // at the new place.
 #[derive(Clone, Copy)]
 struct Cut {
-    critical: Spot,
+    critical: KeyCursor,
     shift: usize,
-    keep: Spot,
+    keep: KeyCursor,
 }
 
 // The greatest suffix: each later suffix is a candidate, which is compared with the best so far.
@@ -98,7 +98,7 @@ fn greatest_suffix<C: Comparator, K: Key>(key: &K, order: Order) -> Suffix
 }
 
 // The spot at an index.
-fn spot_of<K: Key>(key: &K, index: usize) -> Spot
+fn spot_of<K: Key>(key: &K, index: usize) -> KeyCursor
     requires { index ≤ K.size key.now }
     ensures index { result.index ≡ index }
     ensures spot { K.is_spot key.now result }
@@ -111,7 +111,7 @@ fn spot_of<K: Key>(key: &K, index: usize) -> Spot
 }
 
 // Whether the octets before the cut repeat those from `back` on.
-fn repeats_before<C: Comparator, K: Key>(key: &K, critical: usize, back: Spot) -> bool
+fn repeats_before<C: Comparator, K: Key>(key: &K, critical: usize, back: KeyCursor) -> bool
     requires fits { critical + back.index ≤ K.size key.now }
     requires spot { K.is_spot key.now back }
     ensures { IsTrue result ↔ ((k : ℕ) → k < critical → image_at C.image_of (K.octet_at key.now) k
@@ -132,7 +132,7 @@ fn repeats_before<C: Comparator, K: Key>(key: &K, critical: usize, back: Spot) -
 // Where to cut a key: at the later of its greatest suffixes by the two orders.
 fn find_critical_cut<C: Comparator, K: Key>(key: &K) -> Cut
     requires { 0 < K.size key.now }
-    ensures cut { IsCut (image_at C.image_of (K.octet_at key.now)) (K.size key.now) result }
+    ensures cut { IsKeyCut (image_at C.image_of (K.octet_at key.now)) (K.size key.now) result }
     ensures critical { K.is_spot key.now result.critical }
     ensures keep { K.is_spot key.now result.keep }
 {
@@ -150,7 +150,7 @@ fn cut_at<C: Comparator, K: Key>(key: &K, suffix: Suffix) -> Cut
     requires place { IsCutPlace (image_at C.image_of (K.octet_at key.now)) (K.size key.now)
         suffix.start.index suffix.period }
     requires spot { K.is_spot key.now suffix.start }
-    ensures cut { IsCut (image_at C.image_of (K.octet_at key.now)) (K.size key.now) result }
+    ensures cut { IsKeyCut (image_at C.image_of (K.octet_at key.now)) (K.size key.now) result }
     ensures critical { K.is_spot key.now result.critical }
     ensures keep { K.is_spot key.now result.keep }
 {
@@ -181,9 +181,9 @@ fn matched_to<C: Comparator, K: Key>(
     key: &K,
     value: &[u8],
     pos: usize,
-    from: Spot,
+    from: KeyCursor,
     end: usize,
-) -> Spot
+) -> KeyCursor
     requires within { end ≤ K.size key.now }
     requires fits { pos + K.size key.now ≤ length value.now }
     requires spot { K.is_spot key.now from }
@@ -229,7 +229,7 @@ fn next_place<C: Comparator>(value: &[u8], from: usize, end: usize, wanted: u8) 
 #[inline(always)]
 fn next_candidate<C: Comparator, K: Key>(
     key: &K,
-    critical: Spot,
+    critical: KeyCursor,
     value: &[u8],
     pos: usize,
     known: usize,
@@ -252,7 +252,7 @@ fn next_candidate<C: Comparator, K: Key>(
 
 // The search for a key that has been cut.
 fn find_cut<C: Comparator, K: Key>(key: &K, cut: Cut, value: &[u8], from: usize) -> Option<usize>
-    requires cut { IsCut (image_at C.image_of (K.octet_at key.now)) (K.size key.now) cut }
+    requires cut { IsKeyCut (image_at C.image_of (K.octet_at key.now)) (K.size key.now) cut }
     requires critical { K.is_spot key.now cut.critical }
     requires keep { K.is_spot key.now cut.keep }
     requires start { from ≤ length value.now }

@@ -1,24 +1,24 @@
 -- A delivery has one report, and the account is one afterwards.
 use Rattle.std.proofs.Common.{◌≡◌, ℕ, Bool, true, false, List, Option, Some, None, ap, sym, ◌∙◌, subst, inl, inr}
-use Rattle.addrparts.specs.declared.address.Addr.{Addr}
-use Rattle.sievesyntax.specs.Meaning.{Actions}
-use Rattle.sievesyntax.specs.declared.tree.vacation.VacArgs.{VacArgs}
-use Rattle.sievesyntax.proofs.MeansLaws.{means_only}
-use Rattle.sieveexec.specs.Mails.{MailSpec}
-use Rattle.sieveexec.specs.Outcomes.{outcome_at}
-use Rattle.vacreply.specs.Handles.{handle_of, key_of}
-use Rattle.vacreply.specs.Reasons.{decision_of}
-use Rattle.vacreply.specs.declared.reason.Decision.{Decision}
-use Rattle.vacreply.specs.declared.reason.Decision.TheVariants as D
-use Rattle.vacreply.proofs.ReplyLaws.{one_reply}
-use Rattle.mailstore.specs.Account.{Account, latest}
-use Rattle.mailstore.specs.declared.report.Report.{Report}
-use Rattle.deliverplan.specs.Views.{last_reply}
-use Rattle.deliverplan.specs.Delivered.{Disposition, Acts, Tells, DisposesIf, DisposesBehind, disposition_of, has_long_header, is_looping, Response, Sent, Follows, Responds, acts, responds, report_of, CarriesOut, DeliversAs, Delivers}
+use Rattle.mail_address.specs.declared.address.Addr.{Addr}
+use Rattle.sieve_syntax.specs.Meaning.{Actions}
+use Rattle.sieve_syntax.specs.declared.tree.vacation.VacationArgs.{VacationArgs}
+use Rattle.sieve_syntax.proofs.MeansLaws.{means_only}
+use Rattle.sieve_exec.specs.Mails.{MailSpec}
+use Rattle.sieve_exec.specs.Outcomes.{outcome_at}
+use Rattle.sieve_vacation.specs.Handles.{handle_of, handle_key_of}
+use Rattle.sieve_vacation.specs.Reasons.{decision_of}
+use Rattle.sieve_vacation.specs.declared.reason.ReplyDecision.{ReplyDecision}
+use Rattle.sieve_vacation.specs.declared.reason.ReplyDecision.TheVariants as D
+use Rattle.sieve_vacation.proofs.ReplyLaws.{one_reply}
+use Rattle.store_accounts.specs.Account.{Account, latest}
+use Rattle.store_accounts.specs.declared.report.Report.{Report}
+use Rattle.sieve_plan.specs.Views.{last_reply}
+use Rattle.sieve_plan.specs.Delivered.{Disposition, Acts, Tells, DisposesUnlessLooping, DisposesUnlessLong, disposition_of, has_long_header, is_looping, Response, Sent, FollowsDecision, Responds, acts, responds, report_of, CarriesOut, DeliversAs, Delivers}
 
 -- a message comes to one disposition
 one_disposition : (looping : Bool) (text : Option (List ℕ)) (mail : MailSpec) (one two : Disposition)
-    → DisposesIf looping text mail one → DisposesIf looping text mail two → one ≡ two
+    → DisposesUnlessLooping looping text mail one → DisposesUnlessLooping looping text mail two → one ≡ two
 one_disposition true text mail one two is was = is ∙ sym was
 one_disposition false None mail one two is was = is ∙ sym was
 one_disposition false (Some text) mail one two (inl (tree, means, is)) (inl (other, meant, was)) =
@@ -28,22 +28,22 @@ one_disposition false (Some text) mail one two (inr (none, is)) (inl (tree, mean
 one_disposition false (Some text) mail one two (inr (none, is)) (inr (nothing, was)) = is ∙ sym was
 
 one_behind : (long : Bool) (text : Option (List ℕ)) (mail : MailSpec) (one two : Disposition)
-    → DisposesBehind long text mail one → DisposesBehind long text mail two → one ≡ two
+    → DisposesUnlessLong long text mail one → DisposesUnlessLong long text mail two → one ≡ two
 one_behind true text mail one two is was = is ∙ sym was
 one_behind false text mail one two is was = one_disposition (is_looping mail) text mail one two is was
 
 -- one response follows from a decision
-one_follows : (own : Addr) (moment : ℕ) (mail : MailSpec) (args : VacArgs) (last : Option ℕ) (decision : Decision) (one two : Response)
-    → Follows own moment mail args last decision one → Follows own moment mail args last decision two → one ≡ two
+one_follows : (own : Addr) (moment : ℕ) (mail : MailSpec) (args : VacationArgs) (last : Option ℕ) (decision : ReplyDecision) (one two : Response)
+    → FollowsDecision own moment mail args last decision one → FollowsDecision own moment mail args last decision two → one ≡ two
 one_follows own moment mail args last D.Send one two (reply, (is, here)) (other, (was, there)) =
-    here ∙ (ap (λ r. Sent (key_of (handle_of args)) r (latest last moment)) (one_reply args mail own moment reply other is was) ∙ sym there)
+    here ∙ (ap (λ r. Sent (handle_key_of (handle_of args)) r (latest last moment)) (one_reply args mail own moment reply other is was) ∙ sym there)
 one_follows own moment mail args last (D.Quiet reason) one two is was = is ∙ sym was
 
-one_response : (own : Addr) (moment : ℕ) (mail : MailSpec) (last : List ℕ → Option ℕ) (reply : Option VacArgs) (one two : Response)
+one_response : (own : Addr) (moment : ℕ) (mail : MailSpec) (last : List ℕ → Option ℕ) (reply : Option VacationArgs) (one two : Response)
     → Responds own moment mail last reply one → Responds own moment mail last reply two → one ≡ two
 one_response own moment mail last None one two is was = is ∙ sym was
 one_response own moment mail last (Some args) one two is was =
-    one_follows own moment mail args (last (key_of (handle_of args))) (decision_of args mail own (last (key_of (handle_of args))) moment) one two is was
+    one_follows own moment mail args (last (handle_key_of (handle_of args))) (decision_of args mail own (last (handle_key_of (handle_of args))) moment) one two is was
 
 one_carried : (own : Addr) (moment : ℕ) (mail : MailSpec) (deeds : Actions) (a : Account) (one two : Report) (after other : Account)
     → CarriesOut own moment mail deeds a one after → CarriesOut own moment mail deeds a two other → (one ≡ two) × (after ≡ other)

@@ -1,20 +1,20 @@
 -- A plan meets the definition of a delivery, by what becomes of the message.
 use Rattle.std.proofs.Common.{◌≡◌, ℕ, Bool, true, false, List, Option, Some, None, refl, ap, sym, ◌∙◌, subst, inl, inr, Result, IfOk}
 use Rattle.std.specs.declared.alloc.AllocError.{AllocError}
-use Rattle.addrparts.specs.declared.address.Addr.{Addr}
-use Rattle.sievesyntax.specs.Tree.{Commands}
-use Rattle.sievesyntax.specs.Means.{Means}
-use Rattle.sievesyntax.specs.RunState.{Failure}
-use Rattle.sievesyntax.specs.Meaning.{Actions, Done, Failed}
-use Rattle.sieveexec.specs.Mails.{MailSpec}
-use Rattle.sieveexec.specs.Outcomes.{outcome_at}
-use Rattle.mailstore.specs.Account.{Account, delivers}
-use Rattle.mailstore.specs.declared.report.Plan.{Plan}
-use Rattle.deliverplan.specs.declared.view.View.{View}
-use Rattle.deliverplan.specs.Views.{IsViewOf, moment_under}
-use Rattle.deliverplan.specs.Delivered.{Disposition, Acts, Tells, Disposes, DisposesIf, DisposesBehind, DisposesUnder, Delivers, disposition_of, failure_text, has_long_header, invalid_text, is_looping, kept, long_text, loop_text}
-use Rattle.deliverplan.specs.Plans.{IsActingPlan, IsNoticePlan}
-use Rattle.deliverplan.proofs.PlanLemmas.{acting, telling}
+use Rattle.mail_address.specs.declared.address.Addr.{Addr}
+use Rattle.sieve_syntax.specs.Tree.{Commands}
+use Rattle.sieve_syntax.specs.Means.{Means}
+use Rattle.sieve_syntax.specs.RunState.{Failure}
+use Rattle.sieve_syntax.specs.Meaning.{Actions, Done, Failed}
+use Rattle.sieve_exec.specs.Mails.{MailSpec}
+use Rattle.sieve_exec.specs.Outcomes.{outcome_at}
+use Rattle.store_accounts.specs.Account.{Account, delivers}
+use Rattle.store_accounts.specs.declared.report.Plan.{Plan}
+use Rattle.sieve_plan.specs.declared.view.AccountView.{AccountView}
+use Rattle.sieve_plan.specs.Views.{IsViewOf, moment_under}
+use Rattle.sieve_plan.specs.Delivered.{Disposition, Acts, Tells, Disposes, DisposesUnlessLooping, DisposesUnlessLong, DisposesUnder, Delivers, disposition_of, failure_text, has_long_header, invalid_text, is_looping, kept, long_text, loop_text}
+use Rattle.sieve_plan.specs.Plans.{IsActingPlan, IsNoticePlan}
+use Rattle.sieve_plan.proofs.PlanLemmas.{acting, telling}
 
 -- the mail has no long header, and isn't going round in a loop
 pub record IsPlain (mail : MailSpec) : Type 0 where
@@ -22,37 +22,37 @@ pub record IsPlain (mail : MailSpec) : Type 0 where
   pub calm : is_looping mail ≡ false
 
 -- a message without a long header
-behind : (text : Option (List ℕ)) (mail : MailSpec) (disposition : Disposition) → has_long_header mail.octets ≡ false → DisposesIf (is_looping mail) text mail disposition
+behind : (text : Option (List ℕ)) (mail : MailSpec) (disposition : Disposition) → has_long_header mail.octets ≡ false → DisposesUnlessLooping (is_looping mail) text mail disposition
     → Disposes text mail disposition
 behind text mail disposition short is =
-    let P : Bool → Type 0 = λ long. DisposesBehind long text mail disposition in
+    let P : Bool → Type 0 = λ long. DisposesUnlessLong long text mail disposition in
     subst P (sym short) is
 
 at_ease : (text : Option (List ℕ)) (mail : MailSpec) (disposition : Disposition) → IsPlain mail → DisposesUnder text mail disposition → Disposes text mail disposition
 at_ease text mail disposition plain is =
-    let P : Bool → Type 0 = λ looping. DisposesIf looping text mail disposition in
+    let P : Bool → Type 0 = λ looping. DisposesUnlessLooping looping text mail disposition in
     behind text mail disposition plain.short (subst P (sym plain.calm) is)
 
 -- a message with a long header
 pub unread : (own : Addr) (mail : MailSpec) (text : Option (List ℕ)) (plan : Plan) (a : Account)
     → has_long_header mail.octets ≡ true → IsNoticePlan mail.moment mail.octets long_text plan → Delivers own mail text a plan.report (delivers plan a)
 unread own mail text plan a long is =
-    let P : Bool → Type 0 = λ long. DisposesBehind long text mail (Tells long_text) in
+    let P : Bool → Type 0 = λ long. DisposesUnlessLong long text mail (Tells long_text) in
     record { disposition = Tells long_text; disposes = subst P (sym long) refl; delivers = telling mail.moment mail long_text plan a is }
 
 pub looping : (own : Addr) (mail : MailSpec) (text : Option (List ℕ)) (plan : Plan) (a : Account)
     → has_long_header mail.octets ≡ false → is_looping mail ≡ true → IsNoticePlan mail.moment mail.octets loop_text plan → Delivers own mail text a plan.report (delivers plan a)
 looping own mail text plan a short loops is =
-    let P : Bool → Type 0 = λ looping. DisposesIf looping text mail (Tells loop_text) in
+    let P : Bool → Type 0 = λ looping. DisposesUnlessLooping looping text mail (Tells loop_text) in
     record { disposition = Tells loop_text; disposes = behind text mail (Tells loop_text) short (subst P (sym loops) refl); delivers = telling mail.moment mail loop_text plan a is }
 
-pub keeping : (view : View) (mail : MailSpec) (plan : Plan) (a : Account)
+pub keeping : (view : AccountView) (mail : MailSpec) (plan : Plan) (a : Account)
     → IsPlain mail → IsActingPlan view.address mail.moment mail (moment_under view.replies) kept plan → IsViewOf view mail.from a
     → Delivers view.address mail None a plan.report (delivers plan a)
 keeping view mail plan a plain is of =
     record { disposition = Acts kept; disposes = at_ease None mail (Acts kept) plain refl; delivers = acting view mail.moment mail kept plan a is of }
 
-pub running : (view : View) (mail : MailSpec) (text : List ℕ) (tree : Commands) (deeds done : Actions) (plan : Plan) (a : Account)
+pub running : (view : AccountView) (mail : MailSpec) (text : List ℕ) (tree : Commands) (deeds done : Actions) (plan : Plan) (a : Account)
     → IsPlain mail → Means text tree → deeds ≡ done → Done done ≡ outcome_at mail tree
     → IsActingPlan view.address mail.moment mail (moment_under view.replies) deeds plan → IsViewOf view mail.from a
     → Delivers view.address mail (Some text) a plan.report (delivers plan a)
@@ -84,12 +84,12 @@ refusing own mail text plan a plain none is =
     }
 
 -- the plan does so for each account that the view is of
-abbrev pub Delivering : View → MailSpec → Option (List ℕ) → Plan → Type 0
+abbrev pub Delivering : AccountView → MailSpec → Option (List ℕ) → Plan → Type 0
 Delivering view mail text plan =
     (a : Account) → IsViewOf view mail.from a → Delivers view.address mail text a plan.report (delivers plan a)
 
 -- the text is the active script's
-pub under : (view : View) (mail : MailSpec) (active text : Option (List ℕ)) (r : Result Plan AllocError)
+pub under : (view : AccountView) (mail : MailSpec) (active text : Option (List ℕ)) (r : Result Plan AllocError)
     → active ≡ text → IfOk r (Delivering view mail text) → IfOk r (Delivering view mail active)
 under view mail active text r same is =
     let P : Option (List ℕ) → Type 0 = λ t. IfOk r (Delivering view mail t) in

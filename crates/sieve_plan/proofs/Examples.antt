@@ -1,21 +1,21 @@
 -- The definitions on small cases: one that is right, and one that nearly is.
 use Rattle.std.proofs.Common.{◌≡◌, ℕ, suc, true, false, List, [], ◌∷◌, ◌++◌, codes, Some, None, refl, ap, sym, subst, pos}
 use Rattle.std.specs.Prelude.{Option, nat_lt, replicate}
-use Rattle.mailhead.specs.Fields.{FieldText}
-use Rattle.mailhead.specs.Heads.{body_start}
-use Rattle.addrparts.specs.declared.address.Addr.{Addr}
-use Rattle.mailflags.specs.declared.placement.Placement.{Placement}
-use Rattle.sievesyntax.specs.RunState.{TwoVacations, TooManyRedirects, TooManyMailboxes, TooMuchWork, inbox}
-use Rattle.sievesyntax.specs.Meaning.{Failed}
-use Rattle.sievesyntax.specs.declared.tree.vacation.VacArgs.{VacArgs}
-use Rattle.sieveexec.specs.Mails.{MailSpec}
-use Rattle.vacreply.specs.declared.reason.Reason.TheVariants as R
-use Rattle.mailstore.specs.Account.{Account, latest, files_copies, notes, remembers}
-use Rattle.mailtables.specs.declared.queue.Kind.TheVariants.{Redirect, Reply}
-use Rattle.mailstore.specs.declared.report.VacationReport.TheVariants as V
-use Rattle.deliverplan.specs.Views.{moment_under}
-use Rattle.deliverplan.specs.Delivered.{Acts, Tells, Disposes, DisposesBehind, disposition_of, has_long_header, invalid_text, is_looping, is_received, kept, long_text, loop_text, max_header, Silent, Quiet, Sent, Responds, responds, redirects, report_of, notice_report, Delivers, unflagged}
-use Rattle.deliverplan.proofs.DeliveryLaws.{one_delivery}
+use Rattle.mail_head.specs.Fields.{FieldText}
+use Rattle.mail_head.specs.Heads.{body_start}
+use Rattle.mail_address.specs.declared.address.Addr.{Addr}
+use Rattle.mail_flags.specs.declared.placement.Placement.{Placement}
+use Rattle.sieve_syntax.specs.RunState.{TwoVacations, TooManyRedirects, TooManyMailboxes, TooMuchWork, inbox}
+use Rattle.sieve_syntax.specs.Meaning.{Failed}
+use Rattle.sieve_syntax.specs.declared.tree.vacation.VacationArgs.{VacationArgs}
+use Rattle.sieve_exec.specs.Mails.{MailSpec}
+use Rattle.sieve_vacation.specs.declared.reason.Reason.TheVariants as R
+use Rattle.store_accounts.specs.Account.{Account, latest, files_copies, adds_notice, remembers}
+use Rattle.store_tables.specs.declared.queue.QueuedKind.TheVariants.{Redirect, Reply}
+use Rattle.store_accounts.specs.declared.report.VacationReport.TheVariants as V
+use Rattle.sieve_plan.specs.Views.{moment_under}
+use Rattle.sieve_plan.specs.Delivered.{Acts, Tells, Disposes, DisposesUnlessLong, disposition_of, has_long_header, invalid_text, is_looping, is_received_field, kept, long_text, loop_text, max_header, Silent, Quiet, Sent, Responds, responds, redirects, report_of, notice_report, Delivers, unflagged_copy}
+use Rattle.sieve_plan.proofs.DeliveryLaws.{one_delivery}
 
 abbrev alice : Addr
 alice = record { local = codes "alice"; domain = codes "example.org" }
@@ -33,13 +33,13 @@ field name = record { name = name; raw = codes " x" }
 abbrev mail_with : List ℕ → List FieldText → MailSpec
 mail_with sender fields = record { fields = fields; from = sender; to = codes "alice@example.org"; size = 1; octets = 65 ∷ []; moment = 5; zone = pos 0 }
 
-abbrev away : VacArgs
+abbrev away : VacationArgs
 away = record { days = None; seconds = None; subject = None; from = None; addresses = []; mime = false; handle = None; reason = codes "Away." }
 
 -- ---- what becomes of a message
 
 -- case ignored; a longer name is another field
-received : (is_received (field (codes "RECEIVED")) ≡ true) × (is_received (field (codes "Received-SPF")) ≡ false)
+received : (is_received_field (field (codes "RECEIVED")) ≡ true) × (is_received_field (field (codes "Received-SPF")) ≡ false)
 received = (refl, refl)
 
 -- 101 are too many, 100 aren't
@@ -52,7 +52,7 @@ kept_without_script : Disposes None (mail_with bob []) (Acts kept)
 kept_without_script = refl
 
 dropped_without_script : Disposes None (mail_with bob []) (Acts (record { filed = []; sent = []; reply = None })) → ⊥
-dropped_without_script same = let is : [] ≡ unflagged inbox ∷ [] = ap (λ d. elim d as (λ _. List Placement) [ Acts deeds ↦ deeds.filed | Tells text ↦ [] ]) same in cc
+dropped_without_script same = let is : [] ≡ unflagged_copy inbox ∷ [] = ap (λ d. elim d as (λ _. List Placement) [ Acts deeds ↦ deeds.filed | Tells text ↦ [] ]) same in cc
 
 told_without_script : Disposes None (mail_with bob []) (Tells invalid_text) → ⊥
 told_without_script same = cc
@@ -67,11 +67,11 @@ long_headers at above is was = (ap (nat_lt max_header) is, ap (nat_lt max_header
 
 -- it goes before the count and the script; near miss: the message is kept, and nobody told
 long_before_all : (text : Option (List ℕ)) (mail : MailSpec) → has_long_header mail.octets ≡ true → Disposes text mail (Tells long_text)
-long_before_all text mail long = subst (λ is_long. DisposesBehind is_long text mail (Tells long_text)) (sym long) refl
+long_before_all text mail long = subst (λ is_long. DisposesUnlessLong is_long text mail (Tells long_text)) (sym long) refl
 
 long_kept_untold : (text : Option (List ℕ)) (mail : MailSpec) → has_long_header mail.octets ≡ true → Disposes text mail (Acts kept) → ⊥
 long_kept_untold text mail long is =
-    let told : Acts kept ≡ Tells long_text = subst (λ is_long. DisposesBehind is_long text mail (Acts kept)) long is in
+    let told : Acts kept ≡ Tells long_text = subst (λ is_long. DisposesUnlessLong is_long text mail (Acts kept)) long is in
     cc
 
 failures : (disposition_of (Failed TwoVacations) ≡ Tells (codes "vacation executed twice")) × ((disposition_of (Failed TooManyRedirects) ≡ Tells (codes "more than 16 redirects")) × ((disposition_of (Failed TooManyMailboxes) ≡ Tells (codes "more than 100 mailboxes")) × (disposition_of (Failed TooMuchWork) ≡ Tells (codes "script takes too much work"))))
@@ -128,7 +128,7 @@ reports = (refl, refl)
 
 -- ---- a delivery
 
-delivered : (a : Account) → Delivers alice (mail_with bob []) None a (report_of kept Silent) (files_copies (unflagged inbox ∷ []) (65 ∷ []) a)
+delivered : (a : Account) → Delivers alice (mail_with bob []) None a (report_of kept Silent) (files_copies (unflagged_copy inbox ∷ []) (65 ∷ []) a)
 delivered a =
     record {
       disposition = Acts kept;
@@ -136,7 +136,7 @@ delivered a =
       delivers = record { response = Silent; is_response = refl; reported = refl; changed = refl };
     }
 
-looped : (a : Account) → Delivers alice (mail_with bob (replicate 101 (field (codes "Received")))) None a (notice_report loop_text) (notes 5 loop_text (files_copies (unflagged inbox ∷ []) (65 ∷ []) a))
+looped : (a : Account) → Delivers alice (mail_with bob (replicate 101 (field (codes "Received")))) None a (notice_report loop_text) (adds_notice 5 loop_text (files_copies (unflagged_copy inbox ∷ []) (65 ∷ []) a))
 looped a = record { disposition = Tells loop_text; disposes = refl; delivers = record { reported = refl; changed = refl } }
 
 -- near miss: the delivery leaves a notice, and doesn't tell of it

@@ -1,31 +1,31 @@
 -- What a delivery makes of an account, and what it reports (RFC 5228, 2.10; RFC 5230).
 use Rattle.std.specs.Prelude.{◌≡◌, ℕ, ◌⊎◌, nat_lt, Bool, true, false, List, [], ◌∷◌, map, codes, count_by, Option, None, Some}
 use Rattle.std.specs.List.{fold}
-use Rattle.mailhead.specs.Fields.{FieldText}
-use Rattle.mailhead.specs.Heads.{body_start}
-use Rattle.addrparts.specs.declared.address.Addr.{Addr}
-use Rattle.addrparts.specs.Spelling.{spelling}
-use Rattle.mailflags.specs.declared.placement.Placement.{Placement}
-use Rattle.sievesyntax.specs.Tree.{Commands}
-use Rattle.sievesyntax.specs.Means.{Means}
-use Rattle.sievesyntax.specs.RunState.{Failure, TwoVacations, TooManyRedirects, TooManyMailboxes, TooMuchWork, inbox}
-use Rattle.sievesyntax.specs.Meaning.{Actions, Outcome, Done, Failed}
-use Rattle.sievesyntax.specs.declared.tree.vacation.VacArgs.{VacArgs}
-use Rattle.sieveexec.specs.Mails.{MailSpec}
-use Rattle.sieveexec.specs.Outcomes.{outcome_at}
-use Rattle.vacreply.specs.Cases.{same_text}
-use Rattle.vacreply.specs.Handles.{handle_of, key_of}
-use Rattle.vacreply.specs.Layout.{IsReply}
-use Rattle.vacreply.specs.Reasons.{decision_of, number_of}
-use Rattle.vacreply.specs.declared.reason.Reason.{Reason}
-use Rattle.vacreply.specs.declared.reason.Decision.{Decision}
-use Rattle.vacreply.specs.declared.reason.Decision.TheVariants as D
-use Rattle.mailstore.specs.Account.{Account, latest, files_copies, queues, remembers, notes}
-use Rattle.mailtables.specs.declared.queue.Kind.TheVariants as kind
-use Rattle.mailstore.specs.declared.report.Report.{Report}
-use Rattle.mailstore.specs.declared.report.VacationReport.{VacationReport}
-use Rattle.mailstore.specs.declared.report.VacationReport.TheVariants as V
-use Rattle.deliverplan.specs.Views.{last_reply}
+use Rattle.mail_head.specs.Fields.{FieldText}
+use Rattle.mail_head.specs.Heads.{body_start}
+use Rattle.mail_address.specs.declared.address.Addr.{Addr}
+use Rattle.mail_address.specs.Spelling.{address_spelling}
+use Rattle.mail_flags.specs.declared.placement.Placement.{Placement}
+use Rattle.sieve_syntax.specs.Tree.{Commands}
+use Rattle.sieve_syntax.specs.Means.{Means}
+use Rattle.sieve_syntax.specs.RunState.{Failure, TwoVacations, TooManyRedirects, TooManyMailboxes, TooMuchWork, inbox}
+use Rattle.sieve_syntax.specs.Meaning.{Actions, Outcome, Done, Failed}
+use Rattle.sieve_syntax.specs.declared.tree.vacation.VacationArgs.{VacationArgs}
+use Rattle.sieve_exec.specs.Mails.{MailSpec}
+use Rattle.sieve_exec.specs.Outcomes.{outcome_at}
+use Rattle.sieve_vacation.specs.Cases.{same_ignoring_case}
+use Rattle.sieve_vacation.specs.Handles.{handle_of, handle_key_of}
+use Rattle.sieve_vacation.specs.Layout.{IsVacationReply}
+use Rattle.sieve_vacation.specs.Reasons.{decision_of, reason_number}
+use Rattle.sieve_vacation.specs.declared.reason.Reason.{Reason}
+use Rattle.sieve_vacation.specs.declared.reason.ReplyDecision.{ReplyDecision}
+use Rattle.sieve_vacation.specs.declared.reason.ReplyDecision.TheVariants as D
+use Rattle.store_accounts.specs.Account.{Account, latest, files_copies, queues, remembers, adds_notice}
+use Rattle.store_tables.specs.declared.queue.QueuedKind.TheVariants as kind
+use Rattle.store_accounts.specs.declared.report.Report.{Report}
+use Rattle.store_accounts.specs.declared.report.VacationReport.{VacationReport}
+use Rattle.store_accounts.specs.declared.report.VacationReport.TheVariants as V
+use Rattle.sieve_plan.specs.Views.{last_reply}
 
 -- ---- what becomes of a message
 
@@ -54,12 +54,12 @@ abbrev pub invalid_text : List ℕ
 invalid_text = codes "script is not valid"
 
 -- a field that each host adds which passes the message on, ignoring case (RFC 5321, 4.4)
-abbrev pub is_received : FieldText → Bool
-is_received field = same_text (codes "received") field.name
+abbrev pub is_received_field : FieldText → Bool
+is_received_field field = same_ignoring_case (codes "received") field.name
 
 -- more than 100 of them: the message may go round in a loop (RFC 5321, 6.3)
 abbrev pub is_looping : MailSpec → Bool
-is_looping mail = nat_lt 100 (count_by is_received mail.fields)
+is_looping mail = nat_lt 100 (count_by is_received_field mail.fields)
 
 -- the most octets of a header whose fields are read, including the empty line that ends it: 1 MiB
 abbrev pub max_header : ℕ
@@ -74,12 +74,12 @@ disposition_of (Done deeds) = Acts deeds
 disposition_of (Failed failure) = Tells (failure_text failure)
 
 -- a mailbox that the message goes into without flags
-abbrev pub unflagged : List ℕ → Placement
-unflagged mailbox = record { mailbox = mailbox; flags = [] }
+abbrev pub unflagged_copy : List ℕ → Placement
+unflagged_copy mailbox = record { mailbox = mailbox; flags = [] }
 
 -- the implicit keep, and nothing else (RFC 5228, 2.10.2)
 abbrev pub kept : Actions
-kept = record { filed = unflagged inbox ∷ []; sent = []; reply = None }
+kept = record { filed = unflagged_copy inbox ∷ []; sent = []; reply = None }
 
 -- given the text of a script: the outcome of its tree, if it means one
 abbrev pub DisposesBy : List ℕ → MailSpec → Disposition → Type 0
@@ -93,17 +93,17 @@ DisposesUnder None mail disposition = disposition ≡ Acts kept
 DisposesUnder (Some text) mail disposition = DisposesBy text mail disposition
 
 -- no script is run on a message that may go round in a loop
-abbrev pub DisposesIf : Bool → Option (List ℕ) → MailSpec → Disposition → Type 0
-DisposesIf true text mail disposition = disposition ≡ Tells loop_text
-DisposesIf false text mail disposition = DisposesUnder text mail disposition
+abbrev pub DisposesUnlessLooping : Bool → Option (List ℕ) → MailSpec → Disposition → Type 0
+DisposesUnlessLooping true text mail disposition = disposition ≡ Tells loop_text
+DisposesUnlessLooping false text mail disposition = DisposesUnder text mail disposition
 
 -- nor on one with a long header, none of whose fields is looked at
-abbrev pub DisposesBehind : Bool → Option (List ℕ) → MailSpec → Disposition → Type 0
-DisposesBehind true text mail disposition = disposition ≡ Tells long_text
-DisposesBehind false text mail disposition = DisposesIf (is_looping mail) text mail disposition
+abbrev pub DisposesUnlessLong : Bool → Option (List ℕ) → MailSpec → Disposition → Type 0
+DisposesUnlessLong true text mail disposition = disposition ≡ Tells long_text
+DisposesUnlessLong false text mail disposition = DisposesUnlessLooping (is_looping mail) text mail disposition
 
 abbrev pub Disposes : Option (List ℕ) → MailSpec → Disposition → Type 0
-Disposes text mail disposition = DisposesBehind (has_long_header mail.octets) text mail disposition
+Disposes text mail disposition = DisposesUnlessLong (has_long_header mail.octets) text mail disposition
 
 -- ---- the response to the sender
 
@@ -115,22 +115,22 @@ pub data Response : Type 0 where
   Sent : (key octets : List ℕ) → (kept : ℕ) → Response
 
 -- the response, given the decision on it; last is the moment that is kept under its key
-abbrev pub Follows : Addr → ℕ → MailSpec → VacArgs → Option ℕ → Decision → Response → Type 0
-Follows own moment mail args last D.Send response =
-    (reply : List ℕ) × (IsReply args mail own moment reply × (response ≡ Sent (key_of (handle_of args)) reply (latest last moment)))
-Follows own moment mail args last (D.Quiet reason) response = response ≡ Quiet reason
+abbrev pub FollowsDecision : Addr → ℕ → MailSpec → VacationArgs → Option ℕ → ReplyDecision → Response → Type 0
+FollowsDecision own moment mail args last D.Send response =
+    (reply : List ℕ) × (IsVacationReply args mail own moment reply × (response ≡ Sent (handle_key_of (handle_of args)) reply (latest last moment)))
+FollowsDecision own moment mail args last (D.Quiet reason) response = response ≡ Quiet reason
 
 -- what the user with this address answers the sender at this moment; last gives the moment that is kept under a key
-abbrev pub Responds : Addr → ℕ → MailSpec → (List ℕ → Option ℕ) → Option VacArgs → Response → Type 0
+abbrev pub Responds : Addr → ℕ → MailSpec → (List ℕ → Option ℕ) → Option VacationArgs → Response → Type 0
 Responds own moment mail last None response = response ≡ Silent
 Responds own moment mail last (Some args) response =
-    Follows own moment mail args (last (key_of (handle_of args))) (decision_of args mail own (last (key_of (handle_of args))) moment) response
+    FollowsDecision own moment mail args (last (handle_key_of (handle_of args))) (decision_of args mail own (last (handle_key_of (handle_of args))) moment) response
 
 -- ---- the account afterwards
 
 -- the message is queued for each of the addresses, in order
 abbrev pub redirects : MailSpec → List Addr → Account → Account
-redirects mail targets a = fold (λ b target. queues kind.Redirect mail.from (spelling target) mail.octets b) a targets
+redirects mail targets a = fold (λ b target. queues kind.Redirect mail.from (address_spelling target) mail.octets b) a targets
 
 -- a copy of the message is appended to each folder, with its flags, and then the message is queued
 abbrev pub acts : MailSpec → Actions → Account → Account
@@ -146,11 +146,11 @@ responds mail (Sent key reply kept) a = remembers key mail.from kept (queues kin
 
 abbrev pub vacation_report : Response → VacationReport
 vacation_report Silent = V.None
-vacation_report (Quiet reason) = V.Quiet (number_of reason)
+vacation_report (Quiet reason) = V.Quiet (reason_number reason)
 vacation_report (Sent key reply kept) = V.Sent
 
 abbrev pub report_of : Actions → Response → Report
-report_of deeds response = record { filed = map (λ f. f.mailbox) deeds.filed; sent = map spelling deeds.sent; vacation = vacation_report response; notice = None }
+report_of deeds response = record { filed = map (λ f. f.mailbox) deeds.filed; sent = map address_spelling deeds.sent; vacation = vacation_report response; notice = None }
 
 abbrev pub notice_report : List ℕ → Report
 notice_report text = record { filed = inbox ∷ []; sent = []; vacation = V.None; notice = Some text }
@@ -167,7 +167,7 @@ pub record CarriesOut (own : Addr) (moment : ℕ) (mail : MailSpec) (deeds : Act
 -- the message is filed into INBOX, and a notice is added to the others; nothing is sent
 pub record LeavesNotice (moment : ℕ) (mail : MailSpec) (text : List ℕ) (a : Account) (report : Report) (a2 : Account) : Type 0 where
   pub reported : report ≡ notice_report text
-  pub changed : a2 ≡ notes moment text (files_copies (unflagged inbox ∷ []) mail.octets a)
+  pub changed : a2 ≡ adds_notice moment text (files_copies (unflagged_copy inbox ∷ []) mail.octets a)
 
 abbrev pub DeliversAs : Addr → ℕ → MailSpec → Disposition → Account → Report → Account → Type 0
 DeliversAs own moment mail (Acts deeds) a report a2 = CarriesOut own moment mail deeds a report a2

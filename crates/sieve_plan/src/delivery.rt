@@ -1,29 +1,29 @@
 //! What a delivery is to write and to report.
 ghost use Rattle.std.specs.Prelude.{◌≡◌, ◌≤◌, ℕ, true, false, IfOk, List, Option, option_copied};
-ghost use Rattle.addrparts.specs.declared.address.Addr.{Addr as Address};
-ghost use Rattle.sieveexec.specs.Mails.{mail_of};
-ghost use Rattle.sievesyntax.specs.Meaning.{Actions};
-ghost use Rattle.mailstore.specs.Account.{Account, delivers};
-ghost use Rattle.mailstore.specs.Cells.{contents};
-ghost use Rattle.deliverplan.specs.Delivered.{Delivers, has_long_header};
-ghost use Rattle.deliverplan.specs.Plans.{IsActingPlan, IsNoticePlan};
-ghost use Rattle.deliverplan.specs.Views.{IsViewOf, moment_under};
+ghost use Rattle.mail_address.specs.declared.address.Addr.{Addr as Address};
+ghost use Rattle.sieve_exec.specs.Mails.{mail_spec_of};
+ghost use Rattle.sieve_syntax.specs.Meaning.{Actions};
+ghost use Rattle.store_accounts.specs.Account.{Account, delivers};
+ghost use Rattle.store_accounts.specs.Cells.{borrowed_octets};
+ghost use Rattle.sieve_plan.specs.Delivered.{Delivers, has_long_header};
+ghost use Rattle.sieve_plan.specs.Plans.{IsActingPlan, IsNoticePlan};
+ghost use Rattle.sieve_plan.specs.Views.{IsViewOf, moment_under};
 
 use crate::looping::is_looping;
 use crate::notice::{INVALID_TEXT, LONG_TEXT, LOOP_TEXT, failure_text};
-use crate::outcome::outcome_on;
+use crate::outcome::evaluate_script;
 use crate::texts::{inbox, mailboxes, spelled};
 use crate::vacation::{VacationPlan, plan_vacation};
-use crate::view::View;
-use addrparts::Addr;
-use mailflags::Placement;
-use mailstore::{Plan, Report, VacationReport};
+use crate::view::AccountView;
+use mail_address::Addr;
+use mail_flags::Placement;
+use store_accounts::{Plan, Report, VacationReport};
 use octets::{List, Octets, Texts};
-use sieveexec::{Envelope, Mail, Outcome, When};
-use sievelex::ScriptError;
-use sievesyntax::VacArgs;
+use sieve_exec::{Envelope, Mail, Outcome, When};
+use sieve_lex::ScriptError;
+use sieve_syntax::VacationArgs;
 use std::alloc::{AllocError, Global};
-use vacreply::MAX_MOMENT;
+use sieve_vacation::MAX_MOMENT;
 
 /// Returns what a delivery of a mail is to write and to report, given the text of the account's active script, if one is active.
 ///
@@ -33,14 +33,14 @@ use vacreply::MAX_MOMENT;
 /// a `:subject` or `:from` of 2^32 octets or more, which no script within the limits has, also counts as lack of memory.
 pub fn plan<'m>(
     alloc: Global,
-    view: &View,
+    view: &AccountView,
     active: Option<&[u8]>,
     mail: &'m Mail<'_>,
 ) -> Result<Plan<'m>, AllocError>
     requires short { has_long_header mail.now.octets ≡ false }
     requires early { mail.now.moment ≤ MAX_MOMENT }
     ensures { IfOk result (λ plan. (a : Account) → IsViewOf view.now mail.now.from a
-        → Delivers view.now.address mail.now (contents active.entry) a plan.report (delivers plan a)) }
+        → Delivers view.now.address mail.now (borrowed_octets active.entry) a plan.report (delivers plan a)) }
 {
     if is_looping(mail) {
         return leave_notice(alloc, mail, LOOP_TEXT);
@@ -49,7 +49,7 @@ pub fn plan<'m>(
         let filed = inbox(alloc)?;
         return act(alloc, view, mail, filed, &[], None);
     };
-    match outcome_on(alloc, text, mail) {
+    match evaluate_script(alloc, text, mail) {
         Ok(Outcome::Done { filed, sent, reply }) => act(
             alloc,
             view,
@@ -76,7 +76,7 @@ pub fn plan_unread<'m>(
 ) -> Result<Plan<'m>, AllocError>
     requires { has_long_header message.now ≡ true }
     ensures { IfOk result (λ plan. (own : Address) (text : Option (List ℕ)) (a : Account)
-        → Delivers own (mail_of message.now envelope.now when) text a plan.report (delivers plan a)) }
+        → Delivers own (mail_spec_of message.now envelope.now when) text a plan.report (delivers plan a)) }
 {
     tell(
         alloc,
@@ -125,11 +125,11 @@ fn tell<'m>(
 /// Files copies of the message into these mailboxes, each with its flags, sends it to these addresses, and answers the sender.
 fn act<'m>(
     alloc: Global,
-    view: &View,
+    view: &AccountView,
     mail: &'m Mail<'_>,
     filed: List<Placement>,
     targets: &[Addr],
-    reply: Option<&VacArgs>,
+    reply: Option<&VacationArgs>,
 ) -> Result<Plan<'m>, AllocError>
     requires { mail.now.moment ≤ MAX_MOMENT }
     ensures { IfOk result (IsActingPlan view.now.address mail.now.moment mail.now (moment_under view.now.replies)

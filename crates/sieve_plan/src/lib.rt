@@ -13,7 +13,7 @@ mod view;
 
 pub use delivery::{plan, plan_unread};
 pub use long_header::has_long_header;
-pub use mailstore::KeptReply;
+pub use store_accounts::KeptReply;
 pub use notice::failure_text;
-pub use outcome::outcome_on;
-pub use view::View;
+pub use outcome::evaluate_script;
+pub use view::AccountView;

@@ -1,8 +1,8 @@
 //! Messages with a long header.
 ghost use Rattle.std.specs.Prelude.{◌≡◌};
-ghost use Rattle.deliverplan.specs.Delivered as delivered;
+ghost use Rattle.sieve_plan.specs.Delivered as delivered;
 
-use mailfronts::is_header_longer;
+use mail_head::is_header_longer;
 
 /// The most octets of a header whose fields are read, including the empty line that ends it: 1 MiB.
 ///

@@ -1,10 +1,10 @@
 //! Messages that may go round in a loop.
 ghost use Rattle.std.specs.Prelude.{◌≡◌, count_by};
-ghost use Rattle.mailhead.specs.Fields.{text_of};
-ghost use Rattle.deliverplan.specs.Delivered as delivered;
+ghost use Rattle.mail_head.specs.Fields.{field_text_of};
+ghost use Rattle.sieve_plan.specs.Delivered as delivered;
 
-use mailhead::Field;
-use sieveexec::Mail;
+use mail_head::Field;
+use sieve_exec::Mail;
 
 /// The most Received fields of a message on which a script is run: each host that the message passes adds one, and more than
 /// 100 indicate a loop (RFC 5321, 6.3).
@@ -20,13 +20,13 @@ pub(crate) fn is_looping(mail: &Mail<'_>) -> bool
 }
 
 fn count_received(fields: &[Field<'_>]) -> usize
-    ensures { result ≡ count_by (λ field. delivered.is_received (text_of field)) fields.now }
+    ensures { result ≡ count_by (λ field. delivered.is_received_field (field_text_of field)) fields.now }
 {
     fields.iter().filter(|field| is_received(field)).count()
 }
 
 fn is_received(field: &Field<'_>) -> bool
-    ensures { result ≡ delivered.is_received (text_of field.now) }
+    ensures { result ≡ delivered.is_received_field (field_text_of field.now) }
 {
     b"received".eq_ignore_ascii_case(field.name)
 }

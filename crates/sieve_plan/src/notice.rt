@@ -1,9 +1,9 @@
 //! The notice for the user on a message that the script doesn't decide on.
 ghost use Rattle.std.specs.Prelude.{◌≡◌};
-ghost use Rattle.sieveexec.specs.Runs.{failure_view};
-ghost use Rattle.deliverplan.specs.Delivered.{failure_text};
+ghost use Rattle.sieve_exec.specs.Runs.{failure_view};
+ghost use Rattle.sieve_plan.specs.Delivered.{failure_text};
 
-use sieveexec::Failure;
+use sieve_exec::Failure;
 
 /// The notice on a message that may go round in a loop.
 pub(crate) const LOOP_TEXT: &[u8] = b"more than 100 Received fields";

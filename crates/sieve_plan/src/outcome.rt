@@ -1,16 +1,16 @@
 //! One script run on one mail.
 ghost use Rattle.std.specs.Prelude.{◌≡◌, ◌≤◌, ◌+◌, IfOk};
-ghost use Rattle.sievelex.specs.Finding.{IfFault, IfFaultLine};
-ghost use Rattle.sievelex.specs.Text.{line_ends};
-ghost use Rattle.sievesyntax.specs.Tree.{Commands};
-ghost use Rattle.sievesyntax.specs.Means.{Means};
-ghost use Rattle.sieveexec.specs.Outcomes.{outcome_at};
-ghost use Rattle.sieveexec.specs.Runs.{outcome_view};
+ghost use Rattle.sieve_lex.specs.Finding.{IfFault, IfFaultLine};
+ghost use Rattle.sieve_lex.specs.Text.{line_ends};
+ghost use Rattle.sieve_syntax.specs.Tree.{Commands};
+ghost use Rattle.sieve_syntax.specs.Means.{Means};
+ghost use Rattle.sieve_exec.specs.Outcomes.{outcome_at};
+ghost use Rattle.sieve_exec.specs.Runs.{outcome_view};
 
-use sievecode::compile;
-use sieveexec::{Mail, Outcome, run};
-use sievelex::ScriptError;
-use sievesyntax::check;
+use sieve_code::compile;
+use sieve_exec::{Mail, Outcome, run_code};
+use sieve_lex::ScriptError;
+use sieve_syntax::check;
 use std::alloc::Global;
 
 /// Returns the outcome of a script on a mail (RFC 5228, 2.10), or why it isn't a valid script.
@@ -22,7 +22,7 @@ use std::alloc::Global;
 /// # Errors
 ///
 /// [`ScriptError::Fault`] if the text isn't a valid script, and [`ScriptError::Memory`] if an allocation failed.
-pub fn outcome_on(alloc: Global, script: &[u8], mail: &Mail<'_>) -> Result<Outcome, ScriptError>
+pub fn evaluate_script(alloc: Global, script: &[u8], mail: &Mail<'_>) -> Result<Outcome, ScriptError>
     ensures valid { IfOk result (λ done. (tree : Commands) × Means script.now tree) }
     ensures done { IfOk result (λ done. (tree : Commands) → Means script.now tree → outcome_view done ≡ outcome_at mail.now tree) }
     ensures fault { IfFault result ((tree : Commands) → Means script.now tree → ⊥) }
@@ -30,5 +30,5 @@ pub fn outcome_on(alloc: Global, script: &[u8], mail: &Mail<'_>) -> Result<Outco
 {
     let checked = check(alloc, script)?;
     let code = compile(alloc, &checked)?;
-    Ok(run(alloc, &code, mail)?)
+    Ok(run_code(alloc, &code, mail)?)
 }

@@ -1,17 +1,15 @@
 //! What is done about `vacation` (RFC 5230).
 ghost use Rattle.std.specs.Prelude.{◌≡◌, ◌≤◌, IfOk, option_copied};
-ghost use Rattle.deliverplan.specs.Plans.{IsVacationPlan, SendsReply, unsent_plan};
-ghost use Rattle.deliverplan.specs.Views.{moment_under};
+ghost use Rattle.sieve_plan.specs.Plans.{IsVacationPlan, SendsReply, unsent_plan};
+ghost use Rattle.sieve_plan.specs.Views.{moment_under};
 
-use crate::view::View;
-use mailstore::{VacationReply, VacationReport, latest};
+use crate::view::AccountView;
+use store_accounts::{VacationReply, VacationReport, latest};
 use octets::Octets;
-use sieveexec::Mail;
-use sievesyntax::VacArgs;
+use sieve_exec::Mail;
+use sieve_syntax::VacationArgs;
 use std::alloc::{AllocError, Global};
-use vacreply::{
-    AddressedMail, Decision, MAX_MOMENT, decide, handle_key, has_short_texts, reply_bytes,
-};
+use sieve_vacation::{AddressedMail, ReplyDecision, MAX_MOMENT, decide_reply, handle_key, has_short_texts, reply_bytes};
 
 /// What is to be done about `vacation`.
 #[derive(Drop)]
@@ -27,10 +25,10 @@ pub struct VacationPlan {
 /// the limits has, counts as lack of memory.
 pub(crate) fn plan_vacation(
     alloc: Global,
-    view: &View,
+    view: &AccountView,
     mail: &Mail<'_>,
     moment: u64,
-    reply: Option<&VacArgs>,
+    reply: Option<&VacationArgs>,
 ) -> Result<VacationPlan, AllocError>
     requires { moment ≤ MAX_MOMENT }
     ensures { IfOk result (IsVacationPlan view.now.address moment mail.now (moment_under view.now.replies) (option_copied reply.entry)) }
@@ -44,9 +42,9 @@ pub(crate) fn plan_vacation(
     let key = handle_key(alloc, args)?;
     let last = view.moment_under(key.as_slice());
     let addressed = AddressedMail::read(alloc, mail)?;
-    match decide(args, &addressed, &view.address, last, moment) {
-        Decision::Send => send(alloc, view, mail, moment, args, key, last),
-        Decision::Quiet(reason) => Ok(unsent(VacationReport::Quiet(reason.number()))),
+    match decide_reply(args, &addressed, &view.address, last, moment) {
+        ReplyDecision::Send => send(alloc, view, mail, moment, args, key, last),
+        ReplyDecision::Quiet(reason) => Ok(unsent(VacationReport::Quiet(reason.number()))),
     }
 }
 
@@ -63,10 +61,10 @@ fn unsent(vacation: VacationReport) -> VacationPlan
 /// The plan to send the response with this key. `last` is the moment that is kept under the key, if one is.
 fn send(
     alloc: Global,
-    view: &View,
+    view: &AccountView,
     mail: &Mail<'_>,
     moment: u64,
-    args: &VacArgs,
+    args: &VacationArgs,
     key: Octets,
     last: Option<u64>,
 ) -> Result<VacationPlan, AllocError>

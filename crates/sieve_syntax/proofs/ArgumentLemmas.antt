@@ -1,13 +1,13 @@
 -- Lemmas on arguments.
 use Rattle.std.proofs.Common.{◌≡◌, ℕ, List, [], ◌∷◌, ◌++◌, ◌<◌, ◌≤◌, length, refl, sym, ap, ◌∙◌, subst, arith}
-use Rattle.sievelex.specs.declared.token.Mark.{Mark}
-use Rattle.sievelex.specs.declared.token.Mark.TheVariants as K
-use Rattle.sievesyntax.specs.declared.parser.argument.Argument.{Argument}
-use Rattle.sievesyntax.specs.declared.parser.argument.Argument.TheVariants as A
-use Rattle.sievesyntax.specs.Chains.{Chain}
-use Rattle.sievesyntax.specs.Lexemes.{Lexeme, text, mark}
-use Rattle.sievesyntax.specs.Arguments.{IsOther, AreStrings, IsArgument, IsEnd, AreArguments}
-use Rattle.sievesyntax.proofs.Chains.{IsSoFar, chain_more, chain_ends, chain_fails}
+use Rattle.sieve_lex.specs.declared.token.Mark.{Mark}
+use Rattle.sieve_lex.specs.declared.token.Mark.TheVariants as K
+use Rattle.sieve_syntax.specs.declared.parser.argument.Argument.{Argument}
+use Rattle.sieve_syntax.specs.declared.parser.argument.Argument.TheVariants as A
+use Rattle.sieve_syntax.specs.Chains.{Chain}
+use Rattle.sieve_syntax.specs.Lexemes.{Lexeme, text, mark}
+use Rattle.sieve_syntax.specs.Arguments.{IsOther, AreStrings, IsArgument, IsArgumentsEnd, AreArguments}
+use Rattle.sieve_syntax.proofs.Chains.{IsSoFar, chain_more, chain_ends, chain_fails}
 
 -- this mark stands at the front
 abbrev pub IsMarked : Mark → List Lexeme → Type 0
@@ -37,11 +37,11 @@ module _ (whole : List Lexeme) (so_far : List (List ℕ)) (rest : List Lexeme) (
       (found.0, cc)
 
 -- no argument stands where none begins
-pub end_none : (from : List Lexeme) → IsEnd from → (a : Argument) (to : List Lexeme) → IsArgument a from to → ⊥
-end_none from end (A.Tag t) to at = subst IsEnd at end
-end_none from end (A.Number n) to at = subst IsEnd at end
-end_none from end (A.Text s) to at = subst IsEnd at end
-end_none from end (A.Strings xs) to at = subst IsEnd at.1.0 end
+pub end_none : (from : List Lexeme) → IsArgumentsEnd from → (a : Argument) (to : List Lexeme) → IsArgument a from to → ⊥
+end_none from end (A.Tag t) to at = subst IsArgumentsEnd at end
+end_none from end (A.Number n) to at = subst IsArgumentsEnd at end
+end_none from end (A.Text s) to at = subst IsArgumentsEnd at end
+end_none from end (A.Strings xs) to at = subst IsArgumentsEnd at.1.0 end
 
 -- strings are not empty
 strings_longer : (xs : List (List ℕ)) (from to : List Lexeme) → AreStrings xs from to → length to < length from
@@ -59,14 +59,14 @@ argument_longer (A.Number n) from to at = omega (arith, ap length at)
 argument_longer (A.Text s) from to at = omega (arith, ap length at)
 argument_longer (A.Strings xs) from to at = omega (arith, ap length at.1.0, strings_longer xs at.0 to at.1.1)
 
-module _ (whole : List Lexeme) (so_far : List Argument) (rest : List Lexeme) (so : IsSoFar IsArgument IsEnd whole so_far rest) where
+module _ (whole : List Lexeme) (so_far : List Argument) (rest : List Lexeme) (so : IsSoFar IsArgument IsArgumentsEnd whole so_far rest) where
   -- neither an argument nor an end
-  pub arguments_fail : (IsEnd rest → ⊥) → ((a : Argument) (to : List Lexeme) → IsArgument a rest to → ⊥) → (args : List Argument) (to : List Lexeme) → AreArguments args whole to → ⊥
-  arguments_fail begun none args to are = chain_fails IsArgument IsEnd whole so_far rest so begun none args to are.spelled are.all
+  pub arguments_fail : (IsArgumentsEnd rest → ⊥) → ((a : Argument) (to : List Lexeme) → IsArgument a rest to → ⊥) → (args : List Argument) (to : List Lexeme) → AreArguments args whole to → ⊥
+  arguments_fail begun none args to are = chain_fails IsArgument IsArgumentsEnd whole so_far rest so begun none args to are.spelled are.all
 
   -- the end
-  pub arguments_end : (to : List Lexeme) → IsEnd rest × (to ≡ rest) → AreArguments so_far whole to × ((args : List Argument) (end : List Lexeme) → AreArguments args whole end → (args ≡ so_far) × (end ≡ to))
+  pub arguments_end : (to : List Lexeme) → IsArgumentsEnd rest × (to ≡ rest) → AreArguments so_far whole to × ((args : List Argument) (end : List Lexeme) → AreArguments args whole end → (args ≡ so_far) × (end ≡ to))
   arguments_end to end = (
-    record { spelled = subst (Chain IsArgument so_far whole) (sym end.1) so.joins; all = subst IsEnd (sym end.1) end.0 },
-    λ args last are. let found = chain_ends IsArgument IsEnd whole so_far rest so (end_none rest end.0) args last are.spelled are.all in (found.0, found.1 ∙ sym end.1),
+    record { spelled = subst (Chain IsArgument so_far whole) (sym end.1) so.joins; all = subst IsArgumentsEnd (sym end.1) end.0 },
+    λ args last are. let found = chain_ends IsArgument IsArgumentsEnd whole so_far rest so (end_none rest end.0) args last are.spelled are.all in (found.0, found.1 ∙ sym end.1),
   )

@@ -1,19 +1,19 @@
 -- Lemmas on blocks and branches.
 use Rattle.std.proofs.Common.{◌≡◌, inl, inr, ◌++◌, ℕ, ◌≤◌, ◌<◌, ◌+◌, List, [], ◌∷◌, length, refl, sym, ap, ◌∙◌, subst, arith, max, suc}
-use Rattle.sievelex.specs.declared.token.Mark.TheVariants as K
-use Rattle.sievesyntax.specs.declared.table.keyword.Keyword.{Keyword}
-use Rattle.sievesyntax.specs.declared.table.keyword.Keyword.TheVariants as W
-use Rattle.sievesyntax.specs.declared.table.capability.Capabilities.{Capabilities}
-use Rattle.sievesyntax.specs.Lexemes.{Lexeme, keyword, tag, number, text, mark, misfit}
-use Rattle.sievesyntax.specs.Chains.{Chain}
-use Rattle.sievesyntax.specs.Tree.{TestTree, yes, CommandTree, require, choose, stop, act, Branches, no_branches, branch, Commands, no_commands, command, depth, depth_of, branches_depth}
-use Rattle.sievesyntax.specs.View.{commands_of, branches_of}
-use Rattle.sievesyntax.specs.Valid.{max_lists, max_nots, MayAsk, MayAllStand, MayBranch}
-use Rattle.sievesyntax.specs.Steps.{TakesTest}
-use Rattle.sievesyntax.specs.Grammar.{IsStatement, IsCommand, IsChoice, AreBranches, AreCommands, IsPastBranches, ReadsCommand}
-use Rattle.sievesyntax.specs.Steps.{TakesBranch, TakesElsif, TakesElsifs, TakesElse, IsPastElsif, TakesCommand, TakesAfter, TakesBlock, TakesAll, IsStop}
-use Rattle.sievesyntax.proofs.Chains.{IsSoFar, chain_more, chain_ends, chain_fails}
-use Rattle.sievesyntax.proofs.TestLemmas.{arguments_longer, reads_test_longer}
+use Rattle.sieve_lex.specs.declared.token.Mark.TheVariants as K
+use Rattle.sieve_syntax.specs.declared.table.keyword.Keyword.{Keyword}
+use Rattle.sieve_syntax.specs.declared.table.keyword.Keyword.TheVariants as W
+use Rattle.sieve_syntax.specs.declared.table.capability.Capabilities.{Capabilities}
+use Rattle.sieve_syntax.specs.Lexemes.{Lexeme, keyword, tag, number, text, mark, misfit}
+use Rattle.sieve_syntax.specs.Chains.{Chain}
+use Rattle.sieve_syntax.specs.Tree.{TestTree, yes, CommandTree, require, choose, stop, act, Branches, no_branches, branch, Commands, no_commands, command, depth, depth_of, branches_depth}
+use Rattle.sieve_syntax.specs.View.{commands_of, branches_of}
+use Rattle.sieve_syntax.specs.Valid.{max_lists, max_nots, MayBeCondition, MayAllStand, MayBranch}
+use Rattle.sieve_syntax.specs.Steps.{TakesTest}
+use Rattle.sieve_syntax.specs.Grammar.{IsStatement, IsCommand, IsChoice, AreBranches, AreCommands, IsPastBranches, ReadsCommand}
+use Rattle.sieve_syntax.specs.Steps.{TakesBranch, TakesElsif, TakesElsifs, TakesElse, IsPastElsif, TakesCommand, TakesAfter, TakesBlock, TakesAll, IsStop}
+use Rattle.sieve_syntax.proofs.Chains.{IsSoFar, chain_more, chain_ends, chain_fails}
+use Rattle.sieve_syntax.proofs.TestLemmas.{arguments_longer, reads_test_longer}
 
 -- commands as a list
 abbrev pub list_of : Commands → List CommandTree
@@ -210,7 +210,7 @@ module _ (granted : Capabilities) (room : ℕ) where
   last_joined (one ∷ []) from to some ends =
       let block = ends.1.1.1 in
       let low : depth one.1 + 1 ≤ room = block.1.1 in
-      (inr (ends.0, (ends.1.0, (block.0, (ends.1.1.0, refl)))), ((subst (MayAsk granted max_lists max_nots) (sym ends.1.1.0) (tt, (omega arith, omega arith)), (block.1.0, tt)), omega (arith, low, some)))
+      (inr (ends.0, (ends.1.0, (block.0, (ends.1.1.0, refl)))), ((subst (MayBeCondition granted max_lists max_nots) (sym ends.1.1.0) (tt, (omega arith, omega arith)), (block.1.0, tt)), omega (arith, low, some)))
   last_joined (one ∷ (two ∷ more)) from to some none = absurd none
 
   branches_joined : (each last : List (TestTree × Commands)) (from middle to : List Lexeme) → 1 ≤ room → Chain (TakesElsif granted room) each from middle → TakesElse granted room last middle to → AreBranches (branches_of (each ++ last)) from to × (MayBranch granted (branches_of (each ++ last)) × (branches_depth (branches_of (each ++ last)) + 1 ≤ room))

@@ -1,7 +1,7 @@
 -- Loops that read one thing after another.
 use Rattle.std.proofs.Common.{◌≡◌, List, [], ◌∷◌, ◌++◌, refl, sym, ap, ◌∙◌, subst, append_assoc}
 use Rattle.std.proofs.lemmas.List.{append-nil}
-use Rattle.sievesyntax.specs.Chains.{Chain}
+use Rattle.sieve_syntax.specs.Chains.{Chain}
 
 -- these things were read, and every reading of the whole, up to where it is done, begins with them
 pub record IsSoFar {X L : Type 0} (one : X → List L → List L → Type 0) (done : List L → Type 0) (whole : List L) (so_far : List X) (rest : List L) : Type 0 where

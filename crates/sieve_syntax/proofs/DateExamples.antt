@@ -1,29 +1,29 @@
 -- What `date` and `currentdate` say, and near misses.
 use Rattle.std.proofs.Common.{◌≡◌, ◌∙◌, ◌∷◌, ℤ, pos, List, [], Some, None, true, false, refl, sym, ap, inl, lit<}
 use Rattle.std.specs.Prelude.{codes}
-use Rattle.maildates.specs.declared.part.DatePart.TheVariants as E
-use Rattle.maildates.specs.Parts.{part_named}
-use Rattle.maildates.specs.Words.{is_named, number_in, two_digits}
-use Rattle.maildates.specs.Zones.{offset_of, numeric_of}
-use Rattle.maildates.proofs.ZoneLaws.{numeric_again}
-use Rattle.sievelex.specs.declared.token.Content.TheVariants as C
-use Rattle.sievesyntax.specs.declared.table.tag.Tag.TheVariants as T
-use Rattle.sievesyntax.specs.declared.table.tag_group.TagValue.TheVariants as S
-use Rattle.sievesyntax.specs.declared.parser.argument.Argument.{Argument}
-use Rattle.sievesyntax.specs.declared.parser.argument.Argument.TheVariants as A
-use Rattle.sievesyntax.specs.declared.tree.checks.Check.TheVariants as Q
-use Rattle.sievesyntax.specs.declared.tree.checks.Collation.TheVariants as L
-use Rattle.sievesyntax.specs.declared.tree.checks.CurrentDate.{CurrentDate}
-use Rattle.sievesyntax.specs.declared.tree.checks.DateTest.{DateTest}
-use Rattle.sievesyntax.specs.declared.tree.checks.DateZone.TheVariants as Z
-use Rattle.sievesyntax.specs.declared.tree.checks.Matching.TheVariants as M
-use Rattle.sievesyntax.specs.Before.{IsUndatedCheck, EachAsksIn}
-use Rattle.sievesyntax.specs.Languages.{lexeme_in, is_undated_capability, today, undated}
-use Rattle.sievesyntax.specs.Lexemes.{tag}
-use Rattle.sievesyntax.specs.Table.{SaysDate, SaysCurrentDate}
-use Rattle.sievesyntax.specs.Tags.{IsTagValue}
-use Rattle.sievesyntax.specs.Tree.{looks, choose, branch, no_branches, Commands, no_commands, command}
-use Rattle.sievesyntax.specs.Valid.{is_capability}
+use Rattle.mail_dates.specs.declared.part.DatePart.TheVariants as E
+use Rattle.mail_dates.specs.Parts.{part_named}
+use Rattle.mail_dates.specs.Words.{is_named, number_in, two_digits}
+use Rattle.mail_dates.specs.Zones.{offset_of, numeric_of}
+use Rattle.mail_dates.proofs.ZoneLaws.{numeric_again}
+use Rattle.sieve_lex.specs.declared.token.Content.TheVariants as C
+use Rattle.sieve_syntax.specs.declared.table.tag.Tag.TheVariants as T
+use Rattle.sieve_syntax.specs.declared.table.tag_group.TagValue.TheVariants as S
+use Rattle.sieve_syntax.specs.declared.parser.argument.Argument.{Argument}
+use Rattle.sieve_syntax.specs.declared.parser.argument.Argument.TheVariants as A
+use Rattle.sieve_syntax.specs.declared.tree.checks.MailCheck.TheVariants as Q
+use Rattle.sieve_syntax.specs.declared.tree.checks.Collation.TheVariants as L
+use Rattle.sieve_syntax.specs.declared.tree.checks.CurrentDate.{CurrentDate}
+use Rattle.sieve_syntax.specs.declared.tree.checks.DateTest.{DateTest}
+use Rattle.sieve_syntax.specs.declared.tree.checks.DateZone.TheVariants as Z
+use Rattle.sieve_syntax.specs.declared.tree.checks.Matching.TheVariants as M
+use Rattle.sieve_syntax.specs.Before.{IsUndatedCheck, EachAsksIn}
+use Rattle.sieve_syntax.specs.Languages.{lexeme_in, is_undated_capability, today, undated}
+use Rattle.sieve_syntax.specs.Lexemes.{tag}
+use Rattle.sieve_syntax.specs.Table.{SaysDate, SaysCurrentDate}
+use Rattle.sieve_syntax.specs.Tags.{IsTagValue}
+use Rattle.sieve_syntax.specs.Tree.{looks, choose, branch, no_branches, Commands, no_commands, command}
+use Rattle.sieve_syntax.specs.Valid.{is_capability}
 
 -- `:zone "+0200"` is two hours east of UTC, and `:zone "+2400"` none
 zone : IsTagValue (S.Zone (pos 120)) (A.Tag T.Zone ∷ (A.Text (codes "+0200") ∷ [])) []

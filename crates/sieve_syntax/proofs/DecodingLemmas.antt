@@ -3,42 +3,42 @@ use Rattle.std.proofs.Common.{◌≡◌, ◌||◌, ℕ, suc, Bool, true, false, 
 use Rattle.std.specs.List.{list_any}
 use Rattle.std.proofs.lemmas.List.Folds.{list_any-append}
 use Rattle.octets.proofs.Lists.{some_is}
-use Rattle.sievelex.specs.declared.token.Mark.TheVariants as K
-use Rattle.sievelex.specs.declared.token.Content.{Content}
-use Rattle.sievesyntax.specs.declared.parser.decoding.Decoding.{Decoding}
-use Rattle.sievesyntax.specs.declared.table.keyword.Keyword.{Keyword}
-use Rattle.sievesyntax.specs.declared.table.keyword.Keyword.TheVariants as W
-use Rattle.sievesyntax.specs.declared.parser.argument.Argument.{Argument}
-use Rattle.sievesyntax.specs.declared.parser.argument.Argument.TheVariants as A
-use Rattle.sievesyntax.specs.declared.parser.decoding.Decoding.TheVariants.{Open, Named, Off}
-use Rattle.sievesyntax.specs.Arguments.{IsOther, AreStrings, IsArgument}
-use Rattle.sievesyntax.specs.Chains.{Chain}
-use Rattle.sievesyntax.specs.Decoding.{is_encoded_character, decoding_after, seen_from, as_read}
-use Rattle.sievesyntax.specs.Grammar.{IsStatement, AreCommands, ReadsCommand, ReadsScript}
-use Rattle.sievesyntax.specs.Lexemes.{Lexeme, keyword, text, mark, lexeme_of, lexemes_of}
-use Rattle.sievesyntax.specs.Steps.{TakesRequire, IsPastRequires, all_names}
-use Rattle.sievesyntax.specs.Table.{IsList}
-use Rattle.sievesyntax.specs.Positional.{one_list}
-use Rattle.sievesyntax.specs.declared.table.tag_group.TagValue.{TagValue}
-use Rattle.sievesyntax.specs.Tags.{IsAllowed, strings_of}
-use Rattle.sievesyntax.specs.Tree.{require, Commands, no_commands, command}
-use Rattle.sievesyntax.specs.Valid.{granted_by, required, after_requires, IsValid}
-use Rattle.sievesyntax.proofs.RequireLemmas.{require_keyword, requires_of, required_of, parted}
-use Rattle.sievesyntax.proofs.TagLemmas.{none_there}
+use Rattle.sieve_lex.specs.declared.token.Mark.TheVariants as K
+use Rattle.sieve_lex.specs.declared.token.Content.{Content}
+use Rattle.sieve_syntax.specs.declared.parser.decoding.Decoding.{Decoding}
+use Rattle.sieve_syntax.specs.declared.table.keyword.Keyword.{Keyword}
+use Rattle.sieve_syntax.specs.declared.table.keyword.Keyword.TheVariants as W
+use Rattle.sieve_syntax.specs.declared.parser.argument.Argument.{Argument}
+use Rattle.sieve_syntax.specs.declared.parser.argument.Argument.TheVariants as A
+use Rattle.sieve_syntax.specs.declared.parser.decoding.Decoding.TheVariants.{Open, Named, Off}
+use Rattle.sieve_syntax.specs.Arguments.{IsOther, AreStrings, IsArgument}
+use Rattle.sieve_syntax.specs.Chains.{Chain}
+use Rattle.sieve_syntax.specs.Decoding.{is_encoded_character, decoding_after, lexemes_as_read, as_read}
+use Rattle.sieve_syntax.specs.Grammar.{IsStatement, AreCommands, ReadsCommand, ReadsScript}
+use Rattle.sieve_syntax.specs.Lexemes.{Lexeme, keyword, text, mark, lexeme_of, lexemes_of}
+use Rattle.sieve_syntax.specs.Steps.{TakesRequire, IsPastRequires, all_names}
+use Rattle.sieve_syntax.specs.Table.{IsList}
+use Rattle.sieve_syntax.specs.Positional.{one_list}
+use Rattle.sieve_syntax.specs.declared.table.tag_group.TagValue.{TagValue}
+use Rattle.sieve_syntax.specs.Tags.{IsAllowed, strings_of}
+use Rattle.sieve_syntax.specs.Tree.{require, Commands, no_commands, command}
+use Rattle.sieve_syntax.specs.Valid.{granted_by, required, after_requires, IsValid}
+use Rattle.sieve_syntax.proofs.RequireLemmas.{require_keyword, requires_of, required_of, parted}
+use Rattle.sieve_syntax.proofs.TagLemmas.{none_there}
 
 -- as many lexemes are read as there are
-pub seen_length : (decoding : Decoding) (contents : List Content) → length (seen_from decoding (lexemes_of contents)) ≡ length contents
+pub seen_length : (decoding : Decoding) (contents : List Content) → length (lexemes_as_read decoding (lexemes_of contents)) ≡ length contents
 seen_length decoding [] = refl
 seen_length decoding (first ∷ more) = ap suc (seen_length (decoding_after decoding (lexeme_of first)) more)
 
 -- the requires are over
-off_kept : (lexemes : List Lexeme) → seen_from Off lexemes ≡ lexemes
+off_kept : (lexemes : List Lexeme) → lexemes_as_read Off lexemes ≡ lexemes
 off_kept [] = refl
 off_kept (first ∷ more) = ap (λ l. first ∷ l) (off_kept more)
 
 -- a lexeme after which nothing is decoded yet
 kept : (first : Lexeme) (more : List Lexeme) → decoding_after Open first ≡ Open → as_read more ≡ more → as_read (first ∷ more) ≡ first ∷ more
-kept first more stays e = ap (λ d. first ∷ seen_from d more) stays ∙ ap (λ l. first ∷ l) e
+kept first more stays e = ap (λ d. first ∷ lexemes_as_read d more) stays ∙ ap (λ l. first ∷ l) e
 
 -- the same where it stands first
 kept_first : (first : Lexeme) (from to : List Lexeme) → from ≡ first ∷ to → decoding_after Open first ≡ Open → as_read to ≡ to → as_read from ≡ from
@@ -150,7 +150,7 @@ kept_rest : (commands : Commands) (from : List Lexeme) → AreCommands commands 
 kept_rest no_commands from is past = subst (λ l. as_read l ≡ l) (sym is) refl
 kept_rest (command first more) from (middle, ((name, (after, (opens, is))), others)) past =
     let ends = past_word name after (subst IsPastRequires opens past) in
-    subst (λ l. as_read l ≡ l) (sym opens) (ap (λ d. keyword name ∷ seen_from d after) ends ∙ ap (λ l. keyword name ∷ l) (off_kept after))
+    subst (λ l. as_read l ≡ l) (sym opens) (ap (λ d. keyword name ∷ lexemes_as_read d after) ends ∙ ap (λ l. keyword name ∷ l) (off_kept after))
 
 -- a script none of whose requires names the extension
 pub read_as_written : (tree : Commands) (lexemes : List Lexeme) → ReadsScript tree lexemes → IsValid tree → list_any is_encoded_character (required tree) ≡ false → ReadsScript tree (as_read lexemes)

@@ -3,43 +3,43 @@ use Rattle.std.proofs.Common.{◌≡◌, ℕ, Bool, true, false, List, [], ◌�
 use Rattle.std.specs.Prelude.{codes}
 use Rattle.std.specs.List.{list_all}
 use Rattle.octets.proofs.Lists.{some_pair}
-use Rattle.mailflags.specs.declared.placement.Placement.{Placement}
-use Rattle.sievelex.specs.declared.token.Mark.TheVariants as K
-use Rattle.sievesyntax.specs.declared.table.keyword.Keyword.TheVariants as W
-use Rattle.sievesyntax.specs.declared.table.tag.Tag.TheVariants as T
-use Rattle.sievesyntax.specs.declared.parser.argument.Argument.TheVariants as A
-use Rattle.sievesyntax.specs.declared.table.tag_group.TagValue.{TagValue}
-use Rattle.sievesyntax.specs.declared.table.tag_group.TagValue.TheVariants as S
-use Rattle.sievesyntax.specs.declared.table.tag_group.TagGroup.TheVariants as P
-use Rattle.sievesyntax.specs.declared.parser.argument.Argument.{Argument}
-use Rattle.sievesyntax.specs.declared.tree.checks.Matching.TheVariants as M
-use Rattle.sievesyntax.specs.declared.tree.checks.Relation.{Relation}
-use Rattle.sievesyntax.specs.declared.tree.checks.Relation.TheVariants as R
-use Rattle.sievesyntax.specs.declared.tree.checks.Collation.TheVariants as C
-use Rattle.sievesyntax.specs.declared.tree.checks.Check.TheVariants as L
-use Rattle.sievesyntax.specs.declared.tree.checks.Check.{Check}
-use Rattle.sievesyntax.specs.declared.tree.checks.Size.{Size}
-use Rattle.sievesyntax.specs.declared.tree.checks.Address.{Address}
-use Rattle.sievesyntax.specs.declared.tree.checks.EnvelopeTest.{EnvelopeTest}
-use Rattle.sievesyntax.specs.declared.tree.checks.Bound.TheVariants as B
-use Rattle.sievesyntax.specs.declared.tree.checks.AddressPart.TheVariants as H
-use Rattle.sievesyntax.specs.declared.tree.checks.EnvelopeParts.{EnvelopeParts}
-use Rattle.sievesyntax.specs.declared.tree.vacation.VacArgs.{VacArgs}
-use Rattle.sievesyntax.specs.declared.tree.action.Action.TheVariants as D
-use Rattle.sievesyntax.specs.Lexemes.{Lexeme, keyword, tag, number, text, mark}
-use Rattle.sievesyntax.specs.Arguments.{AreStrings, AreArguments}
+use Rattle.mail_flags.specs.declared.placement.Placement.{Placement}
+use Rattle.sieve_lex.specs.declared.token.Mark.TheVariants as K
+use Rattle.sieve_syntax.specs.declared.table.keyword.Keyword.TheVariants as W
+use Rattle.sieve_syntax.specs.declared.table.tag.Tag.TheVariants as T
+use Rattle.sieve_syntax.specs.declared.parser.argument.Argument.TheVariants as A
+use Rattle.sieve_syntax.specs.declared.table.tag_group.TagValue.{TagValue}
+use Rattle.sieve_syntax.specs.declared.table.tag_group.TagValue.TheVariants as S
+use Rattle.sieve_syntax.specs.declared.table.tag_group.TagGroup.TheVariants as P
+use Rattle.sieve_syntax.specs.declared.parser.argument.Argument.{Argument}
+use Rattle.sieve_syntax.specs.declared.tree.checks.Matching.TheVariants as M
+use Rattle.sieve_syntax.specs.declared.tree.checks.Relation.{Relation}
+use Rattle.sieve_syntax.specs.declared.tree.checks.Relation.TheVariants as R
+use Rattle.sieve_syntax.specs.declared.tree.checks.Collation.TheVariants as C
+use Rattle.sieve_syntax.specs.declared.tree.checks.MailCheck.TheVariants as L
+use Rattle.sieve_syntax.specs.declared.tree.checks.MailCheck.{MailCheck}
+use Rattle.sieve_syntax.specs.declared.tree.checks.Size.{Size}
+use Rattle.sieve_syntax.specs.declared.tree.checks.Address.{Address}
+use Rattle.sieve_syntax.specs.declared.tree.checks.EnvelopeTest.{EnvelopeTest}
+use Rattle.sieve_syntax.specs.declared.tree.checks.Bound.TheVariants as B
+use Rattle.sieve_syntax.specs.declared.tree.checks.AddressPart.TheVariants as H
+use Rattle.sieve_syntax.specs.declared.tree.checks.EnvelopeParts.{EnvelopeParts}
+use Rattle.sieve_syntax.specs.declared.tree.vacation.VacationArgs.{VacationArgs}
+use Rattle.sieve_syntax.specs.declared.tree.action.Action.TheVariants as D
+use Rattle.sieve_syntax.specs.Lexemes.{Lexeme, keyword, tag, number, text, mark}
+use Rattle.sieve_syntax.specs.Arguments.{AreStrings, AreArguments}
 use Rattle.std.proofs.lemmas.List.Elements.{Contains-push, Contains-push_cases}
-use Rattle.sievesyntax.proofs.TagLemmas.{none_there, first_there, plain_none}
-use Rattle.sievesyntax.specs.Chains.{Chain}
-use Rattle.sievesyntax.specs.Tags.{group_of, relation_name, IsTagValue, IsAllowed, IsPlain, IsSplit}
-use Rattle.sievesyntax.specs.Table.{SaysSize, SaysAddress, SaysEnvelope, NamesParts, is_part, IsPlainTest, IsPlainCommand}
-use Rattle.sievesyntax.specs.Tests.{IsTest, ReadsTest}
-use Rattle.sievesyntax.specs.Grammar.{ReadsScript}
-use Rattle.sievesyntax.specs.Tree.{TestTree, yes, looks, not_of, all_of, any_of, no_tests, test, list_depth, not_depth, CommandTree, choose, stop, act, no_branches, branch, Commands, no_commands, command, depth}
-use Rattle.sievesyntax.specs.Valid.{IsMailbox, IsValid, is_capability}
-use Rattle.sievesyntax.specs.Means.{Means}
-use Rattle.sievesyntax.specs.RunState.{RunState, TwoVacations}
-use Rattle.sievesyntax.specs.Meaning.{outcome, Done, Failed}
+use Rattle.sieve_syntax.proofs.TagLemmas.{none_there, first_there, plain_none}
+use Rattle.sieve_syntax.specs.Chains.{Chain}
+use Rattle.sieve_syntax.specs.Tags.{group_of, relation_name, IsTagValue, IsAllowed, BeginsUntagged, IsSplit}
+use Rattle.sieve_syntax.specs.Table.{SaysSize, SaysAddress, SaysEnvelope, NamesParts, is_part, IsPlainTest, IsPlainCommand}
+use Rattle.sieve_syntax.specs.Tests.{IsTest, ReadsTest}
+use Rattle.sieve_syntax.specs.Grammar.{ReadsScript}
+use Rattle.sieve_syntax.specs.Tree.{TestTree, yes, looks, not_of, all_of, any_of, no_tests, test, list_depth, not_depth, CommandTree, choose, stop, act, no_branches, branch, Commands, no_commands, command, depth}
+use Rattle.sieve_syntax.specs.Valid.{IsMailboxName, IsValid, is_capability}
+use Rattle.sieve_syntax.specs.Means.{Means}
+use Rattle.sieve_syntax.specs.RunState.{RunState, TwoVacations}
+use Rattle.sieve_syntax.specs.Meaning.{outcome, Done, Failed}
 
 -- a copy without flags in a mailbox
 abbrev pub into : List ℕ → Placement
@@ -64,7 +64,7 @@ tag_values = record {
 
 -- a tag where no setting is allowed
 no_tag_value : (tag_values : List TagValue) (positional : List Argument) → IsSplit [] (A.Tag T.Mime ∷ []) tag_values positional → ⊥
-no_tag_value [] positional is = let e : A.Tag T.Mime ∷ [] ≡ positional = is.written in subst IsPlain (sym e) is.plain
+no_tag_value [] positional is = let e : A.Tag T.Mime ∷ [] ≡ positional = is.written in subst BeginsUntagged (sym e) is.plain
 no_tag_value (s ∷ more) positional is = none_there (group_of s) is.written.1.0.1
 
 -- `header "a" "b"` compares by `:is` and `i;ascii-casemap`
@@ -143,7 +143,7 @@ keep : ReadsScript (command (act (D.Keep None)) no_commands) (keyword W.Keep ∷
 keep = ([], ((W.Keep, (mark K.Semicolon ∷ [], (refl, ([], (record { spelled = refl; all = tt }, keep_bare))))), refl))
 
 -- a name of one octet is a mailbox, the empty one isn't
-no_mailbox : IsMailbox [] → ⊥
+no_mailbox : IsMailboxName [] → ⊥
 no_mailbox is = is.some refl
 
 -- `stop;` is valid, `fileinto` without `require` isn't
@@ -171,35 +171,35 @@ block_depths : depth (command (choose (branch yes (command (choose (branch yes n
 block_depths = refl
 
 -- `fileinto "inbox"; keep; discard;` files into INBOX once; `Inbox ` is another mailbox
-inbox_once : (truth : RunState → Check → Bool) → outcome truth (command (act (D.FileInto (record { mailbox = codes "inbox"; copy = false; create = false; flags = None }))) (command (act (D.Keep None)) (command (act D.Discard) no_commands))) ≡ Done (record { filed = into (codes "INBOX") ∷ []; sent = []; reply = None })
+inbox_once : (truth : RunState → MailCheck → Bool) → outcome truth (command (act (D.FileInto (record { mailbox = codes "inbox"; copy = false; create = false; flags = None }))) (command (act (D.Keep None)) (command (act D.Discard) no_commands))) ≡ Done (record { filed = into (codes "INBOX") ∷ []; sent = []; reply = None })
 inbox_once truth = refl
 
-inbox_twice : (truth : RunState → Check → Bool) → outcome truth (command (act (D.FileInto (record { mailbox = codes "Inbox "; copy = false; create = false; flags = None }))) (command (act (D.Keep None)) no_commands)) ≡ Done (record { filed = into (codes "Inbox ") ∷ (into (codes "INBOX") ∷ []); sent = []; reply = None })
+inbox_twice : (truth : RunState → MailCheck → Bool) → outcome truth (command (act (D.FileInto (record { mailbox = codes "Inbox "; copy = false; create = false; flags = None }))) (command (act (D.Keep None)) no_commands)) ≡ Done (record { filed = into (codes "Inbox ") ∷ (into (codes "INBOX") ∷ []); sent = []; reply = None })
 inbox_twice truth = refl
 
 -- `redirect` of one address twice sends once, and nothing is kept
-once : (truth : RunState → Check → Bool) → outcome truth (command (act (D.Redirect (record { target = record { local = codes "c"; domain = codes "d" }; copy = false }))) (command (act (D.Redirect (record { target = record { local = codes "c"; domain = codes "d" }; copy = false }))) no_commands)) ≡ Done (record { filed = []; sent = record { local = codes "c"; domain = codes "d" } ∷ []; reply = None })
+once : (truth : RunState → MailCheck → Bool) → outcome truth (command (act (D.Redirect (record { target = record { local = codes "c"; domain = codes "d" }; copy = false }))) (command (act (D.Redirect (record { target = record { local = codes "c"; domain = codes "d" }; copy = false }))) no_commands)) ≡ Done (record { filed = []; sent = record { local = codes "c"; domain = codes "d" } ∷ []; reply = None })
 once truth = refl
 
 -- `fileinto :copy "x";` keeps the message too (RFC 3894, 3.1); `fileinto "x";` doesn't
-copied : (truth : RunState → Check → Bool) → outcome truth (command (act (D.FileInto (record { mailbox = codes "x"; copy = true; create = false; flags = None }))) no_commands) ≡ Done (record { filed = into (codes "x") ∷ (into (codes "INBOX") ∷ []); sent = []; reply = None })
+copied : (truth : RunState → MailCheck → Bool) → outcome truth (command (act (D.FileInto (record { mailbox = codes "x"; copy = true; create = false; flags = None }))) no_commands) ≡ Done (record { filed = into (codes "x") ∷ (into (codes "INBOX") ∷ []); sent = []; reply = None })
 copied truth = refl
 
-filed_alone : (truth : RunState → Check → Bool) → outcome truth (command (act (D.FileInto (record { mailbox = codes "x"; copy = false; create = false; flags = None }))) no_commands) ≡ Done (record { filed = into (codes "x") ∷ []; sent = []; reply = None })
+filed_alone : (truth : RunState → MailCheck → Bool) → outcome truth (command (act (D.FileInto (record { mailbox = codes "x"; copy = false; create = false; flags = None }))) no_commands) ≡ Done (record { filed = into (codes "x") ∷ []; sent = []; reply = None })
 filed_alone truth = refl
 
 -- `redirect :copy "c@d"; discard;` keeps nothing: what is cancelled stays cancelled
-copied_and_discarded : (truth : RunState → Check → Bool) → outcome truth (command (act (D.Redirect (record { target = record { local = codes "c"; domain = codes "d" }; copy = true }))) (command (act D.Discard) no_commands)) ≡ Done (record { filed = []; sent = record { local = codes "c"; domain = codes "d" } ∷ []; reply = None })
+copied_and_discarded : (truth : RunState → MailCheck → Bool) → outcome truth (command (act (D.Redirect (record { target = record { local = codes "c"; domain = codes "d" }; copy = true }))) (command (act D.Discard) no_commands)) ≡ Done (record { filed = []; sent = record { local = codes "c"; domain = codes "d" } ∷ []; reply = None })
 copied_and_discarded truth = refl
 
-discarded_and_copied : (truth : RunState → Check → Bool) → outcome truth (command (act D.Discard) (command (act (D.FileInto (record { mailbox = codes "x"; copy = true; create = false; flags = None }))) no_commands)) ≡ Done (record { filed = into (codes "x") ∷ []; sent = []; reply = None })
+discarded_and_copied : (truth : RunState → MailCheck → Bool) → outcome truth (command (act D.Discard) (command (act (D.FileInto (record { mailbox = codes "x"; copy = true; create = false; flags = None }))) no_commands)) ≡ Done (record { filed = into (codes "x") ∷ []; sent = []; reply = None })
 discarded_and_copied truth = refl
 
 -- `vacation` keeps the message; a second one fails, after a `discard` too
-answered : (truth : RunState → Check → Bool) (args : VacArgs) → outcome truth (command (act (D.Vacation args)) no_commands) ≡ Done (record { filed = into (codes "INBOX") ∷ []; sent = []; reply = Some args })
+answered : (truth : RunState → MailCheck → Bool) (args : VacationArgs) → outcome truth (command (act (D.Vacation args)) no_commands) ≡ Done (record { filed = into (codes "INBOX") ∷ []; sent = []; reply = Some args })
 answered truth args = refl
 
-twice : (truth : RunState → Check → Bool) (args other : VacArgs) → outcome truth (command (act D.Discard) (command (act (D.Vacation args)) (command (act (D.Vacation other)) no_commands))) ≡ Failed TwoVacations
+twice : (truth : RunState → MailCheck → Bool) (args other : VacationArgs) → outcome truth (command (act D.Discard) (command (act (D.Vacation args)) (command (act (D.Vacation other)) no_commands))) ≡ Failed TwoVacations
 twice truth args other = refl
 
 apart : (a b : ℕ) → a ≡ 0 → b ≡ 10 → a ≡ b → ⊥

@@ -1,39 +1,39 @@
 -- What `imap4flags` says and does (RFC 5232), and near misses.
 use Rattle.std.proofs.Common.{◌≡◌, ◌∙◌, ◌∷◌, ◌||◌, ℕ, Bool, true, false, List, [], Some, None, refl, ap, lit≤}
 use Rattle.std.specs.Prelude.{codes, cond, length, nat_lt}
-use Rattle.mailflags.specs.Flags.{has}
-use Rattle.mailflags.specs.declared.placement.Placement.{Placement}
-use Rattle.sievelex.specs.declared.token.Content.TheVariants as C
-use Rattle.sievesyntax.specs.declared.table.keyword.Keyword.TheVariants as W
-use Rattle.sievesyntax.specs.declared.table.tag.Tag.TheVariants as T
-use Rattle.sievesyntax.specs.declared.table.tag_group.TagValue.{TagValue}
-use Rattle.sievesyntax.specs.declared.table.tag_group.TagValue.TheVariants as S
-use Rattle.sievesyntax.specs.declared.table.tag_group.TagGroup.TheVariants as P
-use Rattle.sievesyntax.specs.declared.parser.argument.Argument.{Argument}
-use Rattle.sievesyntax.specs.declared.parser.argument.Argument.TheVariants as A
-use Rattle.sievesyntax.specs.declared.tree.action.Action.{Action}
-use Rattle.sievesyntax.specs.declared.tree.action.Action.TheVariants.{Keep, Discard, FileInto, SetFlag, AddFlag, RemoveFlag}
-use Rattle.sievesyntax.specs.declared.tree.checks.Check.{Check}
-use Rattle.sievesyntax.specs.declared.tree.checks.Check.TheVariants as Q
-use Rattle.sievesyntax.specs.declared.tree.checks.Collation.TheVariants as L
-use Rattle.sievesyntax.specs.declared.tree.checks.HasFlag.{HasFlag}
-use Rattle.sievesyntax.specs.declared.tree.checks.Matching.TheVariants as M
-use Rattle.sievesyntax.specs.Before.{IsUnflaggedCheck, IsUnflaggedAction, EachIn, EachAsksIn}
-use Rattle.sievesyntax.specs.Chains.{Chain}
-use Rattle.sievesyntax.specs.Languages.{lexeme_in, is_unflagged_capability, today, unflagged}
-use Rattle.sievesyntax.specs.Lexemes.{tag}
-use Rattle.sievesyntax.specs.Meaning.{Outcome, Done, Failed, done_by, ended, outcome}
-use Rattle.sievesyntax.specs.RunState.{RunState, TooManyMailboxes, Going, max_mailboxes, is_filed, has_room, with_filed, flags_given}
-use Rattle.sievesyntax.specs.RunState as F
-use Rattle.sievesyntax.specs.Positional.{one_list}
-use Rattle.sievesyntax.specs.Table.{SaysHasFlag, IsPlainCommand}
-use Rattle.sievesyntax.specs.Tags.{IsTagValue, IsAllowed}
-use Rattle.sievesyntax.specs.Trace.{actions_run}
-use Rattle.sievesyntax.specs.Tree.{looks, CommandTree, require, choose, act, branch, no_branches, Commands, no_commands, command}
-use Rattle.sievesyntax.specs.Valid.{is_capability, IsValid}
-use Rattle.sievesyntax.proofs.Examples.{into}
-use Rattle.sievesyntax.proofs.LanguageExamples.{one_known}
-use Rattle.sievesyntax.proofs.TagLemmas.{none_there, first_there, plain_none}
+use Rattle.mail_flags.specs.Flags.{has}
+use Rattle.mail_flags.specs.declared.placement.Placement.{Placement}
+use Rattle.sieve_lex.specs.declared.token.Content.TheVariants as C
+use Rattle.sieve_syntax.specs.declared.table.keyword.Keyword.TheVariants as W
+use Rattle.sieve_syntax.specs.declared.table.tag.Tag.TheVariants as T
+use Rattle.sieve_syntax.specs.declared.table.tag_group.TagValue.{TagValue}
+use Rattle.sieve_syntax.specs.declared.table.tag_group.TagValue.TheVariants as S
+use Rattle.sieve_syntax.specs.declared.table.tag_group.TagGroup.TheVariants as P
+use Rattle.sieve_syntax.specs.declared.parser.argument.Argument.{Argument}
+use Rattle.sieve_syntax.specs.declared.parser.argument.Argument.TheVariants as A
+use Rattle.sieve_syntax.specs.declared.tree.action.Action.{Action}
+use Rattle.sieve_syntax.specs.declared.tree.action.Action.TheVariants.{Keep, Discard, FileInto, SetFlag, AddFlag, RemoveFlag}
+use Rattle.sieve_syntax.specs.declared.tree.checks.MailCheck.{MailCheck}
+use Rattle.sieve_syntax.specs.declared.tree.checks.MailCheck.TheVariants as Q
+use Rattle.sieve_syntax.specs.declared.tree.checks.Collation.TheVariants as L
+use Rattle.sieve_syntax.specs.declared.tree.checks.HasFlag.{HasFlag}
+use Rattle.sieve_syntax.specs.declared.tree.checks.Matching.TheVariants as M
+use Rattle.sieve_syntax.specs.Before.{IsUnflaggedCheck, IsUnflaggedAction, EachIn, EachAsksIn}
+use Rattle.sieve_syntax.specs.Chains.{Chain}
+use Rattle.sieve_syntax.specs.Languages.{lexeme_in, is_unflagged_capability, today, unflagged}
+use Rattle.sieve_syntax.specs.Lexemes.{tag}
+use Rattle.sieve_syntax.specs.Meaning.{Outcome, Done, Failed, done_by, outcome_after, outcome}
+use Rattle.sieve_syntax.specs.RunState.{RunState, TooManyMailboxes, Going, max_mailboxes, is_filed, has_room, with_filed, flags_given}
+use Rattle.sieve_syntax.specs.RunState as F
+use Rattle.sieve_syntax.specs.Positional.{one_list}
+use Rattle.sieve_syntax.specs.Table.{SaysHasFlag, IsPlainCommand}
+use Rattle.sieve_syntax.specs.Tags.{IsTagValue, IsAllowed}
+use Rattle.sieve_syntax.specs.Trace.{actions_run}
+use Rattle.sieve_syntax.specs.Tree.{looks, CommandTree, require, choose, act, branch, no_branches, Commands, no_commands, command}
+use Rattle.sieve_syntax.specs.Valid.{is_capability, IsValid}
+use Rattle.sieve_syntax.proofs.Examples.{into}
+use Rattle.sieve_syntax.proofs.LanguageExamples.{one_known}
+use Rattle.sieve_syntax.proofs.TagLemmas.{none_there, first_there, plain_none}
 
 -- ---- what is written
 
@@ -122,55 +122,55 @@ flagged mailbox flags = record { mailbox = mailbox; flags = flags }
 
 -- the implicit keep has the flags that are set; those of `addflag` come one after the other, in one list or in one text
 -- (RFC 5232, 2 and 3.2)
-added_apart : (truth : RunState → Check → Bool) → outcome truth (in_row (AddFlag (codes "\\Deleted" ∷ []) ∷ (AddFlag (codes "\\Answered" ∷ []) ∷ []))) ≡ done (flagged (codes "INBOX") (codes "\\Deleted \\Answered") ∷ [])
+added_apart : (truth : RunState → MailCheck → Bool) → outcome truth (in_row (AddFlag (codes "\\Deleted" ∷ []) ∷ (AddFlag (codes "\\Answered" ∷ []) ∷ []))) ≡ done (flagged (codes "INBOX") (codes "\\Deleted \\Answered") ∷ [])
 added_apart truth = refl
 
-added_together : (truth : RunState → Check → Bool) → outcome truth (in_row (AddFlag (codes "\\Deleted" ∷ (codes "\\Answered" ∷ [])) ∷ [])) ≡ done (flagged (codes "INBOX") (codes "\\Deleted \\Answered") ∷ [])
+added_together : (truth : RunState → MailCheck → Bool) → outcome truth (in_row (AddFlag (codes "\\Deleted" ∷ (codes "\\Answered" ∷ [])) ∷ [])) ≡ done (flagged (codes "INBOX") (codes "\\Deleted \\Answered") ∷ [])
 added_together truth = refl
 
-added_in_one : (truth : RunState → Check → Bool) → outcome truth (in_row (AddFlag (codes "\\Deleted \\Answered" ∷ []) ∷ [])) ≡ done (flagged (codes "INBOX") (codes "\\Deleted \\Answered") ∷ [])
+added_in_one : (truth : RunState → MailCheck → Bool) → outcome truth (in_row (AddFlag (codes "\\Deleted \\Answered" ∷ []) ∷ [])) ≡ done (flagged (codes "INBOX") (codes "\\Deleted \\Answered") ∷ [])
 added_in_one truth = refl
 
 -- `setflag` leaves no other (RFC 5232, 3.1), and `removeflag` takes one away, whatever its case (RFC 5232, 3.3)
-set_anew : (truth : RunState → Check → Bool) → outcome truth (in_row (AddFlag (codes "\\Deleted" ∷ []) ∷ (SetFlag (codes "\\Seen" ∷ []) ∷ []))) ≡ done (flagged (codes "INBOX") (codes "\\Seen") ∷ [])
+set_anew : (truth : RunState → MailCheck → Bool) → outcome truth (in_row (AddFlag (codes "\\Deleted" ∷ []) ∷ (SetFlag (codes "\\Seen" ∷ []) ∷ []))) ≡ done (flagged (codes "INBOX") (codes "\\Seen") ∷ [])
 set_anew truth = refl
 
-taken_away : (truth : RunState → Check → Bool) → outcome truth (in_row (AddFlag (codes "\\Deleted foo" ∷ []) ∷ (RemoveFlag (codes "FOO" ∷ []) ∷ []))) ≡ done (flagged (codes "INBOX") (codes "\\Deleted") ∷ [])
+taken_away : (truth : RunState → MailCheck → Bool) → outcome truth (in_row (AddFlag (codes "\\Deleted foo" ∷ []) ∷ (RemoveFlag (codes "FOO" ∷ []) ∷ []))) ≡ done (flagged (codes "INBOX") (codes "\\Deleted") ∷ [])
 taken_away truth = refl
 
 -- a copy has the flags that are set when it is filed: what is set behind it is for the next one
-filed_first : (truth : RunState → Check → Bool) → outcome truth (in_row (FileInto (record { mailbox = codes "x"; copy = true; create = false; flags = None }) ∷ (SetFlag (codes "\\Seen" ∷ []) ∷ []))) ≡ done (into (codes "x") ∷ (flagged (codes "INBOX") (codes "\\Seen") ∷ []))
+filed_first : (truth : RunState → MailCheck → Bool) → outcome truth (in_row (FileInto (record { mailbox = codes "x"; copy = true; create = false; flags = None }) ∷ (SetFlag (codes "\\Seen" ∷ []) ∷ []))) ≡ done (into (codes "x") ∷ (flagged (codes "INBOX") (codes "\\Seen") ∷ []))
 filed_first truth = refl
 
 -- `:flags` stands for them, even where it names none (RFC 5232, 5), and they stay
-given_in_place : (truth : RunState → Check → Bool) → outcome truth (in_row (SetFlag (codes "\\Seen" ∷ []) ∷ (FileInto (record { mailbox = codes "x"; copy = true; create = false; flags = Some (codes "\\Deleted" ∷ []) }) ∷ []))) ≡ done (flagged (codes "x") (codes "\\Deleted") ∷ (flagged (codes "INBOX") (codes "\\Seen") ∷ []))
+given_in_place : (truth : RunState → MailCheck → Bool) → outcome truth (in_row (SetFlag (codes "\\Seen" ∷ []) ∷ (FileInto (record { mailbox = codes "x"; copy = true; create = false; flags = Some (codes "\\Deleted" ∷ []) }) ∷ []))) ≡ done (flagged (codes "x") (codes "\\Deleted") ∷ (flagged (codes "INBOX") (codes "\\Seen") ∷ []))
 given_in_place truth = refl
 
-given_none : (truth : RunState → Check → Bool) → outcome truth (in_row (SetFlag (codes "\\Seen" ∷ []) ∷ (Keep (Some (codes "" ∷ [])) ∷ []))) ≡ done (into (codes "INBOX") ∷ [])
+given_none : (truth : RunState → MailCheck → Bool) → outcome truth (in_row (SetFlag (codes "\\Seen" ∷ []) ∷ (Keep (Some (codes "" ∷ [])) ∷ []))) ≡ done (into (codes "INBOX") ∷ [])
 given_none truth = refl
 
 -- one copy in a mailbox, where it was, with the flags of the last filing (RFC 5232), be there none
-filed_once : (truth : RunState → Check → Bool) → outcome truth (in_row (Keep None ∷ (SetFlag (codes "\\Seen" ∷ []) ∷ (Keep None ∷ [])))) ≡ done (flagged (codes "INBOX") (codes "\\Seen") ∷ [])
+filed_once : (truth : RunState → MailCheck → Bool) → outcome truth (in_row (Keep None ∷ (SetFlag (codes "\\Seen" ∷ []) ∷ (Keep None ∷ [])))) ≡ done (flagged (codes "INBOX") (codes "\\Seen") ∷ [])
 filed_once truth = refl
 
-bared : (truth : RunState → Check → Bool) → outcome truth (in_row (SetFlag (codes "\\Seen" ∷ []) ∷ (Keep None ∷ (Keep (Some (codes "" ∷ [])) ∷ [])))) ≡ done (into (codes "INBOX") ∷ [])
+bared : (truth : RunState → MailCheck → Bool) → outcome truth (in_row (SetFlag (codes "\\Seen" ∷ []) ∷ (Keep None ∷ (Keep (Some (codes "" ∷ [])) ∷ [])))) ≡ done (into (codes "INBOX") ∷ [])
 bared truth = refl
 
 -- `x`
 abbrev copied : Action
 copied = FileInto (record { mailbox = codes "x"; copy = true; create = false; flags = None })
 
-filed_first_again : (truth : RunState → Check → Bool) → outcome truth (in_row (copied ∷ (Keep None ∷ (SetFlag (codes "\\Seen" ∷ []) ∷ (copied ∷ []))))) ≡ done (flagged (codes "x") (codes "\\Seen") ∷ (into (codes "INBOX") ∷ []))
+filed_first_again : (truth : RunState → MailCheck → Bool) → outcome truth (in_row (copied ∷ (Keep None ∷ (SetFlag (codes "\\Seen" ∷ []) ∷ (copied ∷ []))))) ≡ done (flagged (codes "x") (codes "\\Seen") ∷ (into (codes "INBOX") ∷ []))
 filed_first_again truth = refl
 
 -- the implicit keep is the last filing
-kept_last : (truth : RunState → Check → Bool) → outcome truth (in_row (FileInto (record { mailbox = codes "inbox"; copy = true; create = false; flags = None }) ∷ (SetFlag (codes "\\Seen" ∷ []) ∷ []))) ≡ done (flagged (codes "INBOX") (codes "\\Seen") ∷ [])
+kept_last : (truth : RunState → MailCheck → Bool) → outcome truth (in_row (FileInto (record { mailbox = codes "inbox"; copy = true; create = false; flags = None }) ∷ (SetFlag (codes "\\Seen" ∷ []) ∷ []))) ≡ done (flagged (codes "INBOX") (codes "\\Seen") ∷ [])
 kept_last truth = refl
 
 -- ---- what a test sees
 
 -- the flag `A` is one of those that are set
-abbrev asks_for_a : RunState → Check → Bool
+abbrev asks_for_a : RunState → MailCheck → Bool
 asks_for_a so_far check = has so_far.flags (codes "A")
 
 -- an action, `if hasflag "a" { discard; }`, and another action
@@ -209,8 +209,8 @@ hundred_again : (filed : List Placement) (mailbox : List ℕ) → length filed �
 hundred_again filed mailbox many there = ap (λ n. nat_lt n max_mailboxes || is_filed filed mailbox) many ∙ there
 
 -- so the implicit keep fails behind a hundred others, unless it is cancelled
-one_too_many : (state : RunState) → has_room state.filed (codes "INBOX") ≡ false → ended (Going (record state { cancelled = false })) ≡ Failed TooManyMailboxes
+one_too_many : (state : RunState) → has_room state.filed (codes "INBOX") ≡ false → outcome_after (Going (record state { cancelled = false })) ≡ Failed TooManyMailboxes
 one_too_many state full = ap (λ room. done_by (cond room (Going (record state { filed = with_filed state.filed (flagged (codes "INBOX") (flags_given None state)); cancelled = false })) (F.Failed TooManyMailboxes))) full
 
-just_enough : (state : RunState) → ended (Going (record state { cancelled = true })) ≡ done_by (Going (record state { cancelled = true }))
+just_enough : (state : RunState) → outcome_after (Going (record state { cancelled = true })) ≡ done_by (Going (record state { cancelled = true }))
 just_enough state = refl

@@ -1,64 +1,64 @@
 -- Examples of the language before and of the one that is: texts that mean a tree in both, and near misses.
 use Rattle.std.proofs.Common.{◌≡◌, ◌+◌, ◌<◌, ℕ, zero, suc, Bool, true, false, List, [], ◌∷◌, length, take, get_or, Option, Some, None, refl, ap, sym, subst, arith, lit<, lit≤}
 use Rattle.std.specs.Prelude.{codes, All}
-use Rattle.addrparts.specs.declared.address.Addr.{Addr}
-use Rattle.addrparts.specs.Outbound.{IsOutbound}
-use Rattle.addrparts.specs.Reading.{outbound, pieces}
-use Rattle.addrparts.proofs.Outbounds.{outbound-is}
-use Rattle.sievelex.specs.declared.token.Content.{Content}
-use Rattle.sievelex.specs.declared.token.Content.TheVariants as C
-use Rattle.sievelex.specs.declared.token.Mark.TheVariants as K
-use Rattle.sievelex.specs.declared.token.Token.{Token}
-use Rattle.sievelex.specs.Contents.{contents_of}
-use Rattle.sievelex.specs.Space.{IsTail}
-use Rattle.sievelex.specs.Spelling.{IsNext, Spells}
-use Rattle.sievelex.specs.Text.{line_ends}
-use Rattle.sievelex.proofs.Best.{IsFound}
-use Rattle.sievelex.proofs.Named.{identifier_found, tag_found}
-use Rattle.sievelex.proofs.Numbered.{number_found}
-use Rattle.sievelex.proofs.Strings.{string_found}
-use Rattle.sievelex.proofs.Marks.{mark_found}
-use Rattle.sievelex.proofs.Next.{IsAhead, next_found}
-use Rattle.sievelex.proofs.TokenLaws.{tokens_only}
-use Rattle.sievesyntax.specs.declared.table.keyword.Keyword.{Keyword}
-use Rattle.sievesyntax.specs.declared.table.keyword.Keyword.TheVariants as W
-use Rattle.sievesyntax.specs.declared.table.tag.Tag.TheVariants as T
-use Rattle.sievesyntax.specs.declared.table.tag_group.TagGroup.TheVariants as P
-use Rattle.sievesyntax.specs.declared.table.tag_group.TagValue.TheVariants as S
-use Rattle.sievesyntax.specs.declared.parser.argument.Argument.{Argument}
-use Rattle.sievesyntax.specs.declared.parser.argument.Argument.TheVariants as A
-use Rattle.sievesyntax.specs.Arguments.{AreArguments}
-use Rattle.sievesyntax.specs.Table.{IsPlainCommand}
-use Rattle.sievesyntax.specs.declared.tree.action.Action.TheVariants as D
-use Rattle.sievesyntax.specs.declared.tree.checks.AddressPart.{AddressPart}
-use Rattle.sievesyntax.specs.declared.tree.checks.AddressPart.TheVariants as H
-use Rattle.sievesyntax.specs.declared.tree.checks.Collation.TheVariants as L
-use Rattle.sievesyntax.specs.declared.tree.checks.Matching.TheVariants as M
-use Rattle.sievesyntax.specs.declared.tree.checks.Check.{Check}
-use Rattle.sievesyntax.specs.declared.tree.checks.Check.TheVariants as Q
-use Rattle.sievesyntax.specs.declared.tree.vacation.VacArgs.{VacArgs}
-use Rattle.sievesyntax.specs.Before.{outcome_in, IsOfBefore, EachIn, IsFormerCheck, EachAsksIn}
-use Rattle.sievesyntax.specs.Grammar.{IsStatement, IsCommand, ReadsScript}
-use Rattle.sievesyntax.specs.Languages.{lexeme_in, lexemes_in, read_in, is_capability_before, today, before, former}
-use Rattle.sievesyntax.specs.Lexemes.{Lexeme, keyword, tag, number, text, mark, misfit, lexemes_of}
-use Rattle.sievesyntax.specs.Meaning.{Done}
-use Rattle.sievesyntax.specs.RunState.{RunState}
-use Rattle.sievesyntax.specs.Means.{MeansIn, Means}
-use Rattle.sievesyntax.specs.Tree.{looks, CommandTree, require, choose, act, no_branches, branch, Commands, no_commands, command}
-use Rattle.sievesyntax.specs.Vacations.{IsNamedAs}
-use Rattle.sievesyntax.specs.Valid.{is_capability, IsValidIn}
-use Rattle.sievesyntax.proofs.Examples.{into}
-use Rattle.sievesyntax.proofs.LanguageLaws.{still_means}
-use Rattle.sievesyntax.proofs.LanguageLemmas.{AreKnownLexemes, script_known}
-use Rattle.sievesyntax.proofs.MeansLaws.{means_only}
-use Rattle.sievesyntax.proofs.ScriptExamples.{plain_text}
-use Rattle.sievesyntax.proofs.TagLemmas.{none_there, first_there}
+use Rattle.mail_address.specs.declared.address.Addr.{Addr}
+use Rattle.mail_address.specs.Outbound.{IsOutbound}
+use Rattle.mail_address.specs.Reading.{outbound, pieces}
+use Rattle.mail_address.proofs.Outbounds.{outbound-is}
+use Rattle.sieve_lex.specs.declared.token.Content.{Content}
+use Rattle.sieve_lex.specs.declared.token.Content.TheVariants as C
+use Rattle.sieve_lex.specs.declared.token.Mark.TheVariants as K
+use Rattle.sieve_lex.specs.declared.token.Token.{Token}
+use Rattle.sieve_lex.specs.Contents.{contents_of}
+use Rattle.sieve_lex.specs.Space.{IsTail}
+use Rattle.sieve_lex.specs.Spelling.{IsNextToken, SpellsTokens}
+use Rattle.sieve_lex.specs.Text.{line_ends}
+use Rattle.sieve_lex.proofs.Best.{IsFound}
+use Rattle.sieve_lex.proofs.Named.{identifier_found, tag_found}
+use Rattle.sieve_lex.proofs.Numbered.{number_found}
+use Rattle.sieve_lex.proofs.Strings.{string_found}
+use Rattle.sieve_lex.proofs.Marks.{mark_found}
+use Rattle.sieve_lex.proofs.Next.{IsAhead, next_found}
+use Rattle.sieve_lex.proofs.TokenLaws.{tokens_only}
+use Rattle.sieve_syntax.specs.declared.table.keyword.Keyword.{Keyword}
+use Rattle.sieve_syntax.specs.declared.table.keyword.Keyword.TheVariants as W
+use Rattle.sieve_syntax.specs.declared.table.tag.Tag.TheVariants as T
+use Rattle.sieve_syntax.specs.declared.table.tag_group.TagGroup.TheVariants as P
+use Rattle.sieve_syntax.specs.declared.table.tag_group.TagValue.TheVariants as S
+use Rattle.sieve_syntax.specs.declared.parser.argument.Argument.{Argument}
+use Rattle.sieve_syntax.specs.declared.parser.argument.Argument.TheVariants as A
+use Rattle.sieve_syntax.specs.Arguments.{AreArguments}
+use Rattle.sieve_syntax.specs.Table.{IsPlainCommand}
+use Rattle.sieve_syntax.specs.declared.tree.action.Action.TheVariants as D
+use Rattle.sieve_syntax.specs.declared.tree.checks.AddressPart.{AddressPart}
+use Rattle.sieve_syntax.specs.declared.tree.checks.AddressPart.TheVariants as H
+use Rattle.sieve_syntax.specs.declared.tree.checks.Collation.TheVariants as L
+use Rattle.sieve_syntax.specs.declared.tree.checks.Matching.TheVariants as M
+use Rattle.sieve_syntax.specs.declared.tree.checks.MailCheck.{MailCheck}
+use Rattle.sieve_syntax.specs.declared.tree.checks.MailCheck.TheVariants as Q
+use Rattle.sieve_syntax.specs.declared.tree.vacation.VacationArgs.{VacationArgs}
+use Rattle.sieve_syntax.specs.Before.{outcome_in, IsOfBefore, EachIn, IsFormerCheck, EachAsksIn}
+use Rattle.sieve_syntax.specs.Grammar.{IsStatement, IsCommand, ReadsScript}
+use Rattle.sieve_syntax.specs.Languages.{lexeme_in, lexemes_in, read_in, is_capability_before, today, language_before_copy, former}
+use Rattle.sieve_syntax.specs.Lexemes.{Lexeme, keyword, tag, number, text, mark, misfit, lexemes_of}
+use Rattle.sieve_syntax.specs.Meaning.{Done}
+use Rattle.sieve_syntax.specs.RunState.{RunState}
+use Rattle.sieve_syntax.specs.Means.{MeansIn, Means}
+use Rattle.sieve_syntax.specs.Tree.{looks, CommandTree, require, choose, act, no_branches, branch, Commands, no_commands, command}
+use Rattle.sieve_syntax.specs.Vacations.{IsNamedAs}
+use Rattle.sieve_syntax.specs.Valid.{is_capability, IsValidIn}
+use Rattle.sieve_syntax.proofs.Examples.{into}
+use Rattle.sieve_syntax.proofs.LanguageLaws.{still_means}
+use Rattle.sieve_syntax.proofs.LanguageLemmas.{AreKnownLexemes, script_known}
+use Rattle.sieve_syntax.proofs.MeansLaws.{means_only}
+use Rattle.sieve_syntax.proofs.ScriptExamples.{plain_text}
+use Rattle.sieve_syntax.proofs.TagLemmas.{none_there, first_there}
 
 -- `:copy` and `:seconds` were no tags that the grammar knew; `:days` was one
-copy_before : (lexeme_in before (C.Tag (codes "Copy")) ≡ tag T.Other) × (lexeme_in today (C.Tag (codes "Copy")) ≡ tag T.Copy)
+copy_before : (lexeme_in language_before_copy (C.Tag (codes "Copy")) ≡ tag T.Other) × (lexeme_in today (C.Tag (codes "Copy")) ≡ tag T.Copy)
 copy_before = (refl, refl)
 
-seconds_before : (lexeme_in before (C.Tag (codes "seconds")) ≡ tag T.Other) × (lexeme_in today (C.Tag (codes "seconds")) ≡ tag T.Seconds)
+seconds_before : (lexeme_in language_before_copy (C.Tag (codes "seconds")) ≡ tag T.Other) × (lexeme_in today (C.Tag (codes "seconds")) ≡ tag T.Seconds)
 seconds_before = (refl, refl)
 
 -- `:user`, `:detail` and `:create` were none in the former language, which had `:copy`
@@ -78,7 +78,7 @@ count_formerly = (refl, refl)
 create_formerly : (lexeme_in former (C.Tag (codes "create")) ≡ tag T.Other) × (lexeme_in today (C.Tag (codes "create")) ≡ tag T.Create)
 create_formerly = (refl, refl)
 
-days_before : lexeme_in before (C.Tag (codes "days")) ≡ tag T.Days
+days_before : lexeme_in language_before_copy (C.Tag (codes "days")) ≡ tag T.Days
 days_before = refl
 
 -- at today's language each token is seen as it is
@@ -120,23 +120,23 @@ filing copy = command (act (D.FileInto (record { mailbox = codes "x"; copy = cop
 abbrev redirecting : Bool → Commands
 redirecting copy = command (act (D.Redirect (record { target = target; copy = copy }))) no_commands
 
-abbrev answer : Option ℕ → VacArgs
+abbrev answer : Option ℕ → VacationArgs
 answer seconds = record { days = None; seconds = seconds; subject = None; from = None; addresses = []; mime = false; handle = None; reason = codes "x" }
 
 abbrev answering : Option ℕ → Commands
 answering seconds = command (act (D.Vacation (answer seconds))) no_commands
 
 -- a filing cancelled the implicit keep, whatever it says, and a `vacation` didn't
-filed_before : (truth : RunState → Check → Bool) (copy : Bool) → outcome_in before truth (filing copy) ≡ Done (record { filed = into (codes "x") ∷ []; sent = []; reply = None })
+filed_before : (truth : RunState → MailCheck → Bool) (copy : Bool) → outcome_in language_before_copy truth (filing copy) ≡ Done (record { filed = into (codes "x") ∷ []; sent = []; reply = None })
 filed_before truth copy = refl
 
-filed_today : (truth : RunState → Check → Bool) → outcome_in today truth (filing true) ≡ Done (record { filed = into (codes "x") ∷ (into (codes "INBOX") ∷ []); sent = []; reply = None })
+filed_today : (truth : RunState → MailCheck → Bool) → outcome_in today truth (filing true) ≡ Done (record { filed = into (codes "x") ∷ (into (codes "INBOX") ∷ []); sent = []; reply = None })
 filed_today truth = refl
 
-sent_before : (truth : RunState → Check → Bool) (copy : Bool) → outcome_in before truth (redirecting copy) ≡ Done (record { filed = []; sent = target ∷ []; reply = None })
+sent_before : (truth : RunState → MailCheck → Bool) (copy : Bool) → outcome_in language_before_copy truth (redirecting copy) ≡ Done (record { filed = []; sent = target ∷ []; reply = None })
 sent_before truth copy = refl
 
-answered_before : (truth : RunState → Check → Bool) (seconds : Option ℕ) → outcome_in before truth (answering seconds) ≡ Done (record { filed = into (codes "INBOX") ∷ []; sent = []; reply = Some (answer seconds) })
+answered_before : (truth : RunState → MailCheck → Bool) (seconds : Option ℕ) → outcome_in language_before_copy truth (answering seconds) ≡ Done (record { filed = into (codes "INBOX") ∷ []; sent = []; reply = Some (answer seconds) })
 answered_before truth seconds = refl
 
 -- trees of the language before, one with `:copy` and one with seconds
@@ -168,7 +168,7 @@ on_line content start end = record { content = content; start = start; end = end
 
 -- the token that stands ahead there
 next : (whole octets : List ℕ) (at start len : ℕ) (content : Content) → IsAhead whole at start octets → 0 < length octets → 1 ≡ 1 + line_ends (take start whole)
-    → IsFound octets (record { content = content; len = len }) → IsNext whole at (on_line content start (start + len))
+    → IsFound octets (record { content = content; len = len }) → IsNextToken whole at (on_line content start (start + len))
 next whole octets at start len content ahead some line found =
     next_found whole octets at start 1 (record { content = content; len = len }) ahead (λ e. omega arith) line found.0
 
@@ -225,7 +225,7 @@ redirect_tokens =
     ∷ (on_line (C.Text (codes "c@d")) 9 14
     ∷ (on_line (C.Mark K.Semicolon) 14 15 ∷ []))
 
-redirect_spelled : Spells redirect redirect_tokens
+redirect_spelled : SpellsTokens redirect redirect_tokens
 redirect_spelled = record {
   written = plain_text redirect refl refl;
   spelled = (
@@ -241,7 +241,7 @@ redirect_spelled = record {
 }
 
 -- it meant to redirect to c@d, and means it still
-redirects_before : MeansIn before redirect (redirecting false)
+redirects_before : MeansIn language_before_copy redirect (redirecting false)
 redirects_before = record {
   tokens = redirect_tokens;
   spelled = redirect_spelled;
@@ -273,7 +273,7 @@ capable_tokens =
     ∷ (on_line (C.Text (codes "copy")) 8 14
     ∷ (on_line (C.Mark K.Semicolon) 14 15 ∷ []))
 
-capable_spelled : Spells capable capable_tokens
+capable_spelled : SpellsTokens capable capable_tokens
 capable_spelled = record {
   written = plain_text capable refl refl;
   spelled = (
@@ -297,7 +297,7 @@ capable_today = record {
   valid = record { known = one_known is_capability (codes "copy") refl; stand = tt; shallow = lit≤ tt };
 }
 
-capable_before : (tree : Commands) → MeansIn before capable tree → ⊥
+capable_before : (tree : Commands) → MeansIn language_before_copy capable tree → ⊥
 capable_before tree means =
     let same : command (require (codes "copy" ∷ [])) no_commands ≡ tree = means_only capable _ tree capable_today (still_means capable tree means).means in
     let bad : false ≡ true = (subst (IsValidIn is_capability_before) (sym same) means.valid).known 0 [] (lit< tt) in
@@ -317,7 +317,7 @@ copying_tokens =
     ∷ (on_line (C.Text (codes "c@d")) 31 36
     ∷ (on_line (C.Mark K.Semicolon) 36 37 ∷ []))))))
 
-copying_spelled : Spells copying copying_tokens
+copying_spelled : SpellsTokens copying copying_tokens
 copying_spelled = record {
   written = plain_text copying refl refl;
   spelled = (
@@ -345,10 +345,10 @@ copying_spelled = record {
 }
 
 -- where a text of these tokens meant a tree before, there was no tag among them that the grammar didn't know
-known_before : (written : List ℕ) (tokens : List Token) → Spells written tokens → (tree : Commands) → MeansIn before written tree → AreKnownLexemes (lexemes_in before (contents_of tokens))
+known_before : (written : List ℕ) (tokens : List Token) → SpellsTokens written tokens → (tree : Commands) → MeansIn language_before_copy written tree → AreKnownLexemes (lexemes_in language_before_copy (contents_of tokens))
 known_before written tokens spelled tree means =
-    let P : List Token → Type 0 = λ ts. ReadsScript tree (lexemes_in before (contents_of ts)) in
-    script_known tree (lexemes_in before (contents_of tokens)) (subst P (sym (tokens_only written tokens means.tokens spelled means.spelled)) means.read)
+    let P : List Token → Type 0 = λ ts. ReadsScript tree (lexemes_in language_before_copy (contents_of ts)) in
+    script_known tree (lexemes_in language_before_copy (contents_of tokens)) (subst P (sym (tokens_only written tokens means.tokens spelled means.spelled)) means.read)
 
 -- it means to redirect and to keep the message, and meant nothing: `:copy` was no tag of the grammar
 copies_today : Means copying (command (require (codes "copy" ∷ [])) (redirecting true))
@@ -373,7 +373,7 @@ copies_today = record {
     copied : List Lexeme
     copied = tag T.Copy ∷ (text (codes "c@d") ∷ (mark K.Semicolon ∷ []))
 
-copies_before : (tree : Commands) → MeansIn before copying tree → ⊥
+copies_before : (tree : Commands) → MeansIn language_before_copy copying tree → ⊥
 copies_before tree means = (known_before copying copying_tokens copying_spelled tree means).1.1.1.1.0
 
 -- `require "vacation-seconds"; vacation :seconds 0 "x";`
@@ -391,7 +391,7 @@ seconds_tokens =
     ∷ (on_line (C.Text (codes "x")) 48 51
     ∷ (on_line (C.Mark K.Semicolon) 51 52 ∷ [])))))))
 
-seconds_spelled : Spells seconds seconds_tokens
+seconds_spelled : SpellsTokens seconds seconds_tokens
 seconds_spelled = record {
   written = plain_text seconds refl refl;
   spelled = (
@@ -447,5 +447,5 @@ answers_today = record {
     answered : List Lexeme
     answered = tag T.Seconds ∷ (number 0 ∷ (text (codes "x") ∷ (mark K.Semicolon ∷ [])))
 
-answers_before : (tree : Commands) → MeansIn before seconds tree → ⊥
+answers_before : (tree : Commands) → MeansIn language_before_copy seconds tree → ⊥
 answers_before tree means = (known_before seconds seconds_tokens seconds_spelled tree means).1.1.1.1.0

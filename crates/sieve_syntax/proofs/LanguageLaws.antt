@@ -4,30 +4,30 @@ use Rattle.std.specs.Prelude.{All, slice_index_or, codes, is_some, nat_eq, nat_l
 use Rattle.std.specs.List.{list_any}
 use Rattle.std.specs.Cmp.Lexicographic.{pointwise}
 use Rattle.std.proofs.lemmas.Cmp.{nat_list_eq_equiv}
-use Rattle.addrparts.specs.declared.address.Addr.{Addr}
-use Rattle.sievelex.specs.Contents.{contents_of}
-use Rattle.sievesyntax.specs.declared.table.capability.Capabilities.{Capabilities}
-use Rattle.sievesyntax.specs.declared.tree.action.Action.{Action}
-use Rattle.sievesyntax.specs.declared.tree.action.Action.TheVariants.{Keep, Discard, FileInto, Redirect, Vacation, SetFlag, AddFlag, RemoveFlag}
-use Rattle.sievesyntax.specs.declared.tree.checks.AddressPart.{AddressPart}
-use Rattle.sievesyntax.specs.declared.tree.checks.Collation.{Collation}
-use Rattle.sievesyntax.specs.declared.tree.checks.Matching.{Matching}
-use Rattle.sievesyntax.specs.declared.tree.checks.Check.{Check}
-use Rattle.sievesyntax.specs.declared.tree.checks.Check.TheVariants.{Size, Exists, Header, Address, Envelope, MailboxExists, Date, CurrentDate, HasFlag}
-use Rattle.sievesyntax.specs.declared.tree.vacation.VacArgs.{VacArgs}
-use Rattle.sievesyntax.specs.Before.{with_cancelled, performed_in, outcome_in, IsOfBefore, EachAction, EachInBranches, EachIn, StillMeans, IsFormerMatch, IsFormerCheck, IsFormerAction, IsUndatedCheck, IsUnflaggedCheck, IsUnflaggedAction, EachCheck, EachCheckOf, EachAsks, EachAsksInBranches, EachAsksIn, MeansFormerly, MeansUndated, MeansUnflagged}
-use Rattle.sievesyntax.specs.Languages.{Language, is_capability_before, is_former_capability, is_undated_capability, is_unflagged_capability, today, before, former, undated, unflagged}
-use Rattle.sievesyntax.specs.Lexemes.{lexemes_of}
-use Rattle.sievesyntax.specs.Meaning.{holds, ended, outcome}
-use Rattle.sievesyntax.specs.Means.{MeansIn}
-use Rattle.sievesyntax.specs.RunState.{RunState, at_first, max_targets, TwoVacations, TooManyMailboxes, Flow, Going, Stopped, Failed, and_then, inbox, mailbox_named, has_room, with_filed, flags_given, cancelled_after, filed_into, same_target, sent_to, replied_by, performed}
-use Rattle.sievesyntax.specs.Trace.{Trace, then_runs, runs_at, runs_by, runs_branch_by, runs_all_by, actions_run, in_turn_by, in_turn}
-use Rattle.sievesyntax.specs.Tree.{TestTree, yes, no, looks, not_of, all_of, any_of, Tests, no_tests, test, CommandTree, require, choose, stop, act, Branches, no_branches, branch, Commands, no_commands, command}
-use Rattle.sievesyntax.specs.Valid.{is_named, is_capability, granted_by, is_subaddress, is_relational, is_numeric, MayPart, MayMatch, MayCheck, MayTest, MayAllTest, MayAct, MayStand, MayBranch, MayAllStand, required, after_requires, IsValid, IsValidIn}
-use Rattle.sievesyntax.proofs.DecodingLemmas.{read_as_written}
-use Rattle.sievesyntax.proofs.LanguageLemmas.{read_today, decoded_today}
-use Rattle.sievesyntax.proofs.OutcomeLemmas.{unflagged_bare}
-use Rattle.sievesyntax.proofs.TraceLemmas.{outcome_in_turn}
+use Rattle.mail_address.specs.declared.address.Addr.{Addr}
+use Rattle.sieve_lex.specs.Contents.{contents_of}
+use Rattle.sieve_syntax.specs.declared.table.capability.Capabilities.{Capabilities}
+use Rattle.sieve_syntax.specs.declared.tree.action.Action.{Action}
+use Rattle.sieve_syntax.specs.declared.tree.action.Action.TheVariants.{Keep, Discard, FileInto, Redirect, Vacation, SetFlag, AddFlag, RemoveFlag}
+use Rattle.sieve_syntax.specs.declared.tree.checks.AddressPart.{AddressPart}
+use Rattle.sieve_syntax.specs.declared.tree.checks.Collation.{Collation}
+use Rattle.sieve_syntax.specs.declared.tree.checks.Matching.{Matching}
+use Rattle.sieve_syntax.specs.declared.tree.checks.MailCheck.{MailCheck}
+use Rattle.sieve_syntax.specs.declared.tree.checks.MailCheck.TheVariants.{Size, Exists, Header, Address, Envelope, MailboxExists, Date, CurrentDate, HasFlag}
+use Rattle.sieve_syntax.specs.declared.tree.vacation.VacationArgs.{VacationArgs}
+use Rattle.sieve_syntax.specs.Before.{with_cancelled, performed_in, outcome_in, IsOfBefore, EachAction, EachInBranches, EachIn, StillMeans, IsFormerMatch, IsFormerCheck, IsFormerAction, IsUndatedCheck, IsUnflaggedCheck, IsUnflaggedAction, EachCheck, EachCheckOf, EachAsks, EachAsksInBranches, EachAsksIn, MeansFormerly, MeansUndated, MeansUnflagged}
+use Rattle.sieve_syntax.specs.Languages.{Language, is_capability_before, is_former_capability, is_undated_capability, is_unflagged_capability, today, language_before_copy, former, undated, unflagged}
+use Rattle.sieve_syntax.specs.Lexemes.{lexemes_of}
+use Rattle.sieve_syntax.specs.Meaning.{holds, outcome_after, outcome}
+use Rattle.sieve_syntax.specs.Means.{MeansIn}
+use Rattle.sieve_syntax.specs.RunState.{RunState, at_first, max_targets, TwoVacations, TooManyMailboxes, Flow, Going, Stopped, Failed, and_then, inbox, mailbox_named, has_room, with_filed, flags_given, cancelled_after, filed_into, same_target, sent_to, replied_by, performed}
+use Rattle.sieve_syntax.specs.Trace.{Trace, then_runs, runs_at, runs_by, runs_branch_by, runs_all_by, actions_run, in_turn_by, in_turn}
+use Rattle.sieve_syntax.specs.Tree.{TestTree, yes, no, looks, not_of, all_of, any_of, Tests, no_tests, test, CommandTree, require, choose, stop, act, Branches, no_branches, branch, Commands, no_commands, command}
+use Rattle.sieve_syntax.specs.Valid.{is_capability_named, is_capability, granted_by, is_subaddress, is_relational, is_numeric, MayNamePart, MayMatch, MayCheck, MayTest, MayAllTest, MayAct, MayStand, MayBranch, MayAllStand, required, after_requires, IsValid, IsValidIn}
+use Rattle.sieve_syntax.proofs.DecodingLemmas.{read_as_written}
+use Rattle.sieve_syntax.proofs.LanguageLemmas.{read_today, decoded_today}
+use Rattle.sieve_syntax.proofs.OutcomeLemmas.{unflagged_bare}
+use Rattle.sieve_syntax.proofs.TraceLemmas.{outcome_in_turn}
 
 -- ---- what `require` knew
 
@@ -36,23 +36,23 @@ either P true b one two is = one refl
 either P false b one two is = two is
 
 -- a name that is one is no other
-apart : (one other name : List ℕ) → pointwise nat_eq one other ≡ false → is_named one name ≡ true → is_named other name ≡ false
+apart : (one other name : List ℕ) → pointwise nat_eq one other ≡ false → is_capability_named one name ≡ true → is_capability_named other name ≡ false
 apart one other name differ is = nat_list_eq_equiv.congr name one other is ∙ differ
 
 -- what holds of the five names holds of each that was known
 module _ (P : List ℕ → Type 0) (name : List ℕ)
-    (fileinto : is_named (codes "fileinto") name ≡ true → P name) (envelope : is_named (codes "envelope") name ≡ true → P name) (vacation : is_named (codes "vacation") name ≡ true → P name)
-    (octet : is_named (codes "comparator-i;octet") name ≡ true → P name) (casemap : is_named (codes "comparator-i;ascii-casemap") name ≡ true → P name) where
+    (fileinto : is_capability_named (codes "fileinto") name ≡ true → P name) (envelope : is_capability_named (codes "envelope") name ≡ true → P name) (vacation : is_capability_named (codes "vacation") name ≡ true → P name)
+    (octet : is_capability_named (codes "comparator-i;octet") name ≡ true → P name) (casemap : is_capability_named (codes "comparator-i;ascii-casemap") name ≡ true → P name) where
   each_before : is_capability_before name ≡ true → P name
   each_before = either (P name) _ _ fileinto (either (P name) _ _ envelope (either (P name) _ _ vacation (either (P name) _ _ octet casemap)))
 
-no_copy : (name : List ℕ) → is_capability_before name ≡ true → is_named (codes "copy") name ≡ false
-no_copy name = each_before (λ n. is_named (codes "copy") n ≡ false) name
+no_copy : (name : List ℕ) → is_capability_before name ≡ true → is_capability_named (codes "copy") name ≡ false
+no_copy name = each_before (λ n. is_capability_named (codes "copy") n ≡ false) name
     (apart (codes "fileinto") (codes "copy") name refl) (apart (codes "envelope") (codes "copy") name refl) (apart (codes "vacation") (codes "copy") name refl)
     (apart (codes "comparator-i;octet") (codes "copy") name refl) (apart (codes "comparator-i;ascii-casemap") (codes "copy") name refl)
 
-no_seconds : (name : List ℕ) → is_capability_before name ≡ true → is_named (codes "vacation-seconds") name ≡ false
-no_seconds name = each_before (λ n. is_named (codes "vacation-seconds") n ≡ false) name
+no_seconds : (name : List ℕ) → is_capability_before name ≡ true → is_capability_named (codes "vacation-seconds") name ≡ false
+no_seconds name = each_before (λ n. is_capability_named (codes "vacation-seconds") n ≡ false) name
     (apart (codes "fileinto") (codes "vacation-seconds") name refl) (apart (codes "envelope") (codes "vacation-seconds") name refl) (apart (codes "vacation") (codes "vacation-seconds") name refl)
     (apart (codes "comparator-i;octet") (codes "vacation-seconds") name refl) (apart (codes "comparator-i;ascii-casemap") (codes "vacation-seconds") name refl)
 
@@ -93,28 +93,28 @@ thirteen_more false b c d e f g h i j k l m n is = twelve_more b c d e f g h i j
 -- what was known is known
 known_unflagged : (name : List ℕ) → is_unflagged_capability name ≡ true → is_capability name ≡ true
 known_unflagged name =
-    thirteen_more (is_named (codes "fileinto") name) (is_named (codes "envelope") name) (is_named (codes "vacation") name) (is_named (codes "comparator-i;octet") name) (is_named (codes "comparator-i;ascii-casemap") name)
-    (is_named (codes "copy") name) (is_named (codes "vacation-seconds") name) (is_named (codes "subaddress") name) (is_named (codes "relational") name) (is_named (codes "comparator-i;ascii-numeric") name)
-    (is_named (codes "encoded-character") name) (is_named (codes "mailbox") name) (is_named (codes "date") name) (is_named (codes "imap4flags") name)
+    thirteen_more (is_capability_named (codes "fileinto") name) (is_capability_named (codes "envelope") name) (is_capability_named (codes "vacation") name) (is_capability_named (codes "comparator-i;octet") name) (is_capability_named (codes "comparator-i;ascii-casemap") name)
+    (is_capability_named (codes "copy") name) (is_capability_named (codes "vacation-seconds") name) (is_capability_named (codes "subaddress") name) (is_capability_named (codes "relational") name) (is_capability_named (codes "comparator-i;ascii-numeric") name)
+    (is_capability_named (codes "encoded-character") name) (is_capability_named (codes "mailbox") name) (is_capability_named (codes "date") name) (is_capability_named (codes "imap4flags") name)
 
 unflagged_then : (name : List ℕ) → is_undated_capability name ≡ true → is_unflagged_capability name ≡ true
 unflagged_then name =
-    twelve_more (is_named (codes "fileinto") name) (is_named (codes "envelope") name) (is_named (codes "vacation") name) (is_named (codes "comparator-i;octet") name) (is_named (codes "comparator-i;ascii-casemap") name)
-    (is_named (codes "copy") name) (is_named (codes "vacation-seconds") name) (is_named (codes "subaddress") name) (is_named (codes "relational") name) (is_named (codes "comparator-i;ascii-numeric") name)
-    (is_named (codes "encoded-character") name) (is_named (codes "mailbox") name) (is_named (codes "date") name)
+    twelve_more (is_capability_named (codes "fileinto") name) (is_capability_named (codes "envelope") name) (is_capability_named (codes "vacation") name) (is_capability_named (codes "comparator-i;octet") name) (is_capability_named (codes "comparator-i;ascii-casemap") name)
+    (is_capability_named (codes "copy") name) (is_capability_named (codes "vacation-seconds") name) (is_capability_named (codes "subaddress") name) (is_capability_named (codes "relational") name) (is_capability_named (codes "comparator-i;ascii-numeric") name)
+    (is_capability_named (codes "encoded-character") name) (is_capability_named (codes "mailbox") name) (is_capability_named (codes "date") name)
 
 known_undated : (name : List ℕ) → is_undated_capability name ≡ true → is_capability name ≡ true
 known_undated name is = known_unflagged name (unflagged_then name is)
 
 known_formerly : (name : List ℕ) → is_former_capability name ≡ true → is_capability name ≡ true
 known_formerly name is =
-    known_undated name (seven_more (is_named (codes "fileinto") name) (is_named (codes "envelope") name) (is_named (codes "vacation") name) (is_named (codes "comparator-i;octet") name) (is_named (codes "comparator-i;ascii-casemap") name)
-    (is_named (codes "copy") name) (is_named (codes "vacation-seconds") name) (is_named (codes "subaddress") name || (is_named (codes "relational") name || (is_named (codes "comparator-i;ascii-numeric") name || (is_named (codes "encoded-character") name || is_named (codes "mailbox") name)))) is)
+    known_undated name (seven_more (is_capability_named (codes "fileinto") name) (is_capability_named (codes "envelope") name) (is_capability_named (codes "vacation") name) (is_capability_named (codes "comparator-i;octet") name) (is_capability_named (codes "comparator-i;ascii-casemap") name)
+    (is_capability_named (codes "copy") name) (is_capability_named (codes "vacation-seconds") name) (is_capability_named (codes "subaddress") name || (is_capability_named (codes "relational") name || (is_capability_named (codes "comparator-i;ascii-numeric") name || (is_capability_named (codes "encoded-character") name || is_capability_named (codes "mailbox") name)))) is)
 
 still_former : (name : List ℕ) → is_capability_before name ≡ true → is_former_capability name ≡ true
 still_former name =
-    five_more (is_named (codes "fileinto") name) (is_named (codes "envelope") name) (is_named (codes "vacation") name) (is_named (codes "comparator-i;octet") name) (is_named (codes "comparator-i;ascii-casemap") name)
-    (is_named (codes "copy") name || is_named (codes "vacation-seconds") name)
+    five_more (is_capability_named (codes "fileinto") name) (is_capability_named (codes "envelope") name) (is_capability_named (codes "vacation") name) (is_capability_named (codes "comparator-i;octet") name) (is_capability_named (codes "comparator-i;ascii-casemap") name)
+    (is_capability_named (codes "copy") name || is_capability_named (codes "vacation-seconds") name)
 
 still_known : (name : List ℕ) → is_capability_before name ≡ true → is_capability name ≡ true
 still_known name is = known_formerly name (still_former name is)
@@ -124,7 +124,7 @@ of_all : (P Q : List ℕ → Type 0) → ((name : List ℕ) → P name → Q nam
 of_all P Q each names all = λ k d within. each (slice_index_or names k d) (all k d within)
 
 -- names none of which is this one
-none_named : (word : List ℕ) (names : List (List ℕ)) → All (λ name. is_named word name ≡ false) names → list_any (is_named word) names ≡ false
+none_named : (word : List ℕ) (names : List (List ℕ)) → All (λ name. is_capability_named word name ≡ false) names → list_any (is_capability_named word) names ≡ false
 none_named word [] all = refl
 none_named word (name ∷ more) all = λ i. all 0 name (omega arith) i || none_named word more (λ k other within. all (suc k) other (omega arith)) i
 
@@ -190,33 +190,33 @@ module _ (word name : List ℕ)
     (fileinto : pointwise nat_eq (codes "fileinto") word ≡ false) (envelope : pointwise nat_eq (codes "envelope") word ≡ false) (vacation : pointwise nat_eq (codes "vacation") word ≡ false)
     (octet : pointwise nat_eq (codes "comparator-i;octet") word ≡ false) (casemap : pointwise nat_eq (codes "comparator-i;ascii-casemap") word ≡ false)
     (copy : pointwise nat_eq (codes "copy") word ≡ false) (seconds : pointwise nat_eq (codes "vacation-seconds") word ≡ false) where
-  apart_formerly : is_former_capability name ≡ true → is_named word name ≡ false
+  apart_formerly : is_former_capability name ≡ true → is_capability_named word name ≡ false
   apart_formerly =
-      let P = is_named word name ≡ false in
+      let P = is_capability_named word name ≡ false in
       either P _ _ (apart (codes "fileinto") word name fileinto) (either P _ _ (apart (codes "envelope") word name envelope)
       (either P _ _ (apart (codes "vacation") word name vacation) (either P _ _ (apart (codes "comparator-i;octet") word name octet)
       (either P _ _ (apart (codes "comparator-i;ascii-casemap") word name casemap) (either P _ _ (apart (codes "copy") word name copy)
       (apart (codes "vacation-seconds") word name seconds))))))
 
-no_subaddress : (name : List ℕ) → is_former_capability name ≡ true → is_named (codes "subaddress") name ≡ false
+no_subaddress : (name : List ℕ) → is_former_capability name ≡ true → is_capability_named (codes "subaddress") name ≡ false
 no_subaddress name = apart_formerly (codes "subaddress") name refl refl refl refl refl refl refl
 
-no_relational : (name : List ℕ) → is_former_capability name ≡ true → is_named (codes "relational") name ≡ false
+no_relational : (name : List ℕ) → is_former_capability name ≡ true → is_capability_named (codes "relational") name ≡ false
 no_relational name = apart_formerly (codes "relational") name refl refl refl refl refl refl refl
 
-no_numeric : (name : List ℕ) → is_former_capability name ≡ true → is_named (codes "comparator-i;ascii-numeric") name ≡ false
+no_numeric : (name : List ℕ) → is_former_capability name ≡ true → is_capability_named (codes "comparator-i;ascii-numeric") name ≡ false
 no_numeric name = apart_formerly (codes "comparator-i;ascii-numeric") name refl refl refl refl refl refl refl
 
-no_encoded : (name : List ℕ) → is_former_capability name ≡ true → is_named (codes "encoded-character") name ≡ false
+no_encoded : (name : List ℕ) → is_former_capability name ≡ true → is_capability_named (codes "encoded-character") name ≡ false
 no_encoded name = apart_formerly (codes "encoded-character") name refl refl refl refl refl refl refl
 
-no_mailbox : (name : List ℕ) → is_former_capability name ≡ true → is_named (codes "mailbox") name ≡ false
+no_mailbox : (name : List ℕ) → is_former_capability name ≡ true → is_capability_named (codes "mailbox") name ≡ false
 no_mailbox name = apart_formerly (codes "mailbox") name refl refl refl refl refl refl refl
 
-no_date : (name : List ℕ) → is_former_capability name ≡ true → is_named (codes "date") name ≡ false
+no_date : (name : List ℕ) → is_former_capability name ≡ true → is_capability_named (codes "date") name ≡ false
 no_date name = apart_formerly (codes "date") name refl refl refl refl refl refl refl
 
-no_flags : (name : List ℕ) → is_former_capability name ≡ true → is_named (codes "imap4flags") name ≡ false
+no_flags : (name : List ℕ) → is_former_capability name ≡ true → is_capability_named (codes "imap4flags") name ≡ false
 no_flags name = apart_formerly (codes "imap4flags") name refl refl refl refl refl refl refl
 
 valid_plain : (tree : Commands) → IsValidIn is_capability_before tree → EachIn IsOfBefore tree
@@ -229,7 +229,7 @@ valid_plain tree valid =
 
 -- where `imap4flags` isn't granted
 module _ (granted : Capabilities) (no_flag : granted.flags ≡ false) where
-  unflagged_check : (check : Check) → MayCheck granted check → IsUnflaggedCheck check
+  unflagged_check : (check : MailCheck) → MayCheck granted check → IsUnflaggedCheck check
   unflagged_check (HasFlag flag) may = ungranted granted.flags no_flag may.0
   unflagged_check (Size size) may = tt
   unflagged_check (Exists fields) may = tt
@@ -253,7 +253,7 @@ module _ (granted : Capabilities) (no_flag : granted.flags ≡ false) where
 -- where none of the new ones is granted
 module _ (granted : Capabilities) (none : granted.subaddress ≡ false) (no_relation : granted.relational ≡ false) (no_number : granted.numeric ≡ false) (no_box : granted.mailbox ≡ false) (no_day : granted.date ≡ false)
     (no_flag : granted.flags ≡ false) where
-  former_part : (part : AddressPart) → MayPart granted part → is_subaddress part ≡ false
+  former_part : (part : AddressPart) → MayNamePart granted part → is_subaddress part ≡ false
   former_part part may = not_true (is_subaddress part) (unused granted.subaddress (is_subaddress part) none may)
 
   former_match : (comparator : Collation) (matching : Matching) → MayMatch granted comparator matching → IsFormerMatch comparator matching
@@ -262,7 +262,7 @@ module _ (granted : Capabilities) (none : granted.subaddress ≡ false) (no_rela
     not_true (is_numeric comparator) (unused granted.numeric (is_numeric comparator) no_number may.1),
   )
 
-  former_check : (check : Check) → MayCheck granted check → IsFormerCheck check
+  former_check : (check : MailCheck) → MayCheck granted check → IsFormerCheck check
   former_check (Size size) may = tt
   former_check (Exists fields) may = tt
   former_check (Header header) may = former_match header.comparator header.matching may
@@ -286,7 +286,7 @@ module _ (granted : Capabilities) (none : granted.subaddress ≡ false) (no_rela
 
 -- where neither `date` nor `imap4flags` is granted
 module _ (granted : Capabilities) (no_day : granted.date ≡ false) (no_flag : granted.flags ≡ false) where
-  undated_check : (check : Check) → MayCheck granted check → IsUndatedCheck check
+  undated_check : (check : MailCheck) → MayCheck granted check → IsUndatedCheck check
   undated_check (Size size) may = tt
   undated_check (Exists fields) may = tt
   undated_check (Header header) may = tt
@@ -298,7 +298,7 @@ module _ (granted : Capabilities) (no_day : granted.date ≡ false) (no_flag : g
   undated_check (HasFlag flag) may = ungranted granted.flags no_flag may.0
 
 -- what is so of each test that may stand is so of each in a tree that may
-module _ (P : Check → Type 0) (granted : Capabilities) (each : (check : Check) → MayCheck granted check → P check) where
+module _ (P : MailCheck → Type 0) (granted : Capabilities) (each : (check : MailCheck) → MayCheck granted check → P check) where
   mutual
     asks_test : (condition : TestTree) → MayTest granted condition → EachCheck P condition
     asks_test yes may = tt
@@ -328,7 +328,7 @@ module _ (P : Check → Type 0) (granted : Capabilities) (each : (check : Check)
     each_asks (command first more) may = (asks_of first may.0, each_asks more may.1)
 
 -- each test in a tree stands after its requires
-after_asks : (P : Check → Type 0) (tree : Commands) → EachAsksIn P (after_requires tree) → EachAsksIn P tree
+after_asks : (P : MailCheck → Type 0) (tree : Commands) → EachAsksIn P (after_requires tree) → EachAsksIn P tree
 after_asks P no_commands each = each
 after_asks P (command (require names) more) each = (tt, after_asks P more each)
 after_asks P (command (choose choice) more) each = each
@@ -358,9 +358,9 @@ module _ (word name : List ℕ)
     (copy : pointwise nat_eq (codes "copy") word ≡ false) (seconds : pointwise nat_eq (codes "vacation-seconds") word ≡ false) (subaddress : pointwise nat_eq (codes "subaddress") word ≡ false)
     (relational : pointwise nat_eq (codes "relational") word ≡ false) (numeric : pointwise nat_eq (codes "comparator-i;ascii-numeric") word ≡ false)
     (encoded : pointwise nat_eq (codes "encoded-character") word ≡ false) (mailbox : pointwise nat_eq (codes "mailbox") word ≡ false) where
-  apart_undated : is_undated_capability name ≡ true → is_named word name ≡ false
+  apart_undated : is_undated_capability name ≡ true → is_capability_named word name ≡ false
   apart_undated =
-      let P = is_named word name ≡ false in
+      let P = is_capability_named word name ≡ false in
       either P _ _ (apart (codes "fileinto") word name fileinto) (either P _ _ (apart (codes "envelope") word name envelope)
       (either P _ _ (apart (codes "vacation") word name vacation) (either P _ _ (apart (codes "comparator-i;octet") word name octet)
       (either P _ _ (apart (codes "comparator-i;ascii-casemap") word name casemap) (either P _ _ (apart (codes "copy") word name copy)
@@ -368,10 +368,10 @@ module _ (word name : List ℕ)
       (either P _ _ (apart (codes "relational") word name relational) (either P _ _ (apart (codes "comparator-i;ascii-numeric") word name numeric)
       (either P _ _ (apart (codes "encoded-character") word name encoded) (apart (codes "mailbox") word name mailbox)))))))))))
 
-not_date : (name : List ℕ) → is_undated_capability name ≡ true → is_named (codes "date") name ≡ false
+not_date : (name : List ℕ) → is_undated_capability name ≡ true → is_capability_named (codes "date") name ≡ false
 not_date name = apart_undated (codes "date") name refl refl refl refl refl refl refl refl refl refl refl refl
 
-undated_unflagged : (name : List ℕ) → is_undated_capability name ≡ true → is_named (codes "imap4flags") name ≡ false
+undated_unflagged : (name : List ℕ) → is_undated_capability name ≡ true → is_capability_named (codes "imap4flags") name ≡ false
 undated_unflagged name = apart_undated (codes "imap4flags") name refl refl refl refl refl refl refl refl refl refl refl refl
 
 valid_undated : (tree : Commands) → IsValidIn is_undated_capability tree → EachAsksIn IsUndatedCheck tree × EachIn IsUnflaggedAction tree
@@ -385,9 +385,9 @@ valid_undated tree valid =
 
 -- ---- trees that were valid before `imap4flags` ask for no flag and set none
 
-not_flags : (name : List ℕ) → is_unflagged_capability name ≡ true → is_named (codes "imap4flags") name ≡ false
+not_flags : (name : List ℕ) → is_unflagged_capability name ≡ true → is_capability_named (codes "imap4flags") name ≡ false
 not_flags name =
-    let P = is_named (codes "imap4flags") name ≡ false in
+    let P = is_capability_named (codes "imap4flags") name ≡ false in
     let flags = codes "imap4flags" in
     either P _ _ (apart (codes "fileinto") flags name refl) (either P _ _ (apart (codes "envelope") flags name refl)
     (either P _ _ (apart (codes "vacation") flags name refl) (either P _ _ (apart (codes "comparator-i;octet") flags name refl)
@@ -428,10 +428,10 @@ sent_cancelled : (target : Addr) (copy : Bool) (state : RunState) → with_cance
 sent_cancelled target copy state =
     picked (cancelled_after copy state) (list_any (λ there. same_target there target) state.sent) (nat_lt (length state.sent) max_targets) _ _ _ refl refl refl
 
-replied_cancelled : (args : VacArgs) (state : RunState) → with_cancelled state.cancelled (replied_by args state) ≡ replied_by args state
+replied_cancelled : (args : VacationArgs) (state : RunState) → with_cancelled state.cancelled (replied_by args state) ≡ replied_by args state
 replied_cancelled args state = step state.reply
   where
-    step : (reply : Option VacArgs) → with_cancelled state.cancelled (elim reply [ None ↦ Going (record state { reply = Some args }) | Some _ ↦ Failed TwoVacations ])
+    step : (reply : Option VacationArgs) → with_cancelled state.cancelled (elim reply [ None ↦ Going (record state { reply = Some args }) | Some _ ↦ Failed TwoVacations ])
         ≡ (elim reply [ None ↦ Going (record state { reply = Some args }) | Some _ ↦ Failed TwoVacations ])
     step None = refl
     step (Some _) = refl
@@ -477,7 +477,7 @@ plain_cancels : (copy was : Bool) → copy ≡ false → (was || true) ≡ cond 
 plain_cancels true was e = absurd (cc e)
 plain_cancels false was e = or_true was
 
-cancelled_then : (action : Action) (state : RunState) → IsOfBefore action → (state.cancelled || before.cancels action) ≡ cancelled_by action state
+cancelled_then : (action : Action) (state : RunState) → IsOfBefore action → (state.cancelled || language_before_copy.cancels action) ≡ cancelled_by action state
 cancelled_then (Keep given) state plain = or_true state.cancelled
 cancelled_then Discard state plain = or_true state.cancelled
 cancelled_then (FileInto filing) state plain = plain_cancels filing.copy state.cancelled plain.0
@@ -517,18 +517,18 @@ module _ (P : Action → Type 0) where
   pick_every false one two x y = y
 
   mutual
-    command_runs : (truth : RunState → Check → Bool) (tree : CommandTree) → EachAction P tree → (state : RunState) → Every P (runs_by performed truth tree state).0
+    command_runs : (truth : RunState → MailCheck → Bool) (tree : CommandTree) → EachAction P tree → (state : RunState) → Every P (runs_by performed truth tree state).0
     command_runs truth (require names) each state = tt
     command_runs truth (choose branches) each state = branches_run truth branches each state
     command_runs truth stop each state = tt
     command_runs truth (act action) each state = (each, tt)
 
-    branches_run : (truth : RunState → Check → Bool) (branches : Branches) → EachInBranches P branches → (state : RunState) → Every P (runs_branch_by performed truth branches state).0
+    branches_run : (truth : RunState → MailCheck → Bool) (branches : Branches) → EachInBranches P branches → (state : RunState) → Every P (runs_branch_by performed truth branches state).0
     branches_run truth no_branches each state = tt
     branches_run truth (branch condition block more) each state =
         pick_every (holds (truth state) condition) (runs_all_by performed truth block state) (runs_branch_by performed truth more state) (commands_run truth block each.0 state) (branches_run truth more each.1 state)
 
-    commands_run : (truth : RunState → Check → Bool) (commands : Commands) → EachIn P commands → (state : RunState) → Every P (runs_all_by performed truth commands state).0
+    commands_run : (truth : RunState → MailCheck → Bool) (commands : Commands) → EachIn P commands → (state : RunState) → Every P (runs_all_by performed truth commands state).0
     commands_run truth no_commands each state = tt
     commands_run truth (command first more) each state =
         let one = runs_by performed truth first state in
@@ -554,17 +554,17 @@ module _ (language : Language) (P : Action → Type 0)
 
   -- and so they are the same actions, whatever the tests ask of the state
   mutual
-    command_same : (truth : RunState → Check → Bool) (tree : CommandTree) → EachAction P tree → (state : RunState) → runs_by performed truth tree state ≡ runs_by (performed_in language) truth tree state
+    command_same : (truth : RunState → MailCheck → Bool) (tree : CommandTree) → EachAction P tree → (state : RunState) → runs_by performed truth tree state ≡ runs_by (performed_in language) truth tree state
     command_same truth (require names) each state = refl
     command_same truth (choose branches) each state = branches_same truth branches each state
     command_same truth stop each state = refl
     command_same truth (act action) each state = refl
 
-    branches_same : (truth : RunState → Check → Bool) (branches : Branches) → EachInBranches P branches → (state : RunState) → runs_branch_by performed truth branches state ≡ runs_branch_by (performed_in language) truth branches state
+    branches_same : (truth : RunState → MailCheck → Bool) (branches : Branches) → EachInBranches P branches → (state : RunState) → runs_branch_by performed truth branches state ≡ runs_branch_by (performed_in language) truth branches state
     branches_same truth no_branches each state = refl
     branches_same truth (branch condition block more) each state = λ i. cond (holds (truth state) condition) (commands_same truth block each.0 state i) (branches_same truth more each.1 state i)
 
-    commands_same : (truth : RunState → Check → Bool) (commands : Commands) → EachIn P commands → (state : RunState) → runs_all_by performed truth commands state ≡ runs_all_by (performed_in language) truth commands state
+    commands_same : (truth : RunState → MailCheck → Bool) (commands : Commands) → EachIn P commands → (state : RunState) → runs_all_by performed truth commands state ≡ runs_all_by (performed_in language) truth commands state
     commands_same truth no_commands each state = refl
     commands_same truth (command first more) each state =
         let one : runs_by performed truth first state ≡ runs_by (performed_in language) truth first state = command_same truth first each.0 state in
@@ -572,10 +572,10 @@ module _ (language : Language) (P : Action → Type 0)
         in_turn_same (runs_by performed truth first state).0 (command_runs P truth first each.0 state) state ∙ ap (λ (trace : Trace). in_turn_by (performed_in language) trace.0 state) one in
         λ i. then_runs (one i) (runs_at (flow i) (λ next. commands_same truth more each.1 next i))
 
-  outcome_same : (truth : RunState → Check → Bool) (tree : Commands) → EachIn P tree → outcome truth tree ≡ outcome_in language truth tree
+  outcome_same : (truth : RunState → MailCheck → Bool) (tree : Commands) → EachIn P tree → outcome truth tree ≡ outcome_in language truth tree
   outcome_same truth tree each =
       outcome_in_turn truth tree
-      ∙ ap ended (in_turn_same (actions_run truth tree) (commands_run P truth tree each at_first) at_first ∙ ap (λ (trace : Trace). in_turn_by (performed_in language) trace.0 at_first) (commands_same truth tree each at_first))
+      ∙ ap outcome_after (in_turn_same (actions_run truth tree) (commands_run P truth tree each at_first) at_first ∙ ap (λ (trace : Trace). in_turn_by (performed_in language) trace.0 at_first) (commands_same truth tree each at_first))
 
 -- ---- the law
 
@@ -595,25 +595,25 @@ mutual
   any_commands no_commands = tt
   any_commands (command first more) = (any_command first, any_commands more)
 
-pub todays_outcome : (truth : RunState → Check → Bool) (tree : Commands) → outcome truth tree ≡ outcome_in today truth tree
+pub todays_outcome : (truth : RunState → MailCheck → Bool) (tree : Commands) → outcome truth tree ≡ outcome_in today truth tree
 todays_outcome truth tree = outcome_same today (λ action. Unit {0}) (λ action state any. cancels_now action state) truth tree (any_commands tree)
 
 still_valid : (tree : Commands) → IsValidIn is_capability_before tree → IsValid tree
 still_valid tree valid = record { known = of_all _ _ still_known (required tree) valid.known; stand = valid.stand; shallow = valid.shallow }
 
-pub still_means : (text : List ℕ) (tree : Commands) → MeansIn before text tree → StillMeans text tree
+pub still_means : (text : List ℕ) (tree : Commands) → MeansIn language_before_copy text tree → StillMeans text tree
 still_means text tree means =
     let plain = valid_plain tree means.valid in
     record {
       means = record {
         tokens = means.tokens;
         spelled = means.spelled;
-        read = read_as_written tree (lexemes_of (contents_of means.tokens)) (read_today before (contents_of means.tokens) tree means.read) (still_valid tree means.valid)
+        read = read_as_written tree (lexemes_of (contents_of means.tokens)) (read_today language_before_copy (contents_of means.tokens) tree means.read) (still_valid tree means.valid)
             (none_named (codes "encoded-character") (required tree) (of_all _ _ (λ name was. no_encoded name (still_former name was)) (required tree) means.valid.known));
         valid = still_valid tree means.valid;
       };
       actions = plain;
-      same = λ truth. outcome_same before IsOfBefore cancelled_then truth tree plain;
+      same = λ truth. outcome_same language_before_copy IsOfBefore cancelled_then truth tree plain;
     }
 
 pub means_formerly : (text : List ℕ) (tree : Commands) → MeansIn former text tree → MeansFormerly text tree

@@ -1,34 +1,34 @@
 -- What is read in a language has no tag that the language hasn't.
 use Rattle.std.proofs.Common.{◌≡◌, ℕ, Bool, true, false, cond, List, [], ◌∷◌, Option, Some, None, refl, sym, ap, subst, inl, inr}
 use Rattle.octets.proofs.Lists.{some_pair}
-use Rattle.sievelex.specs.declared.token.Content.{Content}
-use Rattle.sievelex.specs.declared.token.Content.TheVariants as C
-use Rattle.sievelex.specs.declared.token.Mark.TheVariants as K
-use Rattle.sievesyntax.specs.declared.table.keyword.Keyword.{Keyword}
-use Rattle.sievesyntax.specs.declared.table.keyword.Keyword.TheVariants as W
-use Rattle.sievesyntax.specs.declared.table.tag.Tag.{Tag}
-use Rattle.sievesyntax.specs.declared.table.tag.Tag.TheVariants as T
-use Rattle.sievesyntax.specs.declared.tree.checks.Bound.TheVariants as B
-use Rattle.sievesyntax.specs.declared.tree.checks.Matching.TheVariants as M
-use Rattle.sievesyntax.specs.declared.tree.checks.AddressPart.TheVariants as H
-use Rattle.sievesyntax.specs.declared.parser.argument.Argument.{Argument}
-use Rattle.sievesyntax.specs.declared.parser.argument.Argument.TheVariants as A
-use Rattle.sievesyntax.specs.declared.table.tag_group.TagValue.{TagValue}
-use Rattle.sievesyntax.specs.declared.table.tag_group.TagValue.TheVariants as S
-use Rattle.sievesyntax.specs.declared.table.tag_group.TagGroup.{TagGroup}
-use Rattle.sievesyntax.specs.Arguments.{IsOther, AreStrings, IsArgument}
-use Rattle.sievesyntax.specs.Chains.{Chain}
-use Rattle.sievesyntax.specs.declared.parser.decoding.Decoding.{Decoding}
-use Rattle.sievesyntax.specs.declared.parser.decoding.Decoding.TheVariants.{Open, Named, On, Off}
-use Rattle.sievesyntax.specs.Decoding.{decoding_after, seen, seen_from, as_read}
-use Rattle.sievesyntax.specs.Grammar.{Braced, Tested, IsStatement, IsCommand, IsChoice, AreBranches, AreCommands, ReadsScript}
-use Rattle.sievesyntax.specs.Languages.{Language, lexeme_in, lexemes_in}
-use Rattle.sievesyntax.specs.Lexemes.{tag_of, Lexeme, keyword, tag, number, text, mark, misfit, lexeme_of, lexemes_of}
-use Rattle.sievesyntax.specs.Positional.{pair, string_of, one_number, one_text, one_list, two_lists, text_and_list, two_texts_and_list}
-use Rattle.sievesyntax.specs.Table.{IsRow, IsPlainTest, IsPlainCommand}
-use Rattle.sievesyntax.specs.Tags.{strings_of, IsTagValue, IsAllowed, IsCall}
-use Rattle.sievesyntax.specs.Tests.{IsPlain, IsTest, AreTests, AreMoreTests}
-use Rattle.sievesyntax.specs.Tree.{TestTree, yes, no, looks, not_of, all_of, any_of, Tests, no_tests, test, CommandTree, require, choose, stop, act, Branches, no_branches, branch, Commands, no_commands, command}
+use Rattle.sieve_lex.specs.declared.token.Content.{Content}
+use Rattle.sieve_lex.specs.declared.token.Content.TheVariants as C
+use Rattle.sieve_lex.specs.declared.token.Mark.TheVariants as K
+use Rattle.sieve_syntax.specs.declared.table.keyword.Keyword.{Keyword}
+use Rattle.sieve_syntax.specs.declared.table.keyword.Keyword.TheVariants as W
+use Rattle.sieve_syntax.specs.declared.table.tag.Tag.{Tag}
+use Rattle.sieve_syntax.specs.declared.table.tag.Tag.TheVariants as T
+use Rattle.sieve_syntax.specs.declared.tree.checks.Bound.TheVariants as B
+use Rattle.sieve_syntax.specs.declared.tree.checks.Matching.TheVariants as M
+use Rattle.sieve_syntax.specs.declared.tree.checks.AddressPart.TheVariants as H
+use Rattle.sieve_syntax.specs.declared.parser.argument.Argument.{Argument}
+use Rattle.sieve_syntax.specs.declared.parser.argument.Argument.TheVariants as A
+use Rattle.sieve_syntax.specs.declared.table.tag_group.TagValue.{TagValue}
+use Rattle.sieve_syntax.specs.declared.table.tag_group.TagValue.TheVariants as S
+use Rattle.sieve_syntax.specs.declared.table.tag_group.TagGroup.{TagGroup}
+use Rattle.sieve_syntax.specs.Arguments.{IsOther, AreStrings, IsArgument}
+use Rattle.sieve_syntax.specs.Chains.{Chain}
+use Rattle.sieve_syntax.specs.declared.parser.decoding.Decoding.{Decoding}
+use Rattle.sieve_syntax.specs.declared.parser.decoding.Decoding.TheVariants.{Open, Named, On, Off}
+use Rattle.sieve_syntax.specs.Decoding.{decoding_after, lexeme_as_read, lexemes_as_read, as_read}
+use Rattle.sieve_syntax.specs.Grammar.{Braced, Tested, IsStatement, IsCommand, IsChoice, AreBranches, AreCommands, ReadsScript}
+use Rattle.sieve_syntax.specs.Languages.{Language, lexeme_in, lexemes_in}
+use Rattle.sieve_syntax.specs.Lexemes.{tag_of, Lexeme, keyword, tag, number, text, mark, misfit, lexeme_of, lexemes_of}
+use Rattle.sieve_syntax.specs.Positional.{both_there, string_of, one_number, one_text, one_list, two_lists, text_and_list, two_texts_and_list}
+use Rattle.sieve_syntax.specs.Table.{IsTableRow, IsPlainTest, IsPlainCommand}
+use Rattle.sieve_syntax.specs.Tags.{strings_of, IsTagValue, IsAllowed, IsCall}
+use Rattle.sieve_syntax.specs.Tests.{IsLeafTest, IsTest, AreTests, AreMoreTests}
+use Rattle.sieve_syntax.specs.Tree.{TestTree, yes, no, looks, not_of, all_of, any_of, Tests, no_tests, test, CommandTree, require, choose, stop, act, Branches, no_branches, branch, Commands, no_commands, command}
 
 -- a tag that the grammar knows
 abbrev IsTag : Tag → Type 0
@@ -123,7 +123,7 @@ lists_known [] texts e = tt
 lists_known (first ∷ []) texts e = absurd (cc e)
 lists_known (first ∷ (second ∷ [])) texts e = step (strings_of first) (strings_of second) refl refl e
   where
-    step : (one two : Option (List (List ℕ))) → strings_of first ≡ one → strings_of second ≡ two → pair one two ≡ Some texts → AreKnown (first ∷ (second ∷ []))
+    step : (one two : Option (List (List ℕ))) → strings_of first ≡ one → strings_of second ≡ two → both_there one two ≡ Some texts → AreKnown (first ∷ (second ∷ []))
     step (Some one) (Some two) p q e = (strings_known first one p, (strings_known second two q, tt))
     step (Some one) None p q e = absurd (cc e)
     step None two p q e = absurd (cc e)
@@ -135,7 +135,7 @@ string_known (A.Number n) string e = tt
 string_known (A.Text other) string e = tt
 string_known (A.Strings strings) string e = tt
 
-pair_there : {X Y : Type 0} (one : Option X) (two : Option Y) (both : X × Y) → pair one two ≡ Some both → (one ≡ Some both.0) × (two ≡ Some both.1)
+pair_there : {X Y : Type 0} (one : Option X) (two : Option Y) (both : X × Y) → both_there one two ≡ Some both → (one ≡ Some both.0) × (two ≡ Some both.1)
 pair_there {X} {Y} (Some x) (Some y) both e = let same = some_pair (x, y) both e in (ap (λ (v : X). Some v) same.0, ap (λ (v : Y). Some v) same.1)
 pair_there (Some x) None both e = absurd (cc e)
 pair_there None two both e = absurd (cc e)
@@ -153,14 +153,14 @@ three_known [] all e = tt
 three_known (first ∷ []) all e = absurd (cc e)
 three_known (first ∷ (second ∷ [])) all e = absurd (cc e)
 three_known (first ∷ (second ∷ (third ∷ []))) all e =
-    let there = pair_there (string_of first) (pair (string_of second) (strings_of third)) all e in
+    let there = pair_there (string_of first) (both_there (string_of second) (strings_of third)) all e in
     let more = pair_there (string_of second) (strings_of third) all.1 there.1 in
     (string_known first all.0 there.0, (string_known second all.1.0 more.0, (strings_known third all.1.1 more.1, tt)))
 three_known (first ∷ (second ∷ (third ∷ (_ ∷ _)))) all e = absurd (cc e)
 
 -- the rows of the table
 row_known : {X T : Type 0} (allowed : List TagGroup) (Says : List TagValue → List Argument → X → Type 0) (make : X → T) → ((tag_values : List TagValue) (positional : List Argument) (x : X) → Says tag_values positional x → AreKnown positional)
-    → (args : List Argument) (tree : T) → IsRow (IsCall allowed Says) make args tree → AreKnown args
+    → (args : List Argument) (tree : T) → IsTableRow (IsCall allowed Says) make args tree → AreKnown args
 row_known allowed Says make says args tree row =
     let call = row.is in
     tag_values_known allowed call.tag_values args call.positional call.split_tags.written (says call.tag_values call.positional row.value call.says)
@@ -219,7 +219,7 @@ spelled_read [] from to e known so = subst AreKnownLexemes (sym e) so
 spelled_read (a ∷ more) from to (middle, (first, others)) known so = argument_read a from middle first known.0 (spelled_read more middle to others known.1 so)
 
 -- tests
-plain_read : (tree : TestTree) (name : Keyword) (after to : List Lexeme) → IsPlain tree name after to → AreKnownLexemes to → AreKnownLexemes after
+plain_read : (tree : TestTree) (name : Keyword) (after to : List Lexeme) → IsLeafTest tree name after to → AreKnownLexemes to → AreKnownLexemes after
 plain_read tree name after to (args, (spelled, is)) so = spelled_read args after to spelled.spelled (test_known name args tree is) so
 
 mutual
@@ -303,7 +303,7 @@ read_today language contents tree read =
     subst (ReadsScript tree) (lexemes_same language contents (script_known tree (lexemes_in language contents) read)) read
 
 -- no tag is decoded
-seen_known : (decoding : Decoding) (first : Lexeme) → IsKnownLexeme (seen decoding first) → IsKnownLexeme first
+seen_known : (decoding : Decoding) (first : Lexeme) → IsKnownLexeme (lexeme_as_read decoding first) → IsKnownLexeme first
 seen_known Open first known = known
 seen_known Named first known = known
 seen_known Off first known = known
@@ -314,7 +314,7 @@ seen_known On (text written) known = tt
 seen_known On (mark kind) known = tt
 seen_known On misfit known = tt
 
-seen_from_known : (decoding : Decoding) (lexemes : List Lexeme) → AreKnownLexemes (seen_from decoding lexemes) → AreKnownLexemes lexemes
+seen_from_known : (decoding : Decoding) (lexemes : List Lexeme) → AreKnownLexemes (lexemes_as_read decoding lexemes) → AreKnownLexemes lexemes
 seen_from_known decoding [] known = tt
 seen_from_known decoding (first ∷ more) known = (seen_known decoding first known.0, seen_from_known (decoding_after decoding first) more known.1)
 

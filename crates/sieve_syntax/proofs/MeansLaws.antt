@@ -1,13 +1,13 @@
 -- A text means one tree at most.
 use Rattle.std.proofs.Common.{◌≡◌, ℕ, List, subst}
-use Rattle.sievelex.proofs.TokenLaws.{tokens_only}
-use Rattle.sievelex.specs.Contents.{contents_of}
-use Rattle.sievesyntax.specs.Decoding.{as_read}
-use Rattle.sievesyntax.specs.Lexemes.{lexemes_of}
-use Rattle.sievesyntax.specs.Means.{Means}
-use Rattle.sievesyntax.specs.Grammar.{ReadsScript}
-use Rattle.sievesyntax.specs.Tree.{Commands}
-use Rattle.sievesyntax.proofs.ReadingLaws.{reads_same}
+use Rattle.sieve_lex.proofs.TokenLaws.{tokens_only}
+use Rattle.sieve_lex.specs.Contents.{contents_of}
+use Rattle.sieve_syntax.specs.Decoding.{as_read}
+use Rattle.sieve_syntax.specs.Lexemes.{lexemes_of}
+use Rattle.sieve_syntax.specs.Means.{Means}
+use Rattle.sieve_syntax.specs.Grammar.{ReadsScript}
+use Rattle.sieve_syntax.specs.Tree.{Commands}
+use Rattle.sieve_syntax.proofs.ReadingLaws.{reads_same}
 
 pub means_only : (text : List ℕ) (a b : Commands) → Means text a → Means text b → a ≡ b
 means_only text a b one two =

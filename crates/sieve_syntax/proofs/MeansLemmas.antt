@@ -1,21 +1,21 @@
 -- What a text means, told by its packed tokens.
 use Rattle.std.proofs.Common.{◌≡◌, List, subst, ℕ}
-use Rattle.sievelex.specs.declared.fault.ScriptError.{ScriptError}
-use Rattle.sievelex.specs.declared.fault.ScriptError.TheVariants.{Memory, Fault}
-use Rattle.sievelex.specs.declared.token.Content.{Content}
-use Rattle.sievelex.specs.declared.token.Token.{Token}
-use Rattle.sievelex.specs.Finding.{OnFault}
-use Rattle.sievelex.specs.Spelling.{Spells}
-use Rattle.sievelex.specs.Contents.{contents_of}
-use Rattle.sievesyntax.specs.Decoding.{as_read}
-use Rattle.sievesyntax.specs.Lexemes.{lexemes_of}
-use Rattle.sievesyntax.specs.Tree.{Commands}
-use Rattle.sievesyntax.specs.Grammar.{ReadsScript}
-use Rattle.sievesyntax.specs.Valid.{IsValid}
-use Rattle.sievesyntax.specs.Means.{Means}
+use Rattle.sieve_lex.specs.declared.fault.ScriptError.{ScriptError}
+use Rattle.sieve_lex.specs.declared.fault.ScriptError.TheVariants.{Memory, Fault}
+use Rattle.sieve_lex.specs.declared.token.Content.{Content}
+use Rattle.sieve_lex.specs.declared.token.Token.{Token}
+use Rattle.sieve_lex.specs.Finding.{OnFault}
+use Rattle.sieve_lex.specs.Spelling.{SpellsTokens}
+use Rattle.sieve_lex.specs.Contents.{contents_of}
+use Rattle.sieve_syntax.specs.Decoding.{as_read}
+use Rattle.sieve_syntax.specs.Lexemes.{lexemes_of}
+use Rattle.sieve_syntax.specs.Tree.{Commands}
+use Rattle.sieve_syntax.specs.Grammar.{ReadsScript}
+use Rattle.sieve_syntax.specs.Valid.{IsValid}
+use Rattle.sieve_syntax.specs.Means.{Means}
 
 -- what is read of the packed tokens is what the text means
-pub packed_means : (text : List ℕ) (contents : List Content) (tree : Commands) → (ts : List Token) × (Spells text ts × (contents ≡ contents_of ts)) → ReadsScript tree (as_read (lexemes_of contents)) × IsValid tree → Means text tree
+pub packed_means : (text : List ℕ) (contents : List Content) (tree : Commands) → (ts : List Token) × (SpellsTokens text ts × (contents ≡ contents_of ts)) → ReadsScript tree (as_read (lexemes_of contents)) × IsValid tree → Means text tree
 packed_means text contents tree spelled read = record {
   tokens = spelled.0;
   spelled = spelled.1.0;
@@ -24,7 +24,7 @@ packed_means text contents tree spelled read = record {
 }
 
 -- what the text means is read of the packed tokens
-pub means_packed : (text : List ℕ) (contents : List Content) (tree : Commands) → ((us : List Token) → Spells text us → contents_of us ≡ contents) → Means text tree → ReadsScript tree (as_read (lexemes_of contents))
+pub means_packed : (text : List ℕ) (contents : List Content) (tree : Commands) → ((us : List Token) → SpellsTokens text us → contents_of us ≡ contents) → Means text tree → ReadsScript tree (as_read (lexemes_of contents))
 means_packed text contents tree only means = subst (λ x. ReadsScript tree (as_read (lexemes_of x))) (only means.tokens means.spelled) means.read
 
 -- what holds, holds at a fault

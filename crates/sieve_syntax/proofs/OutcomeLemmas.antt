@@ -10,20 +10,20 @@ use Rattle.std.proofs.lemmas.List.{length-append, length-map, map-append}
 use Rattle.std.proofs.lemmas.List.Elements.{All-cons, All-head, All-tail}
 use Rattle.std.proofs.lemmas.Map.Keys.{IsDistinct-push}
 use Rattle.std.proofs.lemmas.Slice.Eq.{bytes_eq-Decides}
-use Rattle.mailflags.specs.Flags.{AreFlags, added, written}
-use Rattle.mailflags.specs.declared.placement.Placement.{Placement}
-use Rattle.mailflags.proofs.FlagLemmas.{no_flags, added_flags, removed_flags}
-use Rattle.addrparts.specs.declared.address.Addr.{Addr}
-use Rattle.sievesyntax.specs.declared.tree.action.Action.{Action}
-use Rattle.sievesyntax.specs.declared.tree.action.Action.TheVariants.{Keep, Discard, FileInto, Redirect, Vacation, SetFlag, AddFlag, RemoveFlag}
-use Rattle.sievesyntax.specs.declared.tree.checks.Check.{Check}
-use Rattle.sievesyntax.specs.declared.tree.vacation.VacArgs.{VacArgs}
-use Rattle.sievesyntax.specs.Before.{IsUnflaggedAction}
-use Rattle.sievesyntax.specs.RunState.{RunState, at_first, max_targets, max_mailboxes, TwoVacations, TooManyRedirects, TooManyMailboxes, Flow, Going, Stopped, Failed, and_then, inbox, mailbox_named, is_filed, has_room, with_filed, flags_given, cancelled_after, filed_into, same_target, sent_to, replied_by, performed}
-use Rattle.sievesyntax.specs.Meaning.{Actions, actions_of, done_by, ended, outcome}
-use Rattle.sievesyntax.specs.Trace.{actions_run, in_turn, KeepsImplicitly, OnDone, NamesWithoutRepeats, FilesIntoInboxAlone, FilesWithoutFlags, NamesFlags, FilesWithFlags}
-use Rattle.sievesyntax.specs.Tree.{Commands}
-use Rattle.sievesyntax.proofs.TraceLemmas.{outcome_in_turn}
+use Rattle.mail_flags.specs.Flags.{AreFlags, with_all_named, flags_text}
+use Rattle.mail_flags.specs.declared.placement.Placement.{Placement}
+use Rattle.mail_flags.proofs.FlagLemmas.{no_flags, added_flags, removed_flags}
+use Rattle.mail_address.specs.declared.address.Addr.{Addr}
+use Rattle.sieve_syntax.specs.declared.tree.action.Action.{Action}
+use Rattle.sieve_syntax.specs.declared.tree.action.Action.TheVariants.{Keep, Discard, FileInto, Redirect, Vacation, SetFlag, AddFlag, RemoveFlag}
+use Rattle.sieve_syntax.specs.declared.tree.checks.MailCheck.{MailCheck}
+use Rattle.sieve_syntax.specs.declared.tree.vacation.VacationArgs.{VacationArgs}
+use Rattle.sieve_syntax.specs.Before.{IsUnflaggedAction}
+use Rattle.sieve_syntax.specs.RunState.{RunState, at_first, max_targets, max_mailboxes, TwoVacations, TooManyRedirects, TooManyMailboxes, Flow, Going, Stopped, Failed, and_then, inbox, mailbox_named, is_filed, has_room, with_filed, flags_given, cancelled_after, filed_into, same_target, sent_to, replied_by, performed}
+use Rattle.sieve_syntax.specs.Meaning.{Actions, actions_of, done_by, outcome_after, outcome}
+use Rattle.sieve_syntax.specs.Trace.{actions_run, in_turn, KeepsImplicitly, OnDone, NamesWithoutRepeats, FilesIntoInboxAlone, FilesWithoutFlags, NamesFlags, FilesWithFlags}
+use Rattle.sieve_syntax.specs.Tree.{Commands}
+use Rattle.sieve_syntax.proofs.TraceLemmas.{outcome_in_turn}
 
 -- this is so of the state, where the run hasn't failed
 abbrev OnState : (RunState → Type 0) → Flow → Type 0
@@ -157,14 +157,14 @@ module _ (P : RunState → Type 0) (Q : Actions → Type 0) (shows : (state : Ru
   on_done (Stopped state) so = shows state so
   on_done (Failed failure) so = tt
 
-  keeps_in_the_end : (state : RunState) → P state → OnState P (filed_into inbox (flags_given None state) true state) → OnDone Q (ended (Going state))
+  keeps_in_the_end : (state : RunState) → P state → OnState P (filed_into inbox (flags_given None state) true state) → OnDone Q (outcome_after (Going state))
   keeps_in_the_end state so filed = step state.cancelled
     where
       step : (cancelled : Bool) → OnDone Q (done_by (cond cancelled (Going state) (filed_into inbox (flags_given None state) true state)))
       step true = shows state so
       step false = on_done (filed_into inbox (flags_given None state) true state) filed
 
-  in_the_end : ((state : RunState) → P state → OnState P (filed_into inbox (flags_given None state) true state)) → (flow : Flow) → OnState P flow → OnDone Q (ended flow)
+  in_the_end : ((state : RunState) → P state → OnState P (filed_into inbox (flags_given None state) true state)) → (flow : Flow) → OnState P flow → OnDone Q (outcome_after flow)
   in_the_end keeps (Going state) so = keeps_in_the_end state so (keeps state so)
   in_the_end keeps (Stopped state) so = keeps_in_the_end state so (keeps state so)
   in_the_end keeps (Failed failure) so = tt
@@ -186,10 +186,10 @@ sends target copy state so = step (list_any (λ there. same_target there target)
           few_addresses = omega arith;
         }
 
-replies : (args : VacArgs) (state : RunState) → IsOrderly state → OnState IsOrderly (replied_by args state)
+replies : (args : VacationArgs) (state : RunState) → IsOrderly state → OnState IsOrderly (replied_by args state)
 replies args state so = step state.reply
   where
-    step : (reply : Option VacArgs) → OnState IsOrderly (elim reply [
+    step : (reply : Option VacationArgs) → OnState IsOrderly (elim reply [
       | None ↦ Going (record state { reply = Some args })
       | Some _ ↦ Failed TwoVacations
     ])
@@ -207,7 +207,7 @@ orderly (AddFlag texts) state may so = record { mailboxes = so.mailboxes; addres
 orderly (RemoveFlag texts) state may so = record { mailboxes = so.mailboxes; addresses = so.addresses; few_mailboxes = so.few_mailboxes; few_addresses = so.few_addresses }
 
 -- each mailbox and each address once
-pub named_once : (truth : RunState → Check → Bool) (commands : Commands) → OnDone NamesWithoutRepeats (outcome truth commands)
+pub named_once : (truth : RunState → MailCheck → Bool) (commands : Commands) → OnDone NamesWithoutRepeats (outcome truth commands)
 unfolding IsDistinct
 named_once truth commands =
     subst (OnDone NamesWithoutRepeats) (sym (outcome_in_turn truth commands))
@@ -228,7 +228,7 @@ untouched (FileInto name) state may so = absurd may
 untouched (Redirect target) state may so = absurd may
 untouched (Vacation args) state may so = step state.reply
   where
-    step : (reply : Option VacArgs) → OnState IsUntouched (elim reply [
+    step : (reply : Option VacationArgs) → OnState IsUntouched (elim reply [
       | None ↦ Going (record state { reply = Some args })
       | Some _ ↦ Failed TwoVacations
     ])
@@ -238,22 +238,22 @@ untouched (SetFlag texts) state may so = record { filed = so.filed; sent = so.se
 untouched (AddFlag texts) state may so = record { filed = so.filed; sent = so.sent; kept = so.kept }
 untouched (RemoveFlag texts) state may so = record { filed = so.filed; sent = so.sent; kept = so.kept }
 
-untouched_end : (state : RunState) → IsUntouched state → OnDone FilesIntoInboxAlone (ended (Going state))
+untouched_end : (state : RunState) → IsUntouched state → OnDone FilesIntoInboxAlone (outcome_after (Going state))
 untouched_end state so = step state.filed state.cancelled so.filed so.kept
   where
-    step : (filed : List Placement) (cancelled : Bool) → filed ≡ [] → cancelled ≡ false → OnDone FilesIntoInboxAlone (ended (Going (record state { filed = filed; cancelled = cancelled })))
+    step : (filed : List Placement) (cancelled : Bool) → filed ≡ [] → cancelled ≡ false → OnDone FilesIntoInboxAlone (outcome_after (Going (record state { filed = filed; cancelled = cancelled })))
     step [] true none kept = absurd (cc kept)
     step [] false none kept = record { filed = refl; sent = so.sent }
     step (one ∷ more) cancelled none kept = absurd (cc none)
 
 -- the implicit keep alone
-pub implicitly_kept : (truth : RunState → Check → Bool) (commands : Commands) → All KeepsImplicitly (actions_run truth commands) → OnDone FilesIntoInboxAlone (outcome truth commands)
+pub implicitly_kept : (truth : RunState → MailCheck → Bool) (commands : Commands) → All KeepsImplicitly (actions_run truth commands) → OnDone FilesIntoInboxAlone (outcome truth commands)
 implicitly_kept truth commands all =
     subst (OnDone FilesIntoInboxAlone) (sym (outcome_in_turn truth commands))
     (step (in_turn (actions_run truth commands) at_first)
     (kept_in_turn IsUntouched KeepsImplicitly untouched (actions_run truth commands) all at_first (record { filed = refl; sent = refl; kept = refl })))
   where
-    step : (flow : Flow) → OnState IsUntouched flow → OnDone FilesIntoInboxAlone (ended flow)
+    step : (flow : Flow) → OnState IsUntouched flow → OnDone FilesIntoInboxAlone (outcome_after flow)
     step (Going state) so = untouched_end state so
     step (Stopped state) so = untouched_end state so
     step (Failed failure) so = tt
@@ -268,7 +268,7 @@ record IsBare (state : RunState) : Type 0 where
   filed : All HasNone state.filed
 
 bare_given : (given : Option (List (List ℕ))) (state : RunState) → given ≡ None → IsBare state → flags_given given state ≡ []
-bare_given given state none so = ap (λ g. flags_given g state) none ∙ ap written so.flags
+bare_given given state none so = ap (λ g. flags_given g state) none ∙ ap flags_text so.flags
 
 bare_filed : (mailbox flags : List ℕ) (copy : Bool) (state : RunState) → flags ≡ [] → IsBare state → OnState IsBare (filed_into mailbox flags copy state)
 bare_filed mailbox flags copy state none so = step (has_room state.filed mailbox)
@@ -286,10 +286,10 @@ bare_sent target copy state so = step (list_any (λ there. same_target there tar
     step false true = record { flags = so.flags; filed = so.filed }
     step false false = tt
 
-bare_reply : (args : VacArgs) (state : RunState) → IsBare state → OnState IsBare (replied_by args state)
+bare_reply : (args : VacationArgs) (state : RunState) → IsBare state → OnState IsBare (replied_by args state)
 bare_reply args state so = step state.reply
   where
-    step : (reply : Option VacArgs) → OnState IsBare (elim reply [
+    step : (reply : Option VacationArgs) → OnState IsBare (elim reply [
       | None ↦ Going (record state { reply = Some args })
       | Some _ ↦ Failed TwoVacations
     ])
@@ -306,7 +306,7 @@ bare_action (SetFlag texts) state may so = absurd may
 bare_action (AddFlag texts) state may so = absurd may
 bare_action (RemoveFlag texts) state may so = absurd may
 
-pub unflagged_bare : (truth : RunState → Check → Bool) (commands : Commands) → All IsUnflaggedAction (actions_run truth commands) → OnDone FilesWithoutFlags (outcome truth commands)
+pub unflagged_bare : (truth : RunState → MailCheck → Bool) (commands : Commands) → All IsUnflaggedAction (actions_run truth commands) → OnDone FilesWithoutFlags (outcome truth commands)
 unflagged_bare truth commands all =
     subst (OnDone FilesWithoutFlags) (sym (outcome_in_turn truth commands))
     (in_the_end IsBare FilesWithoutFlags (λ state so. record { bare = so.filed }) (λ state so. bare_filed inbox (flags_given None state) true state (bare_given None state refl so) so)
@@ -319,9 +319,9 @@ record IsFlagged (state : RunState) : Type 0 where
   flags : AreFlags state.flags
   filed : All NamesFlags state.filed
 
-named_given : (given : Option (List (List ℕ))) (state : RunState) → IsFlagged state → (flags : List (List ℕ)) × AreFlags flags × (flags_given given state ≡ written flags)
+named_given : (given : Option (List (List ℕ))) (state : RunState) → IsFlagged state → (flags : List (List ℕ)) × AreFlags flags × (flags_given given state ≡ flags_text flags)
 named_given None state so = (state.flags, so.flags, refl)
-named_given (Some texts) state so = (added [] texts, added_flags [] texts no_flags, refl)
+named_given (Some texts) state so = (with_all_named [] texts, added_flags [] texts no_flags, refl)
 
 flagged_filed : (mailbox : List ℕ) (given : Option (List (List ℕ))) (copy : Bool) (state : RunState) → IsFlagged state → OnState IsFlagged (filed_into mailbox (flags_given given state) copy state)
 flagged_filed mailbox given copy state so = step (has_room state.filed mailbox)
@@ -339,10 +339,10 @@ flagged_sent target copy state so = step (list_any (λ there. same_target there 
     step false true = record { flags = so.flags; filed = so.filed }
     step false false = tt
 
-flagged_reply : (args : VacArgs) (state : RunState) → IsFlagged state → OnState IsFlagged (replied_by args state)
+flagged_reply : (args : VacationArgs) (state : RunState) → IsFlagged state → OnState IsFlagged (replied_by args state)
 flagged_reply args state so = step state.reply
   where
-    step : (reply : Option VacArgs) → OnState IsFlagged (elim reply [
+    step : (reply : Option VacationArgs) → OnState IsFlagged (elim reply [
       | None ↦ Going (record state { reply = Some args })
       | Some _ ↦ Failed TwoVacations
     ])
@@ -359,7 +359,7 @@ flagged_action (SetFlag texts) state may so = record { flags = added_flags [] te
 flagged_action (AddFlag texts) state may so = record { flags = added_flags state.flags texts so.flags; filed = so.filed }
 flagged_action (RemoveFlag texts) state may so = record { flags = removed_flags state.flags texts so.flags; filed = so.filed }
 
-pub flags_named : (truth : RunState → Check → Bool) (commands : Commands) → OnDone FilesWithFlags (outcome truth commands)
+pub flags_named : (truth : RunState → MailCheck → Bool) (commands : Commands) → OnDone FilesWithFlags (outcome truth commands)
 flags_named truth commands =
     subst (OnDone FilesWithFlags) (sym (outcome_in_turn truth commands))
     (in_the_end IsFlagged FilesWithFlags (λ state so. record { named = so.filed }) (λ state so. flagged_filed inbox None true state so)

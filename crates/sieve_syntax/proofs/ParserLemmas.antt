@@ -1,17 +1,17 @@
 -- Lemmas on tests, commands and blocks.
 use Rattle.std.proofs.Common.{◌≡◌, ℕ, ◌≤◌, List, ◌∷◌, sym, ◌∙◌, subst, arith}
-use Rattle.sievelex.specs.declared.token.Mark.TheVariants as K
-use Rattle.sievesyntax.specs.declared.table.keyword.Keyword.{Keyword}
-use Rattle.sievesyntax.specs.declared.table.keyword.Keyword.TheVariants as W
-use Rattle.sievesyntax.specs.declared.parser.argument.Argument.{Argument}
-use Rattle.sievesyntax.specs.declared.table.capability.Capabilities.{Capabilities}
-use Rattle.sievesyntax.specs.Lexemes.{Lexeme, mark}
-use Rattle.sievesyntax.specs.Arguments.{AreArguments}
-use Rattle.sievesyntax.specs.Table.{IsPlainCommand}
-use Rattle.sievesyntax.specs.Tree.{CommandTree, require, choose, stop, act, Branches, no_branches, branch, depth_of}
-use Rattle.sievesyntax.specs.Valid.{MayStand}
-use Rattle.sievesyntax.specs.Grammar.{IsStatement, IsCommand}
-use Rattle.sievesyntax.specs.Steps.{TakesAfter}
+use Rattle.sieve_lex.specs.declared.token.Mark.TheVariants as K
+use Rattle.sieve_syntax.specs.declared.table.keyword.Keyword.{Keyword}
+use Rattle.sieve_syntax.specs.declared.table.keyword.Keyword.TheVariants as W
+use Rattle.sieve_syntax.specs.declared.parser.argument.Argument.{Argument}
+use Rattle.sieve_syntax.specs.declared.table.capability.Capabilities.{Capabilities}
+use Rattle.sieve_syntax.specs.Lexemes.{Lexeme, mark}
+use Rattle.sieve_syntax.specs.Arguments.{AreArguments}
+use Rattle.sieve_syntax.specs.Table.{IsPlainCommand}
+use Rattle.sieve_syntax.specs.Tree.{CommandTree, require, choose, stop, act, Branches, no_branches, branch, depth_of}
+use Rattle.sieve_syntax.specs.Valid.{MayStand}
+use Rattle.sieve_syntax.specs.Grammar.{IsStatement, IsCommand}
+use Rattle.sieve_syntax.specs.Steps.{TakesAfter}
 
 -- an `if` is no statement
 not_choose : (name : Keyword) (args : List Argument) (branches : Branches) → IsPlainCommand name args (choose branches) → ⊥

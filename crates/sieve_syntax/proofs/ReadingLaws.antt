@@ -1,28 +1,28 @@
 -- Lexemes are read as one tree at most.
 use Rattle.std.proofs.Common.{◌≡◌, ℕ, List, [], ◌∷◌, refl, sym, ap, ◌∙◌, subst, inl, inr}
 use Rattle.octets.proofs.Lists.{some_is}
-use Rattle.sievelex.specs.declared.token.Mark.{Mark}
-use Rattle.sievelex.specs.declared.token.Mark.TheVariants as K
-use Rattle.sievesyntax.specs.declared.table.keyword.Keyword.{Keyword}
-use Rattle.sievesyntax.specs.declared.table.keyword.Keyword.TheVariants as W
-use Rattle.sievesyntax.specs.declared.parser.argument.Argument.{Argument}
-use Rattle.sievesyntax.specs.declared.parser.argument.Argument.TheVariants as A
-use Rattle.sievesyntax.specs.declared.table.tag_group.TagValue.{TagValue}
-use Rattle.sievesyntax.specs.declared.table.tag_group.TagGroup.{TagGroup}
-use Rattle.sievesyntax.specs.Arguments.{IsOther, AreStrings, IsArgument, IsEnd, AreArguments}
-use Rattle.sievesyntax.specs.Chains.{Chain}
-use Rattle.sievesyntax.specs.Lexemes.{Lexeme, keyword, text, mark}
-use Rattle.sievesyntax.specs.Grammar.{Braced, IsPastBranches, Tested, IsStatement, IsCommand, IsChoice, AreBranches, AreCommands, ReadsScript}
-use Rattle.sievesyntax.specs.Steps.{IsStop}
-use Rattle.sievesyntax.specs.Table.{IsList, IsRow, IsPlainTest, IsPlainCommand}
-use Rattle.sievesyntax.specs.Tags.{IsAllowed, IsPlain as IsPositional, IsSplit, IsCall}
-use Rattle.sievesyntax.specs.Tests.{Headed, Marked, IsPlain, IsTest, AreTests, AreMoreTests, ReadsTest}
-use Rattle.sievesyntax.specs.Tree.{TestTree, yes, no, looks, not_of, all_of, any_of, Tests, no_tests, test, CommandTree, require, choose, stop, act, Branches, no_branches, branch, Commands, no_commands, command}
-use Rattle.sievesyntax.proofs.ArgumentLemmas.{IsMarked, end_none}
-use Rattle.sievesyntax.proofs.TagLemmas.{tag_value_only, plain_none}
-use Rattle.sievesyntax.proofs.TestLemmas.{is_plain}
-use Rattle.sievesyntax.proofs.TableLemmas.{size_same, header_same, address_same, envelope_same, date_same, current_date_same, has_flag_same, keep_same}
-use Rattle.sievesyntax.proofs.VacationLemmas.{file_into_same, redirect_same, vacation_same}
+use Rattle.sieve_lex.specs.declared.token.Mark.{Mark}
+use Rattle.sieve_lex.specs.declared.token.Mark.TheVariants as K
+use Rattle.sieve_syntax.specs.declared.table.keyword.Keyword.{Keyword}
+use Rattle.sieve_syntax.specs.declared.table.keyword.Keyword.TheVariants as W
+use Rattle.sieve_syntax.specs.declared.parser.argument.Argument.{Argument}
+use Rattle.sieve_syntax.specs.declared.parser.argument.Argument.TheVariants as A
+use Rattle.sieve_syntax.specs.declared.table.tag_group.TagValue.{TagValue}
+use Rattle.sieve_syntax.specs.declared.table.tag_group.TagGroup.{TagGroup}
+use Rattle.sieve_syntax.specs.Arguments.{IsOther, AreStrings, IsArgument, IsArgumentsEnd, AreArguments}
+use Rattle.sieve_syntax.specs.Chains.{Chain}
+use Rattle.sieve_syntax.specs.Lexemes.{Lexeme, keyword, text, mark}
+use Rattle.sieve_syntax.specs.Grammar.{Braced, IsPastBranches, Tested, IsStatement, IsCommand, IsChoice, AreBranches, AreCommands, ReadsScript}
+use Rattle.sieve_syntax.specs.Steps.{IsStop}
+use Rattle.sieve_syntax.specs.Table.{IsList, IsTableRow, IsPlainTest, IsPlainCommand}
+use Rattle.sieve_syntax.specs.Tags.{IsAllowed, BeginsUntagged as IsPositional, IsSplit, IsCall}
+use Rattle.sieve_syntax.specs.Tests.{Headed, Marked, IsLeafTest, IsTest, AreTests, AreMoreTests, ReadsTest}
+use Rattle.sieve_syntax.specs.Tree.{TestTree, yes, no, looks, not_of, all_of, any_of, Tests, no_tests, test, CommandTree, require, choose, stop, act, Branches, no_branches, branch, Commands, no_commands, command}
+use Rattle.sieve_syntax.proofs.ArgumentLemmas.{IsMarked, end_none}
+use Rattle.sieve_syntax.proofs.TagLemmas.{tag_value_only, plain_none}
+use Rattle.sieve_syntax.proofs.TestLemmas.{is_plain}
+use Rattle.sieve_syntax.proofs.TableLemmas.{size_same, header_same, address_same, envelope_same, date_same, current_date_same, has_flag_same, keep_same}
+use Rattle.sieve_syntax.proofs.VacationLemmas.{file_into_same, redirect_same, vacation_same}
 
 -- things one after another, up to where they are done, are one list
 module _ {X L : Type 0} (one : X → List L → List L → Type 0) (done : List L → Type 0)
@@ -74,7 +74,7 @@ argument_same (A.Strings s) (A.Strings t) from to end p q =
     (ap A.Strings same.0, same.1)
 
 arguments_same : (xs ys : List Argument) (from to end : List Lexeme) → AreArguments xs from to → AreArguments ys from end → (xs ≡ ys) × (to ≡ end)
-arguments_same xs ys from to end a b = chain_same IsArgument IsEnd argument_same (λ x l m p q. end_none l p x m q) xs ys from to end a.spelled a.all b.spelled b.all
+arguments_same xs ys from to end a b = chain_same IsArgument IsArgumentsEnd argument_same (λ x l m p q. end_none l p x m q) xs ys from to end a.spelled a.all b.spelled b.all
 
 -- tagged arguments and positional ones
 split_same : (allowed : List TagGroup) (args : List Argument) (s t : List TagValue) (p q : List Argument) → IsSplit allowed args s p → IsSplit allowed args t q → (s ≡ t) × (p ≡ q)
@@ -91,7 +91,7 @@ call_same allowed Says one args x y a b =
 list_same : (args : List Argument) (x y : List (List ℕ)) → IsList args x → IsList args y → x ≡ y
 list_same = call_same _ _ (λ tag_values positional x y a b. some_is x y (sym a ∙ b))
 
-row_same : {X T : Type 0} (Is : List Argument → X → Type 0) (make : X → T) (args : List Argument) → ((x y : X) → Is args x → Is args y → x ≡ y) → (t u : T) → IsRow Is make args t → IsRow Is make args u → t ≡ u
+row_same : {X T : Type 0} (Is : List Argument → X → Type 0) (make : X → T) (args : List Argument) → ((x y : X) → Is args x → Is args y → x ≡ y) → (t u : T) → IsTableRow Is make args t → IsTableRow Is make args u → t ≡ u
 row_same Is make args one t u a b = a.tree_is ∙ (ap make (one a.value b.value a.is b.is) ∙ sym b.tree_is)
 
 -- the rows of the table
@@ -137,12 +137,12 @@ marked_at kind P from after opens marked =
     subst P there marked.1.1
 
 -- tests without tests in them
-plain_same : (t u : TestTree) (name : Keyword) (after to end : List Lexeme) → IsPlain t name after to → IsPlain u name after end → (t ≡ u) × (to ≡ end)
+plain_same : (t u : TestTree) (name : Keyword) (after to end : List Lexeme) → IsLeafTest t name after to → IsLeafTest u name after end → (t ≡ u) × (to ≡ end)
 plain_same t u name after to end a b =
     let same = arguments_same a.0 b.0 after to end a.1.0 b.1.0 in
     (plain_test_same name b.0 t u (subst (λ args. IsPlainTest name args t) same.0 a.1.1) b.1.1, same.1)
 
-leaf_same : (t u : TestTree) (name : Keyword) (after to end : List Lexeme) → IsPlain t name after to → IsTest u name after end → (t ≡ u) × (to ≡ end)
+leaf_same : (t u : TestTree) (name : Keyword) (after to end : List Lexeme) → IsLeafTest t name after to → IsTest u name after end → (t ≡ u) × (to ≡ end)
 leaf_same t u name after to end a b =
     let other : (w : Keyword) → name ≡ w → IsPlainTest w a.0 t = λ w e. subst (λ v. IsPlainTest v a.0 t) e a.1.1 in
     plain_same t u name after to end a (is_plain name (other W.Not) (other W.AllOf) (other W.AnyOf) after u end b)

@@ -6,22 +6,22 @@ use Rattle.std.proofs.Math.ListN.{get_or-append}
 use Rattle.std.proofs.lemmas.List.{append-nil, get_or-append-add}
 use Rattle.std.proofs.lemmas.List.Folds.{list_any-append}
 use Rattle.std.proofs.lemmas.List.Elements.{All-append}
-use Rattle.sievesyntax.proofs.Chains.{IsSoFar, chain_more, chain_ends, chain_fails}
-use Rattle.sievesyntax.proofs.BlockLemmas.{list_of, commands_of-list_of, chain_is, is_chain, reads_longer}
-use Rattle.sievelex.specs.declared.token.Mark.TheVariants as K
-use Rattle.sievesyntax.specs.declared.table.keyword.Keyword.{Keyword}
-use Rattle.sievesyntax.specs.declared.table.keyword.Keyword.TheVariants as W
-use Rattle.sievesyntax.specs.declared.parser.argument.Argument.{Argument}
-use Rattle.sievesyntax.specs.declared.table.capability.Capabilities.{Capabilities}
-use Rattle.sievesyntax.specs.Lexemes.{Lexeme, keyword, mark}
-use Rattle.sievesyntax.specs.Arguments.{AreArguments}
-use Rattle.sievesyntax.specs.Chains.{Chain}
-use Rattle.sievesyntax.specs.Table.{IsList, IsPlainCommand}
-use Rattle.sievesyntax.specs.Tree.{CommandTree, require, choose, stop, act, no_branches, branch, Commands, no_commands, command, depth}
-use Rattle.sievesyntax.specs.View.{commands_of}
-use Rattle.sievesyntax.specs.Valid.{max_blocks, IsCapability, is_named, MayStand, MayAllStand, required, after_requires, granted_by, IsValid}
-use Rattle.sievesyntax.specs.Grammar.{IsStatement, IsCommand, AreCommands, ReadsCommand, ReadsScript}
-use Rattle.sievesyntax.specs.Steps.{TakesAll, TakesRequire, TakesRequires, IsPastRequires, all_names, granted_too}
+use Rattle.sieve_syntax.proofs.Chains.{IsSoFar, chain_more, chain_ends, chain_fails}
+use Rattle.sieve_syntax.proofs.BlockLemmas.{list_of, commands_of-list_of, chain_is, is_chain, reads_longer}
+use Rattle.sieve_lex.specs.declared.token.Mark.TheVariants as K
+use Rattle.sieve_syntax.specs.declared.table.keyword.Keyword.{Keyword}
+use Rattle.sieve_syntax.specs.declared.table.keyword.Keyword.TheVariants as W
+use Rattle.sieve_syntax.specs.declared.parser.argument.Argument.{Argument}
+use Rattle.sieve_syntax.specs.declared.table.capability.Capabilities.{Capabilities}
+use Rattle.sieve_syntax.specs.Lexemes.{Lexeme, keyword, mark}
+use Rattle.sieve_syntax.specs.Arguments.{AreArguments}
+use Rattle.sieve_syntax.specs.Chains.{Chain}
+use Rattle.sieve_syntax.specs.Table.{IsList, IsPlainCommand}
+use Rattle.sieve_syntax.specs.Tree.{CommandTree, require, choose, stop, act, no_branches, branch, Commands, no_commands, command, depth}
+use Rattle.sieve_syntax.specs.View.{commands_of}
+use Rattle.sieve_syntax.specs.Valid.{max_blocks, IsCapability, is_capability_named, MayStand, MayAllStand, required, after_requires, granted_by, IsValid}
+use Rattle.sieve_syntax.specs.Grammar.{IsStatement, IsCommand, AreCommands, ReadsCommand, ReadsScript}
+use Rattle.sieve_syntax.specs.Steps.{TakesAll, TakesRequire, TakesRequires, IsPastRequires, all_names, granted_too}
 
 -- the arguments of a `require`
 module _ (after : List Lexeme) (args : List Argument) (next : List Lexeme) (only : (other : List Argument) (to : List Lexeme) → AreArguments other after to → (other ≡ args) × (to ≡ next)) where
@@ -126,8 +126,8 @@ all_names-push (first ∷ more) names = ap (λ l. first ++ l) (all_names-push mo
 -- what one `require` more grants
 pub granted_push : (old new : Capabilities) (each : List (List (List ℕ))) (names : List (List ℕ)) → old ≡ granted_by (all_names each) → new ≡ granted_too old names → new ≡ granted_by (all_names (each ++ names ∷ []))
 granted_push old new each names was made =
-    let also : (keyword : List ℕ) → list_any (is_named keyword) (all_names each) || list_any (is_named keyword) names ≡ list_any (is_named keyword) (all_names (each ++ names ∷ [])) =
-    λ keyword. sym (list_any-append (is_named keyword) (all_names each) names) ∙ ap (list_any (is_named keyword)) (sym (all_names-push each names)) in
+    let also : (keyword : List ℕ) → list_any (is_capability_named keyword) (all_names each) || list_any (is_capability_named keyword) names ≡ list_any (is_capability_named keyword) (all_names (each ++ names ∷ [])) =
+    λ keyword. sym (list_any-append (is_capability_named keyword) (all_names each) names) ∙ ap (list_any (is_capability_named keyword)) (sym (all_names-push each names)) in
     let now : granted_too (granted_by (all_names each)) names ≡ granted_by (all_names (each ++ names ∷ [])) =
     λ i. record { fileinto = also (codes "fileinto") i; envelope = also (codes "envelope") i; vacation = also (codes "vacation") i; copy = also (codes "copy") i; seconds = also (codes "vacation-seconds") i; subaddress = also (codes "subaddress") i; relational = also (codes "relational") i; numeric = also (codes "comparator-i;ascii-numeric") i; mailbox = also (codes "mailbox") i; date = also (codes "date") i; flags = also (codes "imap4flags") i } in
     made ∙ ap (λ g. granted_too g names) was ∙ now

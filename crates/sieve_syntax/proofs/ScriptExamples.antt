@@ -6,33 +6,33 @@ use Rattle.std.specs.Str.{IsAscii}
 use Rattle.std.proofs.lemmas.Str.{IsUtf8-from_ascii}
 use Rattle.std.proofs.lemmas.Bool.Decides.{nat_tests}
 use Rattle.octets.proofs.Lists.{some_is}
-use Rattle.sievelex.specs.declared.token.Mark.TheVariants as K
-use Rattle.sievelex.specs.declared.token.Content.TheVariants as C
-use Rattle.sievelex.specs.Contents.{contents_of}
-use Rattle.sievelex.specs.declared.token.Token.{Token}
-use Rattle.sievelex.specs.Space.{IsTail}
-use Rattle.sievelex.specs.Space.Space.{White}
-use Rattle.sievelex.specs.Spelling.{SpellsFrom}
-use Rattle.sievelex.specs.Text.{IsText}
-use Rattle.sievelex.proofs.Prefixes.{both}
-use Rattle.sievelex.proofs.Best.{IsFound}
-use Rattle.sievelex.proofs.Named.{identifier_found}
-use Rattle.sievelex.proofs.Marks.{mark_found}
-use Rattle.sievelex.proofs.Gaps.{tail_all}
-use Rattle.sievelex.proofs.Next.{IsAhead, next_found, next_only, next_further}
-use Rattle.sievesyntax.specs.declared.table.keyword.Keyword.{Keyword}
-use Rattle.sievesyntax.specs.declared.table.keyword.Keyword.TheVariants as W
-use Rattle.sievesyntax.specs.declared.parser.argument.Argument.{Argument}
-use Rattle.sievesyntax.specs.declared.parser.argument.Argument.TheVariants as A
-use Rattle.sievesyntax.specs.declared.tree.action.Action.TheVariants as D
-use Rattle.sievesyntax.specs.Chains.{Chain}
-use Rattle.sievesyntax.specs.Lexemes.{Lexeme, keyword, tag, number, text, mark, lexemes_of}
-use Rattle.sievesyntax.specs.Arguments.{IsArgument}
-use Rattle.sievesyntax.specs.Tree.{CommandTree, require, choose, stop, act, no_branches, branch, Commands, no_commands, command}
-use Rattle.sievesyntax.specs.Decoding.{as_read}
-use Rattle.sievesyntax.specs.Grammar.{IsStatement, IsCommand, ReadsScript}
-use Rattle.sievesyntax.specs.Means.{Means}
-use Rattle.sievesyntax.proofs.Examples.{keep_bare}
+use Rattle.sieve_lex.specs.declared.token.Mark.TheVariants as K
+use Rattle.sieve_lex.specs.declared.token.Content.TheVariants as C
+use Rattle.sieve_lex.specs.Contents.{contents_of}
+use Rattle.sieve_lex.specs.declared.token.Token.{Token}
+use Rattle.sieve_lex.specs.Space.{IsTail}
+use Rattle.sieve_lex.specs.Space.Space.{White}
+use Rattle.sieve_lex.specs.Spelling.{SpellsFrom}
+use Rattle.sieve_lex.specs.Text.{IsScriptText}
+use Rattle.sieve_lex.proofs.Prefixes.{both}
+use Rattle.sieve_lex.proofs.Best.{IsFound}
+use Rattle.sieve_lex.proofs.Named.{identifier_found}
+use Rattle.sieve_lex.proofs.Marks.{mark_found}
+use Rattle.sieve_lex.proofs.Gaps.{tail_all}
+use Rattle.sieve_lex.proofs.Next.{IsAhead, next_found, next_only, next_further}
+use Rattle.sieve_syntax.specs.declared.table.keyword.Keyword.{Keyword}
+use Rattle.sieve_syntax.specs.declared.table.keyword.Keyword.TheVariants as W
+use Rattle.sieve_syntax.specs.declared.parser.argument.Argument.{Argument}
+use Rattle.sieve_syntax.specs.declared.parser.argument.Argument.TheVariants as A
+use Rattle.sieve_syntax.specs.declared.tree.action.Action.TheVariants as D
+use Rattle.sieve_syntax.specs.Chains.{Chain}
+use Rattle.sieve_syntax.specs.Lexemes.{Lexeme, keyword, tag, number, text, mark, lexemes_of}
+use Rattle.sieve_syntax.specs.Arguments.{IsArgument}
+use Rattle.sieve_syntax.specs.Tree.{CommandTree, require, choose, stop, act, no_branches, branch, Commands, no_commands, command}
+use Rattle.sieve_syntax.specs.Decoding.{as_read}
+use Rattle.sieve_syntax.specs.Grammar.{IsStatement, IsCommand, ReadsScript}
+use Rattle.sieve_syntax.specs.Means.{Means}
+use Rattle.sieve_syntax.proofs.Examples.{keep_bare}
 
 -- what no octet of a text is stands at no place of it
 no_octet : (p : ℕ → Bool) (n : ℕ) (s : List ℕ) → list_all p s ≡ true → p n ≡ false → (i : ℕ) → i < length s → get_or s i 0 ≡ n → ⊥
@@ -54,7 +54,7 @@ ascii [] each i = lit< tt
 ascii (b ∷ s) each zero = let below : nat_lt b 128 ≡ true = (both (nat_lt b 128) (list_all (λ b. nat_lt b 128) s) each).0 in grind (arith, nat_tests)
 ascii (b ∷ s) each (suc i) = ascii s (both (nat_lt b 128) (list_all (λ b. nat_lt b 128) s) each).1 i
 
-pub plain_text : (s : List ℕ) → list_all (λ b. nat_lt b 128) s ≡ true → list_all (λ b. nat_lt 13 b) s ≡ true → IsText s
+pub plain_text : (s : List ℕ) → list_all (λ b. nat_lt b 128) s ≡ true → list_all (λ b. nat_lt 13 b) s ≡ true → IsScriptText s
 plain_text s low high = record {
   utf8 = IsUtf8-from_ascii s (ascii s low);
   octets = record {

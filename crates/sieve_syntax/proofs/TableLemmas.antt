@@ -1,42 +1,42 @@
 -- Lemmas on the rows of the table.
 use Rattle.std.proofs.Common.{◌≡◌, ℕ, List, [], Option, Some, None, Result, Ok, Err, sym, ap, ◌∙◌, subst}
 use Rattle.octets.proofs.Lists.{some_is, some_pair}
-use Rattle.maildates.specs.Parts.{part_named}
-use Rattle.sievesyntax.specs.declared.error.ReadError.{ReadError}
-use Rattle.sievesyntax.specs.declared.tree.checks.Size.{Size}
-use Rattle.sievesyntax.specs.declared.tree.checks.Header.{Header}
-use Rattle.sievesyntax.specs.declared.tree.checks.Address.{Address}
-use Rattle.sievesyntax.specs.declared.tree.checks.EnvelopeTest.{EnvelopeTest}
-use Rattle.sievesyntax.specs.declared.tree.checks.EnvelopeParts.{EnvelopeParts}
-use Rattle.sievesyntax.specs.declared.tree.checks.DateTest.{DateTest}
-use Rattle.sievesyntax.specs.declared.tree.checks.CurrentDate.{CurrentDate}
-use Rattle.sievesyntax.specs.declared.tree.checks.HasFlag.{HasFlag}
-use Rattle.sievesyntax.specs.declared.parser.argument.Argument.{Argument}
-use Rattle.sievesyntax.specs.declared.table.tag_group.TagValue.{TagValue}
-use Rattle.sievesyntax.specs.declared.table.tag_group.TagGroup.{TagGroup}
-use Rattle.sievesyntax.specs.Parsing.{Finds, OnFault}
-use Rattle.sievesyntax.specs.Tags.{IsSplit, IsSplitAlone, IsCall}
-use Rattle.sievesyntax.specs.Positional.{two_lists, text_and_list, two_texts_and_list}
-use Rattle.sievesyntax.specs.Table.{SaysSize, SaysHeader, SaysAddress, SaysEnvelope, SaysDate, SaysCurrentDate, SaysHasFlag, SaysKeep, NamesParts, IsRow, IsBare}
-use Rattle.sievesyntax.proofs.FaultLemmas.{fault_on}
+use Rattle.mail_dates.specs.Parts.{part_named}
+use Rattle.sieve_syntax.specs.declared.error.ParseError.{ParseError}
+use Rattle.sieve_syntax.specs.declared.tree.checks.Size.{Size}
+use Rattle.sieve_syntax.specs.declared.tree.checks.Header.{Header}
+use Rattle.sieve_syntax.specs.declared.tree.checks.Address.{Address}
+use Rattle.sieve_syntax.specs.declared.tree.checks.EnvelopeTest.{EnvelopeTest}
+use Rattle.sieve_syntax.specs.declared.tree.checks.EnvelopeParts.{EnvelopeParts}
+use Rattle.sieve_syntax.specs.declared.tree.checks.DateTest.{DateTest}
+use Rattle.sieve_syntax.specs.declared.tree.checks.CurrentDate.{CurrentDate}
+use Rattle.sieve_syntax.specs.declared.tree.checks.HasFlag.{HasFlag}
+use Rattle.sieve_syntax.specs.declared.parser.argument.Argument.{Argument}
+use Rattle.sieve_syntax.specs.declared.table.tag_group.TagValue.{TagValue}
+use Rattle.sieve_syntax.specs.declared.table.tag_group.TagGroup.{TagGroup}
+use Rattle.sieve_syntax.specs.Parsing.{FindsValue, OnParseFault}
+use Rattle.sieve_syntax.specs.Tags.{IsSplit, IsSplitAlone, IsCall}
+use Rattle.sieve_syntax.specs.Positional.{two_lists, text_and_list, two_texts_and_list}
+use Rattle.sieve_syntax.specs.Table.{SaysSize, SaysHeader, SaysAddress, SaysEnvelope, SaysDate, SaysCurrentDate, SaysHasFlag, SaysKeep, NamesParts, IsTableRow, IsBareWord}
+use Rattle.sieve_syntax.proofs.FaultLemmas.{fault_on}
 
 -- the rows of words with arguments
 module _ {X T : Type 0} (Is : List Argument → X → Type 0) (make : X → T) (args : List Argument) (May : T → Type 0) where
   -- where the arguments say one thing, the row stands for one tree
-  pub row_only : (x : X) → ((y : X) → Is args y → y ≡ x) → (tree : T) → IsRow Is make args tree → tree ≡ make x
+  pub row_only : (x : X) → ((y : X) → Is args y → y ≡ x) → (tree : T) → IsTableRow Is make args tree → tree ≡ make x
   row_only x only tree row = row.tree_is ∙ ap make (only row.value row.is)
 
   -- a fault in the arguments
-  pub row_fault : (e : ReadError) → OnFault e ((x : X) → Is args x → ⊥) → OnFault e ((tree : T) → IsRow Is make args tree → May tree → ⊥)
+  pub row_fault : (e : ParseError) → OnParseFault e ((x : X) → Is args x → ⊥) → OnParseFault e ((tree : T) → IsTableRow Is make args tree → May tree → ⊥)
   row_fault e h = fault_on e _ _ (λ none tree row may. none row.value row.is) h
 
   -- a fault in the arguments, or arguments that don't fit where they have to
-  pub fit_fault : (Fit : X → Type 0) → ((x : X) → May (make x) → Fit x) → (e : ReadError) → OnFault e ((x : X) → Is args x → Fit x → ⊥) → OnFault e ((tree : T) → IsRow Is make args tree → May tree → ⊥)
+  pub fit_fault : (Fit : X → Type 0) → ((x : X) → May (make x) → Fit x) → (e : ParseError) → OnParseFault e ((x : X) → Is args x → Fit x → ⊥) → OnParseFault e ((tree : T) → IsTableRow Is make args tree → May tree → ⊥)
   fit_fault Fit asks e h = fault_on e _ _ (λ none tree row may. none row.value row.is (asks row.value (subst May row.tree_is may))) h
 
 -- the rows of words without
 module _ {T : Type 0} (bare : T) (args : List Argument) (May : T → Type 0) where
-  pub bare_fault : (e : ReadError) → OnFault e (args ≡ [] → ⊥) → OnFault e ((tree : T) → IsBare bare args tree → May tree → ⊥)
+  pub bare_fault : (e : ParseError) → OnParseFault e (args ≡ [] → ⊥) → OnParseFault e ((tree : T) → IsBareWord bare args tree → May tree → ⊥)
   bare_fault e h = fault_on e _ _ (λ some tree row may. some row.none) h
 
 -- the arguments say what their tags and positional arguments say
@@ -47,7 +47,7 @@ module _ {X : Type 0} (allowed : List TagGroup) (Says : List TagValue → List A
       let same = only call.tag_values call.positional call.split_tags in
       subst (λ p. Says tag_values p x) same.1 (subst (λ s. Says s call.positional x) same.0 call.says)
 
-  pub call_finds : IsSplit allowed args tag_values positional → (found : Result X ReadError) → Finds (Says tag_values positional) found → Finds (IsCall allowed Says args) found
+  pub call_finds : IsSplit allowed args tag_values positional → (found : Result X ParseError) → FindsValue (Says tag_values positional) found → FindsValue (IsCall allowed Says args) found
   call_finds split_tags (Ok x) found = (record { tag_values = tag_values; positional = positional; split_tags = split_tags; says = found.0 }, λ y call. found.1 y (says_split y call))
   call_finds split_tags (Err e) none = fault_on e _ _ (λ nothing x call. nothing x (says_split x call)) none
 

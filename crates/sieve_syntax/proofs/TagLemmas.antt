@@ -5,25 +5,25 @@ use Rattle.std.proofs.lemmas.List.{get_or-map, length-map}
 use Rattle.std.proofs.lemmas.List.Elements.{Contains-append_left, Contains-append_right, Contains-append_cases, Contains-push, Contains-push_cases}
 use Rattle.std.specs.Cmp.Lexicographic.{pointwise}
 use Rattle.octets.proofs.Lists.{some_pair}
-use Rattle.maildates.specs.Zones.{numeric_of, IsOffset}
-use Rattle.maildates.proofs.WordLemmas.{map_some}
-use Rattle.maildates.proofs.ZoneLaws.{numeric_is, numeric_again}
-use Rattle.sievesyntax.specs.declared.table.tag.Tag.TheVariants as T
-use Rattle.sievesyntax.specs.declared.tree.checks.Bound.TheVariants as B
-use Rattle.sievesyntax.specs.declared.tree.checks.Matching.TheVariants as M
-use Rattle.sievesyntax.specs.declared.tree.checks.Relation.{Relation}
-use Rattle.sievesyntax.specs.declared.tree.checks.Relation.TheVariants as R
-use Rattle.sievesyntax.specs.declared.tree.checks.AddressPart.TheVariants as H
-use Rattle.sievesyntax.specs.declared.tree.checks.Collation.{Collation}
-use Rattle.sievesyntax.specs.declared.tree.checks.Collation.TheVariants as C
-use Rattle.sievesyntax.specs.declared.parser.argument.Argument.{Argument}
-use Rattle.sievesyntax.specs.declared.parser.argument.Argument.TheVariants as A
-use Rattle.sievesyntax.specs.declared.table.tag_group.TagValue.{TagValue}
-use Rattle.sievesyntax.specs.declared.table.tag_group.TagValue.TheVariants as S
-use Rattle.sievesyntax.specs.declared.table.tag_group.TagGroup.{TagGroup}
-use Rattle.sievesyntax.specs.Chains.{Chain}
-use Rattle.sievesyntax.specs.Tags.{strings_of, IsTagValue, group_of, AreApart, IsAllowed, IsPlain, IsSplit, HasNoTag}
-use Rattle.sievesyntax.proofs.Chains.{IsSoFar, chain_more, chain_ends}
+use Rattle.mail_dates.specs.Zones.{numeric_of, IsOffset}
+use Rattle.mail_dates.proofs.WordLemmas.{map_some}
+use Rattle.mail_dates.proofs.ZoneLaws.{numeric_is, numeric_again}
+use Rattle.sieve_syntax.specs.declared.table.tag.Tag.TheVariants as T
+use Rattle.sieve_syntax.specs.declared.tree.checks.Bound.TheVariants as B
+use Rattle.sieve_syntax.specs.declared.tree.checks.Matching.TheVariants as M
+use Rattle.sieve_syntax.specs.declared.tree.checks.Relation.{Relation}
+use Rattle.sieve_syntax.specs.declared.tree.checks.Relation.TheVariants as R
+use Rattle.sieve_syntax.specs.declared.tree.checks.AddressPart.TheVariants as H
+use Rattle.sieve_syntax.specs.declared.tree.checks.Collation.{Collation}
+use Rattle.sieve_syntax.specs.declared.tree.checks.Collation.TheVariants as C
+use Rattle.sieve_syntax.specs.declared.parser.argument.Argument.{Argument}
+use Rattle.sieve_syntax.specs.declared.parser.argument.Argument.TheVariants as A
+use Rattle.sieve_syntax.specs.declared.table.tag_group.TagValue.{TagValue}
+use Rattle.sieve_syntax.specs.declared.table.tag_group.TagValue.TheVariants as S
+use Rattle.sieve_syntax.specs.declared.table.tag_group.TagGroup.{TagGroup}
+use Rattle.sieve_syntax.specs.Chains.{Chain}
+use Rattle.sieve_syntax.specs.Tags.{strings_of, IsTagValue, group_of, AreGroupsApart, IsAllowed, BeginsUntagged, IsSplit, HasNoTag}
+use Rattle.sieve_syntax.proofs.Chains.{IsSoFar, chain_more, chain_ends}
 
 abbrev collation_named : List ℕ → Option Collation
 collation_named name = cond (pointwise nat_eq name (codes "i;octet")) (Some C.Octet) (cond (pointwise nat_eq name (codes "i;ascii-casemap")) (Some C.AsciiCasemap) (cond (pointwise nat_eq name (codes "i;ascii-numeric")) (Some C.AsciiNumeric) None))
@@ -141,27 +141,27 @@ pub not_there : (allowed taken : List TagGroup) (from : List Argument) → ((t :
 not_there allowed taken from none s to is free = none s to is.0
 
 -- a tag begins with a tag
-pub plain_none : (s : TagValue) (from to : List Argument) → IsTagValue s from to → IsPlain from → ⊥
-plain_none (S.Bound bound) from to at plain = subst IsPlain at plain
-plain_none (S.Comparator c) from to at plain = subst IsPlain at plain
-plain_none (S.Matching M.Is) from to at plain = subst IsPlain at plain
-plain_none (S.Matching M.Contains) from to at plain = subst IsPlain at plain
-plain_none (S.Matching M.Matches) from to at plain = subst IsPlain at plain
-plain_none (S.Matching (M.Value r)) from to at plain = subst IsPlain at plain
-plain_none (S.Matching (M.Count r)) from to at plain = subst IsPlain at plain
-plain_none (S.Part p) from to at plain = subst IsPlain at plain
-plain_none (S.Days n) from to at plain = subst IsPlain at plain
-plain_none (S.Seconds n) from to at plain = subst IsPlain at plain
-plain_none (S.Subject s) from to at plain = subst IsPlain at plain
-plain_none (S.From s) from to at plain = subst IsPlain at plain
-plain_none (S.Addresses xs) from to at plain = subst IsPlain at.1.0 plain
-plain_none S.Mime from to at plain = subst IsPlain at plain
-plain_none (S.Handle s) from to at plain = subst IsPlain at plain
-plain_none S.Copy from to at plain = subst IsPlain at plain
-plain_none S.Create from to at plain = subst IsPlain at plain
-plain_none (S.Zone zone) from to at plain = subst IsPlain at.1.0 plain
-plain_none S.OriginalZone from to at plain = subst IsPlain at plain
-plain_none (S.Flags xs) from to at plain = subst IsPlain at.1.0 plain
+pub plain_none : (s : TagValue) (from to : List Argument) → IsTagValue s from to → BeginsUntagged from → ⊥
+plain_none (S.Bound bound) from to at plain = subst BeginsUntagged at plain
+plain_none (S.Comparator c) from to at plain = subst BeginsUntagged at plain
+plain_none (S.Matching M.Is) from to at plain = subst BeginsUntagged at plain
+plain_none (S.Matching M.Contains) from to at plain = subst BeginsUntagged at plain
+plain_none (S.Matching M.Matches) from to at plain = subst BeginsUntagged at plain
+plain_none (S.Matching (M.Value r)) from to at plain = subst BeginsUntagged at plain
+plain_none (S.Matching (M.Count r)) from to at plain = subst BeginsUntagged at plain
+plain_none (S.Part p) from to at plain = subst BeginsUntagged at plain
+plain_none (S.Days n) from to at plain = subst BeginsUntagged at plain
+plain_none (S.Seconds n) from to at plain = subst BeginsUntagged at plain
+plain_none (S.Subject s) from to at plain = subst BeginsUntagged at plain
+plain_none (S.From s) from to at plain = subst BeginsUntagged at plain
+plain_none (S.Addresses xs) from to at plain = subst BeginsUntagged at.1.0 plain
+plain_none S.Mime from to at plain = subst BeginsUntagged at plain
+plain_none (S.Handle s) from to at plain = subst BeginsUntagged at plain
+plain_none S.Copy from to at plain = subst BeginsUntagged at plain
+plain_none S.Create from to at plain = subst BeginsUntagged at plain
+plain_none (S.Zone zone) from to at plain = subst BeginsUntagged at.1.0 plain
+plain_none S.OriginalZone from to at plain = subst BeginsUntagged at plain
+plain_none (S.Flags xs) from to at plain = subst BeginsUntagged at.1.0 plain
 
 -- nothing is among none
 pub none_there : (x : TagGroup) → Contains [] x → ⊥
@@ -172,7 +172,7 @@ pub first_there : (x : TagGroup) (xs : List TagGroup) → Contains (x ∷ xs) x
 first_there x xs = Contains-append_left (x ∷ []) xs x (Contains-push [] x)
 
 -- one group more
-pub apart_push : (xs : List TagGroup) (x : TagGroup) → AreApart xs → (Contains xs x → ⊥) → AreApart (xs ++ x ∷ [])
+pub apart_push : (xs : List TagGroup) (x : TagGroup) → AreGroupsApart xs → (Contains xs x → ⊥) → AreGroupsApart (xs ++ x ∷ [])
 apart_push [] x apart free = (λ among. none_there x among, tt)
 apart_push (y ∷ ys) x apart free = (λ among. free (either among), apart_push ys x apart.1 (λ among. free (Contains-append_right (y ∷ []) ys x among)))
   where
@@ -180,7 +180,7 @@ apart_push (y ∷ ys) x apart free = (λ among. free (either among), apart_push 
     either among = elim (Contains-push_cases ys x y among) [ inl there ↦ absurd (apart.0 there) | inr same ↦ subst (Contains (y ∷ ys)) (sym same) (first_there y ys) ]
 
 -- a group isn't among those before it
-pub apart_not : (xs : List TagGroup) (y : TagGroup) (ys : List TagGroup) → AreApart (xs ++ y ∷ ys) → Contains xs y → ⊥
+pub apart_not : (xs : List TagGroup) (y : TagGroup) (ys : List TagGroup) → AreGroupsApart (xs ++ y ∷ ys) → Contains xs y → ⊥
 apart_not [] y ys apart among = none_there y among
 apart_not (x ∷ xs) y ys apart among = elim (Contains-append_cases (x ∷ []) xs y among) [
   | inl first ↦ elim (Contains-push_cases [] x y first) [ inl none ↦ none_there y none | inr same ↦ apart.0 (subst (Contains (xs ++ y ∷ ys)) (sym same) (Contains-append_right xs (y ∷ ys) y (first_there y ys))) ]
@@ -193,14 +193,14 @@ map_middle (x ∷ xs) y ys = ap (λ l. group_of x ∷ l) (map_middle xs y ys)
 
 -- what the loop keeps
 pub record IsTaken (allowed : List TagGroup) (args : List Argument) (tag_values : List TagValue) (taken : List TagGroup) (rest : List Argument) : Type 0 where
-  pub so_far : IsSoFar (IsAllowed allowed) IsPlain args tag_values rest
+  pub so_far : IsSoFar (IsAllowed allowed) BeginsUntagged args tag_values rest
   pub taken_is : taken ≡ map group_of tag_values
-  pub apart : AreApart taken
+  pub apart : AreGroupsApart taken
 
 module _ (allowed : List TagGroup) (args : List Argument) where
   pub taken_more : (tag_values : List TagValue) (taken : List TagGroup) (rest : List Argument) → IsTaken allowed args tag_values taken rest → (s : TagValue) (after : List Argument) → IsAllowed allowed s rest after → (Contains taken (group_of s) → ⊥) → IsTaken allowed args (tag_values ++ s ∷ []) (taken ++ group_of s ∷ []) after
   taken_more tag_values taken rest kept s after at free = record {
-    so_far = chain_more (IsAllowed allowed) IsPlain args tag_values rest s after kept.so_far at (λ y to also. tag_value_only s y rest after to at.0 also.0) (plain_none s rest after at.0);
+    so_far = chain_more (IsAllowed allowed) BeginsUntagged args tag_values rest s after kept.so_far at (λ y to also. tag_value_only s y rest after to at.0 also.0) (plain_none s rest after at.0);
     taken_is = ap (λ l. l ++ group_of s ∷ []) kept.taken_is ∙ sym (map_middle tag_values s []);
     apart = apart_push taken (group_of s) kept.apart free;
   }
@@ -210,18 +210,18 @@ module _ (allowed : List TagGroup) (args : List Argument) where
   settled_more tag_values rest kept s after at free = subst (λ l. IsTaken allowed args (tag_values ++ s ∷ []) l after) (sym (map_middle tag_values s [])) (taken_more tag_values (map group_of tag_values) rest kept s after at free)
 
   -- no tag stands there: the tags are all
-  pub taken_ends : (tag_values : List TagValue) (taken : List TagGroup) (rest : List Argument) → IsTaken allowed args tag_values taken rest → IsPlain rest → IsSplit allowed args tag_values rest × ((others : List TagValue) (positional : List Argument) → IsSplit allowed args others positional → (others ≡ tag_values) × (positional ≡ rest))
+  pub taken_ends : (tag_values : List TagValue) (taken : List TagGroup) (rest : List Argument) → IsTaken allowed args tag_values taken rest → BeginsUntagged rest → IsSplit allowed args tag_values rest × ((others : List TagValue) (positional : List Argument) → IsSplit allowed args others positional → (others ≡ tag_values) × (positional ≡ rest))
   taken_ends tag_values taken rest kept plain = (
-    record { written = kept.so_far.joins; plain = plain; once = subst AreApart kept.taken_is kept.apart },
-    λ others positional is. chain_ends (IsAllowed allowed) IsPlain args tag_values rest kept.so_far (λ y to at. plain_none y rest to at.0 plain) others positional is.written is.plain,
+    record { written = kept.so_far.joins; plain = plain; once = subst AreGroupsApart kept.taken_is kept.apart },
+    λ others positional is. chain_ends (IsAllowed allowed) BeginsUntagged args tag_values rest kept.so_far (λ y to at. plain_none y rest to at.0 plain) others positional is.written is.plain,
   )
 
   -- a tag stands there, and no tag of a free group
-  pub taken_fails : (tag_values : List TagValue) (taken : List TagGroup) (rest : List Argument) → IsTaken allowed args tag_values taken rest → (IsPlain rest → ⊥) → ((s : TagValue) (to : List Argument) → IsAllowed allowed s rest to → (Contains taken (group_of s) → ⊥) → ⊥) → (others : List TagValue) (positional : List Argument) → IsSplit allowed args others positional → ⊥
+  pub taken_fails : (tag_values : List TagValue) (taken : List TagGroup) (rest : List Argument) → IsTaken allowed args tag_values taken rest → (BeginsUntagged rest → ⊥) → ((s : TagValue) (to : List Argument) → IsAllowed allowed s rest to → (Contains taken (group_of s) → ⊥) → ⊥) → (others : List TagValue) (positional : List Argument) → IsSplit allowed args others positional → ⊥
   taken_fails tag_values taken rest kept begun none others positional is = let found = kept.so_far.only others positional is.written is.plain in last found.0 found.1.0 found.1.1
     where
       last : (more : List TagValue) → others ≡ tag_values ++ more → Chain (IsAllowed allowed) more rest positional → ⊥
-      last [] same at = begun (subst IsPlain (sym at) is.plain)
+      last [] same at = begun (subst BeginsUntagged (sym at) is.plain)
       last (y ∷ ys) same chain =
-          let all : AreApart (map group_of tag_values ++ group_of y ∷ map group_of ys) = subst AreApart (ap (map group_of) same ∙ map_middle tag_values y ys) is.once in
+          let all : AreGroupsApart (map group_of tag_values ++ group_of y ∷ map group_of ys) = subst AreGroupsApart (ap (map group_of) same ∙ map_middle tag_values y ys) is.once in
           none y chain.0 chain.1.0 (λ among. apart_not (map group_of tag_values) (group_of y) (map group_of ys) all (subst (λ l. Contains l (group_of y)) kept.taken_is among))

@@ -1,25 +1,25 @@
 -- Lemmas on tests.
 use Rattle.std.proofs.Common.{◌≡◌, ◌++◌, ℕ, ◌≤◌, ◌<◌, ◌+◌, List, [], ◌∷◌, length, map, Result, Ok, Err, Vec, Global, refl, sym, ap, ◌∙◌, subst, arith, max, suc}
-use Rattle.sievelex.specs.declared.token.Mark.TheVariants as K
-use Rattle.sievesyntax.specs.declared.table.keyword.Keyword.{Keyword}
-use Rattle.sievesyntax.specs.declared.table.keyword.Keyword.TheVariants as W
-use Rattle.sievesyntax.specs.declared.parser.argument.Argument.{Argument}
-use Rattle.sievesyntax.specs.declared.table.capability.Capabilities.{Capabilities}
-use Rattle.sievesyntax.specs.Lexemes.{Lexeme, keyword, mark}
-use Rattle.sievesyntax.specs.Arguments.{IsArgument, AreArguments}
-use Rattle.sievesyntax.specs.Chains.{Chain}
-use Rattle.sievesyntax.specs.Table.{IsPlainTest}
-use Rattle.sievesyntax.specs.Tree.{TestTree, yes, no, looks, not_of, all_of, any_of, Tests, no_tests, test, list_depth, lists_depth, not_depth, nots_depth}
-use Rattle.sievesyntax.specs.declared.error.ReadError.{ReadError}
-use Rattle.sievesyntax.specs.declared.tree.test.Test.{Test}
-use Rattle.sievesyntax.specs.Parsing.{Parses, ParsesMore}
-use Rattle.sievesyntax.specs.View.{test_view, tests_view, tests_of}
-use Rattle.sievesyntax.specs.Valid.{MayTest, MayAllTest}
-use Rattle.sievesyntax.specs.Tests.{IsPlain, IsTest, AreTests, AreMoreTests, ReadsTest}
-use Rattle.sievesyntax.specs.Steps.{TakesTest, AsksAfter, TakesNextTest, TakesMoreTests, TakesTests}
-use Rattle.sievesyntax.proofs.Chains.{IsSoFar, chain_more, chain_ends, chain_fails}
-use Rattle.sievesyntax.proofs.ArgumentLemmas.{IsMarked, argument_longer}
-use Rattle.sievesyntax.proofs.FaultLemmas.{fault_on}
+use Rattle.sieve_lex.specs.declared.token.Mark.TheVariants as K
+use Rattle.sieve_syntax.specs.declared.table.keyword.Keyword.{Keyword}
+use Rattle.sieve_syntax.specs.declared.table.keyword.Keyword.TheVariants as W
+use Rattle.sieve_syntax.specs.declared.parser.argument.Argument.{Argument}
+use Rattle.sieve_syntax.specs.declared.table.capability.Capabilities.{Capabilities}
+use Rattle.sieve_syntax.specs.Lexemes.{Lexeme, keyword, mark}
+use Rattle.sieve_syntax.specs.Arguments.{IsArgument, AreArguments}
+use Rattle.sieve_syntax.specs.Chains.{Chain}
+use Rattle.sieve_syntax.specs.Table.{IsPlainTest}
+use Rattle.sieve_syntax.specs.Tree.{TestTree, yes, no, looks, not_of, all_of, any_of, Tests, no_tests, test, list_depth, lists_depth, not_depth, nots_depth}
+use Rattle.sieve_syntax.specs.declared.error.ParseError.{ParseError}
+use Rattle.sieve_syntax.specs.declared.tree.test.Test.{Test}
+use Rattle.sieve_syntax.specs.Parsing.{Parses, ParsesMore}
+use Rattle.sieve_syntax.specs.View.{test_view, tests_view, tests_of}
+use Rattle.sieve_syntax.specs.Valid.{MayTest, MayAllTest}
+use Rattle.sieve_syntax.specs.Tests.{IsLeafTest, IsTest, AreTests, AreMoreTests, ReadsTest}
+use Rattle.sieve_syntax.specs.Steps.{TakesTest, AsksAfter, TakesNextTest, TakesMoreTests, TakesTests}
+use Rattle.sieve_syntax.proofs.Chains.{IsSoFar, chain_more, chain_ends, chain_fails}
+use Rattle.sieve_syntax.proofs.ArgumentLemmas.{IsMarked, argument_longer}
+use Rattle.sieve_syntax.proofs.FaultLemmas.{fault_on}
 
 -- a test without tests in it
 abbrev pub IsLeaf : TestTree → Type 0
@@ -77,7 +77,7 @@ leaf_nots (not_of inner) leaf = absurd leaf
 leaf_nots (all_of inner) leaf = absurd leaf
 leaf_nots (any_of inner) leaf = absurd leaf
 
-plain_is : (t : TestTree) (name : Keyword) (after to : List Lexeme) → IsLeaf t → IsPlain t name after to → IsTest t name after to
+plain_is : (t : TestTree) (name : Keyword) (after to : List Lexeme) → IsLeaf t → IsLeafTest t name after to → IsTest t name after to
 plain_is yes name after to leaf is = is
 plain_is no name after to leaf is = is
 plain_is (looks check) name after to leaf is = is
@@ -86,7 +86,7 @@ plain_is (all_of inner) name after to leaf is = absurd leaf
 plain_is (any_of inner) name after to leaf is = absurd leaf
 
 module _ (name : Keyword) (no_not : name ≡ W.Not → ⊥) (no_allof : name ≡ W.AllOf → ⊥) (no_anyof : name ≡ W.AnyOf → ⊥) (after : List Lexeme) where
-  pub is_plain : (t : TestTree) (to : List Lexeme) → IsTest t name after to → IsPlain t name after to
+  pub is_plain : (t : TestTree) (to : List Lexeme) → IsTest t name after to → IsLeafTest t name after to
   is_plain yes to is = is
   is_plain no to is = is
   is_plain (looks check) to is = is
@@ -308,7 +308,7 @@ module _ (granted : Capabilities) (lists nots : ℕ) (from inside : List Lexeme)
           )
 
       -- what the tests after the first one come to
-      pub tests_after : (one : List Test) (to : List Lexeme) (r : Result (Vec Test Global) ReadError) → map test_view one ≡ first ∷ []
+      pub tests_after : (one : List Test) (to : List Lexeme) (r : Result (Vec Test Global) ParseError) → map test_view one ≡ first ∷ []
           → ParsesMore (λ all. map test_view all.items) (TakesMoreTests granted fewer nots) (map test_view one) next to r → Parses (λ v. tests_view v.items) (TakesTests granted lists nots) from to r
       tests_after one to (Ok all) is more =
           tests_found (map test_view all.items) to (more.0.0, (more.0.1.0 ∙ ap (λ xs. xs ++ more.0.0) is, more.0.1.1)) (λ trees end chain. let same = more.1 trees end chain in (same.0 ∙ ap (λ xs. xs ++ trees) is, same.1))
@@ -349,7 +349,7 @@ pub arguments_longer : (args : List Argument) (from to : List Lexeme) → Chain 
 arguments_longer [] from to same = omega (arith, ap length same)
 arguments_longer (a ∷ as') from to chain = omega (arith, argument_longer a from chain.0 chain.1.0, arguments_longer as' chain.0 to chain.1.1)
 
-plain_longer : (t : TestTree) (name : Keyword) (after to : List Lexeme) → IsPlain t name after to → length to ≤ length after
+plain_longer : (t : TestTree) (name : Keyword) (after to : List Lexeme) → IsLeafTest t name after to → length to ≤ length after
 plain_longer t name after to is = omega (arith, arguments_longer is.0 after to is.1.0.spelled)
 
 mutual

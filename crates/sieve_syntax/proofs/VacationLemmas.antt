@@ -4,18 +4,18 @@ use Rattle.std.proofs.Common.{◌<◌, ◌+◌, length, take, get_or, add-one}
 use Rattle.std.specs.Prelude.{Result, IfOk}
 use Rattle.std.proofs.Math.Seq.{take-suc}
 use Rattle.octets.proofs.Lists.{some_is, some_pair}
-use Rattle.addrparts.specs.declared.address.Addr.{Addr}
-use Rattle.addrparts.proofs.Outbounds.{outbound-again}
-use Rattle.sievesyntax.specs.declared.tree.vacation.VacArgs.{VacArgs}
-use Rattle.sievesyntax.specs.declared.tree.vacation.ReplyFrom.{ReplyFrom}
-use Rattle.sievesyntax.specs.declared.parser.argument.Argument.{Argument}
-use Rattle.sievesyntax.specs.declared.table.tag_group.TagValue.{TagValue}
-use Rattle.sievesyntax.specs.TagValues.{from_in, addresses_in}
-use Rattle.sievesyntax.specs.declared.tree.action.FileInto.{FileInto}
-use Rattle.sievesyntax.specs.declared.tree.action.Redirect.{Redirect}
-use Rattle.sievesyntax.specs.Positional.{one_text}
-use Rattle.sievesyntax.specs.Table.{SaysFileInto, SaysRedirect}
-use Rattle.sievesyntax.specs.Vacations.{IsNamedAs, Names, IsReplyFrom, IsGivenFrom, AreNamed, AddsNamed, SaysVacation}
+use Rattle.mail_address.specs.declared.address.Addr.{Addr}
+use Rattle.mail_address.proofs.Outbounds.{outbound-again}
+use Rattle.sieve_syntax.specs.declared.tree.vacation.VacationArgs.{VacationArgs}
+use Rattle.sieve_syntax.specs.declared.tree.vacation.ReplyFrom.{ReplyFrom}
+use Rattle.sieve_syntax.specs.declared.parser.argument.Argument.{Argument}
+use Rattle.sieve_syntax.specs.declared.table.tag_group.TagValue.{TagValue}
+use Rattle.sieve_syntax.specs.TagValues.{from_in, addresses_in}
+use Rattle.sieve_syntax.specs.declared.tree.action.FileInto.{FileInto}
+use Rattle.sieve_syntax.specs.declared.tree.action.Redirect.{Redirect}
+use Rattle.sieve_syntax.specs.Positional.{one_text}
+use Rattle.sieve_syntax.specs.Table.{SaysFileInto, SaysRedirect}
+use Rattle.sieve_syntax.specs.Vacations.{IsNamedAs, Names, IsReplyFrom, IsGivenFrom, AreNamed, AddsNamed, SaysVacation}
 
 -- a text names one address with one display
 pub outbound_only : (text d e : List ℕ) (a b : Addr) → IsNamedAs text d a → IsNamedAs text e b → (d ≡ e) × (a ≡ b)
@@ -81,7 +81,7 @@ given_from_only (Some text) (Some one) None are also = absurd also
 given_from_only (Some text) (Some one) (Some two) are also = ap Some (reply_from_only text one two are also)
 
 -- tags and positional arguments say one thing at most
-pub vacation_same : (tag_values : List TagValue) (positional : List Argument) (x y : VacArgs) → SaysVacation tag_values positional x → SaysVacation tag_values positional y → x ≡ y
+pub vacation_same : (tag_values : List TagValue) (positional : List Argument) (x y : VacationArgs) → SaysVacation tag_values positional x → SaysVacation tag_values positional y → x ≡ y
 vacation_same tag_values positional x y a b =
     let days : x.days ≡ y.days = a.days ∙ sym b.days in
     let seconds : x.seconds ≡ y.seconds = a.seconds ∙ sym b.seconds in

@@ -1,14 +1,14 @@
 -- The view, case by case.
 use Rattle.std.proofs.Common.{◌≡◌, ◌∙◌, ap, ℕ, List, [], ◌∷◌, ◌++◌, map, rules, Vec, Box, Global}
 use Rattle.std.proofs.lemmas.List.{map-append}
-use Rattle.sievesyntax.specs.declared.tree.action.Action.{Action}
-use Rattle.sievesyntax.specs.declared.tree.checks.Check.{Check}
-use Rattle.sievesyntax.specs.declared.tree.test.Test.{Test}
-use Rattle.sievesyntax.specs.declared.tree.test.Test as Test
-use Rattle.sievesyntax.specs.declared.tree.command.Branch.{Branch, roll-Branch}
-use Rattle.sievesyntax.specs.declared.tree.command.Command.{Command, Require, If, Stop, Act, the_lemmas}
-use Rattle.sievesyntax.specs.Tree.{require, choose, stop, act, yes, no, looks, not_of, all_of, any_of}
-use Rattle.sievesyntax.specs.View.{test_view, tests_view, branch_view, command_view, commands_view, branches_view}
+use Rattle.sieve_syntax.specs.declared.tree.action.Action.{Action}
+use Rattle.sieve_syntax.specs.declared.tree.checks.MailCheck.{MailCheck}
+use Rattle.sieve_syntax.specs.declared.tree.test.Test.{Test}
+use Rattle.sieve_syntax.specs.declared.tree.test.Test as Test
+use Rattle.sieve_syntax.specs.declared.tree.command.Branch.{Branch, roll-Branch}
+use Rattle.sieve_syntax.specs.declared.tree.command.Command.{Command, Require, If, Stop, Act, the_lemmas}
+use Rattle.sieve_syntax.specs.Tree.{require, choose, stop, act, yes, no, looks, not_of, all_of, any_of}
+use Rattle.sieve_syntax.specs.View.{test_view, tests_view, branch_view, command_view, commands_view, branches_view}
 
 pub view-True : test_view Test.True ≡ yes
 view-True = search (rules, Test.the_lemmas)
@@ -16,7 +16,7 @@ view-True = search (rules, Test.the_lemmas)
 pub view-False : test_view Test.False ≡ no
 view-False = search (rules, Test.the_lemmas)
 
-pub view-Check : (check : Check) → test_view (Test.Check check) ≡ looks check
+pub view-Check : (check : MailCheck) → test_view (Test.Check check) ≡ looks check
 view-Check check = search (rules, Test.the_lemmas)
 
 pub view-Not : (inner : Box Test Global) → test_view (Test.Not inner) ≡ not_of (test_view inner.value)

@@ -1,10 +1,10 @@
 -- Arguments, as the grammar alone has them (RFC 5228, 8.2).
 use Rattle.std.specs.Prelude.{◌≡◌, ℕ, List, [], ◌∷◌}
-use Rattle.sievelex.specs.declared.token.Mark.TheVariants as K
-use Rattle.sievesyntax.specs.declared.parser.argument.Argument.{Argument}
-use Rattle.sievesyntax.specs.declared.parser.argument.Argument.TheVariants as A
-use Rattle.sievesyntax.specs.Chains.{Chain}
-use Rattle.sievesyntax.specs.Lexemes.{Lexeme, keyword, tag, number, text, mark, misfit}
+use Rattle.sieve_lex.specs.declared.token.Mark.TheVariants as K
+use Rattle.sieve_syntax.specs.declared.parser.argument.Argument.{Argument}
+use Rattle.sieve_syntax.specs.declared.parser.argument.Argument.TheVariants as A
+use Rattle.sieve_syntax.specs.Chains.{Chain}
+use Rattle.sieve_syntax.specs.Lexemes.{Lexeme, keyword, tag, number, text, mark, misfit}
 
 -- a string after the first of a list
 abbrev pub IsOther : List ℕ → List Lexeme → List Lexeme → Type 0
@@ -23,17 +23,17 @@ IsArgument (A.Text string) from to = from ≡ text string ∷ to
 IsArgument (A.Strings strings) from to = (rest : List Lexeme) × ((from ≡ mark K.OpenBracket ∷ rest) × AreStrings strings rest to)
 
 -- no argument begins here
-abbrev pub IsEnd : List Lexeme → Type 0
-IsEnd [] = Unit {0}
-IsEnd (keyword _ ∷ _) = Unit {0}
-IsEnd (tag _ ∷ _) = ⊥
-IsEnd (number _ ∷ _) = ⊥
-IsEnd (text _ ∷ _) = ⊥
-IsEnd (misfit ∷ _) = ⊥
-IsEnd (mark K.OpenBracket ∷ _) = ⊥
-IsEnd (mark _ ∷ _) = Unit {0}
+abbrev pub IsArgumentsEnd : List Lexeme → Type 0
+IsArgumentsEnd [] = Unit {0}
+IsArgumentsEnd (keyword _ ∷ _) = Unit {0}
+IsArgumentsEnd (tag _ ∷ _) = ⊥
+IsArgumentsEnd (number _ ∷ _) = ⊥
+IsArgumentsEnd (text _ ∷ _) = ⊥
+IsArgumentsEnd (misfit ∷ _) = ⊥
+IsArgumentsEnd (mark K.OpenBracket ∷ _) = ⊥
+IsArgumentsEnd (mark _ ∷ _) = Unit {0}
 
 -- all the arguments that come first
 pub record AreArguments (args : List Argument) (from to : List Lexeme) : Type 0 where
   pub spelled : Chain IsArgument args from to
-  pub all : IsEnd to
+  pub all : IsArgumentsEnd to

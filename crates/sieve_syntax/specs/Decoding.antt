@@ -1,11 +1,11 @@
 -- Which strings of a script are decoded (RFC 5228, 2.4.2.4 and 3.2): those after the `require` that names `encoded-character`.
 use Rattle.std.specs.Prelude.{ℕ, Bool, cond, nat_eq, List, [], ◌∷◌, codes}
 use Rattle.std.specs.Cmp.Lexicographic.{pointwise}
-use Rattle.sievelex.specs.declared.token.Mark.TheVariants as K
-use Rattle.sievesyntax.specs.declared.table.keyword.Keyword.TheVariants as W
-use Rattle.sievesyntax.specs.declared.parser.decoding.Decoding.{Decoding}
-use Rattle.sievesyntax.specs.declared.parser.decoding.Decoding.TheVariants.{Open, Named, On, Off}
-use Rattle.sievesyntax.specs.Lexemes.{Lexeme, keyword, text, mark, decoded_lexeme}
+use Rattle.sieve_lex.specs.declared.token.Mark.TheVariants as K
+use Rattle.sieve_syntax.specs.declared.table.keyword.Keyword.TheVariants as W
+use Rattle.sieve_syntax.specs.declared.parser.decoding.Decoding.{Decoding}
+use Rattle.sieve_syntax.specs.declared.parser.decoding.Decoding.TheVariants.{Open, Named, On, Off}
+use Rattle.sieve_syntax.specs.Lexemes.{Lexeme, keyword, text, mark, decoded_lexeme}
 
 -- the string that names the extension
 abbrev pub is_encoded_character : List ℕ → Bool
@@ -23,17 +23,17 @@ decoding_after On lexeme = On
 decoding_after Off lexeme = Off
 
 -- what a lexeme is read as
-abbrev pub seen : Decoding → Lexeme → Lexeme
-seen Open lexeme = lexeme
-seen Named lexeme = lexeme
-seen On lexeme = decoded_lexeme lexeme
-seen Off lexeme = lexeme
+abbrev pub lexeme_as_read : Decoding → Lexeme → Lexeme
+lexeme_as_read Open lexeme = lexeme
+lexeme_as_read Named lexeme = lexeme
+lexeme_as_read On lexeme = decoded_lexeme lexeme
+lexeme_as_read Off lexeme = lexeme
 
 -- what a list of lexemes is read as
-abbrev pub seen_from : Decoding → List Lexeme → List Lexeme
-seen_from decoding [] = []
-seen_from decoding (lexeme ∷ more) = seen decoding lexeme ∷ seen_from (decoding_after decoding lexeme) more
+abbrev pub lexemes_as_read : Decoding → List Lexeme → List Lexeme
+lexemes_as_read decoding [] = []
+lexemes_as_read decoding (lexeme ∷ more) = lexeme_as_read decoding lexeme ∷ lexemes_as_read (decoding_after decoding lexeme) more
 
 -- what the lexemes of a script are read as
 abbrev pub as_read : List Lexeme → List Lexeme
-as_read lexemes = seen_from Open lexemes
+as_read lexemes = lexemes_as_read Open lexemes

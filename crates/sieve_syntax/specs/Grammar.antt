@@ -1,14 +1,14 @@
 -- The grammar of commands (RFC 5228, 8.2).
 use Rattle.std.specs.Prelude.{◌≡◌, ◌⊎◌, List, [], ◌∷◌}
-use Rattle.sievelex.specs.declared.token.Mark.TheVariants as K
-use Rattle.sievesyntax.specs.declared.table.keyword.Keyword.{Keyword}
-use Rattle.sievesyntax.specs.declared.table.keyword.Keyword.TheVariants as W
-use Rattle.sievesyntax.specs.declared.parser.argument.Argument.{Argument}
-use Rattle.sievesyntax.specs.Lexemes.{Lexeme, keyword, mark}
-use Rattle.sievesyntax.specs.Arguments.{AreArguments}
-use Rattle.sievesyntax.specs.Table.{IsPlainCommand}
-use Rattle.sievesyntax.specs.Tests.{Headed, ReadsTest}
-use Rattle.sievesyntax.specs.Tree.{TestTree, yes, CommandTree, require, choose, stop, act, Branches, no_branches, branch, Commands, no_commands, command}
+use Rattle.sieve_lex.specs.declared.token.Mark.TheVariants as K
+use Rattle.sieve_syntax.specs.declared.table.keyword.Keyword.{Keyword}
+use Rattle.sieve_syntax.specs.declared.table.keyword.Keyword.TheVariants as W
+use Rattle.sieve_syntax.specs.declared.parser.argument.Argument.{Argument}
+use Rattle.sieve_syntax.specs.Lexemes.{Lexeme, keyword, mark}
+use Rattle.sieve_syntax.specs.Arguments.{AreArguments}
+use Rattle.sieve_syntax.specs.Table.{IsPlainCommand}
+use Rattle.sieve_syntax.specs.Tests.{Headed, ReadsTest}
+use Rattle.sieve_syntax.specs.Tree.{TestTree, yes, CommandTree, require, choose, stop, act, Branches, no_branches, branch, Commands, no_commands, command}
 
 -- this comes first, in braces
 abbrev pub Braced : (List Lexeme → List Lexeme → Type 0) → List Lexeme → List Lexeme → Type 0

@@ -1,14 +1,14 @@
 -- Languages: what a text may say and require, and what its actions cancel. The grammar is one for all of them.
 use Rattle.std.specs.Prelude.{ℕ, Bool, true, false, cond, not, ◌||◌, List, map, codes}
-use Rattle.sievelex.specs.declared.token.Content.{Content}
-use Rattle.sievelex.specs.declared.token.Content.TheVariants as C
-use Rattle.sievesyntax.specs.declared.table.tag.Tag.{Tag}
-use Rattle.sievesyntax.specs.declared.table.tag.Tag.TheVariants as T
-use Rattle.sievesyntax.specs.declared.tree.action.Action.{Action}
-use Rattle.sievesyntax.specs.declared.tree.action.Action.TheVariants as D
-use Rattle.sievesyntax.specs.Decoding.{as_read}
-use Rattle.sievesyntax.specs.Lexemes.{keyword_of, tag_of, Lexeme, keyword, tag, number, text, mark}
-use Rattle.sievesyntax.specs.Valid.{is_named, is_capability}
+use Rattle.sieve_lex.specs.declared.token.Content.{Content}
+use Rattle.sieve_lex.specs.declared.token.Content.TheVariants as C
+use Rattle.sieve_syntax.specs.declared.table.tag.Tag.{Tag}
+use Rattle.sieve_syntax.specs.declared.table.tag.Tag.TheVariants as T
+use Rattle.sieve_syntax.specs.declared.tree.action.Action.{Action}
+use Rattle.sieve_syntax.specs.declared.tree.action.Action.TheVariants as D
+use Rattle.sieve_syntax.specs.Decoding.{as_read}
+use Rattle.sieve_syntax.specs.Lexemes.{sieve_keyword_of, tag_of, Lexeme, keyword, tag, number, text, mark}
+use Rattle.sieve_syntax.specs.Valid.{is_capability_named, is_capability}
 
 -- which tags a language has, which capabilities its `require` knows, whether it decodes strings, and which actions cancel the
 -- implicit keep
@@ -24,7 +24,7 @@ tag_in language t = cond (language.has t) t T.Other
 
 -- what the grammar sees of a token in a language
 abbrev pub lexeme_in : Language → Content → Lexeme
-lexeme_in language (C.Identifier name) = keyword (keyword_of name)
+lexeme_in language (C.Identifier name) = keyword (sieve_keyword_of name)
 lexeme_in language (C.Tag name) = tag (tag_in language (tag_of name))
 lexeme_in language (C.Number n) = number n
 lexeme_in language (C.Text value) = text value
@@ -78,11 +78,11 @@ is_tag_before _ = false
 
 abbrev pub is_capability_before : List ℕ → Bool
 is_capability_before name =
-    is_named (codes "fileinto") name
-    || (is_named (codes "envelope") name
-    || (is_named (codes "vacation") name
-    || (is_named (codes "comparator-i;octet") name
-    || is_named (codes "comparator-i;ascii-casemap") name)))
+    is_capability_named (codes "fileinto") name
+    || (is_capability_named (codes "envelope") name
+    || (is_capability_named (codes "vacation") name
+    || (is_capability_named (codes "comparator-i;octet") name
+    || is_capability_named (codes "comparator-i;ascii-casemap") name)))
 
 -- all but `vacation` cancelled the implicit keep (RFC 5228, 2.10.2); what sets flags isn't an action of that language
 abbrev pub cancels_before : Action → Bool
@@ -95,8 +95,8 @@ cancels_before (D.SetFlag texts) = false
 cancels_before (D.AddFlag texts) = false
 cancels_before (D.RemoveFlag texts) = false
 
-abbrev pub before : Language
-before = record { has = is_tag_before; knows = is_capability_before; decodes = false; cancels = cancels_before }
+abbrev pub language_before_copy : Language
+language_before_copy = record { has = is_tag_before; knows = is_capability_before; decodes = false; cancels = cancels_before }
 
 -- ---- the language before `subaddress` (RFC 5233), `relational` (RFC 5231), `comparator-i;ascii-numeric` (RFC 4790, 9.1),
 -- `encoded-character` (RFC 5228, 2.4.2.4) and `mailbox` (RFC 5490)
@@ -114,13 +114,13 @@ is_former_tag _ = true
 
 abbrev pub is_former_capability : List ℕ → Bool
 is_former_capability name =
-    is_named (codes "fileinto") name
-    || (is_named (codes "envelope") name
-    || (is_named (codes "vacation") name
-    || (is_named (codes "comparator-i;octet") name
-    || (is_named (codes "comparator-i;ascii-casemap") name
-    || (is_named (codes "copy") name
-    || is_named (codes "vacation-seconds") name)))))
+    is_capability_named (codes "fileinto") name
+    || (is_capability_named (codes "envelope") name
+    || (is_capability_named (codes "vacation") name
+    || (is_capability_named (codes "comparator-i;octet") name
+    || (is_capability_named (codes "comparator-i;ascii-casemap") name
+    || (is_capability_named (codes "copy") name
+    || is_capability_named (codes "vacation-seconds") name)))))
 
 -- actions cancelled what they cancel today
 abbrev pub former : Language
@@ -136,18 +136,18 @@ is_undated_tag _ = true
 
 abbrev pub is_undated_capability : List ℕ → Bool
 is_undated_capability name =
-    is_named (codes "fileinto") name
-    || (is_named (codes "envelope") name
-    || (is_named (codes "vacation") name
-    || (is_named (codes "comparator-i;octet") name
-    || (is_named (codes "comparator-i;ascii-casemap") name
-    || (is_named (codes "copy") name
-    || (is_named (codes "vacation-seconds") name
-    || (is_named (codes "subaddress") name
-    || (is_named (codes "relational") name
-    || (is_named (codes "comparator-i;ascii-numeric") name
-    || (is_named (codes "encoded-character") name
-    || is_named (codes "mailbox") name))))))))))
+    is_capability_named (codes "fileinto") name
+    || (is_capability_named (codes "envelope") name
+    || (is_capability_named (codes "vacation") name
+    || (is_capability_named (codes "comparator-i;octet") name
+    || (is_capability_named (codes "comparator-i;ascii-casemap") name
+    || (is_capability_named (codes "copy") name
+    || (is_capability_named (codes "vacation-seconds") name
+    || (is_capability_named (codes "subaddress") name
+    || (is_capability_named (codes "relational") name
+    || (is_capability_named (codes "comparator-i;ascii-numeric") name
+    || (is_capability_named (codes "encoded-character") name
+    || is_capability_named (codes "mailbox") name))))))))))
 
 -- strings were decoded, and actions cancelled what they cancel today
 abbrev pub undated : Language
@@ -161,19 +161,19 @@ is_unflagged_tag _ = true
 
 abbrev pub is_unflagged_capability : List ℕ → Bool
 is_unflagged_capability name =
-    is_named (codes "fileinto") name
-    || (is_named (codes "envelope") name
-    || (is_named (codes "vacation") name
-    || (is_named (codes "comparator-i;octet") name
-    || (is_named (codes "comparator-i;ascii-casemap") name
-    || (is_named (codes "copy") name
-    || (is_named (codes "vacation-seconds") name
-    || (is_named (codes "subaddress") name
-    || (is_named (codes "relational") name
-    || (is_named (codes "comparator-i;ascii-numeric") name
-    || (is_named (codes "encoded-character") name
-    || (is_named (codes "mailbox") name
-    || is_named (codes "date") name)))))))))))
+    is_capability_named (codes "fileinto") name
+    || (is_capability_named (codes "envelope") name
+    || (is_capability_named (codes "vacation") name
+    || (is_capability_named (codes "comparator-i;octet") name
+    || (is_capability_named (codes "comparator-i;ascii-casemap") name
+    || (is_capability_named (codes "copy") name
+    || (is_capability_named (codes "vacation-seconds") name
+    || (is_capability_named (codes "subaddress") name
+    || (is_capability_named (codes "relational") name
+    || (is_capability_named (codes "comparator-i;ascii-numeric") name
+    || (is_capability_named (codes "encoded-character") name
+    || (is_capability_named (codes "mailbox") name
+    || is_capability_named (codes "date") name)))))))))))
 
 -- strings were decoded, and actions cancelled what they cancel today
 abbrev pub unflagged : Language

@@ -2,24 +2,24 @@
 use Rattle.std.specs.Prelude.{◌≡◌, ℕ, Bool, cond, nat_eq, Option, Some, None, List, [], ◌∷◌, map, codes}
 use Rattle.std.specs.Cmp.Lexicographic.{pointwise}
 use Rattle.octets.specs.Ascii.{lowered}
-use Rattle.sievelex.specs.declared.token.Mark.{Mark}
-use Rattle.sievelex.specs.declared.token.Content.{Content}
-use Rattle.sievelex.specs.declared.token.Content.TheVariants as C
-use Rattle.sievelex.specs.Encoded.{decoded}
-use Rattle.sievesyntax.specs.declared.table.keyword.Keyword.{Keyword}
-use Rattle.sievesyntax.specs.declared.table.keyword.Keyword.TheVariants as W
-use Rattle.sievesyntax.specs.declared.table.tag.Tag.{Tag}
-use Rattle.sievesyntax.specs.declared.table.tag.Tag.TheVariants as T
-use Rattle.sievesyntax.specs.declared.parser.lexeme.Lexeme.{Lexeme as BorrowedLexeme}
-use Rattle.sievesyntax.specs.declared.parser.lexeme.Lexeme.TheVariants as S
+use Rattle.sieve_lex.specs.declared.token.Mark.{Mark}
+use Rattle.sieve_lex.specs.declared.token.Content.{Content}
+use Rattle.sieve_lex.specs.declared.token.Content.TheVariants as C
+use Rattle.sieve_lex.specs.Encoded.{decoded}
+use Rattle.sieve_syntax.specs.declared.table.keyword.Keyword.{Keyword}
+use Rattle.sieve_syntax.specs.declared.table.keyword.Keyword.TheVariants as W
+use Rattle.sieve_syntax.specs.declared.table.tag.Tag.{Tag}
+use Rattle.sieve_syntax.specs.declared.table.tag.Tag.TheVariants as T
+use Rattle.sieve_syntax.specs.declared.parser.lexeme.Lexeme.{Lexeme as BorrowedLexeme}
+use Rattle.sieve_syntax.specs.declared.parser.lexeme.Lexeme.TheVariants as S
 
 -- names are compared ignoring ASCII case (RFC 5228, 2.1)
 abbrev pub same_name : List ℕ → List ℕ → Bool
 same_name name other = pointwise nat_eq (lowered name) (lowered other)
 
 -- the command or test with this name
-abbrev pub keyword_of : List ℕ → Keyword
-keyword_of name =
+abbrev pub sieve_keyword_of : List ℕ → Keyword
+sieve_keyword_of name =
     cond (same_name name (codes "require")) W.Require
     (cond (same_name name (codes "if")) W.If
     (cond (same_name name (codes "elsif")) W.Elsif
@@ -95,7 +95,7 @@ Lexemes = List Lexeme
 
 -- what the grammar sees of a token: the case of its name is lost
 abbrev pub lexeme_of : Content → Lexeme
-lexeme_of (C.Identifier name) = keyword (keyword_of name)
+lexeme_of (C.Identifier name) = keyword (sieve_keyword_of name)
 lexeme_of (C.Tag name) = tag (tag_of name)
 lexeme_of (C.Number n) = number n
 lexeme_of (C.Text value) = text value
@@ -106,13 +106,13 @@ abbrev pub lexemes_of : List Content → List Lexeme
 lexemes_of contents = map lexeme_of contents
 
 -- a string by what it stands for, if it stands for anything
-abbrev pub text_of : Option (List ℕ) → Lexeme
-text_of None = misfit
-text_of (Some value) = text value
+abbrev pub text_lexeme_of : Option (List ℕ) → Lexeme
+text_lexeme_of None = misfit
+text_lexeme_of (Some value) = text value
 
 -- a lexeme whose string is decoded (RFC 5228, 2.4.2.4)
 abbrev pub decoded_lexeme : Lexeme → Lexeme
-decoded_lexeme (text written) = text_of (decoded written)
+decoded_lexeme (text written) = text_lexeme_of (decoded written)
 decoded_lexeme (keyword w) = keyword w
 decoded_lexeme (tag t) = tag t
 decoded_lexeme (number n) = number n
@@ -125,13 +125,13 @@ lexeme_view (S.Keyword w) = keyword w
 lexeme_view (S.Tag t) = tag t
 lexeme_view (S.Number n) = number n
 lexeme_view (S.Text value) = text value.now
-lexeme_view (S.Encoded written) = text_of (decoded written.now)
+lexeme_view (S.Encoded written) = text_lexeme_of (decoded written.now)
 lexeme_view (S.Mark m) = mark m
 
 -- the first lexeme, as a borrowed one; none if there are no lexemes
-abbrev pub IsFirst : Option BorrowedLexeme → List Lexeme → Type 0
-IsFirst None lexemes = lexemes ≡ []
-IsFirst (Some first) lexemes = (more : List Lexeme) × (lexemes ≡ lexeme_view first ∷ more)
+abbrev pub IsFirstLexeme : Option BorrowedLexeme → List Lexeme → Type 0
+IsFirstLexeme None lexemes = lexemes ≡ []
+IsFirstLexeme (Some first) lexemes = (more : List Lexeme) × (lexemes ≡ lexeme_view first ∷ more)
 
 -- these lexemes after one that was read before them; nothing if none was
 abbrev pub with_first : Option BorrowedLexeme → List Lexeme → List Lexeme

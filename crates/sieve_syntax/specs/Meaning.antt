@@ -1,16 +1,16 @@
 -- What commands do, for any truth of the tests that look at the message and at what has been done so far (RFC 5228, 2.10, 3; RFC 5232, 4).
 use Rattle.std.specs.Prelude.{Bool, true, false, not, cond, ◌&&◌, ◌||◌, List, Option}
-use Rattle.mailflags.specs.declared.placement.Placement.{Placement}
-use Rattle.addrparts.specs.declared.address.Addr.{Addr}
-use Rattle.sievesyntax.specs.declared.tree.checks.Check.{Check}
-use Rattle.sievesyntax.specs.declared.tree.vacation.VacArgs.{VacArgs}
-use Rattle.sievesyntax.specs.RunState.{RunState, at_first, Failure, Flow, and_then, kept_implicitly, performed}
-use Rattle.sievesyntax.specs.RunState as F
-use Rattle.sievesyntax.specs.Tree.{TestTree, yes, no, looks, not_of, all_of, any_of, Tests, no_tests, test, CommandTree, require, choose, stop, act, Branches, no_branches, branch, Commands, no_commands, command}
+use Rattle.mail_flags.specs.declared.placement.Placement.{Placement}
+use Rattle.mail_address.specs.declared.address.Addr.{Addr}
+use Rattle.sieve_syntax.specs.declared.tree.checks.MailCheck.{MailCheck}
+use Rattle.sieve_syntax.specs.declared.tree.vacation.VacationArgs.{VacationArgs}
+use Rattle.sieve_syntax.specs.RunState.{RunState, at_first, Failure, Flow, and_then, kept_implicitly, performed}
+use Rattle.sieve_syntax.specs.RunState as F
+use Rattle.sieve_syntax.specs.Tree.{TestTree, yes, no, looks, not_of, all_of, any_of, Tests, no_tests, test, CommandTree, require, choose, stop, act, Branches, no_branches, branch, Commands, no_commands, command}
 
 -- whether a test holds (RFC 5228, 5)
 abbrev mutual
-  pub holds : (Check → Bool) → TestTree → Bool
+  pub holds : (MailCheck → Bool) → TestTree → Bool
   holds truth yes = true
   holds truth no = false
   holds truth (looks check) = truth check
@@ -19,29 +19,29 @@ abbrev mutual
   holds truth (any_of inner) = some_holds truth inner
 
   -- each of these tests
-  pub all_hold : (Check → Bool) → Tests → Bool
+  pub all_hold : (MailCheck → Bool) → Tests → Bool
   all_hold truth no_tests = true
   all_hold truth (test first more) = holds truth first && all_hold truth more
 
   -- some of these tests
-  pub some_holds : (Check → Bool) → Tests → Bool
+  pub some_holds : (MailCheck → Bool) → Tests → Bool
   some_holds truth no_tests = false
   some_holds truth (test first more) = holds truth first || some_holds truth more
 
 -- what commands do, in turn (RFC 5228, 3)
 abbrev mutual
-  pub does : (RunState → Check → Bool) → CommandTree → RunState → Flow
+  pub does : (RunState → MailCheck → Bool) → CommandTree → RunState → Flow
   does truth (require names) so_far = F.Going so_far
   does truth (choose branches) so_far = chooses truth branches so_far
   does truth stop so_far = F.Stopped so_far
   does truth (act action) so_far = performed action so_far
 
   -- the first block whose test holds is run, and no other: a test changes nothing, so all are evaluated in one state
-  pub chooses : (RunState → Check → Bool) → Branches → RunState → Flow
+  pub chooses : (RunState → MailCheck → Bool) → Branches → RunState → Flow
   chooses truth no_branches so_far = F.Going so_far
   chooses truth (branch condition block more) so_far = cond (holds (truth so_far) condition) (does_all truth block so_far) (chooses truth more so_far)
 
-  pub does_all : (RunState → Check → Bool) → Commands → RunState → Flow
+  pub does_all : (RunState → MailCheck → Bool) → Commands → RunState → Flow
   does_all truth no_commands so_far = F.Going so_far
   does_all truth (command first more) so_far = and_then (does truth first so_far) (does_all truth more)
 
@@ -50,7 +50,7 @@ abbrev mutual
 pub record Actions : Type 0 where
   pub filed : List Placement
   pub sent : List Addr
-  pub reply : Option VacArgs
+  pub reply : Option VacationArgs
 
 -- the outcome of a script: if it failed, nothing of it is done
 pub data Outcome : Type 0 where
@@ -66,11 +66,11 @@ done_by (F.Stopped so_far) = Done (actions_of so_far)
 done_by (F.Failed failure) = Failed failure
 
 -- the implicit keep comes last
-abbrev pub ended : Flow → Outcome
-ended (F.Going so_far) = done_by (kept_implicitly so_far)
-ended (F.Stopped so_far) = done_by (kept_implicitly so_far)
-ended (F.Failed failure) = Failed failure
+abbrev pub outcome_after : Flow → Outcome
+outcome_after (F.Going so_far) = done_by (kept_implicitly so_far)
+outcome_after (F.Stopped so_far) = done_by (kept_implicitly so_far)
+outcome_after (F.Failed failure) = Failed failure
 
 -- the outcome of a script, if the tests that look at the message and at what has been done so far have this truth
-abbrev pub outcome : (RunState → Check → Bool) → Commands → Outcome
-outcome truth commands = ended (does_all truth commands at_first)
+abbrev pub outcome : (RunState → MailCheck → Bool) → Commands → Outcome
+outcome truth commands = outcome_after (does_all truth commands at_first)

@@ -2,10 +2,10 @@
 use Rattle.std.specs.Prelude.{◌≡◌, ℕ, ◌==◌, ◌&&◌, ◌||◌, nat_le, Bool, true, false, not, List, [], ◌∷◌, ◌++◌, take, codes, Option, Some, None, length, All}
 use Rattle.std.specs.List.{list_all, list_any}
 use Rattle.std.specs.Str.{IsUtf8}
-use Rattle.mailhead.specs.Lines.{lines_of, is_empty_line, without_end, logical_lines, header_lines}
-use Rattle.mailhead.specs.Fields.{FieldText, IsField, field_of}
-use Rattle.sievesyntax.specs.Lexemes.{same_name}
-use Rattle.sievesyntax.specs.declared.tree.vacation.VacArgs.{VacArgs}
+use Rattle.mail_head.specs.Lines.{lines_of, is_empty_line, without_end, logical_lines, header_lines}
+use Rattle.mail_head.specs.Fields.{FieldText, IsField, field_of}
+use Rattle.sieve_syntax.specs.Lexemes.{same_name}
+use Rattle.sieve_syntax.specs.declared.tree.vacation.VacationArgs.{VacationArgs}
 
 -- at most 998 octets without its line end (RFC 5322, 2.1.1)
 abbrev pub is_narrow : List ℕ → Bool
@@ -61,7 +61,7 @@ has_whole_lines true (octet ∷ rest) = octet == 10 && has_whole_lines false res
 has_whole_lines false (octet ∷ rest) = not (octet == 0) && (not (octet == 10) && has_whole_lines (octet == 13) rest)
 
 -- a reason that is permitted: it is UTF-8 in whole lines, none of them too long, and with `:mime` it is a MIME entity (RFC 5230, 4.4)
-pub record IsReason (args : VacArgs) : Type 0 where
+pub record IsReason (args : VacationArgs) : Type 0 where
   pub utf8 : IsUtf8 args.reason
   pub whole : has_whole_lines false args.reason ≡ true
   pub narrow : is_narrow_text args.reason ≡ true

@@ -3,12 +3,12 @@ use Rattle.std.specs.Prelude.{ℕ, Bool, true, false, cond, ◌&&◌, ◌||◌, 
 use Rattle.std.specs.List.{list_any}
 use Rattle.std.specs.Cmp.Lexicographic.{pointwise}
 use Rattle.octets.specs.Ascii.{lowered}
-use Rattle.addrparts.specs.declared.address.Addr.{Addr}
-use Rattle.mailflags.specs.Flags.{added, removed, written}
-use Rattle.mailflags.specs.declared.placement.Placement.{Placement}
-use Rattle.sievesyntax.specs.declared.tree.action.Action.{Action}
-use Rattle.sievesyntax.specs.declared.tree.action.Action.TheVariants.{Keep, Discard, FileInto, Redirect, Vacation, SetFlag, AddFlag, RemoveFlag}
-use Rattle.sievesyntax.specs.declared.tree.vacation.VacArgs.{VacArgs}
+use Rattle.mail_address.specs.declared.address.Addr.{Addr}
+use Rattle.mail_flags.specs.Flags.{with_all_named, without_all_named, flags_text}
+use Rattle.mail_flags.specs.declared.placement.Placement.{Placement}
+use Rattle.sieve_syntax.specs.declared.tree.action.Action.{Action}
+use Rattle.sieve_syntax.specs.declared.tree.action.Action.TheVariants.{Keep, Discard, FileInto, Redirect, Vacation, SetFlag, AddFlag, RemoveFlag}
+use Rattle.sieve_syntax.specs.declared.tree.vacation.VacationArgs.{VacationArgs}
 
 -- what a script has done so far: the mailboxes that the message goes into, each with the flags that the last command gives
 -- its copy, and the addresses that it is sent to, each in the order of the first command that says so; the flags that are
@@ -18,7 +18,7 @@ pub record RunState : Type 0 where
   pub filed : List Placement
   pub flags : List (List ℕ)
   pub sent : List Addr
-  pub reply : Option VacArgs
+  pub reply : Option VacationArgs
   pub cancelled : Bool
 
 -- before the first command
@@ -73,8 +73,8 @@ with_filed (there ∷ more) new = cond (pointwise nat_eq there.mailbox new.mailb
 
 -- the text that names a copy's flags: those that its `:flags` names, or without `:flags` those that are set (RFC 5232, 5)
 abbrev pub flags_given : Option (List (List ℕ)) → RunState → List ℕ
-flags_given None so_far = written so_far.flags
-flags_given (Some texts) so_far = written (added [] texts)
+flags_given None so_far = flags_text so_far.flags
+flags_given (Some texts) so_far = flags_text (with_all_named [] texts)
 
 -- whether the implicit keep is cancelled after an action that cancels it, unless it has `:copy` (RFC 3894, 3)
 abbrev pub cancelled_after : (copy : Bool) → RunState → Bool
@@ -107,7 +107,7 @@ sent_to target copy so_far =
     (Failed TooManyRedirects))
 
 -- an answer to the sender, the only one; the implicit keep stays (RFC 5230, 4.7)
-abbrev pub replied_by : VacArgs → RunState → Flow
+abbrev pub replied_by : VacationArgs → RunState → Flow
 replied_by args so_far = elim so_far.reply [
   | None ↦ Going (record so_far { reply = Some args })
   | Some _ ↦ Failed TwoVacations
@@ -120,6 +120,6 @@ performed Discard so_far = Going (record so_far { cancelled = true })
 performed (FileInto filing) so_far = filed_into (mailbox_named filing.mailbox) (flags_given filing.flags so_far) filing.copy so_far
 performed (Redirect redirect) so_far = sent_to redirect.target redirect.copy so_far
 performed (Vacation args) so_far = replied_by args so_far
-performed (SetFlag texts) so_far = Going (record so_far { flags = added [] texts })
-performed (AddFlag texts) so_far = Going (record so_far { flags = added so_far.flags texts })
-performed (RemoveFlag texts) so_far = Going (record so_far { flags = removed so_far.flags texts })
+performed (SetFlag texts) so_far = Going (record so_far { flags = with_all_named [] texts })
+performed (AddFlag texts) so_far = Going (record so_far { flags = with_all_named so_far.flags texts })
+performed (RemoveFlag texts) so_far = Going (record so_far { flags = without_all_named so_far.flags texts })

@@ -1,24 +1,24 @@
 -- What the steps of the parser read: what comes first by the grammar, if it is permitted there.
 use Rattle.std.specs.Prelude.{◌≡◌, ◌≤◌, ◌+◌, ◌||◌, ℕ, List, [], ◌∷◌, ◌++◌, map, All}
-use Rattle.sievelex.specs.declared.token.Mark.TheVariants as K
-use Rattle.sievesyntax.specs.declared.table.keyword.Keyword.{Keyword}
-use Rattle.sievesyntax.specs.declared.table.keyword.Keyword.TheVariants as W
-use Rattle.sievesyntax.specs.declared.table.capability.Capabilities.{Capabilities}
-use Rattle.sievesyntax.specs.Lexemes.{Lexeme, keyword, mark}
-use Rattle.sievesyntax.specs.Chains.{Chain}
-use Rattle.sievesyntax.specs.Tests.{Marked, IsTest, AreTests, ReadsTest}
-use Rattle.sievesyntax.specs.Grammar.{Braced, IsPastBranches, IsCommand, AreCommands, ReadsCommand}
-use Rattle.sievesyntax.specs.Tree.{TestTree, yes, Tests, lists_depth, nots_depth, CommandTree, require, Commands, depth, depth_of}
-use Rattle.sievesyntax.specs.Valid.{max_lists, max_nots, IsCapability, granted_by, MayAsk, MayAllTest, MayStand, MayAllStand}
+use Rattle.sieve_lex.specs.declared.token.Mark.TheVariants as K
+use Rattle.sieve_syntax.specs.declared.table.keyword.Keyword.{Keyword}
+use Rattle.sieve_syntax.specs.declared.table.keyword.Keyword.TheVariants as W
+use Rattle.sieve_syntax.specs.declared.table.capability.Capabilities.{Capabilities}
+use Rattle.sieve_syntax.specs.Lexemes.{Lexeme, keyword, mark}
+use Rattle.sieve_syntax.specs.Chains.{Chain}
+use Rattle.sieve_syntax.specs.Tests.{Marked, IsTest, AreTests, ReadsTest}
+use Rattle.sieve_syntax.specs.Grammar.{Braced, IsPastBranches, IsCommand, AreCommands, ReadsCommand}
+use Rattle.sieve_syntax.specs.Tree.{TestTree, yes, Tests, lists_depth, nots_depth, CommandTree, require, Commands, depth, depth_of}
+use Rattle.sieve_syntax.specs.Valid.{max_lists, max_nots, IsCapability, granted_by, MayBeCondition, MayAllTest, MayStand, MayAllStand}
 
 -- a test comes first that is permitted there: at most that many test lists and that many `not`s enclose any test
 -- within it
 abbrev pub TakesTest : Capabilities → ℕ → ℕ → TestTree → List Lexeme → List Lexeme → Type 0
-TakesTest granted lists nots condition from to = ReadsTest condition from to × MayAsk granted lists nots condition
+TakesTest granted lists nots condition from to = ReadsTest condition from to × MayBeCondition granted lists nots condition
 
 -- the same after its identifier
 abbrev pub AsksAfter : Capabilities → ℕ → ℕ → Keyword → TestTree → List Lexeme → List Lexeme → Type 0
-AsksAfter granted lists nots name condition after to = IsTest condition name after to × MayAsk granted lists nots condition
+AsksAfter granted lists nots name condition after to = IsTest condition name after to × MayBeCondition granted lists nots condition
 
 -- the same of a comma and a test
 abbrev pub TakesNextTest : Capabilities → ℕ → ℕ → TestTree → List Lexeme → List Lexeme → Type 0

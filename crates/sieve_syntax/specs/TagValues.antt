@@ -1,16 +1,16 @@
 -- What the tags of a command or a test say: the value that is given, or its default.
 use Rattle.std.specs.Prelude.{ℕ, Bool, true, false, List, [], ◌∷◌, Option, Some, None}
-use Rattle.sievesyntax.specs.declared.tree.checks.Bound.{Bound}
-use Rattle.sievesyntax.specs.declared.tree.checks.Matching.{Matching}
-use Rattle.sievesyntax.specs.declared.tree.checks.Matching.TheVariants as M
-use Rattle.sievesyntax.specs.declared.tree.checks.AddressPart.{AddressPart}
-use Rattle.sievesyntax.specs.declared.tree.checks.AddressPart.TheVariants as H
-use Rattle.sievesyntax.specs.declared.tree.checks.Collation.{Collation}
-use Rattle.sievesyntax.specs.declared.tree.checks.Collation.TheVariants as C
-use Rattle.sievesyntax.specs.declared.tree.checks.DateZone.{DateZone}
-use Rattle.sievesyntax.specs.declared.tree.checks.DateZone.TheVariants as Z
-use Rattle.sievesyntax.specs.declared.table.tag_group.TagValue.{TagValue}
-use Rattle.sievesyntax.specs.declared.table.tag_group.TagValue.TheVariants as S
+use Rattle.sieve_syntax.specs.declared.tree.checks.Bound.{Bound}
+use Rattle.sieve_syntax.specs.declared.tree.checks.Matching.{Matching}
+use Rattle.sieve_syntax.specs.declared.tree.checks.Matching.TheVariants as M
+use Rattle.sieve_syntax.specs.declared.tree.checks.AddressPart.{AddressPart}
+use Rattle.sieve_syntax.specs.declared.tree.checks.AddressPart.TheVariants as H
+use Rattle.sieve_syntax.specs.declared.tree.checks.Collation.{Collation}
+use Rattle.sieve_syntax.specs.declared.tree.checks.Collation.TheVariants as C
+use Rattle.sieve_syntax.specs.declared.tree.checks.DateZone.{DateZone}
+use Rattle.sieve_syntax.specs.declared.tree.checks.DateZone.TheVariants as Z
+use Rattle.sieve_syntax.specs.declared.table.tag_group.TagValue.{TagValue}
+use Rattle.sieve_syntax.specs.declared.table.tag_group.TagValue.TheVariants as S
 
 -- the side of a limit, if one is given
 abbrev pub bound_in : List TagValue → Option Bound

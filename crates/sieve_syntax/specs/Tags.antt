@@ -1,26 +1,26 @@
 -- Tagged arguments: each tag with its value, in any order, and then the positional arguments (RFC 5228, 2.6.2).
 use Rattle.std.specs.Prelude.{◌≡◌, ℕ, List, [], ◌∷◌, map, codes, Option, Some, None}
 use Rattle.std.specs.List.{Contains}
-use Rattle.sievesyntax.specs.declared.table.tag.Tag.{Tag}
-use Rattle.sievesyntax.specs.declared.table.tag.Tag.TheVariants as T
-use Rattle.sievesyntax.specs.declared.tree.checks.Bound.{Bound}
-use Rattle.sievesyntax.specs.declared.tree.checks.Bound.TheVariants as B
-use Rattle.sievesyntax.specs.declared.tree.checks.Matching.{Matching}
-use Rattle.sievesyntax.specs.declared.tree.checks.Matching.TheVariants as M
-use Rattle.sievesyntax.specs.declared.tree.checks.Relation.{Relation}
-use Rattle.sievesyntax.specs.declared.tree.checks.Relation.TheVariants as R
-use Rattle.sievesyntax.specs.declared.tree.checks.AddressPart.{AddressPart}
-use Rattle.sievesyntax.specs.declared.tree.checks.AddressPart.TheVariants as H
-use Rattle.sievesyntax.specs.declared.tree.checks.Collation.{Collation}
-use Rattle.sievesyntax.specs.declared.tree.checks.Collation.TheVariants as C
-use Rattle.sievesyntax.specs.declared.parser.argument.Argument.{Argument}
-use Rattle.sievesyntax.specs.declared.parser.argument.Argument.TheVariants as A
-use Rattle.sievesyntax.specs.declared.table.tag_group.TagValue.{TagValue}
-use Rattle.sievesyntax.specs.declared.table.tag_group.TagValue.TheVariants as S
-use Rattle.sievesyntax.specs.declared.table.tag_group.TagGroup.{TagGroup}
-use Rattle.sievesyntax.specs.declared.table.tag_group.TagGroup.TheVariants as P
-use Rattle.maildates.specs.Zones.{IsOffset}
-use Rattle.sievesyntax.specs.Chains.{Chain}
+use Rattle.sieve_syntax.specs.declared.table.tag.Tag.{Tag}
+use Rattle.sieve_syntax.specs.declared.table.tag.Tag.TheVariants as T
+use Rattle.sieve_syntax.specs.declared.tree.checks.Bound.{Bound}
+use Rattle.sieve_syntax.specs.declared.tree.checks.Bound.TheVariants as B
+use Rattle.sieve_syntax.specs.declared.tree.checks.Matching.{Matching}
+use Rattle.sieve_syntax.specs.declared.tree.checks.Matching.TheVariants as M
+use Rattle.sieve_syntax.specs.declared.tree.checks.Relation.{Relation}
+use Rattle.sieve_syntax.specs.declared.tree.checks.Relation.TheVariants as R
+use Rattle.sieve_syntax.specs.declared.tree.checks.AddressPart.{AddressPart}
+use Rattle.sieve_syntax.specs.declared.tree.checks.AddressPart.TheVariants as H
+use Rattle.sieve_syntax.specs.declared.tree.checks.Collation.{Collation}
+use Rattle.sieve_syntax.specs.declared.tree.checks.Collation.TheVariants as C
+use Rattle.sieve_syntax.specs.declared.parser.argument.Argument.{Argument}
+use Rattle.sieve_syntax.specs.declared.parser.argument.Argument.TheVariants as A
+use Rattle.sieve_syntax.specs.declared.table.tag_group.TagValue.{TagValue}
+use Rattle.sieve_syntax.specs.declared.table.tag_group.TagValue.TheVariants as S
+use Rattle.sieve_syntax.specs.declared.table.tag_group.TagGroup.{TagGroup}
+use Rattle.sieve_syntax.specs.declared.table.tag_group.TagGroup.TheVariants as P
+use Rattle.mail_dates.specs.Zones.{IsOffset}
+use Rattle.sieve_syntax.specs.Chains.{Chain}
 
 -- the tag of a side of a limit
 abbrev pub bound_tag : Bound → Tag
@@ -53,10 +53,10 @@ part_tag H.User = T.User
 part_tag H.Detail = T.Detail
 
 -- the name of a comparator, by octets (RFC 4790, 9.1 to 9.3)
-abbrev pub name_of : Collation → List ℕ
-name_of C.Octet = codes "i;octet"
-name_of C.AsciiCasemap = codes "i;ascii-casemap"
-name_of C.AsciiNumeric = codes "i;ascii-numeric"
+abbrev pub collation_name : Collation → List ℕ
+collation_name C.Octet = codes "i;octet"
+collation_name C.AsciiCasemap = codes "i;ascii-casemap"
+collation_name C.AsciiNumeric = codes "i;ascii-numeric"
 
 -- the strings of an argument: a string stands for the list that has only it (RFC 5228, 2.4.2.1)
 abbrev pub strings_of : Argument → Option (List (List ℕ))
@@ -67,7 +67,7 @@ strings_of _ = None
 -- how each tag is written with its value: the table of tags
 abbrev pub IsTagValue : TagValue → List Argument → List Argument → Type 0
 IsTagValue (S.Bound bound) from to = from ≡ A.Tag (bound_tag bound) ∷ to
-IsTagValue (S.Comparator collation) from to = from ≡ A.Tag T.Comparator ∷ (A.Text (name_of collation) ∷ to)
+IsTagValue (S.Comparator collation) from to = from ≡ A.Tag T.Comparator ∷ (A.Text (collation_name collation) ∷ to)
 IsTagValue (S.Matching matching) from to = IsMatchType matching from to
 IsTagValue (S.Part part) from to = from ≡ A.Tag (part_tag part) ∷ to
 IsTagValue (S.Days days) from to = from ≡ A.Tag T.Days ∷ (A.Number days ∷ to)
@@ -103,25 +103,25 @@ group_of S.OriginalZone = P.Zone
 group_of (S.Flags _) = P.Flags
 
 -- no group occurs twice
-abbrev pub AreApart : List TagGroup → Type 0
-AreApart [] = Unit {0}
-AreApart (first ∷ more) = (Contains more first → ⊥) × AreApart more
+abbrev pub AreGroupsApart : List TagGroup → Type 0
+AreGroupsApart [] = Unit {0}
+AreGroupsApart (first ∷ more) = (Contains more first → ⊥) × AreGroupsApart more
 
 -- a tag of one of these groups comes first
 abbrev pub IsAllowed : List TagGroup → TagValue → List Argument → List Argument → Type 0
 IsAllowed allowed tag_value from to = IsTagValue tag_value from to × Contains allowed (group_of tag_value)
 
 -- no tag comes first
-abbrev pub IsPlain : List Argument → Type 0
-IsPlain [] = Unit {0}
-IsPlain (A.Tag _ ∷ _) = ⊥
-IsPlain (_ ∷ _) = Unit {0}
+abbrev pub BeginsUntagged : List Argument → Type 0
+BeginsUntagged [] = Unit {0}
+BeginsUntagged (A.Tag _ ∷ _) = ⊥
+BeginsUntagged (_ ∷ _) = Unit {0}
 
 -- tags of these groups, each group at most once, in any order, and then the positional arguments
 pub record IsSplit (allowed : List TagGroup) (args : List Argument) (tag_values : List TagValue) (positional : List Argument) : Type 0 where
   pub written : Chain (IsAllowed allowed) tag_values args positional
-  pub plain : IsPlain positional
-  pub once : AreApart (map group_of tag_values)
+  pub plain : BeginsUntagged positional
+  pub once : AreGroupsApart (map group_of tag_values)
 
 -- tags of these groups, in any order, and positional arguments, that say this
 pub record IsCall {X : Type 0} (allowed : List TagGroup) (Says : List TagValue → List Argument → X → Type 0) (args : List Argument) (x : X) : Type 0 where

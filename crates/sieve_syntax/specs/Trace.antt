@@ -2,15 +2,15 @@
 use Rattle.std.specs.Prelude.{◌≡◌, ◌≤◌, ℕ, Bool, true, false, cond, List, [], ◌∷◌, ◌++◌, length, map, nat_eq, All}
 use Rattle.std.specs.List.{IsDistinct}
 use Rattle.std.specs.Cmp.Lexicographic.{pointwise}
-use Rattle.mailflags.specs.Flags.{AreFlags, written}
-use Rattle.mailflags.specs.declared.placement.Placement.{Placement}
-use Rattle.sievesyntax.specs.declared.tree.action.Action.{Action}
-use Rattle.sievesyntax.specs.declared.tree.action.Action.TheVariants.{Vacation, SetFlag, AddFlag, RemoveFlag}
-use Rattle.sievesyntax.specs.declared.tree.checks.Check.{Check}
-use Rattle.sievesyntax.specs.RunState.{RunState, at_first, max_targets, max_mailboxes, Flow, Going, Stopped, Failed, and_then, inbox, same_target, performed}
-use Rattle.sievesyntax.specs.Meaning.{holds, Actions, Outcome}
-use Rattle.sievesyntax.specs.Meaning as M
-use Rattle.sievesyntax.specs.Tree.{CommandTree, require, choose, stop, act, Branches, no_branches, branch, Commands, no_commands, command}
+use Rattle.mail_flags.specs.Flags.{AreFlags, flags_text}
+use Rattle.mail_flags.specs.declared.placement.Placement.{Placement}
+use Rattle.sieve_syntax.specs.declared.tree.action.Action.{Action}
+use Rattle.sieve_syntax.specs.declared.tree.action.Action.TheVariants.{Vacation, SetFlag, AddFlag, RemoveFlag}
+use Rattle.sieve_syntax.specs.declared.tree.checks.MailCheck.{MailCheck}
+use Rattle.sieve_syntax.specs.RunState.{RunState, at_first, max_targets, max_mailboxes, Flow, Going, Stopped, Failed, and_then, inbox, same_target, performed}
+use Rattle.sieve_syntax.specs.Meaning.{holds, Actions, Outcome}
+use Rattle.sieve_syntax.specs.Meaning as M
+use Rattle.sieve_syntax.specs.Tree.{CommandTree, require, choose, stop, act, Branches, no_branches, branch, Commands, no_commands, command}
 
 -- actions in the order in which they are run, and whether a `stop` ends them
 abbrev pub Trace : Type 0
@@ -38,30 +38,30 @@ runs_at (Failed failure) next = ([], false)
 
 -- what commands run from a state on, given the truth of the tests and what an action does
 abbrev mutual
-  pub runs_by : (Action → RunState → Flow) → (RunState → Check → Bool) → CommandTree → RunState → Trace
+  pub runs_by : (Action → RunState → Flow) → (RunState → MailCheck → Bool) → CommandTree → RunState → Trace
   runs_by performs truth (require names) so_far = ([], false)
   runs_by performs truth (choose branches) so_far = runs_branch_by performs truth branches so_far
   runs_by performs truth stop so_far = ([], true)
   runs_by performs truth (act action) so_far = (action ∷ [], false)
 
   -- the first block whose test holds, and no other
-  pub runs_branch_by : (Action → RunState → Flow) → (RunState → Check → Bool) → Branches → RunState → Trace
+  pub runs_branch_by : (Action → RunState → Flow) → (RunState → MailCheck → Bool) → Branches → RunState → Trace
   runs_branch_by performs truth no_branches so_far = ([], false)
   runs_branch_by performs truth (branch condition block more) so_far =
       cond (holds (truth so_far) condition) (runs_all_by performs truth block so_far) (runs_branch_by performs truth more so_far)
 
   -- what follows begins in the state that the actions before lead to
-  pub runs_all_by : (Action → RunState → Flow) → (RunState → Check → Bool) → Commands → RunState → Trace
+  pub runs_all_by : (Action → RunState → Flow) → (RunState → MailCheck → Bool) → Commands → RunState → Trace
   runs_all_by performs truth no_commands so_far = ([], false)
   runs_all_by performs truth (command first more) so_far =
       then_runs (runs_by performs truth first so_far) (runs_at (in_turn_by performs (runs_by performs truth first so_far).0 so_far) (runs_all_by performs truth more))
 
 -- the actions that a script runs, in turn, given what each does
-abbrev pub actions_run_by : (Action → RunState → Flow) → (RunState → Check → Bool) → Commands → List Action
+abbrev pub actions_run_by : (Action → RunState → Flow) → (RunState → MailCheck → Bool) → Commands → List Action
 actions_run_by performs truth commands = (runs_all_by performs truth commands at_first).0
 
 -- the actions that a script runs, in turn
-abbrev pub actions_run : (RunState → Check → Bool) → Commands → List Action
+abbrev pub actions_run : (RunState → MailCheck → Bool) → Commands → List Action
 actions_run = actions_run_by performed
 
 -- an action that leaves the implicit keep and sends the message nowhere
@@ -95,7 +95,7 @@ pub record FilesWithoutFlags (actions : Actions) : Type 0 where
 
 -- the text of a copy names flags: names of flags, none twice, and no more than a message may have
 abbrev pub NamesFlags : Placement → Type 0
-NamesFlags one = (flags : List (List ℕ)) × AreFlags flags × (one.flags ≡ written flags)
+NamesFlags one = (flags : List (List ℕ)) × AreFlags flags × (one.flags ≡ flags_text flags)
 
 -- the text of each copy names flags
 pub record FilesWithFlags (actions : Actions) : Type 0 where

@@ -1,14 +1,14 @@
 -- The tree of a script, as contracts see it: the cases of `Command` and `Test` without pointers.
 use Rattle.std.specs.Prelude.{ℕ, suc, max, List}
-use Rattle.sievesyntax.specs.declared.tree.action.Action.{Action}
-use Rattle.sievesyntax.specs.declared.tree.checks.Check.{Check}
+use Rattle.sieve_syntax.specs.declared.tree.action.Action.{Action}
+use Rattle.sieve_syntax.specs.declared.tree.checks.MailCheck.{MailCheck}
 
 -- a test (RFC 5228, 5), and lists of tests
 mutual
   pub data TestTree : Type 0 where
     yes : TestTree
     no : TestTree
-    looks : Check → TestTree
+    looks : MailCheck → TestTree
     not_of : TestTree → TestTree
     all_of : Tests → TestTree
     any_of : Tests → TestTree

@@ -1,17 +1,17 @@
 -- The addresses that a script names, and the arguments of `vacation` (RFC 5230, 4).
 use Rattle.std.specs.Prelude.{◌≡◌, ◌⊎◌, ℕ, List, [], ◌∷◌, ◌++◌, Option, Some, None}
-use Rattle.addrparts.specs.declared.address.Addr.{Addr}
+use Rattle.mail_address.specs.declared.address.Addr.{Addr}
 use Rattle.std.specs.Str.{IsUtf8}
-use Rattle.addrparts.specs.Outbound.{IsOutbound}
-use Rattle.sievesyntax.specs.declared.tree.vacation.VacArgs.{VacArgs}
-use Rattle.sievesyntax.specs.declared.tree.vacation.ReplyFrom.{ReplyFrom}
-use Rattle.sievesyntax.specs.declared.parser.argument.Argument.{Argument}
-use Rattle.sievesyntax.specs.declared.table.tag_group.TagValue.{TagValue}
-use Rattle.sievesyntax.specs.declared.table.tag_group.TagGroup.{TagGroup}
-use Rattle.sievesyntax.specs.declared.table.tag_group.TagGroup.TheVariants as P
-use Rattle.sievesyntax.specs.Tags.{IsCall}
-use Rattle.sievesyntax.specs.Positional.{one_text}
-use Rattle.sievesyntax.specs.TagValues.{days_in, seconds_in, subject_in, from_in, addresses_in, mime_in, handle_in}
+use Rattle.mail_address.specs.Outbound.{IsOutbound}
+use Rattle.sieve_syntax.specs.declared.tree.vacation.VacationArgs.{VacationArgs}
+use Rattle.sieve_syntax.specs.declared.tree.vacation.ReplyFrom.{ReplyFrom}
+use Rattle.sieve_syntax.specs.declared.parser.argument.Argument.{Argument}
+use Rattle.sieve_syntax.specs.declared.table.tag_group.TagValue.{TagValue}
+use Rattle.sieve_syntax.specs.declared.table.tag_group.TagGroup.{TagGroup}
+use Rattle.sieve_syntax.specs.declared.table.tag_group.TagGroup.TheVariants as P
+use Rattle.sieve_syntax.specs.Tags.{IsCall}
+use Rattle.sieve_syntax.specs.Positional.{one_text}
+use Rattle.sieve_syntax.specs.TagValues.{days_in, seconds_in, subject_in, from_in, addresses_in, mime_in, handle_in}
 
 -- the text, which is UTF-8, names this address with this display name
 abbrev pub IsNamedAs : List ℕ → List ℕ → Addr → Type 0
@@ -47,7 +47,7 @@ AddsNamed text old new =
     ⊎ (((address : Addr) → Names text address → ⊥) × (new ≡ old))
 
 -- what the tags of a `vacation` and its positional arguments say: the reason is one string without brackets
-pub record SaysVacation (tag_values : List TagValue) (positional : List Argument) (args : VacArgs) : Type 0 where
+pub record SaysVacation (tag_values : List TagValue) (positional : List Argument) (args : VacationArgs) : Type 0 where
   pub days : args.days ≡ days_in tag_values
   pub seconds : args.seconds ≡ seconds_in tag_values
   pub subject : args.subject ≡ subject_in tag_values
@@ -63,5 +63,5 @@ vacation_groups = P.Period ∷ (P.Subject ∷ (P.From ∷ (P.Addresses ∷ (P.Mi
 
 -- vacation [":days" number / ":seconds" number] [":subject" string] [":from" string] [":addresses" string-list] [":mime"]
 -- [":handle" string], reason: string (RFC 5230, 4; RFC 6131, 2)
-abbrev pub IsVacation : List Argument → VacArgs → Type 0
+abbrev pub IsVacation : List Argument → VacationArgs → Type 0
 IsVacation = IsCall vacation_groups SaysVacation

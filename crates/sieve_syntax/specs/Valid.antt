@@ -3,48 +3,48 @@ use Rattle.std.specs.Prelude.{◌≡◌, ◌≢◌, ◌≤◌, ◌||◌, ℕ, Bo
 use Rattle.std.specs.List.{list_any}
 use Rattle.std.specs.Str.{IsUtf8}
 use Rattle.std.specs.Cmp.Lexicographic.{pointwise}
-use Rattle.sievesyntax.specs.declared.tree.action.Action.{Action}
-use Rattle.sievesyntax.specs.declared.tree.action.Action.TheVariants.{Keep, Discard, FileInto, Redirect, Vacation, SetFlag, AddFlag, RemoveFlag}
-use Rattle.sievesyntax.specs.declared.tree.checks.AddressPart.{AddressPart}
-use Rattle.sievesyntax.specs.declared.tree.checks.AddressPart.TheVariants.{User, Detail}
-use Rattle.sievesyntax.specs.declared.tree.checks.Collation.{Collation}
-use Rattle.sievesyntax.specs.declared.tree.checks.Collation.TheVariants.{AsciiNumeric}
-use Rattle.sievesyntax.specs.declared.tree.checks.Matching.{Matching}
-use Rattle.sievesyntax.specs.declared.tree.checks.Matching.TheVariants.{Contains, Matches, Value, Count}
-use Rattle.sievesyntax.specs.declared.tree.checks.Check.{Check}
-use Rattle.sievesyntax.specs.declared.tree.checks.Check.TheVariants.{Size, Exists, Header, Address, Envelope, MailboxExists, Date, CurrentDate, HasFlag}
-use Rattle.sievesyntax.specs.declared.table.capability.Capabilities.{Capabilities}
-use Rattle.sievesyntax.specs.Reasons.{IsReason}
-use Rattle.sievesyntax.specs.Tree.{TestTree, yes, no, looks, not_of, all_of, any_of, Tests, no_tests, test, list_depth, not_depth, CommandTree, require, choose, stop, act, Branches, no_branches, branch, Commands, no_commands, command, depth}
+use Rattle.sieve_syntax.specs.declared.tree.action.Action.{Action}
+use Rattle.sieve_syntax.specs.declared.tree.action.Action.TheVariants.{Keep, Discard, FileInto, Redirect, Vacation, SetFlag, AddFlag, RemoveFlag}
+use Rattle.sieve_syntax.specs.declared.tree.checks.AddressPart.{AddressPart}
+use Rattle.sieve_syntax.specs.declared.tree.checks.AddressPart.TheVariants.{User, Detail}
+use Rattle.sieve_syntax.specs.declared.tree.checks.Collation.{Collation}
+use Rattle.sieve_syntax.specs.declared.tree.checks.Collation.TheVariants.{AsciiNumeric}
+use Rattle.sieve_syntax.specs.declared.tree.checks.Matching.{Matching}
+use Rattle.sieve_syntax.specs.declared.tree.checks.Matching.TheVariants.{Contains, Matches, Value, Count}
+use Rattle.sieve_syntax.specs.declared.tree.checks.MailCheck.{MailCheck}
+use Rattle.sieve_syntax.specs.declared.tree.checks.MailCheck.TheVariants.{Size, Exists, Header, Address, Envelope, MailboxExists, Date, CurrentDate, HasFlag}
+use Rattle.sieve_syntax.specs.declared.table.capability.Capabilities.{Capabilities}
+use Rattle.sieve_syntax.specs.Reasons.{IsReason}
+use Rattle.sieve_syntax.specs.Tree.{TestTree, yes, no, looks, not_of, all_of, any_of, Tests, no_tests, test, list_depth, not_depth, CommandTree, require, choose, stop, act, Branches, no_branches, branch, Commands, no_commands, command, depth}
 
 -- the name of a mailbox: 1 to 255 octets of UTF-8, none below 32 and none 127
-pub record IsMailbox (name : List ℕ) : Type 0 where
+pub record IsMailboxName (name : List ℕ) : Type 0 where
   pub some : name ≢ []
   pub short : length name ≤ 255
   pub plain : All (λ octet. (32 ≤ octet) × (octet ≢ 127)) name
   pub utf8 : IsUtf8 name
 
 -- names of capabilities are compared by octets
-abbrev pub is_named : List ℕ → List ℕ → Bool
-is_named capability name = pointwise nat_eq name capability
+abbrev pub is_capability_named : List ℕ → List ℕ → Bool
+is_capability_named capability name = pointwise nat_eq name capability
 
 -- the capabilities that `require` may name
 abbrev pub is_capability : List ℕ → Bool
 is_capability name =
-    is_named (codes "fileinto") name
-    || (is_named (codes "envelope") name
-    || (is_named (codes "vacation") name
-    || (is_named (codes "comparator-i;octet") name
-    || (is_named (codes "comparator-i;ascii-casemap") name
-    || (is_named (codes "copy") name
-    || (is_named (codes "vacation-seconds") name
-    || (is_named (codes "subaddress") name
-    || (is_named (codes "relational") name
-    || (is_named (codes "comparator-i;ascii-numeric") name
-    || (is_named (codes "encoded-character") name
-    || (is_named (codes "mailbox") name
-    || (is_named (codes "date") name
-    || is_named (codes "imap4flags") name))))))))))))
+    is_capability_named (codes "fileinto") name
+    || (is_capability_named (codes "envelope") name
+    || (is_capability_named (codes "vacation") name
+    || (is_capability_named (codes "comparator-i;octet") name
+    || (is_capability_named (codes "comparator-i;ascii-casemap") name
+    || (is_capability_named (codes "copy") name
+    || (is_capability_named (codes "vacation-seconds") name
+    || (is_capability_named (codes "subaddress") name
+    || (is_capability_named (codes "relational") name
+    || (is_capability_named (codes "comparator-i;ascii-numeric") name
+    || (is_capability_named (codes "encoded-character") name
+    || (is_capability_named (codes "mailbox") name
+    || (is_capability_named (codes "date") name
+    || is_capability_named (codes "imap4flags") name))))))))))))
 
 abbrev pub IsCapability : List ℕ → Type 0
 IsCapability name = is_capability name ≡ true
@@ -52,22 +52,22 @@ IsCapability name = is_capability name ≡ true
 -- what these names of capabilities grant (RFC 5228, 3.2); `i;octet` and `i;ascii-casemap` may be used without
 abbrev pub granted_by : List (List ℕ) → Capabilities
 granted_by names = record {
-  fileinto = list_any (is_named (codes "fileinto")) names;
-  envelope = list_any (is_named (codes "envelope")) names;
-  vacation = list_any (is_named (codes "vacation")) names;
-  copy = list_any (is_named (codes "copy")) names;
-  seconds = list_any (is_named (codes "vacation-seconds")) names;
-  subaddress = list_any (is_named (codes "subaddress")) names;
-  relational = list_any (is_named (codes "relational")) names;
-  numeric = list_any (is_named (codes "comparator-i;ascii-numeric")) names;
-  mailbox = list_any (is_named (codes "mailbox")) names;
-  date = list_any (is_named (codes "date")) names;
-  flags = list_any (is_named (codes "imap4flags")) names;
+  fileinto = list_any (is_capability_named (codes "fileinto")) names;
+  envelope = list_any (is_capability_named (codes "envelope")) names;
+  vacation = list_any (is_capability_named (codes "vacation")) names;
+  copy = list_any (is_capability_named (codes "copy")) names;
+  seconds = list_any (is_capability_named (codes "vacation-seconds")) names;
+  subaddress = list_any (is_capability_named (codes "subaddress")) names;
+  relational = list_any (is_capability_named (codes "relational")) names;
+  numeric = list_any (is_capability_named (codes "comparator-i;ascii-numeric")) names;
+  mailbox = list_any (is_capability_named (codes "mailbox")) names;
+  date = list_any (is_capability_named (codes "date")) names;
+  flags = list_any (is_capability_named (codes "imap4flags")) names;
 }
 
 -- `vacation` may be used: `vacation-seconds` implies it (RFC 6131, 2)
-abbrev pub may_answer : Capabilities → Bool
-may_answer granted = granted.vacation || granted.seconds
+abbrev pub may_use_vacation : Capabilities → Bool
+may_use_vacation granted = granted.vacation || granted.seconds
 
 -- what is used is granted
 abbrev pub Permits : (granted used : Bool) → Type 0
@@ -80,8 +80,8 @@ is_subaddress Detail = true
 is_subaddress _ = false
 
 -- a part of an address that may be named if this is granted
-abbrev pub MayPart : Capabilities → AddressPart → Type 0
-MayPart granted part = Permits granted.subaddress (is_subaddress part)
+abbrev pub MayNamePart : Capabilities → AddressPart → Type 0
+MayNamePart granted part = Permits granted.subaddress (is_subaddress part)
 
 -- a match type that only `relational` has (RFC 5231)
 abbrev pub is_relational : Matching → Bool
@@ -112,21 +112,21 @@ MayAct granted (Keep given) = Permits granted.flags (is_some given)
 MayAct granted Discard = Unit {0}
 MayAct granted (FileInto filing) =
     (granted.fileinto ≡ true) × Permits granted.copy filing.copy × Permits granted.mailbox filing.create × Permits granted.flags (is_some filing.flags)
-    × IsMailbox filing.mailbox
+    × IsMailboxName filing.mailbox
 MayAct granted (Redirect redirect) = Permits granted.copy redirect.copy
-MayAct granted (Vacation args) = (may_answer granted ≡ true) × Permits granted.seconds (is_some args.seconds) × IsReason args
+MayAct granted (Vacation args) = (may_use_vacation granted ≡ true) × Permits granted.seconds (is_some args.seconds) × IsReason args
 MayAct granted (SetFlag texts) = granted.flags ≡ true
 MayAct granted (AddFlag texts) = granted.flags ≡ true
 MayAct granted (RemoveFlag texts) = granted.flags ≡ true
 
 -- a test of the message, or of the flags that are set, that is permitted if this is granted
-abbrev pub MayCheck : Capabilities → Check → Type 0
+abbrev pub MayCheck : Capabilities → MailCheck → Type 0
 MayCheck granted (Size size) = Unit {0}
 MayCheck granted (Exists fields) = Unit {0}
 MayCheck granted (Header header) = MayMatch granted header.comparator header.matching
-MayCheck granted (Address address) = MayPart granted address.part × MayMatch granted address.comparator address.matching
+MayCheck granted (Address address) = MayNamePart granted address.part × MayMatch granted address.comparator address.matching
 MayCheck granted (Envelope envelope) =
-    (granted.envelope ≡ true) × MayPart granted envelope.part × MayMatch granted envelope.comparator envelope.matching
+    (granted.envelope ≡ true) × MayNamePart granted envelope.part × MayMatch granted envelope.comparator envelope.matching
 MayCheck granted (MailboxExists names) = granted.mailbox ≡ true
 MayCheck granted (Date date) = (granted.date ≡ true) × MayMatch granted date.comparator date.matching
 MayCheck granted (CurrentDate current) = (granted.date ≡ true) × MayMatch granted current.comparator current.matching
@@ -159,8 +159,8 @@ max_blocks = 32
 
 -- a test that is permitted in a branch: besides, at most that many test lists and, counted separately, that many `not`s
 -- enclose any test within it
-abbrev pub MayAsk : Capabilities → ℕ → ℕ → TestTree → Type 0
-MayAsk granted lists nots condition = MayTest granted condition × ((list_depth condition ≤ lists) × (not_depth condition ≤ nots))
+abbrev pub MayBeCondition : Capabilities → ℕ → ℕ → TestTree → Type 0
+MayBeCondition granted lists nots condition = MayTest granted condition × ((list_depth condition ≤ lists) × (not_depth condition ≤ nots))
 
 -- commands that are permitted after the last `require`, if this is granted
 abbrev mutual
@@ -172,7 +172,7 @@ abbrev mutual
 
   pub MayBranch : Capabilities → Branches → Type 0
   MayBranch granted no_branches = Unit {0}
-  MayBranch granted (branch condition block more) = MayAsk granted max_lists max_nots condition × (MayAllStand granted block × MayBranch granted more)
+  MayBranch granted (branch condition block more) = MayBeCondition granted max_lists max_nots condition × (MayAllStand granted block × MayBranch granted more)
 
   pub MayAllStand : Capabilities → Commands → Type 0
   MayAllStand granted no_commands = Unit {0}

@@ -1,12 +1,12 @@
 -- The tree that the Rust values of a script stand for.
 use Rattle.std.specs.Prelude.{List, [], ◌∷◌, map}
-use Rattle.sievesyntax.specs.declared.tree.test.Test.{Test, fold-Test}
-use Rattle.sievesyntax.specs.declared.tree.test.Test.TheOpen.{Test-F}
-use Rattle.sievesyntax.specs.declared.tree.command.Branch.{Branch, fold-Branch}
-use Rattle.sievesyntax.specs.declared.tree.command.Command.{Command, fold-Command}
-use Rattle.sievesyntax.specs.declared.tree.command.Command.TheOpen.{Command-F, Branch-F}
-use Rattle.sievesyntax.specs.declared.script.Script.{Script}
-use Rattle.sievesyntax.specs.Tree.{TestTree, yes, no, looks, not_of, all_of, any_of, Tests, no_tests, test, CommandTree, require, choose, stop, act, Branches, no_branches, branch, Commands, no_commands, command}
+use Rattle.sieve_syntax.specs.declared.tree.test.Test.{Test, fold-Test}
+use Rattle.sieve_syntax.specs.declared.tree.test.Test.TheOpen.{Test-F}
+use Rattle.sieve_syntax.specs.declared.tree.command.Branch.{Branch, fold-Branch}
+use Rattle.sieve_syntax.specs.declared.tree.command.Command.{Command, fold-Command}
+use Rattle.sieve_syntax.specs.declared.tree.command.Command.TheOpen.{Command-F, Branch-F}
+use Rattle.sieve_syntax.specs.declared.script.Script.{Script}
+use Rattle.sieve_syntax.specs.Tree.{TestTree, yes, no, looks, not_of, all_of, any_of, Tests, no_tests, test, CommandTree, require, choose, stop, act, Branches, no_branches, branch, Commands, no_commands, command}
 
 -- a list of tests
 abbrev pub tests_of : List TestTree → Tests

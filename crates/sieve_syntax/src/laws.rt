@@ -1,14 +1,14 @@
 //! Laws of the definitions, each the contract of a function that does nothing.
 ghost use Rattle.std.specs.Prelude.{◌≡◌, ◌↔◌, ℕ, Bool, true, List, All};
-ghost use Rattle.sievesyntax.specs.declared.tree.checks.Check.{Check};
-ghost use Rattle.sievesyntax.specs.Before.{outcome_in, StillMeans, MeansFormerly, MeansUndated, MeansUnflagged};
-ghost use Rattle.sievesyntax.specs.Languages.{today, before, former, undated, unflagged};
-ghost use Rattle.sievesyntax.specs.Meaning.{ended, outcome};
-ghost use Rattle.sievesyntax.specs.Means.{MeansIn, Means};
-ghost use Rattle.sievesyntax.specs.Reasons.{is_entity, IsEntity};
-ghost use Rattle.sievesyntax.specs.RunState.{RunState, at_first};
-ghost use Rattle.sievesyntax.specs.Trace.{actions_run, in_turn, KeepsImplicitly, OnDone, NamesWithoutRepeats, FilesIntoInboxAlone, FilesWithFlags};
-ghost use Rattle.sievesyntax.specs.Tree.{Commands};
+ghost use Rattle.sieve_syntax.specs.declared.tree.checks.MailCheck.{MailCheck};
+ghost use Rattle.sieve_syntax.specs.Before.{outcome_in, StillMeans, MeansFormerly, MeansUndated, MeansUnflagged};
+ghost use Rattle.sieve_syntax.specs.Languages.{today, language_before_copy, former, undated, unflagged};
+ghost use Rattle.sieve_syntax.specs.Meaning.{outcome_after, outcome};
+ghost use Rattle.sieve_syntax.specs.Means.{MeansIn, Means};
+ghost use Rattle.sieve_syntax.specs.Reasons.{is_entity, IsEntity};
+ghost use Rattle.sieve_syntax.specs.RunState.{RunState, at_first};
+ghost use Rattle.sieve_syntax.specs.Trace.{actions_run, in_turn, KeepsImplicitly, OnDone, NamesWithoutRepeats, FilesIntoInboxAlone, FilesWithFlags};
+ghost use Rattle.sieve_syntax.specs.Tree.{Commands};
 
 /// A text means at most one tree (RFC 5228, 8.2).
 pub fn tree_of_a_text()
@@ -17,25 +17,25 @@ pub fn tree_of_a_text()
 
 /// The outcome of a script is that of the actions that it runs, one after the other.
 pub fn outcome_of_the_actions()
-    ensures { (truth : RunState → Check → Bool) (tree : Commands) → outcome truth tree ≡ ended (in_turn (actions_run truth tree) at_first) }
+    ensures { (truth : RunState → MailCheck → Bool) (tree : Commands) → outcome truth tree ≡ outcome_after (in_turn (actions_run truth tree) at_first) }
 {}
 
 /// If a script doesn't fail, each mailbox and each address occurs once, and there are at most 100 mailboxes and 16 addresses
 /// (RFC 5228, 2.10.3).
 pub fn without_repeats()
-    ensures { (truth : RunState → Check → Bool) (tree : Commands) → OnDone NamesWithoutRepeats (outcome truth tree) }
+    ensures { (truth : RunState → MailCheck → Bool) (tree : Commands) → OnDone NamesWithoutRepeats (outcome truth tree) }
 {}
 
 /// If a script doesn't fail, the flags of each copy are flags, whatever the texts of the script are: at most 100 names, of at most 128
 /// octets each, and none twice (RFC 5232, 2; RFC 3501, 2.3.2).
 pub fn flags_of_copies()
-    ensures { (truth : RunState → Check → Bool) (tree : Commands) → OnDone FilesWithFlags (outcome truth tree) }
+    ensures { (truth : RunState → MailCheck → Bool) (tree : Commands) → OnDone FilesWithFlags (outcome truth tree) }
 {}
 
 /// A run without `keep`, `fileinto`, `redirect` and `discard` files the message into INBOX and does nothing else with it
 /// (RFC 5228, 2.10.2).
 pub fn implicit_keep()
-    ensures { (truth : RunState → Check → Bool) (tree : Commands) → All KeepsImplicitly (actions_run truth tree) → OnDone FilesIntoInboxAlone (outcome truth tree) }
+    ensures { (truth : RunState → MailCheck → Bool) (tree : Commands) → All KeepsImplicitly (actions_run truth tree) → OnDone FilesIntoInboxAlone (outcome truth tree) }
 {}
 
 /// The reason of a `vacation` with `:mime` is accepted exactly if it is a MIME entity (RFC 5230, 4.4).
@@ -65,6 +65,6 @@ pub fn scripts_of_unflagged_language()
 /// A text that meant a tree before `:copy` (RFC 3894) and `:seconds` (RFC 6131) means the same tree now. The tree has neither, and
 /// on every mail its outcome is what it was before, when each `fileinto` and each `redirect` cancelled the implicit keep.
 pub fn scripts_of_before()
-    ensures still { (text : List ℕ) (tree : Commands) → MeansIn before text tree → StillMeans text tree }
-    ensures today { (truth : RunState → Check → Bool) (tree : Commands) → outcome truth tree ≡ outcome_in today truth tree }
+    ensures still { (text : List ℕ) (tree : Commands) → MeansIn language_before_copy text tree → StillMeans text tree }
+    ensures today { (truth : RunState → MailCheck → Bool) (tree : Commands) → outcome truth tree ≡ outcome_in today truth tree }
 {}

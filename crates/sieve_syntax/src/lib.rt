@@ -8,15 +8,12 @@ mod script;
 mod table;
 mod tree;
 
-pub use maildates::DatePart;
+pub use mail_dates::DatePart;
 pub use script::{Script, check};
-pub use sievelex::{FaultKind, ScriptError, ScriptFault};
+pub use sieve_lex::{FaultKind, ScriptError, ScriptFault};
 pub use table::command::is_mailbox;
 pub use tree::action::{Action, FileInto, Redirect};
-pub use tree::checks::{
-    Address, AddressPart, Bound, Check, Collation, CurrentDate, DateTest, DateZone, EnvelopeParts,
-    EnvelopeTest, HasFlag, Header, Matching, Relation, Size,
-};
+pub use tree::checks::{Address, AddressPart, Bound, MailCheck, Collation, CurrentDate, DateTest, DateZone, EnvelopeParts, EnvelopeTest, HasFlag, Header, Matching, Relation, Size};
 pub use tree::command::{Branch, Command};
 pub use tree::test::Test;
-pub use tree::vacation::{ReplyFrom, VacArgs, Vacation};
+pub use tree::vacation::{ReplyFrom, VacationArgs, Vacation};

@@ -1,22 +1,22 @@
 //! A checked script.
 ghost use Rattle.std.specs.Prelude.{◌≡◌, ◌+◌, ◌-◌, ◌≤◌, List, IfOk, IfErr};
-ghost use Rattle.sievelex.specs.declared.token.Token.{Token};
-ghost use Rattle.sievelex.specs.Spelling.{Spells};
-ghost use Rattle.sievelex.specs.Finding.{IfFault, IfFaultLine, OnFaultLine};
-ghost use Rattle.sievelex.specs.Contents.{contents, line_at};
-ghost use Rattle.sievelex.specs.Text.{line_ends};
-ghost use Rattle.sievesyntax.specs.Decoding.{as_read};
-ghost use Rattle.sievesyntax.specs.Lexemes.{lexemes_of};
-ghost use Rattle.sievesyntax.specs.Tree.{Commands};
-ghost use Rattle.sievesyntax.specs.Valid.{IsValid};
-ghost use Rattle.sievesyntax.specs.Grammar.{ReadsScript};
-ghost use Rattle.sievesyntax.specs.Parsing.{OnFault};
+ghost use Rattle.sieve_lex.specs.declared.token.Token.{Token};
+ghost use Rattle.sieve_lex.specs.Spelling.{SpellsTokens};
+ghost use Rattle.sieve_lex.specs.Finding.{IfFault, IfFaultLine, OnFaultLine};
+ghost use Rattle.sieve_lex.specs.Contents.{contents, line_at};
+ghost use Rattle.sieve_lex.specs.Text.{line_ends};
+ghost use Rattle.sieve_syntax.specs.Decoding.{as_read};
+ghost use Rattle.sieve_syntax.specs.Lexemes.{lexemes_of};
+ghost use Rattle.sieve_syntax.specs.Tree.{Commands};
+ghost use Rattle.sieve_syntax.specs.Valid.{IsValid};
+ghost use Rattle.sieve_syntax.specs.Grammar.{ReadsScript};
+ghost use Rattle.sieve_syntax.specs.Parsing.{OnParseFault};
 
-use crate::error::ReadError;
+use crate::error::ParseError;
 use crate::parser::reader::Reader;
 use crate::parser::require::read_script;
 use crate::tree::command::Command;
-use sievelex::{FaultKind, Packed, ScriptError, ScriptFault, line_of, pack};
+use sieve_lex::{FaultKind, Packed, ScriptError, ScriptFault, line_of, pack};
 use std::alloc::Global;
 
 /// A script that has been checked: its tree is valid.
@@ -26,7 +26,7 @@ pub struct Script {
 }
 
 impl Script {
-    ghost use Rattle.sievesyntax.specs.View.{commands_view, script_tree};
+    ghost use Rattle.sieve_syntax.specs.View.{commands_view, script_tree};
 
     /// The commands of the script, in order.
     pub fn commands(&self) -> &[Command]
@@ -36,8 +36,8 @@ impl Script {
     }
 }
 
-ghost use Rattle.sievesyntax.specs.View.{script_tree};
-ghost use Rattle.sievesyntax.specs.Means.{Means};
+ghost use Rattle.sieve_syntax.specs.View.{script_tree};
+ghost use Rattle.sieve_syntax.specs.Means.{Means};
 
 /// Checks a script: returns the only tree that the text means, or if it means none, the first fault (RFC 5228, 8.2). The text may
 /// have any octets.
@@ -57,16 +57,16 @@ pub fn check(alloc: Global, text: &[u8]) -> Result<Script, ScriptError>
     let tokens = pack(alloc, text)?;
     match check_tokens(alloc, &tokens) {
         Ok(script) => Ok(script),
-        Err((ReadError::Memory, _)) => Err(ScriptError::Memory),
-        Err((ReadError::Fault(kind), read)) => Err(fault_after(alloc, text, read, kind)),
+        Err((ParseError::Memory, _)) => Err(ScriptError::Memory),
+        Err((ParseError::Fault(kind), read)) => Err(fault_after(alloc, text, read, kind)),
     }
 }
 
 /// The script of these tokens, or why they aren't one, with how many of them were read.
-fn check_tokens(alloc: Global, tokens: &Packed) -> Result<Script, (ReadError, usize)>
+fn check_tokens(alloc: Global, tokens: &Packed) -> Result<Script, (ParseError, usize)>
     ensures found { IfOk result (λ script. ReadsScript (script_tree script) (as_read (lexemes_of (contents tokens.now))) × IsValid (script_tree script)) }
     ensures only { IfOk result (λ script. (tree : Commands) → ReadsScript tree (as_read (lexemes_of (contents tokens.now))) → IsValid tree → tree ≡ script_tree script) }
-    ensures fault { IfErr result (λ e. OnFault e.0 ((tree : Commands) → ReadsScript tree (as_read (lexemes_of (contents tokens.now))) → IsValid tree → ⊥)) }
+    ensures fault { IfErr result (λ e. OnParseFault e.0 ((tree : Commands) → ReadsScript tree (as_read (lexemes_of (contents tokens.now))) → IsValid tree → ⊥)) }
 {
     let mut reader = Reader::new(alloc, tokens);
     match read_script(alloc, &mut reader) {
@@ -77,7 +77,7 @@ fn check_tokens(alloc: Global, tokens: &Packed) -> Result<Script, (ReadError, us
 
 /// The fault of a script that was found after that many of its tokens: its line is that of the last of them.
 fn fault_after(alloc: Global, text: &[u8], read: usize, kind: FaultKind) -> ScriptError
-    ensures exact { (ts : List Token) → Spells text.now ts → OnFaultLine result (λ n. n ≡ line_at (read - 1) ts) }
+    ensures exact { (ts : List Token) → SpellsTokens text.now ts → OnFaultLine result (λ n. n ≡ line_at (read - 1) ts) }
     ensures lines { OnFaultLine result (λ n. (1 ≤ n) × (n ≤ 1 + line_ends text.now)) }
 {
     match line_of(alloc, text, read.saturating_sub(1)) {

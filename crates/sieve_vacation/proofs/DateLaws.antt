@@ -3,7 +3,7 @@ use Rattle.std.proofs.Common.{◌≡◌, ℕ, ◌/◌, List, sym, ◌∙◌, pos
 use Rattle.jiff_core.specs.declared.civil.date.Date.{Date}
 use Rattle.jiff_core.proofs.SignedLemmas.{signed_arith}
 use Rattle.jiff_core.proofs.DateLemmas.{epoch_day_injective}
-use Rattle.vacreply.specs.Dates.{IsDay, IsDateText}
+use Rattle.sieve_vacation.specs.Dates.{IsDay, IsUtcDateText}
 
 -- a day as jiff has it
 date_of : (number year month day : ℕ) → IsDay number year month day → Date
@@ -17,7 +17,7 @@ one_day number y m d year month day one two =
     (omega (arith, signed_arith, same.0), same.1, same.2)
 
 -- a moment has one text
-pub one_date : (moment : ℕ) (one two : List ℕ) → IsDateText moment one → IsDateText moment two → one ≡ two
+pub one_date : (moment : ℕ) (one two : List ℕ) → IsUtcDateText moment one → IsUtcDateText moment two → one ≡ two
 one_date moment one two is other =
     let same = one_day (moment / 86400) is.year is.month is.day other.year other.month other.day is.is_day other.is_day in
     is.spelled ∙ rw (same.0, same.1, same.2) (sym other.spelled)

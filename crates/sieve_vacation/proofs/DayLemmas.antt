@@ -11,8 +11,8 @@ use Rattle.jiff_core.proofs.SignedLemmas.{signed_arith}
 use Rattle.jiff_core.proofs.CalendarLemmas.{days_from_civil-day_count, day_count-epoch, day_count-lt_year, weekday_number-parts}
 use Rattle.jiff_core.proofs.DateLemmas.{civil}
 use Rattle.jiff_core.proofs.StandardFacts.{known_days}
-use Rattle.vacreply.specs.Dates.{IsDay, WritesDay, WritesDate, day_names, month_names, two_digits, time_text}
-use Rattle.vacreply.proofs.Appends.{glue4, glue8}
+use Rattle.sieve_vacation.specs.Dates.{IsDay, WritesDay, WritesDate, day_names, month_names, two_digits_of, clock_text}
+use Rattle.sieve_vacation.proofs.Appends.{glue4, glue8}
 
 -- 1 January 1970 has number 0
 pub first_day : (d : Date) → IsYmd (pos 1970) (pos 1) (pos 1) d → epoch_day d ≡ pos 0
@@ -53,9 +53,9 @@ pub day_written : (number : ℕ) (d : Date) (weekday : Weekday) (year high low d
     → epoch_day d ≡ pos number → monday_zero weekday ≡ weekday_of d → year ≡ unsigned_abs d.year → high ≡ year / 100 → low ≡ year % 100 → day ≡ d.day → month ≡ d.month
     → name ≡ get_or day_names (sunday_zero weekday) [] → monthly ≡ get_or month_names (month - 1) []
     → a ≡ old ++ name → b ≡ a ++ codes ", " → c ≡ b ++ decimal day → e ≡ c ++ 32 ∷ [] → f ≡ e ++ monthly → g ≡ f ++ 32 ∷ []
-    → h ≡ g ++ two_digits high → new ≡ h ++ two_digits low → WritesDay number old new
+    → h ≡ g ++ two_digits_of high → new ≡ h ++ two_digits_of low → WritesDay number old new
 day_written number d weekday year high low day month old name a b c e monthly f g h new is same years highs lows days months named monthlies one two three four five six seven eight =
-    let spelled = glue8 old name a (codes ", ") b (decimal day) c (32 ∷ []) e monthly f (32 ∷ []) g (two_digits high) h (two_digits low) new one two three four five six seven eight in
+    let spelled = glue8 old name a (codes ", ") b (decimal day) c (32 ∷ []) e monthly f (32 ∷ []) g (two_digits_of high) h (two_digits_of low) new one two three four five six seven eight in
     let first : name ≡ get_or day_names ((number + 4) % 7) [] = named ∙ ap (λ n. get_or day_names n []) (weekday_is number d weekday is same) in
     record {
       year = unsigned_abs d.year;
@@ -66,11 +66,11 @@ day_written number d weekday year high low day month old name a b c e monthly f 
     }
 
 -- the four texts of a moment, appended in turn
-pub date_written : (moment : ℕ) (old a b c new : List ℕ) → WritesDay (moment / 86400) old a → b ≡ a ++ 32 ∷ [] → c ≡ b ++ time_text (moment % 86400) → new ≡ c ++ codes " +0000"
+pub date_written : (moment : ℕ) (old a b c new : List ℕ) → WritesDay (moment / 86400) old a → b ≡ a ++ 32 ∷ [] → c ≡ b ++ clock_text (moment % 86400) → new ≡ c ++ codes " +0000"
     → WritesDate moment old new
 date_written moment old a b c new is two three four =
     record {
       text = _;
       is_text = record { year = is.year; month = is.month; day = is.day; is_day = is.is_day; spelled = refl };
-      appended = glue4 old _ a (32 ∷ []) b (time_text (moment % 86400)) c (codes " +0000") new is.appended two three four;
+      appended = glue4 old _ a (32 ∷ []) b (clock_text (moment % 86400)) c (codes " +0000") new is.appended two three four;
     }

@@ -2,11 +2,11 @@
 use Rattle.std.proofs.Common.{◌≡◌, ℕ, suc, ◌+◌, ◌-◌, ◌==◌, ◌≤◌, ◌<◌, Bool, true, false, cond, ◌&&◌, List, [], ◌∷◌, ◌++◌, length, take, drop, get_or, refl, ap, sym, ◌∙◌, arith, get_or-append-add}
 use Rattle.std.proofs.lemmas.Bool.Decides.{nat_tests}
 use Rattle.octets.specs.Ascii.{is_blank}
-use Rattle.mailhead.specs.Lines.{lines_of, at_front, is_feed, goes_on, begins_blank, end_len, without_end}
-use Rattle.mailhead.specs.Heads.{joined, unfold_of}
-use Rattle.mailhead.proofs.LineLemmas.{goes_on-lines_of}
-use Rattle.mailhead.proofs.PlaceLemmas.{end_len-le}
-use Rattle.vacreply.specs.Folds.{begins_feed_fold, fold_len}
+use Rattle.mail_head.specs.Lines.{lines_of, at_front, is_feed, first_is_folded, begins_blank, end_len, without_end}
+use Rattle.mail_head.specs.Heads.{unfolded_lines, unfold_of}
+use Rattle.mail_head.proofs.LineLemmas.{goes_on-lines_of}
+use Rattle.mail_head.proofs.PlaceLemmas.{end_len-le}
+use Rattle.sieve_vacation.specs.Folds.{begins_feed_fold, fold_len}
 
 -- a line end that a blank follows is left out
 feed_out : (rest : List ℕ) → begins_blank rest ≡ true → unfold_of (10 ∷ rest) ≡ unfold_of rest
@@ -44,16 +44,16 @@ joined_with true octet line rest same = ap (λ text. text ++ rest) (end_kept oct
 joined_with false octet line rest same = refl
 
 -- an octet before the first line stays
-front_kept : (octet : ℕ) (line : List ℕ) (others : List (List ℕ)) → (goes_on others ≡ true → end_len (octet ∷ line) ≡ end_len line)
-    → joined ((octet ∷ line) ∷ others) ≡ octet ∷ joined (line ∷ others)
-front_kept octet line others same = joined_with (goes_on others) octet line (joined others) same
+front_kept : (octet : ℕ) (line : List ℕ) (others : List (List ℕ)) → (first_is_folded others ≡ true → end_len (octet ∷ line) ≡ end_len line)
+    → unfolded_lines ((octet ∷ line) ∷ others) ≡ octet ∷ unfolded_lines (line ∷ others)
+front_kept octet line others same = joined_with (first_is_folded others) octet line (unfolded_lines others) same
 
 -- two octets that are no line end
 pair_end : (octet next : ℕ) → is_feed next ≡ false → end_len (octet ∷ (next ∷ [])) ≡ end_len (next ∷ [])
 pair_end octet next other = rw other refl
 
 -- after another octet than LF, before what else the text has
-other_kept : (octet next : ℕ) (lines : List (List ℕ)) → is_feed next ≡ false → joined (at_front octet (at_front next lines)) ≡ octet ∷ joined (at_front next lines)
+other_kept : (octet next : ℕ) (lines : List (List ℕ)) → is_feed next ≡ false → unfolded_lines (at_front octet (at_front next lines)) ≡ octet ∷ unfolded_lines (at_front next lines)
 other_kept octet next [] other = front_kept octet (next ∷ []) [] (λ goes. pair_end octet next other)
 other_kept octet next ([] ∷ more) other = front_kept octet (next ∷ []) more (λ goes. pair_end octet next other)
 other_kept octet next ((first ∷ line) ∷ more) other = front_kept octet (next ∷ (first ∷ line)) more (λ goes. same_end octet (next ∷ (first ∷ line)) (omega arith))
@@ -80,12 +80,12 @@ feed_end : (octet next : ℕ) → is_feed next ≡ true → (octet == 13) ≡ fa
 feed_end octet next feed other = rw (feed, other, (feed_is next feed).1) refl
 
 unfolded_front : (octet next : ℕ) (more : List ℕ) (feed : Bool) → is_feed next ≡ feed → (((octet == 13) && (feed && begins_blank more)) ≡ false)
-    → joined (at_front octet (cond feed ((next ∷ []) ∷ lines_of more) (at_front next (lines_of more)))) ≡ octet ∷ joined (cond feed ((next ∷ []) ∷ lines_of more) (at_front next (lines_of more)))
+    → unfolded_lines (at_front octet (cond feed ((next ∷ []) ∷ lines_of more) (at_front next (lines_of more)))) ≡ octet ∷ unfolded_lines (cond feed ((next ∷ []) ∷ lines_of more) (at_front next (lines_of more)))
 unfolded_front octet next more false is apart = other_kept octet next (lines_of more) is
 unfolded_front octet next more true is apart =
     front_kept octet (next ∷ []) (lines_of more) (λ goes. feed_end octet next is (and_true (octet == 13) (rw (sym (goes_on-lines_of more), goes) at apart)))
 
-other_front : (octet : ℕ) (rest : List ℕ) → ((octet == 13) && begins_feed_fold rest) ≡ false → joined (at_front octet (lines_of rest)) ≡ octet ∷ unfold_of rest
+other_front : (octet : ℕ) (rest : List ℕ) → ((octet == 13) && begins_feed_fold rest) ≡ false → unfolded_lines (at_front octet (lines_of rest)) ≡ octet ∷ unfold_of rest
 other_front octet [] apart = refl
 other_front octet (next ∷ more) apart = unfolded_front octet next more (is_feed next) refl apart
 

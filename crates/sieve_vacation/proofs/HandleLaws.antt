@@ -1,7 +1,7 @@
 -- A key tells the handle that it is of.
 use Rattle.std.proofs.Common.{◌≡◌, ◌↔◌, ℕ, Bool, true, false, cond, List, [], ◌∷◌, ◌++◌, length, refl, ap, arith}
 use Rattle.std.specs.Prelude.{Option, Some, None}
-use Rattle.vacreply.specs.Handles.{Handle, Named, Same, part_of, key_of, IsShort, HasShortTexts}
+use Rattle.sieve_vacation.specs.Handles.{Handle, Named, Same, key_part_of, handle_key_of, IsShort, HasShortTexts}
 
 head_is : (x y : ℕ) (u v : List ℕ) → x ∷ u ≡ y ∷ v → x ≡ y
 head_is x y u v same = cc
@@ -22,7 +22,7 @@ append_both (x ∷ one) (y ∷ two) tail after even same =
 
 -- of two parts before equal texts each is the other
 part_both : (one two : Option (List ℕ)) (tail after : List ℕ) → IsShort one → IsShort two
-    → part_of one ++ tail ≡ part_of two ++ after → (one ≡ two) × (tail ≡ after)
+    → key_part_of one ++ tail ≡ key_part_of two ++ after → (one ≡ two) × (tail ≡ after)
 part_both None None tail after short few same = (refl, tail_is 0 0 _ _ same)
 part_both None (Some text) tail after short few same = absurd (omega (arith, head_is 0 1 _ _ same))
 part_both (Some text) None tail after short few same = absurd (omega (arith, head_is 1 0 _ _ same))
@@ -42,7 +42,7 @@ mark_tells true false same = absurd (omega arith)
 mark_tells false true same = absurd (omega arith)
 mark_tells false false same = refl
 
-key_tells : (one two : Handle) → HasShortTexts one → HasShortTexts two → key_of one ≡ key_of two → one ≡ two
+key_tells : (one two : Handle) → HasShortTexts one → HasShortTexts two → handle_key_of one ≡ handle_key_of two → one ≡ two
 key_tells (Named name) (Named other) short few same = ap Named (tail_is 1 1 _ _ same)
 key_tells (Named name) (Same subject from mime reason) short few same = absurd (omega (arith, head_is 1 2 _ _ same))
 key_tells (Same subject from mime reason) (Named name) short few same = absurd (omega (arith, head_is 2 1 _ _ same))
@@ -56,5 +56,5 @@ key_tells (Same subject from mime reason) (Same s f m r) short few same =
     cc
 
 -- two handles have one key exactly where they are the same
-pub keys_tell : (one two : Handle) → HasShortTexts one → HasShortTexts two → (key_of one ≡ key_of two) ↔ (one ≡ two)
-keys_tell one two short few = (key_tells one two short few, ap key_of)
+pub keys_tell : (one two : Handle) → HasShortTexts one → HasShortTexts two → (handle_key_of one ≡ handle_key_of two) ↔ (one ≡ two)
+keys_tell one two short few = (key_tells one two short few, ap handle_key_of)

@@ -1,14 +1,14 @@
 -- Each reason of the table, where it just holds and where it just doesn't.
 use Rattle.std.proofs.Common.{◌≡◌, ℕ, true, false, [], ◌∷◌, List, refl, pos}
 use Rattle.std.specs.Prelude.{codes, Option, Some, None}
-use Rattle.mailhead.specs.Fields.{FieldText}
-use Rattle.addrparts.specs.declared.address.Addr.{Addr}
-use Rattle.sieveexec.specs.Mails.{MailSpec}
-use Rattle.sievesyntax.specs.declared.tree.vacation.VacArgs.{VacArgs}
-use Rattle.vacreply.specs.declared.reason.Reason.TheVariants as R
-use Rattle.vacreply.specs.declared.reason.Decision.TheVariants as D
-use Rattle.vacreply.specs.Cases.{is_robot, is_automatic, is_suppressing, is_bulk, is_users, is_early, has_value, list_fields}
-use Rattle.vacreply.specs.Reasons.{holds, first_of, reasons}
+use Rattle.mail_head.specs.Fields.{FieldText}
+use Rattle.mail_address.specs.declared.address.Addr.{Addr}
+use Rattle.sieve_exec.specs.Mails.{MailSpec}
+use Rattle.sieve_syntax.specs.declared.tree.vacation.VacationArgs.{VacationArgs}
+use Rattle.sieve_vacation.specs.declared.reason.Reason.TheVariants as R
+use Rattle.sieve_vacation.specs.declared.reason.ReplyDecision.TheVariants as D
+use Rattle.sieve_vacation.specs.Cases.{is_robot, is_automatic, is_suppressing, is_bulk, is_users, is_too_soon, has_value, list_fields}
+use Rattle.sieve_vacation.specs.Reasons.{reason_holds, first_of, reasons}
 
 abbrev alice : Addr
 alice = record { local = codes "alice"; domain = codes "example.org" }
@@ -16,7 +16,7 @@ alice = record { local = codes "alice"; domain = codes "example.org" }
 abbrev aliens : Addr
 aliens = record { local = codes "a"; domain = codes "b" }
 
-abbrev plain : Option ℕ → VacArgs
+abbrev plain : Option ℕ → VacationArgs
 plain days = record { days = days; seconds = None; subject = None; from = None; addresses = aliens ∷ []; mime = false; handle = None; reason = codes "Away." }
 
 abbrev mail_from : List ℕ → List FieldText → MailSpec
@@ -26,9 +26,9 @@ abbrev line : List ℕ → List ℕ → FieldText
 line name raw = record { name = name; raw = raw }
 
 -- the null sender; a sender without a local part, without a domain, without `@`; one with two `@`
-senders : (holds (plain None) (mail_from [] []) alice None 0 R.NullSender ≡ true) × (holds (plain None) (mail_from (codes "b") []) alice None 0 R.NullSender ≡ false)
-    × (holds (plain None) (mail_from (codes "@b") []) alice None 0 R.BadSender ≡ true) × (holds (plain None) (mail_from (codes "a@") []) alice None 0 R.BadSender ≡ true)
-    × (holds (plain None) (mail_from (codes "ab") []) alice None 0 R.BadSender ≡ true) × (holds (plain None) (mail_from (codes "a@b@c") []) alice None 0 R.BadSender ≡ false)
+senders : (reason_holds (plain None) (mail_from [] []) alice None 0 R.NullSender ≡ true) × (reason_holds (plain None) (mail_from (codes "b") []) alice None 0 R.NullSender ≡ false)
+    × (reason_holds (plain None) (mail_from (codes "@b") []) alice None 0 R.BadSender ≡ true) × (reason_holds (plain None) (mail_from (codes "a@") []) alice None 0 R.BadSender ≡ true)
+    × (reason_holds (plain None) (mail_from (codes "ab") []) alice None 0 R.BadSender ≡ true) × (reason_holds (plain None) (mail_from (codes "a@b@c") []) alice None 0 R.BadSender ≡ false)
 senders = (refl, refl, refl, refl, refl, refl)
 
 robots : (is_robot (codes "MAILER-daemon") ≡ true) × (is_robot (codes "mailer-daemons") ≡ false) × (is_robot (codes "Owner-") ≡ true) × (is_robot (codes "owner") ≡ false)
@@ -55,13 +55,13 @@ lists : (has_value list_fields (λ value. true) (line (codes "LIST-ID") []) ≡ 
 lists = (refl, refl, refl, refl)
 
 -- 7 days without `:days`, 1 at least and 365 at most
-early : (is_early (plain None) (Some 1700000000) 1700604799 ≡ true) × (is_early (plain None) (Some 1700000000) 1700604800 ≡ false)
-    × (is_early (plain (Some 0)) (Some 1700000000) 1700086399 ≡ true) × (is_early (plain (Some 0)) (Some 1700000000) 1700086400 ≡ false)
-    × (is_early (plain (Some 18446744073709551615)) (Some 0) 31535999 ≡ true) × (is_early (plain (Some 18446744073709551615)) (Some 0) 31536000 ≡ false)
-    × (is_early (plain None) None 0 ≡ false)
+early : (is_too_soon (plain None) (Some 1700000000) 1700604799 ≡ true) × (is_too_soon (plain None) (Some 1700000000) 1700604800 ≡ false)
+    × (is_too_soon (plain (Some 0)) (Some 1700000000) 1700086399 ≡ true) × (is_too_soon (plain (Some 0)) (Some 1700000000) 1700086400 ≡ false)
+    × (is_too_soon (plain (Some 18446744073709551615)) (Some 0) 31535999 ≡ true) × (is_too_soon (plain (Some 18446744073709551615)) (Some 0) 31536000 ≡ false)
+    × (is_too_soon (plain None) None 0 ≡ false)
 early = (refl, refl, refl, refl, refl, refl, refl)
 
 -- the first reason that holds is told
-first : (first_of (holds (plain None) (mail_from (codes "owner-x@y") (line (codes "List-Id") [] ∷ [])) alice None 0) reasons ≡ D.Quiet R.RobotSender)
-    × (first_of (holds (plain None) (mail_from (codes "x@y") []) alice None 0) reasons ≡ D.Quiet R.NotAddressed)
+first : (first_of (reason_holds (plain None) (mail_from (codes "owner-x@y") (line (codes "List-Id") [] ∷ [])) alice None 0) reasons ≡ D.Quiet R.RobotSender)
+    × (first_of (reason_holds (plain None) (mail_from (codes "x@y") []) alice None 0) reasons ≡ D.Quiet R.NotAddressed)
 first = (refl, refl)

@@ -3,8 +3,8 @@ use Rattle.std.proofs.Common.{◌≡◌, ℕ, true, false, [], ◌∷◌, ◌++�
 use Rattle.std.specs.Prelude.{codes, Some, None}
 use Rattle.std.specs.Str.{chars}
 use lib.Utf8.{encode}
-use Rattle.mailhead.specs.Fields.{FieldText}
-use Rattle.vacreply.specs.Layout.{line_end, first_raw, shortened, auto_subject, is_quotable, is_phrase, answered, has_version, ended, to_line}
+use Rattle.mail_head.specs.Fields.{FieldText}
+use Rattle.sieve_vacation.specs.Layout.{crlf_octets, first_raw, shortened, auto_subject, is_quotable_display, is_phrase_text, in_reply_to_line, has_version, with_line_end, to_line}
 
 abbrev field : List ℕ → List ℕ → FieldText
 field name raw = record { name = name; raw = raw }
@@ -26,24 +26,24 @@ unfolding chars encode
 long = (refl, refl, refl, refl)
 
 -- atoms and words that the script's writer encoded; a mark that stands in no atom, and atoms alone
-phrases : (is_phrase (codes "Anna =?US-ASCII?Q?B?=") ≡ true) × (is_phrase (codes "Dr. =?US-ASCII?Q?B?=") ≡ false) × (is_phrase (codes "=?US-ASCII?Q?a,b?=") ≡ false) × (is_phrase (codes "Anna B") ≡ false)
-    × (is_phrase (codes "=?US-ASCII?Q?it's?= B") ≡ false) × (is_phrase (codes "O'Brien =?US-ASCII?Q?B?=") ≡ true)
+phrases : (is_phrase_text (codes "Anna =?US-ASCII?Q?B?=") ≡ true) × (is_phrase_text (codes "Dr. =?US-ASCII?Q?B?=") ≡ false) × (is_phrase_text (codes "=?US-ASCII?Q?a,b?=") ≡ false) × (is_phrase_text (codes "Anna B") ≡ false)
+    × (is_phrase_text (codes "=?US-ASCII?Q?it's?= B") ≡ false) × (is_phrase_text (codes "O'Brien =?US-ASCII?Q?B?=") ≡ true)
 phrases = (refl, refl, refl, refl, refl, refl)
 
-displays : (is_quotable (codes "Alice \"A\"") ≡ true) × (is_quotable (9 ∷ []) ≡ false) × (is_quotable (195 ∷ (169 ∷ [])) ≡ false)
+displays : (is_quotable_display (codes "Alice \"A\"") ≡ true) × (is_quotable_display (9 ∷ []) ≡ false) × (is_quotable_display (195 ∷ (169 ∷ [])) ≡ false)
 displays = (refl, refl, refl)
 
 -- a name without blanks stands in the line, and one with a blank in it doesn't
-names : (answered (Some (codes "<m1@example.net>")) ≡ codes "In-Reply-To: <m1@example.net>" ++ line_end) × (answered (Some (codes "<m1 @example.net>")) ≡ []) × (answered (Some []) ≡ [])
+names : (in_reply_to_line (Some (codes "<m1@example.net>")) ≡ codes "In-Reply-To: <m1@example.net>" ++ crlf_octets) × (in_reply_to_line (Some (codes "<m1 @example.net>")) ≡ []) × (in_reply_to_line (Some []) ≡ [])
 names = (refl, refl, refl)
 
-versions : (has_version (codes "mime-VERSION: 1.0" ++ (line_end ++ line_end)) ≡ true) × (has_version (codes "Content-Type: text/plain" ++ (line_end ++ (line_end ++ codes "MIME-Version: 1.0"))) ≡ false)
+versions : (has_version (codes "mime-VERSION: 1.0" ++ (crlf_octets ++ crlf_octets)) ≡ true) × (has_version (codes "Content-Type: text/plain" ++ (crlf_octets ++ (crlf_octets ++ codes "MIME-Version: 1.0"))) ≡ false)
 versions = (refl, refl)
 
 -- CRLF follows where LF alone ends a reason
-endings : (ended (codes "Away.") ≡ codes "Away." ++ line_end) × (ended (codes "Away." ++ line_end) ≡ codes "Away." ++ line_end) × (ended (65 ∷ (10 ∷ [])) ≡ 65 ∷ (10 ∷ (13 ∷ (10 ∷ []))))
-    × (ended [] ≡ line_end)
+endings : (with_line_end (codes "Away.") ≡ codes "Away." ++ crlf_octets) × (with_line_end (codes "Away." ++ crlf_octets) ≡ codes "Away." ++ crlf_octets) × (with_line_end (65 ∷ (10 ∷ [])) ≡ 65 ∷ (10 ∷ (13 ∷ (10 ∷ []))))
+    × (with_line_end [] ≡ crlf_octets)
 endings = (refl, refl, refl, refl)
 
-to : to_line (codes "bob@example.net") ≡ codes "To: <bob@example.net>" ++ line_end
+to : to_line (codes "bob@example.net") ≡ codes "To: <bob@example.net>" ++ crlf_octets
 to = refl

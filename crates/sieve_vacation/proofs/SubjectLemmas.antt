@@ -5,7 +5,7 @@ use Rattle.std.proofs.lemmas.List.{append-nil, take_more, take_all}
 use Rattle.std.proofs.lemmas.Str.{encodes-append}
 use Rattle.std.specs.Prelude.{encode_utf8, encode_utf8_all, nat_lt}
 use Rattle.std.specs.Str.{chars}
-use Rattle.vacreply.specs.Layout.{shortened}
+use Rattle.sieve_vacation.specs.Layout.{shortened}
 
 -- the character that comes next, after so many
 pub short_at : (characters : List ℕ) (k n character : ℕ) → n ≡ k → (k < length characters) × (character ≡ get_or characters k character)

@@ -3,7 +3,7 @@ use Rattle.std.proofs.Common.{◌≡◌, ℕ, Bool, true, false, List, refl, ap}
 use Rattle.std.specs.Prelude.{Option, Some, None}
 use Rattle.std.specs.Str.{is_utf8, IsUtf8}
 use Rattle.std.proofs.lemmas.Str.{is_utf8-from_IsUtf8, IsUtf8-from_is_utf8}
-use Rattle.vacreply.specs.Layout.{usable}
+use Rattle.sieve_vacation.specs.Layout.{usable}
 
 not_utf8 : (text : List ℕ) (test : Bool) → is_utf8 text ≡ test → (IsUtf8 text → ⊥) → test ≡ false
 not_utf8 text true is isnt = absurd (isnt (IsUtf8-from_is_utf8 text is))

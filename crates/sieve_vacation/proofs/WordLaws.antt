@@ -4,10 +4,10 @@ use Rattle.std.specs.Prelude.{Option, Some, None}
 use Rattle.std.proofs.lemmas.Bool.Decides.{nat_tests}
 use Rattle.std.specs.List.{before_first, position_or_len, list_all, list_any}
 use Rattle.std.specs.Char.{to_ascii_lowercase}
-use Rattle.mailhead.specs.Lines.{at_front}
-use Rattle.octets.specs.Ascii.{is_blank, trim_front, trim_back, trimmed, before}
-use Rattle.vacreply.specs.Cases.{same_text, is_empty, is_comma, between_commas}
-use Rattle.vacreply.specs.Folds.{after_word, after_comma, is_small, is_mark, ends_by_mark}
+use Rattle.mail_head.specs.Lines.{at_front}
+use Rattle.octets.specs.Ascii.{is_blank, trim_front, trim_back, trimmed, prepend_trimmed}
+use Rattle.sieve_vacation.specs.Cases.{same_ignoring_case, is_empty, is_comma, between_commas}
+use Rattle.sieve_vacation.specs.Folds.{after_word, after_comma, is_small, is_nonletter, ends_by_mark}
 
 -- a text up to the first octet that stops it
 abbrev cut_at : (ℕ → Bool) → List ℕ → List ℕ
@@ -34,13 +34,13 @@ record IsApart (stop : ℕ → Bool) : Type 0 where
 never_apart : IsApart (λ octet. false)
 never_apart = record { blanks = λ octet blank. refl; letters = λ letter octet small same. refl }
 
-mark_blanks : (mark octet : ℕ) → is_mark mark ≡ true → is_blank octet ≡ true → (octet == mark) ≡ false
+mark_blanks : (mark octet : ℕ) → is_nonletter mark ≡ true → is_blank octet ≡ true → (octet == mark) ≡ false
 mark_blanks mark octet apart blank = grind (arith, nat_tests)
 
-mark_letters : (mark letter octet : ℕ) → is_mark mark ≡ true → is_small letter ≡ true → nat_eq (to_ascii_lowercase letter) (to_ascii_lowercase octet) ≡ true → (octet == mark) ≡ false
+mark_letters : (mark letter octet : ℕ) → is_nonletter mark ≡ true → is_small letter ≡ true → nat_eq (to_ascii_lowercase letter) (to_ascii_lowercase octet) ≡ true → (octet == mark) ≡ false
 mark_letters mark letter octet apart small same = grind (arith, nat_tests)
 
-mark_apart : (mark : ℕ) → is_mark mark ≡ true → IsApart (λ octet. octet == mark)
+mark_apart : (mark : ℕ) → is_nonletter mark ≡ true → IsApart (λ octet. octet == mark)
 mark_apart mark apart = record { blanks = λ octet. mark_blanks mark octet apart; letters = λ letter octet. mark_letters mark letter octet apart }
 
 -- a letter is no blank
@@ -64,7 +64,7 @@ front_cut stop (octet ∷ rest) apart =
 
 -- a text is blank from its front as from its end
 empty_step : (octet : ℕ) (rest back : List ℕ) (blank : Bool) → is_blank octet ≡ blank → is_empty back ≡ is_empty (trim_front rest)
-    → is_empty (before octet back) ≡ is_empty (cond blank (trim_front rest) (octet ∷ rest))
+    → is_empty (prepend_trimmed octet back) ≡ is_empty (cond blank (trim_front rest) (octet ∷ rest))
 empty_step octet rest [] true is more = rw is more
 empty_step octet rest [] false is more = rw is refl
 empty_step octet rest (next ∷ back) true is more = more
@@ -74,7 +74,7 @@ empty_back : (text : List ℕ) → is_empty (trim_back text) ≡ is_empty (trim_
 empty_back [] = refl
 empty_back (octet ∷ rest) = empty_step octet rest (trim_back rest) (is_blank octet) refl (empty_back rest)
 
-same_empty : (text : List ℕ) → same_text [] text ≡ is_empty text
+same_empty : (text : List ℕ) → same_ignoring_case [] text ≡ is_empty text
 same_empty [] = refl
 same_empty (octet ∷ rest) = refl
 
@@ -84,7 +84,7 @@ ends_by stop None = false
 ends_by stop (Some rest) = is_empty (trim_front (cut_at stop rest))
 
 back_step : (letter octet : ℕ) (word back : List ℕ) (blank same : Bool) → is_blank octet ≡ blank → nat_eq (to_ascii_lowercase letter) (to_ascii_lowercase octet) ≡ same
-    → (blank ≡ true → same ≡ false) → same_text (letter ∷ word) (before octet back) ≡ cond same (same_text word back) false
+    → (blank ≡ true → same ≡ false) → same_ignoring_case (letter ∷ word) (prepend_trimmed octet back) ≡ cond same (same_ignoring_case word back) false
 back_step letter octet word [] true true is test apart = absurd (cc (apart refl))
 back_step letter octet word [] true false is test apart = rw is refl
 back_step letter octet word [] false true is test apart = rw (is, test) refl
@@ -94,8 +94,8 @@ back_step letter octet word (next ∷ back) blank false is test apart = rw test 
 
 word_step : (stop : ℕ → Bool) (letter octet : ℕ) (word rest : List ℕ) (stops same : Bool) → is_small letter ≡ true
     → stop octet ≡ stops → nat_eq (to_ascii_lowercase letter) (to_ascii_lowercase octet) ≡ same → (same ≡ true → stops ≡ false)
-    → same_text word (trim_back (cut_at stop rest)) ≡ ends_by stop (after_word word rest)
-    → same_text (letter ∷ word) (trim_back (cond stops [] (octet ∷ cut_at stop rest))) ≡ ends_by stop (cond same (after_word word rest) None)
+    → same_ignoring_case word (trim_back (cut_at stop rest)) ≡ ends_by stop (after_word word rest)
+    → same_ignoring_case (letter ∷ word) (trim_back (cond stops [] (octet ∷ cut_at stop rest))) ≡ ends_by stop (cond same (after_word word rest) None)
 word_step stop letter octet word rest true true small stopping test apart more = absurd (cc (apart refl))
 word_step stop letter octet word rest true false small stopping test apart more = refl
 word_step stop letter octet word rest false true small stopping test apart more =
@@ -108,7 +108,7 @@ both_true true b is = (refl, is)
 both_true false b is = absurd cc
 
 word_at : (stop : ℕ → Bool) (word text : List ℕ) → IsApart stop → list_all is_small word ≡ true
-    → same_text word (trim_back (cut_at stop text)) ≡ ends_by stop (after_word word text)
+    → same_ignoring_case word (trim_back (cut_at stop text)) ≡ ends_by stop (after_word word text)
 word_at stop [] text apart small = same_empty (trim_back (cut_at stop text)) ∙ empty_back (cut_at stop text)
 word_at stop (letter ∷ word) [] apart small = refl
 word_at stop (letter ∷ word) (octet ∷ rest) apart small =
@@ -117,13 +117,13 @@ word_at stop (letter ∷ word) (octet ∷ rest) apart small =
 
 -- the word that a value is, without the blanks at its ends
 pub word_is : (word value after : List ℕ) → list_all is_small word ≡ true → Some after ≡ after_word word (trim_front value)
-    → is_empty (trim_front after) ≡ same_text word (trimmed value)
+    → is_empty (trim_front after) ≡ same_ignoring_case word (trimmed value)
 word_is word value after small found =
     let at = word_at (λ octet. false) word (trim_front value) never_apart small in
     let whole = rw (cut_never (trim_front value)) at at in
     sym (whole ∙ (ap (ends_by (λ octet. false)) (sym found) ∙ ap (λ t. is_empty (trim_front t)) (cut_never after)))
 
-pub word_isnt : (word value : List ℕ) → list_all is_small word ≡ true → None ≡ after_word word (trim_front value) → false ≡ same_text word (trimmed value)
+pub word_isnt : (word value : List ℕ) → list_all is_small word ≡ true → None ≡ after_word word (trim_front value) → false ≡ same_ignoring_case word (trimmed value)
 word_isnt word value small found =
     let at = word_at (λ octet. false) word (trim_front value) never_apart small in
     let whole = rw (cut_never (trim_front value)) at at in
@@ -138,20 +138,20 @@ mark_cut mark (octet ∷ rest) = cut_head (octet == mark)
     cut_head false = refl
 
 -- the word that a value is up to its first octet of a mark
-mark_is : (mark : ℕ) (word value : List ℕ) → is_mark mark ≡ true → list_all is_small word ≡ true
-    → same_text word (trimmed (before_first (λ octet. octet == mark) value)) ≡ ends_by (λ octet. octet == mark) (after_word word (trim_front value))
+mark_is : (mark : ℕ) (word value : List ℕ) → is_nonletter mark ≡ true → list_all is_small word ≡ true
+    → same_ignoring_case word (trimmed (before_first (λ octet. octet == mark) value)) ≡ ends_by (λ octet. octet == mark) (after_word word (trim_front value))
 mark_is mark word value apart small =
     let front = ap trim_front (cut_first (λ octet. octet == mark) value) ∙ front_cut (λ octet. octet == mark) value (mark_apart mark apart) in
-    ap (λ t. same_text word (trim_back t)) front ∙ word_at (λ octet. octet == mark) word (trim_front value) (mark_apart mark apart) small
+    ap (λ t. same_ignoring_case word (trim_back t)) front ∙ word_at (λ octet. octet == mark) word (trim_front value) (mark_apart mark apart) small
 
-pub mark_word : (mark : ℕ) (word value after : List ℕ) → is_mark mark ≡ true → list_all is_small word ≡ true → Some after ≡ after_word word (trim_front value)
-    → ends_by_mark mark (trim_front after) ≡ same_text word (trimmed (before_first (λ octet. octet == mark) value))
+pub mark_word : (mark : ℕ) (word value after : List ℕ) → is_nonletter mark ≡ true → list_all is_small word ≡ true → Some after ≡ after_word word (trim_front value)
+    → ends_by_mark mark (trim_front after) ≡ same_ignoring_case word (trimmed (before_first (λ octet. octet == mark) value))
 mark_word mark word value after apart small found =
     sym (mark_is mark word value apart small ∙ (ap (ends_by (λ octet. octet == mark)) (sym found)
     ∙ (ap is_empty (front_cut (λ octet. octet == mark) after (mark_apart mark apart)) ∙ mark_cut mark (trim_front after))))
 
-pub mark_other : (mark : ℕ) (word value : List ℕ) → is_mark mark ≡ true → list_all is_small word ≡ true → None ≡ after_word word (trim_front value)
-    → false ≡ same_text word (trimmed (before_first (λ octet. octet == mark) value))
+pub mark_other : (mark : ℕ) (word value : List ℕ) → is_nonletter mark ≡ true → list_all is_small word ≡ true → None ≡ after_word word (trim_front value)
+    → false ≡ same_ignoring_case word (trimmed (before_first (λ octet. octet == mark) value))
 mark_other mark word value apart small found = sym (mark_is mark word value apart small ∙ ap (ends_by (λ octet. octet == mark)) (sym found))
 
 -- the values of a list from here on, where there are more

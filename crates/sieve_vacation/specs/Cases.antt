@@ -3,40 +3,40 @@ use Rattle.std.specs.Prelude.{ℕ, ◌+◌, ◌-◌, ◌*◌, max, min, nat_lt, 
 use Rattle.std.specs.List.{list_any, flat_map, before_first}
 use Rattle.std.specs.Cmp.Lexicographic.{pointwise}
 use Rattle.octets.specs.Ascii.{lowered, trimmed}
-use Rattle.mailhead.specs.Fields.{FieldText}
-use Rattle.mailhead.specs.Lines.{at_front}
-use Rattle.mailhead.specs.Heads.{unfold_of}
-use Rattle.addrparts.specs.declared.address.Addr.{Addr}
-use Rattle.addrparts.specs.Spelling.{all_of}
-use Rattle.addrparts.specs.Reading.{addrs}
-use Rattle.sievesyntax.specs.declared.tree.vacation.VacArgs.{VacArgs}
-use Rattle.sieveexec.specs.Mails.{MailSpec}
+use Rattle.mail_head.specs.Fields.{FieldText}
+use Rattle.mail_head.specs.Lines.{at_front}
+use Rattle.mail_head.specs.Heads.{unfold_of}
+use Rattle.mail_address.specs.declared.address.Addr.{Addr}
+use Rattle.mail_address.specs.Spelling.{unquoted_address}
+use Rattle.mail_address.specs.Reading.{addrs}
+use Rattle.sieve_syntax.specs.declared.tree.vacation.VacationArgs.{VacationArgs}
+use Rattle.sieve_exec.specs.Mails.{MailSpec}
 
 abbrev pub is_empty : List ℕ → Bool
 is_empty [] = true
 is_empty (octet ∷ rest) = false
 
 -- the same text ignoring ASCII case
-abbrev pub same_text : List ℕ → List ℕ → Bool
-same_text one two = pointwise nat_eq (lowered one) (lowered two)
+abbrev pub same_ignoring_case : List ℕ → List ℕ → Bool
+same_ignoring_case one two = pointwise nat_eq (lowered one) (lowered two)
 
 -- one of these texts, ignoring case
 abbrev pub is_one_of : List (List ℕ) → List ℕ → Bool
-is_one_of texts text = list_any (λ one. same_text one text) texts
+is_one_of texts text = list_any (λ one. same_ignoring_case one text) texts
 
 -- the text begins with `front`, ignoring case
-abbrev pub begins_with : List ℕ → List ℕ → Bool
-begins_with front text = same_text front (take (length front) text)
+abbrev pub begins_with_text : List ℕ → List ℕ → Bool
+begins_with_text front text = same_ignoring_case front (take (length front) text)
 
 -- the text ends with `end`, ignoring case
 abbrev pub ends_with : List ℕ → List ℕ → Bool
-ends_with end text = same_text end (drop (length text - length end) text)
+ends_with end text = same_ignoring_case end (drop (length text - length end) text)
 
 -- the local part of a program that answers mail (RFC 5230, 4.6)
 abbrev pub is_robot : List ℕ → Bool
 is_robot local =
     is_one_of (codes "mailer-daemon" ∷ (codes "listserv" ∷ (codes "majordomo" ∷ []))) local
-    || (begins_with (codes "owner-") local || ends_with (codes "-request") local)
+    || (begins_with_text (codes "owner-") local || ends_with (codes "-request") local)
 
 -- some field with one of these names, ignoring case, has an unfolded value that passes
 abbrev pub has_value : List (List ℕ) → (List ℕ → Bool) → FieldText → Bool
@@ -47,20 +47,20 @@ some_value names passes mail = list_any (has_value names passes) mail.fields
 
 -- one of these addresses, each with nothing quoted; ignoring case
 abbrev pub has_address : List Addr → List ℕ → Bool
-has_address addresses text = list_any (λ one. same_text (all_of one) text) addresses
+has_address addresses text = list_any (λ one. same_ignoring_case (unquoted_address one) text) addresses
 
 -- the user's addresses: the account's, the envelope's recipient as it was written, and those of `:addresses`; ignoring case
-abbrev pub is_users : VacArgs → MailSpec → Addr → List ℕ → Bool
+abbrev pub is_users : VacationArgs → MailSpec → Addr → List ℕ → Bool
 is_users args mail own text =
-    same_text (all_of own) text || (same_text mail.to text || has_address args.addresses text)
+    same_ignoring_case (unquoted_address own) text || (same_ignoring_case mail.to text || has_address args.addresses text)
 
 -- `;`
-abbrev pub is_semicolon : ℕ → Bool
-is_semicolon octet = octet == 59
+abbrev pub begins_parameters : ℕ → Bool
+begins_parameters octet = octet == 59
 
 -- what precedes the first `;`, without the blanks at its ends, isn't `no` (RFC 3834, 5)
 abbrev pub is_automatic : List ℕ → Bool
-is_automatic value = not (same_text (codes "no") (trimmed (before_first is_semicolon value)))
+is_automatic value = not (same_ignoring_case (codes "no") (trimmed (before_first begins_parameters value)))
 
 -- `,`
 abbrev pub is_comma : ℕ → Bool
@@ -96,7 +96,7 @@ recipient_fields =
 
 -- the addresses in a field that names recipients, each with nothing quoted; none in any other
 abbrev pub recipients_in : FieldText → List (List ℕ)
-recipients_in field = cond (is_one_of recipient_fields field.name) (map all_of (addrs (unfold_of field.raw))) []
+recipients_in field = cond (is_one_of recipient_fields field.name) (map unquoted_address (addrs (unfold_of field.raw))) []
 
 -- the addresses of a mail's recipient fields, in order
 abbrev pub recipients_of : MailSpec → List (List ℕ)
@@ -108,13 +108,13 @@ days_period days = max 1 (min 365 (unwrap_or days 7)) * 86400
 
 -- for that many seconds a sender gets no second response: `:seconds` if they are given, at most 365 days (RFC 6131, 2), otherwise the
 -- days
-abbrev pub period_of : VacArgs → ℕ
+abbrev pub period_of : VacationArgs → ℕ
 period_of args = elim args.seconds [
   | None ↦ days_period args.days
   | Some seconds ↦ min 31536000 seconds
 ]
 
 -- a moment is kept, and this one comes before its period is over; a period of 0 is over at once
-abbrev pub is_early : VacArgs → Option ℕ → ℕ → Bool
-is_early args None moment = false
-is_early args (Some kept) moment = nat_lt 0 (period_of args) && nat_lt moment (kept + period_of args)
+abbrev pub is_too_soon : VacationArgs → Option ℕ → ℕ → Bool
+is_too_soon args None moment = false
+is_too_soon args (Some kept) moment = nat_lt 0 (period_of args) && nat_lt moment (kept + period_of args)

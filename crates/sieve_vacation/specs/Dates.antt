@@ -18,31 +18,31 @@ month_names =
     ∷ (codes "Sep" ∷ (codes "Oct" ∷ (codes "Nov" ∷ (codes "Dec" ∷ [])))))))))))
 
 -- a number below 100 in two digits
-abbrev pub two_digits : ℕ → List ℕ
-two_digits n = (48 + n / 10) ∷ ((48 + n % 10) ∷ [])
+abbrev pub two_digits_of : ℕ → List ℕ
+two_digits_of n = (48 + n / 10) ∷ ((48 + n % 10) ∷ [])
 
 -- `Tue, 14 Nov 2023`: day 0 was a Thursday, and month 1 is January
 abbrev pub day_text : ℕ → ℕ → ℕ → ℕ → List ℕ
 day_text number year month day =
     get_or day_names ((number + 4) % 7) [] ++ (codes ", " ++ (decimal day ++ (32 ∷ (get_or month_names (month - 1) [] ++ (32 ∷
-    (two_digits (year / 100) ++ two_digits (year % 100)))))))
+    (two_digits_of (year / 100) ++ two_digits_of (year % 100)))))))
 
 -- `22:13:20`, the time after that many seconds of a day
-abbrev pub time_text : ℕ → List ℕ
-time_text seconds = two_digits (seconds / 3600) ++ (58 ∷ (two_digits (seconds / 60 % 60) ++ (58 ∷ two_digits (seconds % 60))))
+abbrev pub clock_text : ℕ → List ℕ
+clock_text seconds = two_digits_of (seconds / 3600) ++ (58 ∷ (two_digits_of (seconds / 60 % 60) ++ (58 ∷ two_digits_of (seconds % 60))))
 
 -- the day with the number moment / 86,400, and the time of day
-pub record IsDateText (moment : ℕ) (text : List ℕ) : Type 0 where
+pub record IsUtcDateText (moment : ℕ) (text : List ℕ) : Type 0 where
   pub year : ℕ
   pub month : ℕ
   pub day : ℕ
   pub is_day : IsDay (moment / 86400) year month day
-  pub spelled : text ≡ day_text (moment / 86400) year month day ++ (32 ∷ (time_text (moment % 86400) ++ codes " +0000"))
+  pub spelled : text ≡ day_text (moment / 86400) year month day ++ (32 ∷ (clock_text (moment % 86400) ++ codes " +0000"))
 
 -- the text of a moment is appended to what was there
 pub record WritesDate (moment : ℕ) (old new : List ℕ) : Type 0 where
   pub text : List ℕ
-  pub is_text : IsDateText moment text
+  pub is_text : IsUtcDateText moment text
   pub appended : new ≡ old ++ text
 
 -- the text of the day with this number is appended to what was there

@@ -1,7 +1,7 @@
 -- An unfolded value read octet by octet from the raw one.
 use Rattle.std.specs.Prelude.{ℕ, Bool, true, false, ◌==◌, ◌&&◌, cond, List, [], ◌∷◌, Option, None, Some, nat_eq, nat_le}
 use Rattle.std.specs.Char.{to_ascii_lowercase}
-use Rattle.mailhead.specs.Lines.{is_feed, begins_blank}
+use Rattle.mail_head.specs.Lines.{is_feed, begins_blank}
 
 -- the text begins with LF and then a blank
 abbrev pub begins_feed_fold : List ℕ → Bool
@@ -24,8 +24,8 @@ abbrev pub is_small : ℕ → Bool
 is_small octet = nat_le 97 octet && nat_le octet 122
 
 -- a mark, neither a blank nor a letter: 33 to 64
-abbrev pub is_mark : ℕ → Bool
-is_mark octet = nat_le 33 octet && nat_le octet 64
+abbrev pub is_nonletter : ℕ → Bool
+is_nonletter octet = nat_le 33 octet && nat_le octet 64
 
 -- the text is empty, or begins with this mark
 abbrev pub ends_by_mark : ℕ → List ℕ → Bool

@@ -3,30 +3,30 @@ use Rattle.std.specs.Prelude.{◌≡◌, ℕ, nat_le, nat_lt, nat_eq, Bool, true
 use Rattle.std.specs.List.{list_all, ends_with}
 use Rattle.std.specs.Str.{is_utf8, chars}
 use Rattle.octets.specs.Ascii.{is_printable, trimmed}
-use Rattle.mailhead.specs.Fields.{FieldText}
-use Rattle.mailhead.specs.Heads.{fields_of, unfold_of}
-use Rattle.encwords.specs.Headers.{IsHeaderText, IsWorded}
-use Rattle.encwords.specs.Written.{has_written_words, has_phrase_words, lines_for, IsWrittenText}
-use Rattle.addrparts.specs.declared.address.Addr.{Addr}
-use Rattle.addrparts.specs.Spelling.{spelling, quoted}
-use Rattle.sievesyntax.specs.declared.tree.vacation.VacArgs.{VacArgs}
-use Rattle.sievesyntax.specs.declared.tree.vacation.ReplyFrom.{ReplyFrom}
-use Rattle.sieveexec.specs.Mails.{MailSpec, text_shown}
-use Rattle.vacreply.specs.Cases.{same_text}
-use Rattle.vacreply.specs.Dates.{IsDateText}
+use Rattle.mail_head.specs.Fields.{FieldText}
+use Rattle.mail_head.specs.Heads.{fields_of, unfold_of}
+use Rattle.mail_words.specs.Headers.{IsHeaderText, IsWorded}
+use Rattle.mail_words.specs.Written.{has_written_words, has_phrase_words, lines_for, IsWrittenText}
+use Rattle.mail_address.specs.declared.address.Addr.{Addr}
+use Rattle.mail_address.specs.Spelling.{address_spelling, quoted}
+use Rattle.sieve_syntax.specs.declared.tree.vacation.VacationArgs.{VacationArgs}
+use Rattle.sieve_syntax.specs.declared.tree.vacation.ReplyFrom.{ReplyFrom}
+use Rattle.sieve_exec.specs.Mails.{MailSpec, text_shown}
+use Rattle.sieve_vacation.specs.Cases.{same_ignoring_case}
+use Rattle.sieve_vacation.specs.Dates.{IsUtcDateText}
 
 -- CRLF
-abbrev pub line_end : List ℕ
-line_end = 13 ∷ (10 ∷ [])
+abbrev pub crlf_octets : List ℕ
+crlf_octets = 13 ∷ (10 ∷ [])
 
 -- a line of the response: what it begins with, its value and CRLF
-abbrev pub line : List ℕ → List ℕ → List ℕ
-line front value = front ++ (value ++ line_end)
+abbrev pub reply_line : List ℕ → List ℕ → List ℕ
+reply_line front value = front ++ (value ++ crlf_octets)
 
 -- the raw value of the first field with this name, ignoring case
 abbrev pub first_raw : List ℕ → List FieldText → Option (List ℕ)
 first_raw name [] = None
-first_raw name (field ∷ more) = cond (same_text name field.name) (Some field.raw) (first_raw name more)
+first_raw name (field ∷ more) = cond (same_ignoring_case name field.name) (Some field.raw) (first_raw name more)
 
 -- a text that is UTF-8; any other counts as none
 abbrev pub usable : Option (List ℕ) → Option (List ℕ)
@@ -38,8 +38,8 @@ abbrev pub display_of : ReplyFrom → List ℕ
 display_of from = unwrap_or (usable (Some from.display)) []
 
 -- at most 200 octets, all from 32 to 126
-abbrev pub is_quotable : List ℕ → Bool
-is_quotable display = nat_le (length display) 200 && list_all is_printable display
+abbrev pub is_quotable_display : List ℕ → Bool
+is_quotable_display display = nat_le (length display) 200 && list_all is_printable display
 
 -- a mark that no atom has (RFC 5322, 3.2.3: specials): one of `( ) < > [ ] : ; @ \ , . "`
 abbrev pub is_special : ℕ → Bool
@@ -51,26 +51,26 @@ abbrev pub is_phrase_octet : ℕ → Bool
 is_phrase_octet octet = not (is_special octet)
 
 -- atoms, and words that the script's author encoded, as a phrase has them (RFC 5322, 3.2.5; RFC 2047, 5)
-abbrev pub is_phrase : List ℕ → Bool
-is_phrase display = list_all is_phrase_octet display && (has_phrase_words display && has_written_words display)
+abbrev pub is_phrase_text : List ℕ → Bool
+is_phrase_text display = list_all is_phrase_octet display && (has_phrase_words display && has_written_words display)
 
 -- a phrase with such words is written as it is, any other display name as a quoted string (RFC 5322, 3.2.4) if it can be one, otherwise
 -- as encoded words (RFC 2047, 5)
 pub record IsDisplay (display value : List ℕ) : Type 0 where
-  pub phrase : is_phrase display ≡ true → value ≡ lines_for display
-  pub string : is_phrase display ≡ false → is_quotable display ≡ true → value ≡ quoted display
-  pub words : is_phrase display ≡ false → is_quotable display ≡ false → IsWorded display value
+  pub phrase : is_phrase_text display ≡ true → value ≡ lines_for display
+  pub string : is_phrase_text display ≡ false → is_quotable_display display ≡ true → value ≡ quoted display
+  pub words : is_phrase_text display ≡ false → is_quotable_display display ≡ false → IsWorded display value
 
 -- an address with a display name before it, or if that is empty only the address
-abbrev pub IsNamed : List ℕ → List ℕ → List ℕ → Type 0
-IsNamed [] address value = value ≡ address
-IsNamed (octet ∷ rest) address value =
+abbrev pub IsFromMailbox : List ℕ → List ℕ → List ℕ → Type 0
+IsFromMailbox [] address value = value ≡ address
+IsFromMailbox (octet ∷ rest) address value =
     (display : List ℕ) × (IsDisplay (octet ∷ rest) display × (value ≡ display ++ (codes " <" ++ (address ++ codes ">"))))
 
 -- the value of From: the account's address, or what `:from` says
 abbrev pub IsFrom : Option ReplyFrom → Addr → List ℕ → Type 0
-IsFrom None own value = value ≡ spelling own
-IsFrom (Some from) own value = IsNamed (display_of from) (spelling from.address) value
+IsFrom None own value = value ≡ address_spelling own
+IsFrom (Some from) own value = IsFromMailbox (display_of from) (address_spelling from.address) value
 
 -- the text of the first Subject field: unfolded, decoded, and without the blanks at its ends
 abbrev pub subject_of : MailSpec → Option (List ℕ)
@@ -100,58 +100,58 @@ abbrev pub is_message_id : List ℕ → Bool
 is_message_id id = nat_le 1 (length id) && (nat_le (length id) 250 && list_all is_visible id)
 
 -- the line In-Reply-To with a Message-ID, if there is one that can be written there
-abbrev pub answered : Option (List ℕ) → List ℕ
-answered None = []
-answered (Some id) = cond (is_message_id id) (line (codes "In-Reply-To: ") id) []
+abbrev pub in_reply_to_line : Option (List ℕ) → List ℕ
+in_reply_to_line None = []
+in_reply_to_line (Some id) = cond (is_message_id id) (reply_line (codes "In-Reply-To: ") id) []
 
 -- that line with the value of the mail's first Message-ID field, unfolded and without the blanks at its ends
 abbrev pub in_reply_to : MailSpec → List ℕ
-in_reply_to mail = answered (option_map (λ raw. trimmed (unfold_of raw)) (first_raw (codes "message-id") mail.fields))
+in_reply_to mail = in_reply_to_line (option_map (λ raw. trimmed (unfold_of raw)) (first_raw (codes "message-id") mail.fields))
 
 -- the header of a reason has a field MIME-Version
 abbrev pub has_version : List ℕ → Bool
 has_version reason = is_some (first_raw (codes "mime-version") (fields_of reason))
 
 -- the line MIME-Version, unless the reason has it
-abbrev pub version : VacArgs → List ℕ
-version args = cond (args.mime && has_version args.reason) [] (line (codes "MIME-Version: 1.0") [])
+abbrev pub version : VacationArgs → List ℕ
+version args = cond (args.mime && has_version args.reason) [] (reply_line (codes "MIME-Version: 1.0") [])
 
 -- the header of a reason that is plain text, with the empty line after it; with `:mime` the reason has its own
 abbrev pub content_header : Bool → List ℕ
 content_header true = []
 content_header false =
-    line (codes "Content-Type: text/plain; charset=utf-8") [] ++ (line (codes "Content-Transfer-Encoding: 8bit") [] ++ line_end)
+    reply_line (codes "Content-Type: text/plain; charset=utf-8") [] ++ (reply_line (codes "Content-Transfer-Encoding: 8bit") [] ++ crlf_octets)
 
 -- a reason, and CRLF unless it ends with that
-abbrev pub ended : List ℕ → List ℕ
-ended reason = cond (ends_with nat_eq reason line_end) reason (reason ++ line_end)
+abbrev pub with_line_end : List ℕ → List ℕ
+with_line_end reason = cond (ends_with nat_eq reason crlf_octets) reason (reason ++ crlf_octets)
 
 -- what follows the date
-abbrev pub body_text : VacArgs → MailSpec → List ℕ
+abbrev pub body_text : VacationArgs → MailSpec → List ℕ
 body_text args mail =
-    line (codes "Auto-Submitted: auto-replied") [] ++ (in_reply_to mail ++ (version args ++ (content_header args.mime ++ ended args.reason)))
+    reply_line (codes "Auto-Submitted: auto-replied") [] ++ (in_reply_to mail ++ (version args ++ (content_header args.mime ++ with_line_end args.reason)))
 
 -- the line To: the envelope's sender as it was received
 abbrev pub to_line : List ℕ → List ℕ
-to_line sender = codes "To: <" ++ (sender ++ (codes ">" ++ line_end))
+to_line sender = codes "To: <" ++ (sender ++ (codes ">" ++ crlf_octets))
 
 -- the lines of the response, in order
 abbrev pub reply_text : List ℕ → List ℕ → List ℕ → List ℕ → List ℕ → List ℕ
 reply_text from to subject date rest =
-    line (codes "From: ") from ++ (to_line to ++ (line (codes "Subject: ") subject ++ (line (codes "Date: ") date ++ rest)))
+    reply_line (codes "From: ") from ++ (to_line to ++ (reply_line (codes "Subject: ") subject ++ (reply_line (codes "Date: ") date ++ rest)))
 
 -- the response of the user with this address to a mail at this moment
-pub record IsReply (args : VacArgs) (mail : MailSpec) (own : Addr) (moment : ℕ) (reply : List ℕ) : Type 0 where
+pub record IsVacationReply (args : VacationArgs) (mail : MailSpec) (own : Addr) (moment : ℕ) (reply : List ℕ) : Type 0 where
   pub from : List ℕ
   pub subject : List ℕ
   pub date : List ℕ
   pub is_from : IsFrom args.from own from
   pub is_subject : IsSubject (usable args.subject) mail subject
-  pub is_date : IsDateText moment date
+  pub is_date : IsUtcDateText moment date
   pub spelled : reply ≡ reply_text from mail.from subject date (body_text args mail)
 
 -- a line with such a value is appended to what was there
 pub record WritesLine (front : List ℕ) (IsValue : List ℕ → Type 0) (old new : List ℕ) : Type 0 where
   pub value : List ℕ
   pub is_value : IsValue value
-  pub appended : new ≡ old ++ line front value
+  pub appended : new ≡ old ++ reply_line front value

@@ -1,15 +1,15 @@
 //! A mail with the addresses that it names as recipients.
 ghost use Rattle.std.specs.Prelude.{◌≡◌, ◌++◌, IfOk, OnOk, map};
 ghost use Rattle.std.specs.List.{flat_map};
-ghost use Rattle.mailhead.specs.Fields.{text_of};
-ghost use Rattle.addrparts.specs.Spelling.{all_of};
-ghost use Rattle.vacreply.specs.Cases as cases;
+ghost use Rattle.mail_head.specs.Fields.{field_text_of};
+ghost use Rattle.mail_address.specs.Spelling.{unquoted_address};
+ghost use Rattle.sieve_vacation.specs.Cases as cases;
 
 use crate::text::is_one_of;
-use addrparts::{Addr, addresses};
-use mailhead::{Field, unfolded};
+use mail_address::{Addr, addresses};
+use mail_head::{Field, unfold_value};
 use octets::Texts;
-use sieveexec::Mail;
+use sieve_exec::Mail;
 use std::alloc::{AllocError, Global};
 use std::marker::Model;
 
@@ -32,8 +32,8 @@ pub struct AddressedMail<'m, 'a> {
 
 impl<'m, 'a> Model for AddressedMail<'m, 'a> {
     ghost use Rattle.std.specs.Prelude.{◌≡◌};
-    ghost use Rattle.sieveexec.specs.Mails.{MailSpec};
-    ghost use Rattle.vacreply.specs.Cases.{recipients_of};
+    ghost use Rattle.sieve_exec.specs.Mails.{MailSpec};
+    ghost use Rattle.sieve_vacation.specs.Cases.{recipients_of};
 
     ghost Value = { MailSpec };
 
@@ -72,7 +72,7 @@ impl<'m, 'a> AddressedMail<'m, 'a> {
 
 /// The addresses of the fields that name recipients.
 fn recipients_of(alloc: Global, fields: &[Field<'_>]) -> Result<Texts, AllocError>
-    ensures { IfOk result (λ found. found ≡ flat_map (λ field. cases.recipients_in (text_of field)) fields.now) }
+    ensures { IfOk result (λ found. found ≡ flat_map (λ field. cases.recipients_in (field_text_of field)) fields.now) }
 {
     let mut found = Texts::new(alloc);
     for field in fields {
@@ -83,19 +83,19 @@ fn recipients_of(alloc: Global, fields: &[Field<'_>]) -> Result<Texts, AllocErro
 
 /// Appends the addresses of a field, if it names recipients.
 fn push_recipients(alloc: Global, found: &mut Texts, field: &Field<'_>) -> Result<(), AllocError>
-    ensures { OnOk result (found.new ≡ found.old ++ cases.recipients_in (text_of field.now)) }
+    ensures { OnOk result (found.new ≡ found.old ++ cases.recipients_in (field_text_of field.now)) }
 {
     if !is_one_of(&RECIPIENT_FIELDS, field.name) {
         return Ok(());
     }
-    let value = unfolded(alloc, field.raw)?;
+    let value = unfold_value(alloc, field.raw)?;
     let more = addresses(alloc, value.as_slice())?;
     push_addresses(alloc, found, more.as_slice())
 }
 
 /// Appends addresses, each with nothing quoted.
 fn push_addresses(alloc: Global, found: &mut Texts, more: &[Addr]) -> Result<(), AllocError>
-    ensures { OnOk result (found.new ≡ found.old ++ map all_of more.now) }
+    ensures { OnOk result (found.new ≡ found.old ++ map unquoted_address more.now) }
 {
     for address in more {
         found.push(address.all(alloc)?)?;

@@ -1,14 +1,14 @@
 //! What follows the date.
 ghost use Rattle.std.specs.Prelude.{◌≡◌, ◌++◌, IfOk, OnOk, Some};
 ghost use Rattle.std.specs.List.{list_all};
-ghost use Rattle.vacreply.specs.Layout as layout;
+ghost use Rattle.sieve_vacation.specs.Layout as layout;
 
 use crate::fields::first_raw;
 use crate::layout::push_parts;
-use mailhead::{Head, unfolded};
+use mail_head::{Head, unfold_value};
 use octets::{Octets, trim_blanks};
-use sieveexec::Mail;
-use sievesyntax::VacArgs;
+use sieve_exec::Mail;
+use sieve_syntax::VacationArgs;
 use std::alloc::{AllocError, Global};
 
 /// The most octets of a Message-ID that is repeated.
@@ -22,7 +22,7 @@ const PLAIN_HEADER: &[u8] =
 pub(crate) fn write_body(
     alloc: Global,
     out: &mut Octets,
-    args: &VacArgs,
+    args: &VacationArgs,
     mail: &Mail<'_>,
 ) -> Result<(), AllocError>
     ensures { OnOk result (out.new ≡ out.old ++ layout.body_text args.now mail.now) }
@@ -41,13 +41,13 @@ fn write_in_reply_to(alloc: Global, out: &mut Octets, mail: &Mail<'_>) -> Result
     let Some(raw) = first_raw(b"message-id", mail.fields()) else {
         return Ok(());
     };
-    let value = unfolded(alloc, raw)?;
+    let value = unfold_value(alloc, raw)?;
     write_answered(out, trim_blanks(value.as_slice()))
 }
 
 /// Appends the line In-Reply-To with a Message-ID, if it can be written there.
 fn write_answered(out: &mut Octets, id: &[u8]) -> Result<(), AllocError>
-    ensures { OnOk result (out.new ≡ out.old ++ layout.answered (Some id.now)) }
+    ensures { OnOk result (out.new ≡ out.old ++ layout.in_reply_to_line (Some id.now)) }
 {
     if !is_message_id(id) {
         return Ok(());
@@ -74,7 +74,7 @@ fn is_visible(octet: u8) -> bool
 }
 
 /// Appends the line MIME-Version, unless the reason has it.
-fn write_version(alloc: Global, out: &mut Octets, args: &VacArgs) -> Result<(), AllocError>
+fn write_version(alloc: Global, out: &mut Octets, args: &VacationArgs) -> Result<(), AllocError>
     ensures { OnOk result (out.new ≡ out.old ++ layout.version args.now) }
 {
     if args.mime && has_version(alloc, args.reason.as_slice())? {
@@ -103,7 +103,7 @@ fn write_content_header(out: &mut Octets, mime: bool) -> Result<(), AllocError>
 
 /// Appends the reason, and CRLF unless it ends with that.
 fn write_reason(out: &mut Octets, reason: &[u8]) -> Result<(), AllocError>
-    ensures { OnOk result (out.new ≡ out.old ++ layout.ended reason.now) }
+    ensures { OnOk result (out.new ≡ out.old ++ layout.with_line_end reason.now) }
 {
     out.extend_from_slice(reason)?;
     if reason.ends_with(b"\r\n") {

@@ -3,7 +3,7 @@ ghost use Rattle.std.specs.Prelude.{◌≡◌, ◌<◌, ◌≤◌, ◌-◌, [], 
 ghost use Rattle.std.specs.Int.{IsInRange};
 ghost use Rattle.jiff.specs.Words.{epoch_day};
 ghost use Rattle.jiff_core.specs.Weekday.{sunday_zero};
-ghost use Rattle.vacreply.specs.Dates.{WritesDate, WritesDay, day_names, month_names, time_text, two_digits};
+ghost use Rattle.sieve_vacation.specs.Dates.{WritesDate, WritesDay, day_names, month_names, clock_text, two_digits_of};
 
 use jiff::ToSpan;
 use jiff::civil::{Date, Weekday, date};
@@ -94,7 +94,7 @@ fn month_name(month: u8) -> &'static [u8]
 /// Appends the time of day after that many seconds.
 fn write_time(out: &mut Octets, seconds: u64) -> Result<(), AllocError>
     requires { seconds < 86_400 }
-    ensures { OnOk result (out.new ≡ out.old ++ time_text seconds) }
+    ensures { OnOk result (out.new ≡ out.old ++ clock_text seconds) }
 {
     write_two(out, seconds / 3600)?;
     out.push(b':')?;
@@ -106,7 +106,7 @@ fn write_time(out: &mut Octets, seconds: u64) -> Result<(), AllocError>
 /// Appends a number in two digits.
 fn write_two(out: &mut Octets, number: u64) -> Result<(), AllocError>
     requires { number < 100 }
-    ensures { OnOk result (out.new ≡ out.old ++ two_digits number) }
+    ensures { OnOk result (out.new ≡ out.old ++ two_digits_of number) }
 {
     out.push(b'0' + (number / 10) as u8)?;
     out.push(b'0' + (number % 10) as u8)

@@ -1,15 +1,15 @@
 //! Whether a response is sent.
 ghost use Rattle.std.specs.Prelude.{◌≡◌};
 ghost use Rattle.std.specs.List.{list_any};
-ghost use Rattle.vacreply.specs.Cases as cases;
-ghost use Rattle.vacreply.specs.Reasons.{decision_of};
+ghost use Rattle.sieve_vacation.specs.Cases as cases;
+ghost use Rattle.sieve_vacation.specs.Reasons.{decision_of};
 
 use crate::addressed::AddressedMail;
 use crate::fields::{Sign, has_sign};
-use crate::reason::{Decision, Reason};
+use crate::reason::{ReplyDecision, Reason};
 use crate::sender::{is_bad, is_robot, is_users};
-use addrparts::Addr;
-use sievesyntax::VacArgs;
+use mail_address::Addr;
+use sieve_syntax::VacationArgs;
 
 /// The number of seconds in a day.
 const DAY_LEN: u64 = 86_400;
@@ -28,48 +28,48 @@ const MAX_SECONDS: u64 = MAX_DAYS * DAY_LEN;
 ///
 /// `last` is the moment that is kept for this response and this sender, if one is. A moment is in seconds since 1 January
 /// 1970. Two passes over the fields for one reason, one for each of two others, and none over the body; takes no memory.
-pub fn decide(
-    args: &VacArgs,
+pub fn decide_reply(
+    args: &VacationArgs,
     mail: &AddressedMail<'_, '_>,
     own: &Addr,
     last: Option<u64>,
     moment: u64,
-) -> Decision
+) -> ReplyDecision
     ensures { result ≡ decision_of args.now mail.now own.now last moment }
 {
     let sender = mail.mail().from();
     if sender.is_empty() {
-        return Decision::Quiet(Reason::NullSender);
+        return ReplyDecision::Quiet(Reason::NullSender);
     }
     if is_bad(sender) {
-        return Decision::Quiet(Reason::BadSender);
+        return ReplyDecision::Quiet(Reason::BadSender);
     }
     if is_robot(sender) {
-        return Decision::Quiet(Reason::RobotSender);
+        return ReplyDecision::Quiet(Reason::RobotSender);
     }
     if is_users(args, mail.mail(), own, sender) {
-        return Decision::Quiet(Reason::OwnSender);
+        return ReplyDecision::Quiet(Reason::OwnSender);
     }
     if has_sign(mail.mail(), Sign::Automatic) || has_sign(mail.mail(), Sign::Suppressing) {
-        return Decision::Quiet(Reason::Automatic);
+        return ReplyDecision::Quiet(Reason::Automatic);
     }
     if has_sign(mail.mail(), Sign::ListMail) {
-        return Decision::Quiet(Reason::ListMail);
+        return ReplyDecision::Quiet(Reason::ListMail);
     }
     if has_sign(mail.mail(), Sign::Bulk) {
-        return Decision::Quiet(Reason::Bulk);
+        return ReplyDecision::Quiet(Reason::Bulk);
     }
     if !is_addressed(args, mail, own) {
-        return Decision::Quiet(Reason::NotAddressed);
+        return ReplyDecision::Quiet(Reason::NotAddressed);
     }
-    if is_early(args, last, moment) {
-        return Decision::Quiet(Reason::TooSoon);
+    if is_too_soon(args, last, moment) {
+        return ReplyDecision::Quiet(Reason::TooSoon);
     }
-    Decision::Send
+    ReplyDecision::Send
 }
 
 /// Whether an address of the user is among the recipients.
-fn is_addressed(args: &VacArgs, mail: &AddressedMail<'_, '_>, own: &Addr) -> bool
+fn is_addressed(args: &VacationArgs, mail: &AddressedMail<'_, '_>, own: &Addr) -> bool
     ensures { result ≡ list_any (cases.is_users args.now mail.now own.now) (cases.recipients_of mail.now) }
 {
     for one in mail.recipients().as_slice() {
@@ -81,8 +81,8 @@ fn is_addressed(args: &VacArgs, mail: &AddressedMail<'_, '_>, own: &Addr) -> boo
 }
 
 /// Whether the period since the kept moment isn't over.
-fn is_early(args: &VacArgs, last: Option<u64>, moment: u64) -> bool
-    ensures { result ≡ cases.is_early args.now last moment }
+fn is_too_soon(args: &VacationArgs, last: Option<u64>, moment: u64) -> bool
+    ensures { result ≡ cases.is_too_soon args.now last moment }
 {
     let Some(kept) = last else {
         return false;
@@ -92,7 +92,7 @@ fn is_early(args: &VacArgs, last: Option<u64>, moment: u64) -> bool
 }
 
 /// The period in seconds.
-fn period(args: &VacArgs) -> u64
+fn period(args: &VacationArgs) -> u64
     ensures { result ≡ cases.period_of args.now }
 {
     match args.seconds {

@@ -1,16 +1,16 @@
 //! Fields that say what kind of mail it is.
 ghost use Rattle.std.specs.Prelude.{◌≡◌, option_map};
 ghost use Rattle.std.specs.List.{list_any, before_first};
-ghost use Rattle.mailhead.specs.Fields.{text_of, texts_of};
-ghost use Rattle.mailhead.specs.Heads.{unfold_of};
-ghost use Rattle.vacreply.specs.Cases as cases;
-ghost use Rattle.vacreply.specs.Layout.{first_raw};
-ghost use Rattle.vacreply.specs.Signs.{is_sign};
+ghost use Rattle.mail_head.specs.Fields.{field_text_of, field_texts_of};
+ghost use Rattle.mail_head.specs.Heads.{unfold_of};
+ghost use Rattle.sieve_vacation.specs.Cases as cases;
+ghost use Rattle.sieve_vacation.specs.Layout.{first_raw};
+ghost use Rattle.sieve_vacation.specs.Signs.{is_sign};
 
 use crate::text::{is_one_of, is_same};
 use crate::value::{after_comma, is_word, is_word_before};
-use mailhead::Field;
-use sieveexec::Mail;
+use mail_head::Field;
+use sieve_exec::Mail;
 
 /// The names of the fields that mailing lists add (RFC 2369; RFC 2919).
 const LIST_FIELDS: [&[u8]; 7] = [
@@ -45,13 +45,13 @@ pub(crate) fn has_sign(mail: &Mail<'_>, sign: Sign) -> bool
 }
 
 fn some_says(fields: &[Field<'_>], sign: Sign) -> bool
-    ensures { result ≡ list_any (λ field. is_sign sign (text_of field)) fields.now }
+    ensures { result ≡ list_any (λ field. is_sign sign (field_text_of field)) fields.now }
 {
     fields.iter().any(|field| says(field, sign))
 }
 
 fn says(field: &Field<'_>, sign: Sign) -> bool
-    ensures { result ≡ is_sign sign (text_of field.now) }
+    ensures { result ≡ is_sign sign (field_text_of field.now) }
 {
     match sign {
         Sign::Automatic => is_same(b"auto-submitted", field.name) && is_automatic(field.raw),
@@ -99,7 +99,7 @@ fn is_bulk(raw: &[u8]) -> bool
 
 /// The raw value of the first field with this name, case ignored.
 pub(crate) fn first_raw<'a>(name: &[u8], fields: &[Field<'a>]) -> Option<&'a [u8]>
-    ensures { option_map (λ raw. raw.now) result ≡ first_raw name.now (texts_of fields.now) }
+    ensures { option_map (λ raw. raw.now) result ≡ first_raw name.now (field_texts_of fields.now) }
 {
     for field in fields {
         if is_same(name, field.name) {

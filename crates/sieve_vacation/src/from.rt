@@ -2,16 +2,16 @@
 ghost use Rattle.std.specs.Prelude.{◌≡◌, codes, IfOk, OnOk};
 ghost use Rattle.std.specs.List.{list_all};
 ghost use Rattle.octets.specs.Ascii as ascii;
-ghost use Rattle.addrparts.specs.Spelling as spelled;
-ghost use Rattle.addrparts.specs.Spelling.{spelling};
-ghost use Rattle.vacreply.specs.Layout as layout;
+ghost use Rattle.mail_address.specs.Spelling as spelled;
+ghost use Rattle.mail_address.specs.Spelling.{address_spelling};
+ghost use Rattle.sieve_vacation.specs.Layout as layout;
 
 use crate::layout::push_parts;
 use crate::text::usable;
-use addrparts::{Addr, quote, spell};
-use encwords::{has_phrase_words, has_written_words, header_text, written_lines};
+use mail_address::{Addr, quote, spell_address};
+use mail_words::{has_phrase_words, has_written_words, header_text, written_lines};
 use octets::{Octets, is_printable};
-use sievesyntax::ReplyFrom;
+use sieve_syntax::ReplyFrom;
 use std::alloc::{AllocError, Global};
 
 /// The most octets of a display name that is written as a quoted string.
@@ -35,15 +35,15 @@ fn from_value(alloc: Global, from: &Option<ReplyFrom>, own: &Addr) -> Result<Oct
 {
     match from {
         Some(from) => named(alloc, from),
-        None => spell(alloc, own),
+        None => spell_address(alloc, own),
     }
 }
 
 /// An address with its display name before it, or if that is empty only the address.
 fn named(alloc: Global, from: &ReplyFrom) -> Result<Octets, AllocError>
-    ensures { IfOk result (layout.IsNamed (layout.display_of from.now) (spelling from.now.address)) }
+    ensures { IfOk result (layout.IsFromMailbox (layout.display_of from.now) (address_spelling from.now.address)) }
 {
-    let address = spell(alloc, &from.address)?;
+    let address = spell_address(alloc, &from.address)?;
     let Some(display) = usable(from.display.as_slice()) else {
         return Ok(address);
     };
@@ -71,7 +71,7 @@ fn display_value(alloc: Global, display: &str) -> Result<Octets, AllocError>
 
 /// Whether a display name is a phrase of atoms and of words that the script's author encoded.
 fn is_phrase(alloc: Global, display: &[u8]) -> Result<bool, AllocError>
-    ensures { IfOk result (λ is. is ≡ layout.is_phrase display.now) }
+    ensures { IfOk result (λ is. is ≡ layout.is_phrase_text display.now) }
 {
     if are_phrase_octets(display) && has_phrase_words(display) {
         has_written_words(alloc, display)
@@ -104,7 +104,7 @@ fn quoted(alloc: Global, text: &[u8]) -> Result<Octets, AllocError>
 }
 
 fn is_quotable(display: &[u8]) -> bool
-    ensures { result ≡ layout.is_quotable display.now }
+    ensures { result ≡ layout.is_quotable_display display.now }
 {
     display.len() <= MAX_QUOTED_LEN && are_printable(display)
 }

@@ -1,9 +1,9 @@
 //! What identifies a response (RFC 5230, 4.2).
 ghost use Rattle.std.specs.Prelude.{◌≡◌, ◌↔◌, ◌<◌, ◌^◌, ◌++◌, IsTrue, IfOk, OnOk, option_copied};
-ghost use Rattle.vacreply.specs.Handles.{handle_of, key_of, four_octets, part_of, from_text, HasShortTexts, IsShort};
+ghost use Rattle.sieve_vacation.specs.Handles.{handle_of, handle_key_of, four_octets, key_part_of, from_text, HasShortTexts, IsShort};
 
 use octets::Octets;
-use sievesyntax::{ReplyFrom, VacArgs};
+use sieve_syntax::{ReplyFrom, VacationArgs};
 use std::alloc::{AllocError, Global};
 
 /// The most octets of a text that can be part of a key, so that its length fits in four octets.
@@ -14,9 +14,9 @@ const MAX_TEXT_LEN: u64 = 4_294_967_295;
 /// Two responses have the same key exactly if they have the same handle: the name that `:handle` gives, or otherwise the subject,
 /// the text of `:from`, `:mime` and the reason together. Subject and `:from` have less than 2^32 octets each, as in any
 /// checked script ([`has_short_texts`]). Linear in the texts; lack of memory is the only error.
-pub fn handle_key(alloc: Global, args: &VacArgs) -> Result<Octets, AllocError>
+pub fn handle_key(alloc: Global, args: &VacationArgs) -> Result<Octets, AllocError>
     requires { HasShortTexts (handle_of args.now) }
-    ensures { IfOk result (λ key. key ≡ key_of (handle_of args.now)) }
+    ensures { IfOk result (λ key. key ≡ handle_key_of (handle_of args.now)) }
 {
     let mut key = Octets::new(alloc);
     if let Some(name) = &args.handle {
@@ -33,7 +33,7 @@ pub fn handle_key(alloc: Global, args: &VacArgs) -> Result<Octets, AllocError>
 }
 
 /// Whether [`handle_key`] may be called: unless a name is given, subject and `:from` have less than 2^32 octets each.
-pub fn has_short_texts(args: &VacArgs) -> bool
+pub fn has_short_texts(args: &VacationArgs) -> bool
     ensures { IsTrue result ↔ HasShortTexts (handle_of args.now) }
 {
     if args.handle.is_some() {
@@ -64,7 +64,7 @@ fn written(from: &Option<ReplyFrom>) -> Option<&Octets>
 /// Appends a text that may be absent.
 fn push_part(key: &mut Octets, part: Option<&Octets>) -> Result<(), AllocError>
     requires { IsShort (option_copied part) }
-    ensures { OnOk result (key.new ≡ key.old ++ part_of (option_copied part.entry)) }
+    ensures { OnOk result (key.new ≡ key.old ++ key_part_of (option_copied part.entry)) }
 {
     let Some(text) = part else {
         return key.push(0);

@@ -1,16 +1,16 @@
 //! The octets of a response (RFC 5230, 5; RFC 3834, 3).
 ghost use Rattle.std.specs.Prelude.{◌≡◌, ◌≤◌, ◌++◌, codes, IfOk, OnOk};
-ghost use Rattle.vacreply.specs.Dates.{IsDateText};
-ghost use Rattle.vacreply.specs.Layout as layout;
+ghost use Rattle.sieve_vacation.specs.Dates.{IsUtcDateText};
+ghost use Rattle.sieve_vacation.specs.Layout as layout;
 
 use crate::body::write_body;
 use crate::date::{MAX_MOMENT, write_date};
 use crate::from::write_from;
 use crate::subject::write_subject;
-use addrparts::Addr;
+use mail_address::Addr;
 use octets::Octets;
-use sieveexec::Mail;
-use sievesyntax::VacArgs;
+use sieve_exec::Mail;
+use sieve_syntax::VacationArgs;
 use std::alloc::{AllocError, Global};
 
 /// Returns the response of the user with this address to a mail at this moment: a header of at most eight lines, and a body.
@@ -19,13 +19,13 @@ use std::alloc::{AllocError, Global};
 /// lack of memory is the only error.
 pub fn reply_bytes(
     alloc: Global,
-    args: &VacArgs,
+    args: &VacationArgs,
     mail: &Mail<'_>,
     own: &Addr,
     moment: u64,
 ) -> Result<Octets, AllocError>
     requires { moment ≤ MAX_MOMENT }
-    ensures { IfOk result (layout.IsReply args.now mail.now own.now moment) }
+    ensures { IfOk result (layout.IsVacationReply args.now mail.now own.now moment) }
 {
     let mut reply = Octets::new(alloc);
     write_from(alloc, &mut reply, &args.from, own)?;
@@ -60,7 +60,7 @@ fn write_to(out: &mut Octets, sender: &[u8]) -> Result<(), AllocError>
 /// Appends the line Date.
 fn write_date_line(out: &mut Octets, moment: u64) -> Result<(), AllocError>
     requires { moment ≤ MAX_MOMENT }
-    ensures { OnOk result (layout.WritesLine (codes "Date: ") (IsDateText moment) out.old out.new) }
+    ensures { OnOk result (layout.WritesLine (codes "Date: ") (IsUtcDateText moment) out.old out.new) }
 {
     out.extend_from_slice(b"Date: ")?;
     write_date(out, moment)?;

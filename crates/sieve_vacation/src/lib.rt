@@ -18,7 +18,7 @@ mod value;
 
 pub use addressed::AddressedMail;
 pub use date::{MAX_MOMENT, write_date};
-pub use decision::decide;
+pub use decision::decide_reply;
 pub use handle::{handle_key, has_short_texts};
 pub use layout::reply_bytes;
-pub use reason::{Decision, Reason};
+pub use reason::{ReplyDecision, Reason};

@@ -1,6 +1,6 @@
 //! Whether a response is sent, and why not.
 ghost use Rattle.std.specs.Prelude.{◌≡◌};
-ghost use Rattle.vacreply.specs.Reasons.{number_of};
+ghost use Rattle.sieve_vacation.specs.Reasons.{reason_number};
 
 /// Why no response is sent, in the order in which the reasons are checked.
 #[derive(Clone, Copy, Debug, PartialEq, Eq)]
@@ -29,7 +29,7 @@ pub enum Reason {
 impl Reason {
     /// The reason's number, 1 to 9 in their order.
     pub fn number(self) -> u8
-        ensures { result ≡ number_of self }
+        ensures { result ≡ reason_number self }
     {
         self as u8
     }
@@ -37,7 +37,7 @@ impl Reason {
 
 /// Whether a response is sent.
 #[derive(Clone, Copy, Debug, PartialEq, Eq)]
-pub enum Decision {
+pub enum ReplyDecision {
     /// It is.
     Send,
     /// It isn't, for this reason.

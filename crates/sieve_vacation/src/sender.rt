@@ -1,13 +1,13 @@
 //! Who sent the mail.
 ghost use Rattle.std.specs.Prelude.{◌≡◌, ◌||◌};
-ghost use Rattle.addrparts.specs.Spelling.{all_of};
-ghost use Rattle.sieveexec.specs.Parts.{local_of, domain_of};
-ghost use Rattle.vacreply.specs.Cases as cases;
+ghost use Rattle.mail_address.specs.Spelling.{unquoted_address};
+ghost use Rattle.sieve_exec.specs.Parts.{local_of, domain_of};
+ghost use Rattle.sieve_vacation.specs.Cases as cases;
 
 use crate::text::{begins_with, ends_with, is_one_of, is_same};
-use addrparts::Addr;
-use sieveexec::{Mail, domain_in, local_in};
-use sievesyntax::VacArgs;
+use mail_address::Addr;
+use sieve_exec::{Mail, domain_in, local_in};
+use sieve_syntax::VacationArgs;
 
 /// Local parts of programs that answer mail (RFC 5230, 4.6).
 const ROBOTS: [&[u8]; 3] = [b"mailer-daemon", b"listserv", b"majordomo"];
@@ -28,7 +28,7 @@ pub(crate) fn is_robot(address: &[u8]) -> bool
 }
 
 /// Whether a text is an address of the user: the account's, the envelope's recipient, or one of `:addresses`; case ignored.
-pub(crate) fn is_users(args: &VacArgs, mail: &Mail<'_>, own: &Addr, text: &[u8]) -> bool
+pub(crate) fn is_users(args: &VacationArgs, mail: &Mail<'_>, own: &Addr, text: &[u8]) -> bool
     ensures { result ≡ cases.is_users args.now mail.now own.now text.now }
 {
     is_address(own, text)
@@ -45,7 +45,7 @@ fn has_address(addresses: &[Addr], text: &[u8]) -> bool
 
 /// Whether a text is the address with nothing quoted, case ignored.
 fn is_address(address: &Addr, text: &[u8]) -> bool
-    ensures { result ≡ cases.same_text (all_of address.now) text.now }
+    ensures { result ≡ cases.same_ignoring_case (unquoted_address address.now) text.now }
 {
     let local = address.local.as_slice();
     if text.len() < local.len() {

@@ -1,16 +1,16 @@
 //! The subject of the response.
 ghost use Rattle.std.specs.Prelude.{◌≡◌, codes, IfOk, OnOk, Some, option_copied, string_bytes};
-ghost use Rattle.encwords.specs.Headers.{IsHeaderText};
-ghost use Rattle.vacreply.specs.Layout as layout;
+ghost use Rattle.mail_words.specs.Headers.{IsHeaderText};
+ghost use Rattle.sieve_vacation.specs.Layout as layout;
 
 use crate::fields::first_raw;
 use crate::layout::push_parts;
 use crate::text::usable;
-use encwords::{decoded, header_text, written_text};
-use mailhead::unfolded;
+use mail_words::{decoded, header_text, written_text};
+use mail_head::unfold_value;
 use octets::{Octets, trim_blanks};
-use sieveexec::Mail;
-use sievesyntax::VacArgs;
+use sieve_exec::Mail;
+use sieve_syntax::VacationArgs;
 use std::alloc::{AllocError, Global};
 
 /// The subject if neither the script nor the mail has a usable one.
@@ -24,7 +24,7 @@ const MAX_SUBJECT: usize = 256;
 pub(crate) fn write_subject(
     alloc: Global,
     out: &mut Octets,
-    args: &VacArgs,
+    args: &VacationArgs,
     mail: &Mail<'_>,
 ) -> Result<(), AllocError>
     ensures { OnOk result (layout.WritesLine (codes "Subject: ") (layout.IsSubject (layout.usable args.now.subject) mail.now) out.old out.new) }
@@ -33,7 +33,7 @@ pub(crate) fn write_subject(
     push_parts(out, b"Subject: ", value.as_slice(), b"\r\n")
 }
 
-fn subject_value(alloc: Global, args: &VacArgs, mail: &Mail<'_>) -> Result<Vec<u8>, AllocError>
+fn subject_value(alloc: Global, args: &VacationArgs, mail: &Mail<'_>) -> Result<Vec<u8>, AllocError>
     ensures { IfOk result (λ value. layout.IsSubject (layout.usable args.now.subject) mail.now value.items) }
 {
     if let Some(text) = given(&args.subject) {
@@ -59,7 +59,7 @@ fn auto_subject(alloc: Global, mail: &Mail<'_>) -> Result<Vec<u8>, AllocError>
     let Some(raw) = first_raw(b"subject", mail.fields()) else {
         return header_text(alloc, AUTOMATED);
     };
-    let value = unfolded(alloc, raw)?;
+    let value = unfold_value(alloc, raw)?;
     let text = decoded(alloc, value.as_slice())?;
     auto_text(alloc, trim_blanks(text.as_slice()))
 }

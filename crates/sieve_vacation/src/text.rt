@@ -1,26 +1,26 @@
 //! Texts compared ignoring ASCII case, and texts in UTF-8.
 ghost use Rattle.std.specs.Prelude.{◌≡◌, Some, option_copied};
 ghost use Rattle.std.specs.List.{list_any};
-ghost use Rattle.vacreply.specs.Cases as cases;
-ghost use Rattle.vacreply.specs.Layout.{usable};
+ghost use Rattle.sieve_vacation.specs.Cases as cases;
+ghost use Rattle.sieve_vacation.specs.Layout.{usable};
 
 /// Whether two texts are the same, ignoring case.
 pub(crate) fn is_same(one: &[u8], two: &[u8]) -> bool
-    ensures { result ≡ cases.same_text one.now two.now }
+    ensures { result ≡ cases.same_ignoring_case one.now two.now }
 {
     one.eq_ignore_ascii_case(two)
 }
 
 /// Whether a text is one of these, ignoring case.
 pub(crate) fn is_one_of(texts: &[&[u8]], text: &[u8]) -> bool
-    ensures { result ≡ list_any (λ one. cases.same_text one.now text.now) texts.now }
+    ensures { result ≡ list_any (λ one. cases.same_ignoring_case one.now text.now) texts.now }
 {
     texts.iter().any(|one| is_same(one, text))
 }
 
 /// Whether a text begins with `front`, ignoring case.
 pub(crate) fn begins_with(front: &[u8], text: &[u8]) -> bool
-    ensures { result ≡ cases.begins_with front.now text.now }
+    ensures { result ≡ cases.begins_with_text front.now text.now }
 {
     if text.len() < front.len() {
         return false;

@@ -2,16 +2,16 @@
 ghost use Rattle.std.specs.Prelude.{◌≡◌, ◌==◌, ◌<◌, ◌≤◌, [], ◌∷◌, length, true, MatchOption, IfSome, option_map};
 ghost use Rattle.std.specs.List.{list_all, before_first};
 ghost use Rattle.octets.specs.Ascii.{trimmed, trim_front};
-ghost use Rattle.mailhead.specs.Heads.{unfold_of};
-ghost use Rattle.vacreply.specs.Cases.{same_text, is_empty};
-ghost use Rattle.vacreply.specs.Folds.{begins_feed_fold, fold_len, after_word, after_comma, ends_by_mark, is_mark, is_small};
+ghost use Rattle.mail_head.specs.Heads.{unfold_of};
+ghost use Rattle.sieve_vacation.specs.Cases.{same_ignoring_case, is_empty};
+ghost use Rattle.sieve_vacation.specs.Folds.{begins_feed_fold, fold_len, after_word, after_comma, ends_by_mark, is_nonletter, is_small};
 
 use octets::is_blank;
 
 /// Whether the value, without the blanks at its ends, is a word, ignoring case. The word is given in lower case.
 pub(crate) fn is_word(raw: &[u8], word: &[u8]) -> bool
     requires { list_all is_small word.now ≡ true }
-    ensures { result ≡ same_text word.now (trimmed (unfold_of raw.now)) }
+    ensures { result ≡ same_ignoring_case word.now (trimmed (unfold_of raw.now)) }
 {
     let Some(after) = after_word(skip_blanks(raw), word) else {
         return false;
@@ -23,8 +23,8 @@ pub(crate) fn is_word(raw: &[u8], word: &[u8]) -> bool
 /// in lower case.
 pub(crate) fn is_word_before(raw: &[u8], word: &[u8], mark: u8) -> bool
     requires small { list_all is_small word.now ≡ true }
-    requires apart { is_mark mark ≡ true }
-    ensures { result ≡ same_text word.now (trimmed (before_first (λ octet. octet == mark) (unfold_of raw.now))) }
+    requires apart { is_nonletter mark ≡ true }
+    ensures { result ≡ same_ignoring_case word.now (trimmed (before_first (λ octet. octet == mark) (unfold_of raw.now))) }
 {
     let Some(after) = after_word(skip_blanks(raw), word) else {
         return false;

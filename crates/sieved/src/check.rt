@@ -1,9 +1,9 @@
 //! Checks scripts in files, or on standard input, without a store.
 use clap::error::ErrorKind as WordsKind;
-use sessions::scripts::MAX_SCRIPT;
-use sievedrun::check::{check_input, check_text};
-use sievedrun::fault::{Fault, refuse};
-use sievedwords::{CommandLine, ReadError, read_files};
+use managesieve_sessions::scripts::MAX_SCRIPT;
+use cli_run::check::{check_input, check_text};
+use cli_run::fault::{RunFault, refuse};
+use cli_subcommands::{RawArgs, ArgsError, read_files};
 use std::alloc::{AllocError, Global};
 use std::fs::{File, Files};
 use std::io;
@@ -20,7 +20,7 @@ const UNREAD: u8 = 75;
 pub fn check<F: Files, R: Read, W: Write, E: Write>(
     system: &F,
     alloc: Global,
-    words: &CommandLine,
+    words: &RawArgs,
     input: &mut R,
     output: &mut W,
     errors: &mut E,
@@ -39,10 +39,10 @@ pub fn check<F: Files, R: Read, W: Write, E: Write>(
     worst
 }
 
-fn fault_of(error: &ReadError) -> Fault {
+fn fault_of(error: &ArgsError) -> RunFault {
     match error {
-        ReadError::Said(error) if error.kind() == WordsKind::OutOfMemory => Fault::from(AllocError),
-        _ => Fault::BadArgument,
+        ArgsError::Said(error) if error.kind() == WordsKind::OutOfMemory => RunFault::from(AllocError),
+        _ => RunFault::BadArgument,
     }
 }
 
@@ -56,7 +56,7 @@ fn check_file<F: Files, W: Write, E: Write>(
 ) -> u8 {
     let mut text = Vec::new(alloc);
     if let Err(refused) = text.resize(MOST, 0) {
-        return refuse(errors, Fault::from(refused));
+        return refuse(errors, RunFault::from(refused));
     }
     match read_front(system, path, text.as_mut_slice()) {
         Ok(len) => {

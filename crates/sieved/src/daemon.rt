@@ -1,17 +1,17 @@
 //! Many clients at once.
 use crate::default_script::read_default;
 use crate::descriptors::{TOO_FEW, are_enough};
-use crate::listening::{Asked, Listening, Mail, listen, read_asked, trouble_of_socket};
-use daemonhosts::host::Host;
-use keepers::Keeper;
-use mailmoves::Route;
-use mailsinks::MailSink;
+use crate::listening::{DaemonOptions, Listening, MailOptions, listen, read_options, trouble_of_socket};
+use daemon_host::host::Host;
+use store_lock::Keeper;
+use maildir_moves::Route;
+use maildir_files::MailSink;
 use octets::Octets;
-use sieveddaemon::life;
-use sieveddaemon::mail::MailDaemon;
-use sievedrun::fault::Fault;
-use sievedrun::trouble::Trouble;
-use sievedwords as words;
+use daemon_core::life;
+use daemon_core::mail::MailDaemon;
+use cli_run::fault::RunFault;
+use cli_run::fault_with_cause::FaultWithCause;
+use cli_subcommands as words;
 use std::alloc::{AllocError, Global};
 use std::fs::Files;
 use std::io::Write;
@@ -19,12 +19,12 @@ use std::net::Net;
 use std::os::fd::AsFd;
 use std::time::Clock;
 use std::{fs, io};
-use systemsockets::SystemSockets;
-use wires::service::Service;
+use net_sockets::SystemSockets;
+use net_loop::service::Service;
 
 /// Serves many clients at once from a keeper's store. `descriptor` may hold a socket that another process left for LMTP. The
 /// first line on the errors has the version and the process number. Returns the exit status if the daemon ends.
-pub fn serve_many<
+pub fn serve_daemon<
     N: Net + Files + Clock,
     D: AsFd,
     W: Write,
@@ -34,7 +34,7 @@ pub fn serve_many<
 >(
     system: &N,
     alloc: Global,
-    words: words::Daemon<'_>,
+    words: words::DaemonArgs<'_>,
     pid: u32,
     descriptor: &D,
     output: &mut W,
@@ -42,7 +42,7 @@ pub fn serve_many<
     mut keeper: K,
     sink: T,
 ) -> u8 {
-    let asked = match read_asked(words) {
+    let asked = match read_options(words) {
         Ok(asked) => asked,
         Err(fault) => return refuse(&mut errors, trouble_of(fault)),
     };
@@ -65,7 +65,7 @@ pub fn serve_many<
     };
     let route = match route_of(alloc, asked.mail) {
         Ok(route) => route,
-        Err(AllocError) => return refuse(&mut errors, trouble_of(Fault::from(AllocError))),
+        Err(AllocError) => return refuse(&mut errors, trouble_of(RunFault::from(AllocError))),
     };
     match watch(system, alloc, listening, output) {
         Ok(sockets) => {
@@ -93,12 +93,12 @@ pub fn serve_many<
 fn begin<N: Net + Files, D: AsFd, E: Write, K: Keeper>(
     system: &N,
     alloc: Global,
-    words: words::Daemon<'_>,
-    asked: &Asked<'_>,
+    words: words::DaemonArgs<'_>,
+    asked: &DaemonOptions<'_>,
     descriptor: &D,
     errors: &mut E,
     keeper: &mut K,
-) -> Result<Option<Listening>, Trouble> {
+) -> Result<Option<Listening>, FaultWithCause> {
     look_at_limit()?;
     look_at_store(words.path, errors, keeper)?;
     look_at_mail(system, asked.mail)?;
@@ -111,12 +111,12 @@ fn begin<N: Net + Files, D: AsFd, E: Write, K: Keeper>(
 
 /// Checks that the process may open as many descriptors as the daemon needs: with too few it could neither accept clients nor open
 /// the store, and would still look healthy.
-fn look_at_limit() -> Result<(), Trouble> {
+fn look_at_limit() -> Result<(), FaultWithCause> {
     if are_enough() {
         return Ok(());
     }
-    Err(Trouble {
-        fault: Fault::BadArgument,
+    Err(FaultWithCause {
+        fault: RunFault::BadArgument,
         cause: Some(TOO_FEW),
     })
 }
@@ -126,35 +126,35 @@ fn look_at_store<E: Write, K: Keeper>(
     path: &str,
     errors: &mut E,
     keeper: &mut K,
-) -> Result<(), Trouble> {
+) -> Result<(), FaultWithCause> {
     if let Err(denial) = keeper.lock_for_life(path) {
-        return Err(Trouble::of_store(Fault::from(denial), keeper));
+        return Err(FaultWithCause::of_store(RunFault::from(denial), keeper));
     }
     keeper.wait_for_lock(true);
     match keeper.take(path, false) {
         Ok(store) => keeper.hand_back(store),
-        Err(denial) => return Err(Trouble::of_store(Fault::from(denial), keeper)),
+        Err(denial) => return Err(FaultWithCause::of_store(RunFault::from(denial), keeper)),
     }
     keeper.wait_for_lock(false);
     if let Some(refusal) = keeper.take_close_error() {
-        Trouble::of_store(Fault::Refused(refusal), keeper).tell(errors);
+        FaultWithCause::of_store(RunFault::Refused(refusal), keeper).tell(errors);
     }
     Ok(())
 }
 
 /// Checks that the directory of the Maildirs exists.
-fn look_at_mail<N: Files>(system: &N, mail: Option<Mail<'_>>) -> Result<(), Trouble> {
+fn look_at_mail<N: Files>(system: &N, mail: Option<MailOptions<'_>>) -> Result<(), FaultWithCause> {
     let Some(mail) = mail else {
         return Ok(());
     };
     match fs::metadata(system, mail.dir) {
         Ok(found) if found.is_dir() => Ok(()),
-        _ => Err(trouble_of(Fault::NoMaildir)),
+        _ => Err(trouble_of(RunFault::NoMaildir)),
     }
 }
 
 /// The route of mail into Maildirs, if mail moves on.
-fn route_of(alloc: Global, mail: Option<Mail<'_>>) -> Result<Option<Route>, AllocError> {
+fn route_of(alloc: Global, mail: Option<MailOptions<'_>>) -> Result<Option<Route>, AllocError> {
     let Some(mail) = mail else {
         return Ok(None);
     };
@@ -179,26 +179,26 @@ fn watch<'n, N: Net + Clock, W: Write>(
 /// Serves clients until the process ends.
 fn live<N: Net + Clock, E: Write + Drop, K: Keeper + Drop, T: MailSink + Drop>(
     alloc: Global,
-    asked: &Asked<'_>,
+    asked: &DaemonOptions<'_>,
     mut host: Host<'_, N, E, K, T>,
 ) -> u8 {
     let name = match Octets::from_slice(alloc, asked.host.as_bytes()) {
         Ok(name) => name,
-        Err(AllocError) => return host.refuse(trouble_of(Fault::from(AllocError))),
+        Err(AllocError) => return host.refuse(trouble_of(RunFault::from(AllocError))),
     };
     let mut daemon = MailDaemon::new(alloc, asked.names, name, asked.mail.is_some(), asked.memory);
     let mut service = Service::new(alloc);
-    match life::serve(&mut host, &mut daemon, &mut service, u64::MAX) {
+    match life::serve_clients(&mut host, &mut daemon, &mut service, u64::MAX) {
         Ok(()) => 0,
-        Err(_) => host.refuse(trouble_of(Fault::Stream)),
+        Err(_) => host.refuse(trouble_of(RunFault::Stream)),
     }
 }
 
-fn trouble_of(fault: Fault) -> Trouble {
-    Trouble { fault, cause: None }
+fn trouble_of(fault: RunFault) -> FaultWithCause {
+    FaultWithCause { fault, cause: None }
 }
 
-fn refuse<E: Write>(errors: &mut E, trouble: Trouble) -> u8 {
+fn refuse<E: Write>(errors: &mut E, trouble: FaultWithCause) -> u8 {
     trouble.tell(errors);
     trouble.fault.status()
 }

@@ -1,8 +1,8 @@
 //! The script for accounts without an active one.
 use crate::check::{MOST, read_front, tell_unread};
 use octets::Octets;
-use sievedrun::check::check_text;
-use sievedrun::fault::{Fault, refuse};
+use cli_run::check::check_text;
+use cli_run::fault::{RunFault, refuse};
 use std::alloc::Global;
 use std::fs::Files;
 use std::io::Write;
@@ -21,7 +21,7 @@ pub fn read_default<F: Files, W: Write, E: Write>(
     };
     let mut room = Vec::new(alloc);
     if let Err(refused) = room.resize(MOST, 0) {
-        return Err(refuse(errors, Fault::from(refused)));
+        return Err(refuse(errors, RunFault::from(refused)));
     }
     let len = match read_front(system, path, room.as_mut_slice()) {
         Ok(len) => len,
@@ -34,6 +34,6 @@ pub fn read_default<F: Files, W: Write, E: Write>(
     }
     match Octets::from_slice(alloc, room.as_slice()) {
         Ok(text) => Ok(Some(text)),
-        Err(refused) => Err(refuse(errors, Fault::from(refused))),
+        Err(refused) => Err(refuse(errors, RunFault::from(refused))),
     }
 }

@@ -1,5 +1,5 @@
 //! How many descriptors the daemon needs, and may have.
-use sieveddaemon::{MAX_CLIENTS, MAX_SENDERS};
+use daemon_core::{MAX_CLIENTS, MAX_SENDERS};
 
 /// The number of descriptors for all but clients: 3 standard streams, 2 listeners, the one that events are waited for on, 4 for
 /// the store and its directory, 3 for locks, 3 for a Maildir, 1 for a client that finds no place, and 15 in reserve.

@@ -1,9 +1,9 @@
 //! Serves clients on the loopback address, one after the other.
-use keepers::Keeper;
-use sievedrun::fault::{Fault, refuse};
-use sievedrun::session::serve_client;
-use sievedrun::values::{decimal, port_of};
-use sievedwords::{Serve, StoreLocation};
+use store_lock::Keeper;
+use cli_run::fault::{RunFault, refuse};
+use cli_run::session::serve_client;
+use cli_run::values::{decimal, port_of};
+use cli_subcommands::{ServeArgs, StoreLocation};
 use std::alloc::Global;
 use std::io::{ErrorKind, Write};
 use std::net::{Ipv4Addr, Net, SocketAddr, TcpListener, TcpStream};
@@ -14,7 +14,7 @@ use std::{format, io};
 pub fn serve<R, W: Write, E: Write, K: Keeper>(
     rt: &R,
     alloc: Global,
-    asked: Serve<'_>,
+    asked: ServeArgs<'_>,
     output: &mut W,
     errors: &mut E,
     keeper: &mut K,
@@ -31,11 +31,11 @@ where
 fn listen_and_serve<R, W: Write, E: Write, K: Keeper>(
     rt: &R,
     alloc: Global,
-    asked: Serve<'_>,
+    asked: ServeArgs<'_>,
     output: &mut W,
     errors: &mut E,
     keeper: &mut K,
-) -> Result<(), Fault>
+) -> Result<(), RunFault>
 where
     R: Net<Listener = TcpListener, Stream = TcpStream>,
 {
@@ -45,7 +45,7 @@ where
         None => None,
     };
     let Ok(listener) = listen(rt, alloc, port, output) else {
-        return Err(Fault::Stream);
+        return Err(RunFault::Stream);
     };
     serve_all(alloc, asked.location, &listener, sessions, errors, keeper)
 }
@@ -79,7 +79,7 @@ fn serve_all<E: Write, K: Keeper>(
     sessions: Option<u64>,
     errors: &mut E,
     keeper: &mut K,
-) -> Result<(), Fault> {
+) -> Result<(), RunFault> {
     let mut left = sessions;
     if left == Some(0) {
         return Ok(());
@@ -88,7 +88,7 @@ fn serve_all<E: Write, K: Keeper>(
         let stream = match stream {
             Ok(stream) => stream,
             Err(error) if error.kind() == ErrorKind::ConnectionAborted => continue,
-            Err(_) => return Err(Fault::Stream),
+            Err(_) => return Err(RunFault::Stream),
         };
         let (mut input, mut output) = (&stream, &stream);
         let _ = serve_client(alloc, location, &mut input, &mut output, errors, keeper);

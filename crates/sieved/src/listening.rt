@@ -1,21 +1,21 @@
 //! The daemon's options, and its listeners.
-use hostzones::HostZone;
-use keepers::cause::of_socket;
-use lmtp::Names;
-use maildirs::Separator;
+use mail_dates::HostZone;
+use store_lock::cause::socket_cause;
+use lmtp_dialogue::Names;
+use maildir_files::Separator;
 use mio::net::TcpListener;
 use octets::{Octets, is_printable};
-use sievedrun::fault::Fault;
-use sievedrun::trouble::Trouble;
-use sievedrun::values::{mebibytes_of, port_of, separator_of, zone_of};
-use sievedwords::Daemon;
+use cli_run::fault::RunFault;
+use cli_run::fault_with_cause::FaultWithCause;
+use cli_run::values::{mebibytes_of, port_of, separator_of, zone_of};
+use cli_subcommands::DaemonArgs;
 use std::alloc::{AllocError, Global};
 use std::fs::Files;
 use std::io::ErrorKind;
 use std::net::{Ipv4Addr, Net, SocketAddr};
 use std::os::fd::AsFd;
 use std::{format, io};
-use systemsockets::{Listener, bind_path, inherit};
+use net_sockets::{Listener, bind_path, inherit};
 
 /// The longest name of a host, in octets (RFC 5321, 4.5.3.1.2).
 const MAX_HOST: usize = 255;
@@ -25,7 +25,7 @@ const MEMORY: u32 = 64;
 
 /// Where clients of LMTP connect.
 #[derive(Clone, Copy)]
-pub enum Door<'a> {
+pub enum LmtpEndpoint<'a> {
     /// A port of the loopback address.
     Port(u16),
     /// A path of the file system.
@@ -36,7 +36,7 @@ pub enum Door<'a> {
 
 /// Where mail moves to.
 #[derive(Clone, Copy)]
-pub struct Mail<'a> {
+pub struct MailOptions<'a> {
     /// The directory of the users' Maildirs.
     pub dir: &'a str,
     /// The separator of the levels of a folder's name in a Maildir.
@@ -45,12 +45,12 @@ pub struct Mail<'a> {
 
 /// What the arguments of `daemon` ask for.
 #[derive(Clone, Copy)]
-pub struct Asked<'a> {
+pub struct DaemonOptions<'a> {
     /// The port for clients of ManageSieve, if they are served.
     pub managesieve: Option<u16>,
-    pub lmtp: Option<Door<'a>>,
+    pub lmtp: Option<LmtpEndpoint<'a>>,
     pub names: Names,
-    pub mail: Option<Mail<'a>>,
+    pub mail: Option<MailOptions<'a>>,
     /// The time zone in which mail is delivered.
     pub zone: HostZone,
     /// The host name in the greeting to clients of LMTP.
@@ -63,18 +63,18 @@ pub struct Asked<'a> {
 ///
 /// # Errors
 ///
-/// [`Fault::BadArgument`] if nothing is to be listened on, or if a number, a keyword or a name isn't valid.
-pub fn read_asked(words: Daemon<'_>) -> Result<Asked<'_>, Fault> {
+/// [`RunFault::BadArgument`] if nothing is to be listened on, or if a number, a keyword or a name isn't valid.
+pub fn read_options(words: DaemonArgs<'_>) -> Result<DaemonOptions<'_>, RunFault> {
     if words.managesieve.is_none() && words.lmtp.is_none() && words.mail.is_none() {
-        return Err(Fault::BadArgument);
+        return Err(RunFault::BadArgument);
     }
     let managesieve = match words.managesieve {
         Some(text) => Some(port_of(text)?),
         None => None,
     };
-    Ok(Asked {
+    Ok(DaemonOptions {
         managesieve,
-        lmtp: words.lmtp.map(door_of),
+        lmtp: words.lmtp.map(endpoint_of),
         names: names_of(words.names)?,
         mail: mail_of(words)?,
         zone: zone_of(words.zone)?,
@@ -84,37 +84,37 @@ pub fn read_asked(words: Daemon<'_>) -> Result<Asked<'_>, Fault> {
 }
 
 /// Where mail moves to. A separator of levels may be given only with it.
-fn mail_of(words: Daemon<'_>) -> Result<Option<Mail<'_>>, Fault> {
+fn mail_of(words: DaemonArgs<'_>) -> Result<Option<MailOptions<'_>>, RunFault> {
     let Some(dir) = words.mail else {
         return match words.separator {
-            Some(_) => Err(Fault::BadArgument),
+            Some(_) => Err(RunFault::BadArgument),
             None => Ok(None),
         };
     };
     let separator = separator_of(words.separator)?;
-    Ok(Some(Mail { dir, separator }))
+    Ok(Some(MailOptions { dir, separator }))
 }
 
-fn door_of(text: &str) -> Door<'_> {
+fn endpoint_of(text: &str) -> LmtpEndpoint<'_> {
     if text == "-" {
-        return Door::Inherited;
+        return LmtpEndpoint::Inherited;
     }
     match port_of(text) {
-        Ok(port) => Door::Port(port),
-        Err(_) => Door::Path(text),
+        Ok(port) => LmtpEndpoint::Port(port),
+        Err(_) => LmtpEndpoint::Path(text),
     }
 }
 
-fn names_of(text: Option<&str>) -> Result<Names, Fault> {
+fn names_of(text: Option<&str>) -> Result<Names, RunFault> {
     match text {
         None | Some("local") => Ok(Names::Local),
         Some("whole") => Ok(Names::Whole),
-        Some(_) => Err(Fault::BadArgument),
+        Some(_) => Err(RunFault::BadArgument),
     }
 }
 
 /// The name of this host: `localhost` unless it is given.
-pub fn host_of(text: Option<&str>) -> Result<&str, Fault> {
+pub fn host_of(text: Option<&str>) -> Result<&str, RunFault> {
     let Some(name) = text else {
         return Ok("localhost");
     };
@@ -123,13 +123,13 @@ pub fn host_of(text: Option<&str>) -> Result<&str, Fault> {
         .iter()
         .all(|octet| is_printable(*octet) && *octet != b' ');
     if octets.is_empty() || octets.len() > MAX_HOST || !is_word {
-        return Err(Fault::BadArgument);
+        return Err(RunFault::BadArgument);
     }
     Ok(name)
 }
 
 /// How many KiB all connections together may hold.
-fn memory_of(text: Option<&str>) -> Result<u32, Fault> {
+fn memory_of(text: Option<&str>) -> Result<u32, RunFault> {
     let mebibytes = match text {
         None => MEMORY,
         Some(text) => mebibytes_of(text)?,
@@ -148,14 +148,14 @@ pub struct Listening {
 ///
 /// # Errors
 ///
-/// [`Fault::BadArgument`] if a path has something other than a socket; [`Fault::Stream`] if a listener can't be opened, with
+/// [`RunFault::BadArgument`] if a path has something other than a socket; [`RunFault::Stream`] if a listener can't be opened, with
 /// the cause.
 pub fn listen<N: Net + Files, D: AsFd>(
     system: &N,
     alloc: Global,
-    asked: &Asked<'_>,
+    asked: &DaemonOptions<'_>,
     descriptor: &D,
-) -> Result<Listening, Trouble> {
+) -> Result<Listening, FaultWithCause> {
     let mut listening = Listening {
         listeners: Vec::new(alloc),
         told: Octets::new(alloc),
@@ -170,7 +170,7 @@ pub fn listen<N: Net + Files, D: AsFd>(
 fn listen_to_sieve<N: Net>(
     system: &N,
     alloc: Global,
-    asked: &Asked<'_>,
+    asked: &DaemonOptions<'_>,
     listening: &mut Listening,
 ) -> io::Result<()> {
     let listener = match asked.managesieve {
@@ -184,7 +184,7 @@ fn listen_to_sieve<N: Net>(
 fn listen_to_mail<N: Net + Files, D: AsFd>(
     system: &N,
     alloc: Global,
-    asked: &Asked<'_>,
+    asked: &DaemonOptions<'_>,
     descriptor: &D,
     listening: &mut Listening,
 ) -> io::Result<()> {
@@ -192,13 +192,13 @@ fn listen_to_mail<N: Net + Files, D: AsFd>(
         return Ok(());
     };
     let listener = match door {
-        Door::Port(port) => bind_port(system, alloc, port, &mut listening.told)?,
-        Door::Path(path) => {
+        LmtpEndpoint::Port(port) => bind_port(system, alloc, port, &mut listening.told)?,
+        LmtpEndpoint::Path(path) => {
             let listener = bind_path(system, path)?;
             tell_listening(&mut listening.told, path.as_bytes())?;
             listener
         }
-        Door::Inherited => {
+        LmtpEndpoint::Inherited => {
             let listener = inherit(descriptor)?;
             tell_listening(&mut listening.told, b"-")?;
             listener
@@ -229,18 +229,18 @@ fn tell_listening(told: &mut Octets, place: &[u8]) -> Result<(), AllocError> {
 }
 
 /// The fault of a listener that can't be opened, with its cause.
-pub fn trouble_of_socket(error: io::Error) -> Trouble {
-    Trouble {
-        fault: Fault::Stream,
-        cause: of_socket(error.kind()),
+pub fn trouble_of_socket(error: io::Error) -> FaultWithCause {
+    FaultWithCause {
+        fault: RunFault::Stream,
+        cause: socket_cause(error.kind()),
     }
 }
 
 /// The same for the listener of LMTP. A path that has something other than a socket is a bad argument.
-fn trouble_of_door(door: Option<Door<'_>>, error: io::Error) -> Trouble {
+fn trouble_of_door(door: Option<LmtpEndpoint<'_>>, error: io::Error) -> FaultWithCause {
     match (door, error.kind()) {
-        (Some(Door::Path(_)), ErrorKind::AlreadyExists) => Trouble {
-            fault: Fault::BadArgument,
+        (Some(LmtpEndpoint::Path(_)), ErrorKind::AlreadyExists) => FaultWithCause {
+            fault: RunFault::BadArgument,
             cause: None,
         },
         _ => trouble_of_socket(error),

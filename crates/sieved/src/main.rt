@@ -14,17 +14,17 @@ mod wall_clock;
 
 use check::check;
 use clap::error::ErrorKind;
-use daemon::serve_many;
+use daemon::serve_daemon;
 use default_script::read_default;
-use keepers::{FileKeeper, Keeper};
+use store_lock::{FileKeeper, Keeper};
 use listener::serve;
-use mailsinks::{MailSink, Maildir};
+use maildir_files::{MailSink, Maildir};
 use octets::Octets;
 use send::send;
-use sievedrun::drive::drive;
-use sievedrun::fault::{Fault, refuse};
-use sievedrun::session::run_session;
-use sievedwords::{CommandLine, ReadError, Send, Subcommand, read};
+use cli_run::run::run_program;
+use cli_run::fault::{RunFault, refuse};
+use cli_run::session::run_session;
+use cli_subcommands::{RawArgs, ArgsError, SendArgs, Subcommand, read_command_line};
 use std::alloc::{AllocError, Global};
 use std::env::{Env, FillError};
 use std::fs::Files;
@@ -39,15 +39,15 @@ use std::time::{Clock, SystemTime};
 fn main(rt: HostRuntime) -> ExitCode {
     let status = match words_after_name(&rt) {
         Ok(words) => run(&rt, &words),
-        Err(refused) => refuse(&mut rt.stderr(), Fault::from(refused)),
+        Err(refused) => refuse(&mut rt.stderr(), RunFault::from(refused)),
     };
     ExitCode::from(status)
 }
 
 /// Runs the program with these arguments, over the standard streams and a file, and returns the exit status.
-fn run(rt: &HostRuntime, words: &CommandLine) -> u8 {
+fn run(rt: &HostRuntime, words: &RawArgs) -> u8 {
     match sending(rt.alloc(), words) {
-        Err(refused) => return refuse(&mut rt.stderr(), Fault::from(refused)),
+        Err(refused) => return refuse(&mut rt.stderr(), RunFault::from(refused)),
         Ok(Some(asked)) => return send(rt, asked, &mut rt.stdout(), &mut rt.stderr()),
         Ok(None) => {}
     }
@@ -81,7 +81,7 @@ struct Moment {
 fn answer<N, R: Read + AsFd, W: Write, E: Write + Drop, K: Keeper + Drop, T: MailSink + Drop>(
     net: &N,
     alloc: Global,
-    words: &CommandLine,
+    words: &RawArgs,
     moment: Moment,
     input: &mut R,
     output: &mut W,
@@ -93,7 +93,7 @@ where
     N: Net<Listener = TcpListener, Stream = TcpStream> + Files + Clock,
 {
     match server_subcommand(alloc, words) {
-        Err(refused) => refuse(&mut errors, Fault::from(refused)),
+        Err(refused) => refuse(&mut errors, RunFault::from(refused)),
         Ok(Some(Subcommand::Serve(asked))) => {
             serve(net, alloc, asked, output, &mut errors, &mut keeper)
         }
@@ -107,7 +107,7 @@ where
                 &mut keeper,
             )
         }
-        Ok(Some(Subcommand::Daemon(asked))) => serve_many(
+        Ok(Some(Subcommand::Daemon(asked))) => serve_daemon(
             net, alloc, asked, moment.pid, &*input, output, errors, keeper, sink,
         ),
         Ok(Some(Subcommand::Check(_))) => { check(net, alloc, words, input, output, &mut errors) }
@@ -120,7 +120,7 @@ where
                 Ok(default) => default,
                 Err(status) => return status,
             };
-            drive(
+            run_program(
                 alloc,
                 words,
                 input,
@@ -137,13 +137,13 @@ where
 }
 
 /// The arguments of `send`, if it is the subcommand and they are valid.
-fn sending<'a>(alloc: Global, words: &'a CommandLine) -> Result<Option<Send<'a>>, AllocError> {
+fn sending<'a>(alloc: Global, words: &'a RawArgs) -> Result<Option<SendArgs<'a>>, AllocError> {
     if words.first() != Some("send") {
         return Ok(None);
     }
-    match read(alloc, words) {
+    match read_command_line(alloc, words) {
         Ok(Subcommand::Send(asked)) => Ok(Some(asked)),
-        Err(ReadError::Said(error)) if error.kind() == ErrorKind::OutOfMemory => Err(AllocError),
+        Err(ArgsError::Said(error)) if error.kind() == ErrorKind::OutOfMemory => Err(AllocError),
         _ => Ok(None),
     }
 }
@@ -151,7 +151,7 @@ fn sending<'a>(alloc: Global, words: &'a CommandLine) -> Result<Option<Send<'a>>
 /// The subcommand, if it is `serve`, `session`, `daemon`, `check` or `deliver` and its arguments are valid.
 fn server_subcommand<'a>(
     alloc: Global,
-    words: &'a CommandLine,
+    words: &'a RawArgs,
 ) -> Result<Option<Subcommand<'a>>, AllocError> {
     if !matches!(
         words.first(),
@@ -159,15 +159,15 @@ fn server_subcommand<'a>(
     ) {
         return Ok(None);
     }
-    match read(alloc, words) {
+    match read_command_line(alloc, words) {
         Ok(asked) => Ok(Some(asked)),
-        Err(ReadError::Said(error)) if error.kind() == ErrorKind::OutOfMemory => Err(AllocError),
+        Err(ArgsError::Said(error)) if error.kind() == ErrorKind::OutOfMemory => Err(AllocError),
         Err(_) => Ok(None),
     }
 }
 
 /// The arguments after the program's name.
-fn words_after_name(rt: &HostRuntime) -> Result<CommandLine, AllocError> {
+fn words_after_name(rt: &HostRuntime) -> Result<RawArgs, AllocError> {
     let mut words = Vec::new(rt.alloc());
     for at in 1..usize::MAX {
         match word_at(rt, at)? {
@@ -175,7 +175,7 @@ fn words_after_name(rt: &HostRuntime) -> Result<CommandLine, AllocError> {
             None => break,
         }
     }
-    CommandLine::new(rt.alloc(), words)
+    RawArgs::new(rt.alloc(), words)
 }
 
 /// The argument at an index, counted from the program's name; `None` after the last one.

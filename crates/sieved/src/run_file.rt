@@ -1,10 +1,10 @@
 //! The files of a run of `send` beside the store: `FILE.send`, its lock, and `FILE.send.waits`, what is known of rows that wait.
-use keepers::cause::of_file;
-use mailstore::Refusal;
+use store_lock::cause::file_cause;
+use store_accounts::Refusal;
 use octets::Octets;
-use sendwaits::{Waits, write_waits};
-use sievedrun::fault::Fault;
-use sievedrun::trouble::Trouble;
+use smtp_queue::{RowWaits, write_waits};
+use cli_run::fault::RunFault;
+use cli_run::fault_with_cause::FaultWithCause;
 use std::alloc::AllocError;
 use std::fs::{File, OpenOptions, TryLockError};
 use std::io::Write;
@@ -19,12 +19,12 @@ const OWNER_ALONE: u32 = 0o600;
 /// # Errors
 ///
 /// `Busy` if another run has it; else why it can't be taken.
-pub fn lock_run(rt: &HostRuntime, path: &str) -> Result<File, Trouble> {
+pub fn lock_run(rt: &HostRuntime, path: &str) -> Result<File, FaultWithCause> {
     let file = open_to_write(rt, path, "send", false)?;
     match file.try_lock() {
         Ok(()) => Ok(file),
-        Err(TryLockError::WouldBlock) => Err(Trouble {
-            fault: Fault::Busy,
+        Err(TryLockError::WouldBlock) => Err(FaultWithCause {
+            fault: RunFault::Busy,
             cause: None,
         }),
         Err(TryLockError::Error(error)) => Err(trouble_of(&error)),
@@ -43,7 +43,7 @@ pub fn read_run(rt: &HostRuntime, path: &str) -> Result<Octets, AllocError> {
 }
 
 /// Writes what is known of rows that wait. If that fails, the next run knows what the last one knew.
-pub fn write_run(rt: &HostRuntime, path: &str, waits: &Waits, now: u64) {
+pub fn write_run(rt: &HostRuntime, path: &str, waits: &RowWaits, now: u64) {
     let Ok(text) = write_waits(rt.alloc(), waits, now) else {
         return;
     };
@@ -51,7 +51,7 @@ pub fn write_run(rt: &HostRuntime, path: &str, waits: &Waits, now: u64) {
 }
 
 /// Replaces the file with a new one, by a rename.
-fn replace(rt: &HostRuntime, path: &str, text: &Octets) -> Result<(), Trouble> {
+fn replace(rt: &HostRuntime, path: &str, text: &Octets) -> Result<(), FaultWithCause> {
     let mut file = open_to_write(rt, path, "send.waits.new", true)?;
     if let Err(error) = file.write_all(text.as_slice()) {
         return Err(trouble_of(&error));
@@ -71,7 +71,7 @@ fn open_to_write(
     path: &str,
     ending: &str,
     empties: bool,
-) -> Result<File, Trouble> {
+) -> Result<File, FaultWithCause> {
     let name = name_of(rt, path, ending)?;
     let opened = OpenOptions::new()
         .write(true)
@@ -85,19 +85,19 @@ fn open_to_write(
     }
 }
 
-fn name_of(rt: &HostRuntime, path: &str, ending: &str) -> Result<String, Trouble> {
+fn name_of(rt: &HostRuntime, path: &str, ending: &str) -> Result<String, FaultWithCause> {
     match format!(in rt.alloc(); "{path}.{ending}") {
         Ok(name) => Ok(name),
-        Err(_) => Err(Trouble {
-            fault: Fault::Refused(Refusal::Memory),
+        Err(_) => Err(FaultWithCause {
+            fault: RunFault::Refused(Refusal::Memory),
             cause: None,
         }),
     }
 }
 
-fn trouble_of(error: &io::Error) -> Trouble {
-    Trouble {
-        fault: Fault::Refused(Refusal::Store),
-        cause: of_file(error.kind()),
+fn trouble_of(error: &io::Error) -> FaultWithCause {
+    FaultWithCause {
+        fault: RunFault::Refused(Refusal::Store),
+        cause: file_cause(error.kind()),
     }
 }

@@ -2,23 +2,23 @@
 use crate::listening::host_of;
 use crate::run_file::{lock_run, read_run, write_run};
 use crate::wall_clock::WallClock;
-use keepers::{FileKeeper, Keeper};
-use mailsenders::{Client, Stop};
-use mailstore::Refusal;
+use store_lock::{FileKeeper, Keeper};
+use smtp_send::{SmtpClient, Stop};
+use store_accounts::Refusal;
 use octets::Octets;
-use sendqueues::{Ended, Search, send_due};
-use sendwaits::{Book, Memory, Waits, read_waits, tally_line};
-use sievedrun::fault::Fault;
-use sievedrun::trouble::Trouble;
-use sievedrun::values::decimal;
-use sievedwords::Send;
-use smtpsockets::{SocketPeer, Target};
+use smtp_queue::{Ended, Search, send_due};
+use smtp_queue::{Book, NotedWaits, RowWaits, read_waits, tally_line};
+use cli_run::fault::RunFault;
+use cli_run::fault_with_cause::FaultWithCause;
+use cli_run::values::decimal;
+use cli_subcommands::SendArgs;
+use net_sockets::{SocketPeer, Target};
 use std::alloc::{AllocError, Global};
 use std::io::Write;
 
 /// What the arguments of `send` ask for.
 #[derive(Clone, Copy)]
-struct Asked<'a> {
+struct DaemonOptions<'a> {
     path: &'a str,
     target: Target<'a>,
     host: &'a str,
@@ -29,7 +29,7 @@ struct Asked<'a> {
 /// Hands the rows of all queues that are due to a mail server. Returns the exit status.
 pub fn send<W: Write, E: Write>(
     rt: &HostRuntime,
-    words: Send<'_>,
+    words: SendArgs<'_>,
     output: &mut W,
     errors: &mut E,
 ) -> u8 {
@@ -38,24 +38,24 @@ pub fn send<W: Write, E: Write>(
             Ok(()) => 0,
             Err(trouble) => refuse(errors, trouble),
         },
-        Err(fault) => refuse(errors, Trouble { fault, cause: None }),
+        Err(fault) => refuse(errors, FaultWithCause { fault, cause: None }),
     }
 }
 
-fn refuse<E: Write>(errors: &mut E, trouble: Trouble) -> u8 {
+fn refuse<E: Write>(errors: &mut E, trouble: FaultWithCause) -> u8 {
     trouble.tell(errors);
     trouble.fault.status()
 }
 
-fn read_asked(words: Send<'_>) -> Result<Asked<'_>, Fault> {
+fn read_asked(words: SendArgs<'_>) -> Result<DaemonOptions<'_>, RunFault> {
     let Some(target) = Target::read(words.smtp) else {
-        return Err(Fault::BadArgument);
+        return Err(RunFault::BadArgument);
     };
     let most = match words.most {
         Some(text) => decimal(text)?,
         None => u64::MAX,
     };
-    Ok(Asked {
+    Ok(DaemonOptions {
         path: words.path,
         target,
         host: host_of(words.host)?,
@@ -67,10 +67,10 @@ fn read_asked(words: Send<'_>) -> Result<Asked<'_>, Fault> {
 /// Runs alone over a store: what is known of rows that wait is read first and written at the end, however the run ends.
 fn send_all<W: Write, E: Write>(
     rt: &HostRuntime,
-    asked: Asked<'_>,
+    asked: DaemonOptions<'_>,
     output: &mut W,
     errors: &mut E,
-) -> Result<(), Trouble> {
+) -> Result<(), FaultWithCause> {
     let lock = lock_run(rt, asked.path)?;
     let ended = match read_run(rt, asked.path) {
         Ok(text) => send_known(rt, asked, text.as_slice(), output, errors),
@@ -83,11 +83,11 @@ fn send_all<W: Write, E: Write>(
 /// Sends the rows that are due, given the text of what is known of those that wait.
 fn send_known<W: Write, E: Write>(
     rt: &HostRuntime,
-    asked: Asked<'_>,
+    asked: DaemonOptions<'_>,
     text: &[u8],
     output: &mut W,
     errors: &mut E,
-) -> Result<(), Trouble> {
+) -> Result<(), FaultWithCause> {
     let alloc = rt.alloc();
     let mut clock = WallClock::new(rt);
     let now = clock.now();
@@ -110,16 +110,16 @@ fn send_known<W: Write, E: Write>(
 /// Sends the rows that are due over one connection, and over another one if it is lost.
 fn send_rows<'a, W: Write, E: Write>(
     rt: &'a HostRuntime,
-    asked: Asked<'_>,
+    asked: DaemonOptions<'_>,
     search: Search<'_>,
-    known: Waits,
+    known: RowWaits,
     clock: &mut WallClock<'a>,
     output: &mut W,
     errors: &mut E,
-) -> Result<(Memory, Ended<FileKeeper<'a>>), Trouble> {
+) -> Result<(NotedWaits, Ended<FileKeeper<'a>>), FaultWithCause> {
     let alloc = rt.alloc();
     let host = Octets::from_slice(alloc, asked.host.as_bytes()).map_err(no_memory)?;
-    let mut server = Client::new(alloc, SocketPeer::new(rt, asked.target), host);
+    let mut server = SmtpClient::new(alloc, SocketPeer::new(rt, asked.target), host);
     let mut book = Book::new(alloc, known, output, errors, clock);
     let ended = send_due(
         alloc,
@@ -137,19 +137,19 @@ fn send_rows<'a, W: Write, E: Write>(
 fn trouble_of_stop<E: Write, K: Keeper>(
     stop: Stop,
     keeper: &K,
-    known: &Memory,
+    known: &NotedWaits,
     errors: &mut E,
-) -> Trouble {
+) -> FaultWithCause {
     match stop {
         Stop::Kept => {
             let _ = errors.write_all(b"sieved: sent, and in the queue still: ");
             let _ = errors.write_all(known.last.as_slice());
             let _ = errors.write_all(b"\n");
-            Trouble::of_store(Fault::Refused(Refusal::Store), keeper)
+            FaultWithCause::of_store(RunFault::Refused(Refusal::Store), keeper)
         }
-        Stop::Store => Trouble::of_store(Fault::Refused(Refusal::Store), keeper),
+        Stop::Store => FaultWithCause::of_store(RunFault::Refused(Refusal::Store), keeper),
         Stop::Memory => no_memory(AllocError),
-        Stop::Unreachable | Stop::Output => trouble_of(Fault::Stream),
+        Stop::Unreachable | Stop::Output => trouble_of(RunFault::Stream),
     }
 }
 
@@ -159,21 +159,21 @@ fn tell_tally<W: Write>(
     output: &mut W,
     sent: u64,
     waiting: u64,
-) -> Result<(), Trouble> {
+) -> Result<(), FaultWithCause> {
     let line = match tally_line(alloc, sent, waiting) {
         Ok(line) => line,
         Err(refused) => return Err(no_memory(refused)),
     };
     if output.write_all(line.as_slice()).is_err() || output.flush().is_err() {
-        return Err(trouble_of(Fault::Stream));
+        return Err(trouble_of(RunFault::Stream));
     }
     Ok(())
 }
 
-fn trouble_of(fault: Fault) -> Trouble {
-    Trouble { fault, cause: None }
+fn trouble_of(fault: RunFault) -> FaultWithCause {
+    FaultWithCause { fault, cause: None }
 }
 
-fn no_memory(_refused: AllocError) -> Trouble {
-    trouble_of(Fault::Refused(Refusal::Memory))
+fn no_memory(_refused: AllocError) -> FaultWithCause {
+    trouble_of(RunFault::Refused(Refusal::Memory))
 }

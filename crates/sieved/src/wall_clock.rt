@@ -1,6 +1,6 @@
 //! The clocks of a run of `send`.
 use mio::{Events, Poll};
-use sendwaits::Clock;
+use smtp_queue::SendClock;
 use std::time::{Duration, Instant, SystemTime};
 
 /// The system's clocks.
@@ -34,7 +34,7 @@ impl<'a> WallClock<'a> {
     }
 }
 
-impl Clock for WallClock<'_> {
+impl SendClock for WallClock<'_> {
     fn moment(&mut self) -> u64 {
         self.now()
     }

@@ -3,10 +3,10 @@ use Rattle.std.proofs.Common.{◌≡◌, ◌⊎◌, ◌↔◌, ℕ, suc, ◌+◌
 use Rattle.std.proofs.lemmas.List.{take-append-drop}
 use Rattle.std.proofs.lemmas.List.Folds.{list_all-append}
 use Rattle.std.specs.List.{list_all, slice_split, onto_first}
-use Rattle.smtpclient.specs.Addresses.{AreGroupsAndIpv4, EndsInIpv4, IsCompressed, IsCompressedIpv4, IsIpv6, Fit, CutsDoubled, CutsLast, is_colon, is_dot, is_filled, is_group, is_ipv4, is_number, between_colons, groups_of, some_groups_of, begins_colon, begins_doubled, before_doubled}
-use Rattle.smtpclient.specs.Mailboxes.{HasNone}
-use Rattle.smtpclient.proofs.MailboxLemmas.{both, same_octet, all_other, head_of, tail_of}
-use Rattle.smtpclient.proofs.SplitLemmas.{all_by, each_by, split_all}
+use Rattle.smtp_dialogue.specs.Addresses.{AreGroupsAndIpv4, EndsInIpv4, IsCompressed, IsCompressedIpv4, IsIpv6, Fit, CutsDoubled, CutsLast, is_colon, is_dot, is_filled, is_group, is_ipv4, is_ipv4_number, between_colons, groups_of, some_groups_of, begins_colon, begins_doubled, before_doubled}
+use Rattle.smtp_dialogue.specs.Mailboxes.{HasNoMark}
+use Rattle.smtp_dialogue.proofs.MailboxLemmas.{both, same_octet, all_other, head_of, tail_of}
+use Rattle.smtp_dialogue.proofs.SplitLemmas.{all_by, each_by, split_all}
 use Rattle.std.specs.Prelude.{nat_le, nat_eq}
 use Rattle.octets.specs.Ascii.{is_digit}
 use Rattle.octets.specs.Decimal.{number_of}
@@ -97,7 +97,7 @@ other mark octet = not (octet == mark)
 abbrev is_ipv4_octet : ℕ → Bool
 is_ipv4_octet octet = is_digit octet || is_dot octet
 
-number_text : (part : List ℕ) → is_number part ≡ true → list_all is_ipv4_octet part ≡ true
+number_text : (part : List ℕ) → is_ipv4_number part ≡ true → list_all is_ipv4_octet part ≡ true
 number_text part is =
     let front = both (is_filled part && nat_le (length part) 3 && list_all is_digit part) (nat_le (number_of part) 255) is in
     all_by is_digit is_ipv4_octet digit_octet part (both (is_filled part && nat_le (length part) 3) (list_all is_digit part) front.0).1
@@ -108,8 +108,8 @@ number_text part is =
 -- an IPv4 address has no colon
 no_colon : (text : List ℕ) → is_ipv4 text ≡ true → list_all (other 58) text ≡ true
 no_colon text is =
-    let parts = (both (length (slice_split is_dot text) == 4) (list_all is_number (slice_split is_dot text)) is).1 in
-    all_other is_ipv4_octet 58 refl text (split_all is_dot is_ipv4_octet dot_octet text (each_by is_ipv4_octet is_number number_text (slice_split is_dot text) parts))
+    let parts = (both (length (slice_split is_dot text) == 4) (list_all is_ipv4_number (slice_split is_dot text)) is).1 in
+    all_other is_ipv4_octet 58 refl text (split_all is_dot is_ipv4_octet dot_octet text (each_by is_ipv4_octet is_ipv4_number number_text (slice_split is_dot text) parts))
   where
     or_true : (a : Bool) → (a || true) ≡ true
     or_true true = refl

@@ -3,18 +3,18 @@ use Rattle.std.proofs.Common.{◌≡◌, ◌++◌, ◌+◌, ◌≤◌, ◌==◌,
 use Rattle.std.specs.List.{list_all}
 use Rattle.std.specs.Str.{IsAscii}
 use Rattle.std.proofs.lemmas.Str.{IsUtf8-from_ascii, is_utf8-from_IsUtf8}
-use Rattle.smtpclient.specs.Dialogues.{turn_of}
-use Rattle.smtpclient.specs.Extensions.{extensions_of}
-use Rattle.smtpclient.specs.Addresses.{IsIpv6, groups_of, is_group, is_ipv4, some_groups_of}
-use Rattle.smtpclient.specs.Mailboxes.{IsInner, IsLiteral, IsMailbox, Says, is_dot_string, is_domain, behind_quotes}
-use Rattle.smtpclient.specs.declared.dialogue.Ending.TheVariants.{Sent, Refused, Delayed, OutOfPlace}
-use Rattle.smtpclient.specs.declared.dialogue.Stage.TheVariants.{Recipient, Data, Text}
-use Rattle.smtpclient.specs.declared.dialogue.Turn.TheVariants.{Goes, Ends}
-use Rattle.smtpclient.specs.Replies.{IsReplyLine}
-use Rattle.smtpclient.proofs.AddressLemmas.{at_doubled, at_last, groups_doubled, no_mark}
-use Rattle.smtpclient.proofs.MailboxLemmas.{one_tagged}
-use Rattle.smtpclient.specs.Sent.{mended, chomped, is_folded, sent_from, text_from}
-use Rattle.smtpclient.specs.declared.sent.Place.TheVariants.{Start}
+use Rattle.smtp_dialogue.specs.Dialogues.{smtp_turn_of}
+use Rattle.smtp_dialogue.specs.Extensions.{extensions_of}
+use Rattle.smtp_dialogue.specs.Addresses.{IsIpv6, groups_of, is_group, is_ipv4, some_groups_of}
+use Rattle.smtp_dialogue.specs.Mailboxes.{IsInner, IsAddressLiteral, IsSmtpMailbox, TagSays, is_dot_string, is_domain, behind_quotes}
+use Rattle.smtp_dialogue.specs.declared.dialogue.Ending.TheVariants.{Sent, Refused, Delayed, OutOfPlace}
+use Rattle.smtp_dialogue.specs.declared.dialogue.SmtpStage.TheVariants.{Recipient, Data, Text}
+use Rattle.smtp_dialogue.specs.declared.dialogue.NextStage.TheVariants.{Goes, Ends}
+use Rattle.smtp_dialogue.specs.Replies.{IsReplyLine}
+use Rattle.smtp_dialogue.proofs.AddressLemmas.{at_doubled, at_last, groups_doubled, no_mark}
+use Rattle.smtp_dialogue.proofs.MailboxLemmas.{one_tagged}
+use Rattle.smtp_dialogue.specs.Sent.{mended, chomped, is_folded, sent_from, text_from}
+use Rattle.smtp_dialogue.specs.declared.sent.SentState.TheVariants.{Start}
 
 -- nothing is sent as the end alone
 nothing : sent_from Start [] ≡ 46 ∷ 13 ∷ 10 ∷ []
@@ -202,17 +202,17 @@ seven (inr (inr (inl is))) = let at = at_last (codes "1:2:3:4:5:6:7::") (codes "
 seven (inr (inr (inr is))) = seven_ahead is.front is.rest is.before is.behind is.written is.ahead (omega (arith, is.most))
 
 -- a literal with an address, and one with another tag; near miss: that of IPv6 with what is no address
-literal : IsLiteral (codes "[ipv6:::]")
+literal : IsAddressLiteral (codes "[ipv6:::]")
 literal = record { inner = codes "ipv6:::"; written = refl; is = inr (inl (record { tag = codes "ipv6"; address = codes "::"; written = refl; named = refl; is = nothing_else })) }
 
-other_tag : IsLiteral (codes "[x:junk]")
+other_tag : IsAddressLiteral (codes "[x:junk]")
 other_tag = record { inner = codes "x:junk"; written = refl; is = inr (inr (record { tag = codes "x"; content = codes "junk"; written = refl; other = refl; named = refl; each = refl })) }
 
 no_tag : IsInner (codes "IPv6:junk") → ⊥
 no_tag (inl is) = let no = is in cc
 no_tag (inr is) = by_says (one_tagged (codes "IPv6:junk") (codes "IPv6") (codes "junk") (record { written = refl; first = refl }) is)
   where
-    by_says : Says (codes "IPv6") (codes "junk") → ⊥
+    by_says : TagSays (codes "IPv6") (codes "junk") → ⊥
     by_says (inl says) = junk says.1
     by_says (inr says) = let no = says.0 in cc
 
@@ -230,7 +230,7 @@ ascii (suc (suc zero)) = lit< tt
 ascii (suc (suc (suc i))) = lit< tt
 
 -- `a@b` is a mailbox
-mailbox : IsMailbox (codes "a@b")
+mailbox : IsSmtpMailbox (codes "a@b")
 mailbox = record { host = codes "b"; cut = record { local = codes "a"; written = refl; is = inl refl }; is = inl refl; utf8 = is_utf8-from_IsUtf8 (97 ∷ 64 ∷ 98 ∷ []) (IsUtf8-from_ascii (97 ∷ 64 ∷ 98 ∷ []) ascii) }
 
 -- ---- extensions
@@ -245,21 +245,21 @@ offers_none = refl
 -- ---- turns
 
 -- a text is taken by 250; near misses: 251, 354, 451, 550
-taken : turn_of Text 250 ≡ Ends Sent
+taken : smtp_turn_of Text 250 ≡ Ends Sent
 taken = refl
 
-forwarded : turn_of Text 251 ≡ Ends (OutOfPlace 251)
+forwarded : smtp_turn_of Text 251 ≡ Ends (OutOfPlace 251)
 forwarded = refl
 
-later : turn_of Text 451 ≡ Ends (Delayed 451)
+later : smtp_turn_of Text 451 ≡ Ends (Delayed 451)
 later = refl
 
-refused : turn_of Text 550 ≡ Ends (Refused 550)
+refused : smtp_turn_of Text 550 ≡ Ends (Refused 550)
 refused = refl
 
 -- RCPT is taken by 251 too, DATA by 354 and not by 250
-recipient : turn_of Recipient 251 ≡ Goes Data
+recipient : smtp_turn_of Recipient 251 ≡ Goes Data
 recipient = refl
 
-too_early : turn_of Data 250 ≡ Ends (OutOfPlace 250)
+too_early : smtp_turn_of Data 250 ≡ Ends (OutOfPlace 250)
 too_early = refl

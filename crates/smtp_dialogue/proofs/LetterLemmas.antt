@@ -1,45 +1,45 @@
 -- Letters.
 use Rattle.std.proofs.Common.{◌≡◌, ℕ, ◌+◌, ◌*◌, ◌≤◌, ◌==◌, Bool, true, false, List, [], ◌∷◌, length, refl, sym, ap, ◌∙◌, inl, inr, arith}
-use Rattle.mailhead.specs.Cuts.{CutsLogicalLine}
-use Rattle.mailhead.specs.Lines.{lines_of, logical_lines}
-use Rattle.mailhead.proofs.FoldLemmas.{logical_lines-folded}
-use Rattle.mailhead.proofs.LineLemmas.{goes_on-lines_of}
-use Rattle.lmtp.specs.Copies.{is_path_line}
-use Rattle.smtpclient.specs.Letters.{LeavesPath}
-use Rattle.smtpclient.specs.Sent.{text_from, start, begins_feed}
-use Rattle.smtpclient.specs.declared.sent.Place.{Place}
-use Rattle.smtpclient.specs.declared.sent.Place.TheVariants.{Start, Inside, Over}
+use Rattle.mail_head.specs.Cuts.{CutsLogicalLine}
+use Rattle.mail_head.specs.Lines.{lines_of, logical_lines}
+use Rattle.mail_head.proofs.FoldLemmas.{logical_lines-folded}
+use Rattle.mail_head.proofs.LineLemmas.{goes_on-lines_of}
+use Rattle.lmtp_dialogue.specs.Copies.{is_path_line}
+use Rattle.smtp_dialogue.specs.Messages.{LeavesPath}
+use Rattle.smtp_dialogue.specs.Sent.{text_from, sent_start, begins_feed}
+use Rattle.smtp_dialogue.specs.declared.sent.SentState.{SentState}
+use Rattle.smtp_dialogue.specs.declared.sent.SentState.TheVariants.{Start, Inside, Over}
 
 -- ---- how many octets there are
 
 -- one more where the line that is counted has no end yet
-abbrev pub added : Place → ℕ
+abbrev pub added : SentState → ℕ
 added Start = 0
 added Inside = 1
 added Over = 0
 
-abbrev pub is_over : Place → Bool
+abbrev pub is_over : SentState → Bool
 is_over Over = true
 is_over Start = false
 is_over Inside = false
 
-pub record Counts (text left : List ℕ) (place : Place) (size : ℕ) : Type 0 where
+pub record Counts (text left : List ℕ) (place : SentState) (size : ℕ) : Type 0 where
   pub goes_on : is_over place ≡ false
-  pub whole : size + length (text_from place left) ≡ length (text_from start text)
+  pub whole : size + length (text_from place left) ≡ length (text_from sent_start text)
   pub bound : size + (added place + 2 * length left) ≤ 2 * length text
 
-feed_by : (place : Place) (octet : ℕ) (rest : List ℕ) → is_over place ≡ false → (octet == 10) ≡ true → length (text_from place (octet ∷ rest)) ≡ 2 + length (text_from Start rest)
+feed_by : (place : SentState) (octet : ℕ) (rest : List ℕ) → is_over place ≡ false → (octet == 10) ≡ true → length (text_from place (octet ∷ rest)) ≡ 2 + length (text_from Start rest)
 feed_by Start octet rest on test = rw test (omega arith)
 feed_by Inside octet rest on test = rw test (omega arith)
 feed_by Over octet rest on test = absurd (cc on)
 
-plain_by : (place : Place) (octet : ℕ) (rest : List ℕ) → is_over place ≡ false → (octet == 10) ≡ false → (octet == 13) ≡ false
+plain_by : (place : SentState) (octet : ℕ) (rest : List ℕ) → is_over place ≡ false → (octet == 10) ≡ false → (octet == 13) ≡ false
     → length (text_from place (octet ∷ rest)) ≡ 1 + length (text_from Inside rest)
 plain_by Start octet rest on first second = rw (first, second) (omega arith)
 plain_by Inside octet rest on first second = rw (first, second) (omega arith)
 plain_by Over octet rest on first second = absurd (cc on)
 
-return_by : (place : Place) (octet : ℕ) (rest : List ℕ) → is_over place ≡ false → (octet == 10) ≡ false → (octet == 13) ≡ true → begins_feed rest ≡ false
+return_by : (place : SentState) (octet : ℕ) (rest : List ℕ) → is_over place ≡ false → (octet == 10) ≡ false → (octet == 13) ≡ true → begins_feed rest ≡ false
     → length (text_from place (octet ∷ rest)) ≡ 1 + length (text_from Inside rest)
 return_by Start octet rest on first second third = rw (first, second, third) (omega arith)
 return_by Inside octet rest on first second third = rw (first, second, third) (omega arith)
@@ -51,25 +51,25 @@ unlike a b apart = grind (arith, apart)
 alike : (a b : ℕ) → a ≡ b → (a == b) ≡ true
 alike a b same = grind (arith, same)
 
-pub feed : (text left rest : List ℕ) (octet : ℕ) (place : Place) (size : ℕ) → Counts text left place size → left ≡ octet ∷ rest → octet ≡ 10 → Counts text rest Start (size + 2)
+pub feed : (text left rest : List ℕ) (octet : ℕ) (place : SentState) (size : ℕ) → Counts text left place size → left ≡ octet ∷ rest → octet ≡ 10 → Counts text rest Start (size + 2)
 feed text left rest octet place size counts written is_feed =
     let here : length (text_from place left) ≡ 2 + length (text_from Start rest) = ap (λ l. length (text_from place l)) written ∙ feed_by place octet rest counts.goes_on (alike octet 10 is_feed) in
     let shorter : length left ≡ 1 + length rest = ap length written ∙ omega arith in
     record { goes_on = refl; whole = omega (arith, here, counts.whole); bound = omega (arith, shorter, counts.bound) }
 
-inside : (text left rest : List ℕ) (octet : ℕ) (place : Place) (size : ℕ) → Counts text left place size → left ≡ octet ∷ rest
+inside : (text left rest : List ℕ) (octet : ℕ) (place : SentState) (size : ℕ) → Counts text left place size → left ≡ octet ∷ rest
     → length (text_from place (octet ∷ rest)) ≡ 1 + length (text_from Inside rest) → Counts text rest Inside (size + 1)
 inside text left rest octet place size counts written step =
     let here : length (text_from place left) ≡ 1 + length (text_from Inside rest) = ap (λ l. length (text_from place l)) written ∙ step in
     let shorter : length left ≡ 1 + length rest = ap length written ∙ omega arith in
     record { goes_on = refl; whole = omega (arith, here, counts.whole); bound = omega (arith, shorter, counts.bound) }
 
-pub plain : (text left rest : List ℕ) (octet : ℕ) (place : Place) (size : ℕ) → Counts text left place size → left ≡ octet ∷ rest → (octet ≡ 10 → ⊥) → (octet ≡ 13 → ⊥)
+pub plain : (text left rest : List ℕ) (octet : ℕ) (place : SentState) (size : ℕ) → Counts text left place size → left ≡ octet ∷ rest → (octet ≡ 10 → ⊥) → (octet ≡ 13 → ⊥)
     → Counts text rest Inside (size + 1)
 plain text left rest octet place size counts written first second =
     inside text left rest octet place size counts written (plain_by place octet rest counts.goes_on (unlike octet 10 first) (unlike octet 13 second))
 
-pub bare : (text left rest : List ℕ) (octet : ℕ) (place : Place) (size : ℕ) → Counts text left place size → left ≡ octet ∷ rest → (octet ≡ 10 → ⊥) → octet ≡ 13 → begins_feed rest ≡ false
+pub bare : (text left rest : List ℕ) (octet : ℕ) (place : SentState) (size : ℕ) → Counts text left place size → left ≡ octet ∷ rest → (octet ≡ 10 → ⊥) → octet ≡ 13 → begins_feed rest ≡ false
     → Counts text rest Inside (size + 1)
 bare text left rest octet place size counts written first second third =
     inside text left rest octet place size counts written (return_by place octet rest counts.goes_on (unlike octet 10 first) (alike octet 13 second) third)

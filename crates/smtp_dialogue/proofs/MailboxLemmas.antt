@@ -5,7 +5,7 @@ use Rattle.std.specs.Prelude.{nat_eq, MatchResult, IsUtf8, IfSome, IfNone}
 use Rattle.std.specs.Str.{is_utf8, IsValidUpTo}
 use Rattle.std.proofs.lemmas.Str.{IsUtf8-from_is_utf8, is_utf8-from_IsUtf8}
 use Rattle.std.specs.List.{list_all, slice_split, onto_first, prefix_len}
-use Rattle.mailhead.proofs.FormLemmas.{list_all-prefix}
+use Rattle.mail_head.proofs.FormLemmas.{list_all-prefix}
 use Rattle.std.proofs.Math.Seq.{drop-cons}
 use Rattle.std.proofs.lemmas.List.{take-append-drop, length-drop}
 use Rattle.std.proofs.lemmas.List.Folds.{list_all-append}
@@ -13,8 +13,8 @@ use Rattle.std.proofs.lemmas.List.Sums.{passes_at_first}
 use Rattle.octets.specs.Ascii.{is_printable, lowered}
 use Rattle.std.specs.Char.{to_ascii_lowercase}
 use Rattle.std.specs.Cmp.Lexicographic.{pointwise}
-use Rattle.smtpclient.specs.Addresses.{IsIpv6, is_dot}
-use Rattle.smtpclient.specs.Mailboxes.{CutsAt, HasNone, CutsLocal, CutsDotted, Closes, IsLocal, IsHost, IsMailbox, IsIpv6Tagged, IsTagged, Says, is_ipv6_tag, is_atom, is_atext, is_high, is_dot_string, is_qcontent, is_end, is_tag_octet, is_tag, is_content, ends_well, joined, behind_quotes}
+use Rattle.smtp_dialogue.specs.Addresses.{IsIpv6, is_dot}
+use Rattle.smtp_dialogue.specs.Mailboxes.{CutsAtOctet, HasNoMark, CutsLocal, CutsDotted, ClosesQuotes, IsLocal, IsHost, IsSmtpMailbox, IsIpv6Tagged, IsTagged, TagSays, is_ipv6_tag, is_smtp_atom, is_atext, is_high, is_dot_string, is_qcontent, is_label_end, is_tag_octet, is_tag, is_content, ends_well, joined_parts, behind_quotes}
 
 -- ---- truth values
 
@@ -42,7 +42,7 @@ pub no_octets : (text : List ℕ) → length text ≡ 0 → text ≡ []
 no_octets [] none = refl
 no_octets (octet ∷ text) none = absurd (omega (arith, none))
 
-pub ends-snoc : (front : List ℕ) (octet : ℕ) → ends_well (front ++ octet ∷ []) ≡ is_end octet
+pub ends-snoc : (front : List ℕ) (octet : ℕ) → ends_well (front ++ octet ∷ []) ≡ is_label_end octet
 ends-snoc [] octet = refl
 ends-snoc (a ∷ []) octet = refl
 ends-snoc (a ∷ b ∷ front) octet = ends-snoc (b ∷ front) octet
@@ -56,7 +56,7 @@ abbrev is : ℕ → ℕ → Bool
 is mark octet = octet == mark
 
 pub first_cut : (mark : ℕ) (text front rest : List ℕ) (octet count : ℕ) → count ≡ prefix_len (other mark) text → count ≤ length text → front ≡ take count text → drop count text ≡ octet ∷ rest
-    → CutsAt mark text front rest
+    → CutsAtOctet mark text front rest
 first_cut mark text front rest octet count value within ahead behind =
     let some : length (drop count text) ≡ length (octet ∷ rest) = ap length behind in
     let size : length (drop count text) ≡ length text - count = length-drop count text in
@@ -70,7 +70,7 @@ first_cut mark text front rest octet count value within ahead behind =
       first = ap (list_all (other mark)) (ahead ∙ ap (λ n. take n text) value) ∙ list_all-prefix (other mark) text;
     }
 
-pub no_cut : (mark : ℕ) (text : List ℕ) (count : ℕ) → count ≡ prefix_len (other mark) text → drop count text ≡ [] → HasNone mark text
+pub no_cut : (mark : ℕ) (text : List ℕ) (count : ℕ) → count ≡ prefix_len (other mark) text → drop count text ≡ [] → HasNoMark mark text
 no_cut mark text count value behind = λ front rest written.
     let whole : take count text ≡ text = sym (append-nil (take count text)) ∙ (ap (λ t. take count text ++ t) (sym behind) ∙ take-append-drop count text) in
     let all : list_all (other mark) text ≡ true = ap (list_all (other mark)) (sym whole ∙ ap (λ n. take n text) value) ∙ list_all-prefix (other mark) text in
@@ -114,11 +114,11 @@ dotted_octet octet = is_atext octet || is_dot octet
 abbrev all_atext : List ℕ → Bool
 all_atext text = list_all is_atext text
 
-atoms : (parts : List (List ℕ)) → list_all is_atom parts ≡ true → list_all all_atext parts ≡ true
+atoms : (parts : List (List ℕ)) → list_all is_smtp_atom parts ≡ true → list_all all_atext parts ≡ true
 atoms [] each = refl
 atoms ([] ∷ parts) each = absurd (cc each)
 atoms ((octet ∷ part) ∷ parts) each =
-    let here = both (is_atom (octet ∷ part)) (list_all is_atom parts) each in
+    let here = both (is_smtp_atom (octet ∷ part)) (list_all is_smtp_atom parts) each in
     rw here.0 (atoms parts here.1)
 
 or_true : (a : Bool) → (a || true) ≡ true
@@ -155,7 +155,7 @@ dotted text each = octets_of text (atoms (slice_split is_dot text) each)
 no_at : (text : List ℕ) → is_dot_string text ≡ true → list_all (other 64) text ≡ true
 no_at text each = all_other dotted_octet 64 refl text (dotted text each)
 
-pub one_dotted : (text front rest host : List ℕ) → CutsAt 64 text front rest → CutsDotted text host → (host ≡ rest) × (is_dot_string front ≡ true)
+pub one_dotted : (text front rest host : List ℕ) → CutsAtOctet 64 text front rest → CutsDotted text host → (host ≡ rest) × (is_dot_string front ≡ true)
 one_dotted text front rest host cut is_one =
     let same = one_cut 64 is_one.local front host rest (sym is_one.written ∙ cut.written) (no_at is_one.local is_one.is) cut.first in
     (same.1, ap is_dot_string (sym same.0) ∙ is_one.is)
@@ -192,7 +192,7 @@ word_colon (letter ∷ word) (octet ∷ tag) apart is =
 ipv6_colon : (tag : List ℕ) → is_ipv6_tag tag ≡ true → list_all (other 58) tag ≡ true
 ipv6_colon tag named = word_colon (codes "ipv6") tag refl named
 
-pub one_tagged : (text front rest : List ℕ) → CutsAt 58 text front rest → IsIpv6Tagged text ⊎ IsTagged text → Says front rest
+pub one_tagged : (text front rest : List ℕ) → CutsAtOctet 58 text front rest → IsIpv6Tagged text ⊎ IsTagged text → TagSays front rest
 one_tagged text front rest cut (inl is) =
     let same = one_cut 58 is.tag front is.address rest (sym is.written ∙ cut.written) (ipv6_colon is.tag is.named) cut.first in
     inl (ap is_ipv6_tag (sym same.0) ∙ is.named, subst IsIpv6 same.1 is.is)
@@ -200,7 +200,7 @@ one_tagged text front rest cut (inr is) =
     let same = one_cut 58 is.tag front is.content rest (sym is.written ∙ cut.written) (no_colon is.tag is.named) cut.first in
     inr (ap is_ipv6_tag (sym same.0) ∙ is.other, ap is_tag (sym same.0) ∙ is.named, ap is_content (sym same.1) ∙ is.each)
 
-pub is_tagged : (text front rest : List ℕ) → CutsAt 58 text front rest → Says front rest → IsIpv6Tagged text ⊎ IsTagged text
+pub is_tagged : (text front rest : List ℕ) → CutsAtOctet 58 text front rest → TagSays front rest → IsIpv6Tagged text ⊎ IsTagged text
 is_tagged text front rest cut (inl says) = inl (record { tag = front; address = rest; written = cut.written; named = says.0; is = says.1 })
 is_tagged text front rest cut (inr says) = inr (record { tag = front; content = rest; written = cut.written; other = says.0; named = says.1; each = says.2 })
 
@@ -224,13 +224,13 @@ part_first (first ∷ octet ∷ []) more is_part =
     ap (λ o. behind_quotes false (o ∷ octet ∷ more)) slash ∙ rw parts.1 refl
 part_first (first ∷ second ∷ third ∷ part) more is_part = absurd (cc is_part)
 
-parts_first : (parts : List (List ℕ)) (more : List ℕ) → list_all is_qcontent parts ≡ true → behind_quotes false (joined parts ++ more) ≡ behind_quotes false more
+parts_first : (parts : List (List ℕ)) (more : List ℕ) → list_all is_qcontent parts ≡ true → behind_quotes false (joined_parts parts ++ more) ≡ behind_quotes false more
 parts_first [] more each = refl
 parts_first (part ∷ parts) more each =
     let here = both (is_qcontent part) (list_all is_qcontent parts) each in
-    ap (behind_quotes false) (append_assoc part (joined parts) more) ∙ (part_first part (joined parts ++ more) here.0 ∙ parts_first parts more here.1)
+    ap (behind_quotes false) (append_assoc part (joined_parts parts) more) ∙ (part_first part (joined_parts parts ++ more) here.0 ∙ parts_first parts more here.1)
 
-pub closes_forth : (text rest : List ℕ) → Closes text rest → behind_quotes false text ≡ Some rest
+pub closes_forth : (text rest : List ℕ) → ClosesQuotes text rest → behind_quotes false text ≡ Some rest
 closes_forth text rest closes = ap (behind_quotes false) closes.written ∙ parts_first closes.parts (34 ∷ rest) closes.each
 
 -- from behind a backslash on
@@ -239,17 +239,17 @@ record Escaped (text rest : List ℕ) : Type 0 where
   behind : List ℕ
   written : text ≡ octet ∷ behind
   shown : is_printable octet ≡ true
-  closes : Closes behind rest
+  closes : ClosesQuotes behind rest
 
 abbrev ClosesFrom : Bool → List ℕ → List ℕ → Type 0
-ClosesFrom false text rest = Closes text rest
+ClosesFrom false text rest = ClosesQuotes text rest
 ClosesFrom true text rest = Escaped text rest
 
-with_part : (part text rest : List ℕ) → is_qcontent part ≡ true → Closes text rest → Closes (part ++ text) rest
+with_part : (part text rest : List ℕ) → is_qcontent part ≡ true → ClosesQuotes text rest → ClosesQuotes (part ++ text) rest
 with_part part text rest is_part closes = record {
   parts = part ∷ closes.parts;
   each = rw is_part closes.each;
-  written = ap (λ t. part ++ t) closes.written ∙ sym (append_assoc part (joined closes.parts) (34 ∷ rest));
+  written = ap (λ t. part ++ t) closes.written ∙ sym (append_assoc part (joined_parts closes.parts) (34 ∷ rest));
 }
 
 escaped_by : (octet : ℕ) (text rest : List ℕ) (shown : Bool) → is_printable octet ≡ shown → behind_quotes true (octet ∷ text) ≡ Some rest
@@ -260,14 +260,14 @@ escaped_by octet text rest false test is_one = let here : None ≡ Some rest = r
 some_of : (a b : List ℕ) → Some a ≡ Some b → a ≡ b
 some_of a b same = grind (arith, same)
 
-with_pair : (octet : ℕ) (text rest : List ℕ) → octet ≡ 92 → Escaped text rest → Closes (octet ∷ text) rest
+with_pair : (octet : ℕ) (text rest : List ℕ) → octet ≡ 92 → Escaped text rest → ClosesQuotes (octet ∷ text) rest
 with_pair octet text rest slash it =
     let whole : octet ∷ text ≡ (92 ∷ it.octet ∷ []) ++ it.behind = ap (λ o. o ∷ text) slash ∙ ap (λ t. 92 ∷ t) it.written in
-    subst (λ t. Closes t rest) (sym whole) (with_part (92 ∷ it.octet ∷ []) it.behind rest it.shown it.closes)
+    subst (λ t. ClosesQuotes t rest) (sym whole) (with_part (92 ∷ it.octet ∷ []) it.behind rest it.shown it.closes)
 
 closes_back_by : (octet : ℕ) (text rest : List ℕ) (mark slash shown : Bool) → (octet == 34) ≡ mark → (octet == 92) ≡ slash → (is_printable octet || is_high octet) ≡ shown
     → behind_quotes false (octet ∷ text) ≡ Some rest
-    → (behind_quotes false text ≡ Some rest → Closes text rest) → (behind_quotes true text ≡ Some rest → Escaped text rest) → Closes (octet ∷ text) rest
+    → (behind_quotes false text ≡ Some rest → ClosesQuotes text rest) → (behind_quotes true text ≡ Some rest → Escaped text rest) → ClosesQuotes (octet ∷ text) rest
 closes_back_by octet text rest true slash shown first second third is_one later escaped =
     let here : Some text ≡ Some rest = rw first at is_one in
     record { parts = []; each = refl; written = ap (λ o. o ∷ text) (same_octet octet 34 first) ∙ ap (λ t. 34 ∷ t) (some_of text rest here) }
@@ -289,11 +289,11 @@ closes_from true (octet ∷ text) rest is_one =
 closes_from false (octet ∷ text) rest is_one =
     closes_back_by octet text rest (octet == 34) (octet == 92) (is_printable octet || is_high octet) refl refl refl is_one (closes_from false text rest) (closes_from true text rest)
 
-pub closes_back : (text rest : List ℕ) → behind_quotes false text ≡ Some rest → Closes text rest
+pub closes_back : (text rest : List ℕ) → behind_quotes false text ≡ Some rest → ClosesQuotes text rest
 closes_back text rest is_one = closes_from false text rest is_one
 
 -- a quoted string closes in one way
-pub one_close : (inner behind host : List ℕ) → behind_quotes false inner ≡ Some behind → Closes inner (64 ∷ host) → behind ≡ 64 ∷ host
+pub one_close : (inner behind host : List ℕ) → behind_quotes false inner ≡ Some behind → ClosesQuotes inner (64 ∷ host) → behind ≡ 64 ∷ host
 one_close inner behind host is_one closes = some_of behind (64 ∷ host) (sym is_one ∙ closes_forth inner (64 ∷ host) closes)
 
 pub same_host : (a b : List ℕ) → 64 ∷ a ≡ 64 ∷ b → b ≡ a
@@ -304,35 +304,35 @@ same_host a b same = sym (tail_of 64 64 a b same)
 pub dotted_cut : (text host : List ℕ) → CutsDotted text host → CutsLocal text host
 dotted_cut text host cut = record { local = cut.local; written = cut.written; is = inl cut.is }
 
-pub quoted_cut : (inner host : List ℕ) → Closes inner (64 ∷ host) → CutsLocal (34 ∷ inner) host
+pub quoted_cut : (inner host : List ℕ) → ClosesQuotes inner (64 ∷ host) → CutsLocal (34 ∷ inner) host
 quoted_cut inner host closes =
-    let local = joined closes.parts ++ 34 ∷ [] in
+    let local = joined_parts closes.parts ++ 34 ∷ [] in
     record {
       local = 34 ∷ local;
-      written = ap (λ t. 34 ∷ t) (closes.written ∙ sym (append_assoc (joined closes.parts) (34 ∷ []) (64 ∷ host)));
+      written = ap (λ t. 34 ∷ t) (closes.written ∙ sym (append_assoc (joined_parts closes.parts) (34 ∷ []) (64 ∷ host)));
       is = inr (local, refl, record { parts = closes.parts; each = closes.each; written = refl });
     }
 
-quoted_back : (text host local inner : List ℕ) → text ≡ local ++ 64 ∷ host → local ≡ 34 ∷ inner → Closes inner [] → (rest : List ℕ) × (text ≡ 34 ∷ rest) × Closes rest (64 ∷ host)
+quoted_back : (text host local inner : List ℕ) → text ≡ local ++ 64 ∷ host → local ≡ 34 ∷ inner → ClosesQuotes inner [] → (rest : List ℕ) × (text ≡ 34 ∷ rest) × ClosesQuotes rest (64 ∷ host)
 quoted_back text host local inner written quoted closes = (
   inner ++ 64 ∷ host,
   written ∙ ap (λ l. l ++ 64 ∷ host) quoted,
   record {
     parts = closes.parts;
     each = closes.each;
-    written = ap (λ t. t ++ 64 ∷ host) closes.written ∙ append_assoc (joined closes.parts) (34 ∷ []) (64 ∷ host);
+    written = ap (λ t. t ++ 64 ∷ host) closes.written ∙ append_assoc (joined_parts closes.parts) (34 ∷ []) (64 ∷ host);
   },
 )
 
 -- behind a quotation mark it is a quoted string
-pub cut_quoted : (inner host : List ℕ) → CutsLocal (34 ∷ inner) host → Closes inner (64 ∷ host)
+pub cut_quoted : (inner host : List ℕ) → CutsLocal (34 ∷ inner) host → ClosesQuotes inner (64 ∷ host)
 cut_quoted inner host cut = by_kind cut.is
   where
-    by_kind : IsLocal cut.local → Closes inner (64 ∷ host)
+    by_kind : IsLocal cut.local → ClosesQuotes inner (64 ∷ host)
     by_kind (inl each) = absurd (no_dotted inner host (record { local = cut.local; written = cut.written; is = each }))
     by_kind (inr quoted) =
         let it = quoted_back (34 ∷ inner) host cut.local quoted.0 cut.written quoted.1 quoted.2 in
-        subst (λ t. Closes t (64 ∷ host)) (sym (tail_of 34 34 inner it.0 it.1)) it.2
+        subst (λ t. ClosesQuotes t (64 ∷ host)) (sym (tail_of 34 34 inner it.0 it.1)) it.2
 
 -- and elsewhere a Dot-string
 pub cut_dotted : (text host : List ℕ) → ((inner : List ℕ) → text ≡ 34 ∷ inner → ⊥) → CutsLocal text host → CutsDotted text host
@@ -354,7 +354,7 @@ none_by (Some x) is_one by = tt
 
 -- ---- all of it
 
-pub not_by_host : (text host : List ℕ) → ((other : List ℕ) → CutsLocal text other → other ≡ host) → (IsHost host → ⊥) → IsMailbox text → ⊥
+pub not_by_host : (text host : List ℕ) → ((other : List ℕ) → CutsLocal text other → other ≡ host) → (IsHost host → ⊥) → IsSmtpMailbox text → ⊥
 not_by_host text host one none box = none (subst IsHost (one box.host box.cut) box.is)
 
 -- what `from_utf8` says

@@ -2,12 +2,12 @@
 use Rattle.std.proofs.Common.{◌≡◌, ℕ, zero, suc, ◌+◌, Bool, true, false, List, [], ◌∷◌, ◌++◌, length, take, drop, Option, Some, None, inl, inr, refl, sym, ap, ◌∙◌, append-nil, subst, arith}
 use Rattle.std.proofs.Math.Seq.{take-append_seam, drop-append-add}
 use Rattle.std.proofs.lemmas.List.{drop-append-le, length-append, length-drop, length-take-le, take-append-le}
-use Rattle.lmtp.specs.Lines.{line_end, IsFirstLine, Finds}
-use Rattle.lmtp.specs.declared.line.Found.{Found}
-use Rattle.lmtp.specs.declared.line.Found.TheVariants as found
-use Rattle.lmtp.proofs.LineLemmas.{one_found, too_long, lines_stand}
-use Rattle.smtpclient.specs.Replies.{IsCode, IsMark, IsReplyLine, IsHere, Follows, IsReply, Agrees, Begins, Hears}
-use Rattle.smtpclient.specs.declared.reply.Heard.TheVariants.{Need, Reply, Bad}
+use Rattle.lmtp_dialogue.specs.Lines.{line_end, IsFirstLine, LineFinds}
+use Rattle.lmtp_dialogue.specs.declared.line.Found.{Found}
+use Rattle.lmtp_dialogue.specs.declared.line.Found.TheVariants as found
+use Rattle.lmtp_dialogue.proofs.LineLemmas.{one_found, too_long, lines_stand}
+use Rattle.smtp_dialogue.specs.Replies.{IsCode, IsMark, IsReplyLine, IsHere, ReplyFollows, IsSmtpReply, CodeAgrees, BeginsReply, HearsReply}
+use Rattle.smtp_dialogue.specs.declared.reply.Heard.TheVariants.{Need, Reply, Bad}
 
 -- the octets in front are the same
 same_first : (a b : ℕ) (xs ys : List ℕ) → a ∷ xs ≡ b ∷ ys → a ≡ b
@@ -64,7 +64,7 @@ one_line line a b last end text other one two =
 
 -- ---- the line that stands first
 
-pub here_found : (octets line behind : List ℕ) → IsHere octets line behind → Finds (found.Line (length line)) octets
+pub here_found : (octets line behind : List ℕ) → IsHere octets line behind → LineFinds (found.Line (length line)) octets
 here_found octets line behind is =
     let front : take (length line) octets ≡ line = ap (take (length line)) is.first.written ∙ take-append_seam line (line_end ++ behind) in
     let back : drop (length line + 2) octets ≡ behind = ap (drop (length line + 2)) is.first.written ∙ drop-append-add line (line_end ++ behind) 2 in
@@ -85,7 +85,7 @@ pub record SameLine (octets line behind : List ℕ) (count : ℕ) : Type 0 where
   pub front : line ≡ take count octets
   pub back : behind ≡ drop (count + 2) octets
 
-pub same_line : (octets line behind : List ℕ) (count : ℕ) → IsHere octets line behind → Finds (found.Line count) octets → SameLine octets line behind count
+pub same_line : (octets line behind : List ℕ) (count : ℕ) → IsHere octets line behind → LineFinds (found.Line count) octets → SameLine octets line behind count
 same_line octets line behind count is finds =
     let size : length line ≡ count = ap count_of (one_found (found.Line (length line)) (found.Line count) octets (here_found octets line behind is) finds) in
     record {
@@ -93,10 +93,10 @@ same_line octets line behind count is finds =
       back = sym (drop-append-add line (line_end ++ behind) 2) ∙ (ap (drop (length line + 2)) (sym is.first.written) ∙ ap (λ n. drop (n + 2) octets) size);
     }
 
-here : (octets : List ℕ) (count : ℕ) → Finds (found.Line count) octets → IsHere octets (take count octets) (drop (count + 2) octets)
+here : (octets : List ℕ) (count : ℕ) → LineFinds (found.Line count) octets → IsHere octets (take count octets) (drop (count + 2) octets)
 here octets count finds = record { first = finds.0; short = let size = length-take-le count octets (omega (arith, finds.2)) in omega (arith, finds.1, size) }
 
-stays : (octets more : List ℕ) (count : ℕ) → Finds (found.Line count) octets → Finds (found.Line count) (octets ++ more)
+stays : (octets more : List ℕ) (count : ℕ) → LineFinds (found.Line count) octets → LineFinds (found.Line count) (octets ++ more)
 stays octets more count finds = lines_stand.stays (found.Line count) octets more (λ same. not_need count same) finds
   where
     is_line : Found → Bool
@@ -108,13 +108,13 @@ stays octets more count finds = lines_stand.stays (found.Line count) octets more
     not_need count same = absurd (cc (sym (ap is_line same)))
 
 -- no other line is a line of the reply
-pub other_code : (other : Option ℕ) (line : List ℕ) (a : ℕ) (last : Bool) (text : List ℕ) → IsReplyLine line a last text → (Agrees other a → ⊥)
-    → (code : ℕ) (end : Bool) (more : List ℕ) → IsReplyLine line code end more → Agrees other code → ⊥
-other_code other line a last text is apart code end more two agrees = apart (subst (Agrees other) (sym (one_line line a code last end text more is two).code) agrees)
+pub other_code : (other : Option ℕ) (line : List ℕ) (a : ℕ) (last : Bool) (text : List ℕ) → IsReplyLine line a last text → (CodeAgrees other a → ⊥)
+    → (code : ℕ) (end : Bool) (more : List ℕ) → IsReplyLine line code end more → CodeAgrees other code → ⊥
+other_code other line a last text is apart code end more two agrees = apart (subst (CodeAgrees other) (sym (one_line line a code last end text more is two).code) agrees)
 
 -- ---- lines in front
 
-pub begins : (octets : List ℕ) → Begins octets 0 None
+pub begins : (octets : List ℕ) → BeginsReply octets 0 None
 begins octets = record { within = omega arith; joins = λ code rest agrees is. is; goes_on = λ more code rest is. (tt, is) }
 
 none_dropped : (n : ℕ) → drop {A = ℕ} n [] ≡ []
@@ -129,10 +129,10 @@ dropped (octet ∷ octets) (suc a) n = let same : suc (a + n) ≡ suc a + n = om
 -- the line that stands first in what a reply begins is this one
 record First (octets more : List ℕ) (count a : ℕ) (last : Bool) (code : ℕ) (rest : List ℕ) : Type 0 where
   agrees : code ≡ a
-  goes_on : last ≡ false → IsReply (drop (count + 2) octets ++ more) code rest
+  goes_on : last ≡ false → IsSmtpReply (drop (count + 2) octets ++ more) code rest
 
 first_by : (octets more : List ℕ) (count a : ℕ) (last : Bool) (text : List ℕ) (code : ℕ) (rest : List ℕ) (lines : List (List ℕ))
-    → Finds (found.Line count) octets → IsReplyLine (take count octets) a last text → Follows lines (octets ++ more) code rest → First octets more count a last code rest
+    → LineFinds (found.Line count) octets → IsReplyLine (take count octets) a last text → ReplyFollows lines (octets ++ more) code rest → First octets more count a last code rest
 first_by octets more count a last text code rest [] finds is (line, other, here_is, reads) =
     let size : length (take count octets) ≡ count = length-take-le count octets (omega (arith, finds.2)) in
     let same = same_line (octets ++ more) line rest count here_is (stays octets more count finds) in
@@ -144,15 +144,15 @@ first_by octets more count a last text code rest (line ∷ lines) finds is (othe
     let front : line ≡ take count octets = same.front ∙ take-append-le count octets more (omega (arith, finds.2)) in
     let back : behind ≡ drop (count + 2) octets ++ more = same.back ∙ drop-append-le (count + 2) octets more (omega (arith, finds.2)) in
     let both = one_line (take count octets) code a false last other text (subst (λ l. IsReplyLine l code false other) front reads) is in
-    record { agrees = both.code; goes_on = λ more_is. (lines, subst (λ b. Follows lines b code rest) back follows) }
+    record { agrees = both.code; goes_on = λ more_is. (lines, subst (λ b. ReplyFollows lines b code rest) back follows) }
 
 first : (octets more : List ℕ) (count a : ℕ) (last : Bool) (text : List ℕ) (code : ℕ) (rest : List ℕ)
-    → Finds (found.Line count) octets → IsReplyLine (take count octets) a last text → IsReply (octets ++ more) code rest → First octets more count a last code rest
+    → LineFinds (found.Line count) octets → IsReplyLine (take count octets) a last text → IsSmtpReply (octets ++ more) code rest → First octets more count a last code rest
 first octets more count a last text code rest finds is reply = first_by octets more count a last text code rest reply.0 finds is reply.1
 
 -- a line more, behind which another follows
-pub begins_more : (octets : List ℕ) (at count a : ℕ) (other : Option ℕ) (text : List ℕ) → Begins octets at other → Finds (found.Line count) (drop at octets)
-    → IsReplyLine (take count (drop at octets)) a false text → Agrees other a → Begins octets (at + (count + 2)) (Some a)
+pub begins_more : (octets : List ℕ) (at count a : ℕ) (other : Option ℕ) (text : List ℕ) → BeginsReply octets at other → LineFinds (found.Line count) (drop at octets)
+    → IsReplyLine (take count (drop at octets)) a false text → CodeAgrees other a → BeginsReply octets (at + (count + 2)) (Some a)
 begins_more octets at count a other text begun finds is agrees =
     let left = drop at octets in
     let back = dropped octets at (count + 2) in
@@ -160,16 +160,16 @@ begins_more octets at count a other text begun finds is agrees =
       within = let size = length-drop at octets in omega (arith, finds.2, size, begun.within);
       joins = λ code rest same reply.
           let read = subst (λ c. IsReplyLine (take count left) c false text) (sym same) is in
-          let behind = subst (λ b. Follows reply.0 b code rest) (sym back) reply.1 in
-          begun.joins code rest (subst (Agrees other) (sym same) agrees) (take count left ∷ reply.0, (text, drop (count + 2) left, here left count finds, read, behind));
+          let behind = subst (λ b. ReplyFollows reply.0 b code rest) (sym back) reply.1 in
+          begun.joins code rest (subst (CodeAgrees other) (sym same) agrees) (take count left ∷ reply.0, (text, drop (count + 2) left, here left count finds, read, behind));
       goes_on = λ more code rest reply.
           let it = first left more count a false text code rest finds is (begun.goes_on more code rest reply).1 in
-          (it.agrees, subst (λ b. IsReply (b ++ more) code rest) back (it.goes_on refl));
+          (it.agrees, subst (λ b. IsSmtpReply (b ++ more) code rest) back (it.goes_on refl));
     }
 
 -- and one behind which none does
-pub hears_reply : (octets : List ℕ) (at count a : ℕ) (other : Option ℕ) (text : List ℕ) → Begins octets at other → Finds (found.Line count) (drop at octets)
-    → IsReplyLine (take count (drop at octets)) a true text → Agrees other a → Hears octets (Reply a (at + (count + 2)))
+pub hears_reply : (octets : List ℕ) (at count a : ℕ) (other : Option ℕ) (text : List ℕ) → BeginsReply octets at other → LineFinds (found.Line count) (drop at octets)
+    → IsReplyLine (take count (drop at octets)) a true text → CodeAgrees other a → HearsReply octets (Reply a (at + (count + 2)))
 hears_reply octets at count a other text begun finds is agrees =
     let left = drop at octets in
     let size = length-drop at octets in (
@@ -180,18 +180,18 @@ hears_reply octets at count a other text begun finds is agrees =
 
 -- ---- no line stands first, or none of a reply
 
-first_here : (octets : List ℕ) (code : ℕ) (rest : List ℕ) (lines : List (List ℕ)) → Follows lines octets code rest → (line : List ℕ) × (behind : List ℕ) × IsHere octets line behind
+first_here : (octets : List ℕ) (code : ℕ) (rest : List ℕ) (lines : List (List ℕ)) → ReplyFollows lines octets code rest → (line : List ℕ) × (behind : List ℕ) × IsHere octets line behind
 first_here octets code rest [] (line, text, here_is, reads) = (line, rest, here_is)
 first_here octets code rest (line ∷ lines) (text, behind, here_is, reads, follows) = (line, behind, here_is)
 
-pub hears_need : (octets : List ℕ) (at : ℕ) (other : Option ℕ) → Begins octets at other → Finds found.Need (drop at octets) → Hears octets Need
+pub hears_need : (octets : List ℕ) (at : ℕ) (other : Option ℕ) → BeginsReply octets at other → LineFinds found.Need (drop at octets) → HearsReply octets Need
 hears_need octets at other begun finds = λ code rest reply.
-    let there = (begun.goes_on [] code rest (subst (λ o. IsReply o code rest) (sym (append-nil octets)) reply)).1 in
-    let left = subst (λ o. IsReply o code rest) (append-nil (drop at octets)) there in
+    let there = (begun.goes_on [] code rest (subst (λ o. IsSmtpReply o code rest) (sym (append-nil octets)) reply)).1 in
+    let left = subst (λ o. IsSmtpReply o code rest) (append-nil (drop at octets)) there in
     let it = first_here (drop at octets) code rest left.0 left.1 in
     finds.0 it.0 it.1 it.2.first.written
 
-pub hears_long : (octets : List ℕ) (at : ℕ) (other : Option ℕ) → Begins octets at other → Finds found.TooLong (drop at octets) → Hears octets Bad
+pub hears_long : (octets : List ℕ) (at : ℕ) (other : Option ℕ) → BeginsReply octets at other → LineFinds found.TooLong (drop at octets) → HearsReply octets Bad
 hears_long octets at other begun finds = λ more code rest reply.
     let there = (begun.goes_on more code rest reply).1 in
     let it = first_here (drop at octets ++ more) code rest there.0 there.1 in
@@ -206,7 +206,7 @@ hears_long octets at other begun finds = λ more code rest reply.
     not_need : found.TooLong ≡ found.Need → ⊥
     not_need same = absurd (cc (sym (ap is_long same)))
 
-first_reads : (octets more : List ℕ) (count code : ℕ) (rest : List ℕ) (lines : List (List ℕ)) → Finds (found.Line count) octets → Follows lines (octets ++ more) code rest
+first_reads : (octets more : List ℕ) (count code : ℕ) (rest : List ℕ) (lines : List (List ℕ)) → LineFinds (found.Line count) octets → ReplyFollows lines (octets ++ more) code rest
     → (last : Bool) × (text : List ℕ) × IsReplyLine (take count octets) code last text
 first_reads octets more count code rest [] finds (line, text, here_is, reads) =
     let same = same_line (octets ++ more) line rest count here_is (stays octets more count finds) in
@@ -215,8 +215,8 @@ first_reads octets more count code rest (line ∷ lines) finds (text, behind, he
     let same = same_line (octets ++ more) line behind count here_is (stays octets more count finds) in
     (false, text, subst (λ l. IsReplyLine l code false text) (same.front ∙ take-append-le count octets more (omega (arith, finds.2))) reads)
 
-pub hears_bad : (octets : List ℕ) (at count : ℕ) (other : Option ℕ) → Begins octets at other → Finds (found.Line count) (drop at octets)
-    → ((code : ℕ) (last : Bool) (text : List ℕ) → IsReplyLine (take count (drop at octets)) code last text → Agrees other code → ⊥) → Hears octets Bad
+pub hears_bad : (octets : List ℕ) (at count : ℕ) (other : Option ℕ) → BeginsReply octets at other → LineFinds (found.Line count) (drop at octets)
+    → ((code : ℕ) (last : Bool) (text : List ℕ) → IsReplyLine (take count (drop at octets)) code last text → CodeAgrees other code → ⊥) → HearsReply octets Bad
 hears_bad octets at count other begun finds none = λ more code rest reply.
     let there = begun.goes_on more code rest reply in
     let it = first_reads (drop at octets) more count code rest there.1.0 finds there.1.1 in

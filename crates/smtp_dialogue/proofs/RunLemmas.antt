@@ -2,10 +2,10 @@
 use Rattle.std.proofs.Common.{◌≡◌, ℕ, zero, suc, ◌<◌, ◌≤◌, ◌==◌, Bool, true, false, List, [], ◌∷◌, ◌++◌, length, take, drop, get_or, refl, sym, ap, ◌∙◌, subst, arith}
 use Rattle.std.proofs.lemmas.Bool.{false_from_ne_true}
 use Rattle.std.specs.Borrow.{Bor}
-use Rattle.lmtp.specs.Lines.{line_end}
-use Rattle.smtpclient.specs.Sent.{sent_from, is_break, BeginsBreak, IsWithin, Passes}
-use Rattle.smtpclient.specs.declared.sent.Place.TheVariants.{Start, Inside}
-use Rattle.smtpclient.specs.declared.sent.Sent.{Sent}
+use Rattle.lmtp_dialogue.specs.Lines.{line_end}
+use Rattle.smtp_dialogue.specs.Sent.{sent_from, is_break, BeginsBreak, IsWithinLine, HandsPart}
+use Rattle.smtp_dialogue.specs.declared.sent.SentState.TheVariants.{Start, Inside}
+use Rattle.smtp_dialogue.specs.declared.sent.DotStuffed.{DotStuffed}
 
 -- an octet that is no CR and no LF
 no_return : (octet : ℕ) (other : Bool) → (octet == 13) ≡ other → is_break octet ≡ false → (octet == 13) ≡ false
@@ -36,9 +36,9 @@ some_taken [] (suc count) some short same = absurd (omega arith)
 some_taken (octet ∷ octets) (suc count) some short same = grind (arith, same)
 
 -- octets before the next CR or LF are handed out
-pub run_passes : (s t : Sent) (part : Bor (List ℕ)) (count : ℕ) → IsWithin s → (count ≡ 0 → ⊥) → count ≤ length s.left.now
+pub run_passes : (s t : DotStuffed) (part : Bor (List ℕ)) (count : ℕ) → IsWithinLine s → (count ≡ 0 → ⊥) → count ≤ length s.left.now
     → ((j : ℕ) → j < count → is_break (get_or s.left.now j 0) ≡ true → ⊥) → part.now ≡ take count s.left.now → t.left.now ≡ drop count s.left.now → t.place ≡ Inside
-    → Passes part s t
+    → HandsPart part s t
 run_passes s t part count within some short plain is rest place = (
   within
       ∙ (plain_run s.left.now count short plain
@@ -48,8 +48,8 @@ run_passes s t part count within some short plain is rest place = (
 )
 
 -- an LF that comes first is sent as CRLF
-pub feed_passes : (s t : Sent) (part : Bor (List ℕ)) (octet : ℕ) (rest : List ℕ) → IsWithin s → s.left.now ≡ octet ∷ rest → BeginsBreak s.left.now → (octet ≡ 13 → ⊥)
-    → part.now ≡ line_end → t.left.now ≡ rest → t.place ≡ Start → Passes part s t
+pub feed_passes : (s t : DotStuffed) (part : Bor (List ℕ)) (octet : ℕ) (rest : List ℕ) → IsWithinLine s → s.left.now ≡ octet ∷ rest → BeginsBreak s.left.now → (octet ≡ 13 → ⊥)
+    → part.now ≡ line_end → t.left.now ≡ rest → t.place ≡ Start → HandsPart part s t
 feed_passes s t part octet rest within first at other is left place =
     let broken : is_break octet ≡ true = subst BeginsBreak first at in
     let apart : (octet == 13) ≡ false = false_from_ne_true (octet == 13) (λ same. other (is_the octet 13 same)) in

@@ -2,16 +2,16 @@
 use Rattle.std.proofs.Common.{◌≡◌, ℕ, ◌==◌, ◌&&◌, Bool, true, false, if◌then◌else◌, List, [], ◌∷◌, ◌++◌, refl, sym, ap, ◌∙◌, append_assoc, append-nil, subst, arith}
 use Rattle.std.proofs.lemmas.List.Elements.{All-cons, All-head, All-nil, All-tail}
 use Rattle.std.specs.List.{All, flat_map}
-use Rattle.lmtp.specs.Lines.{line_end, IsLine}
-use Rattle.lmtp.specs.Texts.{with_end, undotted, IsSentLine, IsText}
-use Rattle.smtpclient.specs.Sent.{IsNoFeed, IsCut, is_none, chomped, spaced, mended, mended_lines, dotted, IsSent, begins_feed, sent_from, text_from, is_folded, SentStands}
-use Rattle.smtpclient.specs.declared.sent.Place.{Place}
-use Rattle.smtpclient.specs.declared.sent.Place.TheVariants.{Start, Inside, Over}
+use Rattle.lmtp_dialogue.specs.Lines.{line_end, IsCrlfLine}
+use Rattle.lmtp_dialogue.specs.Texts.{line_with_crlf, undotted, IsSentLine, IsSentText}
+use Rattle.smtp_dialogue.specs.Sent.{IsNoFeed, IsCutInLines, is_none, chomped, cr_as_space, mended, mended_lines, dotted, IsSent, begins_feed, sent_from, text_from, is_folded, SentStands}
+use Rattle.smtp_dialogue.specs.declared.sent.SentState.{SentState}
+use Rattle.smtp_dialogue.specs.declared.sent.SentState.TheVariants.{Start, Inside, Over}
 
 -- ---- one octet
 
 -- an octet leads from one place to another, and these are sent and read for it
-record Turns (from to : Place) (octet : ℕ) (tail said read : List ℕ) : Type 0 where
+record Turns (from to : SentState) (octet : ℕ) (tail said read : List ℕ) : Type 0 where
   sent : sent_from from (octet ∷ tail) ≡ said ++ sent_from to tail
   text : text_from from (octet ∷ tail) ≡ read ++ text_from to tail
 
@@ -38,11 +38,11 @@ dropped_at octet tail plain is feed = record { sent = rw plain (rw is (rw feed r
 
 -- ---- a line, and what follows
 
-record Sends (from : Place) (octets said read back left : List ℕ) : Type 0 where
+record Sends (from : SentState) (octets said read back left : List ℕ) : Type 0 where
   sent : sent_from from octets ≡ said ++ back
   text : text_from from octets ≡ read ++ left
 
-grow : (from to : Place) (octet : ℕ) (tail said read more others whole all back left : List ℕ)
+grow : (from to : SentState) (octet : ℕ) (tail said read more others whole all back left : List ℕ)
     → Turns from to octet tail said read → Sends to tail more others back left → whole ≡ said ++ more → all ≡ read ++ others
     → Sends from (octet ∷ tail) whole all back left
 grow from to octet tail said read more others whole all back left turns later one two = record {
@@ -52,7 +52,7 @@ grow from to octet tail said read more others whole all back left turns later on
 
 -- what is sent of the octets of a line behind its first
 abbrev inner : List ℕ → List ℕ
-inner line = spaced (chomped line)
+inner line = cr_as_space (chomped line)
 
 -- a line as the other side has it
 abbrev whole : List ℕ → List ℕ
@@ -77,15 +77,15 @@ whole_last : (octet : ℕ) → (octet == 13) ≡ true → whole (octet ∷ []) �
 whole_last octet is = rw is refl
 
 -- up to its LF
-abbrev Ends : Place → List ℕ → List ℕ → List ℕ → List ℕ → Type 0
+abbrev Ends : SentState → List ℕ → List ℕ → List ℕ → List ℕ → Type 0
 Ends from line said read rest = Sends from (line ++ (10 ∷ rest)) said read (line_end ++ sent_from Start rest) (line_end ++ text_from Start rest)
 
-feed_ends : (from : Place) (rest : List ℕ) → (from ≡ Over → ⊥) → Ends from [] [] [] rest
+feed_ends : (from : SentState) (rest : List ℕ) → (from ≡ Over → ⊥) → Ends from [] [] [] rest
 feed_ends Start rest apart = record { sent = refl; text = refl }
 feed_ends Inside rest apart = record { sent = refl; text = refl }
 feed_ends Over rest apart = absurd (apart refl)
 
-abbrev is_over : Place → Bool
+abbrev is_over : SentState → Bool
 is_over Over = true
 is_over place = false
 
@@ -157,52 +157,52 @@ front (octet ∷ line) rest each = begin octet line rest (octet == 13) refl (All
 -- ---- what stands behind the last LF
 
 abbrev ending : List ℕ
-ending = with_end (46 ∷ [])
+ending = line_with_crlf (46 ∷ [])
 
-abbrev Closes : Place → List ℕ → List ℕ → List ℕ → Type 0
+abbrev Closes : SentState → List ℕ → List ℕ → List ℕ → Type 0
 Closes from line said read = Sends from line said read (line_end ++ ending) line_end
 
 no_feed_first : (line : List ℕ) → All IsNoFeed line → begins_feed line ≡ false
 no_feed_first [] each = refl
 no_feed_first (octet ∷ line) each = All-head IsNoFeed octet line each
 
-spaced_lone : (octet : ℕ) (line : List ℕ) → (octet == 13) ≡ true → spaced (octet ∷ line) ≡ 32 ∷ spaced line
+spaced_lone : (octet : ℕ) (line : List ℕ) → (octet == 13) ≡ true → cr_as_space (octet ∷ line) ≡ 32 ∷ cr_as_space line
 spaced_lone octet line is = rw is refl
 
-spaced_plain_first : (octet : ℕ) (line : List ℕ) → (octet == 13) ≡ false → spaced (octet ∷ line) ≡ octet ∷ spaced line
+spaced_plain_first : (octet : ℕ) (line : List ℕ) → (octet == 13) ≡ false → cr_as_space (octet ∷ line) ≡ octet ∷ cr_as_space line
 spaced_plain_first octet line other = rw other refl
 
 close_by : (octet : ℕ) (line : List ℕ) (returned : Bool) → (octet == 13) ≡ returned → IsNoFeed octet → All IsNoFeed line
-    → Closes Inside line (spaced line) (spaced line) → Closes Inside (octet ∷ line) (spaced (octet ∷ line)) (spaced (octet ∷ line))
+    → Closes Inside line (cr_as_space line) (cr_as_space line) → Closes Inside (octet ∷ line) (cr_as_space (octet ∷ line)) (cr_as_space (octet ∷ line))
 close_by octet line true test plain each later =
     let is = spaced_lone octet line test in
-    grow Inside Inside octet line (32 ∷ []) (32 ∷ []) (spaced line) (spaced line) (spaced (octet ∷ line)) (spaced (octet ∷ line)) (line_end ++ ending) line_end
+    grow Inside Inside octet line (32 ∷ []) (32 ∷ []) (cr_as_space line) (cr_as_space line) (cr_as_space (octet ∷ line)) (cr_as_space (octet ∷ line)) (line_end ++ ending) line_end
     (lone_in octet line plain test (no_feed_first line each)) later is is
 close_by octet line false test plain each later =
     let is = spaced_plain_first octet line test in
-    grow Inside Inside octet line (octet ∷ []) (octet ∷ []) (spaced line) (spaced line) (spaced (octet ∷ line)) (spaced (octet ∷ line)) (line_end ++ ending) line_end
+    grow Inside Inside octet line (octet ∷ []) (octet ∷ []) (cr_as_space line) (cr_as_space line) (cr_as_space (octet ∷ line)) (cr_as_space (octet ∷ line)) (line_end ++ ending) line_end
     (plain_in octet line plain test) later is is
 
-closes : (line : List ℕ) → All IsNoFeed line → Closes Inside line (spaced line) (spaced line)
+closes : (line : List ℕ) → All IsNoFeed line → Closes Inside line (cr_as_space line) (cr_as_space line)
 closes [] each = record { sent = refl; text = refl }
 closes (octet ∷ line) each =
     let more = All-tail IsNoFeed octet line each in
     close_by octet line (octet == 13) refl (All-head IsNoFeed octet line each) more (closes line more)
 
-mended_lone : (octet : ℕ) (line : List ℕ) → (octet == 13) ≡ true → mended (octet ∷ line) ≡ 63 ∷ spaced line
+mended_lone : (octet : ℕ) (line : List ℕ) → (octet == 13) ≡ true → mended (octet ∷ line) ≡ 63 ∷ cr_as_space line
 mended_lone octet line is = rw is refl
 
-mended_plain_first : (octet : ℕ) (line : List ℕ) → (octet == 13) ≡ false → mended (octet ∷ line) ≡ octet ∷ spaced line
+mended_plain_first : (octet : ℕ) (line : List ℕ) → (octet == 13) ≡ false → mended (octet ∷ line) ≡ octet ∷ cr_as_space line
 mended_plain_first octet line other = rw other refl
 
 last_by : (octet : ℕ) (line : List ℕ) (returned : Bool) → (octet == 13) ≡ returned → IsNoFeed octet → All IsNoFeed line
     → Closes Start (octet ∷ line) (dotted (mended (octet ∷ line))) (mended (octet ∷ line))
 last_by octet line true test plain each =
     let is = mended_lone octet line test in
-    grow Start Inside octet line (63 ∷ []) (63 ∷ []) (spaced line) (spaced line) (dotted (mended (octet ∷ line))) (mended (octet ∷ line)) (line_end ++ ending) line_end
+    grow Start Inside octet line (63 ∷ []) (63 ∷ []) (cr_as_space line) (cr_as_space line) (dotted (mended (octet ∷ line))) (mended (octet ∷ line)) (line_end ++ ending) line_end
     (lone_at octet line plain test (no_feed_first line each)) (closes line each) (ap dotted is) is
 last_by octet line false test plain each =
-    front_by octet line (spaced line) (mended (octet ∷ line)) (line_end ++ ending) line_end (octet == 46) refl test plain (mended_plain_first octet line test) (closes line each)
+    front_by octet line (cr_as_space line) (mended (octet ∷ line)) (line_end ++ ending) line_end (octet == 46) refl test plain (mended_plain_first octet line test) (closes line each)
 
 -- ---- all lines
 
@@ -210,17 +210,17 @@ abbrev fed : List ℕ → List ℕ
 fed line = line ++ 10 ∷ []
 
 abbrev sends : List (List ℕ) → List ℕ
-sends lines = flat_map (λ line. with_end (dotted line)) lines
+sends lines = flat_map (λ line. line_with_crlf (dotted line)) lines
 
 record Are (lines : List (List ℕ)) (last : List ℕ) : Type 0 where
   sent : sent_from Start (flat_map fed lines ++ last) ≡ sends (mended_lines lines last) ++ ending
-  text : text_from Start (flat_map fed lines ++ last) ≡ flat_map with_end (mended_lines lines last)
+  text : text_from Start (flat_map fed lines ++ last) ≡ flat_map line_with_crlf (mended_lines lines last)
 
 joined : (line more last : List ℕ) → (fed line ++ more) ++ last ≡ line ++ (10 ∷ (more ++ last))
 joined line more last = append_assoc (fed line) more last ∙ append_assoc line (10 ∷ []) (more ++ last)
 
-sent_joined : (line more rest : List ℕ) → (with_end line ++ more) ++ rest ≡ line ++ (line_end ++ (more ++ rest))
-sent_joined line more rest = append_assoc (with_end line) more rest ∙ append_assoc line line_end (more ++ rest)
+sent_joined : (line more rest : List ℕ) → (line_with_crlf line ++ more) ++ rest ≡ line ++ (line_end ++ (more ++ rest))
+sent_joined line more rest = append_assoc (line_with_crlf line) more rest ∙ append_assoc line line_end (more ++ rest)
 
 are : (lines : List (List ℕ)) (last : List ℕ) → All (All IsNoFeed) lines → All IsNoFeed last → Are lines last
 are [] [] each tail = record { sent = refl; text = refl }
@@ -229,7 +229,7 @@ are [] (octet ∷ rest) each tail =
     let line = mended (octet ∷ rest) in
     record {
       sent = here.sent ∙ sym (sent_joined (dotted line) [] ending);
-      text = here.text ∙ sym (append-nil (with_end line));
+      text = here.text ∙ sym (append-nil (line_with_crlf line));
     }
 are (line ∷ lines) last each tail =
     let later = are lines last (All-tail (All IsNoFeed) line lines each) tail in
@@ -242,7 +242,7 @@ are (line ∷ lines) last each tail =
           ∙ (here.sent ∙ (ap (λ t. dotted (whole line) ++ (line_end ++ t)) later.sent ∙ sym (sent_joined (dotted (whole line)) (sends more) ending)));
       text =
           ap (text_from Start) same
-          ∙ (here.text ∙ (ap (λ t. whole line ++ (line_end ++ t)) later.text ∙ sym (append_assoc (whole line) line_end (flat_map with_end more))));
+          ∙ (here.text ∙ (ap (λ t. whole line ++ (line_end ++ t)) later.text ∙ sym (append_assoc (whole line) line_end (flat_map line_with_crlf more))));
     }
 
 one : (message sent text : List ℕ) → IsSent message sent text → (sent ≡ sent_from Start message) × (text ≡ text_from Start message)
@@ -258,9 +258,9 @@ one message sent text is =
 record Lines (message : List ℕ) : Type 0 where
   lines : List (List ℕ)
   last : List ℕ
-  is : IsCut message lines last
+  is : IsCutInLines message lines last
 
-grown_by : (octet : ℕ) (message : List ℕ) (lines : List (List ℕ)) (last : List ℕ) (feeds : Bool) → (octet == 10) ≡ feeds → IsCut message lines last → Lines (octet ∷ message)
+grown_by : (octet : ℕ) (message : List ℕ) (lines : List (List ℕ)) (last : List ℕ) (feeds : Bool) → (octet == 10) ≡ feeds → IsCutInLines message lines last → Lines (octet ∷ message)
 grown_by octet message lines last true test is =
     let same : octet ≡ 10 = grind (arith) in
     record {
@@ -305,9 +305,9 @@ abbrev dots : List (List ℕ) → List (List ℕ)
 dots [] = []
 dots (line ∷ lines) = dotted line ∷ dots lines
 
-dots_sent : (lines : List (List ℕ)) → flat_map with_end (dots lines) ≡ sends lines
+dots_sent : (lines : List (List ℕ)) → flat_map line_with_crlf (dots lines) ≡ sends lines
 dots_sent [] = refl
-dots_sent (line ∷ lines) = ap (λ t. with_end (dotted line) ++ t) (dots_sent lines)
+dots_sent (line ∷ lines) = ap (λ t. line_with_crlf (dotted line) ++ t) (dots_sent lines)
 
 undot_by : (octet : ℕ) (rest : List ℕ) (dot : Bool) → (octet == 46) ≡ dot → undotted (dotted (octet ∷ rest)) ≡ octet ∷ rest
 undot_by octet rest true test = rw test refl
@@ -317,10 +317,10 @@ undot : (line : List ℕ) → undotted (dotted line) ≡ line
 undot [] = refl
 undot (octet ∷ rest) = undot_by octet rest (octet == 46) refl
 
-dots_text : (lines : List (List ℕ)) → flat_map (λ line. with_end (undotted line)) (dots lines) ≡ flat_map with_end lines
+dots_text : (lines : List (List ℕ)) → flat_map (λ line. line_with_crlf (undotted line)) (dots lines) ≡ flat_map line_with_crlf lines
 dots_text [] = refl
 dots_text (line ∷ lines) =
-    ap (λ l. with_end l ++ flat_map (λ line. with_end (undotted line)) (dots lines)) (undot line) ∙ ap (λ t. with_end line ++ t) (dots_text lines)
+    ap (λ l. line_with_crlf l ++ flat_map (λ line. line_with_crlf (undotted line)) (dots lines)) (undot line) ∙ ap (λ t. line_with_crlf line ++ t) (dots_text lines)
 
 -- octets without an LF are a line
 behind : (front back : List ℕ) → All IsNoFeed (front ++ (13 ∷ 10 ∷ back)) → ⊥
@@ -332,7 +332,7 @@ with_return [] each = All-cons IsNoFeed 13 [] refl (All-nil IsNoFeed)
 with_return (octet ∷ line) each =
     All-cons IsNoFeed octet (line ++ 13 ∷ []) (All-head IsNoFeed octet line each) (with_return line (All-tail IsNoFeed octet line each))
 
-is_line : (line : List ℕ) → All IsNoFeed line → IsLine line
+is_line : (line : List ℕ) → All IsNoFeed line → IsCrlfLine line
 is_line line each = λ front back same. behind front back (subst (All IsNoFeed) same (with_return line each))
 
 dotted_plain : (octet : ℕ) (rest : List ℕ) (dot : Bool) → (octet == 46) ≡ dot → All IsNoFeed (octet ∷ rest) → All IsNoFeed (dotted (octet ∷ rest))
@@ -362,16 +362,16 @@ spaced_by : (octet : ℕ) (returned : Bool) (mark : ℕ) → IsNoFeed mark → (
 spaced_by octet true mark other test plain = rw test other
 spaced_by octet false mark other test plain = rw test plain
 
-spaced_plain : (line : List ℕ) → All IsNoFeed line → All IsNoFeed (spaced line)
+spaced_plain : (line : List ℕ) → All IsNoFeed line → All IsNoFeed (cr_as_space line)
 spaced_plain [] each = each
 spaced_plain (octet ∷ line) each =
-    All-cons IsNoFeed (if octet == 13 then 32 else octet) (spaced line) (spaced_by octet (octet == 13) 32 refl refl (All-head IsNoFeed octet line each))
+    All-cons IsNoFeed (if octet == 13 then 32 else octet) (cr_as_space line) (spaced_by octet (octet == 13) 32 refl refl (All-head IsNoFeed octet line each))
     (spaced_plain line (All-tail IsNoFeed octet line each))
 
 mended_plain : (line : List ℕ) → All IsNoFeed line → All IsNoFeed (mended line)
 mended_plain [] each = each
 mended_plain (octet ∷ line) each =
-    All-cons IsNoFeed (if octet == 13 then 63 else octet) (spaced line) (spaced_by octet (octet == 13) 63 refl refl (All-head IsNoFeed octet line each))
+    All-cons IsNoFeed (if octet == 13 then 63 else octet) (cr_as_space line) (spaced_by octet (octet == 13) 63 refl refl (All-head IsNoFeed octet line each))
     (spaced_plain line (All-tail IsNoFeed octet line each))
 
 chomped_by : (octet : ℕ) (line : List ℕ) (ends : Bool) → (octet == 13 && is_none line) ≡ ends → IsNoFeed octet → All IsNoFeed (chomped line) → All IsNoFeed (chomped (octet ∷ line))
@@ -395,7 +395,7 @@ sent_lines (line ∷ lines) last each tail =
     (sent_line (whole line) (mended_plain (chomped line) (chomped_plain line (All-head (All IsNoFeed) line lines each))))
     (sent_lines lines last (All-tail (All IsNoFeed) line lines each) tail)
 
-read : (message sent text : List ℕ) → IsSent message sent text → IsText sent text
+read : (message sent text : List ℕ) → IsSent message sent text → IsSentText sent text
 read message sent text is =
     let lines = mended_lines is.lines is.last in
     record {

@@ -1,7 +1,7 @@
 -- Texts by their parts between marks.
 use Rattle.std.proofs.Common.{◌≡◌, ℕ, ◌==◌, ◌&&◌, not, Bool, true, false, List, [], ◌∷◌, refl, ap, ◌∙◌, sym}
 use Rattle.std.specs.List.{list_all, slice_split, onto_first}
-use Rattle.smtpclient.proofs.MailboxLemmas.{both}
+use Rattle.smtp_dialogue.proofs.MailboxLemmas.{both}
 
 pub all_by : (p q : ℕ → Bool) → ((octet : ℕ) → p octet ≡ true → q octet ≡ true) → (text : List ℕ) → list_all p text ≡ true → list_all q text ≡ true
 all_by p q by [] each = refl

@@ -18,12 +18,12 @@ is_filled (octet ∷ rest) = true
 -- ---- IPv4
 
 -- Snum: one to three digits, of at most 255
-abbrev pub is_number : List ℕ → Bool
-is_number text = is_filled text && nat_le (length text) 3 && list_all is_digit text && nat_le (number_of text) 255
+abbrev pub is_ipv4_number : List ℕ → Bool
+is_ipv4_number text = is_filled text && nat_le (length text) 3 && list_all is_digit text && nat_le (number_of text) 255
 
 -- IPv4-address-literal: four of them, with dots between
 abbrev pub is_ipv4 : List ℕ → Bool
-is_ipv4 text = length (slice_split is_dot text) == 4 && list_all is_number (slice_split is_dot text)
+is_ipv4 text = length (slice_split is_dot text) == 4 && list_all is_ipv4_number (slice_split is_dot text)
 
 -- ---- IPv6
 

@@ -3,26 +3,26 @@ use Rattle.std.specs.Prelude.{◌≡◌, ℕ, ◌==◌, ◌||◌, not, nat_eq, B
 use Rattle.std.specs.Cmp.Lexicographic.{pointwise}
 use Rattle.std.specs.List.{list_any, prefix_len}
 use Rattle.octets.specs.Ascii.{lowered}
-use Rattle.smtpclient.specs.Replies.{IsHere}
-use Rattle.smtpclient.specs.declared.extension.Extensions.{Extensions}
+use Rattle.smtp_dialogue.specs.Replies.{IsHere}
+use Rattle.smtp_dialogue.specs.declared.extension.Extensions.{Extensions}
 
 -- the first word of a line after its code and mark
-abbrev pub is_unspaced : ℕ → Bool
-is_unspaced octet = not (octet == 32)
+abbrev pub is_not_space : ℕ → Bool
+is_not_space octet = not (octet == 32)
 
-abbrev pub word_of : List ℕ → List ℕ
-word_of text = take (prefix_len is_unspaced text) text
+abbrev pub first_word_of : List ℕ → List ℕ
+first_word_of text = take (prefix_len is_not_space text) text
 
-abbrev pub keyword_of : List ℕ → List ℕ
-keyword_of line = word_of (drop 4 line)
+abbrev pub ehlo_keyword_of : List ℕ → List ℕ
+ehlo_keyword_of line = first_word_of (drop 4 line)
 
 -- a word, in upper or lower case
-abbrev pub is_word : List ℕ → List ℕ → Bool
-is_word word text = pointwise nat_eq (lowered text) (lowered word)
+abbrev pub is_same_word : List ℕ → List ℕ → Bool
+is_same_word word text = pointwise nat_eq (lowered text) (lowered word)
 
 -- a line whose keyword is this one
 abbrev pub names : List ℕ → List ℕ → Bool
-names keyword line = is_word keyword (keyword_of line)
+names keyword line = is_same_word keyword (ehlo_keyword_of line)
 
 -- some of these lines names it
 abbrev pub offers : List ℕ → List (List ℕ) → Bool
@@ -33,13 +33,13 @@ abbrev pub extensions_of : List (List ℕ) → Extensions
 extensions_of lines = record { size = offers (codes "size") lines; eight_bit_mime = offers (codes "8bitmime") lines; smtputf8 = offers (codes "smtputf8") lines }
 
 -- octets are these lines, each with its CRLF
-abbrev pub AreLines : List (List ℕ) → List ℕ → Type 0
-AreLines [] octets = octets ≡ []
-AreLines (line ∷ lines) octets = (behind : List ℕ) × IsHere octets line behind × AreLines lines behind
+abbrev pub AreReplyLines : List (List ℕ) → List ℕ → Type 0
+AreReplyLines [] octets = octets ≡ []
+AreReplyLines (line ∷ lines) octets = (behind : List ℕ) × IsHere octets line behind × AreReplyLines lines behind
 
 -- that of a reply of one line and others
-abbrev pub Offers : List ℕ → Extensions → Type 0
-Offers octets it = (first : List ℕ) (lines : List (List ℕ)) → AreLines (first ∷ lines) octets → it ≡ extensions_of lines
+abbrev pub OffersExtensions : List ℕ → Extensions → Type 0
+OffersExtensions octets it = (first : List ℕ) (lines : List (List ℕ)) → AreReplyLines (first ∷ lines) octets → it ≡ extensions_of lines
 
 -- ---- one line after others
 
@@ -62,4 +62,4 @@ no_extensions = record { size = false; eight_bit_mime = false; smtputf8 = false 
 
 -- what lines offer more
 abbrev pub OffersMore : List ℕ → Extensions → Extensions → Type 0
-OffersMore octets before after = (lines : List (List ℕ)) → AreLines lines octets → after ≡ with_lines before lines
+OffersMore octets before after = (lines : List (List ℕ)) → AreReplyLines lines octets → after ≡ with_lines before lines

@@ -2,8 +2,8 @@
 ghost use Rattle.std.specs.Prelude.{◌≡◌, ◌↔◌, ◌≤◌, ◌+◌, ◌==◌, ◌∷◌, ◌++◌, not, ℕ, List, Some, IsTrue, IfSome, IfNone, length};
 ghost use Rattle.std.specs.Char.{is_ascii_hexdigit};
 ghost use Rattle.std.specs.List.{list_all, slice_split};
-ghost use Rattle.smtpclient.specs.Addresses as s;
-ghost use Rattle.smtpclient.specs.Mailboxes.{HasNone};
+ghost use Rattle.smtp_dialogue.specs.Addresses as s;
+ghost use Rattle.smtp_dialogue.specs.Mailboxes.{HasNoMark};
 
 use crate::mailbox::{Cut, strip};
 use octets::parse_decimal;
@@ -11,7 +11,7 @@ use octets::parse_decimal;
 // ---- IPv4
 
 fn is_number(text: &[u8]) -> bool
-    ensures { result ≡ s.is_number text.now }
+    ensures { result ≡ s.is_ipv4_number text.now }
 {
     match parse_decimal(text) {
         Some(number) => text.len() <= 3 && number <= 255,
@@ -26,7 +26,7 @@ fn count_parts(text: &[u8]) -> usize
 }
 
 fn are_numbers(text: &[u8]) -> bool
-    ensures { result ≡ list_all s.is_number (slice_split s.is_dot text.now) }
+    ensures { result ≡ list_all s.is_ipv4_number (slice_split s.is_dot text.now) }
 {
     text.split(|octet| *octet == b'.').all(is_number)
 }
@@ -214,7 +214,7 @@ fn before_doubled(text: &[u8]) -> usize
 // What comes before the last such octet and what comes after it.
 fn cut_last(text: &[u8], mark: u8) -> Option<Cut<'_>>
     ensures found { IfSome result (λ cut. s.CutsLast mark text.now cut.front.now cut.rest.now) }
-    ensures none { IfNone result (HasNone mark text.now) }
+    ensures none { IfNone result (HasNoMark mark text.now) }
 {
     let mut left = text;
     while let Some((octet, front)) = left.split_last() {

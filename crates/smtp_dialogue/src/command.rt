@@ -1,9 +1,9 @@
 //! The commands that are written.
 ghost use Rattle.std.specs.Prelude.{◌≡◌, ◌++◌, IfOk, OnOk};
-ghost use Rattle.smtpclient.specs.Letters as s;
+ghost use Rattle.smtp_dialogue.specs.Messages as s;
 
 use crate::extension::Extensions;
-use crate::letter::{Letter, size_of};
+use crate::message::{SmtpMessage, size_of};
 use octets::{Octets, write_decimal};
 use std::alloc::{AllocError, Global};
 
@@ -29,9 +29,9 @@ pub fn ehlo_line(alloc: Global, host: &[u8]) -> Result<Octets, AllocError>
 pub fn mail_line(
     alloc: Global,
     offered: Extensions,
-    letter: Letter<'_>,
+    letter: SmtpMessage<'_>,
 ) -> Result<Octets, AllocError>
-    ensures { IfOk result (λ line. line ≡ s.mail_line offered (s.mail_of letter.entry)) }
+    ensures { IfOk result (λ line. line ≡ s.mail_line offered (s.smtp_mail_of letter.entry)) }
 {
     let mut line = Octets::from_slice(alloc, b"MAIL FROM:<")?;
     line.extend_from_slice(letter.sender)?;
@@ -43,8 +43,8 @@ pub fn mail_line(
     Ok(line)
 }
 
-fn add_size(line: &mut Octets, offered: Extensions, letter: Letter<'_>) -> Result<(), AllocError>
-    ensures { OnOk result (line.new ≡ line.old ++ s.size_part offered (s.mail_of letter.entry)) }
+fn add_size(line: &mut Octets, offered: Extensions, letter: SmtpMessage<'_>) -> Result<(), AllocError>
+    ensures { OnOk result (line.new ≡ line.old ++ s.size_part offered (s.smtp_mail_of letter.entry)) }
 {
     if offered.size {
         line.extend_from_slice(b" SIZE=")?;
@@ -53,8 +53,8 @@ fn add_size(line: &mut Octets, offered: Extensions, letter: Letter<'_>) -> Resul
     Ok(())
 }
 
-fn add_body(line: &mut Octets, offered: Extensions, letter: Letter<'_>) -> Result<(), AllocError>
-    ensures { OnOk result (line.new ≡ line.old ++ s.body_part offered (s.mail_of letter.entry)) }
+fn add_body(line: &mut Octets, offered: Extensions, letter: SmtpMessage<'_>) -> Result<(), AllocError>
+    ensures { OnOk result (line.new ≡ line.old ++ s.body_part offered (s.smtp_mail_of letter.entry)) }
 {
     if offered.eight_bit_mime && letter.needs_eight_bit() {
         line.extend_from_slice(b" BODY=8BITMIME")?;
@@ -62,8 +62,8 @@ fn add_body(line: &mut Octets, offered: Extensions, letter: Letter<'_>) -> Resul
     Ok(())
 }
 
-fn add_utf8(line: &mut Octets, letter: Letter<'_>) -> Result<(), AllocError>
-    ensures { OnOk result (line.new ≡ line.old ++ s.utf8_part (s.mail_of letter.entry)) }
+fn add_utf8(line: &mut Octets, letter: SmtpMessage<'_>) -> Result<(), AllocError>
+    ensures { OnOk result (line.new ≡ line.old ++ s.utf8_part (s.smtp_mail_of letter.entry)) }
 {
     if letter.needs_smtputf8() {
         line.extend_from_slice(b" SMTPUTF8")?;
@@ -72,8 +72,8 @@ fn add_utf8(line: &mut Octets, letter: Letter<'_>) -> Result<(), AllocError>
 }
 
 /// RCPT with the message's recipient (RFC 5321, section 4.1.1.3). Lack of memory is the only error.
-pub fn rcpt_line(alloc: Global, letter: Letter<'_>) -> Result<Octets, AllocError>
-    ensures { IfOk result (λ line. line ≡ s.rcpt_line (s.mail_of letter.entry)) }
+pub fn rcpt_line(alloc: Global, letter: SmtpMessage<'_>) -> Result<Octets, AllocError>
+    ensures { IfOk result (λ line. line ≡ s.rcpt_line (s.smtp_mail_of letter.entry)) }
 {
     let mut line = Octets::from_slice(alloc, b"RCPT TO:<")?;
     line.extend_from_slice(letter.target)?;

@@ -1,10 +1,10 @@
 //! What a reply makes of a message.
 ghost use Rattle.std.specs.Prelude.{◌≡◌};
-ghost use Rattle.smtpclient.specs.Dialogues as s;
+ghost use Rattle.smtp_dialogue.specs.Dialogues as s;
 
 /// What was written last of a message.
 #[derive(Clone, Copy, Debug, PartialEq, Eq)]
-pub enum Stage {
+pub enum SmtpStage {
     /// MAIL.
     Sender,
     /// RCPT.
@@ -36,39 +36,39 @@ pub enum Ending {
 
 /// What a reply makes of a message.
 #[derive(Clone, Copy, Debug, PartialEq, Eq)]
-pub enum Turn {
+pub enum NextStage {
     /// It continues with this.
-    Goes(Stage),
+    Goes(SmtpStage),
     /// It is at its end.
     Ends(Ending),
 }
 
 /// What a reply makes of a message: MAIL and RCPT are taken by 2yz, DATA continues by 3yz, and the message is taken by 250 alone (RFC
 /// 5321, section 4.3.2). Constant time.
-pub fn next_turn(stage: Stage, code: u16) -> Turn
-    ensures { result ≡ s.turn_of stage code }
+pub fn next_turn(stage: SmtpStage, code: u16) -> NextStage
+    ensures { result ≡ s.smtp_turn_of stage code }
 {
     match stage {
-        Stage::Sender => go_on(code / 100 == 2, Stage::Recipient, code),
-        Stage::Recipient => go_on(code / 100 == 2, Stage::Data, code),
-        Stage::Data => go_on(code / 100 == 3, Stage::Text, code),
-        Stage::Text => {
+        SmtpStage::Sender => go_on(code / 100 == 2, SmtpStage::Recipient, code),
+        SmtpStage::Recipient => go_on(code / 100 == 2, SmtpStage::Data, code),
+        SmtpStage::Data => go_on(code / 100 == 3, SmtpStage::Text, code),
+        SmtpStage::Text => {
             if code == 250 {
-                Turn::Ends(Ending::Sent)
+                NextStage::Ends(Ending::Sent)
             } else {
-                Turn::Ends(ending_of(code))
+                NextStage::Ends(ending_of(code))
             }
         }
     }
 }
 
-fn go_on(is_taken: bool, stage: Stage, code: u16) -> Turn
-    ensures { result ≡ s.goes_on is_taken stage code }
+fn go_on(is_taken: bool, stage: SmtpStage, code: u16) -> NextStage
+    ensures { result ≡ s.next_or_end is_taken stage code }
 {
     if is_taken {
-        Turn::Goes(stage)
+        NextStage::Goes(stage)
     } else {
-        Turn::Ends(ending_of(code))
+        NextStage::Ends(ending_of(code))
     }
 }
 

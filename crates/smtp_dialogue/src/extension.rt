@@ -1,9 +1,9 @@
 //! What a server offers.
 ghost use Rattle.std.specs.Prelude.{◌≡◌, ◌≤◌, length, drop};
-ghost use Rattle.smtpclient.specs.Extensions as s;
+ghost use Rattle.smtp_dialogue.specs.Extensions as s;
 
 use crate::mailbox::length_before;
-use lmtp::{Found, first_line};
+use lmtp_dialogue::{Found, find_line};
 
 /// What a server offers in its reply to EHLO (RFC 5321, section 4.1.1.1), of what is used here.
 #[derive(Clone, Copy, Debug, PartialEq, Eq)]
@@ -46,7 +46,7 @@ impl Extensions {
     {
         let mut left = octets;
         let mut offered = self;
-        while let Found::Line(count) = first_line(left) {
+        while let Found::Line(count) = find_line(left) {
             let (line, behind) = left.split_at(count);
             offered = offered.with_line(line);
             left = behind_end(behind);
@@ -67,9 +67,9 @@ fn behind_end(octets: &[u8]) -> &[u8]
 /// What is offered in a reply, of all its octets: its lines after the first are keywords and what belongs to them, in upper or lower
 /// case. Time is linear in its octets; no memory is taken.
 pub fn read_extensions(reply: &[u8]) -> Extensions
-    ensures { s.Offers reply.now result }
+    ensures { s.OffersExtensions reply.now result }
 {
-    match first_line(reply) {
+    match find_line(reply) {
         Found::Line(count) => {
             let (_, behind) = reply.split_at(count);
             Extensions::none().with_lines(behind_end(behind))
@@ -80,7 +80,7 @@ pub fn read_extensions(reply: &[u8]) -> Extensions
 
 // The first word after the code and its mark.
 fn keyword_of(line: &[u8]) -> &[u8]
-    ensures { result.now ≡ s.keyword_of line.now }
+    ensures { result.now ≡ s.ehlo_keyword_of line.now }
 {
     word_of(behind_code(line))
 }
@@ -95,14 +95,14 @@ fn behind_code(line: &[u8]) -> &[u8]
 }
 
 fn word_of(text: &[u8]) -> &[u8]
-    ensures { result.now ≡ s.word_of text.now }
+    ensures { result.now ≡ s.first_word_of text.now }
 {
     let count = length_before(text, b' ');
     &text[..count]
 }
 
 pub(crate) fn names(keyword: &[u8], word: &[u8]) -> bool
-    ensures { result ≡ s.is_word word.now keyword.now }
+    ensures { result ≡ s.is_same_word word.now keyword.now }
 {
     keyword.eq_ignore_ascii_case(word)
 }

@@ -1,7 +1,7 @@
 //! Laws of the definitions, each the contract of a function that does nothing.
-ghost use Rattle.smtpclient.specs.Dialogues.{SpeaksRight};
-ghost use Rattle.smtpclient.specs.Mailboxes.{MailboxStands};
-ghost use Rattle.smtpclient.specs.Sent.{SentStands};
+ghost use Rattle.smtp_dialogue.specs.Dialogues.{SpeaksRight};
+ghost use Rattle.smtp_dialogue.specs.Mailboxes.{MailboxStands};
+ghost use Rattle.smtp_dialogue.specs.Sent.{SentStands};
 
 /// What is sent of a message is one, whatever octets it has. What the other side takes off it are the message's lines, each with CRLF:
 /// so none ends it early, and none goes on with a field that didn't before.

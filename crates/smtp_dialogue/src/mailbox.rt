@@ -2,7 +2,7 @@
 ghost use Rattle.std.specs.Prelude.{◌≡◌, ◌⊎◌, ◌↔◌, ◌≤◌, ◌==◌, [], ◌∷◌, ◌++◌, not, false, ℕ, List, IsTrue, IfSome, IfNone, length, option_copied};
 ghost use Rattle.std.specs.List.{list_all, prefix_len, slice_split};
 ghost use Rattle.std.specs.Str as text;
-ghost use Rattle.smtpclient.specs.Mailboxes as s;
+ghost use Rattle.smtp_dialogue.specs.Mailboxes as s;
 
 use crate::address::{is_ipv4, is_ipv6};
 use crate::extension::names;
@@ -13,8 +13,8 @@ use octets::is_printable;
 /// How long a mailbox is isn't looked at.
 ///
 /// Time is linear in its octets; no memory is taken.
-pub fn is_mailbox(text: &[u8]) -> bool
-    ensures { IsTrue result ↔ s.IsMailbox text.now }
+pub fn is_smtp_mailbox(text: &[u8]) -> bool
+    ensures { IsTrue result ↔ s.IsSmtpMailbox text.now }
 {
     match host_of(text) {
         Some(host) => is_host(host) && is_utf8(text),
@@ -60,9 +60,9 @@ fn behind_dotted(text: &[u8]) -> Option<&[u8]>
 
 // What follows the mark that closes a quoted string and its `@`.
 fn behind_quoted(inner: &[u8]) -> Option<&[u8]>
-    ensures found { IfSome result (λ host. s.Closes inner.now (64 ∷ host.now)) }
-    ensures one { IfSome result (λ host. (other : List ℕ) → s.Closes inner.now (64 ∷ other) → other ≡ host.now) }
-    ensures none { IfNone result ((host : List ℕ) → s.Closes inner.now (64 ∷ host) → ⊥) }
+    ensures found { IfSome result (λ host. s.ClosesQuotes inner.now (64 ∷ host.now)) }
+    ensures one { IfSome result (λ host. (other : List ℕ) → s.ClosesQuotes inner.now (64 ∷ other) → other ≡ host.now) }
+    ensures none { IfNone result ((host : List ℕ) → s.ClosesQuotes inner.now (64 ∷ host) → ⊥) }
 {
     match behind_quotes(inner) {
         Some(behind) => strip(behind, b'@'),
@@ -110,7 +110,7 @@ fn is_let_dig(octet: u8) -> bool
 }
 
 fn is_mark(octet: u8) -> bool
-    ensures { result ≡ s.is_mark octet }
+    ensures { result ≡ s.is_atext_mark octet }
 {
     matches!(octet, b'!' | b'#'..=b'\'' | b'*'..=b'+' | b'-' | b'/' | b'=' | b'?' | b'^'..=b'`' | b'{'..=b'~')
 }
@@ -134,7 +134,7 @@ fn is_dcontent(octet: u8) -> bool
 }
 
 fn is_end(octet: u8) -> bool
-    ensures { result ≡ s.is_end octet }
+    ensures { result ≡ s.is_label_end octet }
 {
     is_let_dig(octet) || is_high(octet)
 }
@@ -160,7 +160,7 @@ fn all_atext(text: &[u8]) -> bool
 }
 
 fn is_atom(text: &[u8]) -> bool
-    ensures { result ≡ s.is_atom text.now }
+    ensures { result ≡ s.is_smtp_atom text.now }
 {
     !text.is_empty() && all_atext(text)
 }
@@ -250,7 +250,7 @@ fn is_tagged(text: &[u8]) -> bool
 }
 
 fn says(tag: &[u8], content: &[u8]) -> bool
-    ensures { IsTrue result ↔ s.Says tag.now content.now }
+    ensures { IsTrue result ↔ s.TagSays tag.now content.now }
 {
     if is_ipv6_tag(tag) {
         return is_ipv6(content);
@@ -265,7 +265,7 @@ fn is_inner(text: &[u8]) -> bool
 }
 
 fn is_literal(text: &[u8]) -> bool
-    ensures { IsTrue result ↔ s.IsLiteral text.now }
+    ensures { IsTrue result ↔ s.IsAddressLiteral text.now }
 {
     match inner_of(text) {
         Some(inner) => is_inner(inner),
@@ -315,8 +315,8 @@ pub(crate) struct Cut<'a> {
 
 // What comes before the first such octet and what comes after it.
 pub(crate) fn cut_at(text: &[u8], mark: u8) -> Option<Cut<'_>>
-    ensures found { IfSome result (λ cut. s.CutsAt mark text.now cut.front.now cut.rest.now) }
-    ensures none { IfNone result (s.HasNone mark text.now) }
+    ensures found { IfSome result (λ cut. s.CutsAtOctet mark text.now cut.front.now cut.rest.now) }
+    ensures none { IfNone result (s.HasNoMark mark text.now) }
 {
     let count = length_before(text, mark);
     let (front, behind) = text.split_at(count);

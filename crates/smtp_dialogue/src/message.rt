@@ -1,17 +1,17 @@
 //! A message with its envelope, and what it needs.
 ghost use Rattle.std.specs.Prelude.{◌≡◌, ◌↔◌, ◌≤◌, IsTrue, length};
-ghost use Rattle.smtpclient.specs.Letters as s;
-ghost use Rattle.smtpclient.specs.Sent as sent;
-ghost use Rattle.lmtp.specs.Copies as copies;
+ghost use Rattle.smtp_dialogue.specs.Messages as s;
+ghost use Rattle.smtp_dialogue.specs.Sent as sent;
+ghost use Rattle.lmtp_dialogue.specs.Copies as copies;
 
 use crate::extension::Extensions;
-use crate::mailbox::{is_high, is_mailbox};
-use crate::sent::Place;
-use mailhead::{logical_line, read_field};
+use crate::mailbox::{is_high, is_smtp_mailbox};
+use crate::sent::SentState;
+use mail_head::{logical_line, read_field};
 
 /// A message with its envelope, as it goes to a server.
 #[derive(Clone, Copy)]
-pub struct Letter<'a> {
+pub struct SmtpMessage<'a> {
     /// The sender's address; empty for that of a bounce.
     pub sender: &'a [u8],
     pub target: &'a [u8],
@@ -19,14 +19,14 @@ pub struct Letter<'a> {
     pub text: &'a [u8],
 }
 
-impl<'a> Letter<'a> {
+impl<'a> SmtpMessage<'a> {
     /// Whether its addresses are mailboxes; the sender may be empty. One for which this isn't so is never sent.
     ///
     /// Time is linear in the addresses' octets; no memory is taken.
     pub fn is_addressed(&self) -> bool
-        ensures { IsTrue result ↔ s.IsAddressed (s.mail_of self.now) }
+        ensures { IsTrue result ↔ s.IsMailAddressed (s.smtp_mail_of self.now) }
     {
-        is_sender(self.sender) && is_mailbox(self.target)
+        is_sender(self.sender) && is_smtp_mailbox(self.target)
     }
 
     /// Whether a server offers what it needs: SMTPUTF8 if there is an octet over 127 in an address, 8BITMIME if there is one in its
@@ -34,7 +34,7 @@ impl<'a> Letter<'a> {
     ///
     /// Time is linear in its octets; no memory is taken.
     pub fn is_offered(&self, offered: Extensions, may_eight_bit: bool) -> bool
-        ensures { IsTrue result ↔ s.IsOffered offered may_eight_bit (s.mail_of self.now) }
+        ensures { IsTrue result ↔ s.IsOffered offered may_eight_bit (s.smtp_mail_of self.now) }
     {
         if !offered.smtputf8 && self.needs_smtputf8() {
             return false;
@@ -44,14 +44,14 @@ impl<'a> Letter<'a> {
 
     /// Whether there is an octet over 127 in an address.
     pub fn needs_smtputf8(&self) -> bool
-        ensures { result ≡ s.needs_smtputf8 (s.mail_of self.now) }
+        ensures { result ≡ s.needs_smtputf8 (s.smtp_mail_of self.now) }
     {
         has_high(self.sender) || has_high(self.target)
     }
 
     /// Whether there is an octet over 127 in the text.
     pub fn needs_eight_bit(&self) -> bool
-        ensures { result ≡ s.needs_eight_bit (s.mail_of self.now) }
+        ensures { result ≡ s.needs_eight_bit (s.smtp_mail_of self.now) }
     {
         has_high(self.text)
     }
@@ -60,7 +60,7 @@ impl<'a> Letter<'a> {
 fn is_sender(sender: &[u8]) -> bool
     ensures { IsTrue result ↔ s.IsSender sender.now }
 {
-    sender.is_empty() || is_mailbox(sender)
+    sender.is_empty() || is_smtp_mailbox(sender)
 }
 
 fn has_high(text: &[u8]) -> bool
@@ -93,22 +93,22 @@ fn is_path(line: &[u8]) -> bool
 
 /// How many octets the other side has of a text that is sent (RFC 1870). Time is linear in its octets.
 pub fn size_of(text: &[u8]) -> u64
-    ensures { result ≡ s.size_of text.now }
+    ensures { result ≡ s.sent_size text.now }
 {
     let mut size: u64 = 0;
-    let mut place = Place::Start;
+    let mut place = SentState::Start;
     let mut left = text;
     while let Some((octet, rest)) = left.split_first() {
         if *octet == b'\n' {
             size += 2;
-            place = Place::Start;
+            place = SentState::Start;
         } else if *octet != b'\r' || !begins_feed(rest) {
             size += 1;
-            place = Place::Inside;
+            place = SentState::Inside;
         }
         left = rest;
     }
-    if place == Place::Inside {
+    if place == SentState::Inside {
         size + 2
     } else {
         size

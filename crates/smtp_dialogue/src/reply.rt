@@ -1,8 +1,8 @@
 //! What a server answers.
 ghost use Rattle.std.specs.Prelude.{◌≡◌, ◌≤◌, ◌<◌, ℕ, ◌∷◌, length, ◌↔◌, IsTrue};
-ghost use Rattle.smtpclient.specs.Replies as s;
+ghost use Rattle.smtp_dialogue.specs.Replies as s;
 
-use lmtp::{Found, first_line};
+use lmtp_dialogue::{Found, find_line};
 
 /// A line of a reply (RFC 5321, section 4.2).
 #[derive(Clone, Copy)]
@@ -17,7 +17,7 @@ pub struct ReplyLine<'a> {
 
 /// The line of a reply that these octets are, without their CRLF; none if they are none.
 pub fn read_reply_line(line: &[u8]) -> Option<ReplyLine<'_>>
-    ensures { s.ReadsLine line.now result }
+    ensures { s.ReadsReplyLine line.now result }
 {
     let (first, behind) = line.split_first()?;
     let (second, behind) = behind.split_first()?;
@@ -78,13 +78,13 @@ pub enum Heard {
 ///
 /// A line has at most 2,048 octets with its CRLF. Time is linear in the octets of the reply; no memory is taken.
 pub fn first_reply(octets: &[u8]) -> Heard
-    ensures { s.Hears octets.now result }
+    ensures { s.HearsReply octets.now result }
 {
     let mut at = 0;
     let mut code = None;
     loop {
         let (_, left) = octets.split_at(at);
-        match first_line(left) {
+        match find_line(left) {
             Found::Need => return Heard::Need,
             Found::TooLong => return Heard::Bad,
             Found::Line(count) => {
@@ -107,7 +107,7 @@ pub fn first_reply(octets: &[u8]) -> Heard
 
 // The line of a reply that these octets are, if its code is that of the lines before it.
 fn line_of(code: Option<u16>, octets: &[u8]) -> Option<ReplyLine<'_>>
-    ensures { s.ReadsNext code octets.now result }
+    ensures { s.ReadsNextLine code octets.now result }
 {
     match read_reply_line(octets) {
         Some(line) => {
@@ -122,7 +122,7 @@ fn line_of(code: Option<u16>, octets: &[u8]) -> Option<ReplyLine<'_>>
 }
 
 fn agrees(other: Option<u16>, code: u16) -> bool
-    ensures { IsTrue result ↔ s.Agrees other code }
+    ensures { IsTrue result ↔ s.CodeAgrees other code }
 {
     match other {
         Some(other) => code == other,

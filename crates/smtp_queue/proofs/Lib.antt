@@ -1,3 +1,6 @@
+mod WaitExamples
+mod TextLemmas
+mod WaitLemmas
 mod Examples
 mod QueueLemmas
 mod StoreLemmas

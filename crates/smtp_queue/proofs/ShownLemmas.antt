@@ -4,35 +4,35 @@ use Rattle.sqlite_trees.specs.declared.store.Store.{Ghosts}
 use Rattle.sqlite.specs.Effect.{Database}
 use Rattle.sqlite.specs.Held.{Held, state}
 use Rattle.sqlite.specs.State.{HasCleanDisk}
-use Rattle.mailstore.specs.Account.{Accounts}
-use Rattle.mailstore.specs.Shows.{Presents, Offers}
-use Rattle.sessions.specs.Acts.{HasAccounts}
-use Rattle.mailsenders.specs.declared.queue.Row.{Row}
-use Rattle.mailsenders.specs.declared.queue.TakenOut.{TakenOut}
-use Rattle.mailstore.specs.declared.next.Queued.{Queued}
-use Rattle.mailstore.specs.declared.refusal.Refusal.{Refusal}
-use Rattle.keepers.specs.declared.keeper.Unavailable.{Unavailable}
-use Rattle.keepers.specs.Taken.{IsTaken}
-use Rattle.sendqueues.specs.Posts.{IsFound, Reads, TakesRow, Works}
-use Rattle.sendqueues.specs.Queues.{Finds, Removes, ShowsBy, StillShown, TurnsShown}
-use Rattle.sendqueues.specs.declared.post.Post.{Post}
-use Rattle.sendwaits.specs.declared.waits.Waits.{Waits}
+use Rattle.store_accounts.specs.Account.{Accounts}
+use Rattle.store_accounts.specs.Shows.{Presents, OffersAccounts}
+use Rattle.managesieve_sessions.specs.Acts.{HasAccounts}
+use Rattle.smtp_send.specs.declared.queue.DueMessage.{DueMessage}
+use Rattle.smtp_send.specs.declared.queue.TakenOut.{TakenOut}
+use Rattle.store_accounts.specs.declared.next.QueueKey.{QueueKey}
+use Rattle.store_accounts.specs.declared.refusal.Refusal.{Refusal}
+use Rattle.store_lock.specs.declared.keeper.StoreUnavailable.{StoreUnavailable}
+use Rattle.store_lock.specs.Taken.{IsStoreTaken}
+use Rattle.smtp_queue.specs.DueRows.{IsDueRowFound, QueueReads, QueueTakesRow, QueueWorks}
+use Rattle.smtp_queue.specs.Queues.{QueueFinds, QueueRemoves, QueueShows, QueueStillShows, TurnsShown}
+use Rattle.smtp_queue.specs.declared.due_row.DueRow.{DueRow}
+use Rattle.smtp_queue.specs.declared.waits.RowWaits.{RowWaits}
 
 -- tables of ours are tables that `open` takes
-presented : (db : Database) (accounts : Accounts) → Presents db accounts → Offers db accounts
+presented : (db : Database) (accounts : Accounts) → Presents db accounts → OffersAccounts db accounts
 presented db accounts shown = inl shown
 
 module _ {S : Type 0} (g : Ghosts S) (tells : Bool) {K : Type 0} (holds : K → Database) where
   abbrev Still : Option (Held S) → K → Option (Held S) → K → Type 0
-  Still store keeper later after = StillShown g tells holds store keeper later after
+  Still store keeper later after = QueueStillShows g tells holds store keeper later after
 
   abbrev Turns : (Accounts → Accounts → Type 0) → Option (Held S) → K → Option (Held S) → K → Type 0
   Turns Turn store keeper later after = TurnsShown g tells holds Turn store keeper later after
 
   -- the keeper tells the same
   pub shown_same : (store later : Option (Held S)) (keeper after : K) → later ≡ store → (IsTrue tells → holds after ≡ holds keeper) → Still store keeper later after
-  shown_same (Some store) later keeper after is same told accounts shown = subst (λ o. ShowsBy g (holds after) o accounts) (sym is) shown
-  shown_same None later keeper after is same told accounts shown = subst (λ o. ShowsBy g (holds after) o accounts) (sym is) (subst (λ db. Offers db accounts) (sym (same told)) shown)
+  shown_same (Some store) later keeper after is same told accounts shown = subst (λ o. QueueShows g (holds after) o accounts) (sym is) shown
+  shown_same None later keeper after is same told accounts shown = subst (λ o. QueueShows g (holds after) o accounts) (sym is) (subst (λ db. OffersAccounts db accounts) (sym (same told)) shown)
 
   -- one call, and then another
   pub still_then : (a b c : Option (Held S)) (k l m : K) → Still a k b l → Still b l c m → Still a k c m
@@ -48,41 +48,41 @@ module _ {S : Type 0} (g : Ghosts S) (tells : Bool) {K : Type 0} (holds : K → 
   turns_as Turn Wider a b k l wider turns told accounts shown = let h = turns told accounts shown in (h.0, wider accounts h.0 h.1, h.2)
 
   -- a store that was taken shows what the tables offered
-  pub shown_taken : (was : Option (Held S)) → was ≡ None → (keeper asked after : K) (store : Held S) → (IsTrue tells → holds asked ≡ holds keeper) → (IsTrue tells → IsTaken false (holds asked) (state g store).now)
+  pub shown_taken : (was : Option (Held S)) → was ≡ None → (keeper asked after : K) (store : Held S) → (IsTrue tells → holds asked ≡ holds keeper) → (IsTrue tells → IsStoreTaken false (holds asked) (state g store).now)
       → Still was keeper (Some store) after
   shown_taken was none keeper asked after store same took told accounts shown =
-      let here : Offers (holds keeper) accounts = subst (λ o. ShowsBy g (holds keeper) o accounts) none shown in
-      λ is_open. (took told).0.shown accounts (subst (λ db. Offers db accounts) (sym (same told)) here)
+      let here : OffersAccounts (holds keeper) accounts = subst (λ o. QueueShows g (holds keeper) o accounts) none shown in
+      λ is_open. (took told).0.shown accounts (subst (λ db. OffersAccounts db accounts) (sym (same told)) here)
 
   -- nothing shuts it, and its disk keeps what is written
   module _ (sure : (held : Held S) → IsTrue tells → HasCleanDisk (state g held) × IsTrue (state g held).is_open) where
     -- one that was given back is offered by the tables
     pub shown_given : (was later : Option (Held S)) (store : Held S) → was ≡ Some store → later ≡ None → (keeper after : K) → (IsTrue tells → holds after ≡ (state g store).now) → Still was keeper later after
     shown_given was later store some none keeper after held told accounts shown =
-        let here : HasAccounts (state g store) accounts = subst (λ o. ShowsBy g (holds keeper) o accounts) some shown in
-        subst (λ o. ShowsBy g (holds after) o accounts) (sym none) (subst (λ db. Offers db accounts) (sym (held told)) (presented (state g store).now accounts (here (sure store told).1)))
+        let here : HasAccounts (state g store) accounts = subst (λ o. QueueShows g (holds keeper) o accounts) some shown in
+        subst (λ o. QueueShows g (holds after) o accounts) (sym none) (subst (λ db. OffersAccounts db accounts) (sym (held told)) (presented (state g store).now accounts (here (sure store told).1)))
 
     -- a call of it
-    pub shown_turned : (Turn : Accounts → Accounts → Type 0) (was : Option (Held S)) (old new : Held S) → was ≡ Some old → (keeper : K) → Works Turn (state g old) (state g new) → Turns Turn was keeper (Some new) keeper
-    shown_turned Turn was old new some keeper works told accounts shown = works.carries (sure new told).0 accounts (subst (λ o. ShowsBy g (holds keeper) o accounts) some shown)
+    pub shown_turned : (Turn : Accounts → Accounts → Type 0) (was : Option (Held S)) (old new : Held S) → was ≡ Some old → (keeper : K) → QueueWorks Turn (state g old) (state g new) → Turns Turn was keeper (Some new) keeper
+    shown_turned Turn was old new some keeper works told accounts shown = works.carries (sure new told).0 accounts (subst (λ o. QueueShows g (holds keeper) o accounts) some shown)
 
     -- a row was looked for in a store that was taken before
-    pub find_made : (waits : Waits) (now : ℕ) (start : Queued) (a b : Option (Held S)) (k l : K) (old new : Held S) → Still a k b l → b ≡ Some old → (q : Result (Option Post) Refusal)
-        → Works (Reads (IsFound waits now start) q) (state g old) (state g new) → (r : Result (Option Post) Unavailable) → ((accounts : Accounts) → IfOk q (IsFound waits now start accounts) → IfOk r (IsFound waits now start accounts))
-        → Turns (Finds waits now start r) a k (Some new) l
+    pub find_made : (waits : RowWaits) (now : ℕ) (start : QueueKey) (a b : Option (Held S)) (k l : K) (old new : Held S) → Still a k b l → b ≡ Some old → (q : Result (Option DueRow) Refusal)
+        → QueueWorks (QueueReads (IsDueRowFound waits now start) q) (state g old) (state g new) → (r : Result (Option DueRow) StoreUnavailable) → ((accounts : Accounts) → IfOk q (IsDueRowFound waits now start accounts) → IfOk r (IsDueRowFound waits now start accounts))
+        → Turns (QueueFinds waits now start r) a k (Some new) l
     find_made waits now start a b k l old new still some q works r wider =
-        turns_behind (Finds waits now start r) a b (Some new) k l l still
-        (turns_as (Reads (IsFound waits now start) q) (Finds waits now start r) b (Some new) l l (λ accounts later h. (h.0, wider accounts h.1)) (shown_turned (Reads (IsFound waits now start) q) b old new some l works))
+        turns_behind (QueueFinds waits now start r) a b (Some new) k l l still
+        (turns_as (QueueReads (IsDueRowFound waits now start) q) (QueueFinds waits now start r) b (Some new) l l (λ accounts later h. (h.0, wider accounts h.1)) (shown_turned (QueueReads (IsDueRowFound waits now start) q) b old new some l works))
 
     -- a row was taken out of it, or not
-    pub remove_made : (place : Queued) (sent : Row) (a b : Option (Held S)) (k l : K) (old new : Held S) → Still a k b l → b ≡ Some old → (q : Result TakenOut Refusal) → Works (TakesRow place sent q) (state g old) (state g new)
-        → (r : Result TakenOut Unavailable) → ((accounts later : Accounts) → TakesRow place sent q accounts later → Removes place sent r accounts later) → Turns (Removes place sent r) a k (Some new) l
+    pub remove_made : (place : QueueKey) (sent : DueMessage) (a b : Option (Held S)) (k l : K) (old new : Held S) → Still a k b l → b ≡ Some old → (q : Result TakenOut Refusal) → QueueWorks (QueueTakesRow place sent q) (state g old) (state g new)
+        → (r : Result TakenOut StoreUnavailable) → ((accounts later : Accounts) → QueueTakesRow place sent q accounts later → QueueRemoves place sent r accounts later) → Turns (QueueRemoves place sent r) a k (Some new) l
     remove_made place sent a b k l old new still some q works r wider =
-        turns_behind (Removes place sent r) a b (Some new) k l l still (turns_as (TakesRow place sent q) (Removes place sent r) b (Some new) l l wider (shown_turned (TakesRow place sent q) b old new some l works))
+        turns_behind (QueueRemoves place sent r) a b (Some new) k l l still (turns_as (QueueTakesRow place sent q) (QueueRemoves place sent r) b (Some new) l l wider (shown_turned (QueueTakesRow place sent q) b old new some l works))
 
   -- nothing was asked
-  pub find_not : (waits : Waits) (now : ℕ) (start : Queued) (a b : Option (Held S)) (k l : K) (denial : Unavailable) (r : Result (Option Post) Unavailable) → r ≡ Err denial → Still a k b l → Turns (Finds waits now start r) a k b l
-  find_not waits now start a b k l denial r is still = turns_not (Finds waits now start r) a b k l (λ accounts. (refl, subst (λ o. IfOk o (IsFound waits now start accounts)) (sym is) tt)) still
+  pub find_not : (waits : RowWaits) (now : ℕ) (start : QueueKey) (a b : Option (Held S)) (k l : K) (denial : StoreUnavailable) (r : Result (Option DueRow) StoreUnavailable) → r ≡ Err denial → Still a k b l → Turns (QueueFinds waits now start r) a k b l
+  find_not waits now start a b k l denial r is still = turns_not (QueueFinds waits now start r) a b k l (λ accounts. (refl, subst (λ o. IfOk o (IsDueRowFound waits now start accounts)) (sym is) tt)) still
 
-  pub remove_not : (place : Queued) (sent : Row) (a b : Option (Held S)) (k l : K) (denial : Unavailable) (r : Result TakenOut Unavailable) → r ≡ Err denial → Still a k b l → Turns (Removes place sent r) a k b l
-  remove_not place sent a b k l denial r is still = turns_not (Removes place sent r) a b k l (λ accounts. subst (λ o. Removes place sent o accounts accounts) (sym is) refl) still
+  pub remove_not : (place : QueueKey) (sent : DueMessage) (a b : Option (Held S)) (k l : K) (denial : StoreUnavailable) (r : Result TakenOut StoreUnavailable) → r ≡ Err denial → Still a k b l → Turns (QueueRemoves place sent r) a k b l
+  remove_not place sent a b k l denial r is still = turns_not (QueueRemoves place sent r) a b k l (λ accounts. subst (λ o. QueueRemoves place sent o accounts accounts) (sym is) refl) still

@@ -13,35 +13,35 @@ use Rattle.std.specs.FinMap.{get}
 use Rattle.sqlite.specs.State.{State, HasCleanDisk}
 use Rattle.sqlite_rules.specs.Lists.{Has}
 use Rattle.sqlite_value.specs.declared.value.Value.TheVariants.{Int, Blob}
-use Rattle.mailtables.specs.QueueTable.{outgoing_tree}
-use Rattle.mailtables.specs.Rows.{Tables}
-use Rattle.mailtables.proofs.AnswerLemmas.{has_map}
-use Rattle.mailtables.proofs.WriteLemmas.{clean_before}
-use Rattle.mailstore.specs.Account.{Account, Accounts, open_of, bytes_cmp, row_with}
-use Rattle.mailstore.proofs.StandingLemmas.{open_there}
-use Rattle.mailstore.specs.FirstCells.{first_two}
-use Rattle.mailstore.specs.QueueRows.{queue_row}
-use Rattle.mailstore.specs.Shows.{IsShown, IsShownOrAbsent, ShowsAccounts, rows_of}
-use Rattle.mailstore.specs.Next.{queued_cmp, FindsAll, IsNextQueued, IsQueued}
-use Rattle.mailstore.specs.Promises.{HasNoOpen, OfOpen, Keeps}
-use Rattle.mailstore.specs.Promises as store
-use Rattle.mailstore.specs.declared.next.Queued.{Queued}
-use Rattle.mailstore.specs.declared.queue.Outgoing.{Outgoing}
-use Rattle.mailstore.specs.declared.refusal.Refusal.{Refusal}
-use Rattle.mailstore.specs.declared.refusal.Refusal.TheVariants.{NoUser}
-use Rattle.mailstore.proofs.NextLemmas.{queued_total}
-use Rattle.sessions.specs.Acts.{HasAccounts, Carries}
-use Rattle.sessions.proofs.ActLemmas.{glanced, accounts_stay, read_shows}
-use Rattle.mailengine.proofs.TakingLemmas.{row_numbered}
-use Rattle.sendqueues.specs.Posts.{IsAfter, HasRow, IsRowAt, IsNoneDue, IsNext, IsFound, IsPast, IsStep, Works, Reads, Sees, is_due}
-use Rattle.sendqueues.specs.declared.post.Post.{Post}
-use Rattle.sendqueues.specs.declared.post.Step.{Step}
-use Rattle.sendqueues.specs.declared.post.Step.TheVariants.{End, Past, Due}
-use Rattle.sendwaits.specs.declared.waits.Waits.{Waits}
+use Rattle.store_tables.specs.QueueTable.{outgoing_tree}
+use Rattle.store_tables.specs.Rows.{Tables}
+use Rattle.store_tables.proofs.AnswerLemmas.{has_map}
+use Rattle.store_tables.proofs.WriteLemmas.{clean_before}
+use Rattle.store_accounts.specs.Account.{Account, Accounts, open_account_of, bytes_cmp, row_with}
+use Rattle.store_accounts.proofs.StandingLemmas.{open_there}
+use Rattle.store_accounts.specs.FirstCells.{first_two}
+use Rattle.store_accounts.specs.QueueRows.{queue_row}
+use Rattle.store_accounts.specs.Shows.{IsShown, IsShownOrAbsent, ShowsAccounts, rows_of}
+use Rattle.store_accounts.specs.Next.{queued_cmp, FindsAll, IsNextQueued, IsQueued}
+use Rattle.store_accounts.specs.Promises.{HasNoOpen, OfOpen, KeepsTables}
+use Rattle.store_accounts.specs.Promises as store
+use Rattle.store_accounts.specs.declared.next.QueueKey.{QueueKey}
+use Rattle.store_accounts.specs.declared.queue.QueuedMessage.{QueuedMessage}
+use Rattle.store_accounts.specs.declared.refusal.Refusal.{Refusal}
+use Rattle.store_accounts.specs.declared.refusal.Refusal.TheVariants.{NoUser}
+use Rattle.store_accounts.proofs.NextLemmas.{queued_total}
+use Rattle.managesieve_sessions.specs.Acts.{HasAccounts, TurnsAccounts}
+use Rattle.managesieve_sessions.proofs.ActLemmas.{glanced, accounts_stay, read_shows}
+use Rattle.store_engine.proofs.TakingLemmas.{row_numbered}
+use Rattle.smtp_queue.specs.DueRows.{IsKeyAfter, HasRow, IsRowAt, IsNoneDue, IsNextDueRow, IsDueRowFound, IsPast, IsStep, QueueWorks, QueueReads, Sees, is_key_due}
+use Rattle.smtp_queue.specs.declared.due_row.DueRow.{DueRow}
+use Rattle.smtp_queue.specs.declared.due_row.Step.{Step}
+use Rattle.smtp_queue.specs.declared.due_row.Step.TheVariants.{End, Past, Due}
+use Rattle.smtp_queue.specs.declared.waits.RowWaits.{RowWaits}
 
 -- ---- one call, and then another
 
-pub works_then : (a b c : State) (A B C : Accounts → Accounts → Type 0) → ((accounts mid later : Accounts) → A accounts mid → B mid later → C accounts later) → Works A a b → Works B b c → Works C a c
+pub works_then : (a b c : State) (A B C : Accounts → Accounts → Type 0) → ((accounts mid later : Accounts) → A accounts mid → B mid later → C accounts later) → QueueWorks A a b → QueueWorks B b c → QueueWorks C a c
 works_then a b c A B C both one two = record {
   carries = λ clean accounts shown.
       let m = one.carries (two.clean clean) accounts shown in
@@ -50,14 +50,14 @@ works_then a b c A B C both one two = record {
   clean = λ clean. one.clean (two.clean clean);
 }
 
-pub works_as : (a b : State) (A B : Accounts → Accounts → Type 0) → ((accounts later : Accounts) → A accounts later → B accounts later) → Works A a b → Works B a b
+pub works_as : (a b : State) (A B : Accounts → Accounts → Type 0) → ((accounts later : Accounts) → A accounts later → B accounts later) → QueueWorks A a b → QueueWorks B a b
 works_as a b A B wider one = record {
   carries = λ clean accounts shown. let m = one.carries clean accounts shown in (m.0, wider accounts m.0 m.1, m.2);
   clean = one.clean;
 }
 
 -- nothing was asked
-pub works_not : (a : State) (A : Accounts → Accounts → Type 0) → ((accounts : Accounts) → A accounts accounts) → Works A a a
+pub works_not : (a : State) (A : Accounts → Accounts → Type 0) → ((accounts : Accounts) → A accounts accounts) → QueueWorks A a a
 works_not a A same = record {
   carries = λ clean accounts shown. (accounts, same accounts, shown);
   clean = λ clean. clean;
@@ -66,46 +66,46 @@ works_not a A same = record {
 -- ---- reads
 
 module _ (a b : State) where
-  pub works_read : {X Y E : Type 0} (r : Result X E) (Part : Accounts → Y → Type 0) (q : Result Y Refusal) → Keeps a b r
-      → (HasCleanDisk b → (accounts : Accounts) → HasAccounts a accounts → IfOk q (Part accounts)) → Works (Reads Part q) a b
+  pub works_read : {X Y E : Type 0} (r : Result X E) (Part : Accounts → Y → Type 0) (q : Result Y Refusal) → KeepsTables a b r
+      → (HasCleanDisk b → (accounts : Accounts) → HasAccounts a accounts → IfOk q (Part accounts)) → QueueWorks (QueueReads Part q) a b
   works_read r Part q k part = record {
     carries = λ clean accounts shown. (accounts, (refl, part clean accounts shown), accounts_stay a b (glanced a b r k) clean accounts shown);
     clean = clean_before a b _ k.crash;
   }
 
-  pub works_err : {X Y E : Type 0} (r : Result X E) (Part : Accounts → Y → Type 0) (e : Refusal) (q : Result Y Refusal) → q ≡ Err e → Keeps a b r → Works (Reads Part q) a b
+  pub works_err : {X Y E : Type 0} (r : Result X E) (Part : Accounts → Y → Type 0) (e : Refusal) (q : Result Y Refusal) → q ≡ Err e → KeepsTables a b r → QueueWorks (QueueReads Part q) a b
   works_err r Part e q is k = works_read r Part q k (λ clean accounts shown. subst (λ o. IfOk o (Part accounts)) (sym is) tt)
 
 -- the row at a place
-same_row : (accounts : Accounts) (place : Queued) (a b : Account) (o : Option Outgoing) (row : Outgoing) → open_of accounts place.user ≡ Some a → open_of accounts place.user ≡ Some b → o ≡ row_with place.id a.queue → row_with place.id b.queue ≡ Some row → o ≡ Some row
+same_row : (accounts : Accounts) (place : QueueKey) (a b : Account) (o : Option QueuedMessage) (row : QueuedMessage) → open_account_of accounts place.user ≡ Some a → open_account_of accounts place.user ≡ Some b → o ≡ row_with place.id a.queue → row_with place.id b.queue ≡ Some row → o ≡ Some row
 same_row accounts place a b o row one two is has =
     let same : a ≡ b = (let h = one in let k = two in cc) in
     is ∙ ap (λ (x : Account). row_with place.id x.queue) same ∙ has
 
-row_is : (accounts : Accounts) (place : Queued) (row : Option Outgoing) → OfOpen accounts place.user (λ a. row ≡ row_with place.id a.queue) → IsRowAt place accounts row
+row_is : (accounts : Accounts) (place : QueueKey) (row : Option QueuedMessage) → OfOpen accounts place.user (λ a. row ≡ row_with place.id a.queue) → IsRowAt place accounts row
 row_is accounts place None own = λ row has. let never = same_row accounts place own.0 has.0 None row own.1 has.1 own.2 has.2 in cc
 row_is accounts place (Some row) own = (own.0, own.1, sym own.2)
 
-module _ (place : Queued) (user : List ℕ) (same : user ≡ place.user) (a b : State) where
-  abbrev Read : Result (Option Outgoing) Refusal → Type 0
-  Read r = store.Reads user (λ row account. row ≡ row_with place.id account.queue) a b r
+module _ (place : QueueKey) (user : List ℕ) (same : user ≡ place.user) (a b : State) where
+  abbrev Read : Result (Option QueuedMessage) Refusal → Type 0
+  Read r = store.ReadsOpenAccount user (λ row account. row ≡ row_with place.id account.queue) a b r
 
-  pub row_read : (r : Result (Option Outgoing) Refusal) → Read r → Sees (IsRowAt place) a b r
+  pub row_read : (r : Result (Option QueuedMessage) Refusal) → Read r → Sees (IsRowAt place) a b r
   row_read r reads = record {
     found = λ clean accounts shows. by_answer r accounts (reads.found clean accounts shows);
     keeps = reads.keeps;
   }
     where
-      by_answer : (o : Result (Option Outgoing) Refusal) (accounts : Accounts) → IfOk o (λ row. OfOpen accounts user (λ account. row ≡ row_with place.id account.queue)) → IfOk o (IsRowAt place accounts)
+      by_answer : (o : Result (Option QueuedMessage) Refusal) (accounts : Accounts) → IfOk o (λ row. OfOpen accounts user (λ account. row ≡ row_with place.id account.queue)) → IfOk o (IsRowAt place accounts)
       by_answer (Err e) accounts own = tt
       by_answer (Ok row) accounts own = row_is accounts place row (subst (λ u. OfOpen accounts u (λ account. row ≡ row_with place.id account.queue)) same own)
 
   -- of a user without an open account there is none
-  pub row_absent : (r : Result (Option Outgoing) Refusal) → r ≡ Err NoUser → Read r → Sees (IsRowAt place) a b (Ok None)
+  pub row_absent : (r : Result (Option QueuedMessage) Refusal) → r ≡ Err NoUser → Read r → Sees (IsRowAt place) a b (Ok None)
   row_absent r is reads = record {
     found = λ clean accounts shows row has.
         let none : HasNoOpen user accounts = subst (λ q. IfErr q (λ e. e ≡ NoUser → HasNoOpen user accounts)) is (reads.absent clean accounts shows) refl in
-        let never : None ≡ Some has.0 = sym none ∙ (ap (λ u. open_of accounts u) same ∙ has.1) in
+        let never : None ≡ Some has.0 = sym none ∙ (ap (λ u. open_account_of accounts u) same ∙ has.1) in
         cc;
     keeps = record {
       same = reads.keeps.same;
@@ -116,7 +116,7 @@ module _ (place : Queued) (user : List ℕ) (same : user ≡ place.user) (a b : 
   }
 
 -- what was seen is so of whatever accounts were shown
-pub works_seen : {X : Type 0} (a b : State) (r : Result X Refusal) (Part : Accounts → X → Type 0) → Sees Part a b r → Works (Reads Part r) a b
+pub works_seen : {X : Type 0} (a b : State) (r : Result X Refusal) (Part : Accounts → X → Type 0) → Sees Part a b r → QueueWorks (QueueReads Part r) a b
 works_seen a b (Err e) Part sees = works_read a b (Err e) Part (Err e) sees.keeps (λ clean accounts shown. tt)
 works_seen a b (Ok x) Part sees = works_read a b (Ok x) Part (Ok x) sees.keeps (λ clean accounts shown. sees.found clean accounts (read_shows a b (Ok x) x refl sees.keeps clean accounts shown).0)
 
@@ -143,7 +143,7 @@ filtered_has p (y ∷ xs) x there = go (p y) (filtered_has p xs x) there
     go true later (inr more) = inr (later more)
     go false later more = inr (later more)
 
-found_has : (id : ℕ) (rows : List Outgoing) (row : Outgoing) → row_with id rows ≡ Some row → Has rows row
+found_has : (id : ℕ) (rows : List QueuedMessage) (row : QueuedMessage) → row_with id rows ≡ Some row → Has rows row
 found_has id [] row is = absurd (let never = is in cc)
 found_has id (first ∷ rows) row is = go (first.id == id) (found_has id rows row) is
   where
@@ -152,7 +152,7 @@ found_has id (first ∷ rows) row is = go (first.id == id) (found_has id rows ro
     go false later same = inr (later same)
 
 -- a row of a queue stands in the table
-pub row_queued : (tables : Tables) (accounts : Accounts) (place : Queued) (row : Outgoing) → ShowsAccounts tables accounts → HasRow accounts place row → IsQueued tables place
+pub row_queued : (tables : Tables) (accounts : Accounts) (place : QueueKey) (row : QueuedMessage) → ShowsAccounts tables accounts → HasRow accounts place row → IsQueued tables place
 row_queued tables accounts place row shows has =
     let shown : IsShown place.user (rows_of place.user tables) has.0 = subst (IsShownOrAbsent place.user (rows_of place.user tables)) (open_there (get accounts place.user) has.0 has.1) (shows.users place.user) in
     let there : Has has.0.queue row = found_has place.id has.0.queue row has.2 in
@@ -169,7 +169,7 @@ both_equal Equal b is = (refl, is)
 both_equal Greater b is = absurd (let never = is in cc)
 
 -- neither before nor after is the same
-pub one_place : (p q : Queued) → (IsAfter p q → ⊥) → (IsAfter q p → ⊥) → p ≡ q
+pub one_place : (p q : QueueKey) → (IsKeyAfter p q → ⊥) → (IsKeyAfter q p → ⊥) → p ≡ q
 one_place p q not_before not_after = by (queued_cmp p q) refl
   where
     by : (o : Ordering) → queued_cmp p q ≡ o → p ≡ q
@@ -182,36 +182,36 @@ one_place p q not_before not_after = by (queued_cmp p q) refl
     by Greater is = absurd (not_after (queued_total.antisymm q p ∙ ap ordering_reverse is))
 
 -- ---- the place of the next row
-module _ (waits : Waits) (now : ℕ) (start : Queued) (a b : State) where
+module _ (waits : RowWaits) (now : ℕ) (start : QueueKey) (a b : State) where
   abbrev Stands : Accounts → Step → Type 0
   Stands = IsStep waits now start
 
   -- no row stands after the place; or none until there
-  abbrev Comes : Accounts → Option Queued → Type 0
-  Comes accounts None = (place : Queued) (row : Outgoing) → IsAfter start place → HasRow accounts place row → ⊥
-  Comes accounts (Some next) = IsAfter start next × ((place : Queued) (row : Outgoing) → IsAfter start place → HasRow accounts place row → IsAfter place next → ⊥)
+  abbrev Comes : Accounts → Option QueueKey → Type 0
+  Comes accounts None = (place : QueueKey) (row : QueuedMessage) → IsKeyAfter start place → HasRow accounts place row → ⊥
+  Comes accounts (Some next) = IsKeyAfter start next × ((place : QueueKey) (row : QueuedMessage) → IsKeyAfter start place → HasRow accounts place row → IsKeyAfter place next → ⊥)
 
-  comes_by : (tables : Tables) (accounts : Accounts) (next : Option Queued) → ShowsAccounts tables accounts → IsNextQueued start next tables → Comes accounts next
+  comes_by : (tables : Tables) (accounts : Accounts) (next : Option QueueKey) → ShowsAccounts tables accounts → IsNextQueued start next tables → Comes accounts next
   comes_by tables accounts None shows least = λ place row after has. least place (row_queued tables accounts place row shows has) after
   comes_by tables accounts (Some next) shows least = (least.1, λ place row after has before. least.2 place (row_queued tables accounts place row shows has) after before)
 
-  pub next_comes : (r : Result (Option Queued) Refusal) → FindsAll (IsNextQueued start) a b r → Works (Reads Comes r) a b
+  pub next_comes : (r : Result (Option QueueKey) Refusal) → FindsAll (IsNextQueued start) a b r → QueueWorks (QueueReads Comes r) a b
   next_comes (Err e) finds = works_read a b (Err e) Comes (Err e) finds.keeps (λ clean accounts shown. tt)
   next_comes (Ok next) finds = works_read a b (Ok next) Comes (Ok next) finds.keeps (λ clean accounts shown.
       let p = (read_shows a b (Ok next) next refl finds.keeps clean accounts shown).0 in
       comes_by p.0 accounts next p.2 (finds.found clean p.0 p.1))
 
-  module _ (r : Result (Option Queued) Refusal) (finds : FindsAll (IsNextQueued start) a b r) where
-    step_as : (o : Result Step Refusal) → ((accounts : Accounts) → IfOk r (Comes accounts) → IfOk o (Stands accounts)) → Works (Reads Stands o) a b
-    step_as o by = works_as a b (Reads Comes r) (Reads Stands o) (λ accounts later h. (h.0, by accounts h.1)) (next_comes r finds)
+  module _ (r : Result (Option QueueKey) Refusal) (finds : FindsAll (IsNextQueued start) a b r) where
+    step_as : (o : Result Step Refusal) → ((accounts : Accounts) → IfOk r (Comes accounts) → IfOk o (Stands accounts)) → QueueWorks (QueueReads Stands o) a b
+    step_as o by = works_as a b (QueueReads Comes r) (QueueReads Stands o) (λ accounts later h. (h.0, by accounts h.1)) (next_comes r finds)
 
-    pub none_next : r ≡ Ok None → Works (Reads Stands (Ok End)) a b
+    pub none_next : r ≡ Ok None → QueueWorks (QueueReads Stands (Ok End)) a b
     none_next is = step_as (Ok End) (λ accounts comes place row after has due. subst (λ o. IfOk o (Comes accounts)) is comes place row after has)
 
-    pub not_next : (e : Refusal) (o : Result Step Refusal) → o ≡ Err e → Works (Reads Stands o) a b
+    pub not_next : (e : Refusal) (o : Result Step Refusal) → o ≡ Err e → QueueWorks (QueueReads Stands o) a b
     not_next e o is = step_as o (λ accounts comes. subst (λ x. IfOk x (Stands accounts)) (sym is) tt)
 
-    module _ (next : Queued) (is : r ≡ Ok (Some next)) where
+    module _ (next : QueueKey) (is : r ≡ Ok (Some next)) where
       abbrev At : Accounts → Type 0
       At accounts = Comes accounts (Some next)
 
@@ -219,30 +219,30 @@ module _ (waits : Waits) (now : ℕ) (start : Queued) (a b : State) where
       comes_at accounts comes = subst (λ o. IfOk o (Comes accounts)) is comes
 
       -- until there nothing is due, where the row there isn't
-      past_by : (accounts : Accounts) → At accounts → ((row : Outgoing) → HasRow accounts next row → is_due waits now next ≡ true → ⊥) → IsPast waits now start next accounts
+      past_by : (accounts : Accounts) → At accounts → ((row : QueuedMessage) → HasRow accounts next row → is_key_due waits now next ≡ true → ⊥) → IsPast waits now start next accounts
       past_by accounts comes not = record {
         after = comes.0;
         none = λ place row here has due.
             let same : place ≡ next = one_place place next (comes.1 place row here.0 has) here.1 in
-            not row (subst (λ p. HasRow accounts p row) same has) (subst (λ p. is_due waits now p ≡ true) same due);
+            not row (subst (λ p. HasRow accounts p row) same has) (subst (λ p. is_key_due waits now p ≡ true) same due);
       }
 
-      pub past_next : is_due waits now next ≡ false → Works (Reads Stands (Ok (Past next))) a b
+      pub past_next : is_key_due waits now next ≡ false → QueueWorks (QueueReads Stands (Ok (Past next))) a b
       past_next not = step_as (Ok (Past next)) (λ accounts comes. past_by accounts (comes_at accounts comes) (λ row has due. true≢false (sym due ∙ not)))
 
-      module _ (c : State) (q : Result (Option Outgoing) Refusal) (row : Sees (IsRowAt next) b c q) where
-        step_by : (o : Result Step Refusal) → ((accounts : Accounts) → At accounts → IfOk q (IsRowAt next accounts) → IfOk o (Stands accounts)) → Works (Reads Stands o) a c
+      module _ (c : State) (q : Result (Option QueuedMessage) Refusal) (row : Sees (IsRowAt next) b c q) where
+        step_by : (o : Result Step Refusal) → ((accounts : Accounts) → At accounts → IfOk q (IsRowAt next accounts) → IfOk o (Stands accounts)) → QueueWorks (QueueReads Stands o) a c
         step_by o by =
-            works_then a b c (Reads Comes r) (Reads (IsRowAt next) q) (Reads Stands o)
+            works_then a b c (QueueReads Comes r) (QueueReads (IsRowAt next) q) (QueueReads Stands o)
             (λ accounts mid later one two. (two.0 ∙ one.0, by accounts (comes_at accounts one.1) (subst (λ all. IfOk q (IsRowAt next all)) one.0 two.1))) (next_comes r finds) (works_seen b c q (IsRowAt next) row)
 
-        pub step_unread : (e : Refusal) (o : Result Step Refusal) → o ≡ Err e → Works (Reads Stands o) a c
+        pub step_unread : (e : Refusal) (o : Result Step Refusal) → o ≡ Err e → QueueWorks (QueueReads Stands o) a c
         step_unread e o told = step_by o (λ accounts comes has. subst (λ x. IfOk x (Stands accounts)) (sym told) tt)
 
-        pub step_past : q ≡ Ok None → Works (Reads Stands (Ok (Past next))) a c
+        pub step_past : q ≡ Ok None → QueueWorks (QueueReads Stands (Ok (Past next))) a c
         step_past told = step_by (Ok (Past next)) (λ accounts comes none. past_by accounts comes (λ row has due. subst (λ x. IfOk x (IsRowAt next accounts)) told none row has))
 
-        pub step_due : (found : Outgoing) → q ≡ Ok (Some found) → is_due waits now next ≡ true → Works (Reads Stands (Ok (Due (record { place = next; row = found })))) a c
+        pub step_due : (found : QueuedMessage) → q ≡ Ok (Some found) → is_key_due waits now next ≡ true → QueueWorks (QueueReads Stands (Ok (Due (record { place = next; row = found })))) a c
         step_due found told due = step_by (Ok (Due (record { place = next; row = found })))
             (λ accounts comes has. record {
               after = comes.0;
@@ -254,19 +254,19 @@ module _ (waits : Waits) (now : ℕ) (start : Queued) (a b : State) where
 -- ---- steps in turn
 
 -- the steps came to a place; none until there is due
-abbrev pub IsFrom : Waits → ℕ → Queued → Queued → Accounts → Type 0
+abbrev pub IsFrom : RowWaits → ℕ → QueueKey → QueueKey → Accounts → Type 0
 IsFrom waits now start place accounts = (place ≡ start) ⊎ IsPast waits now start place accounts
 
-abbrev pub StepsTo : Waits → ℕ → Queued → Queued → Accounts → Accounts → Type 0
+abbrev pub StepsTo : RowWaits → ℕ → QueueKey → QueueKey → Accounts → Accounts → Type 0
 StepsTo waits now start place accounts later = (later ≡ accounts) × IsFrom waits now start place accounts
 
-pub steps_begin : (waits : Waits) (now : ℕ) (start : Queued) (a : State) → Works (StepsTo waits now start start) a a
+pub steps_begin : (waits : RowWaits) (now : ℕ) (start : QueueKey) (a : State) → QueueWorks (StepsTo waits now start start) a a
 steps_begin waits now start a = works_not a (StepsTo waits now start start) (λ accounts. (refl, inl refl))
 
-module _ (waits : Waits) (now : ℕ) (start place : Queued) where
+module _ (waits : RowWaits) (now : ℕ) (start place : QueueKey) where
   -- a place after the start is after the other one, or it isn't
-  after_then : (accounts : Accounts) → IsFrom waits now start place accounts → (next : Queued) → IsAfter place next → IsAfter start next
-  after_then accounts (inl same) next after = subst (λ p. IsAfter p next) same after
+  after_then : (accounts : Accounts) → IsFrom waits now start place accounts → (next : QueueKey) → IsKeyAfter place next → IsKeyAfter start next
+  after_then accounts (inl same) next after = subst (λ p. IsKeyAfter p next) same after
   after_then accounts (inr past) next after = queued_total.trans start place next past.after after
 
   is_after : (o : Ordering) → (o ≡ Less) ⊎ (o ≡ Less → ⊥)
@@ -275,51 +275,51 @@ module _ (waits : Waits) (now : ℕ) (start place : Queued) where
   is_after Greater = inr (λ is. let never = is in cc)
 
   -- nothing is due among these, where nothing is among those that stand after the place
-  none_then : (accounts : Accounts) (Here : Queued → Type 0) → IsFrom waits now start place accounts → ((other : Queued) → Here other → IsAfter start other)
-      → IsNoneDue waits now (λ other. IsAfter place other × Here other) accounts → IsNoneDue waits now Here accounts
-  none_then accounts Here (inl same) within none other row here has due = none other row (subst (λ p. IsAfter p other) (sym same) (within other here), here) has due
+  none_then : (accounts : Accounts) (Here : QueueKey → Type 0) → IsFrom waits now start place accounts → ((other : QueueKey) → Here other → IsKeyAfter start other)
+      → IsNoneDue waits now (λ other. IsKeyAfter place other × Here other) accounts → IsNoneDue waits now Here accounts
+  none_then accounts Here (inl same) within none other row here has due = none other row (subst (λ p. IsKeyAfter p other) (sym same) (within other here), here) has due
   none_then accounts Here (inr past) within none other row here has due = elim (is_after (queued_cmp place other)) [
     | inl after ↦ none other row (after, here) has due
     | inr not ↦ past.none other row (within other here, not) has due
   ]
 
-  module _ (a b c : State) (steps : Works (StepsTo waits now start place) a b) (r : Result Step Refusal) (last : Works (Reads (IsStep waits now place) r) b c) where
-    by_steps : (C : Accounts → Accounts → Type 0) → ((accounts : Accounts) → IsFrom waits now start place accounts → IfOk r (IsStep waits now place accounts) → C accounts accounts) → Works C a c
+  module _ (a b c : State) (steps : QueueWorks (StepsTo waits now start place) a b) (r : Result Step Refusal) (last : QueueWorks (QueueReads (IsStep waits now place) r) b c) where
+    by_steps : (C : Accounts → Accounts → Type 0) → ((accounts : Accounts) → IsFrom waits now start place accounts → IfOk r (IsStep waits now place accounts) → C accounts accounts) → QueueWorks C a c
     by_steps C by =
-        works_then a b c (StepsTo waits now start place) (Reads (IsStep waits now place) r) C
+        works_then a b c (StepsTo waits now start place) (QueueReads (IsStep waits now place) r) C
         (λ accounts mid later one two. subst (C accounts) (sym (two.0 ∙ one.0)) (by accounts one.1 (subst (λ all. IfOk r (IsStep waits now place all)) one.0 two.1))) steps last
 
-    pub steps_on : (next : Queued) → r ≡ Ok (Past next) → Works (StepsTo waits now start next) a c
+    pub steps_on : (next : QueueKey) → r ≡ Ok (Past next) → QueueWorks (StepsTo waits now start next) a c
     steps_on next is = by_steps (StepsTo waits now start next) (λ accounts from step.
         let past : IsPast waits now place next accounts = subst (λ o. IfOk o (IsStep waits now place accounts)) is step in (
           refl,
           inr (record {
             after = after_then accounts from next past.after;
-            none = none_then accounts (λ other. IsAfter start other × (IsAfter next other → ⊥)) from (λ other here. here.0) (λ other row here has due. past.none other row (here.0, here.1.1) has due);
+            none = none_then accounts (λ other. IsKeyAfter start other × (IsKeyAfter next other → ⊥)) from (λ other here. here.0) (λ other row here has due. past.none other row (here.0, here.1.1) has due);
           }),
         ))
 
-    pub steps_end : r ≡ Ok End → Works (Reads (IsFound waits now start) (Ok None)) a c
-    steps_end is = by_steps (Reads (IsFound waits now start) (Ok None)) (λ accounts from step.
-        let none : IsNoneDue waits now (IsAfter place) accounts = subst (λ o. IfOk o (IsStep waits now place accounts)) is step in
-        (refl, none_then accounts (IsAfter start) from (λ other here. here) (λ other row here has due. none other row here.0 has due)))
+    pub steps_end : r ≡ Ok End → QueueWorks (QueueReads (IsDueRowFound waits now start) (Ok None)) a c
+    steps_end is = by_steps (QueueReads (IsDueRowFound waits now start) (Ok None)) (λ accounts from step.
+        let none : IsNoneDue waits now (IsKeyAfter place) accounts = subst (λ o. IfOk o (IsStep waits now place accounts)) is step in
+        (refl, none_then accounts (IsKeyAfter start) from (λ other here. here) (λ other row here has due. none other row here.0 has due)))
 
-    pub steps_unread : (e : Refusal) (q : Result (Option Post) Refusal) → q ≡ Err e → Works (Reads (IsFound waits now start) q) a c
-    steps_unread e q told = by_steps (Reads (IsFound waits now start) q) (λ accounts from step. (refl, subst (λ o. IfOk o (IsFound waits now start accounts)) (sym told) tt))
+    pub steps_unread : (e : Refusal) (q : Result (Option DueRow) Refusal) → q ≡ Err e → QueueWorks (QueueReads (IsDueRowFound waits now start) q) a c
+    steps_unread e q told = by_steps (QueueReads (IsDueRowFound waits now start) q) (λ accounts from step. (refl, subst (λ o. IfOk o (IsDueRowFound waits now start accounts)) (sym told) tt))
 
-    pub steps_due : (post : Post) → r ≡ Ok (Due post) → Works (Reads (IsFound waits now start) (Ok (Some post))) a c
-    steps_due post is = by_steps (Reads (IsFound waits now start) (Ok (Some post)))
+    pub steps_due : (post : DueRow) → r ≡ Ok (Due post) → QueueWorks (QueueReads (IsDueRowFound waits now start) (Ok (Some post))) a c
+    steps_due post is = by_steps (QueueReads (IsDueRowFound waits now start) (Ok (Some post)))
         (λ accounts from step.
-        let next : IsNext waits now place accounts post = subst (λ o. IfOk o (IsStep waits now place accounts)) is step in (
+        let next : IsNextDueRow waits now place accounts post = subst (λ o. IfOk o (IsStep waits now place accounts)) is step in (
           refl,
           record {
             after = after_then accounts from post.place next.after;
             due = next.due;
             row = next.row;
-            first = none_then accounts (λ other. IsAfter start other × IsAfter other post.place) from (λ other here. here.0) (λ other row here has due. next.first other row (here.0, here.1.1) has due);
+            first = none_then accounts (λ other. IsKeyAfter start other × IsKeyAfter other post.place) from (λ other here. here.0) (λ other row here has due. next.first other row (here.0, here.1.1) has due);
           },
         ))
 
 -- there are fewer rows
-pub steps_past : (waits : Waits) (now : ℕ) (start place : Queued) (e : Refusal) (a b : State) → Works (StepsTo waits now start place) a b → Works (Reads (IsFound waits now start) (Err e)) a b
-steps_past waits now start place e a b steps = works_as a b (StepsTo waits now start place) (Reads (IsFound waits now start) (Err e)) (λ accounts later h. (h.0, tt)) steps
+pub steps_past : (waits : RowWaits) (now : ℕ) (start place : QueueKey) (e : Refusal) (a b : State) → QueueWorks (StepsTo waits now start place) a b → QueueWorks (QueueReads (IsDueRowFound waits now start) (Err e)) a b
+steps_past waits now start place e a b steps = works_as a b (StepsTo waits now start place) (QueueReads (IsDueRowFound waits now start) (Err e)) (λ accounts later h. (h.0, tt)) steps

@@ -1,19 +1,19 @@
 -- Right cases of the definitions, and near misses.
 use Rattle.std.proofs.Common.{◌≡◌, ◌++◌, ◌∷◌, [], true, false, codes, refl, ap, arith, Some, None}
 use Rattle.std.proofs.lemmas.Fmt.{decimal_digit}
-use Rattle.smtpclient.specs.declared.dialogue.Ending.TheVariants.{Sent, Refused, Delayed}
+use Rattle.smtp_dialogue.specs.declared.dialogue.Ending.TheVariants.{Sent, Refused, Delayed}
 use Rattle.std.specs.declared.cmp.Ordering.TheVariants.{Less, Greater}
-use Rattle.sendwaits.specs.Lines.{row_line}
-use Rattle.sendwaits.specs.Waits.{place, place_cmp, allows, pause_after, wait_after, is_kept}
+use Rattle.smtp_queue.specs.Lines.{row_line}
+use Rattle.smtp_queue.specs.Waits.{row_key, row_key_cmp, allows, pause_after, wait_after, is_wait_kept}
 
 -- a later number of the same user, a later user; no earlier user with a higher number
-later_number : place_cmp (place (codes "ann") 7) (place (codes "ann") 8) ≡ Less
+later_number : row_key_cmp (row_key (codes "ann") 7) (row_key (codes "ann") 8) ≡ Less
 later_number = refl
 
-later_user : place_cmp (place (codes "ann") 7) (place (codes "bob") 1) ≡ Less
+later_user : row_key_cmp (row_key (codes "ann") 7) (row_key (codes "bob") 1) ≡ Less
 later_user = refl
 
-not_earlier : place_cmp (place (codes "ann") 7) (place (codes "abe") 9) ≡ Greater
+not_earlier : row_key_cmp (row_key (codes "ann") 7) (row_key (codes "abe") 9) ≡ Greater
 not_earlier = refl
 
 -- a row that waits until 100 is due at 100 and not at 99; one of which nothing is known is
@@ -57,19 +57,19 @@ sent_then : wait_after 1 Sent 200 ≡ None
 sent_then = refl
 
 -- a wait is kept for two days
-kept_then : is_kept 172899 (record { due = 100; tries = 1 }) ≡ true
+kept_then : is_wait_kept 172899 (record { due = 100; tries = 1 }) ≡ true
 kept_then = refl
 
-not_after : is_kept 172900 (record { due = 100; tries = 1 }) ≡ false
+not_after : is_wait_kept 172900 (record { due = 100; tries = 1 }) ≡ false
 not_after = refl
 
 -- nor one that lies farther ahead
-kept_before : is_kept 100 (record { due = 172900; tries = 1 }) ≡ true
+kept_before : is_wait_kept 100 (record { due = 172900; tries = 1 }) ≡ true
 kept_before = refl
 
-not_ahead : is_kept 100 (record { due = 172901; tries = 1 }) ≡ false
+not_ahead : is_wait_kept 100 (record { due = 172901; tries = 1 }) ≡ false
 not_ahead = refl
 
 -- what is printed
-sent_line : row_line (place (codes "ann") 7) Sent ≡ codes "sent ann 7" ++ 10 ∷ []
+sent_line : row_line (row_key (codes "ann") 7) Sent ≡ codes "sent ann 7" ++ 10 ∷ []
 sent_line = ap (λ digits. (codes "sent " ++ (codes "ann" ++ 32 ∷ digits)) ++ 10 ∷ []) (decimal_digit 7 (omega arith))

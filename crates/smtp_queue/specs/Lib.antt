@@ -1,2 +1,5 @@
-pub mod Posts
+pub mod Lines
+pub mod Texts
+pub mod Waits
+pub mod DueRows
 pub mod Queues

@@ -1,22 +1,22 @@
 //! What came of rows is told on two outputs, and noted.
 ghost use Rattle.std.specs.Prelude.{◌≡◌};
 
-use crate::clock::Clock;
+use crate::clock::SendClock;
 use crate::line::{changed_line, gone_line, is_for_good, place_line, refusal_line, row_line};
-use crate::place::Place;
-use crate::waits::Waits;
-use mailsenders::{Journal, Unwritten};
+use crate::row_key::RowKey;
+use crate::waits::RowWaits;
+use smtp_send::{Journal, Unwritten};
 use octets::Octets;
-use smtpclient::Ending;
+use smtp_dialogue::Ending;
 use std::alloc::{AllocError, Global};
 use std::io::Write;
 
 /// A journal: tells what came of each row on an output, and of those that are permanently refused, or whose number
 /// another one has, on another, too; keeps what is known of rows that wait, which row was tried last, and how many
 /// were.
-pub struct Book<'a, W: Write, E: Write, T: Clock> {
+pub struct Book<'a, W: Write, E: Write, T: SendClock> {
     alloc: Global,
-    memory: Memory,
+    memory: NotedWaits,
     output: &'a mut W,
     errors: &'a mut E,
     clock: &'a mut T,
@@ -24,9 +24,9 @@ pub struct Book<'a, W: Write, E: Write, T: Clock> {
 
 /// What is known at the end of a run.
 #[derive(Drop)]
-pub struct Memory {
+pub struct NotedWaits {
     /// What is known of rows that were tried without success.
-    pub waits: Waits,
+    pub waits: RowWaits,
     /// The user and the number of the row that was tried last.
     pub last: Octets,
     /// How many rows were sent.
@@ -35,18 +35,18 @@ pub struct Memory {
     pub waiting: u64,
 }
 
-impl<'a, W: Write, E: Write, T: Clock> Book<'a, W, E, T> {
+impl<'a, W: Write, E: Write, T: SendClock> Book<'a, W, E, T> {
     /// With what was known before of rows that were tried without success.
     pub fn new(
         alloc: Global,
-        waits: Waits,
+        waits: RowWaits,
         output: &'a mut W,
         errors: &'a mut E,
         clock: &'a mut T,
     ) -> Book<'a, W, E, T> {
         Book {
             alloc,
-            memory: Memory {
+            memory: NotedWaits {
                 waits,
                 last: Octets::new(alloc),
                 sent: 0,
@@ -59,7 +59,7 @@ impl<'a, W: Write, E: Write, T: Clock> Book<'a, W, E, T> {
     }
 
     /// What is known at the end of a run.
-    pub fn into_memory(self) -> Memory
+    pub fn into_memory(self) -> NotedWaits
         ensures { result ≡ self.entry.memory }
     {
         let Book {
@@ -73,9 +73,9 @@ impl<'a, W: Write, E: Write, T: Clock> Book<'a, W, E, T> {
     }
 }
 
-impl Memory {
+impl NotedWaits {
     // A row was tried, and ended so. Without memory nothing is known of it, and it is due at once.
-    fn note(&mut self, place: Place, ending: Ending, moment: u64) {
+    fn note(&mut self, place: RowKey, ending: Ending, moment: u64) {
         let count = match ending {
             Ending::Sent => &mut self.sent,
             _ => &mut self.waiting,
@@ -85,7 +85,7 @@ impl Memory {
     }
 }
 
-impl<W: Write, E: Write, T: Clock> Journal for Book<'_, W, E, T> {
+impl<W: Write, E: Write, T: SendClock> Journal for Book<'_, W, E, T> {
     fn begin(&mut self, user: &[u8], id: u64) {
         self.memory.last = match place_line(self.alloc, user, id) {
             Ok(line) => line,
@@ -94,7 +94,7 @@ impl<W: Write, E: Write, T: Clock> Journal for Book<'_, W, E, T> {
     }
 
     fn note(&mut self, user: &[u8], id: u64, ending: Ending) -> Result<(), Unwritten> {
-        let Ok(place) = Place::new(self.alloc, user, id) else {
+        let Ok(place) = RowKey::new(self.alloc, user, id) else {
             return Err(Unwritten);
         };
         let row = row_line(self.alloc, &place, ending);
@@ -107,13 +107,13 @@ impl<W: Write, E: Write, T: Clock> Journal for Book<'_, W, E, T> {
     }
 
     fn tell_changed(&mut self, user: &[u8], id: u64) {
-        if let Ok(place) = Place::new(self.alloc, user, id) {
+        if let Ok(place) = RowKey::new(self.alloc, user, id) {
             let _ = print(self.errors, changed_line(self.alloc, &place));
         }
     }
 
     fn tell_gone(&mut self, user: &[u8], id: u64) {
-        if let Ok(place) = Place::new(self.alloc, user, id) {
+        if let Ok(place) = RowKey::new(self.alloc, user, id) {
             let _ = print(self.errors, gone_line(self.alloc, &place));
         }
     }

@@ -1,7 +1,7 @@
 //! The clock, and waiting.
 
 /// Tells the moment, and waits.
-pub trait Clock {
+pub trait SendClock {
     /// The moment, in seconds since 1970-01-01 UTC.
     fn moment(&mut self) -> u64;
 

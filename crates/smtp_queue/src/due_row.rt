@@ -1,20 +1,20 @@
 //! Rows that are due, in a store that is taken.
 ghost use Rattle.std.specs.Prelude.{◌≡◌, ◌↔◌, IfOk, IsTrue};
 ghost use Rattle.sqlite.specs.Held.{state};
-ghost use Rattle.sendqueues.specs.Posts as s;
-ghost use Rattle.sendqueues.specs.Posts.{HasOctets, IsFound, IsRowAt, IsStep, Reads, Sees, TakesRow, Works};
+ghost use Rattle.smtp_queue.specs.DueRows as s;
+ghost use Rattle.smtp_queue.specs.DueRows.{OutgoingHasOctets, IsDueRowFound, IsRowAt, IsStep, QueueReads, Sees, QueueTakesRow, QueueWorks};
 
-use mailsenders::{Row, TakenOut};
-use mailstore::{Outgoing, Queued, Refusal, Store};
-use sendwaits::{Place, Waits};
+use smtp_send::{DueMessage, TakenOut};
+use store_accounts::{QueuedMessage, QueueKey, Refusal, Store};
+use crate::{RowKey, RowWaits};
 use sqlite::Alter;
 use std::alloc::{AllocError, Global};
 
 /// A row of a queue, with its place.
 #[derive(Drop)]
-pub struct Post {
-    pub place: Queued,
-    pub row: Outgoing,
+pub struct DueRow {
+    pub place: QueueKey,
+    pub row: QueuedMessage,
 }
 
 /// What comes after a place.
@@ -23,21 +23,21 @@ enum Step {
     /// No row.
     End,
     /// A row that isn't due.
-    Past(Queued),
+    Past(QueueKey),
     /// A row that is.
-    Due(Post),
+    Due(DueRow),
 }
 
 /// Whether the row at a place is due at a moment. Lack of memory is the only error.
-fn is_due(alloc: Global, waits: &Waits, place: &Queued, now: u64) -> Result<bool, AllocError>
-    ensures { IfOk result (λ due. due ≡ s.is_due waits.now now place.now) }
+fn is_due(alloc: Global, waits: &RowWaits, place: &QueueKey, now: u64) -> Result<bool, AllocError>
+    ensures { IfOk result (λ due. due ≡ s.is_key_due waits.now now place.now) }
 {
-    let at = Place::new(alloc, place.user.as_slice(), place.id)?;
+    let at = RowKey::new(alloc, place.user.as_slice(), place.id)?;
     Ok(waits.is_due(&at, now))
 }
 
 /// The row at a place; none if there is none, and if the user's account isn't open.
-fn row_at<S: Alter>(store: &mut Store<S>, place: &Queued) -> Result<Option<Outgoing>, Refusal>
+fn row_at<S: Alter>(store: &mut Store<S>, place: &QueueKey) -> Result<Option<QueuedMessage>, Refusal>
     ensures { Sees (IsRowAt place.now) (state S.Store store.old) (state S.Store store.new) result }
 {
     let found = store.outgoing(place.user.as_slice(), place.id);
@@ -51,11 +51,11 @@ fn row_at<S: Alter>(store: &mut Store<S>, place: &Queued) -> Result<Option<Outgo
 fn step_from<S: Alter>(
     alloc: Global,
     store: &mut Store<S>,
-    start: &Queued,
-    waits: &Waits,
+    start: &QueueKey,
+    waits: &RowWaits,
     now: u64,
 ) -> Result<Step, Refusal>
-    ensures { Works (Reads (IsStep waits.now now start.now) result) (state S.Store store.old) (state S.Store store.new) }
+    ensures { QueueWorks (QueueReads (IsStep waits.now now start.now) result) (state S.Store store.old) (state S.Store store.new) }
 {
     let Some(place) = store.next_queued(start)? else {
         return Ok(Step::End);
@@ -65,7 +65,7 @@ fn step_from<S: Alter>(
         return Ok(Step::Past(place));
     }
     match row_at(store, &place)? {
-        Some(row) => Ok(Step::Due(Post { place, row })),
+        Some(row) => Ok(Step::Due(DueRow { place, row })),
         None => Ok(Step::Past(place)),
     }
 }
@@ -75,11 +75,11 @@ fn step_from<S: Alter>(
 pub(crate) fn find_post<S: Alter>(
     alloc: Global,
     store: &mut Store<S>,
-    start: Queued,
-    waits: &Waits,
+    start: QueueKey,
+    waits: &RowWaits,
     now: u64,
-) -> Result<Option<Post>, Refusal>
-    ensures { Works (Reads (IsFound waits.now now start) result) (state S.Store store.old) (state S.Store store.new) }
+) -> Result<Option<DueRow>, Refusal>
+    ensures { QueueWorks (QueueReads (IsDueRowFound waits.now now start) result) (state S.Store store.old) (state S.Store store.new) }
 {
     let mut place = start;
     for _ in 0..u64::MAX {
@@ -94,8 +94,8 @@ pub(crate) fn find_post<S: Alter>(
 }
 
 /// Whether a row has the sender, the target and the message of one that was sent. Time is linear in its octets.
-fn has_octets(row: &Outgoing, sent: &Row) -> bool
-    ensures { IsTrue result ↔ HasOctets sent.now row.now }
+fn has_octets(row: &QueuedMessage, sent: &DueMessage) -> bool
+    ensures { IsTrue result ↔ OutgoingHasOctets sent.now row.now }
 {
     row.sender == sent.sender && row.target == sent.target && row.message == sent.message
 }
@@ -107,10 +107,10 @@ fn has_octets(row: &Outgoing, sent: &Row) -> bool
 /// The row is still there.
 pub(crate) fn take_row<S: Alter>(
     store: &mut Store<S>,
-    place: &Queued,
-    sent: &Row,
+    place: &QueueKey,
+    sent: &DueMessage,
 ) -> Result<TakenOut, Refusal>
-    ensures { Works (TakesRow place.now sent.now result) (state S.Store store.old) (state S.Store store.new) }
+    ensures { QueueWorks (QueueTakesRow place.now sent.now result) (state S.Store store.old) (state S.Store store.new) }
 {
     let Some(row) = row_at(store, place)? else {
         return Ok(TakenOut::Gone);

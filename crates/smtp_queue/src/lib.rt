@@ -1,12 +1,31 @@
-//! The queues of a store as a run of `send` needs them: rows that are due, one after the other.
+//! What a run that sends knows of rows that were tried without success: until when each waits, as a text between two runs, and what is
+//! told of rows.
 #![tactic(auto)]
 
-pub mod held;
-pub mod post;
+pub mod book;
+pub mod clock;
+pub mod line;
+pub mod row_key;
+pub mod text;
+pub mod wait;
+pub mod waits;
+
+pub use book::{Book, NotedWaits};
+pub use clock::SendClock;
+pub use line::tally_line;
+pub use row_key::RowKey;
+pub use text::{read_waits, write_waits};
+pub use wait::Wait;
+pub use waits::RowWaits;
+
+// The queues of a store as a run of `send` needs them: rows that are due, one after the other.
+
+pub mod queue_store;
+pub mod due_row;
 pub mod queue;
 pub mod run;
 
-pub use held::Search;
-pub use post::Post;
+pub use queue_store::Search;
+pub use due_row::DueRow;
 pub use queue::StoreQueue;
 pub use run::{Ended, send_due};

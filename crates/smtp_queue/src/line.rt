@@ -1,11 +1,11 @@
 //! What is printed of rows.
 ghost use Rattle.std.specs.Prelude.{◌≡◌, ◌++◌, decimal, IfOk, OnOk};
-ghost use Rattle.sendwaits.specs.Lines as s;
-ghost use Rattle.sendwaits.specs.Waits as waits;
+ghost use Rattle.smtp_queue.specs.Lines as s;
+ghost use Rattle.smtp_queue.specs.Waits as waits;
 
-use crate::place::Place;
+use crate::row_key::RowKey;
 use octets::{Octets, write_decimal};
-use smtpclient::Ending;
+use smtp_dialogue::Ending;
 use std::alloc::{AllocError, Global};
 
 /// Whether a row that ended so is told as an error: another try needs somebody who looks after it.
@@ -19,7 +19,7 @@ pub(crate) fn is_for_good(ending: Ending) -> bool
 }
 
 /// The line on a row that was tried: `sent USER ID`, or `waits USER ID: CAUSE`. Lack of memory is the only error.
-pub fn row_line(alloc: Global, place: &Place, ending: Ending) -> Result<Octets, AllocError>
+pub fn row_line(alloc: Global, place: &RowKey, ending: Ending) -> Result<Octets, AllocError>
     ensures { IfOk result (λ line. line ≡ s.row_line place.now ending) }
 {
     let mut line = Octets::new(alloc);
@@ -36,7 +36,7 @@ pub fn row_line(alloc: Global, place: &Place, ending: Ending) -> Result<Octets, 
 }
 
 /// The line on a row that is permanently refused: `sieved: USER ID: CAUSE`. Lack of memory is the only error.
-pub fn refusal_line(alloc: Global, place: &Place, ending: Ending) -> Result<Octets, AllocError>
+pub fn refusal_line(alloc: Global, place: &RowKey, ending: Ending) -> Result<Octets, AllocError>
     ensures { IfOk result (λ line. line ≡ s.refusal_line place.now ending) }
 {
     let mut line = Octets::new(alloc);
@@ -49,7 +49,7 @@ pub fn refusal_line(alloc: Global, place: &Place, ending: Ending) -> Result<Octe
 
 /// The line on a row that was sent, if another one has its number now: `sieved: USER ID: another message has the number now`. Lack of
 /// memory is the only error.
-pub fn changed_line(alloc: Global, place: &Place) -> Result<Octets, AllocError>
+pub fn changed_line(alloc: Global, place: &RowKey) -> Result<Octets, AllocError>
     ensures { IfOk result (λ line. line ≡ s.changed_line place.now) }
 {
     let mut line = Octets::new(alloc);
@@ -62,7 +62,7 @@ pub fn changed_line(alloc: Global, place: &Place) -> Result<Octets, AllocError>
 
 /// The line on a row that was sent, and is in the queue of no open account any more: `sieved: USER ID: taken out meanwhile, or the account
 /// is closed`. Lack of memory is the only error.
-pub fn gone_line(alloc: Global, place: &Place) -> Result<Octets, AllocError>
+pub fn gone_line(alloc: Global, place: &RowKey) -> Result<Octets, AllocError>
     ensures { IfOk result (λ line. line ≡ s.gone_line place.now) }
 {
     let mut line = Octets::new(alloc);
@@ -87,7 +87,7 @@ pub fn tally_line(alloc: Global, sent: u64, waiting: u64) -> Result<Octets, Allo
 }
 
 /// The user and the number of a row.
-pub(crate) fn put_place(line: &mut Octets, place: &Place) -> Result<(), AllocError>
+pub(crate) fn put_place(line: &mut Octets, place: &RowKey) -> Result<(), AllocError>
     ensures { OnOk result (line.new ≡ line.old ++ s.place_text place.now) }
 {
     line.extend_from_slice(place.user.as_slice())?;
@@ -120,9 +120,9 @@ fn put_code(line: &mut Octets, text: &[u8], code: u16) -> Result<(), AllocError>
 
 /// The user and the number of a row. Lack of memory is the only error.
 pub(crate) fn place_line(alloc: Global, user: &[u8], id: u64) -> Result<Octets, AllocError>
-    ensures { IfOk result (λ line. line ≡ s.place_text (waits.place user.now id)) }
+    ensures { IfOk result (λ line. line ≡ s.place_text (waits.row_key user.now id)) }
 {
     let mut line = Octets::new(alloc);
-    put_place(&mut line, &Place::new(alloc, user, id)?)?;
+    put_place(&mut line, &RowKey::new(alloc, user, id)?)?;
     Ok(line)
 }

@@ -1,12 +1,12 @@
 //! The queues of the store that a keeper has.
 ghost use Rattle.std.specs.Prelude.{◌≡◌, None, IfOk};
-ghost use Rattle.sendqueues.specs.Queues.{IsToldOf, StillShown};
+ghost use Rattle.smtp_queue.specs.Queues.{IsRowTold, QueueStillShows};
 
-use crate::held::{HeldStore, Search};
-use crate::post::Post;
-use keepers::{Keeper, Unavailable};
-use mailsenders::{Queue, Row, TakenOut, Unavailable as Denial};
-use mailstore::{Outgoing, Queued, Refusal};
+use crate::queue_store::{QueueStore, Search};
+use crate::due_row::DueRow;
+use store_lock::{Keeper, StoreUnavailable};
+use smtp_send::{SendQueue, DueMessage, TakenOut, QueueUnavailable as Denial};
+use store_accounts::{QueuedMessage, QueueKey, Refusal};
 use octets::Octets;
 use std::alloc::{AllocError, Global};
 
@@ -21,7 +21,7 @@ const MAX_HAD: u64 = 1_000;
 pub struct StoreQueue<'a, K: Keeper + Drop> {
     alloc: Global,
     search: Search<'a>,
-    held: HeldStore<K>,
+    held: QueueStore<K>,
     /// When the clock was first looked at since the store was taken, in milliseconds.
     since: Option<u64>,
 }
@@ -36,14 +36,14 @@ impl<'a, K: Keeper + Drop> StoreQueue<'a, K> {
         StoreQueue {
             alloc,
             search,
-            held: HeldStore::new(keeper),
+            held: QueueStore::new(keeper),
             since: None,
         }
     }
 
     /// The keeper, which has the store back.
     pub fn into_keeper(self) -> K
-        ensures { StillShown K.S.Store K.tells K.holds self.entry.held.store self.entry.held.keeper None result }
+        ensures { QueueStillShows K.S.Store K.tells K.holds self.entry.held.store self.entry.held.keeper None result }
     {
         let StoreQueue {
             alloc: _,
@@ -56,32 +56,32 @@ impl<'a, K: Keeper + Drop> StoreQueue<'a, K> {
 }
 
 /// A place, as the store has it. Lack of memory is the only error.
-fn place_of(alloc: Global, user: &[u8], id: u64) -> Result<Queued, AllocError>
+fn place_of(alloc: Global, user: &[u8], id: u64) -> Result<QueueKey, AllocError>
     ensures user { IfOk result (λ place. place.user ≡ user.now) }
     ensures id { IfOk result (λ place. place.id ≡ id) }
 {
-    Ok(Queued {
+    Ok(QueueKey {
         user: Octets::from_slice(alloc, user)?,
         id,
     })
 }
 
 /// A row as it is told.
-fn told_of(found: Option<Post>) -> Option<Row>
-    ensures { IsToldOf found result }
+fn due_message_of(found: Option<DueRow>) -> Option<DueMessage>
+    ensures { IsRowTold found result }
 {
-    let Some(Post { place, row }) = found else {
+    let Some(DueRow { place, row }) = found else {
         return None;
     };
-    let Queued { user, id } = place;
-    let Outgoing {
+    let QueueKey { user, id } = place;
+    let QueuedMessage {
         id: _,
         kind: _,
         sender,
         target,
         message,
     } = row;
-    Some(Row {
+    Some(DueMessage {
         user,
         id,
         sender,
@@ -91,24 +91,24 @@ fn told_of(found: Option<Post>) -> Option<Row>
 }
 
 /// Why a row can't be read or taken out, by what the keeper says.
-fn denial_of(denial: Unavailable) -> Denial {
+fn denial_of(denial: StoreUnavailable) -> Denial {
     match denial {
-        Unavailable::Refused(Refusal::Memory) => Denial::Memory,
+        StoreUnavailable::Refused(Refusal::Memory) => Denial::Memory,
         _ => Denial::Store,
     }
 }
 
-impl<K: Keeper + Drop> Queue for StoreQueue<'_, K> {
-    ghost use Rattle.sendqueues.specs.Queues.{ShowsRows};
+impl<K: Keeper + Drop> SendQueue for StoreQueue<'_, K> {
+    ghost use Rattle.smtp_queue.specs.Queues.{ShowsRows};
 
     ghost shows = { λ queue rows. ShowsRows K.S.Store K.tells queue.search.waits.now queue.search.now (K.holds queue.held.keeper) queue.held.store rows };
 
-    fn next(&mut self, user: &[u8], id: u64) -> Result<Option<Row>, Denial> {
+    fn next(&mut self, user: &[u8], id: u64) -> Result<Option<DueMessage>, Denial> {
         let Ok(start) = place_of(self.alloc, user, id) else {
             return Err(Denial::Memory);
         };
         match self.held.find(self.alloc, self.search, start) {
-            Ok(found) => Ok(told_of(found)),
+            Ok(found) => Ok(due_message_of(found)),
             Err(denial) => {
                 self.since = None;
                 self.held.give_back();
@@ -117,7 +117,7 @@ impl<K: Keeper + Drop> Queue for StoreQueue<'_, K> {
         }
     }
 
-    fn take_out(&mut self, row: &Row) -> Result<TakenOut, Denial> {
+    fn take_out(&mut self, row: &DueMessage) -> Result<TakenOut, Denial> {
         let Ok(place) = place_of(self.alloc, row.user.as_slice(), row.id) else {
             return Err(Denial::Memory);
         };
@@ -132,7 +132,7 @@ impl<K: Keeper + Drop> Queue for StoreQueue<'_, K> {
     }
 
     fn give_way(&mut self, moment: u64) -> bool {
-        if !self.held.is_had() {
+        if !self.held.has_store() {
             return false;
         }
         if self.held.is_awaited(self.search.path) {

@@ -1,12 +1,12 @@
 //! A keeper, and its store while that is held.
 ghost use Rattle.std.specs.Prelude.{◌≡◌, None};
-ghost use Rattle.sendqueues.specs.Queues.{Finds, Removes, StillShown, TurnsShown};
+ghost use Rattle.smtp_queue.specs.Queues.{QueueFinds, QueueRemoves, QueueStillShows, TurnsShown};
 
-use crate::post::{Post, find_post, take_row};
-use keepers::{Keeper, Unavailable};
-use mailsenders::{Row, TakenOut};
-use mailstore::{Queued, Store};
-use sendwaits::Waits;
+use crate::due_row::{DueRow, find_post, take_row};
+use store_lock::{Keeper, StoreUnavailable};
+use smtp_send::{DueMessage, TakenOut};
+use store_accounts::{QueueKey, Store};
+use crate::RowWaits;
 use std::alloc::Global;
 
 /// Which rows are asked for.
@@ -15,25 +15,25 @@ pub struct Search<'a> {
     /// The path of the store.
     pub path: &'a str,
     /// What is known of rows that were tried without success.
-    pub waits: &'a Waits,
+    pub waits: &'a RowWaits,
     /// The moment at which a row is to be due.
     pub now: u64,
 }
 
 /// A keeper, and its store while that is held. Nobody else changes the store then.
 #[derive(Drop)]
-pub struct HeldStore<K: Keeper + Drop> {
+pub struct QueueStore<K: Keeper + Drop> {
     keeper: K,
     store: Option<Store<K::S>>,
 }
 
-impl<K: Keeper + Drop> HeldStore<K> {
+impl<K: Keeper + Drop> QueueStore<K> {
     /// The store isn't held yet.
-    pub(crate) fn new(keeper: K) -> HeldStore<K>
+    pub(crate) fn new(keeper: K) -> QueueStore<K>
         ensures keeper { result.keeper ≡ keeper }
         ensures store { result.store ≡ None }
     {
-        HeldStore {
+        QueueStore {
             keeper,
             store: None,
         }
@@ -41,28 +41,28 @@ impl<K: Keeper + Drop> HeldStore<K> {
 
     /// The keeper, which has the store back.
     pub(crate) fn into_keeper(mut self) -> K
-        ensures { StillShown K.S.Store K.tells K.holds self.store self.keeper None result }
+        ensures { QueueStillShows K.S.Store K.tells K.holds self.store self.keeper None result }
     {
         self.give_back();
-        let HeldStore { keeper, store: _ } = self;
+        let QueueStore { keeper, store: _ } = self;
         keeper
     }
 
     /// Whether the store is held.
-    pub(crate) fn is_had(&self) -> bool {
+    pub(crate) fn has_store(&self) -> bool {
         self.store.is_some()
     }
 
     /// Whether somebody waits for the store.
     pub(crate) fn is_awaited(&mut self, path: &str) -> bool
-        ensures { StillShown K.S.Store K.tells K.holds self.old.store self.old.keeper self.new.store self.new.keeper }
+        ensures { QueueStillShows K.S.Store K.tells K.holds self.old.store self.old.keeper self.new.store self.new.keeper }
     {
         self.keeper.is_awaited(path)
     }
 
     /// Takes the store, if it isn't held; a lock that another process has is waited for, without an end.
-    pub(crate) fn take(&mut self, path: &str) -> Result<(), Unavailable>
-        ensures { StillShown K.S.Store K.tells K.holds self.old.store self.old.keeper self.new.store self.new.keeper }
+    pub(crate) fn take(&mut self, path: &str) -> Result<(), StoreUnavailable>
+        ensures { QueueStillShows K.S.Store K.tells K.holds self.old.store self.old.keeper self.new.store self.new.keeper }
     {
         if self.store.is_some() {
             return Ok(());
@@ -75,7 +75,7 @@ impl<K: Keeper + Drop> HeldStore<K> {
 
     /// Gives the store back, if it is held.
     pub(crate) fn give_back(&mut self)
-        ensures shown { StillShown K.S.Store K.tells K.holds self.old.store self.old.keeper self.new.store self.new.keeper }
+        ensures shown { QueueStillShows K.S.Store K.tells K.holds self.old.store self.old.keeper self.new.store self.new.keeper }
         ensures emptied { self.new.store ≡ None }
     {
         if let Some(store) = self.store.take() {
@@ -88,17 +88,17 @@ impl<K: Keeper + Drop> HeldStore<K> {
         &mut self,
         alloc: Global,
         search: Search<'_>,
-        start: Queued,
-    ) -> Result<Option<Post>, Unavailable>
-        ensures { TurnsShown K.S.Store K.tells K.holds (Finds search.entry.waits.now search.entry.now start result) self.old.store self.old.keeper self.new.store self.new.keeper }
+        start: QueueKey,
+    ) -> Result<Option<DueRow>, StoreUnavailable>
+        ensures { TurnsShown K.S.Store K.tells K.holds (QueueFinds search.entry.waits.now search.entry.now start result) self.old.store self.old.keeper self.new.store self.new.keeper }
     {
         self.take(search.path)?;
         let Some(store) = &mut self.store else {
-            return Err(Unavailable::Busy);
+            return Err(StoreUnavailable::Busy);
         };
         match find_post(alloc, store, start, search.waits, search.now) {
             Ok(found) => Ok(found),
-            Err(refusal) => Err(Unavailable::Refused(refusal)),
+            Err(refusal) => Err(StoreUnavailable::Refused(refusal)),
         }
     }
 
@@ -106,18 +106,18 @@ impl<K: Keeper + Drop> HeldStore<K> {
     pub(crate) fn remove(
         &mut self,
         path: &str,
-        place: &Queued,
-        sent: &Row,
-    ) -> Result<TakenOut, Unavailable>
-        ensures { TurnsShown K.S.Store K.tells K.holds (Removes place.now sent.now result) self.old.store self.old.keeper self.new.store self.new.keeper }
+        place: &QueueKey,
+        sent: &DueMessage,
+    ) -> Result<TakenOut, StoreUnavailable>
+        ensures { TurnsShown K.S.Store K.tells K.holds (QueueRemoves place.now sent.now result) self.old.store self.old.keeper self.new.store self.new.keeper }
     {
         self.take(path)?;
         let Some(store) = &mut self.store else {
-            return Err(Unavailable::Busy);
+            return Err(StoreUnavailable::Busy);
         };
         match take_row(store, place, sent) {
             Ok(taken) => Ok(taken),
-            Err(refusal) => Err(Unavailable::Refused(refusal)),
+            Err(refusal) => Err(StoreUnavailable::Refused(refusal)),
         }
     }
 }

@@ -1,19 +1,19 @@
 //! A run over the queues of a store.
 ghost use Rattle.std.specs.Prelude.{is_ok, None};
-ghost use Rattle.mailsenders.specs.Deeds.{Reaches, State};
-ghost use Rattle.sendqueues.specs.Queues.{ShowsRows, ShowsSome};
+ghost use Rattle.smtp_send.specs.Deeds.{RunReaches, SendState};
+ghost use Rattle.smtp_queue.specs.Queues.{ShowsRows, ShowsSome};
 
-use crate::held::Search;
+use crate::queue_store::Search;
 use crate::queue::StoreQueue;
-use keepers::Keeper;
-use mailsenders::{Journal, Server, Stop, Tally, send_queue};
+use store_lock::Keeper;
+use smtp_send::{Journal, Server, Stop, SendTally, send_queue};
 use std::alloc::Global;
 
 /// How a run ended, and the keeper that it had.
 #[derive(Drop)]
 pub struct Ended<K: Keeper + Drop> {
     pub keeper: K,
-    pub tally: Result<Tally, Stop>,
+    pub tally: Result<SendTally, Stop>,
 }
 
 /// Hands the rows of a store's queues that are due to a server, in the order of the octets of the users and of the numbers, at most this
@@ -35,8 +35,8 @@ pub fn send_due<K: Keeper + Drop, S: Server, J: Journal>(
     may_eight_bit: bool,
     most: u64,
 ) -> Ended<K>
-    ensures { (before : State) → ShowsRows K.S.Store K.tells search.entry.waits.now search.entry.now (K.holds keeper) None before.rows → S.said server.old before.talk
-        → Reaches may_eight_bit (ShowsSome K.S.Store K.tells (K.holds result.keeper)) (S.said server.new) before (is_ok result.tally) }
+    ensures { (before : SendState) → ShowsRows K.S.Store K.tells search.entry.waits.now search.entry.now (K.holds keeper) None before.rows → S.said server.old before.talk
+        → RunReaches may_eight_bit (ShowsSome K.S.Store K.tells (K.holds result.keeper)) (S.said server.new) before (is_ok result.tally) }
 {
     let mut queue = StoreQueue::new(alloc, search, keeper);
     let tally = send_queue(alloc, &mut queue, server, journal, may_eight_bit, most);

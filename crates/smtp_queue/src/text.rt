@@ -1,21 +1,21 @@
 //! Rows that wait, as a text that is kept between two runs.
 ghost use Rattle.std.specs.Prelude.{◌≡◌, ◌<◌, ◌≤◌, ◌^◌, [], ◌∷◌, ◌++◌, ◌==◌, not, ℕ, List, Some, decimal, length, IfOk, IfSome, IfNone, OnOk};
 ghost use Rattle.std.specs.List.{prefix_len};
-ghost use Rattle.smtpclient.specs.Mailboxes.{CutsAt, HasNone};
-ghost use Rattle.sendwaits.specs.Texts as s;
-ghost use Rattle.sendwaits.specs.declared.place.Place.{Place};
-ghost use Rattle.sendwaits.specs.declared.wait.Wait.{Wait};
+ghost use Rattle.smtp_dialogue.specs.Mailboxes.{CutsAtOctet, HasNoMark};
+ghost use Rattle.smtp_queue.specs.Texts as s;
+ghost use Rattle.smtp_queue.specs.declared.row_key.RowKey.{RowKey};
+ghost use Rattle.smtp_queue.specs.declared.wait.Wait.{Wait};
 
-use crate::place::Place;
+use crate::row_key::RowKey;
 use crate::wait::Wait;
-use crate::waits::Waits;
+use crate::waits::RowWaits;
 use octets::{Octets, parse_decimal, write_decimal};
 use std::alloc::{AllocError, Global};
 
 /// The waits that are kept at a moment as a text: a line each, with the moment from which on the row is due, how often it was tried, its
 /// number, all in decimal, and the user. Lack of memory is the only error. Time and memory are in proportion to the text.
-pub fn write_waits(alloc: Global, waits: &Waits, now: u64) -> Result<Octets, AllocError>
-    ensures { IfOk result (λ text. text ≡ s.text_of (s.kept_at now waits.now.map.entries)) }
+pub fn write_waits(alloc: Global, waits: &RowWaits, now: u64) -> Result<Octets, AllocError>
+    ensures { IfOk result (λ text. text ≡ s.waits_text (s.kept_at now waits.now.map.entries)) }
 {
     let mut text = Octets::new(alloc);
     for (place, wait) in waits.map.iter() {
@@ -27,7 +27,7 @@ pub fn write_waits(alloc: Global, waits: &Waits, now: u64) -> Result<Octets, All
 }
 
 /// A line for a wait.
-fn put_wait(text: &mut Octets, place: &Place, wait: Wait) -> Result<(), AllocError>
+fn put_wait(text: &mut Octets, place: &RowKey, wait: Wait) -> Result<(), AllocError>
     ensures { OnOk result (text.new ≡ text.old ++ s.wait_line (place.now, wait)) }
 {
     put_number(text, wait.due)?;
@@ -47,26 +47,26 @@ fn put_number(text: &mut Octets, number: u64) -> Result<(), AllocError>
 
 /// The waits of a text that `write_waits` made; none of one that is damaged. Lack of memory is the only error. Memory is in proportion to
 /// the text, and so is time but for the logarithm of the waits.
-pub fn read_waits(alloc: Global, text: &[u8]) -> Result<Waits, AllocError>
-    ensures { IfOk result (λ waits. (own : List (Place × Wait)) → s.IsBook own → text.now ≡ s.text_of own → waits.map.entries ≡ own) }
+pub fn read_waits(alloc: Global, text: &[u8]) -> Result<RowWaits, AllocError>
+    ensures { IfOk result (λ waits. (own : List (RowKey × Wait)) → s.IsBook own → text.now ≡ s.waits_text own → waits.map.entries ≡ own) }
 {
     match lines_of(alloc, text)? {
         Some(waits) => Ok(waits),
-        None => Ok(Waits::new(alloc)),
+        None => Ok(RowWaits::new(alloc)),
     }
 }
 
 /// The waits of a text; none if a line of it isn't one.
-fn lines_of(alloc: Global, text: &[u8]) -> Result<Option<Waits>, AllocError>
-    ensures { IfOk result (λ found. (own : List (Place × Wait)) → s.IsBook own → text.now ≡ s.text_of own → s.IsTextOf own found) }
+fn lines_of(alloc: Global, text: &[u8]) -> Result<Option<RowWaits>, AllocError>
+    ensures { IfOk result (λ found. (own : List (RowKey × Wait)) → s.IsBook own → text.now ≡ s.waits_text own → s.IsWaitsText own found) }
 {
-    let mut waits = Waits::new(alloc);
+    let mut waits = RowWaits::new(alloc);
     let mut rest = text;
     while let Some(line) = cut_at(rest, b'\n') {
         let Some(parts) = parts_of(line.front) else {
             return Ok(None);
         };
-        let place = Place::new(alloc, parts.user, parts.id)?;
+        let place = RowKey::new(alloc, parts.user, parts.id)?;
         waits.put(place, parts.wait())?;
         rest = line.rest;
     }
@@ -99,7 +99,7 @@ impl Parts<'_> {
 
 /// The parts of a line; none if it is no such line.
 fn parts_of(line: &[u8]) -> Option<Parts<'_>>
-    ensures { (own : Place × Wait) → s.IsWritable own → line.now ≡ s.wait_body own → s.ArePartsOf own result }
+    ensures { (own : RowKey × Wait) → s.IsWritable own → line.now ≡ s.wait_body own → s.ArePartsOf own result }
 {
     let Some(due) = number_then(line) else {
         return None;
@@ -127,7 +127,7 @@ struct Number<'a> {
 
 /// The number at the start of a text; none if no number and a space come first.
 fn number_then(text: &[u8]) -> Option<Number<'_>>
-    ensures { (n : ℕ) (rest : List ℕ) → n < 2 ^ 64 → text.now ≡ decimal n ++ 32 ∷ rest → s.IsNumber n rest result }
+    ensures { (n : ℕ) (rest : List ℕ) → n < 2 ^ 64 → text.now ≡ decimal n ++ 32 ∷ rest → s.IsNumberRead n rest result }
 {
     let Some(cut) = cut_at(text, b' ') else {
         return None;
@@ -150,8 +150,8 @@ struct Cut<'a> {
 
 /// Cuts a text at the first such octet.
 fn cut_at(text: &[u8], mark: u8) -> Option<Cut<'_>>
-    ensures found { IfSome result (λ cut. CutsAt mark text.now cut.front.now cut.rest.now) }
-    ensures none { IfNone result (HasNone mark text.now) }
+    ensures found { IfSome result (λ cut. CutsAtOctet mark text.now cut.front.now cut.rest.now) }
+    ensures none { IfNone result (HasNoMark mark text.now) }
 {
     let count = length_before(text, mark);
     let (front, behind) = text.split_at(count);

@@ -1,8 +1,8 @@
 //! How long a row waits.
 ghost use Rattle.std.specs.Prelude.{◌≡◌};
-ghost use Rattle.sendwaits.specs.Waits as s;
+ghost use Rattle.smtp_queue.specs.Waits as s;
 
-use smtpclient::Ending;
+use smtp_dialogue::Ending;
 
 /// How many seconds a row waits that is permanently refused.
 const DAY: u64 = 86_400;
@@ -24,7 +24,7 @@ impl Wait {
     /// Whether its row is due at a moment: the wait is over, or is more than a day ahead. None is noted for longer than a day, so such a
     /// one was noted by a clock that was ahead.
     pub fn is_over(&self, now: u64) -> bool
-        ensures { result ≡ s.is_over now self.now }
+        ensures { result ≡ s.is_wait_over now self.now }
     {
         self.due <= now || now.saturating_add(DAY) < self.due
     }
@@ -32,7 +32,7 @@ impl Wait {
     /// Whether it is kept at a moment: within two days of the moment at which the row is due. So what a clock noted that was ahead is
     /// forgotten too, even of a row that is gone.
     pub fn is_kept(&self, now: u64) -> bool
-        ensures { result ≡ s.is_kept now self.now }
+        ensures { result ≡ s.is_wait_kept now self.now }
     {
         now < self.due.saturating_add(KEPT) && self.due <= now.saturating_add(KEPT)
     }

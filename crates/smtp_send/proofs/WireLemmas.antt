@@ -2,12 +2,12 @@
 use Rattle.std.proofs.Common.{◌≡◌, ℕ, List, [], ◌++◌, Option, Some, take, drop, refl, sym, ap, ◌∙◌, subst, append-nil, append_assoc}
 use Rattle.std.specs.Prelude.{IfSome}
 use Rattle.std.proofs.lemmas.List.{take-append-drop}
-use Rattle.smtpclient.specs.Replies.{IsReply}
-use Rattle.mailsenders.specs.Talks.{Talk, wrote, heard, WritesFront}
-use Rattle.mailsenders.specs.Wires.{sent_letter, sent_other, came_reply, came_other, Passes}
+use Rattle.smtp_dialogue.specs.Replies.{IsSmtpReply}
+use Rattle.smtp_send.specs.Talks.{SendTalk, talk_written, talk_heard, WritesPrefix}
+use Rattle.smtp_send.specs.Wires.{sent_letter, sent_other, came_reply, came_other, WirePasses}
 
 -- the same passed
-pub same : (P Q : List ℕ → List ℕ → Type 0) (unread : List ℕ) (t : Talk) → ((sent came : List ℕ) → P sent came → Q sent came) → Passes P unread t → Passes Q unread t
+pub same : (P Q : List ℕ → List ℕ → Type 0) (unread : List ℕ) (t : SendTalk) → ((sent came : List ℕ) → P sent came → Q sent came) → WirePasses P unread t → WirePasses Q unread t
 same P Q unread t keeps passes = record {
   sent = passes.sent;
   came = passes.came;
@@ -17,7 +17,7 @@ same P Q unread t keeps passes = record {
 }
 
 -- octets were sent
-pub sent_more : (P Q : List ℕ → List ℕ → Type 0) (unread octets : List ℕ) (t : Talk) → ((sent came : List ℕ) → P sent came → Q (sent ++ octets) came) → Passes P unread t → Passes Q unread t
+pub sent_more : (P Q : List ℕ → List ℕ → Type 0) (unread octets : List ℕ) (t : SendTalk) → ((sent came : List ℕ) → P sent came → Q (sent ++ octets) came) → WirePasses P unread t → WirePasses Q unread t
 sent_more P Q unread octets t sends passes = record {
   sent = passes.sent ++ octets;
   came = passes.came;
@@ -27,7 +27,7 @@ sent_more P Q unread octets t sends passes = record {
 }
 
 -- those of a letter
-pub letter_more : (P Q : List ℕ → List ℕ → Type 0) (unread octets : List ℕ) (t : Talk) → ((sent came : List ℕ) → P sent came → Q (sent ++ octets) came) → Passes P unread t → Passes Q unread (wrote t octets)
+pub letter_more : (P Q : List ℕ → List ℕ → Type 0) (unread octets : List ℕ) (t : SendTalk) → ((sent came : List ℕ) → P sent came → Q (sent ++ octets) came) → WirePasses P unread t → WirePasses Q unread (talk_written t octets)
 letter_more P Q unread octets t sends passes = record {
   sent = passes.sent ++ octets;
   came = passes.came;
@@ -40,22 +40,22 @@ letter_more P Q unread octets t sends passes = record {
 abbrev SendsFront : (P Q : List ℕ → List ℕ → Type 0) → List ℕ → Type 0
 SendsFront P Q octets = (sent came : List ℕ) → P sent came → (front rest : List ℕ) × (octets ≡ front ++ rest) × Q (sent ++ front) came
 
-pub other_front : (P Q : List ℕ → List ℕ → Type 0) (unread octets : List ℕ) (t : Talk) → SendsFront P Q octets → Passes P unread t → Passes Q unread t
+pub other_front : (P Q : List ℕ → List ℕ → Type 0) (unread octets : List ℕ) (t : SendTalk) → SendsFront P Q octets → WirePasses P unread t → WirePasses Q unread t
 other_front P Q unread octets t sends passes =
     let it = sends passes.sent (passes.came ++ unread) passes.passed in
     record { sent = passes.sent ++ it.0; came = passes.came; passed = it.3; carries = sent_other passes.sent t.written it.0 passes.carries; answers = passes.answers }
 
-pub letter_front : (P Q : List ℕ → List ℕ → Type 0) (unread octets : List ℕ) (t : Talk) → SendsFront P Q octets → Passes P unread t → (u : Talk) × Passes Q unread u × WritesFront octets t u
+pub letter_front : (P Q : List ℕ → List ℕ → Type 0) (unread octets : List ℕ) (t : SendTalk) → SendsFront P Q octets → WirePasses P unread t → (u : SendTalk) × WirePasses Q unread u × WritesPrefix octets t u
 letter_front P Q unread octets t sends passes =
     let it = sends passes.sent (passes.came ++ unread) passes.passed in (
-      wrote t it.0,
+      talk_written t it.0,
       record { sent = passes.sent ++ it.0; came = passes.came; passed = it.3; carries = sent_letter passes.sent t.written it.0 passes.carries; answers = passes.answers },
       record { front = it.0; rest = it.1; cut = it.2; written = refl; answered = refl },
     )
 
 -- octets came
-pub came_more : (P Q : List ℕ → List ℕ → Type 0) (unread now octets : List ℕ) (t : Talk) → ((sent came : List ℕ) → P sent came → Q sent (came ++ octets)) → now ≡ unread ++ octets → Passes P unread t
-    → Passes Q now t
+pub came_more : (P Q : List ℕ → List ℕ → Type 0) (unread now octets : List ℕ) (t : SendTalk) → ((sent came : List ℕ) → P sent came → Q sent (came ++ octets)) → now ≡ unread ++ octets → WirePasses P unread t
+    → WirePasses Q now t
 came_more P Q unread now octets t comes joined passes = record {
   sent = passes.sent;
   came = passes.came;
@@ -68,7 +68,7 @@ pub count_at : (P : ℕ → Type 0) (found : Option ℕ) (count : ℕ) → found
 count_at P found count is some = let Q : Option ℕ → Type 0 = λ o. IfSome o P in subst Q is some
 
 -- what isn't read is forgotten
-pub forgets : (P : List ℕ → List ℕ → Type 0) (unread : List ℕ) (t : Talk) → Passes P unread t → Passes P [] t
+pub forgets : (P : List ℕ → List ℕ → Type 0) (unread : List ℕ) (t : SendTalk) → WirePasses P unread t → WirePasses P [] t
 forgets P unread t passes = record {
   sent = passes.sent;
   came = passes.came ++ unread;
@@ -82,10 +82,10 @@ taken : (P : List ℕ → List ℕ → Type 0) (sent came unread : List ℕ) (co
 taken P sent came unread count passed =
     subst (P sent) (ap (λ u. came ++ u) (sym (take-append-drop count unread)) ∙ sym (append_assoc came (take count unread) (drop count unread))) passed
 
-pub reads_reply : (P : List ℕ → List ℕ → Type 0) (unread now : List ℕ) (count code : ℕ) (t : Talk) → IsReply unread code (drop count unread) → now ≡ drop count unread → Passes P unread t
-    → Passes P now (heard t code)
+pub reads_reply : (P : List ℕ → List ℕ → Type 0) (unread now : List ℕ) (count code : ℕ) (t : SendTalk) → IsSmtpReply unread code (drop count unread) → now ≡ drop count unread → WirePasses P unread t
+    → WirePasses P now (talk_heard t code)
 reads_reply P unread now count code t reply same passes =
-    subst (λ n. Passes P n (heard t code)) (sym same)
+    subst (λ n. WirePasses P n (talk_heard t code)) (sym same)
     (record {
       sent = passes.sent;
       came = passes.came ++ take count unread;
@@ -93,12 +93,12 @@ reads_reply P unread now count code t reply same passes =
       carries = passes.carries;
       answers =
           came_reply passes.came t.answered (take count unread) (drop count unread) code passes.answers
-          (subst (λ o. IsReply o code (drop count unread)) (sym (take-append-drop count unread)) reply);
+          (subst (λ o. IsSmtpReply o code (drop count unread)) (sym (take-append-drop count unread)) reply);
     })
 
-pub reads_other : (P : List ℕ → List ℕ → Type 0) (unread now : List ℕ) (count : ℕ) (t : Talk) → now ≡ drop count unread → Passes P unread t → Passes P now t
+pub reads_other : (P : List ℕ → List ℕ → Type 0) (unread now : List ℕ) (count : ℕ) (t : SendTalk) → now ≡ drop count unread → WirePasses P unread t → WirePasses P now t
 reads_other P unread now count t same passes =
-    subst (λ n. Passes P n t) (sym same)
+    subst (λ n. WirePasses P n t) (sym same)
     (record {
       sent = passes.sent;
       came = passes.came ++ take count unread;

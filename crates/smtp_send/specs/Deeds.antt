@@ -1,81 +1,81 @@
 -- What a run does with rows.
 use Rattle.std.specs.Prelude.{◌≡◌, Bool, true, List, [], ◌∷◌, Option, Some, None, IsSome, Result, Ok, Err}
 use Rattle.std.specs.List.{All}
-use Rattle.smtpclient.specs.Letters.{Mail, LeavesPath}
-use Rattle.smtpclient.specs.declared.extension.Extensions.{Extensions}
-use Rattle.smtpclient.specs.declared.dialogue.Ending.{Ending}
-use Rattle.smtpclient.specs.declared.dialogue.Ending.TheVariants.{Sent}
-use Rattle.mailsenders.specs.Rows.{Rows, IsThere, TakesRow}
-use Rattle.mailsenders.specs.Talks.{Talk, Treats}
-use Rattle.mailsenders.specs.declared.queue.Row.{Row}
-use Rattle.mailsenders.specs.declared.queue.TakenOut.{TakenOut}
-use Rattle.mailsenders.specs.declared.row.Stop.{Stop}
-use Rattle.mailsenders.specs.declared.row.Stop.TheVariants.{Memory, Store, Output, Kept, Unreachable}
+use Rattle.smtp_dialogue.specs.Messages.{SmtpMail, LeavesPath}
+use Rattle.smtp_dialogue.specs.declared.extension.Extensions.{Extensions}
+use Rattle.smtp_dialogue.specs.declared.dialogue.Ending.{Ending}
+use Rattle.smtp_dialogue.specs.declared.dialogue.Ending.TheVariants.{Sent}
+use Rattle.smtp_send.specs.Rows.{Rows, IsThere, RowTakenOut}
+use Rattle.smtp_send.specs.Talks.{SendTalk, Treats}
+use Rattle.smtp_send.specs.declared.queue.DueMessage.{DueMessage}
+use Rattle.smtp_send.specs.declared.queue.TakenOut.{TakenOut}
+use Rattle.smtp_send.specs.declared.row.Stop.{Stop}
+use Rattle.smtp_send.specs.declared.row.Stop.TheVariants.{Memory, Store, Output, Kept, Unreachable}
 
 -- a row's message: its own sender and target, and its text without our `Return-Path`
-pub record IsLetterOf (row : Row) (mail : Mail) : Type 0 where
+pub record IsLetterOf (row : DueMessage) (mail : SmtpMail) : Type 0 where
   pub sender : mail.sender ≡ row.sender
   pub target : mail.target ≡ row.target
   pub text : LeavesPath row.message mail.text
 
 -- what was done with a row
-pub record Deed : Type 0 where
-  pub row : Row
+pub record SendDeed : Type 0 where
+  pub row : DueMessage
   -- what the server offers
   pub offered : Extensions
   pub ending : Ending
   -- what became of the row if it was to be taken out
   pub taken : Option TakenOut
 
-pub record State : Type 0 where
+pub record SendState : Type 0 where
   pub rows : Rows
-  pub talk : Talk
+  pub talk : SendTalk
 
-abbrev pub state : Rows → Talk → State
+abbrev pub state : Rows → SendTalk → SendState
 state rows talk = record { rows = rows; talk = talk }
 
 -- the row is taken out only if it was sent; otherwise no row changes
-abbrev pub Leaves : Option TakenOut → Row → Ending → Rows → Rows → Type 0
-Leaves (Some taken) row ending before after = (ending ≡ Sent) × TakesRow row taken before after
-Leaves None row ending before after = after ≡ before
+abbrev pub RowLeaves : Option TakenOut → DueMessage → Ending → Rows → Rows → Type 0
+RowLeaves (Some taken) row ending before after = (ending ≡ Sent) × RowTakenOut row taken before after
+RowLeaves None row ending before after = after ≡ before
 
 -- one row: it is in the queue and due, its message is handed to the server, and then it leaves or stays
-pub record Does (may_eight_bit : Bool) (deed : Deed) (before after : State) : Type 0 where
+pub record DoesDeed (may_eight_bit : Bool) (deed : SendDeed) (before after : SendState) : Type 0 where
   pub there : IsThere deed.row before.rows
-  pub mail : Mail
+  pub mail : SmtpMail
   pub letter : IsLetterOf deed.row mail
   pub treats : Treats deed.offered may_eight_bit mail before.talk after.talk deed.ending
-  pub leaves : Leaves deed.taken deed.row deed.ending before.rows after.rows
+  pub leaves : RowLeaves deed.taken deed.row deed.ending before.rows after.rows
 
 -- what was done with rows, the last one first
-abbrev pub Leads : Bool → List Deed → State → State → Type 0
-Leads may_eight_bit [] before after = after ≡ before
-Leads may_eight_bit (deed ∷ earlier) before after = (mid : State) × Leads may_eight_bit earlier before mid × Does may_eight_bit deed mid after
+abbrev pub DeedsLead : Bool → List SendDeed → SendState → SendState → Type 0
+DeedsLead may_eight_bit [] before after = after ≡ before
+DeedsLead may_eight_bit (deed ∷ earlier) before after = (mid : SendState) × DeedsLead may_eight_bit earlier before mid × DoesDeed may_eight_bit deed mid after
 
 -- a row that was sent was taken out, or it wasn't there any more
-abbrev pub HasLeft : Deed → Type 0
+abbrev pub HasLeft : SendDeed → Type 0
 HasLeft deed = deed.ending ≡ Sent → IsSome deed.taken
 
 -- what was done leads to rows that are shown, and to what was said; if the run ended well each row that was sent has left
-pub record Reaches (may_eight_bit : Bool) (Shows : Rows → Type 0) (Said : Talk → Type 0) (before : State) (is_whole : Bool) : Type 0 where
-  pub deeds : List Deed
-  pub after : State
+pub record RunReaches (may_eight_bit : Bool) (Shows : Rows → Type 0) (Said : SendTalk → Type 0) (before : SendState) (is_whole : Bool) : Type 0 where
+  pub deeds : List SendDeed
+  pub after : SendState
   pub shows : Shows after.rows
   pub said : Said after.talk
-  pub leads : Leads may_eight_bit deeds before after
+  pub leads : DeedsLead may_eight_bit deeds before after
   pub left : is_whole ≡ true → All HasLeft deeds
 
 -- ---- one row
 
 -- what is done with a row that is there
-pub record Handles (offered : Extensions) (may_eight_bit : Bool) (row : Row) (before after : State) (ending : Ending) (taken : Option TakenOut) : Type 0 where
-  pub mail : Mail
+pub record Handles (offered : Extensions) (may_eight_bit : Bool) (row : DueMessage) (before after : SendState) (ending : Ending) (taken : Option TakenOut) : Type 0 where
+  pub mail : SmtpMail
   pub letter : IsLetterOf row mail
   pub treats : Treats offered may_eight_bit mail before.talk after.talk ending
-  pub leaves : Leaves taken row ending before.rows after.rows
+  pub leaves : RowLeaves taken row ending before.rows after.rows
 
 -- it was handed over; or there was no memory, and nothing happened; or it was sent and can't be taken out
-abbrev pub EndsRow : Extensions → Bool → Row → State → State → Result Ending Stop → Type 0
+abbrev pub EndsRow : Extensions → Bool → DueMessage → SendState → SendState → Result Ending Stop → Type 0
 EndsRow offered may_eight_bit row before after (Ok ending) =
     (taken : Option TakenOut) × Handles offered may_eight_bit row before after ending taken × (ending ≡ Sent → IsSome taken)
 EndsRow offered may_eight_bit row before after (Err Memory) = after ≡ before

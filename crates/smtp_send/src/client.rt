@@ -1,13 +1,13 @@
 //! A client of SMTP over a connection.
 ghost use Rattle.std.specs.Prelude.{◌≡◌, ◌≤◌, [], drop, length, OnErr, IfOk};
-ghost use Rattle.smtpclient.specs.Replies.{IsReply};
-ghost use Rattle.mailsenders.specs.Talks.{Talk};
-ghost use Rattle.mailsenders.specs.Wires as s;
+ghost use Rattle.smtp_dialogue.specs.Replies.{IsSmtpReply};
+ghost use Rattle.smtp_send.specs.Talks.{SendTalk};
+ghost use Rattle.smtp_send.specs.Wires as s;
 
-use crate::peer::{Patience, Peer};
+use crate::peer::{Patience, SmtpPeer};
 use crate::server::{Lost, Server};
 use octets::{Octets, Pending};
-use smtpclient::{Extensions, Heard, QUIT, RSET, Stage, ehlo_line, first_reply, read_extensions};
+use smtp_dialogue::{Extensions, Heard, QUIT, RSET, SmtpStage, ehlo_line, first_reply, read_extensions};
 use std::alloc::Global;
 
 /// The most octets of a reply.
@@ -18,7 +18,7 @@ const MAX_PIECES: u32 = 4;
 
 /// A client of SMTP (RFC 5321) over a connection.
 #[derive(Drop)]
-pub struct Client<P: Peer + Drop> {
+pub struct SmtpClient<P: SmtpPeer + Drop> {
     pub(crate) peer: P,
     /// What came and isn't read yet.
     pub(crate) unread: Pending,
@@ -36,13 +36,13 @@ struct Reply {
     count: usize,
 }
 
-impl<P: Peer + Drop> Client<P> {
+impl<P: SmtpPeer + Drop> SmtpClient<P> {
     /// A client that isn't connected yet.
-    pub fn new(alloc: Global, peer: P, host: Octets) -> Client<P>
+    pub fn new(alloc: Global, peer: P, host: Octets) -> SmtpClient<P>
         ensures peer { result.peer ≡ peer }
         ensures unread { result.unread ≡ [] }
     {
-        Client {
+        SmtpClient {
             peer,
             unread: Pending::new(alloc),
             alloc,
@@ -60,7 +60,7 @@ impl<P: Peer + Drop> Client<P> {
 
     // Writes octets of no message.
     fn say(&mut self, octets: &[u8]) -> Result<(), Lost>
-        ensures { (t : Talk) → s.Passes (P.passed self.old.peer) self.old.unread t → s.Passes (P.passed self.new.peer) self.new.unread t }
+        ensures { (t : SendTalk) → s.WirePasses (P.passed self.old.peer) self.old.unread t → s.WirePasses (P.passed self.new.peer) self.new.unread t }
     {
         match self.peer.send(octets, Patience::Piece) {
             Ok(()) => Ok(()),
@@ -70,7 +70,7 @@ impl<P: Peer + Drop> Client<P> {
 
     // Takes more octets, once they come.
     fn listen(&mut self, patience: Patience) -> Result<(), Lost>
-        ensures { (t : Talk) → s.Passes (P.passed self.old.peer) self.old.unread t → s.Passes (P.passed self.new.peer) self.new.unread t }
+        ensures { (t : SendTalk) → s.WirePasses (P.passed self.old.peer) self.old.unread t → s.WirePasses (P.passed self.new.peer) self.new.unread t }
     {
         let mut piece = [0; 4096];
         let count = self.peer.receive(&mut piece, patience)?;
@@ -87,7 +87,7 @@ impl<P: Peer + Drop> Client<P> {
 
     // Takes more octets, if some come at once. Returns whether some did.
     fn listen_at_once(&mut self) -> bool
-        ensures { (t : Talk) → s.Passes (P.passed self.old.peer) self.old.unread t → s.Passes (P.passed self.new.peer) self.new.unread t }
+        ensures { (t : SendTalk) → s.WirePasses (P.passed self.old.peer) self.old.unread t → s.WirePasses (P.passed self.new.peer) self.new.unread t }
     {
         let mut piece = [0; 4096];
         match self.peer.receive_at_once(&mut piece) {
@@ -106,9 +106,9 @@ impl<P: Peer + Drop> Client<P> {
 
     // Waits until a reply comes first in what isn't read.
     fn next_reply(&mut self, patience: Patience) -> Result<Reply, Lost>
-        ensures kept { (t : Talk) → s.Passes (P.passed self.old.peer) self.old.unread t → s.Passes (P.passed self.new.peer) self.new.unread t }
+        ensures kept { (t : SendTalk) → s.WirePasses (P.passed self.old.peer) self.old.unread t → s.WirePasses (P.passed self.new.peer) self.new.unread t }
         ensures within { IfOk result (λ reply. reply.count ≤ length self.new.unread) }
-        ensures first { IfOk result (λ reply. IsReply self.new.unread reply.code (drop reply.count self.new.unread)) }
+        ensures first { IfOk result (λ reply. IsSmtpReply self.new.unread reply.code (drop reply.count self.new.unread)) }
     {
         for _ in 0..MAX_REPLY {
             match first_reply(self.unread.as_slice()) {
@@ -126,7 +126,7 @@ impl<P: Peer + Drop> Client<P> {
 
     // Hears the reply to something that is no message's. Returns whether it is 2yz.
     fn agrees(&mut self, patience: Patience) -> Result<bool, Lost>
-        ensures { (t : Talk) → s.Passes (P.passed self.old.peer) self.old.unread t → s.Passes (P.passed self.new.peer) self.new.unread t }
+        ensures { (t : SendTalk) → s.WirePasses (P.passed self.old.peer) self.old.unread t → s.WirePasses (P.passed self.new.peer) self.new.unread t }
     {
         match self.next_reply(patience) {
             Ok(reply) => {
@@ -139,7 +139,7 @@ impl<P: Peer + Drop> Client<P> {
 
     // Hears the server's greeting, and says EHLO. Returns what the reply to that offers.
     fn greet(&mut self) -> Result<Extensions, Lost>
-        ensures { (t : Talk) → s.Passes (P.passed self.old.peer) self.old.unread t → s.Passes (P.passed self.new.peer) self.new.unread t }
+        ensures { (t : SendTalk) → s.WirePasses (P.passed self.old.peer) self.old.unread t → s.WirePasses (P.passed self.new.peer) self.new.unread t }
     {
         if self.agrees(Patience::Command) != Ok(true) {
             return Err(Lost);
@@ -158,7 +158,7 @@ impl<P: Peer + Drop> Client<P> {
     }
 
     fn say_hello(&mut self) -> Result<(), Lost>
-        ensures { (t : Talk) → s.Passes (P.passed self.old.peer) self.old.unread t → s.Passes (P.passed self.new.peer) self.new.unread t }
+        ensures { (t : SendTalk) → s.WirePasses (P.passed self.old.peer) self.old.unread t → s.WirePasses (P.passed self.new.peer) self.new.unread t }
     {
         match ehlo_line(self.alloc, self.host.as_slice()) {
             Ok(line) => self.say(line.as_slice()),
@@ -176,7 +176,7 @@ impl<P: Peer + Drop> Client<P> {
 
     // Drops what isn't read, and ends the connection.
     fn leave(&mut self)
-        ensures { (t : Talk) → s.Passes (P.passed self.old.peer) self.old.unread t → s.Passes (P.passed self.new.peer) self.new.unread t }
+        ensures { (t : SendTalk) → s.WirePasses (P.passed self.old.peer) self.old.unread t → s.WirePasses (P.passed self.new.peer) self.new.unread t }
     {
         self.unread = Pending::new(self.alloc);
         self.peer.disconnect();
@@ -184,10 +184,10 @@ impl<P: Peer + Drop> Client<P> {
     }
 }
 
-impl<P: Peer + Drop> Server for Client<P> {
-    ghost use Rattle.mailsenders.specs.Wires.{Passes};
+impl<P: SmtpPeer + Drop> Server for SmtpClient<P> {
+    ghost use Rattle.smtp_send.specs.Wires.{WirePasses};
 
-    ghost said = { λ client t. Passes (P.passed client.peer) client.unread t };
+    ghost said = { λ client t. WirePasses (P.passed client.peer) client.unread t };
 
     fn open(&mut self) -> Result<Extensions, Lost> {
         self.leave();
@@ -238,7 +238,7 @@ impl<P: Peer + Drop> Server for Client<P> {
         false
     }
 
-    fn hear(&mut self, stage: Stage) -> Result<u16, Lost> {
+    fn hear(&mut self, stage: SmtpStage) -> Result<u16, Lost> {
         match self.next_reply(patience_at(stage)) {
             Ok(reply) => {
                 self.unread.drop_front(reply.count);
@@ -280,10 +280,10 @@ impl<P: Peer + Drop> Server for Client<P> {
 }
 
 // How long the reply to a stage is waited for.
-fn patience_at(stage: Stage) -> Patience {
+fn patience_at(stage: SmtpStage) -> Patience {
     match stage {
-        Stage::Sender | Stage::Recipient => Patience::Command,
-        Stage::Data => Patience::Data,
-        Stage::Text => Patience::Text,
+        SmtpStage::Sender | SmtpStage::Recipient => Patience::Command,
+        SmtpStage::Data => Patience::Data,
+        SmtpStage::Text => Patience::Text,
     }
 }

@@ -1,17 +1,17 @@
 //! A message's dialogue with a server.
 ghost use Rattle.std.specs.Prelude.{IfOk, OnOk, OnErr};
-ghost use Rattle.smtpclient.specs.Dialogues.{spelled};
-ghost use Rattle.smtpclient.specs.Letters.{mail_of};
-ghost use Rattle.mailsenders.specs.Rows.{Rows};
-ghost use Rattle.mailsenders.specs.Talks as s;
-ghost use Rattle.mailsenders.specs.Talks.{Talk};
+ghost use Rattle.smtp_dialogue.specs.Dialogues.{stage_text};
+ghost use Rattle.smtp_dialogue.specs.Messages.{smtp_mail_of};
+ghost use Rattle.smtp_send.specs.Rows.{Rows};
+ghost use Rattle.smtp_send.specs.Talks as s;
+ghost use Rattle.smtp_send.specs.Talks.{SendTalk};
 
 use crate::journal::Journal;
-use crate::queue::Queue;
+use crate::queue::SendQueue;
 use crate::server::{Lost, Server};
 use crate::text::write_text;
 use crate::way::{await_reply, write_octets};
-use smtpclient::{DATA, Ending, Extensions, Letter, Stage, Turn, mail_line, next_turn, rcpt_line};
+use smtp_dialogue::{DATA, Ending, Extensions, SmtpMessage, SmtpStage, NextStage, mail_line, next_turn, rcpt_line};
 use std::alloc::{AllocError, Global};
 
 /// Hands a message to a server: one whose addresses are no mailboxes, or that needs what isn't offered, isn't written.
@@ -20,19 +20,19 @@ use std::alloc::{AllocError, Global};
 ///
 /// Lack of memory is the only error, and then nothing was written. Time is linear in the message's octets; memory is taken for the lines
 /// of MAIL and RCPT, and for a piece of the text. If there is none for the piece the connection counts as lost.
-pub fn send_letter<Q: Queue, S: Server, J: Journal>(
+pub fn send_message<Q: SendQueue, S: Server, J: Journal>(
     alloc: Global,
     queue: &mut Q,
     server: &mut S,
     journal: &mut J,
     offered: Extensions,
     may_eight_bit: bool,
-    letter: Letter<'_>,
+    letter: SmtpMessage<'_>,
 ) -> Result<Ending, AllocError>
     ensures rows { (rows : Rows) → Q.shows queue.old rows → Q.shows queue.new rows }
-    ensures treats { IfOk result (λ ending. (t : Talk) → S.said server.old t → (u : Talk) × S.said server.new u
-        × s.Treats offered may_eight_bit (mail_of letter.entry) t u ending) }
-    ensures kept { OnErr result ((t : Talk) → S.said server.old t → S.said server.new t) }
+    ensures treats { IfOk result (λ ending. (t : SendTalk) → S.said server.old t → (u : SendTalk) × S.said server.new u
+        × s.Treats offered may_eight_bit (smtp_mail_of letter.entry) t u ending) }
+    ensures kept { OnErr result ((t : SendTalk) → S.said server.old t → S.said server.new t) }
 {
     if !letter.is_addressed() {
         return Ok(Ending::Unaddressed);
@@ -48,13 +48,13 @@ pub fn send_letter<Q: Queue, S: Server, J: Journal>(
         mail: mail.as_slice(),
         rcpt: rcpt.as_slice(),
     };
-    Ok(speak(alloc, queue, server, journal, spelled, Stage::Sender))
+    Ok(speak(alloc, queue, server, journal, spelled, SmtpStage::Sender))
 }
 
 /// A message with its lines.
 #[derive(Clone, Copy)]
 pub(crate) struct Spelled<'a> {
-    pub(crate) letter: Letter<'a>,
+    pub(crate) letter: SmtpMessage<'a>,
     /// What the server offers.
     pub(crate) offered: Extensions,
     /// The line of MAIL.
@@ -64,68 +64,68 @@ pub(crate) struct Spelled<'a> {
 }
 
 // The message's dialogue from a stage on.
-fn speak<Q: Queue, S: Server, J: Journal>(
+fn speak<Q: SendQueue, S: Server, J: Journal>(
     alloc: Global,
     queue: &mut Q,
     server: &mut S,
     journal: &mut J,
     letter: Spelled<'_>,
-    stage: Stage,
+    stage: SmtpStage,
 ) -> Ending
     requires { s.IsSpelled letter }
     ensures rows { (rows : Rows) → Q.shows queue.old rows → Q.shows queue.new rows }
-    ensures says { (t : Talk) → S.said server.old t → (u : Talk) × S.said server.new u
-        × s.Says letter.entry.offered (mail_of letter.entry.letter) stage t u result }
+    ensures says { (t : SendTalk) → S.said server.old t → (u : SendTalk) × S.said server.new u
+        × s.TalkSays letter.entry.offered (smtp_mail_of letter.entry.letter) stage t u result }
 {
     match step(alloc, queue, server, journal, letter, stage) {
-        Turn::Goes(onward) => speak(alloc, queue, server, journal, letter, onward),
-        Turn::Ends(ending) => ending,
+        NextStage::Goes(onward) => speak(alloc, queue, server, journal, letter, onward),
+        NextStage::Ends(ending) => ending,
     }
 }
 
 // One stage: writes it, and hears what is answered.
-fn step<Q: Queue, S: Server, J: Journal>(
+fn step<Q: SendQueue, S: Server, J: Journal>(
     alloc: Global,
     queue: &mut Q,
     server: &mut S,
     journal: &mut J,
     letter: Spelled<'_>,
-    stage: Stage,
-) -> Turn
+    stage: SmtpStage,
+) -> NextStage
     requires { s.IsSpelled letter }
     ensures rows { (rows : Rows) → Q.shows queue.old rows → Q.shows queue.new rows }
     ensures later { s.IsLater stage result }
-    ensures steps { (t : Talk) → S.said server.old t → (u : Talk) × S.said server.new u
-        × s.Steps letter.entry.offered (mail_of letter.entry.letter) stage t u result }
+    ensures steps { (t : SendTalk) → S.said server.old t → (u : SendTalk) × S.said server.new u
+        × s.StageSteps letter.entry.offered (smtp_mail_of letter.entry.letter) stage t u result }
 {
     if write_stage(alloc, queue, server, journal, letter, stage).is_err() {
-        return Turn::Ends(Ending::Lost);
+        return NextStage::Ends(Ending::Lost);
     }
     await_reply(queue, server, journal);
     match server.hear(stage) {
         Ok(code) => next_turn(stage, code),
-        Err(_) => Turn::Ends(Ending::Lost),
+        Err(_) => NextStage::Ends(Ending::Lost),
     }
 }
 
-fn write_stage<Q: Queue, S: Server, J: Journal>(
+fn write_stage<Q: SendQueue, S: Server, J: Journal>(
     alloc: Global,
     queue: &mut Q,
     server: &mut S,
     journal: &mut J,
     letter: Spelled<'_>,
-    stage: Stage,
+    stage: SmtpStage,
 ) -> Result<(), Lost>
     requires { s.IsSpelled letter }
     ensures rows { (rows : Rows) → Q.shows queue.old rows → Q.shows queue.new rows }
-    ensures ok { OnOk result ((t : Talk) → S.said server.old t → S.said server.new (s.wrote t (spelled letter.entry.offered (mail_of letter.entry.letter) stage))) }
-    ensures err { OnErr result ((t : Talk) → S.said server.old t → (u : Talk) × S.said server.new u
-        × s.WritesFront (spelled letter.entry.offered (mail_of letter.entry.letter) stage) t u) }
+    ensures ok { OnOk result ((t : SendTalk) → S.said server.old t → S.said server.new (s.talk_written t (stage_text letter.entry.offered (smtp_mail_of letter.entry.letter) stage))) }
+    ensures err { OnErr result ((t : SendTalk) → S.said server.old t → (u : SendTalk) × S.said server.new u
+        × s.WritesPrefix (stage_text letter.entry.offered (smtp_mail_of letter.entry.letter) stage) t u) }
 {
     match stage {
-        Stage::Sender => write_octets(queue, server, journal, letter.mail),
-        Stage::Recipient => write_octets(queue, server, journal, letter.rcpt),
-        Stage::Data => write_octets(queue, server, journal, DATA),
-        Stage::Text => write_text(alloc, queue, server, journal, letter.letter.text),
+        SmtpStage::Sender => write_octets(queue, server, journal, letter.mail),
+        SmtpStage::Recipient => write_octets(queue, server, journal, letter.rcpt),
+        SmtpStage::Data => write_octets(queue, server, journal, DATA),
+        SmtpStage::Text => write_text(alloc, queue, server, journal, letter.letter.text),
     }
 }

@@ -1,5 +1,5 @@
 //! What is noted of rows.
-use smtpclient::Ending;
+use smtp_dialogue::Ending;
 
 /// Output can't be written.
 #[derive(Clone, Copy, Debug, PartialEq, Eq)]

@@ -12,11 +12,11 @@ pub mod server;
 mod text;
 mod way;
 
-pub use client::Client;
-pub use dialogue::send_letter;
+pub use client::SmtpClient;
+pub use dialogue::send_message;
 pub use journal::{Journal, Unwritten};
-pub use peer::{MOMENT, Patience, Peer};
-pub use queue::{Queue, Row, TakenOut, Unavailable};
+pub use peer::{MOMENT, Patience, SmtpPeer};
+pub use queue::{SendQueue, DueMessage, TakenOut, QueueUnavailable};
 pub use row::{Stop, send_row};
-pub use run::{Tally, send_queue};
+pub use run::{SendTally, send_queue};
 pub use server::{Lost, Server};

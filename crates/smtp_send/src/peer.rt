@@ -35,7 +35,7 @@ impl Patience {
 pub const MOMENT: u64 = 20;
 
 /// Connections with one server, one after another.
-pub trait Peer {
+pub trait SmtpPeer {
     /// Whether these octets were sent over all connections so far, and those came. One over sockets doesn't tell, and says it of nothing.
     ghost passed: { Self → List ℕ → List ℕ → Type 0 };
 

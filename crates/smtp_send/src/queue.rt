@@ -1,12 +1,12 @@
 //! What the queues of all users promise.
 ghost use Rattle.std.specs.Prelude.{◌≡◌, ℕ, List, OnErr, IfOk, IfSome};
-ghost use Rattle.mailsenders.specs.Rows.{Rows, TakesRow};
+ghost use Rattle.smtp_send.specs.Rows.{Rows, RowTakenOut};
 
 use octets::Octets;
 
 /// A row of a user's queue.
 #[derive(Debug, Drop)]
-pub struct Row {
+pub struct DueMessage {
     pub user: Octets,
     /// The row's number in the account.
     pub id: u64,
@@ -29,7 +29,7 @@ pub enum TakenOut {
 
 /// Why a row can't be read, or can't be taken out.
 #[derive(Clone, Copy, Debug, PartialEq, Eq)]
-pub enum Unavailable {
+pub enum QueueUnavailable {
     /// There is no memory.
     Memory,
     /// The store isn't available, or refuses.
@@ -37,15 +37,15 @@ pub enum Unavailable {
 }
 
 /// The queues of all users.
-pub trait Queue {
-    ghost use Rattle.mailsenders.specs.Rows.{IsThere};
+pub trait SendQueue {
+    ghost use Rattle.smtp_send.specs.Rows.{IsThere};
 
     /// Whether these are its rows, with those that are due. One over a store that doesn't tell its tables says it of none.
     ghost shows: { Self → Rows → Type 0 };
 
     /// The first row after this place that is due, in the order of the octets of the users and of the numbers. The store is taken for it,
     /// if it isn't held, and held then.
-    fn next(&mut self, user: &[u8], id: u64) -> Result<Option<Row>, Unavailable>
+    fn next(&mut self, user: &[u8], id: u64) -> Result<Option<DueMessage>, QueueUnavailable>
         ensures there { IfOk result (λ found. IfSome found (λ row. (rows : Rows) → shows self.old rows → IsThere row rows)) }
         ensures same { (rows : Rows) → shows self.old rows → shows self.new rows };
 
@@ -55,8 +55,8 @@ pub trait Queue {
     /// # Errors
     ///
     /// The store refuses; then nothing changed.
-    fn take_out(&mut self, row: &Row) -> Result<TakenOut, Unavailable>
-        ensures taken { IfOk result (λ taken. (rows : Rows) → shows self.old rows → (after : Rows) × TakesRow row.now taken rows after × shows self.new after) }
+    fn take_out(&mut self, row: &DueMessage) -> Result<TakenOut, QueueUnavailable>
+        ensures taken { IfOk result (λ taken. (rows : Rows) → shows self.old rows → (after : Rows) × RowTakenOut row.now taken rows after × shows self.new after) }
         ensures kept { OnErr result ((rows : Rows) → shows self.old rows → shows self.new rows) };
 
     /// Gives the store back if it is held and somebody waits for it, or it was held for long, at a moment in milliseconds. Returns

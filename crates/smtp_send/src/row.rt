@@ -1,14 +1,14 @@
 //! One row: its message is sent, and then it leaves the queue.
 ghost use Rattle.std.specs.Prelude.{IfOk, OnErr};
-ghost use Rattle.smtpclient.specs.Letters.{mail_of};
-ghost use Rattle.mailsenders.specs.Rows.{Rows, TakesRow};
-ghost use Rattle.mailsenders.specs.Deeds as s;
+ghost use Rattle.smtp_dialogue.specs.Messages.{smtp_mail_of};
+ghost use Rattle.smtp_send.specs.Rows.{Rows, RowTakenOut};
+ghost use Rattle.smtp_send.specs.Deeds as s;
 
-use crate::dialogue::send_letter;
+use crate::dialogue::send_message;
 use crate::journal::Journal;
-use crate::queue::{Queue, Row, TakenOut, Unavailable};
+use crate::queue::{SendQueue, DueMessage, TakenOut, QueueUnavailable};
 use crate::server::Server;
-use smtpclient::{Ending, Extensions, Letter, without_path};
+use smtp_dialogue::{Ending, Extensions, SmtpMessage, without_path};
 use std::alloc::Global;
 
 /// For how many milliseconds it is tried to take out a row that was sent, from the first refusal on.
@@ -36,20 +36,20 @@ pub enum Stop {
 /// ten minutes. Another row that has its number by then stays. That is told, and so is a row that is gone.
 ///
 /// Time is linear in the message's octets.
-pub fn send_row<Q: Queue, S: Server, J: Journal>(
+pub fn send_row<Q: SendQueue, S: Server, J: Journal>(
     alloc: Global,
     queue: &mut Q,
     server: &mut S,
     journal: &mut J,
     offered: Extensions,
     may_eight_bit: bool,
-    row: &Row,
+    row: &DueMessage,
 ) -> Result<Ending, Stop>
-    ensures { (before : s.State) → Q.shows queue.old before.rows → S.said server.old before.talk → (after : s.State)
+    ensures { (before : s.SendState) → Q.shows queue.old before.rows → S.said server.old before.talk → (after : s.SendState)
         × Q.shows queue.new after.rows × S.said server.new after.talk × s.EndsRow offered may_eight_bit row.now before after result }
 {
     let letter = letter_of(row);
-    let Ok(ending) = send_letter(
+    let Ok(ending) = send_message(
         alloc,
         queue,
         server,
@@ -73,10 +73,10 @@ pub fn send_row<Q: Queue, S: Server, J: Journal>(
 }
 
 // The row's message.
-pub(crate) fn letter_of(row: &Row) -> Letter<'_>
-    ensures { s.IsLetterOf row.now (mail_of result) }
+pub(crate) fn letter_of(row: &DueMessage) -> SmtpMessage<'_>
+    ensures { s.IsLetterOf row.now (smtp_mail_of result) }
 {
-    Letter {
+    SmtpMessage {
         sender: row.sender.as_slice(),
         target: row.target.as_slice(),
         text: without_path(row.message.as_slice()),
@@ -84,7 +84,7 @@ pub(crate) fn letter_of(row: &Row) -> Letter<'_>
 }
 
 // Tells of a row that was sent and was to be taken out.
-fn tell_taken<J: Journal>(journal: &mut J, row: &Row, taken: TakenOut) {
+fn tell_taken<J: Journal>(journal: &mut J, row: &DueMessage, taken: TakenOut) {
     match taken {
         TakenOut::Removed => {}
         TakenOut::Gone => journal.tell_gone(row.user.as_slice(), row.id),
@@ -93,12 +93,12 @@ fn tell_taken<J: Journal>(journal: &mut J, row: &Row, taken: TakenOut) {
 }
 
 // Takes the row out. What is refused is tried again, a second later, until ten minutes have passed since the first refusal.
-fn take_out<Q: Queue, J: Journal>(
+fn take_out<Q: SendQueue, J: Journal>(
     queue: &mut Q,
     journal: &mut J,
-    row: &Row,
-) -> Result<TakenOut, Unavailable>
-    ensures taken { IfOk result (λ taken. (rows : Rows) → Q.shows queue.old rows → (after : Rows) × TakesRow row.now taken rows after × Q.shows queue.new after) }
+    row: &DueMessage,
+) -> Result<TakenOut, QueueUnavailable>
+    ensures taken { IfOk result (λ taken. (rows : Rows) → Q.shows queue.old rows → (after : Rows) × RowTakenOut row.now taken rows after × Q.shows queue.new after) }
     ensures kept { OnErr result ((rows : Rows) → Q.shows queue.old rows → Q.shows queue.new rows) }
 {
     let mut refused = None;
@@ -113,5 +113,5 @@ fn take_out<Q: Queue, J: Journal>(
         }
         journal.pause(PAUSE);
     }
-    Err(Unavailable::Store)
+    Err(QueueUnavailable::Store)
 }

@@ -1,41 +1,41 @@
 //! A run over all rows.
 ghost use Rattle.std.specs.Prelude.{◌≡◌, is_ok, true, IfOk, IfSome};
-ghost use Rattle.mailsenders.specs.Talks.{Talk};
-ghost use Rattle.mailsenders.specs.Rows.{Rows, IsThere};
-ghost use Rattle.mailsenders.specs.Deeds as s;
+ghost use Rattle.smtp_send.specs.Talks.{SendTalk};
+ghost use Rattle.smtp_send.specs.Rows.{Rows, IsThere};
+ghost use Rattle.smtp_send.specs.Deeds as s;
 
 use crate::journal::Journal;
-use crate::queue::{Queue, Row, Unavailable};
+use crate::queue::{SendQueue, DueMessage, QueueUnavailable};
 use crate::row::{Stop, letter_of, send_row};
 use crate::server::Server;
 use crate::way::{await_reply, make_way};
 use octets::Octets;
-use smtpclient::{Ending, Extensions};
+use smtp_dialogue::{Ending, Extensions};
 use std::alloc::Global;
 
 /// What became of the rows of a run.
 #[derive(Clone, Copy, Debug, PartialEq, Eq)]
-pub struct Tally {
+pub struct SendTally {
     /// How many were sent.
     pub sent: u64,
     /// How many others were tried.
     pub waiting: u64,
 }
 
-impl Tally {
+impl SendTally {
     // How many were tried.
     fn count(self) -> u64 {
         self.sent.saturating_add(self.waiting)
     }
 
     // With one row more, which ended so.
-    fn with(self, ending: Ending) -> Tally {
+    fn with(self, ending: Ending) -> SendTally {
         match ending {
-            Ending::Sent => Tally {
+            Ending::Sent => SendTally {
                 sent: self.sent.saturating_add(1),
                 waiting: self.waiting,
             },
-            _ => Tally {
+            _ => SendTally {
                 sent: self.sent,
                 waiting: self.waiting.saturating_add(1),
             },
@@ -62,16 +62,16 @@ struct Link {
 /// # Errors
 ///
 /// What was sent until then has left the queues, but for `Kept`: the last row that was sent has not.
-pub fn send_queue<Q: Queue, S: Server, J: Journal>(
+pub fn send_queue<Q: SendQueue, S: Server, J: Journal>(
     alloc: Global,
     queue: &mut Q,
     server: &mut S,
     journal: &mut J,
     may_eight_bit: bool,
     most: u64,
-) -> Result<Tally, Stop>
-    ensures { (before : s.State) → Q.shows queue.old before.rows → S.said server.old before.talk
-        → s.Reaches may_eight_bit (Q.shows queue.new) (S.said server.new) before (is_ok result) }
+) -> Result<SendTally, Stop>
+    ensures { (before : s.SendState) → Q.shows queue.old before.rows → S.said server.old before.talk
+        → s.RunReaches may_eight_bit (Q.shows queue.new) (S.said server.new) before (is_ok result) }
 {
     let mut link = Link {
         offered: None,
@@ -79,7 +79,7 @@ pub fn send_queue<Q: Queue, S: Server, J: Journal>(
     };
     let mut user = Octets::new(alloc);
     let mut id = 0;
-    let mut tally = Tally {
+    let mut tally = SendTally {
         sent: 0,
         waiting: 0,
     };
@@ -104,47 +104,47 @@ pub fn send_queue<Q: Queue, S: Server, J: Journal>(
 }
 
 // The first row after a place.
-fn read_next<Q: Queue>(queue: &mut Q, user: &Octets, id: u64) -> Result<Option<Row>, Stop>
+fn read_next<Q: SendQueue>(queue: &mut Q, user: &Octets, id: u64) -> Result<Option<DueMessage>, Stop>
     ensures there { IfOk result (λ found. IfSome found (λ row. (rows : Rows) → Q.shows queue.old rows → IsThere row rows)) }
     ensures same { (rows : Rows) → Q.shows queue.old rows → Q.shows queue.new rows }
 {
     match queue.next(user.as_slice(), id) {
         Ok(found) => Ok(found),
-        Err(Unavailable::Memory) => Err(Stop::Memory),
-        Err(Unavailable::Store) => Err(Stop::Store),
+        Err(QueueUnavailable::Memory) => Err(Stop::Memory),
+        Err(QueueUnavailable::Store) => Err(Stop::Store),
     }
 }
 
 // Hands over one row, and notes what became of it. Returns how that ended.
-fn visit<Q: Queue, S: Server, J: Journal>(
+fn visit<Q: SendQueue, S: Server, J: Journal>(
     alloc: Global,
     queue: &mut Q,
     server: &mut S,
     journal: &mut J,
     link: &mut Link,
-    row: &Row,
+    row: &DueMessage,
 ) -> Result<Ending, Stop>
     ensures may { link.new.may_eight_bit ≡ link.old.may_eight_bit }
-    ensures reaches { (before : s.State) → Q.shows queue.old before.rows → S.said server.old before.talk → IsThere row.now before.rows
-        → s.Reaches link.old.may_eight_bit (Q.shows queue.new) (S.said server.new) before (is_ok result) }
+    ensures reaches { (before : s.SendState) → Q.shows queue.old before.rows → S.said server.old before.talk → IsThere row.now before.rows
+        → s.RunReaches link.old.may_eight_bit (Q.shows queue.new) (S.said server.new) before (is_ok result) }
 {
     journal.begin(row.user.as_slice(), row.id);
     let handed = hand_over(alloc, queue, server, journal, link, row);
-    noted(journal, row, handed)
+    note_ending(journal, row, handed)
 }
 
 // Hands the row to the server, over the connection that there is or a new one.
-fn hand_over<Q: Queue, S: Server, J: Journal>(
+fn hand_over<Q: SendQueue, S: Server, J: Journal>(
     alloc: Global,
     queue: &mut Q,
     server: &mut S,
     journal: &mut J,
     link: &mut Link,
-    row: &Row,
+    row: &DueMessage,
 ) -> Result<Ending, Stop>
     ensures may { link.new.may_eight_bit ≡ link.old.may_eight_bit }
-    ensures reaches { (before : s.State) → Q.shows queue.old before.rows → S.said server.old before.talk → IsThere row.now before.rows
-        → s.Reaches link.old.may_eight_bit (Q.shows queue.new) (S.said server.new) before (is_ok result) }
+    ensures reaches { (before : s.SendState) → Q.shows queue.old before.rows → S.said server.old before.talk → IsThere row.now before.rows
+        → s.RunReaches link.old.may_eight_bit (Q.shows queue.new) (S.said server.new) before (is_ok result) }
 {
     let Some(offered) = offered_for(queue, server, link, row) else {
         return Err(Stop::Unreachable);
@@ -160,9 +160,9 @@ fn hand_over<Q: Queue, S: Server, J: Journal>(
 }
 
 // Notes what became of the row: if the server isn't available it waits.
-fn noted<J: Journal>(
+fn note_ending<J: Journal>(
     journal: &mut J,
-    row: &Row,
+    row: &DueMessage,
     handed: Result<Ending, Stop>,
 ) -> Result<Ending, Stop>
     ensures { is_ok result ≡ true → is_ok handed ≡ true }
@@ -180,15 +180,15 @@ fn noted<J: Journal>(
 
 // What the server offers, over the connection that there is or a new one; none if it isn't available. A row that is never sent needs
 // none.
-fn offered_for<Q: Queue, S: Server>(
+fn offered_for<Q: SendQueue, S: Server>(
     queue: &mut Q,
     server: &mut S,
     link: &mut Link,
-    row: &Row,
+    row: &DueMessage,
 ) -> Option<Extensions>
     ensures may { link.new.may_eight_bit ≡ link.old.may_eight_bit }
     ensures rows { (rows : Rows) → Q.shows queue.old rows → Q.shows queue.new rows }
-    ensures kept { (t : Talk) → S.said server.old t → S.said server.new t }
+    ensures kept { (t : SendTalk) → S.said server.old t → S.said server.new t }
 {
     if let Some(offered) = link.offered {
         return Some(offered);
@@ -205,7 +205,7 @@ fn offered_for<Q: Queue, S: Server>(
 }
 
 // Settles the connection after a message: one that was refused is dropped by RSET, and a connection that was lost is ended.
-fn settle<Q: Queue, S: Server, J: Journal>(
+fn settle<Q: SendQueue, S: Server, J: Journal>(
     queue: &mut Q,
     server: &mut S,
     journal: &mut J,
@@ -214,7 +214,7 @@ fn settle<Q: Queue, S: Server, J: Journal>(
 )
     ensures may { link.new.may_eight_bit ≡ link.old.may_eight_bit }
     ensures rows { (rows : Rows) → Q.shows queue.old rows → Q.shows queue.new rows }
-    ensures kept { (t : Talk) → S.said server.old t → S.said server.new t }
+    ensures kept { (t : SendTalk) → S.said server.old t → S.said server.new t }
 {
     let goes_on = match ending {
         Ending::Sent | Ending::Undeclared | Ending::Unaddressed => true,
@@ -229,13 +229,13 @@ fn settle<Q: Queue, S: Server, J: Journal>(
 }
 
 // Drops the message that was refused. Returns whether the server says yes to that.
-fn begin_anew<Q: Queue, S: Server, J: Journal>(
+fn begin_anew<Q: SendQueue, S: Server, J: Journal>(
     queue: &mut Q,
     server: &mut S,
     journal: &mut J,
 ) -> bool
     ensures rows { (rows : Rows) → Q.shows queue.old rows → Q.shows queue.new rows }
-    ensures kept { (t : Talk) → S.said server.old t → S.said server.new t }
+    ensures kept { (t : SendTalk) → S.said server.old t → S.said server.new t }
 {
     if server.reset().is_err() {
         return false;

@@ -1,15 +1,15 @@
 //! A text on its way to a server, in pieces.
 ghost use Rattle.std.specs.Prelude.{◌≡◌, [], ◌++◌, OnOk, OnErr};
-ghost use Rattle.smtpclient.specs.Sent.{sent_from, start};
-ghost use Rattle.mailsenders.specs.Rows.{Rows};
-ghost use Rattle.mailsenders.specs.Talks as s;
-ghost use Rattle.mailsenders.specs.Talks.{Talk};
+ghost use Rattle.smtp_dialogue.specs.Sent.{sent_from, sent_start};
+ghost use Rattle.smtp_send.specs.Rows.{Rows};
+ghost use Rattle.smtp_send.specs.Talks as s;
+ghost use Rattle.smtp_send.specs.Talks.{SendTalk};
 
 use crate::journal::Journal;
-use crate::queue::Queue;
+use crate::queue::SendQueue;
 use crate::server::{Lost, Server};
 use crate::way::write_octets;
-use smtpclient::Sent;
+use smtp_dialogue::DotStuffed;
 use std::alloc::Global;
 
 /// Parts of a text are gathered up to this many octets, and written at once.
@@ -20,7 +20,7 @@ const PIECE: usize = 32_768;
 /// # Errors
 ///
 /// The connection is lost, or there is no memory for a piece.
-pub(crate) fn write_text<Q: Queue, S: Server, J: Journal>(
+pub(crate) fn write_text<Q: SendQueue, S: Server, J: Journal>(
     alloc: Global,
     queue: &mut Q,
     server: &mut S,
@@ -28,13 +28,13 @@ pub(crate) fn write_text<Q: Queue, S: Server, J: Journal>(
     text: &[u8],
 ) -> Result<(), Lost>
     ensures rows { (rows : Rows) → Q.shows queue.old rows → Q.shows queue.new rows }
-    ensures ok { OnOk result ((t : Talk) → S.said server.old t → S.said server.new (s.wrote t (sent_from start text.now))) }
-    ensures err { OnErr result ((t : Talk) → S.said server.old t → (u : Talk) × S.said server.new u × s.WritesFront (sent_from start text.now) t u) }
+    ensures ok { OnOk result ((t : SendTalk) → S.said server.old t → S.said server.new (s.talk_written t (sent_from sent_start text.now))) }
+    ensures err { OnErr result ((t : SendTalk) → S.said server.old t → (u : SendTalk) × S.said server.new u × s.WritesPrefix (sent_from sent_start text.now) t u) }
 {
     let Ok(mut piece) = Vec::with_capacity(alloc, PIECE) else {
         return Err(Lost);
     };
-    let mut sent = Sent::new(text);
+    let mut sent = DotStuffed::new(text);
     while let Some(part) = sent.next() {
         if gather(queue, server, journal, &mut piece, part).is_err() {
             return Err(Lost);
@@ -44,7 +44,7 @@ pub(crate) fn write_text<Q: Queue, S: Server, J: Journal>(
 }
 
 // Appends a part to the piece. A piece that it would make too large is written before, and so is a part that is one alone.
-fn gather<Q: Queue, S: Server, J: Journal>(
+fn gather<Q: SendQueue, S: Server, J: Journal>(
     queue: &mut Q,
     server: &mut S,
     journal: &mut J,
@@ -52,8 +52,8 @@ fn gather<Q: Queue, S: Server, J: Journal>(
     part: &[u8],
 ) -> Result<(), Lost>
     ensures rows { (rows : Rows) → Q.shows queue.old rows → Q.shows queue.new rows }
-    ensures ok { OnOk result ((t : Talk) → S.said server.old t → (u : Talk) × S.said server.new u × s.Writing (piece.old.items ++ part.now) t u piece.new.items) }
-    ensures err { OnErr result ((t : Talk) → S.said server.old t → (u : Talk) × S.said server.new u × s.WritesFront (piece.old.items ++ part.now) t u) }
+    ensures ok { OnOk result ((t : SendTalk) → S.said server.old t → (u : SendTalk) × S.said server.new u × s.Writing (piece.old.items ++ part.now) t u piece.new.items) }
+    ensures err { OnErr result ((t : SendTalk) → S.said server.old t → (u : SendTalk) × S.said server.new u × s.WritesPrefix (piece.old.items ++ part.now) t u) }
 {
     if part.len() > PIECE.saturating_sub(piece.len()) {
         write_piece(queue, server, journal, piece)?;
@@ -68,7 +68,7 @@ fn gather<Q: Queue, S: Server, J: Journal>(
 }
 
 // Writes what was gathered.
-fn write_piece<Q: Queue, S: Server, J: Journal>(
+fn write_piece<Q: SendQueue, S: Server, J: Journal>(
     queue: &mut Q,
     server: &mut S,
     journal: &mut J,
@@ -76,8 +76,8 @@ fn write_piece<Q: Queue, S: Server, J: Journal>(
 ) -> Result<(), Lost>
     ensures rows { (rows : Rows) → Q.shows queue.old rows → Q.shows queue.new rows }
     ensures empty { OnOk result (piece.new.items ≡ []) }
-    ensures ok { OnOk result ((t : Talk) → S.said server.old t → S.said server.new (s.wrote t piece.old.items)) }
-    ensures err { OnErr result ((t : Talk) → S.said server.old t → (u : Talk) × S.said server.new u × s.WritesFront piece.old.items t u) }
+    ensures ok { OnOk result ((t : SendTalk) → S.said server.old t → S.said server.new (s.talk_written t piece.old.items)) }
+    ensures err { OnErr result ((t : SendTalk) → S.said server.old t → (u : SendTalk) × S.said server.new u × s.WritesPrefix piece.old.items t u) }
 {
     write_octets(queue, server, journal, piece.as_slice())?;
     piece.clear();

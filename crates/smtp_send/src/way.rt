@@ -1,18 +1,18 @@
 //! The store while a connection is spoken to: it is kept if replies come at once, and nobody else waits for it.
 ghost use Rattle.std.specs.Prelude.{OnOk, OnErr};
-ghost use Rattle.mailsenders.specs.Rows.{Rows};
-ghost use Rattle.mailsenders.specs.Talks as s;
-ghost use Rattle.mailsenders.specs.Talks.{Talk};
+ghost use Rattle.smtp_send.specs.Rows.{Rows};
+ghost use Rattle.smtp_send.specs.Talks as s;
+ghost use Rattle.smtp_send.specs.Talks.{SendTalk};
 
 use crate::journal::Journal;
-use crate::queue::Queue;
+use crate::queue::SendQueue;
 use crate::server::{Lost, Server};
 
 /// For how many milliseconds the store is left alone if it was held for long: others may ask for it without saying that they wait.
 const REST: u64 = 20;
 
 /// Gives the store back if somebody waits for it, or if it was held for long; then it rests.
-pub(crate) fn make_way<Q: Queue, J: Journal>(queue: &mut Q, journal: &mut J)
+pub(crate) fn make_way<Q: SendQueue, J: Journal>(queue: &mut Q, journal: &mut J)
     ensures { (rows : Rows) → Q.shows queue.old rows → Q.shows queue.new rows }
 {
     let now = journal.uptime();
@@ -22,13 +22,13 @@ pub(crate) fn make_way<Q: Queue, J: Journal>(queue: &mut Q, journal: &mut J)
 }
 
 /// Before a reply is waited for: the store is kept if the reply comes at once, and nobody waits for the store.
-pub(crate) fn await_reply<Q: Queue, S: Server, J: Journal>(
+pub(crate) fn await_reply<Q: SendQueue, S: Server, J: Journal>(
     queue: &mut Q,
     server: &mut S,
     journal: &mut J,
 )
     ensures rows { (rows : Rows) → Q.shows queue.old rows → Q.shows queue.new rows }
-    ensures said { (t : Talk) → S.said server.old t → S.said server.new t }
+    ensures said { (t : SendTalk) → S.said server.old t → S.said server.new t }
 {
     make_way(queue, journal);
     if !server.has_reply() {
@@ -41,15 +41,15 @@ pub(crate) fn await_reply<Q: Queue, S: Server, J: Journal>(
 /// # Errors
 ///
 /// The connection is lost, and a prefix of them was written.
-pub(crate) fn write_octets<Q: Queue, S: Server, J: Journal>(
+pub(crate) fn write_octets<Q: SendQueue, S: Server, J: Journal>(
     queue: &mut Q,
     server: &mut S,
     journal: &mut J,
     octets: &[u8],
 ) -> Result<(), Lost>
     ensures rows { (rows : Rows) → Q.shows queue.old rows → Q.shows queue.new rows }
-    ensures ok { OnOk result ((t : Talk) → S.said server.old t → S.said server.new (s.wrote t octets.now)) }
-    ensures err { OnErr result ((t : Talk) → S.said server.old t → (u : Talk) × S.said server.new u × s.WritesFront octets.now t u) }
+    ensures ok { OnOk result ((t : SendTalk) → S.said server.old t → S.said server.new (s.talk_written t octets.now)) }
+    ensures err { OnErr result ((t : SendTalk) → S.said server.old t → (u : SendTalk) × S.said server.new u × s.WritesPrefix octets.now t u) }
 {
     make_way(queue, journal);
     let count = server.offer(octets)?;

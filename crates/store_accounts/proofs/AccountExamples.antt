@@ -3,11 +3,11 @@ use Rattle.std.proofs.Common.{◌≡◌, ℕ, suc, cond, List, [], ◌∷◌, �
 use Rattle.std.specs.FinMap.{get, insert, get-remove}
 use Rattle.std.proofs.lemmas.Cmp.{nat_list_cmp_total}
 use Rattle.sqlite_typed.proofs.TestLemmas.{bytes_eq_refl}
-use Rattle.mailtables.specs.declared.queue.Kind.TheVariants.{Redirect, Reply}
-use Rattle.mailstore.specs.declared.report.VacationReply.{VacationReply}
-use Rattle.mailstore.specs.declared.report.Plan.{Plan}
-use Rattle.mailstore.proofs.TakingLemmas.{held_get}
-use Rattle.mailstore.specs.Account.{Account, holding, messages_in, deletes_script, renames_script, queues, takes_out, takes_mail, remembers, sends_on, replies_if_any, delivers, files_copies}
+use Rattle.store_tables.specs.declared.queue.QueuedKind.TheVariants.{Redirect, Reply}
+use Rattle.store_accounts.specs.declared.report.VacationReply.{VacationReply}
+use Rattle.store_accounts.specs.declared.report.Plan.{Plan}
+use Rattle.store_accounts.proofs.TakingLemmas.{held_get}
+use Rattle.store_accounts.specs.Account.{Account, holding, messages_in, deletes_script, renames_script, queues, takes_out, takes_mail, remembers, sends_on, replies_if_any, delivers, files_copies}
 
 abbrev one : List ℕ
 one = codes "one"

@@ -14,27 +14,27 @@ use Rattle.sqlite_sql.specs.declared.ops.CompareOp.TheVariants.{Eq}
 use Rattle.sqlite_keyed.specs.Lists.{update_where, delete_where}
 use Rattle.sqlite_keyed.proofs.ListLemmas.{filter-map, filter_same}
 use Rattle.sqlite_typed.proofs.TestLemmas.{at_blobs, at_ints, last_term, then_term}
-use Rattle.mailtables.specs.Rows.{Tables, has_key, added, removed, set_in}
-use Rattle.mailtables.proofs.ListLemmas.{owner_key, pair_key, equal_itself}
-use Rattle.mailstore.specs.declared.queue.Outgoing.{Outgoing}
-use Rattle.mailtables.specs.Cells.{or_null}
-use Rattle.mailstore.specs.Account.{bytes_cmp, reply_cmp, Account, Replies, Scripts, new_account, keeps_script, activates, deletes_script, renames_script, moved, other_name, takes_out}
-use Rattle.mailtables.specs.AccountTable.{account_cells, with_active, account_tree}
-use Rattle.mailtables.specs.ScriptTable.{script_cells, script_tree}
-use Rattle.mailstore.specs.ScriptRows.{script_row, ShowsScripts}
-use Rattle.mailstore.specs.MessageRows.{Message, message_row}
-use Rattle.mailtables.specs.MessageTable.{message_key, message_tree}
-use Rattle.mailstore.specs.CopyRows.{copy_row}
-use Rattle.mailtables.specs.CopyTable.{copy_tree}
-use Rattle.mailtables.specs.ReplyTable.{reply_cells, reply_key}
-use Rattle.mailstore.specs.ReplyRows.{reply_row, ShowsReplies}
-use Rattle.mailstore.specs.Shows.{IsShown, IsAbsent}
-use Rattle.mailstore.proofs.NumberLemmas.{numbered_none, numbered_without}
-use Rattle.mailstore.proofs.MapLemmas.{shown_put, shown_without, apart_put, apart_without}
-use Rattle.mailstore.specs.NoticeRows.{notice_row}
-use Rattle.mailtables.specs.NoticeTable.{notice_tree}
-use Rattle.mailtables.specs.QueueTable.{outgoing_tree, queue_key}
-use Rattle.mailstore.specs.QueueRows.{queue_row}
+use Rattle.store_tables.specs.Rows.{Tables, has_key, row_added, rows_removed, set_in}
+use Rattle.store_tables.proofs.ListLemmas.{owner_key, pair_key, equal_itself}
+use Rattle.store_accounts.specs.declared.queue.QueuedMessage.{QueuedMessage}
+use Rattle.store_tables.specs.Cells.{or_null}
+use Rattle.store_accounts.specs.Account.{bytes_cmp, reply_cmp, Account, ReplyMoments, Scripts, new_account, keeps_script, activates, deletes_script, renames_script, moved, other_name, takes_out}
+use Rattle.store_tables.specs.AccountTable.{account_cells, with_active, account_tree}
+use Rattle.store_tables.specs.ScriptTable.{script_cells, scripts_tree}
+use Rattle.store_accounts.specs.ScriptRows.{script_row, ShowsScripts}
+use Rattle.store_accounts.specs.MessageRows.{Message, message_row}
+use Rattle.store_tables.specs.MessageTable.{message_key, message_tree}
+use Rattle.store_accounts.specs.CopyRows.{copy_row}
+use Rattle.store_tables.specs.CopyTable.{copy_tree}
+use Rattle.store_tables.specs.ReplyTable.{reply_cells, reply_key}
+use Rattle.store_accounts.specs.ReplyRows.{reply_row, ShowsReplies}
+use Rattle.store_accounts.specs.Shows.{IsShown, IsAbsent}
+use Rattle.store_accounts.proofs.NumberLemmas.{numbered_none, numbered_without}
+use Rattle.store_accounts.proofs.MapLemmas.{shown_put, shown_without, apart_put, apart_without}
+use Rattle.store_accounts.specs.NoticeRows.{notice_row}
+use Rattle.store_tables.specs.NoticeTable.{notice_tree}
+use Rattle.store_tables.specs.QueueTable.{outgoing_tree, queue_key}
+use Rattle.store_accounts.specs.QueueRows.{queue_row}
 
 pub bytes_antisymmetric : IsAntisymmetric bytes_cmp
 bytes_antisymmetric = slice_cmp-IsAntisymmetric nat_cmp-IsAntisymmetric
@@ -76,7 +76,7 @@ same_numbers m n = elim (cases_eq m n) [
 ]
 
 -- a row of the queue has a key of its owner and a number where the number is that
-pub queue_is : (user : List ℕ) (id : ℕ) (out : Outgoing) → has_key (queue_key user (pos id)) (queue_row user out) ≡ (out.id == id)
+pub queue_is : (user : List ℕ) (id : ℕ) (out : QueuedMessage) → has_key (queue_key user (pos id)) (queue_row user out) ≡ (out.id == id)
 queue_is user id out = rw (equal_itself user) (last_term (at_ints false Eq (pos out.id) (pos id)) ∙ same_numbers out.id id)
 
 -- a row of a message has a key of its owner and a number where the number is that
@@ -84,7 +84,7 @@ pub message_is : (user : List ℕ) (id : ℕ) (m : Message) → has_key (message
 message_is user id m = rw (equal_itself user) (last_term (at_ints false Eq (pos m.id) (pos id)) ∙ same_numbers m.id id)
 
 -- a reply in place of one with its key
-module _ (user : List ℕ) (rows : List Row) (replies : Replies) (s : ShowsReplies user rows replies) (key : List ℕ × List ℕ) where
+module _ (user : List ℕ) (rows : List Row) (replies : ReplyMoments) (s : ShowsReplies user rows replies) (key : List ℕ × List ℕ) where
   -- the rows of the other replies
   replies_left : delete_where (has_key (reply_key user key.0 key.1)) rows ≡ map (reply_row user) (delete_where (is_reply key) s.entries)
   replies_left =
@@ -120,14 +120,14 @@ module _ (user : List ℕ) (rows : List Row) (scripts : Scripts) (s : ShowsScrip
       }
 
 module _ (user : List ℕ) (own : Tables) (a : Account) (s : IsShown user own a) where
-  pub script_gone : (name : List ℕ) → IsShown user (removed script_tree (pair_key user name) own) (deletes_script name a)
+  pub script_gone : (name : List ℕ) → IsShown user (rows_removed scripts_tree (pair_key user name) own) (deletes_script name a)
   script_gone name = record {
     next_copy = s.next_copy;
     next_notice = s.next_notice;
     account_is = s.account_is;
     scripts = record {
       entries = delete_where (is_named name) s.scripts.entries;
-      rows_are = scripts_left user (own script_tree) a.scripts s.scripts name;
+      rows_are = scripts_left user (own scripts_tree) a.scripts s.scripts name;
       shown = shown_without bytes_cmp nat_list_cmp_total bytes_antisymmetric a.scripts s.scripts.entries name s.scripts.shown;
       apart = apart_without bytes_cmp nat_list_cmp_total bytes_antisymmetric s.scripts.entries name s.scripts.apart;
     };
@@ -137,12 +137,12 @@ module _ (user : List ℕ) (own : Tables) (a : Account) (s : IsShown user own a)
     copies = s.copies;
   }
 
-  pub script_put : (name text : List ℕ) → IsShown user (added script_tree (script_cells user name text) (removed script_tree (pair_key user name) own)) (keeps_script name text a)
+  pub script_put : (name text : List ℕ) → IsShown user (row_added scripts_tree (script_cells user name text) (rows_removed scripts_tree (pair_key user name) own)) (keeps_script name text a)
   script_put name text = record {
     next_copy = s.next_copy;
     next_notice = s.next_notice;
     account_is = s.account_is;
-    scripts = scripts_put user (own script_tree) a.scripts s.scripts name text;
+    scripts = scripts_put user (own scripts_tree) a.scripts s.scripts name text;
     queue = s.queue;
     replies = s.replies;
     notices = s.notices;
@@ -150,7 +150,7 @@ module _ (user : List ℕ) (own : Tables) (a : Account) (s : IsShown user own a)
   }
 
   -- the row with the number is gone from the queue
-  pub queue_gone : (id : ℕ) → IsShown user (removed outgoing_tree (queue_key user (pos id)) own) (takes_out id a)
+  pub queue_gone : (id : ℕ) → IsShown user (rows_removed outgoing_tree (queue_key user (pos id)) own) (takes_out id a)
   queue_gone id = record {
     next_copy = s.next_copy;
     next_notice = s.next_notice;
@@ -177,7 +177,7 @@ module _ (user : List ℕ) (own : Tables) (a : Account) (s : IsShown user own a)
 -- a script under another name
 module _ (user name other : List ℕ) (active : Option (List ℕ)) (own : Tables) (a : Account) (s : IsShown user own a) (is : active ≡ option_map (other_name name other) a.active) where
   pub script_moved : (text : List ℕ) → Some text ≡ get a.scripts name
-      → IsShown user (set_in account_tree (owner_key user) (with_active (or_null active)) (added script_tree (script_cells user other text) (removed script_tree (pair_key user other) (removed script_tree (pair_key user name) own)))) (renames_script name other a)
+      → IsShown user (set_in account_tree (owner_key user) (with_active (or_null active)) (row_added scripts_tree (script_cells user other text) (rows_removed scripts_tree (pair_key user other) (rows_removed scripts_tree (pair_key user name) own)))) (renames_script name other a)
   script_moved text has =
       let gone = script_gone user own a s name in
       let put = script_put user _ _ gone other text in
@@ -191,7 +191,7 @@ module _ (user name other : List ℕ) (active : Option (List ℕ)) (own : Tables
 
 -- from no rows to a new account
 pub account_put : (user address salt : List ℕ) (rounds : ℕ) (digest : List ℕ) (own : Tables) → IsAbsent own
-    → IsShown user (added account_tree (account_cells user address salt rounds digest) own) (new_account address (record { salt = salt; rounds = rounds; digest = digest }))
+    → IsShown user (row_added account_tree (account_cells user address salt rounds digest) own) (new_account address (record { salt = salt; rounds = rounds; digest = digest }))
 account_put user address salt rounds digest own s = record {
   next_copy = 1;
   next_notice = 1;

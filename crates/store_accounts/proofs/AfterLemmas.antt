@@ -3,23 +3,23 @@ use Rattle.std.proofs.Common.{◌≡◌, ◌⊎◌, ◌==◌, ℕ, true, false, 
 use Rattle.std.specs.FinMap.{get}
 use Rattle.sqlite.specs.State.{State, HasCleanDisk, Survives}
 use Rattle.sqlite.proofs.StateLemmas.{survives_then, survives_weaker}
-use Rattle.mailtables.specs.Rows.{Tables, HoldsTables}
-use Rattle.mailtables.specs.declared.change.Change.{Change}
-use Rattle.mailstore.specs.declared.refusal.Refusal.{Refusal}
-use Rattle.mailstore.specs.declared.refusal.Refusal.TheVariants.{NoUser}
-use Rattle.mailtables.specs.Schema.{mail_schema}
-use Rattle.mailtables.specs.Connection.{StaysSame, IsSettled}
-use Rattle.mailtables.specs.Changes.{made, CrashLeavesTables, MakesAll}
-use Rattle.mailstore.specs.Account.{Account, Accounts, with_user}
-use Rattle.mailstore.specs.Refusals.{IsTransient}
-use Rattle.mailstore.specs.Shows.{ShowsAccounts, Presents}
-use Rattle.mailstore.proofs.StandingLemmas.{open_there, open_with, shut_with, free_shut}
-use Rattle.mailstore.specs.Promises.{HasUser, HasNoOpen, OfUser, OfOpen, Turns, CrashLeavesAccounts, HasOurTables, Keeps, KeepsSeen, Reads, ReadsProfile, WritesAccount, WritesKnown}
-use Rattle.mailtables.proofs.ResultLemmas.{on_ok, on_any}
-use Rattle.mailtables.proofs.WriteLemmas.{clean_before}
-use Rattle.mailstore.proofs.KeepLemmas.{survives_same, transient_named, transient_other, keeps_ok, keeps_refused, keeps_then, keeps_failed, none_if, none_ok, mid_shows}
-use Rattle.mailstore.specs.declared.profile.Profile.{Profile}
-use Rattle.mailstore.specs.AccountRows.{profile_of}
+use Rattle.store_tables.specs.Rows.{Tables, HoldsTables}
+use Rattle.store_tables.specs.declared.change.Change.{Change}
+use Rattle.store_accounts.specs.declared.refusal.Refusal.{Refusal}
+use Rattle.store_accounts.specs.declared.refusal.Refusal.TheVariants.{NoUser}
+use Rattle.store_tables.specs.Schema.{mail_schema}
+use Rattle.store_tables.specs.Connection.{StaysSame, IsSettled}
+use Rattle.store_tables.specs.Changes.{made, CrashLeavesTables, MakesAll}
+use Rattle.store_accounts.specs.Account.{Account, Accounts, with_user}
+use Rattle.store_accounts.specs.Refusals.{IsTransient}
+use Rattle.store_accounts.specs.Shows.{ShowsAccounts, Presents}
+use Rattle.store_accounts.proofs.StandingLemmas.{open_there, open_with, shut_with, free_shut}
+use Rattle.store_accounts.specs.Promises.{HasUser, HasNoOpen, OfUser, OfOpen, ChangesAccounts, CrashLeavesAccounts, HasOurTables, KeepsTables, KeepsSeen, ReadsOpenAccount, ReadsProfile, WritesAccount, WritesKnown}
+use Rattle.store_tables.proofs.ResultLemmas.{on_ok, on_any}
+use Rattle.store_tables.proofs.WriteLemmas.{clean_before}
+use Rattle.store_accounts.proofs.KeepLemmas.{survives_same, transient_named, transient_other, keeps_ok, keeps_refused, keeps_then, keeps_failed, none_if, none_ok, mid_shows}
+use Rattle.store_accounts.specs.declared.profile.Profile.{Profile}
+use Rattle.store_accounts.specs.AccountRows.{profile_of}
 
 -- ---- a write after a read
 
@@ -28,7 +28,7 @@ abbrev pub CarriesKnown : State → State → List ℕ → (Account → Account)
 CarriesKnown a b user change ds = HasCleanDisk b → (accounts : Accounts) → (p : Presents a.now accounts) → HasUser user accounts → ShowsAccounts (made p.0 ds) (with_user accounts user change)
 
 -- a write that goes by what a read told of the account
-module _ {X Y : Type 0} (user : List ℕ) (Known : Account → Type 0) (change : Account → Account) (a b c : State) (r : Result X Refusal) (x : X) (ok : r ≡ Ok x) (Part : X → Account → Type 0) (early : Reads user Part a b r)
+module _ {X Y : Type 0} (user : List ℕ) (Known : Account → Type 0) (change : Account → Account) (a b c : State) (r : Result X Refusal) (x : X) (ok : r ≡ Ok x) (Part : X → Account → Type 0) (early : ReadsOpenAccount user Part a b r)
     (fits : (account : Account) → Part x account → Known account) (q : Result Y Refusal) (late : WritesKnown user Known change b c q) where
   clean_then : HasCleanDisk c → HasCleanDisk b
   clean_then = clean_before b c _ late.crash
@@ -44,7 +44,7 @@ module _ {X Y : Type 0} (user : List ℕ) (Known : Account → Type 0) (change :
       let there = subst (λ o. IfOk o (λ w. OfOpen accounts user (Part w))) ok (early.found (clean_then clean) accounts p) in
       (there.0, open_there (get accounts user) there.0 there.1, fits there.0 there.2)
 
-  turned : HasCleanDisk c → (o : Result Y Refusal) → OnOk o (Turns (λ all. OfUser all user Known) (λ all. with_user all user change) b.now c.now) → OnOk o (Turns (HasUser user) (λ all. with_user all user change) a.now c.now)
+  turned : HasCleanDisk c → (o : Result Y Refusal) → OnOk o (ChangesAccounts (λ all. OfUser all user Known) (λ all. with_user all user change) b.now c.now) → OnOk o (ChangesAccounts (HasUser user) (λ all. with_user all user change) a.now c.now)
   turned clean (Err e) h = tt
   turned clean (Ok y) h = λ accounts p has. h accounts (shows_then clean accounts p) (known_then clean accounts p)
 
@@ -67,7 +67,7 @@ module _ {X Y : Type 0} (user : List ℕ) (Known : Account → Type 0) (change :
 -- ---- reads in turn
 
 -- a read is one
-pub seen_read : {X E : Type 0} (a b : State) (r : Result X E) → Keeps a b r → KeepsSeen a b r
+pub seen_read : {X E : Type 0} (a b : State) (r : Result X E) → KeepsTables a b r → KeepsSeen a b r
 seen_read {X} {E} a b r k = record { same = k.same; seen = λ clean ours. go r (k.live clean) (k.same clean ours); crash = k.crash }
   where
     go : (o : Result X E) → OnOk o (IsTrue b.is_open) → StaysSame a b → OnOk o ((b.now ≡ a.now) × (b.committed ≡ a.committed))
@@ -132,7 +132,7 @@ module _ {X Y E : Type 0} (a b c : State) (r : Result X E) (x : X) (ok : r ≡ O
   mid_holds : HasCleanDisk c → (tables : Tables) → HoldsTables mail_schema a.now tables → HoldsTables mail_schema b.now tables
   mid_holds clean tables h = subst (λ d. HoldsTables mail_schema d tables) (sym (mid_same clean (tables, h)).0) h
 
-  made_then : HasCleanDisk c → (o : Result Y Refusal) → MakesAll ds b c o → OnOk o (Turns (HasUser user) changed a.now c.now)
+  made_then : HasCleanDisk c → (o : Result Y Refusal) → MakesAll ds b c o → OnOk o (ChangesAccounts (HasUser user) changed a.now c.now)
   made_then clean (Err e) wrote = tt
   made_then clean (Ok y) wrote = λ accounts p has. (made p.0 ds, wrote clean p.0 (mid_holds clean p.0 p.1), carries (early clean) accounts p has)
 
@@ -158,7 +158,7 @@ module _ {X Y E : Type 0} (a b c : State) (r : Result X E) (x : X) (ok : r ≡ O
     named = transient_named q named;
   }
 
-pub writes_then : {X Y E : Type 0} (a b c : State) (r : Result X E) (x : X) (ok : r ≡ Ok x) (kept : Keeps a b r) (user : List ℕ) (change : Account → Account) (ds : List Change) → CarriesKnown a b user change ds → Survives b c (CrashLeavesTables ds b)
+pub writes_then : {X Y E : Type 0} (a b c : State) (r : Result X E) (x : X) (ok : r ≡ Ok x) (kept : KeepsTables a b r) (user : List ℕ) (change : Account → Account) (ds : List Change) → CarriesKnown a b user change ds → Survives b c (CrashLeavesTables ds b)
     → (q : Result Y Refusal) → MakesAll ds b c q → (HasCleanDisk c → OnOk q (IsSettled c)) → (HasCleanDisk c → OnErr q (StaysSame b c)) → IfErr q IsTransient → WritesAccount user change a c q
 writes_then a b c r x ok kept user change ds carries late q = writes_seen a b c r x ok (seen_read a b r kept) user change ds carries late q
 
@@ -166,7 +166,7 @@ writes_then a b c r x ok kept user change ds carries late q = writes_seen a b c 
 pub write_unmade : {X Y E : Type 0} (a b : State) (r : Result X E) (user : List ℕ) (change : Account → Account) (e : Refusal) (q : Result Y Refusal) → q ≡ Err e → KeepsSeen a b r
     → (HasCleanDisk b → (accounts : Accounts) → Presents a.now accounts → e ≡ NoUser → HasNoOpen user accounts) → (e ≡ NoUser) ⊎ IsTransient e → WritesAccount user change a b q
 write_unmade a b r user change e q is kept absent named = record {
-  made = λ clean. subst (λ o. OnOk o (Turns (HasUser user) (λ all. with_user all user change) a.now b.now)) (sym is) tt;
+  made = λ clean. subst (λ o. OnOk o (ChangesAccounts (HasUser user) (λ all. with_user all user change) a.now b.now)) (sym is) tt;
   settled = λ clean. subst (λ o. OnOk o (IsSettled b)) (sym is) tt;
   same = λ clean ours. subst (λ o. OnErr o (StaysSame a b)) (sym is) (kept.same clean ours);
   absent = λ clean accounts p. subst (λ o. IfErr o (λ f. f ≡ NoUser → HasNoOpen user accounts)) (sym is) (absent clean accounts p);
@@ -174,7 +174,7 @@ write_unmade a b r user change e q is kept absent named = record {
   named = subst (λ o. IfErr o (λ f. (f ≡ NoUser) ⊎ IsTransient f)) (sym is) named;
 }
 
-pub write_refused : {X Y : Type 0} (a b : State) (r : Result X Refusal) (user : List ℕ) (change : Account → Account) (e : Refusal) (q : Result Y Refusal) → q ≡ Err e → Keeps a b r
+pub write_refused : {X Y : Type 0} (a b : State) (r : Result X Refusal) (user : List ℕ) (change : Account → Account) (e : Refusal) (q : Result Y Refusal) → q ≡ Err e → KeepsTables a b r
     → (HasCleanDisk b → (accounts : Accounts) → Presents a.now accounts → e ≡ NoUser → HasNoOpen user accounts) → (e ≡ NoUser) ⊎ IsTransient e → WritesAccount user change a b q
 write_refused a b r user change e q is kept absent named = write_unmade a b r user change e q is (seen_read a b r kept) absent named
 
@@ -182,7 +182,7 @@ write_refused a b r user change e q is kept absent named = write_unmade a b r us
 pub write_lost : {X Y E : Type 0} (a b : State) (r : Result X E) (user : List ℕ) (change : Account → Account) (e : Refusal) (q : Result Y Refusal) → q ≡ Err e → KeepsSeen a b r → IsTransient e → WritesAccount user change a b q
 write_lost {Y = Y} a b r user change e q is kept transient = write_unmade a b r user change e q is kept (λ clean accounts p. transient_other {Y = Y} (Err e) (HasNoOpen user accounts) transient) (inr transient)
 
-pub write_failed : {X Y : Type 0} (a b : State) (r : Result X Refusal) (user : List ℕ) (change : Account → Account) (e : Refusal) (q : Result Y Refusal) → q ≡ Err e → Keeps a b r → IsTransient e → WritesAccount user change a b q
+pub write_failed : {X Y : Type 0} (a b : State) (r : Result X Refusal) (user : List ℕ) (change : Account → Account) (e : Refusal) (q : Result Y Refusal) → q ≡ Err e → KeepsTables a b r → IsTransient e → WritesAccount user change a b q
 write_failed a b r user change e q is kept transient = write_lost a b r user change e q is (seen_read a b r kept) transient
 
 -- ---- the account is entered
@@ -219,7 +219,7 @@ module _ (user : List ℕ) (a b : State) (r : Result (Option Profile) Refusal) (
   still_open : (o : Option Profile) → r ≡ Ok o → HasCleanDisk b → IsTrue b.is_open
   still_open o is clean = on_ok r o is (IsTrue b.is_open) (h.keeps.live clean)
 
-  pub account_entered : (profile : Profile) → r ≡ Ok (Some profile) → (profile.rounds == 0) ≡ false → Reads user (λ profile a. profile ≡ profile_of a) a b (Ok profile)
+  pub account_entered : (profile : Profile) → r ≡ Ok (Some profile) → (profile.rounds == 0) ≡ false → ReadsOpenAccount user (λ profile a. profile ≡ profile_of a) a b (Ok profile)
   account_entered profile is rounds = record {
     found = λ clean accounts p. profile_of_open accounts user profile rounds (found_of (Some profile) is clean accounts p);
     absent = λ clean accounts p. tt;
@@ -228,7 +228,7 @@ module _ (user : List ℕ) (a b : State) (r : Result (Option Profile) Refusal) (
     named = tt;
   }
 
-  pub account_shut : {X : Type 0} {Part : X → Account → Type 0} (profile : Profile) → r ≡ Ok (Some profile) → (profile.rounds == 0) ≡ true → Reads user Part a b (Err NoUser)
+  pub account_shut : {X : Type 0} {Part : X → Account → Type 0} (profile : Profile) → r ≡ Ok (Some profile) → (profile.rounds == 0) ≡ true → ReadsOpenAccount user Part a b (Err NoUser)
   account_shut profile is rounds = record {
     found = λ clean accounts p. tt;
     sure = λ clean same. still_open (Some profile) is clean;
@@ -237,7 +237,7 @@ module _ (user : List ℕ) (a b : State) (r : Result (Option Profile) Refusal) (
     named = inl refl;
   }
 
-  pub account_missing : {X : Type 0} {Part : X → Account → Type 0} → r ≡ Ok None → Reads user Part a b (Err NoUser)
+  pub account_missing : {X : Type 0} {Part : X → Account → Type 0} → r ≡ Ok None → ReadsOpenAccount user Part a b (Err NoUser)
   account_missing is = record {
     found = λ clean accounts p. tt;
     sure = λ clean same. still_open None is clean;
@@ -246,7 +246,7 @@ module _ (user : List ℕ) (a b : State) (r : Result (Option Profile) Refusal) (
     named = inl refl;
   }
 
-  pub account_unread : {X : Type 0} {Part : X → Account → Type 0} (q : Result X Refusal) → OnOk q ⊥ → IfErr q IsTransient → Reads user Part a b q
+  pub account_unread : {X : Type 0} {Part : X → Account → Type 0} (q : Result X Refusal) → OnOk q ⊥ → IfErr q IsTransient → ReadsOpenAccount user Part a b q
   account_unread {Part = Part} q none transient = record {
     found = λ clean accounts p. none_if q (λ x. OfOpen accounts user (Part x)) none;
     absent = λ clean accounts p. transient_other q (HasNoOpen user accounts) transient;

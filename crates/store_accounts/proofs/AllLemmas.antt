@@ -8,16 +8,16 @@ use Rattle.sqlite.specs.declared.error.Error.{Error}
 use Rattle.sqlite.specs.Held.{Held, state}
 use Rattle.sqlite.specs.State.{State, HasCleanDisk, Shown}
 use Rattle.sqlite.proofs.Callers.{IsPlain}
-use Rattle.mailtables.specs.Rows.{Tables, HoldsTables}
-use Rattle.mailtables.specs.Schema.{mail_schema}
-use Rattle.mailtables.specs.Connection.{Queries, Answers}
-use Rattle.mailtables.proofs.WriteLemmas.{clean_before}
-use Rattle.mailstore.specs.Next.{FindsAll}
-use Rattle.mailstore.proofs.QueryLemmas.{if_shown}
-use Rattle.mailstore.proofs.KeepLemmas.{finds_among, keeps_ok, keeps_failed, keeps_then, mid_holds, none_if}
+use Rattle.store_tables.specs.Rows.{Tables, HoldsTables}
+use Rattle.store_tables.specs.Schema.{mail_schema}
+use Rattle.store_tables.specs.Connection.{Queries, AnswersQuery}
+use Rattle.store_tables.proofs.WriteLemmas.{clean_before}
+use Rattle.store_accounts.specs.Next.{FindsAll}
+use Rattle.store_accounts.proofs.QueryLemmas.{if_shown}
+use Rattle.store_accounts.proofs.KeepLemmas.{finds_among, keeps_ok, keeps_failed, keeps_then, mid_holds, none_if}
 
 -- a query of a plain text
-pub finds_all : {S : Type 0} (g : Ghosts S) (sql : List ℕ) (params : Row) (plain : IsPlain (understood mail_schema sql)) (old new : Held S) (r : Result (Vec Row Global) Error) (asked : Queries g (Answers sql params) old new r)
+pub finds_all : {S : Type 0} (g : Ghosts S) (sql : List ℕ) (params : Row) (plain : IsPlain (understood mail_schema sql)) (old new : Held S) (r : Result (Vec Row Global) Error) (asked : Queries g (AnswersQuery sql params) old new r)
     → (Part : List Row → Tables → Type 0) → ((rows : List Row) (tables : Tables) → HoldsTables mail_schema (state g old).now tables → Shown sql params (state g old) (state g new) rows → Part rows tables)
     → Queries g (FindsAll (λ (rows : Vec Row Global). Part rows.items)) old new r
 finds_all g sql params plain old new r asked Part shows = record {

@@ -2,14 +2,14 @@
 use Rattle.std.proofs.Common.{◌≡◌, ℕ, List, Ok, Err, Result, IfOk, IfErr, IfSome, OnOk, Option, Some, None, subst}
 use Rattle.std.specs.FinMap.{get}
 use Rattle.sqlite.specs.State.{State}
-use Rattle.mailtables.specs.Rows.{Tables}
-use Rattle.mailtables.proofs.WriteLemmas.{clean_before}
-use Rattle.mailstore.specs.declared.refusal.Refusal.{Refusal}
-use Rattle.mailstore.specs.Account.{Account}
-use Rattle.mailstore.specs.Refusals.{IsTransient}
-use Rattle.mailstore.specs.Shows.{rows_of, IsShown, IsShownOrAbsent}
-use Rattle.mailstore.specs.Promises.{FindsAmong, ReadsEntered}
-use Rattle.mailstore.proofs.KeepLemmas.{keeps_ok, keeps_failed, keeps_then, mid_holds, none_if}
+use Rattle.store_tables.specs.Rows.{Tables}
+use Rattle.store_tables.proofs.WriteLemmas.{clean_before}
+use Rattle.store_accounts.specs.declared.refusal.Refusal.{Refusal}
+use Rattle.store_accounts.specs.Account.{Account}
+use Rattle.store_accounts.specs.Refusals.{IsTransient}
+use Rattle.store_accounts.specs.Shows.{rows_of, IsShown, IsShownOrAbsent}
+use Rattle.store_accounts.specs.Promises.{FindsAmong, ReadsEntered}
+use Rattle.store_accounts.proofs.KeepLemmas.{keeps_ok, keeps_failed, keeps_then, mid_holds, none_if}
 
 module _ {X Y E F : Type 0} (user : List ℕ) (P : X → Tables → Type 0) (Q : Y → Tables → Type 0) (a b : State) (r : Result X E) (h : FindsAmong user P a b r) where
   -- an answer that is made of what was found

@@ -6,26 +6,26 @@ use Rattle.std.specs.FinMap.{get, insert}
 use Rattle.sqlite.specs.Effect.{Database}
 use Rattle.sqlite.specs.State.{State, Survives}
 use Rattle.sqlite.proofs.StateLemmas.{survives_weaker}
-use Rattle.mailtables.specs.Rows.{Tables, HoldsTables}
-use Rattle.mailtables.specs.declared.change.Change.{Change}
-use Rattle.mailtables.specs.declared.change.Change.TheVariants.{AddAccount, SetActive, AddScript, RemoveScript, RemoveOutgoing}
-use Rattle.mailstore.specs.declared.refusal.Refusal.{Refusal}
-use Rattle.mailtables.specs.Schema.{mail_schema}
-use Rattle.mailtables.specs.Cells.{contents}
-use Rattle.mailtables.specs.Changes.{made, CrashLeavesTables, AreOf}
-use Rattle.mailstore.specs.Account.{Account, Accounts, with_user, in_place, new_account, keeps_script, activates, deletes_script, renames_script, other_name, takes_out}
-use Rattle.mailstore.specs.Shows.{rows_of, IsShown, IsShownOrAbsent, ShowsAccounts}
-use Rattle.mailstore.specs.Promises.{HasUser, IsFree, OfUser, Turns, CrashLeavesAccounts}
-use Rattle.mailstore.specs.ScriptRows.{IsRenaming}
-use Rattle.mailstore.proofs.ShowLemmas.{shows_after}
-use Rattle.mailstore.proofs.AccountLemmas.{script_put, script_gone, script_moved, none_moved, queue_gone, active_put, account_put}
+use Rattle.store_tables.specs.Rows.{Tables, HoldsTables}
+use Rattle.store_tables.specs.declared.change.Change.{Change}
+use Rattle.store_tables.specs.declared.change.Change.TheVariants.{AddAccount, SetActive, AddScript, RemoveScript, RemoveOutgoing}
+use Rattle.store_accounts.specs.declared.refusal.Refusal.{Refusal}
+use Rattle.store_tables.specs.Schema.{mail_schema}
+use Rattle.store_tables.specs.Cells.{borrowed_octets}
+use Rattle.store_tables.specs.Changes.{made, CrashLeavesTables, AreOf}
+use Rattle.store_accounts.specs.Account.{Account, Accounts, with_user, in_place, new_account, keeps_script, activates, deletes_script, renames_script, other_name, takes_out}
+use Rattle.store_accounts.specs.Shows.{rows_of, IsShown, IsShownOrAbsent, ShowsAccounts}
+use Rattle.store_accounts.specs.Promises.{HasUser, IsFree, OfUser, ChangesAccounts, CrashLeavesAccounts}
+use Rattle.store_accounts.specs.ScriptRows.{IsRenaming}
+use Rattle.store_accounts.proofs.ShowLemmas.{shows_after}
+use Rattle.store_accounts.proofs.AccountLemmas.{script_put, script_gone, script_moved, none_moved, queue_gone, active_put, account_put}
 
 -- the changes turn tables that show accounts that fit into tables that show them changed
 abbrev pub Carries : List Change → (Accounts → Type 0) → (Accounts → Accounts) → Type 0
 Carries ds Fit change = (tables : Tables) (accounts : Accounts) → ShowsAccounts tables accounts → Fit accounts → ShowsAccounts (made tables ds) (change accounts)
 
 pub applied : {X : Type 0} (r : Result X Refusal) (old new : Database) (ds : List Change) (Fit : Accounts → Type 0) (change : Accounts → Accounts) → Carries ds Fit change
-    → ((tables : Tables) → HoldsTables mail_schema old tables → OnOk r (HoldsTables mail_schema new (made tables ds))) → OnOk r (Turns Fit change old new)
+    → ((tables : Tables) → HoldsTables mail_schema old tables → OnOk r (HoldsTables mail_schema new (made tables ds))) → OnOk r (ChangesAccounts Fit change old new)
 applied (Err e) old new ds Fit change carries holds = tt
 applied (Ok x) old new ds Fit change carries holds = λ accounts p fit. (made p.0 ds, holds p.0 p.1, carries p.0 accounts p.2 fit)
 
@@ -54,8 +54,8 @@ carries_deletion user name = carries_user user.now (RemoveScript user name ∷ [
 pub carries_taking : (user : Bor (List ℕ)) (id : ℤ) (n : ℕ) → id ≡ pos n → Carries (RemoveOutgoing user id ∷ []) (HasUser user.now) (λ all. with_user all user.now (takes_out n))
 carries_taking user id n is = carries_user user.now (RemoveOutgoing user id ∷ []) (takes_out n) (refl, tt) (λ own a s. rw is (queue_gone user.now own a s n))
 
-pub carries_active : (user : Bor (List ℕ)) (active : Option (Bor (List ℕ))) → Carries (SetActive user active ∷ []) (HasUser user.now) (λ all. with_user all user.now (activates (contents active)))
-carries_active user active = carries_user user.now (SetActive user active ∷ []) (activates (contents active)) (refl, tt) (λ own a s. active_put user.now own a s (contents active))
+pub carries_active : (user : Bor (List ℕ)) (active : Option (Bor (List ℕ))) → Carries (SetActive user active ∷ []) (HasUser user.now) (λ all. with_user all user.now (activates (borrowed_octets active)))
+carries_active user active = carries_user user.now (SetActive user active ∷ []) (activates (borrowed_octets active)) (refl, tt) (λ own a s. active_put user.now own a s (borrowed_octets active))
 
 pub carries_account : (user address salt : Bor (List ℕ)) (rounds : ℕ) (digest : Bor (List ℕ))
     → Carries (AddAccount user address salt rounds digest ∷ []) (IsFree user.now) (λ all. insert all user.now (new_account address.now (record { salt = salt.now; rounds = rounds; digest = digest.now })))
@@ -72,21 +72,21 @@ carries_known user ds change Known are own tables accounts shows there =
 
 module _ (user name other : Bor (List ℕ)) (active : Option (Bor (List ℕ))) where
   pub carries_renaming : (text : Bor (List ℕ)) → Carries (RemoveScript user name ∷ RemoveScript user other ∷ AddScript user other text ∷ SetActive user active ∷ [])
-      (λ all. OfUser all user.now (IsRenaming name.now other.now (Some text.now) (contents active))) (λ all. with_user all user.now (renames_script name.now other.now))
+      (λ all. OfUser all user.now (IsRenaming name.now other.now (Some text.now) (borrowed_octets active))) (λ all. with_user all user.now (renames_script name.now other.now))
   carries_renaming text =
       let ds = RemoveScript user name ∷ RemoveScript user other ∷ AddScript user other text ∷ SetActive user active ∷ [] in
-      carries_known user.now ds (renames_script name.now other.now) (IsRenaming name.now other.now (Some text.now) (contents active)) (refl, (refl, (refl, (refl, tt))))
-      (λ own a known s. script_moved user.now name.now other.now (contents active) own a s known.1 text.now known.0)
+      carries_known user.now ds (renames_script name.now other.now) (IsRenaming name.now other.now (Some text.now) (borrowed_octets active)) (refl, (refl, (refl, (refl, tt))))
+      (λ own a known s. script_moved user.now name.now other.now (borrowed_octets active) own a s known.1 text.now known.0)
 
-  pub carries_active_name : Carries (SetActive user active ∷ []) (λ all. OfUser all user.now (IsRenaming name.now other.now None (contents active))) (λ all. with_user all user.now (renames_script name.now other.now))
-  carries_active_name = carries_known user.now (SetActive user active ∷ []) (renames_script name.now other.now) (IsRenaming name.now other.now None (contents active)) (refl, tt)
-      (λ own a known s. none_moved user.now name.now other.now (contents active) own a s known.1 known.0)
+  pub carries_active_name : Carries (SetActive user active ∷ []) (λ all. OfUser all user.now (IsRenaming name.now other.now None (borrowed_octets active))) (λ all. with_user all user.now (renames_script name.now other.now))
+  carries_active_name = carries_known user.now (SetActive user active ∷ []) (renames_script name.now other.now) (IsRenaming name.now other.now None (borrowed_octets active)) (refl, tt)
+      (λ own a known s. none_moved user.now name.now other.now (borrowed_octets active) own a s known.1 known.0)
 
 -- one name in place of another, at the test of the program
-pub renamed_is : (o : Option (Bor (List ℕ))) (a : Bor (List ℕ)) → o ≡ Some a → (name other : List ℕ) (b : Bool) → b ≡ pointwise nat_eq a.now name → Some (cond b other a.now) ≡ option_map (other_name name other) (contents o)
+pub renamed_is : (o : Option (Bor (List ℕ))) (a : Bor (List ℕ)) → o ≡ Some a → (name other : List ℕ) (b : Bool) → b ≡ pointwise nat_eq a.now name → Some (cond b other a.now) ≡ option_map (other_name name other) (borrowed_octets o)
 renamed_is o a there name other b told = rw there (ap (λ t. Some (cond t other a.now)) (told ∙ texts_ties a.now name))
 
 -- a text after a reference is the text
-pub contents_is : (o : Option (Bor (List ℕ))) → contents o ≡ option_copied o
+pub contents_is : (o : Option (Bor (List ℕ))) → borrowed_octets o ≡ option_copied o
 contents_is None = refl
 contents_is (Some b) = refl

@@ -3,18 +3,18 @@ use Rattle.std.proofs.Common.{◌≡◌, ℕ, ℤ, List, [], ◌∷◌, map, Opt
 use Rattle.sqlite_value.specs.declared.value.Value.TheVariants.{Blob}
 use Rattle.sqlite_value.specs.Order.{Row, column}
 use Rattle.sqlite_keyed.proofs.ListLemmas.{map-map}
-use Rattle.mailstore.specs.Account.{Account, row_with}
-use Rattle.mailstore.specs.Tally.{tallied, AreFolders, AreFolderRows}
-use Rattle.mailstore.specs.declared.folder.Folder.{Folder}
-use Rattle.mailtables.specs.declared.queue.Kind.{Kind}
-use Rattle.mailtables.specs.declared.queue.Kind.TheVariants.{Redirect, Reply}
-use Rattle.mailstore.specs.declared.queue.Outgoing.{Outgoing}
-use Rattle.mailstore.specs.declared.notice.Notice.{Notice}
-use Rattle.mailstore.specs.NoticeRows.{AreNoticeRows, notice_cells}
-use Rattle.mailstore.specs.FirstCells.{text_cells, first_one, first_five, first_two}
-use Rattle.mailstore.specs.QueueRows.{AreQueueRows, HasOutgoingRow, IsOutgoing, outgoing_cells}
-use Rattle.mailtables.specs.QueueTable.{kind_number}
-use Rattle.mailstore.proofs.OneLemmas.{map_one}
+use Rattle.store_accounts.specs.Account.{Account, row_with}
+use Rattle.store_accounts.specs.Tally.{tallied, AreFolders, AreFolderRows}
+use Rattle.store_accounts.specs.declared.folder.Folder.{Folder}
+use Rattle.store_tables.specs.declared.queue.QueuedKind.{QueuedKind}
+use Rattle.store_tables.specs.declared.queue.QueuedKind.TheVariants.{Redirect, Reply}
+use Rattle.store_accounts.specs.declared.queue.QueuedMessage.{QueuedMessage}
+use Rattle.store_accounts.specs.declared.notice.Notice.{Notice}
+use Rattle.store_accounts.specs.NoticeRows.{AreNoticeRows, notice_cells}
+use Rattle.store_accounts.specs.FirstCells.{text_cells, first_one, first_five, first_two}
+use Rattle.store_accounts.specs.QueueRows.{AreQueueRows, HasOutgoingRow, IsOutgoing, outgoing_cells}
+use Rattle.store_tables.specs.QueueTable.{kind_number}
+use Rattle.store_accounts.proofs.OneLemmas.{map_one}
 
 text_one : (x y : List ℕ) → text_cells x ≡ text_cells y → x ≡ y
 text_one x y e = cc
@@ -47,7 +47,7 @@ tally_of (Ok all) rows a told h =
     subst (λ fs. AreFolders fs a) (sym (h told.0 (ap (map (λ row. column row 0)) told.1 ∙ map-map (λ (row : Row). column row 0) (λ (n : List ℕ). Blob n ∷ []) told.0))) told.2
 
 -- what was read of rows is the queue, or the notices, that they show
-outgoing_one : (x y : Outgoing) → outgoing_cells x ≡ outgoing_cells y → x ≡ y
+outgoing_one : (x y : QueuedMessage) → outgoing_cells x ≡ outgoing_cells y → x ≡ y
 outgoing_one x y e =
     let id : x.id ≡ y.id = cc in
     let number : kind_number x.kind ≡ kind_number y.kind = cc in
@@ -57,28 +57,28 @@ outgoing_one x y e =
     let message : x.message ≡ y.message = cc in
     λ i. record { id = id i; kind = kind i; sender = sender i; target = target i; message = message i }
   where
-    kind_one : (k l : Kind) → kind_number k ≡ kind_number l → k ≡ l
+    kind_one : (k l : QueuedKind) → kind_number k ≡ kind_number l → k ≡ l
     kind_one Redirect Redirect e = refl
     kind_one Reply Reply e = refl
     kind_one Redirect Reply e = absurd (omega (arith, e))
     kind_one Reply Redirect e = absurd (omega (arith, e))
 
-pub queue_is : {E : Type 0} (r : Result (List Outgoing) E) (rows : List Row) (a : Account) → AreQueueRows rows a → IfOk r (λ all. map outgoing_cells all ≡ map first_five rows) → IfOk r (λ all. all ≡ a.queue)
+pub queue_is : {E : Type 0} (r : Result (List QueuedMessage) E) (rows : List Row) (a : Account) → AreQueueRows rows a → IfOk r (λ all. map outgoing_cells all ≡ map first_five rows) → IfOk r (λ all. all ≡ a.queue)
 queue_is (Err e) rows a are h = tt
 queue_is (Ok all) rows a are h = map_one outgoing_cells outgoing_one all a.queue (h ∙ ap (map first_five) are ∙ map-map first_five outgoing_cells a.queue)
 
-outgoing_same : (x y : Option Outgoing) → option_map outgoing_cells x ≡ option_map outgoing_cells y → x ≡ y
+outgoing_same : (x y : Option QueuedMessage) → option_map outgoing_cells x ≡ option_map outgoing_cells y → x ≡ y
 outgoing_same None None e = refl
 outgoing_same None (Some y) e = absurd (let no = e in cc)
 outgoing_same (Some x) None e = absurd (let no = e in cc)
 outgoing_same (Some x) (Some y) e = let cells : outgoing_cells x ≡ outgoing_cells y = cc in ap Some (outgoing_one x y cells)
 
-first_read : (o : Option Outgoing) → option_map first_five (option_map outgoing_cells o) ≡ option_map outgoing_cells o
+first_read : (o : Option QueuedMessage) → option_map first_five (option_map outgoing_cells o) ≡ option_map outgoing_cells o
 first_read None = refl
 first_read (Some q) = refl
 
 -- what was read of the first row is the message that it shows
-pub outgoing_told : {E : Type 0} (r : Result (Option Outgoing) E) (rows : List Row) (id : ℤ) (a : Account) → HasOutgoingRow id rows a → IfOk r (λ first. option_map outgoing_cells first ≡ option_map first_five (slice_get rows 0))
+pub outgoing_told : {E : Type 0} (r : Result (Option QueuedMessage) E) (rows : List Row) (id : ℤ) (a : Account) → HasOutgoingRow id rows a → IfOk r (λ first. option_map outgoing_cells first ≡ option_map first_five (slice_get rows 0))
     → IfOk r (λ first. IsOutgoing id first a)
 outgoing_told (Err e) rows id a are h = tt
 outgoing_told (Ok first) rows id a are h = λ n is. outgoing_same first (row_with n a.queue) (h ∙ ap (option_map first_five) (are n is) ∙ first_read (row_with n a.queue))

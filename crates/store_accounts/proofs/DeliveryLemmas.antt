@@ -6,83 +6,83 @@ use Rattle.std.proofs.lemmas.List.{map-append, take_more, length-take}
 use Rattle.sqlite_value.specs.declared.value.Value.TheVariants.{Int}
 use Rattle.sqlite_keyed.proofs.ListLemmas.{all-append, all_weaker}
 use Rattle.sqlite_keyed.specs.Lists.{update_where}
-use Rattle.mailflags.specs.declared.placement.Placement.{Placement}
-use Rattle.mailtables.specs.Rows.{Tables, HoldsTables, has_key, added}
-use Rattle.mailtables.proofs.ListLemmas.{owner_key, equal_itself}
+use Rattle.mail_flags.specs.declared.placement.Placement.{Placement}
+use Rattle.store_tables.specs.Rows.{Tables, HoldsTables, has_key, row_added}
+use Rattle.store_tables.proofs.ListLemmas.{owner_key, equal_itself}
 use Rattle.octets.specs.Ascii.{lowered}
-use Rattle.mailstore.specs.declared.account.Counters.{Counters}
-use Rattle.mailtables.specs.declared.change.Change.{Change}
-use Rattle.mailtables.specs.declared.change.Change.TheVariants.{AddCopy}
-use Rattle.mailstore.specs.declared.notice.Notice.{Notice}
-use Rattle.mailstore.specs.declared.refusal.Refusal.{Refusal}
-use Rattle.mailstore.specs.declared.queue.Outgoing.{Outgoing}
-use Rattle.mailtables.specs.declared.queue.Kind.TheVariants as kind
-use Rattle.mailstore.specs.declared.report.VacationReply.{VacationReply}
-use Rattle.mailstore.specs.declared.report.Plan.{Plan}
-use Rattle.mailtables.specs.Changes.{made, owner_of, AreOf, Extends, MakesOwn, CrashLeavesTables, copy_added, counters_set, MakesAll}
-use Rattle.mailstore.specs.Delivery.{AreDelivery, in_turn, message_kept, copies_added, copied, redirect_added, sent_on, reply_queued, reply_put, noticed, count_of, counters_raised, delivered}
-use Rattle.mailstore.specs.Account.{Account, Accounts, Folders, with_user, in_place, filed, files_copies, queues, sends_on, replies_if_any, notes_if_any, delivers}
-use Rattle.mailstore.specs.AccountRows.{account_row, counter_cells, shown_counters, Counts}
-use Rattle.mailtables.specs.AccountTable.{account_tree, with_counters}
-use Rattle.mailtables.specs.ScriptTable.{script_tree}
-use Rattle.mailstore.specs.ScriptRows.{ShowsScripts}
-use Rattle.mailtables.specs.QueueTable.{outgoing_tree}
-use Rattle.mailstore.specs.QueueRows.{queue_row, ShowsQueue}
-use Rattle.mailtables.specs.ReplyTable.{reply_tree}
-use Rattle.mailstore.specs.ReplyRows.{ShowsReplies}
-use Rattle.mailtables.specs.NoticeTable.{notice_tree}
-use Rattle.mailstore.specs.NoticeRows.{notice_row, ShowsNotices}
+use Rattle.store_accounts.specs.declared.account.Counters.{Counters}
+use Rattle.store_tables.specs.declared.change.Change.{Change}
+use Rattle.store_tables.specs.declared.change.Change.TheVariants.{AddCopy}
+use Rattle.store_accounts.specs.declared.notice.Notice.{Notice}
+use Rattle.store_accounts.specs.declared.refusal.Refusal.{Refusal}
+use Rattle.store_accounts.specs.declared.queue.QueuedMessage.{QueuedMessage}
+use Rattle.store_tables.specs.declared.queue.QueuedKind.TheVariants as kind
+use Rattle.store_accounts.specs.declared.report.VacationReply.{VacationReply}
+use Rattle.store_accounts.specs.declared.report.Plan.{Plan}
+use Rattle.store_tables.specs.Changes.{made, change_owner, AreOf, ExtendsChanges, MakesOwn, CrashLeavesTables, copy_added, counters_set, MakesAll}
+use Rattle.store_accounts.specs.Delivery.{AreDelivery, numbered_changes, message_kept, copies_added, copied, redirect_added, sent_on, reply_queued, reply_put, noticed, count_of, counters_raised, delivered_rows}
+use Rattle.store_accounts.specs.Account.{Account, Accounts, Folders, with_user, in_place, filed, files_copies, queues, sends_on, replies_if_any, adds_notice_if_any, delivers}
+use Rattle.store_accounts.specs.AccountRows.{account_row, counter_cells, shown_counters, HasCounters}
+use Rattle.store_tables.specs.AccountTable.{account_tree, with_counters}
+use Rattle.store_tables.specs.ScriptTable.{scripts_tree}
+use Rattle.store_accounts.specs.ScriptRows.{ShowsScripts}
+use Rattle.store_tables.specs.QueueTable.{outgoing_tree}
+use Rattle.store_accounts.specs.QueueRows.{queue_row, ShowsQueue}
+use Rattle.store_tables.specs.ReplyTable.{reply_tree}
+use Rattle.store_accounts.specs.ReplyRows.{ShowsReplies}
+use Rattle.store_tables.specs.NoticeTable.{notice_tree}
+use Rattle.store_accounts.specs.NoticeRows.{notice_row, ShowsNotices}
 use Rattle.sqlite_rules.specs.Lists.{Has}
 use Rattle.sqlite_rules.proofs.ListLemmas.{has_left, has_last}
 use Rattle.std.specs.List.{AllByRecursion}
-use Rattle.mailstore.specs.MessageRows.{Message, message_row, once_for, GainsOnce}
-use Rattle.mailtables.specs.MessageTable.{message_cells, message_tree}
-use Rattle.mailstore.specs.CopyRows.{Copy, copy_row, message_of, HasCopy, AreKept, ShowsCopies, filed_from}
-use Rattle.mailtables.specs.CopyTable.{copy_tree}
-use Rattle.mailstore.specs.Shows.{rows_of, IsShown, IsShownOrAbsent, ShowsAccounts}
-use Rattle.mailtables.specs.Schema.{mail_schema}
-use Rattle.mailstore.specs.Promises.{HasUser, Keeps, StoresOnce}
+use Rattle.store_accounts.specs.MessageRows.{Message, message_row, once_for, GainsOnce}
+use Rattle.store_tables.specs.MessageTable.{message_cells, message_tree}
+use Rattle.store_accounts.specs.CopyRows.{Copy, copy_row, message_of, HasCopy, AreKept, ShowsCopies, filed_from}
+use Rattle.store_tables.specs.CopyTable.{copy_tree}
+use Rattle.store_accounts.specs.Shows.{rows_of, IsShown, IsShownOrAbsent, ShowsAccounts}
+use Rattle.store_tables.specs.Schema.{mail_schema}
+use Rattle.store_accounts.specs.Promises.{HasUser, KeepsTables, StoresOnce}
 use Rattle.sqlite.specs.State.{State, HasCleanDisk, Survives}
-use Rattle.mailtables.proofs.ResultLemmas.{on_ok}
-use Rattle.mailtables.proofs.WriteLemmas.{made_push, clean_before}
-use Rattle.mailstore.proofs.ShowLemmas.{shows_after}
-use Rattle.mailstore.specs.Numbers.{AreNumbered}
-use Rattle.mailstore.proofs.NumberLemmas.{numbered_next, numbered_up}
-use Rattle.mailstore.proofs.AccountLemmas.{replies_put}
+use Rattle.store_tables.proofs.ResultLemmas.{on_ok}
+use Rattle.store_tables.proofs.WriteLemmas.{made_push, clean_before}
+use Rattle.store_accounts.proofs.ShowLemmas.{shows_after}
+use Rattle.store_accounts.specs.Numbers.{AreNumbered}
+use Rattle.store_accounts.proofs.NumberLemmas.{numbered_next, numbered_up}
+use Rattle.store_accounts.proofs.AccountLemmas.{replies_put}
 
 -- ---- changes, one more at a time
 
-pub extends_one : (user : List ℕ) (change : Tables → Tables) (ds next : List Change) (d : Change) → next ≡ ds ++ d ∷ [] → MakesOwn user change d → Extends user change ds next
+pub extends_one : (user : List ℕ) (change : Tables → Tables) (ds next : List Change) (d : Change) → next ≡ ds ++ d ∷ [] → MakesOwn user change d → ExtendsChanges user change ds next
 extends_one user change ds next d joined one = record {
-  owned = λ were. subst (AreOf user) (sym joined) (all-append (λ e. owner_of e ≡ user) ds (d ∷ []) were (one.owned, tt));
+  owned = λ were. subst (AreOf user) (sym joined) (all-append (λ e. change_owner e ≡ user) ds (d ∷ []) were (one.owned, tt));
   makes = λ own. ap (made own) joined ∙ made_push ds d own ∙ one.makes (made own ds);
 }
 
-pub extends_then : (user : List ℕ) (f g : Tables → Tables) (a b c : List Change) → Extends user f a b → Extends user g b c → Extends user (λ own. g (f own)) a c
+pub extends_then : (user : List ℕ) (f g : Tables → Tables) (a b c : List Change) → ExtendsChanges user f a b → ExtendsChanges user g b c → ExtendsChanges user (λ own. g (f own)) a c
 extends_then user f g a b c one two = record { owned = λ were. two.owned (one.owned were); makes = λ own. two.makes own ∙ ap g (one.makes own) }
 
-turn_push : {X : Type 0} (f : ℕ → X → Tables → Tables) (xs : List X) (n : ℕ) (x : X) (own : Tables) → in_turn f n (xs ++ x ∷ []) own ≡ f (n + length xs) x (in_turn f n xs own)
+turn_push : {X : Type 0} (f : ℕ → X → Tables → Tables) (xs : List X) (n : ℕ) (x : X) (own : Tables) → numbered_changes f n (xs ++ x ∷ []) own ≡ f (n + length xs) x (numbered_changes f n xs own)
 turn_push f [] n x own = let same : n ≡ n + 0 = omega arith in ap (λ k. f k x own) same
 turn_push f (y ∷ xs) n x own =
     let same : suc n + length xs ≡ n + suc (length xs) = omega arith in
-    turn_push f xs (suc n) x (f n y own) ∙ ap (λ k. f k x (in_turn f (suc n) xs (f n y own))) same
+    turn_push f xs (suc n) x (f n y own) ∙ ap (λ k. f k x (numbered_changes f (suc n) xs (f n y own))) same
 
 -- one turn more
-pub turn_more : {X : Type 0} (user : List ℕ) (f : ℕ → X → Tables → Tables) (xs : List X) (n i : ℕ) (x : X) (a b c : List Change) → i < length xs → Extends user (in_turn f n (take i xs)) a b → Extends user (f (n + i) (get_or xs i x)) b c
-    → Extends user (in_turn f n (take (i + 1) xs)) a c
+pub turn_more : {X : Type 0} (user : List ℕ) (f : ℕ → X → Tables → Tables) (xs : List X) (n i : ℕ) (x : X) (a b c : List Change) → i < length xs → ExtendsChanges user (numbered_changes f n (take i xs)) a b → ExtendsChanges user (f (n + i) (get_or xs i x)) b c
+    → ExtendsChanges user (numbered_changes f n (take (i + 1) xs)) a c
 turn_more user f xs n i x a b c within was more =
-    let both = extends_then user (in_turn f n (take i xs)) (f (n + i) (get_or xs i x)) a b c was more in
+    let both = extends_then user (numbered_changes f n (take i xs)) (f (n + i) (get_or xs i x)) a b c was more in
     let so_far : length (take i xs) ≡ i = omega (arith, length-take i xs) in
     record {
       owned = both.owned;
       makes = λ own.
-          both.makes own ∙ ap (λ l. f (n + l) (get_or xs i x) (in_turn f n (take i xs) (made own a))) (sym so_far) ∙ sym (turn_push f (take i xs) n (get_or xs i x) (made own a))
-          ∙ ap (λ l. in_turn f n l (made own a)) (sym (take_more xs i x within));
+          both.makes own ∙ ap (λ l. f (n + l) (get_or xs i x) (numbered_changes f n (take i xs) (made own a))) (sym so_far) ∙ sym (turn_push f (take i xs) n (get_or xs i x) (made own a))
+          ∙ ap (λ l. numbered_changes f n l (made own a)) (sym (take_more xs i x within));
     }
 
 pub copies_more : (user : Bor (List ℕ)) (copies : List Placement) (n i : ℕ) (copy : Placement) (a b c : List Change) (folder flags : Bor (List ℕ)) (k id : ℤ) → i < length copies → folder.now ≡ (get_or copies i copy).mailbox
-    → flags.now ≡ (get_or copies i copy).flags → k ≡ pos (n + i) → id ≡ pos n → c ≡ b ++ AddCopy user folder k id flags ∷ [] → Extends user.now (copies_added user.now n n (take i copies)) a b
-    → Extends user.now (copies_added user.now n n (take (i + 1) copies)) a c
+    → flags.now ≡ (get_or copies i copy).flags → k ≡ pos (n + i) → id ≡ pos n → c ≡ b ++ AddCopy user folder k id flags ∷ [] → ExtendsChanges user.now (copies_added user.now n n (take i copies)) a b
+    → ExtendsChanges user.now (copies_added user.now n n (take (i + 1) copies)) a c
 copies_more user copies n i copy a b c folder flags k id within is told number same joined was =
     let f = λ (j : ℕ) (x : Placement). copy_added user.now x.mailbox (pos j) (pos n) x.flags in
     let there = get_or copies i copy in
@@ -95,7 +95,7 @@ copies_more user copies n i copy a b c folder flags k id within is told number s
     turn_more user.now f copies n i copy a b c within was (extends_one user.now (f (n + i) there) b c (AddCopy user folder k id flags) joined one)
 
 pub redirects_more : (user sender message : List ℕ) (targets : List (List ℕ)) (n i : ℕ) (x target : List ℕ) (a b c : List Change) (d : Change) (k : ℤ) → i < length targets → target ≡ get_or targets i x → k ≡ pos (n + i) → c ≡ b ++ d ∷ []
-    → MakesOwn user (redirect_added user sender message k target) d → Extends user (sent_on user sender message n (take i targets)) a b → Extends user (sent_on user sender message n (take (i + 1) targets)) a c
+    → MakesOwn user (redirect_added user sender message k target) d → ExtendsChanges user (sent_on user sender message n (take i targets)) a b → ExtendsChanges user (sent_on user sender message n (take (i + 1) targets)) a c
 redirects_more user sender message targets n i x target a b c d k within is number joined makes was =
     let f = λ (j : ℕ) (t : List ℕ). redirect_added user sender message (pos j) t in
     let one : MakesOwn user (f (n + i) (get_or targets i x)) d = record {
@@ -105,16 +105,16 @@ redirects_more user sender message targets n i x target a b c d k within is numb
     turn_more user f targets n i x a b c within was (extends_one user (f (n + i) (get_or targets i x)) b c d joined one)
 
 -- all of them, from no changes on
-pub are_delivery : (user sender : List ℕ) (c : Counters) (plan : Plan) (ds1 kept ds2 ds3 queued ds4 ds5 : List Change) → sender ≡ lowered plan.sender.now → Extends user (counters_raised user c plan) [] ds1
-    → Extends user (message_kept user plan.message.now c.copy plan.filed) ds1 kept → Extends user (copies_added user c.copy c.copy plan.filed) kept ds2
-    → Extends user (sent_on user plan.sender.now plan.message.now c.out plan.report.sent) ds2 ds3 → Extends user (reply_queued user plan.sender.now (c.out + length plan.report.sent) plan.reply) ds3 queued
-    → Extends user (reply_put user sender plan.reply) queued ds4 → Extends user (noticed user c.notice plan.moment plan.report.notice) ds4 ds5 → AreDelivery user c plan ds5
+pub are_delivery : (user sender : List ℕ) (c : Counters) (plan : Plan) (ds1 kept ds2 ds3 queued ds4 ds5 : List Change) → sender ≡ lowered plan.sender.now → ExtendsChanges user (counters_raised user c plan) [] ds1
+    → ExtendsChanges user (message_kept user plan.message.now c.copy plan.filed) ds1 kept → ExtendsChanges user (copies_added user c.copy c.copy plan.filed) kept ds2
+    → ExtendsChanges user (sent_on user plan.sender.now plan.message.now c.out plan.report.sent) ds2 ds3 → ExtendsChanges user (reply_queued user plan.sender.now (c.out + length plan.report.sent) plan.reply) ds3 queued
+    → ExtendsChanges user (reply_put user sender plan.reply) queued ds4 → ExtendsChanges user (noticed user c.notice plan.moment plan.report.notice) ds4 ds5 → AreDelivery user c plan ds5
 are_delivery user sender c plan ds1 kept ds2 ds3 queued ds4 ds5 is one message copies three reply four five =
     let two = extends_then user (message_kept user plan.message.now c.copy plan.filed) (copies_added user c.copy c.copy plan.filed) ds1 kept ds2 message copies in
     let first = extends_then user (counters_raised user c plan) (copied user plan.message.now c.copy plan.filed) [] ds1 ds2 one two in
     let second = extends_then user _ (sent_on user plan.sender.now plan.message.now c.out plan.report.sent) [] ds2 ds3 first three in
     let answered = extends_then user _ (reply_queued user plan.sender.now (c.out + length plan.report.sent) plan.reply) [] ds3 queued second reply in
-    let put = subst (λ s. Extends user (reply_put user s plan.reply) queued ds4) is four in
+    let put = subst (λ s. ExtendsChanges user (reply_put user s plan.reply) queued ds4) is four in
     let third = extends_then user _ (reply_put user (lowered plan.sender.now) plan.reply) [] queued ds4 answered put in
     let all = extends_then user _ (noticed user c.notice plan.moment plan.report.notice) [] ds4 ds5 third five in
     record { owned = all.owned tt; makes = all.makes }
@@ -124,7 +124,7 @@ are_delivery user sender c plan ds1 kept ds2 ds3 queued ds4 ds5 is one message c
 -- the counters of the row went up first: copies and notices are numbered below others, and the queue below the account's own
 record IsShownBelow (user : List ℕ) (last : Counters) (copy notice : ℕ) (a : Account) (own : Tables) : Type 0 where
   account_is : own account_tree ≡ account_row user (record a { next_out = last.out }) last.copy last.notice ∷ []
-  scripts : ShowsScripts user (own script_tree) a.scripts
+  scripts : ShowsScripts user (own scripts_tree) a.scripts
   queue : ShowsQueue user (own outgoing_tree) a.queue a.next_out
   replies : ShowsReplies user (own reply_tree) a.replies
   notices : ShowsNotices user (own notice_tree) a.notices notice
@@ -153,7 +153,7 @@ kept_first copies messages c same k = record {
 
 module _ (user : List ℕ) (last : Counters) where
   -- the counters go up
-  raised : (c : Counters) (own : Tables) (a : Account) → IsShown user own a → Counts (own account_tree) c
+  raised : (c : Counters) (own : Tables) (a : Account) → IsShown user own a → HasCounters (own account_tree) c
       → IsShownBelow user last c.copy c.notice a (counters_set user (pos last.copy) (pos last.out) (pos last.notice) own) × (a.next_out ≡ c.out)
   raised c own a s counts =
       let told : Some (Int (pos s.next_copy) ∷ Int (pos a.next_out) ∷ Int (pos s.next_notice) ∷ []) ≡ Some (counter_cells c) =
@@ -198,7 +198,7 @@ module _ (user : List ℕ) (last : Counters) where
 
   -- a copy of a message that is kept joins a folder
   copy_joined : (c : Copy) (notice : ℕ) (own : Tables) (a : Account) (s : IsShownBelow user last c.n notice a own) → Has s.copies.messages (message_of c) → c.id ≤ c.n
-      → (t : IsShownBelow user last (suc c.n) notice (joined_to a c) (added copy_tree (copy_row user c) own)) × (t.copies.messages ≡ s.copies.messages)
+      → (t : IsShownBelow user last (suc c.n) notice (joined_to a c) (row_added copy_tree (copy_row user c) own)) × (t.copies.messages ≡ s.copies.messages)
   copy_joined c notice own a s there first = (
     record {
       account_is = s.account_is;
@@ -221,7 +221,7 @@ module _ (user : List ℕ) (last : Counters) where
 
   -- a message is kept, and its first copy joins a folder
   first_joined : (c : Copy) (notice : ℕ) (own : Tables) (a : Account) → c.id ≡ c.n → IsShownBelow user last c.n notice a own
-      → (t : IsShownBelow user last (suc c.n) notice (joined_to a c) (added copy_tree (copy_row user c) (added message_tree (message_row user (message_of c)) own)))
+      → (t : IsShownBelow user last (suc c.n) notice (joined_to a c) (row_added copy_tree (copy_row user c) (row_added message_tree (message_row user (message_of c)) own)))
       × Has t.copies.messages (message_of c)
   first_joined c notice own a same s = (
     record {
@@ -263,8 +263,8 @@ module _ (user : List ℕ) (last : Counters) where
       (more_joined message copy places (suc copy) notice _ _ one.0 one.1 (omega arith))
 
   -- a message joins the queue
-  queued : (out : Outgoing) (copy notice : ℕ) (own : Tables) (a : Account) → out.id ≡ a.next_out → IsShownBelow user last copy notice a own
-      → IsShownBelow user last copy notice (record a { queue = a.queue ++ out ∷ []; next_out = suc a.next_out }) (added outgoing_tree (queue_row user out) own)
+  queued : (out : QueuedMessage) (copy notice : ℕ) (own : Tables) (a : Account) → out.id ≡ a.next_out → IsShownBelow user last copy notice a own
+      → IsShownBelow user last copy notice (record a { queue = a.queue ++ out ∷ []; next_out = suc a.next_out }) (row_added outgoing_tree (queue_row user out) own)
   queued out copy notice own a is s = record {
     account_is = s.account_is;
     scripts = s.scripts;
@@ -298,7 +298,7 @@ module _ (user : List ℕ) (last : Counters) where
 
   -- the notice joins the others
   notice_joined : (moment : ℕ) (text : Option (List ℕ)) (copy notice : ℕ) (own : Tables) (a : Account) → IsShownBelow user last copy notice a own
-      → IsShownBelow user last copy (notice + count_of text) (notes_if_any moment text a) (noticed user notice moment text own)
+      → IsShownBelow user last copy (notice + count_of text) (adds_notice_if_any moment text a) (noticed user notice moment text own)
   notice_joined moment None copy notice own a s = let same : notice ≡ notice + 0 = omega arith in subst (λ n. IsShownBelow user last copy n a own) same s
   notice_joined moment (Some text) copy notice own a s =
       let one : Notice = record { moment = moment; text = text } in
@@ -325,12 +325,12 @@ replied_out : (sender : List ℕ) (reply : Option VacationReply) (a : Account) �
 replied_out sender None a = omega arith
 replied_out sender (Some reply) a = omega arith
 
-noted_out : (moment : ℕ) (text : Option (List ℕ)) (a : Account) → (notes_if_any moment text a).next_out ≡ a.next_out
+noted_out : (moment : ℕ) (text : Option (List ℕ)) (a : Account) → (adds_notice_if_any moment text a).next_out ≡ a.next_out
 noted_out moment None a = refl
 noted_out moment (Some text) a = refl
 
 -- the rows of a user whose counters were these, once the changes of a delivery are made
-own_delivered : (user : List ℕ) (c : Counters) (plan : Plan) (own : Tables) (a : Account) → IsShown user own a → Counts (own account_tree) c → IsShown user (delivered user c plan own) (delivers plan a)
+own_delivered : (user : List ℕ) (c : Counters) (plan : Plan) (own : Tables) (a : Account) → IsShown user own a → HasCounters (own account_tree) c → IsShown user (delivered_rows user c plan own) (delivers plan a)
 own_delivered user c plan own a s counts =
     let last : Counters = record { copy = c.copy + length plan.filed; out = c.out + (length plan.report.sent + count_of plan.reply); notice = c.notice + count_of plan.report.notice } in
     let up = raised user last c own a s counts in
@@ -351,7 +351,7 @@ own_delivered user c plan own a s counts =
     lowered_last user last last.copy last.notice _ _ all refl (noted_out plan.moment plan.report.notice kept ∙ out) refl
 
 pub delivery_shows : (user : List ℕ) (c : Counters) (plan : Plan) (ds : List Change) → AreDelivery user c plan ds → (tables : Tables) (accounts : Accounts) → ShowsAccounts tables accounts → HasUser user accounts
-    → Counts (rows_of user tables account_tree) c → ShowsAccounts (made tables ds) (with_user accounts user (delivers plan))
+    → HasCounters (rows_of user tables account_tree) c → ShowsAccounts (made tables ds) (with_user accounts user (delivers plan))
 delivery_shows user c plan ds delivery tables accounts shows has counts = go (get accounts user) refl has
   where
     go : (o : Option Account) → get accounts user ≡ o → IsSome o → ShowsAccounts (made tables ds) (in_place accounts user (delivers plan) (get accounts user))
@@ -363,7 +363,7 @@ delivery_shows user c plan ds delivery tables accounts shows has counts = go (ge
 
 -- ---- the table of messages
 
-turn_beside : {X : Type 0} (f : ℕ → X → Tables → Tables) → ((n : ℕ) (x : X) (own : Tables) → f n x own message_tree ≡ own message_tree) → (xs : List X) (n : ℕ) (own : Tables) → in_turn f n xs own message_tree ≡ own message_tree
+turn_beside : {X : Type 0} (f : ℕ → X → Tables → Tables) → ((n : ℕ) (x : X) (own : Tables) → f n x own message_tree ≡ own message_tree) → (xs : List X) (n : ℕ) (own : Tables) → numbered_changes f n xs own message_tree ≡ own message_tree
 turn_beside f beside [] n own = refl
 turn_beside f beside (x ∷ xs) n own = turn_beside f beside xs (suc n) (f n x own) ∙ beside n x own
 
@@ -383,7 +383,7 @@ message_gained : (user message : List ℕ) (places : List Placement) (n : ℕ) (
 message_gained user message [] n own = sym (append-nil (own message_tree))
 message_gained user message (p ∷ places) n own = refl
 
-delivered_once : (user : List ℕ) (c : Counters) (plan : Plan) (own : Tables) → delivered user c plan own message_tree ≡ own message_tree ++ once_for plan.filed (message_cells user (pos c.copy) plan.message.now)
+delivered_once : (user : List ℕ) (c : Counters) (plan : Plan) (own : Tables) → delivered_rows user c plan own message_tree ≡ own message_tree ++ once_for plan.filed (message_cells user (pos c.copy) plan.message.now)
 delivered_once user c plan own =
     let up = counters_raised user c plan own in
     let kept = message_kept user plan.message.now c.copy plan.filed up in
@@ -397,7 +397,7 @@ delivered_once user c plan own =
     ∙ turn_beside (λ n copy. copy_added user copy.mailbox (pos n) (pos c.copy) copy.flags) (λ n copy own. refl) plan.filed c.copy kept ∙ message_gained user plan.message.now plan.filed c.copy up
 
 -- after a read that kept the tables, the changes of a delivery store its message once
-pub stores_once : {X E Y : Type 0} (a b d : State) (r : Result X E) (x : X) → r ≡ Ok x → Keeps a b r → (user : List ℕ) (c : Counters) (plan : Plan) (ds : List Change) → AreDelivery user c plan ds → Survives b d (CrashLeavesTables ds b)
+pub stores_once : {X E Y : Type 0} (a b d : State) (r : Result X E) (x : X) → r ≡ Ok x → KeepsTables a b r → (user : List ℕ) (c : Counters) (plan : Plan) (ds : List Change) → AreDelivery user c plan ds → Survives b d (CrashLeavesTables ds b)
     → (q : Result Y Refusal) → MakesAll ds b d q → StoresOnce user plan a d q
 stores_once {Y = Y} a b d r x ok kept user c plan ds delivery survives q wrote clean tables h = go q wrote
   where

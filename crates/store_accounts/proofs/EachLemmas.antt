@@ -13,20 +13,20 @@ use Rattle.sqlite.specs.State.{State, HasCleanDisk, Survives, Shown, ShowsRows, 
 use Rattle.sqlite.specs.Given.{HasGiven, HasBegun, Advances, IsRefused}
 use Rattle.sqlite.proofs.Callers.{IsPlain, begun_plain, unchanged_then}
 use Rattle.sqlite.proofs.StateLemmas.{survives_then}
-use Rattle.mailtables.specs.Rows.{Tables, HoldsTables}
-use Rattle.mailtables.specs.Schema.{mail_schema}
-use Rattle.mailtables.specs.Connection.{StaysSame, Queries}
-use Rattle.mailtables.proofs.VersionLemmas.{same_unchanged, same_undone}
-use Rattle.mailtables.proofs.WriteLemmas.{clean_before}
-use Rattle.mailstore.specs.declared.refusal.Refusal.{Refusal}
-use Rattle.mailstore.specs.Refusals.{IsTransient}
-use Rattle.mailstore.specs.Account.{Account, Accounts}
-use Rattle.mailstore.specs.Shows.{rows_of, Presents}
-use Rattle.mailstore.specs.Promises.{HasOurTables, FindsAmong, ReadsEntered}
-use Rattle.mailstore.specs.EachRow.{AreOfRows, ReadsEach}
+use Rattle.store_tables.specs.Rows.{Tables, HoldsTables}
+use Rattle.store_tables.specs.Schema.{mail_schema}
+use Rattle.store_tables.specs.Connection.{StaysSame, Queries}
+use Rattle.store_tables.proofs.VersionLemmas.{same_unchanged, same_undone}
+use Rattle.store_tables.proofs.WriteLemmas.{clean_before}
+use Rattle.store_accounts.specs.declared.refusal.Refusal.{Refusal}
+use Rattle.store_accounts.specs.Refusals.{IsTransient}
+use Rattle.store_accounts.specs.Account.{Account, Accounts}
+use Rattle.store_accounts.specs.Shows.{rows_of, Presents}
+use Rattle.store_accounts.specs.Promises.{HasOurTables, FindsAmong, ReadsEntered}
+use Rattle.store_accounts.specs.EachRow.{AreOfRows, ReadsEach}
 use Rattle.std.specs.FinMap.{get}
-use Rattle.mailstore.proofs.QueryLemmas.{query_same, query_quiet, stays_shut}
-use Rattle.mailstore.proofs.KeepLemmas.{none_ok, none_if}
+use Rattle.store_accounts.proofs.QueryLemmas.{query_same, query_quiet, stays_shut}
+use Rattle.store_accounts.proofs.KeepLemmas.{none_ok, none_if}
 
 -- rows that are shown after all stayed as it was are shown from the start
 shown_since : (sql : List ℕ) (params : Row) (old mid new : State) (rows : List Row) → IsPlain (understood old.now.schema sql) → IsUnchanged old mid → Shown sql params mid new rows → Shown sql params old new rows

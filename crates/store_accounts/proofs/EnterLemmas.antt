@@ -5,16 +5,16 @@ use Rattle.std.specs.FinMap.{get}
 use Rattle.sqlite_value.specs.Order.{Row}
 use Rattle.sqlite.specs.declared.error.Error.{Error}
 use Rattle.sqlite.specs.State.{State, HasCleanDisk}
-use Rattle.mailstore.specs.declared.profile.Profile.{Profile}
-use Rattle.mailstore.specs.declared.refusal.Refusal.{Refusal}
-use Rattle.mailstore.specs.declared.refusal.Refusal.TheVariants.{NoUser}
-use Rattle.mailstore.specs.Account.{Account, Accounts}
-use Rattle.mailstore.specs.Refusals.{IsTransient}
-use Rattle.mailstore.specs.Shows.{Presents}
-use Rattle.mailstore.specs.Promises.{HasNoOpen, OfOpen, Finds, Reads, ReadsEntered}
-use Rattle.mailstore.proofs.StandingLemmas.{open_there}
-use Rattle.mailtables.proofs.WriteLemmas.{clean_before}
-use Rattle.mailstore.proofs.KeepLemmas.{keeps_ok, keeps_refused, keeps_failed, keeps_all, keeps_then, mid_shows, none_if, of_there, transient_other, transient_named}
+use Rattle.store_accounts.specs.declared.profile.Profile.{Profile}
+use Rattle.store_accounts.specs.declared.refusal.Refusal.{Refusal}
+use Rattle.store_accounts.specs.declared.refusal.Refusal.TheVariants.{NoUser}
+use Rattle.store_accounts.specs.Account.{Account, Accounts}
+use Rattle.store_accounts.specs.Refusals.{IsTransient}
+use Rattle.store_accounts.specs.Shows.{Presents}
+use Rattle.store_accounts.specs.Promises.{HasNoOpen, OfOpen, FindsUserRows, ReadsOpenAccount, ReadsEntered}
+use Rattle.store_accounts.proofs.StandingLemmas.{open_there}
+use Rattle.store_tables.proofs.WriteLemmas.{clean_before}
+use Rattle.store_accounts.proofs.KeepLemmas.{keeps_ok, keeps_refused, keeps_failed, keeps_all, keeps_then, mid_shows, none_if, of_there, transient_other, transient_named}
 
 -- ---- what a query shows, as an answer
 
@@ -28,7 +28,7 @@ at_account : {X Y : Type 0} (P : X → Account → Type 0) (Q : Y → Account �
 at_account P Q x q made None h = ok_none q Q
 at_account P Q x q made (Some account) h = made account h
 
-module _ {Y : Type 0} (user : List ℕ) (Part : List Row → Account → Type 0) (Q : Y → Account → Type 0) (a b : State) (r : Result (Vec Row Global) Error) (h : Finds user Part a b r) (q : Result Y Refusal) where
+module _ {Y : Type 0} (user : List ℕ) (Part : List Row → Account → Type 0) (Q : Y → Account → Type 0) (a b : State) (r : Result (Vec Row Global) Error) (h : FindsUserRows user Part a b r) (q : Result Y Refusal) where
   pub entered_answer : (rows : Vec Row Global) → r ≡ Ok rows → IfErr q IsTransient → ((account : Account) → Part rows.items account → IfOk q (λ y. Q y account)) → ReadsEntered user Q a b q
   entered_answer rows was named made = record {
     found = λ clean accounts p.
@@ -71,12 +71,12 @@ entered_told {X} user P Q a b r tells h = record { found = λ clean accounts p. 
 same_account : (accounts : Accounts) (user : List ℕ) (P Q R : Account → Type 0) → ((account : Account) → P account → Q account → R account) → OfOpen accounts user P → IfSome (get accounts user) Q → OfOpen accounts user R
 same_account accounts user P Q R both there some = (there.0, there.1, both there.0 there.2 (subst (λ o. IfSome o Q) (open_there (get accounts user) there.0 there.1) some))
 
-module _ {X : Type 0} (user : List ℕ) (P : X → Account → Type 0) (a b c : State) (r : Result X Refusal) (x : X) (was : r ≡ Ok x) (early : Reads user P a b r) {Y : Type 0} (Q : Y → Account → Type 0) where
+module _ {X : Type 0} (user : List ℕ) (P : X → Account → Type 0) (a b c : State) (r : Result X Refusal) (x : X) (was : r ≡ Ok x) (early : ReadsOpenAccount user P a b r) {Y : Type 0} (Q : Y → Account → Type 0) where
   there_before : HasCleanDisk b → (accounts : Accounts) → Presents a.now accounts → OfOpen accounts user (P x)
   there_before clean accounts p = subst (λ o. IfOk o (λ z. OfOpen accounts user (P z))) was (early.found clean accounts p)
 
   -- with an answer that is made of both
-  pub enters_both : (q : Result Y Refusal) (y : Y) → q ≡ Ok y → ReadsEntered user Q b c q → {Z : Type 0} (R : Z → Account → Type 0) (z : Z) → ((account : Account) → P x account → Q y account → R z account) → Reads user R a c (Ok z)
+  pub enters_both : (q : Result Y Refusal) (y : Y) → q ≡ Ok y → ReadsEntered user Q b c q → {Z : Type 0} (R : Z → Account → Type 0) (z : Z) → ((account : Account) → P x account → Q y account → R z account) → ReadsOpenAccount user R a c (Ok z)
   enters_both q y is late R z both = record {
     found = λ clean accounts p.
         same_account accounts user (P x) (Q y) (R z) both (there_before (clean_before b c _ late.keeps.crash clean) accounts p)
@@ -88,7 +88,7 @@ module _ {X : Type 0} (user : List ℕ) (P : X → Account → Type 0) (a b c : 
   }
 
   -- with a refusal
-  pub enters_failed : (q : Result Y Refusal) → ReadsEntered user Q b c q → {Z : Type 0} (R : Z → Account → Type 0) (end : Result Z Refusal) → OnOk end ⊥ → IfErr end IsTransient → Reads user R a c end
+  pub enters_failed : (q : Result Y Refusal) → ReadsEntered user Q b c q → {Z : Type 0} (R : Z → Account → Type 0) (end : Result Z Refusal) → OnOk end ⊥ → IfErr end IsTransient → ReadsOpenAccount user R a c end
   enters_failed q late R end none transient = record {
     found = λ clean accounts p. none_if end (λ z. OfOpen accounts user (R z)) none;
     absent = λ clean accounts p. transient_other end (HasNoOpen user accounts) transient;
@@ -98,7 +98,7 @@ module _ {X : Type 0} (user : List ℕ) (P : X → Account → Type 0) (a b c : 
   }
 
   -- with the read's own answer
-  pub enters : (q : Result Y Refusal) → ReadsEntered user Q b c q → Reads user Q a c q
+  pub enters : (q : Result Y Refusal) → ReadsEntered user Q b c q → ReadsOpenAccount user Q a c q
   enters (Ok y) late = enters_both (Ok y) y refl late Q y (λ account one two. two)
   enters (Err e) late = enters_failed (Err e) late Q (Err e) tt late.named
 

@@ -19,23 +19,23 @@ use Rattle.sqlite_typed.proofs.TestLemmas.{last_key}
 use Rattle.sqlite.specs.Listing.{understood, reads_listing}
 use Rattle.sqlite.specs.State.{State, Shown}
 use Rattle.sqlite.proofs.Callers.{IsPlain, command_of}
-use Rattle.mailtables.specs.Forms.{over}
-use Rattle.mailtables.specs.Rows.{Tables, HoldsTables, has_key}
-use Rattle.mailtables.specs.Schema.{mail_schema}
-use Rattle.mailtables.specs.CopyTable.{copy, copy_tree}
-use Rattle.mailtables.proofs.AnswerLemmas.{cells_in_order}
-use Rattle.mailtables.proofs.ListLemmas.{owner_key}
-use Rattle.mailtables.proofs.ReadLemmas.{answered}
-use Rattle.mailtables.proofs.SchemaFacts.{copy_listed}
-use Rattle.mailtables.proofs.TextFacts.{by_one, filings_shown}
-use Rattle.mailstore.specs.declared.filing.Filing.{Filing}
-use Rattle.mailstore.specs.CopyRows.{Copy, copy_row, filing_of, filing_cells}
-use Rattle.mailstore.specs.FirstCells.{first_four}
-use Rattle.mailstore.specs.Listing.{select_filings, AreFilingRows, AreFilingsOf}
-use Rattle.mailstore.specs.Shows.{rows_of}
-use Rattle.mailstore.proofs.OneLemmas.{map_one}
+use Rattle.store_tables.specs.Forms.{over_table}
+use Rattle.store_tables.specs.Rows.{Tables, HoldsTables, has_key}
+use Rattle.store_tables.specs.Schema.{mail_schema}
+use Rattle.store_tables.specs.CopyTable.{copy, copy_tree}
+use Rattle.store_tables.proofs.AnswerLemmas.{cells_in_order}
+use Rattle.store_tables.proofs.ListLemmas.{owner_key}
+use Rattle.store_tables.proofs.ReadLemmas.{answered}
+use Rattle.store_tables.proofs.SchemaFacts.{copy_listed}
+use Rattle.store_tables.proofs.TextFacts.{by_one, filings_shown}
+use Rattle.store_accounts.specs.declared.filing.Filing.{Filing}
+use Rattle.store_accounts.specs.CopyRows.{Copy, copy_row, filing_of, filing_cells}
+use Rattle.store_accounts.specs.FirstCells.{first_four}
+use Rattle.store_accounts.specs.Listing.{select_filings, AreFilingRows, AreFilingsOf}
+use Rattle.store_accounts.specs.Shows.{rows_of}
+use Rattle.store_accounts.proofs.OneLemmas.{map_one}
 
-select_filings_is : command_of (understood mail_schema select_filings) ≡ Select (over copy_tree by_one filings_shown ((col 1 3, ascending Binary) ∷ [])) (codes "folder" ∷ codes "n" ∷ codes "id" ∷ codes "flags" ∷ [])
+select_filings_is : command_of (understood mail_schema select_filings) ≡ Select (over_table copy_tree by_one filings_shown ((col 1 3, ascending Binary) ∷ [])) (codes "folder" ∷ codes "n" ∷ codes "id" ∷ codes "flags" ∷ [])
 unfolding understood everything
 select_filings_is = refl
 
@@ -44,7 +44,7 @@ unfolding understood everything
 select_filings_plain = ((refl, refl), refl)
 
 abbrev by_copy : Query
-by_copy = (over copy_tree by_one filings_shown ((col 1 3, ascending Binary) ∷ [])).body
+by_copy = (over_table copy_tree by_one filings_shown ((col 1 3, ascending Binary) ∷ [])).body
 
 filing_output : Copy → Output
 filing_output c = (Int (pos c.n) ∷ [], filing_cells (filing_of c))

@@ -9,25 +9,25 @@ use Rattle.sqlite_rules.proofs.ListLemmas.{all_has, has_filtered}
 use Rattle.sqlite_keyed.proofs.ListLemmas.{filter-map, filter_same, filter-filter, slice_get-filter, IsPermutation-filter}
 use Rattle.sqlite.specs.State.{State, Shown}
 use Rattle.sqlite.proofs.Callers.{one_permutation}
-use Rattle.mailtables.specs.Rows.{Tables, HoldsTables, has_key}
-use Rattle.mailtables.proofs.AnswerLemmas.{cells_by_key, first_shown}
-use Rattle.mailtables.proofs.ReadLemmas.{answered}
-use Rattle.mailtables.proofs.ListLemmas.{owner_key}
-use Rattle.mailstore.specs.declared.filing.Filing.{Filing}
-use Rattle.mailstore.specs.declared.taking.NumberedMessage.{NumberedMessage}
-use Rattle.mailtables.specs.Schema.{mail_schema}
-use Rattle.mailstore.specs.Account.{Account, messages_in, flags_in}
-use Rattle.mailtables.specs.MessageTable.{message, message_key, message_tree, bytes_column, select_message}
-use Rattle.mailstore.specs.MessageRows.{message_row}
-use Rattle.mailstore.specs.CopyRows.{Copy, message_of, is_in, filing_of, numbered_of, IsFirstIn, IsNthMessage}
-use Rattle.mailstore.specs.Shows.{rows_of, IsShown, IsNthFiling, AreOctetRows, HasOctets, IsFirstOf, IsNthOf}
-use Rattle.mailtables.proofs.SchemaFacts.{message_listed}
-use Rattle.mailtables.proofs.TextFacts.{by_two, select_message_is, select_message_plain}
-use Rattle.mailtables.proofs.StatementLemmas.{message_index, message_agrees}
-use Rattle.mailstore.proofs.AccountLemmas.{message_is}
-use Rattle.mailstore.proofs.KeyLemmas.{key_owned}
-use Rattle.mailstore.proofs.NumberLemmas.{alone_at}
-use Rattle.mailstore.proofs.OrderLemmas.{messages_are, flags_are}
+use Rattle.store_tables.specs.Rows.{Tables, HoldsTables, has_key}
+use Rattle.store_tables.proofs.AnswerLemmas.{cells_by_key, first_shown}
+use Rattle.store_tables.proofs.ReadLemmas.{answered}
+use Rattle.store_tables.proofs.ListLemmas.{owner_key}
+use Rattle.store_accounts.specs.declared.filing.Filing.{Filing}
+use Rattle.store_accounts.specs.declared.taking.NumberedMessage.{NumberedMessage}
+use Rattle.store_tables.specs.Schema.{mail_schema}
+use Rattle.store_accounts.specs.Account.{Account, messages_in, folder_flags}
+use Rattle.store_tables.specs.MessageTable.{message, message_key, message_tree, bytes_column, select_message}
+use Rattle.store_accounts.specs.MessageRows.{message_row}
+use Rattle.store_accounts.specs.CopyRows.{Copy, message_of, is_in, filing_of, numbered_of, IsFirstIn, IsNthMessage}
+use Rattle.store_accounts.specs.Shows.{rows_of, IsShown, IsNthFiling, AreOctetRows, HasMessageOctets, IsFirstOf, IsNthOf}
+use Rattle.store_tables.proofs.SchemaFacts.{message_listed}
+use Rattle.store_tables.proofs.TextFacts.{by_two, select_message_is, select_message_plain}
+use Rattle.store_tables.proofs.StatementLemmas.{message_index, message_agrees}
+use Rattle.store_accounts.proofs.AccountLemmas.{message_is}
+use Rattle.store_accounts.proofs.KeyLemmas.{key_owned}
+use Rattle.store_accounts.proofs.NumberLemmas.{alone_at}
+use Rattle.store_accounts.proofs.OrderLemmas.{messages_are, flags_are}
 
 -- ---- the octets of one message
 
@@ -70,7 +70,7 @@ module _ (user folder : List ℕ) (count : ℤ) (filing : Option Filing) (own : 
       go None e = refl
       go (Some c) e = absurd (let no = e in cc)
 
-  pub nth_some : (f : Filing) (octets : List ℕ) → filing ≡ Some f → HasOctets user f.id octets own → IsNthOf user folder count (Some (record { number = f.n; message = octets; flags = f.flags })) own
+  pub nth_some : (f : Filing) (octets : List ℕ) → filing ≡ Some f → HasMessageOctets user f.id octets own → IsNthOf user folder count (Some (record { number = f.n; message = octets; flags = f.flags })) own
   nth_some f octets some has a s n given = go (slice_get (filter (is_in folder) s.copies.entries) n) refl (sym some ∙ is_nth a s n given)
     where
       go : (o : Option Copy) → slice_get (filter (is_in folder) s.copies.entries) n ≡ o → Some f ≡ option_map filing_of o → Some (record { number = f.n; message = octets; flags = f.flags }) ≡ option_map numbered_of o
@@ -104,7 +104,7 @@ first_shows user folder first own a s is = record {
       ∙ sym (ap (λ l. slice_get l 0) (ap (λ m. messages_in m folder) s.copies.shown ∙ messages_are s.copies.entries folder));
   flags =
       ap (option_map (λ m. m.flags)) (is a s) ∙ flags_twice (find (is_in folder) s.copies.entries) ∙ sym (first_shown (λ c. c.flags) (is_in folder) s.copies.entries)
-      ∙ sym (ap (λ l. slice_get l 0) (ap (λ m. flags_in m folder) s.copies.shown_flags ∙ flags_are s.copies.entries folder));
+      ∙ sym (ap (λ l. slice_get l 0) (ap (λ m. folder_flags m folder) s.copies.shown_flags ∙ flags_are s.copies.entries folder));
 }
 
 -- ---- the one after that many

@@ -18,20 +18,20 @@ use Rattle.sqlite_sql.proofs.QueryLemmas.{output_cmp_total}
 use Rattle.sqlite_keyed.proofs.ListLemmas.{map-map, map_back, ascending_from_map, ascending_weaker, all-map}
 use Rattle.sqlite_typed.proofs.TestLemmas.{last_key}
 use Rattle.sqlite.specs.State.{State, Shown}
-use Rattle.mailtables.specs.Forms.{over}
-use Rattle.mailtables.specs.Rows.{has_key}
-use Rattle.mailtables.proofs.AnswerLemmas.{cells_in_order}
-use Rattle.mailtables.proofs.ReadLemmas.{answered}
-use Rattle.mailtables.proofs.ListLemmas.{owner_key}
-use Rattle.mailtables.specs.Schema.{mail_schema}
-use Rattle.mailstore.specs.Account.{bytes_cmp, Account, Accounts}
-use Rattle.mailtables.specs.CopyTable.{copy, select_folders, copy_tree}
-use Rattle.mailstore.specs.CopyRows.{Copy, copy_row}
-use Rattle.mailstore.specs.Shows.{rows_of, IsShown, IsShownOrAbsent, Presents}
-use Rattle.mailstore.specs.Tally.{tallied, count_of, size_of, AreFolderRows}
-use Rattle.mailtables.proofs.TextFacts.{by_one, select_folders_is, select_folders_plain}
-use Rattle.mailstore.proofs.TallyLemmas.{InOrder, tally_is}
-use Rattle.mailtables.proofs.SchemaFacts.{copy_listed}
+use Rattle.store_tables.specs.Forms.{over_table}
+use Rattle.store_tables.specs.Rows.{has_key}
+use Rattle.store_tables.proofs.AnswerLemmas.{cells_in_order}
+use Rattle.store_tables.proofs.ReadLemmas.{answered}
+use Rattle.store_tables.proofs.ListLemmas.{owner_key}
+use Rattle.store_tables.specs.Schema.{mail_schema}
+use Rattle.store_accounts.specs.Account.{bytes_cmp, Account, Accounts}
+use Rattle.store_tables.specs.CopyTable.{copy, select_folders, copy_tree}
+use Rattle.store_accounts.specs.CopyRows.{Copy, copy_row}
+use Rattle.store_accounts.specs.Shows.{rows_of, IsShown, IsShownOrAbsent, Presents}
+use Rattle.store_accounts.specs.Tally.{tallied, folder_count, folder_size, AreFolderRows}
+use Rattle.store_tables.proofs.TextFacts.{by_one, select_folders_is, select_folders_plain}
+use Rattle.store_accounts.proofs.TallyLemmas.{InOrder, tally_is}
+use Rattle.store_tables.proofs.SchemaFacts.{copy_listed}
 
 each_at : {X : Type 0} (P : X → Type 0) (ys : List X) → ((j : ℕ) (d : X) → j < length ys → P (get_or ys j d)) → AllByRecursion P ys
 each_at P [] h = tt
@@ -42,7 +42,7 @@ ascending_at R [] h = tt
 ascending_at R (x ∷ xs) h = (each_at (R x) xs (λ j d low. h 0 (suc j) d (omega arith) (omega arith)), ascending_at R xs (λ i j d p q. h (suc i) (suc j) d (omega arith) (omega arith)))
 
 abbrev by_folder : Query
-by_folder = (over copy_tree by_one (col 1 2 ∷ []) ((col 1 2, ascending Binary) ∷ [])).body
+by_folder = (over_table copy_tree by_one (col 1 2 ∷ []) ((col 1 2, ascending Binary) ∷ [])).body
 
 abbrev folder_output : List ℕ → Output
 folder_output n = (Blob n ∷ [], Blob n ∷ [])
@@ -88,7 +88,7 @@ module _ (old new : State) (rows : List Row) (accounts : Accounts) (p : Presents
           let permuted = subst (λ l. IsPermutation l names) (map_back folder_output folder_in (λ n. refl) listed) (IsPermutation-map folder_in _ _ same) in (
             names,
             found.3 ∙ ap (map (λ (o : Output). o.1)) image_again ∙ map-map (λ (o : Output). o.1) folder_output names,
-            subst (λ m. map count_of (tallied names) ≡ map size_of (entries m)) (sym s.copies.shown) (tally_is s.copies.entries names permuted (names_in_order found.0 names image_again found.2)),
+            subst (λ m. map folder_count (tallied names) ≡ map folder_size (entries m)) (sym s.copies.shown) (tally_is s.copies.entries names permuted (names_in_order found.0 names image_again found.2)),
           )
 
       go : (o : Option Account) → IsShownOrAbsent user (rows_of user p.0) o → IfSome o (AreFolderRows rows)

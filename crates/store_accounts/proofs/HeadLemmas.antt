@@ -18,34 +18,34 @@ use Rattle.sqlite_keyed.proofs.KeyedLemmas.{Less-from_lt}
 use Rattle.sqlite_keyed.proofs.SortLemmas.{sorted_unique}
 use Rattle.sqlite_typed.proofs.TestLemmas.{last_key}
 use Rattle.sqlite.specs.State.{State, Shown}
-use Rattle.mailtables.specs.Forms.{over}
-use Rattle.mailtables.specs.Rows.{has_key}
-use Rattle.mailtables.proofs.AnswerLemmas.{cells_in_order}
-use Rattle.mailtables.proofs.ReadLemmas.{answered}
-use Rattle.mailtables.proofs.ListLemmas.{owner_key}
-use Rattle.mailtables.specs.Schema.{mail_schema}
-use Rattle.mailtables.specs.declared.queue.Kind.{Kind}
-use Rattle.mailtables.specs.declared.queue.Kind.TheVariants.{Redirect, Reply}
-use Rattle.mailtables.specs.QueueTable.{kind_number, outgoing, outgoing_tree, select_heads}
-use Rattle.mailtables.proofs.SchemaFacts.{outgoing_listed}
-use Rattle.mailtables.proofs.TextFacts.{by_one, heads_shown, select_heads_is, select_heads_plain}
-use Rattle.mailstore.specs.declared.queue.Outgoing.{Outgoing}
-use Rattle.mailstore.specs.declared.head.Head.{Head}
-use Rattle.mailstore.specs.Account.{Account, Accounts}
-use Rattle.mailstore.specs.FirstCells.{first_five}
-use Rattle.mailstore.specs.QueueRows.{queue_row}
-use Rattle.mailstore.specs.HeadRows.{head_of, head_cells, AreHeadRows}
-use Rattle.mailstore.specs.Shows.{Presents}
-use Rattle.mailstore.proofs.OneLemmas.{map_one}
-use Rattle.mailstore.proofs.ReadLemmas.{at_user}
+use Rattle.store_tables.specs.Forms.{over_table}
+use Rattle.store_tables.specs.Rows.{has_key}
+use Rattle.store_tables.proofs.AnswerLemmas.{cells_in_order}
+use Rattle.store_tables.proofs.ReadLemmas.{answered}
+use Rattle.store_tables.proofs.ListLemmas.{owner_key}
+use Rattle.store_tables.specs.Schema.{mail_schema}
+use Rattle.store_tables.specs.declared.queue.QueuedKind.{QueuedKind}
+use Rattle.store_tables.specs.declared.queue.QueuedKind.TheVariants.{Redirect, Reply}
+use Rattle.store_tables.specs.QueueTable.{kind_number, outgoing, outgoing_tree, select_heads}
+use Rattle.store_tables.proofs.SchemaFacts.{outgoing_listed}
+use Rattle.store_tables.proofs.TextFacts.{by_one, heads_shown, select_heads_is, select_heads_plain}
+use Rattle.store_accounts.specs.declared.queue.QueuedMessage.{QueuedMessage}
+use Rattle.store_accounts.specs.declared.queued_envelope.QueuedEnvelope.{QueuedEnvelope}
+use Rattle.store_accounts.specs.Account.{Account, Accounts}
+use Rattle.store_accounts.specs.FirstCells.{first_five}
+use Rattle.store_accounts.specs.QueueRows.{queue_row}
+use Rattle.store_accounts.specs.HeadRows.{queued_envelope, head_cells, AreHeadRows}
+use Rattle.store_accounts.specs.Shows.{Presents}
+use Rattle.store_accounts.proofs.OneLemmas.{map_one}
+use Rattle.store_accounts.proofs.ReadLemmas.{at_user}
 
 abbrev by_id : Query
-by_id = (over outgoing_tree by_one heads_shown ((col 1 2, ascending Binary) ∷ [])).body
+by_id = (over_table outgoing_tree by_one heads_shown ((col 1 2, ascending Binary) ∷ [])).body
 
-head_output : Outgoing → Output
-head_output out = (Int (pos out.id) ∷ [], head_cells (head_of out))
+head_output : QueuedMessage → Output
+head_output out = (Int (pos out.id) ∷ [], head_cells (queued_envelope out))
 
-heads_rise : (x y : Outgoing) → x.id < y.id → output_cmp by_id (head_output x) (head_output y) ≡ Less
+heads_rise : (x y : QueuedMessage) → x.id < y.id → output_cmp by_id (head_output x) (head_output y) ≡ Less
 unfolding head_output
 heads_rise x y low = last_key (value_cmp-Int (pos x.id) (pos y.id) ∙ Less-from_lt (pos x.id) (pos y.id) (omega (arith, ints)))
 
@@ -61,11 +61,11 @@ module _ (old new : State) (rows : List Row) (accounts : Accounts) (p : Presents
       subst (λ l. IsPermutation l (map show (filter own (p.0 outgoing_tree)))) (map-map show (queue_row user) a.queue) (IsPermutation-map show _ _ s.queue.rows_are) in
       let rising = ascending-map (λ x y. output_cmp by_id x y ≡ Less) head_output a.queue (ascending_weaker _ (λ x y. output_cmp by_id (head_output x) (head_output y) ≡ Less) heads_rise a.queue s.queue.rise) in
       let is = sorted_unique (output_cmp by_id) (output_cmp_total by_id) (map head_output a.queue) found.0 rising (IsPermutation-trans _ _ _ outs found.1) found.2 in
-      found.3 ∙ ap (map (λ (o : Output). o.1)) is ∙ map-map (λ (o : Output). o.1) head_output a.queue ∙ sym (map-map head_cells head_of a.queue))
+      found.3 ∙ ap (map (λ (o : Output). o.1)) is ∙ map-map (λ (o : Output). o.1) head_output a.queue ∙ sym (map-map head_cells queued_envelope a.queue))
 
 -- ---- what was read of them
 
-head_one : (x y : Head) → head_cells x ≡ head_cells y → x ≡ y
+head_one : (x y : QueuedEnvelope) → head_cells x ≡ head_cells y → x ≡ y
 head_one x y e =
     let id : x.id ≡ y.id = cc in
     let number : kind_number x.kind ≡ kind_number y.kind = cc in
@@ -75,12 +75,12 @@ head_one x y e =
     let len : x.len ≡ y.len = cc in
     λ i. record { id = id i; kind = kind i; sender = sender i; target = target i; len = len i }
   where
-    kind_one : (k l : Kind) → kind_number k ≡ kind_number l → k ≡ l
+    kind_one : (k l : QueuedKind) → kind_number k ≡ kind_number l → k ≡ l
     kind_one Redirect Redirect e = refl
     kind_one Reply Reply e = refl
     kind_one Redirect Reply e = absurd (omega (arith, e))
     kind_one Reply Redirect e = absurd (omega (arith, e))
 
-pub heads_are : {E : Type 0} (r : Result (List Head) E) (rows : List Row) (a : Account) → AreHeadRows rows a → IfOk r (λ all. map head_cells all ≡ map first_five rows) → IfOk r (λ all. all ≡ map head_of a.queue)
+pub heads_are : {E : Type 0} (r : Result (List QueuedEnvelope) E) (rows : List Row) (a : Account) → AreHeadRows rows a → IfOk r (λ all. map head_cells all ≡ map first_five rows) → IfOk r (λ all. all ≡ map queued_envelope a.queue)
 heads_are (Err e) rows a are h = tt
-heads_are (Ok all) rows a are h = map_one head_cells head_one all (map head_of a.queue) (h ∙ ap (map first_five) are ∙ map-map first_five head_cells (map head_of a.queue))
+heads_are (Ok all) rows a are h = map_one head_cells head_one all (map queued_envelope a.queue) (h ∙ ap (map first_five) are ∙ map-map first_five head_cells (map queued_envelope a.queue))

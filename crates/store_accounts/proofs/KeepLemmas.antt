@@ -11,34 +11,34 @@ use Rattle.sqlite.specs.Held.{Held, state}
 use Rattle.sqlite.specs.State.{State, HasCleanDisk, Survives, Shown}
 use Rattle.sqlite.proofs.Callers.{IsPlain}
 use Rattle.sqlite.proofs.StateLemmas.{survives_then}
-use Rattle.mailtables.specs.Rows.{Tables, HoldsTables}
-use Rattle.mailstore.specs.FirstCells.{first_three}
-use Rattle.mailstore.specs.declared.account.Counters.{Counters}
-use Rattle.mailtables.specs.declared.change.Change.{Change}
-use Rattle.mailstore.specs.declared.profile.Profile.{Profile}
-use Rattle.mailstore.specs.declared.refusal.Refusal.{Refusal}
-use Rattle.mailstore.specs.declared.refusal.Refusal.TheVariants.{NoUser}
-use Rattle.mailtables.specs.Schema.{mail_schema}
-use Rattle.mailtables.specs.Connection.{StaysSame, IsSettled, Queries, Answers}
-use Rattle.mailtables.specs.Changes.{CrashLeavesTables, MakesAll}
-use Rattle.mailstore.specs.Account.{Account, Accounts}
-use Rattle.mailstore.specs.Refusals.{IsTransient}
-use Rattle.mailtables.specs.AccountTable.{account_tree}
-use Rattle.mailstore.specs.AccountRows.{counter_cells, shown_account, shown_counters, profile_row, profile_of, IsRead, Counts}
-use Rattle.mailstore.specs.Shows.{rows_of, IsShownOrAbsent, ShowsAccounts, Presents}
-use Rattle.mailstore.proofs.StandingLemmas.{open_there}
-use Rattle.mailstore.specs.Promises.{HasOurTables, IsFree, HasNoOpen, OfOpen, Keeps, FindsOwn, FindsAmong, Finds, Reads, ReadsCounters, ReadsProfile, Writes, Turns, CrashLeavesAccounts}
-use Rattle.mailtables.proofs.ResultLemmas.{on_ok, on_any, on_err_any}
-use Rattle.mailtables.proofs.WriteLemmas.{clean_before}
-use Rattle.mailstore.proofs.QueryLemmas.{query_same, query_quiet, stays_shut, if_shown}
-use Rattle.mailstore.proofs.ReadLemmas.{counters_are, none_counted, profile_first}
-use Rattle.mailstore.proofs.OneLemmas.{or_null_one}
-use Rattle.mailstore.proofs.CallLemmas.{Carries, applied, crashed}
+use Rattle.store_tables.specs.Rows.{Tables, HoldsTables}
+use Rattle.store_accounts.specs.FirstCells.{first_three}
+use Rattle.store_accounts.specs.declared.account.Counters.{Counters}
+use Rattle.store_tables.specs.declared.change.Change.{Change}
+use Rattle.store_accounts.specs.declared.profile.Profile.{Profile}
+use Rattle.store_accounts.specs.declared.refusal.Refusal.{Refusal}
+use Rattle.store_accounts.specs.declared.refusal.Refusal.TheVariants.{NoUser}
+use Rattle.store_tables.specs.Schema.{mail_schema}
+use Rattle.store_tables.specs.Connection.{StaysSame, IsSettled, Queries, AnswersQuery}
+use Rattle.store_tables.specs.Changes.{CrashLeavesTables, MakesAll}
+use Rattle.store_accounts.specs.Account.{Account, Accounts}
+use Rattle.store_accounts.specs.Refusals.{IsTransient}
+use Rattle.store_tables.specs.AccountTable.{account_tree}
+use Rattle.store_accounts.specs.AccountRows.{counter_cells, shown_account, shown_counters, profile_row, profile_of, IsProfileRead, HasCounters}
+use Rattle.store_accounts.specs.Shows.{rows_of, IsShownOrAbsent, ShowsAccounts, Presents}
+use Rattle.store_accounts.proofs.StandingLemmas.{open_there}
+use Rattle.store_accounts.specs.Promises.{HasOurTables, IsFree, HasNoOpen, OfOpen, KeepsTables, FindsOwn, FindsAmong, FindsUserRows, ReadsOpenAccount, ReadsCounters, ReadsProfile, WritesStore, ChangesAccounts, CrashLeavesAccounts}
+use Rattle.store_tables.proofs.ResultLemmas.{on_ok, on_any, on_err_any}
+use Rattle.store_tables.proofs.WriteLemmas.{clean_before}
+use Rattle.store_accounts.proofs.QueryLemmas.{query_same, query_quiet, stays_shut, if_shown}
+use Rattle.store_accounts.proofs.ReadLemmas.{counters_are, none_counted, profile_first}
+use Rattle.store_accounts.proofs.OneLemmas.{or_null_one}
+use Rattle.store_accounts.proofs.CallLemmas.{Carries, applied, crashed}
 
 -- ---- what is kept
 
 -- a query of a plain text
-query_keeps : (sql : List ℕ) (params : Row) (old new : State) → IsPlain (understood mail_schema sql) → (r : Result (Vec Row Global) Error) → Answers sql params old new r → Keeps old new r
+query_keeps : (sql : List ℕ) (params : Row) (old new : State) → IsPlain (understood mail_schema sql) → (r : Result (Vec Row Global) Error) → AnswersQuery sql params old new r → KeepsTables old new r
 query_keeps sql params old new plain r asked = record {
   same = query_same sql params old new plain r asked.settled asked.ok asked.err;
   live = λ clean. (stays_shut sql params old new r asked.ok asked.err clean).1;
@@ -47,8 +47,8 @@ query_keeps sql params old new plain r asked = record {
 }
 
 -- a query of a plain text, outside a transaction, that shows this
-module _ {S : Type 0} (g : Ghosts S) (sql : List ℕ) (params : Row) (plain : IsPlain (understood mail_schema sql)) (old new : Held S) (r : Result (Vec Row Global) Error) (asked : Queries g (Answers sql params) old new r) where
-  keeps : Keeps (state g old) (state g new) r
+module _ {S : Type 0} (g : Ghosts S) (sql : List ℕ) (params : Row) (plain : IsPlain (understood mail_schema sql)) (old new : Held S) (r : Result (Vec Row Global) Error) (asked : Queries g (AnswersQuery sql params) old new r) where
+  keeps : KeepsTables (state g old) (state g new) r
   keeps = query_keeps sql params (state g old) (state g new) plain r asked.finds
 
   abbrev shown : List Row → Type 0
@@ -63,7 +63,7 @@ module _ {S : Type 0} (g : Ghosts S) (sql : List ℕ) (params : Row) (plain : Is
   }
 
   pub finds : (user : List ℕ) (Part : List Row → Account → Type 0) → ((rows : List Row) (accounts : Accounts) → Presents (state g old).now accounts → shown rows → IfSome (get accounts user) (Part rows))
-      → Queries g (Finds user Part) old new r
+      → Queries g (FindsUserRows user Part) old new r
   finds user Part shows = record {
     ended = asked.ended;
     limit = asked.limit;
@@ -79,11 +79,11 @@ module _ {S : Type 0} (g : Ghosts S) (sql : List ℕ) (params : Row) (plain : Is
   }
 
 -- with another answer, once Ok was answered
-pub keeps_ok : {X Y E F : Type 0} (a b : State) (r : Result X E) (x : X) (q : Result Y F) → r ≡ Ok x → Keeps a b r → Keeps a b q
+pub keeps_ok : {X Y E F : Type 0} (a b : State) (r : Result X E) (x : X) (q : Result Y F) → r ≡ Ok x → KeepsTables a b r → KeepsTables a b q
 keeps_ok a b r x q was k = record { same = k.same; live = λ clean. on_any q (IsTrue b.is_open) (on_ok r x was (IsTrue b.is_open) (k.live clean)); shut = k.shut; crash = k.crash }
 
 -- with a refusal as the answer
-pub keeps_refused : {X Y E F : Type 0} (a b : State) (r : Result X E) (e : F) (q : Result Y F) → q ≡ Err e → Keeps a b r → Keeps a b q
+pub keeps_refused : {X Y E F : Type 0} (a b : State) (r : Result X E) (e : F) (q : Result Y F) → q ≡ Err e → KeepsTables a b r → KeepsTables a b q
 keeps_refused a b r e q is k = record { same = k.same; live = λ clean. subst (λ o. OnOk o (IsTrue b.is_open)) (sym is) tt; shut = k.shut; crash = k.crash }
 
 pub none_ok : {Y E : Type 0} (q : Result Y E) (P : Type 0) → OnOk q ⊥ → OnOk q P
@@ -94,11 +94,11 @@ pub none_if : {Y E : Type 0} (q : Result Y E) (P : Y → Type 0) → OnOk q ⊥ 
 none_if (Ok y) P none = absurd none
 none_if (Err e) P none = tt
 
-pub keeps_failed : {X Y E F : Type 0} (a b : State) (r : Result X E) (q : Result Y F) → OnOk q ⊥ → Keeps a b r → Keeps a b q
+pub keeps_failed : {X Y E F : Type 0} (a b : State) (r : Result X E) (q : Result Y F) → OnOk q ⊥ → KeepsTables a b r → KeepsTables a b q
 keeps_failed a b r q none k = record { same = k.same; live = λ clean. none_ok q (IsTrue b.is_open) none; shut = k.shut; crash = k.crash }
 
 -- what the connection sees after a read that answered Ok
-module _ {X Y E F : Type 0} (a b c : State) (r : Result X E) (x : X) (was : r ≡ Ok x) (q : Result Y F) (early : Keeps a b r) (late : Keeps b c q) where
+module _ {X Y E F : Type 0} (a b c : State) (r : Result X E) (x : X) (was : r ≡ Ok x) (q : Result Y F) (early : KeepsTables a b r) (late : KeepsTables b c q) where
   clean_mid : HasCleanDisk c → HasCleanDisk b
   clean_mid = clean_before b c _ late.crash
 
@@ -118,7 +118,7 @@ module _ {X Y E F : Type 0} (a b c : State) (r : Result X E) (x : X) (was : r �
   mid_shows clean accounts p = subst (λ d. Presents d accounts) (sym (mid_now clean (p.0, p.1))) p
 
   -- one read after another that answered Ok
-  pub keeps_then : Keeps a c q
+  pub keeps_then : KeepsTables a c q
   keeps_then = record {
     same = λ clean h.
         let one = early.same (clean_mid clean) h in
@@ -132,7 +132,7 @@ module _ {X Y E F : Type 0} (a b c : State) (r : Result X E) (x : X) (was : r �
 -- ---- reads of one user's account
 
 -- with the refusal of an inner read
-pub reads_refused : {X Y : Type 0} (user : List ℕ) (P : X → Account → Type 0) (Q : Y → Account → Type 0) (a b : State) (e : Refusal) (q : Result Y Refusal) → q ≡ Err e → Reads user P a b (Err e) → Reads user Q a b q
+pub reads_refused : {X Y : Type 0} (user : List ℕ) (P : X → Account → Type 0) (Q : Y → Account → Type 0) (a b : State) (e : Refusal) (q : Result Y Refusal) → q ≡ Err e → ReadsOpenAccount user P a b (Err e) → ReadsOpenAccount user Q a b q
 reads_refused user P Q a b e q is r = record {
   found = λ clean accounts p. subst (λ o. IfOk o (λ y. OfOpen accounts user (Q y))) (sym is) tt;
   absent = λ clean accounts p. subst (λ o. IfErr o (λ f. f ≡ NoUser → HasNoOpen user accounts)) (sym is) (r.absent clean accounts p);
@@ -157,7 +157,7 @@ of_answer (Ok y) accounts user P Q f h = (h.0, h.1, f h.0 h.2)
 
 -- with an answer that is made of what was read
 pub reads_answer : {X Y : Type 0} (user : List ℕ) (P : X → Account → Type 0) (Q : Y → Account → Type 0) (a b : State) (r : Result X Refusal) (x : X) → r ≡ Ok x → (q : Result Y Refusal) → IfErr q IsTransient
-    → ((account : Account) → P x account → IfOk q (λ y. Q y account)) → Reads user P a b r → Reads user Q a b q
+    → ((account : Account) → P x account → IfOk q (λ y. Q y account)) → ReadsOpenAccount user P a b r → ReadsOpenAccount user Q a b q
 reads_answer user P Q a b r x was q named made h = record {
   found = λ clean accounts p. of_answer q accounts user (P x) Q made (subst (λ o. IfOk o (λ z. OfOpen accounts user (P z))) was (h.found clean accounts p));
   absent = λ clean accounts p. transient_other q (HasNoOpen user accounts) named;
@@ -187,7 +187,7 @@ counter_read user a b r rows was h q told none named = record {
 
 pub counter_refused : (user : List ℕ) (a b : State) (r : Result (Vec Row Global) Error) → FindsOwn user account_tree shown_counters a b r → (q : Result Counters Refusal) → OnOk q ⊥ → IfErr q IsTransient → ReadsCounters user a b q
 counter_refused user a b r h q none transient = record {
-  found = λ clean tables held. none_if q (Counts (rows_of user tables account_tree)) none;
+  found = λ clean tables held. none_if q (HasCounters (rows_of user tables account_tree)) none;
   absent = λ clean tables held. transient_other q (rows_of user tables account_tree ≡ []) transient;
   keeps = keeps_failed a b r q none h.keeps;
   named = transient_named q transient;
@@ -202,7 +202,7 @@ account_absent accounts user tables shows none = go (get accounts user) refl (sh
 
 -- ---- what the store keeps of an account
 
-profile_one : (p : Profile) (a : Account) → IsRead (Some p) (Some (profile_row a)) → p ≡ profile_of a
+profile_one : (p : Profile) (a : Account) → IsProfileRead (Some p) (Some (profile_row a)) → p ≡ profile_of a
 profile_one p a told =
     let address : p.address ≡ a.address = let e = told.0 in cc in
     let salt : p.salt ≡ a.password.salt = let e = told.1 in cc in
@@ -211,14 +211,14 @@ profile_one p a told =
     let active : p.active ≡ a.active = or_null_one p.active a.active (sym told.4) in
     λ i. record { address = address i; salt = salt i; rounds = rounds i; digest = digest i; active = active i }
 
-profile_is : (o : Option Profile) (a : Option Account) → IsRead o (option_map profile_row a) → o ≡ option_map profile_of a
+profile_is : (o : Option Profile) (a : Option Account) → IsProfileRead o (option_map profile_row a) → o ≡ option_map profile_of a
 profile_is None None told = refl
 profile_is None (Some a) told = absurd told
 profile_is (Some p) None told = absurd told
 profile_is (Some p) (Some a) told = ap Some (profile_one p a told)
 
 pub profile_read : (user : List ℕ) (a b : State) (r : Result (Vec Row Global) Error) (rows : Vec Row Global) → r ≡ Ok rows → FindsOwn user account_tree shown_account a b r → (q : Result (Option Profile) Refusal)
-    → IfOk q (λ profile. IsRead profile (slice_get rows.items 0)) → IfErr q IsTransient → ReadsProfile user a b q
+    → IfOk q (λ profile. IsProfileRead profile (slice_get rows.items 0)) → IfErr q IsTransient → ReadsProfile user a b q
 profile_read user a b r rows was h q told named = record {
   found = λ clean accounts p.
       let own = subst (λ o. IfOk o (λ all. all.items ≡ map shown_account (rows_of user p.0 account_tree))) was (h.found clean p.0 p.1) in
@@ -227,10 +227,10 @@ profile_read user a b r rows was h q told named = record {
   named = named;
 }
   where
-    go : (accounts : Accounts) (o : Result (Option Profile) Refusal) → slice_get rows.items 0 ≡ option_map profile_row (get accounts user) → IfOk o (λ profile. IsRead profile (slice_get rows.items 0))
+    go : (accounts : Accounts) (o : Result (Option Profile) Refusal) → slice_get rows.items 0 ≡ option_map profile_row (get accounts user) → IfOk o (λ profile. IsProfileRead profile (slice_get rows.items 0))
         → IfOk o (λ profile. profile ≡ option_map profile_of (get accounts user))
     go accounts (Err e) is h = tt
-    go accounts (Ok profile) is h = profile_is profile (get accounts user) (subst (IsRead profile) is h)
+    go accounts (Ok profile) is h = profile_is profile (get accounts user) (subst (IsProfileRead profile) is h)
 
 pub profile_refused : (user : List ℕ) (a b : State) (r : Result (Vec Row Global) Error) → FindsOwn user account_tree shown_account a b r → (q : Result (Option Profile) Refusal) → OnOk q ⊥ → IfErr q IsTransient → ReadsProfile user a b q
 profile_refused user a b r h q none transient = record {
@@ -243,7 +243,7 @@ profile_refused user a b r h q none transient = record {
 
 -- the changes make of the tables what the write makes of the accounts
 pub writes : {X : Type 0} (r : Result X Refusal) (a b : State) (changes : List Change) (Fit : Accounts → Type 0) (change : Accounts → Accounts) → Carries changes Fit change → MakesAll changes a b r
-    → (HasCleanDisk b → OnOk r (IsSettled b)) → (HasCleanDisk b → OnErr r (StaysSame a b)) → Survives a b (CrashLeavesTables changes a) → IfErr r IsTransient → Writes Fit change a b r
+    → (HasCleanDisk b → OnOk r (IsSettled b)) → (HasCleanDisk b → OnErr r (StaysSame a b)) → Survives a b (CrashLeavesTables changes a) → IfErr r IsTransient → WritesStore Fit change a b r
 writes r a b changes Fit change carries made settled same crash named = record {
   made = λ clean. applied r a.now b.now changes Fit change carries (made clean);
   settled = settled;
@@ -264,7 +264,7 @@ survives_same s P = record {
   crash = λ clean db before. inl before;
 }
 
-pub keeps_all : {X E : Type 0} (s : State) (q : Result X E) → OnOk q ⊥ → Keeps s s q
+pub keeps_all : {X E : Type 0} (s : State) (q : Result X E) → OnOk q ⊥ → KeepsTables s s q
 keeps_all s q none = record {
   same = λ clean ours. record { now_is = λ is_open. refl; committed_is = λ is_open. refl };
   live = λ clean. none_ok q (IsTrue s.is_open) none;
@@ -273,16 +273,16 @@ keeps_all s q none = record {
 }
 
 -- a refusal for memory, or of a number that does not fit
-pub writes_failed : {X : Type 0} (s : State) (Fit : Accounts → Type 0) (change : Accounts → Accounts) (q : Result X Refusal) → OnOk q ⊥ → IfErr q IsTransient → Writes Fit change s s q
+pub writes_failed : {X : Type 0} (s : State) (Fit : Accounts → Type 0) (change : Accounts → Accounts) (q : Result X Refusal) → OnOk q ⊥ → IfErr q IsTransient → WritesStore Fit change s s q
 writes_failed s Fit change q none named = record {
-  made = λ clean. none_ok q (Turns Fit change s.now s.now) none;
+  made = λ clean. none_ok q (ChangesAccounts Fit change s.now s.now) none;
   settled = λ clean. none_ok q (IsSettled s) none;
   same = λ clean. on_err_any q (StaysSame s s) (record { now_is = λ is_open. refl; committed_is = λ is_open. refl });
   crash = survives_same s (CrashLeavesAccounts Fit change s);
   named = named;
 }
 
-pub reads_failed : {X : Type 0} (user : List ℕ) (Part : X → Account → Type 0) (s : State) (q : Result X Refusal) → OnOk q ⊥ → IfErr q IsTransient → Reads user Part s s q
+pub reads_failed : {X : Type 0} (user : List ℕ) (Part : X → Account → Type 0) (s : State) (q : Result X Refusal) → OnOk q ⊥ → IfErr q IsTransient → ReadsOpenAccount user Part s s q
 reads_failed user Part s q none named = record {
   found = λ clean accounts p. none_if q (λ x. OfOpen accounts user (Part x)) none;
   absent = λ clean accounts p. transient_other q (HasNoOpen user accounts) named;

@@ -3,8 +3,8 @@ use Rattle.std.proofs.Common.{◌≡◌, ◌≢◌, ℕ, true, false, List, ◌�
 use Rattle.std.proofs.lemmas.Bool.{and_parts, and_from}
 use Rattle.sqlite_value.specs.declared.value.Value.TheVariants.{Blob}
 use Rattle.sqlite_value.specs.Order.{Row}
-use Rattle.mailtables.specs.Rows.{has_key}
-use Rattle.mailtables.proofs.ListLemmas.{owner_key, owners_apart}
+use Rattle.store_tables.specs.Rows.{has_key}
+use Rattle.store_tables.proofs.ListLemmas.{owner_key, owners_apart}
 
 -- a row with such a key is its owner's
 pub key_owned : (a : List ℕ) (more cells : Row) → has_key (Blob a ∷ more) cells ≡ true → has_key (owner_key a) cells ≡ true

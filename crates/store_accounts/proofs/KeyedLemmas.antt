@@ -10,23 +10,23 @@ use Rattle.sqlite_rules.proofs.ListLemmas.{has_found}
 use Rattle.sqlite_keyed.proofs.ListLemmas.{map-map, filter-map, filter_same, filter-filter, slice_get-filter, IsPermutation-filter}
 use Rattle.sqlite.specs.State.{State, Shown}
 use Rattle.sqlite.proofs.Callers.{one_permutation}
-use Rattle.mailtables.specs.Rows.{Tables, has_key}
-use Rattle.mailtables.proofs.AnswerLemmas.{cells_by_key}
-use Rattle.mailtables.proofs.ReadLemmas.{answered}
-use Rattle.mailtables.proofs.ListLemmas.{owner_key}
-use Rattle.mailstore.specs.declared.queue.Outgoing.{Outgoing}
-use Rattle.mailtables.specs.Schema.{mail_schema}
-use Rattle.mailtables.specs.QueueTable.{outgoing, outgoing_tree, queue_key, select_outgoing}
-use Rattle.mailtables.proofs.SchemaFacts.{outgoing_listed}
-use Rattle.mailtables.proofs.TextFacts.{by_two, queue_shown, select_outgoing_is, select_outgoing_plain}
-use Rattle.mailtables.proofs.StatementLemmas.{outgoing_index, outgoing_agrees}
-use Rattle.mailstore.specs.Account.{Account, Accounts, row_with}
-use Rattle.mailstore.specs.QueueRows.{queue_row, outgoing_cells, HasOutgoingRow}
-use Rattle.mailstore.specs.Shows.{rows_of, IsShown, Presents}
-use Rattle.mailstore.proofs.AccountLemmas.{queue_is}
-use Rattle.mailstore.proofs.KeyLemmas.{key_owned}
-use Rattle.mailstore.proofs.NumberLemmas.{alone_at}
-use Rattle.mailstore.proofs.ReadLemmas.{at_user}
+use Rattle.store_tables.specs.Rows.{Tables, has_key}
+use Rattle.store_tables.proofs.AnswerLemmas.{cells_by_key}
+use Rattle.store_tables.proofs.ReadLemmas.{answered}
+use Rattle.store_tables.proofs.ListLemmas.{owner_key}
+use Rattle.store_accounts.specs.declared.queue.QueuedMessage.{QueuedMessage}
+use Rattle.store_tables.specs.Schema.{mail_schema}
+use Rattle.store_tables.specs.QueueTable.{outgoing, outgoing_tree, queue_key, select_outgoing}
+use Rattle.store_tables.proofs.SchemaFacts.{outgoing_listed}
+use Rattle.store_tables.proofs.TextFacts.{by_two, queue_shown, select_outgoing_is, select_outgoing_plain}
+use Rattle.store_tables.proofs.StatementLemmas.{outgoing_index, outgoing_agrees}
+use Rattle.store_accounts.specs.Account.{Account, Accounts, row_with}
+use Rattle.store_accounts.specs.QueueRows.{queue_row, outgoing_cells, HasOutgoingRow}
+use Rattle.store_accounts.specs.Shows.{rows_of, IsShown, Presents}
+use Rattle.store_accounts.proofs.AccountLemmas.{queue_is}
+use Rattle.store_accounts.proofs.KeyLemmas.{key_owned}
+use Rattle.store_accounts.proofs.NumberLemmas.{alone_at}
+use Rattle.store_accounts.proofs.ReadLemmas.{at_user}
 
 -- none, or one
 unfoldable pub listed : {X : Type 0} → Option X → List X
@@ -67,7 +67,7 @@ own_row user id own a s =
 shown_cells : Row → Row
 shown_cells c = column c 1 ∷ column c 2 ∷ column c 3 ∷ column c 4 ∷ column c 5 ∷ []
 
-first_cells : (user : List ℕ) (o : Option Outgoing) → slice_get (map shown_cells (map (queue_row user) (listed o))) 0 ≡ option_map outgoing_cells o
+first_cells : (user : List ℕ) (o : Option QueuedMessage) → slice_get (map shown_cells (map (queue_row user) (listed o))) 0 ≡ option_map outgoing_cells o
 unfolding listed shown_cells
 first_cells user None = refl
 first_cells user (Some q) = refl

@@ -5,9 +5,9 @@ use Rattle.std.specs.Ordering.{ordering_reverse}
 use Rattle.sqlite_value.specs.Order.{Row}
 use Rattle.sqlite_rules.specs.Lists.{Has}
 use Rattle.sqlite_sql.specs.Query.{Output}
-use Rattle.mailtables.proofs.AnswerLemmas.{has_map, has_unmap}
-use Rattle.mailtables.proofs.FirstRowLemmas.{ShowsFirst}
-use Rattle.mailstore.specs.Next.{IsLeast, ShowLeast}
+use Rattle.store_tables.proofs.AnswerLemmas.{has_map, has_unmap}
+use Rattle.store_tables.proofs.FirstRowLemmas.{ShowsFirst}
+use Rattle.store_accounts.specs.Next.{IsLeast, ShowLeast}
 
 -- ---- of a row that is shown
 

@@ -16,26 +16,26 @@ use Rattle.sqlite_keyed.proofs.KeyedLemmas.{Less-from_lt}
 use Rattle.sqlite_keyed.proofs.SortLemmas.{sorted_unique}
 use Rattle.sqlite_typed.proofs.TestLemmas.{last_key}
 use Rattle.sqlite.specs.State.{State, Shown}
-use Rattle.mailtables.specs.Forms.{over}
-use Rattle.mailtables.specs.Rows.{Tables, HoldsTables, has_key}
-use Rattle.mailtables.proofs.AnswerLemmas.{cells_in_order}
-use Rattle.mailtables.proofs.ReadLemmas.{answered}
-use Rattle.mailtables.proofs.ListLemmas.{pair_key}
-use Rattle.mailtables.specs.Schema.{mail_schema}
-use Rattle.mailtables.specs.CopyTable.{copy, copy_tree, select_numbers}
-use Rattle.mailtables.proofs.SchemaFacts.{copy_listed}
-use Rattle.mailtables.proofs.TextFacts.{by_two, select_numbers_is, select_numbers_plain}
-use Rattle.mailstore.specs.Account.{Account, messages_in}
-use Rattle.mailstore.specs.FirstCells.{first_one}
-use Rattle.mailstore.specs.CopyRows.{Copy, copy_row, is_in}
-use Rattle.mailstore.specs.FolderNumbers.{numbers_in, number_cells, AreNumberRows, AreNumbersOf}
-use Rattle.mailstore.specs.Shows.{rows_of, IsShown}
-use Rattle.mailstore.proofs.AccountLemmas.{pair_is}
-use Rattle.mailstore.proofs.OneLemmas.{map_one}
-use Rattle.mailstore.proofs.OrderLemmas.{of_owner, messages_are}
+use Rattle.store_tables.specs.Forms.{over_table}
+use Rattle.store_tables.specs.Rows.{Tables, HoldsTables, has_key}
+use Rattle.store_tables.proofs.AnswerLemmas.{cells_in_order}
+use Rattle.store_tables.proofs.ReadLemmas.{answered}
+use Rattle.store_tables.proofs.ListLemmas.{pair_key}
+use Rattle.store_tables.specs.Schema.{mail_schema}
+use Rattle.store_tables.specs.CopyTable.{copy, copy_tree, select_numbers}
+use Rattle.store_tables.proofs.SchemaFacts.{copy_listed}
+use Rattle.store_tables.proofs.TextFacts.{by_two, select_numbers_is, select_numbers_plain}
+use Rattle.store_accounts.specs.Account.{Account, messages_in}
+use Rattle.store_accounts.specs.FirstCells.{first_one}
+use Rattle.store_accounts.specs.CopyRows.{Copy, copy_row, is_in}
+use Rattle.store_accounts.specs.FolderNumbers.{numbers_in, number_cells, AreNumberRows, AreNumbersOf}
+use Rattle.store_accounts.specs.Shows.{rows_of, IsShown}
+use Rattle.store_accounts.proofs.AccountLemmas.{pair_is}
+use Rattle.store_accounts.proofs.OneLemmas.{map_one}
+use Rattle.store_accounts.proofs.OrderLemmas.{of_owner, messages_are}
 
 abbrev by_copy : Query
-by_copy = (over copy_tree by_two (col 1 3 ∷ []) ((col 1 3, ascending Binary) ∷ [])).body
+by_copy = (over_table copy_tree by_two (col 1 3 ∷ []) ((col 1 3, ascending Binary) ∷ [])).body
 
 listed_output : Copy → Output
 listed_output c = (Int (pos c.n) ∷ [], number_cells c.n)

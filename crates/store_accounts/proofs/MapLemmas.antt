@@ -11,7 +11,7 @@ use Rattle.sqlite_trees.specs.Tree.{IsAscending}
 use Rattle.sqlite_keyed.specs.Lists.{delete_where}
 use Rattle.sqlite_keyed.proofs.ListLemmas.{ascending-filter, ascending-append, all_weaker}
 use Rattle.sqlite_typed.proofs.TestLemmas.{turn_eq}
-use Rattle.mailstore.specs.ScriptRows.{AreApart}
+use Rattle.store_accounts.specs.ScriptRows.{AreKeysApart}
 
 no_length : {X : Type 0} (es : List X) → length es ≡ 0 → es ≡ []
 no_length [] e = refl
@@ -96,10 +96,10 @@ module _ {K : Type 0} (R : K → K → Ordering) (total : IsTotalOrder R) (alike
         ap (λ n. get (remove n k) q) is ∙ get-remove total (from_entries es) k q ∙ ap (cond (is_eq (R q k)) None) (get-from_entries total es q)
         ∙ sym (get-from_entries total (delete_where (is_at k) es) q ∙ find_removed k es q))
 
-    pub apart_without : (es : List (K × X)) (k : K) → AreApart es → AreApart (delete_where (is_at k) es)
+    pub apart_without : (es : List (K × X)) (k : K) → AreKeysApart es → AreKeysApart (delete_where (is_at k) es)
     apart_without es k apart = ascending-filter (λ x y. x.0 ≢ y.0) (λ e. not (is_at k e)) es apart
 
-    pub apart_put : (es : List (K × X)) (k : K) (x : X) → AreApart es → AreApart (delete_where (is_at k) es ++ (k, x) ∷ [])
+    pub apart_put : (es : List (K × X)) (k : K) (x : X) → AreKeysApart es → AreKeysApart (delete_where (is_at k) es ++ (k, x) ∷ [])
     apart_put es k x apart = ascending-append (λ x y. x.0 ≢ y.0) (delete_where (is_at k) es) ((k, x) ∷ []) (apart_without es k apart) (tt, tt)
         (all_weaker (λ e. e.0 ≢ k) (λ e. AllByRecursion (λ (y : K × X). e.0 ≢ y.0) ((k, x) ∷ [])) (λ e other. (other, tt)) (delete_where (is_at k) es) (left_apart k es))
 
@@ -131,7 +131,7 @@ module _ {K : Type 0} (R : K → K → Ordering) (total : IsTotalOrder R) (alike
         go true same more = absurd (apart.0 (tied k e.0 same))
         go false other more = more
 
-    pub entries_permutation : (es : List (K × X)) → AreApart es → IsPermutation es (entries (from_entries {R = R} es))
+    pub entries_permutation : (es : List (K × X)) → AreKeysApart es → IsPermutation es (entries (from_entries {R = R} es))
     entries_permutation [] apart = subst (IsPermutation []) (sym (no_length _ (sym (len-entries (empty {X = X} {R = R})) ∙ len-empty R X))) (IsPermutation-refl [])
     entries_permutation (e ∷ es) apart =
         let m : FinMap R X = from_entries es in

@@ -1,12 +1,12 @@
 -- What comes next, by example, and near misses.
 use Rattle.std.proofs.Common.{◌≡◌, ℕ, pos, List, [], ◌∷◌, codes, Some, None, refl, inl, inr, Less}
-use Rattle.mailtables.specs.Rows.{Tables}
-use Rattle.mailtables.specs.CopyTable.{copy_cells}
-use Rattle.mailstore.specs.declared.next.Filed.{Filed}
-use Rattle.mailstore.specs.declared.next.Queued.{Queued}
-use Rattle.mailstore.specs.Next.{filed_cmp, queued_cmp, IsFiled, IsNextFiled}
+use Rattle.store_tables.specs.Rows.{Tables}
+use Rattle.store_tables.specs.CopyTable.{copy_cells}
+use Rattle.store_accounts.specs.declared.next.CopyKey.{CopyKey}
+use Rattle.store_accounts.specs.declared.next.QueueKey.{QueueKey}
+use Rattle.store_accounts.specs.Next.{filed_cmp, queued_cmp, IsFiled, IsNextFiled}
 
-abbrev at : List ℕ → List ℕ → ℕ → Filed
+abbrev at : List ℕ → List ℕ → ℕ → CopyKey
 at user folder number = record { user = user; folder = folder; number = number }
 
 -- the user decides before the folder, and the folder before the number

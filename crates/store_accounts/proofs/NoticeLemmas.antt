@@ -20,33 +20,33 @@ use Rattle.sqlite_typed.proofs.TestLemmas.{at_ints, last_key, last_term}
 use Rattle.sqlite.specs.Listing.{understood, reads_listing}
 use Rattle.sqlite.specs.State.{State, Shown}
 use Rattle.sqlite.proofs.Callers.{IsPlain, command_of}
-use Rattle.mailtables.specs.Forms.{over}
-use Rattle.mailtables.specs.MessageTable.{message_key}
-use Rattle.mailtables.specs.NoticeTable.{notice, notice_tree}
-use Rattle.mailtables.specs.Rows.{Tables, HoldsTables, has_key}
-use Rattle.mailtables.specs.Schema.{mail_schema}
-use Rattle.mailtables.proofs.AnswerLemmas.{cells_in_order}
-use Rattle.mailtables.proofs.ListLemmas.{owner_key, equal_itself}
-use Rattle.mailtables.proofs.ReadLemmas.{answered}
-use Rattle.mailtables.proofs.SchemaFacts.{notice_listed}
-use Rattle.mailtables.proofs.TextFacts.{by_one, by_two, notices_shown}
-use Rattle.mailstore.specs.declared.notice.Notice.{Notice}
-use Rattle.mailstore.specs.Account.{Account}
-use Rattle.mailstore.specs.FirstCells.{first_one, first_two}
-use Rattle.mailstore.specs.FolderNumbers.{number_cells}
-use Rattle.mailstore.specs.Listing.{select_notice, select_notice_numbers, notice_with, AreNoticeNumberRows, AreNoticeNumbersOf, HasNoticeRow, IsNoticeOf}
-use Rattle.mailstore.specs.NoticeRows.{notice_cells, notice_row}
-use Rattle.mailstore.specs.Shows.{rows_of, IsShown}
-use Rattle.mailstore.proofs.AccountLemmas.{same_numbers}
-use Rattle.mailstore.proofs.DecodeLemmas.{noticed_one}
-use Rattle.mailstore.proofs.KeyLemmas.{key_owned}
-use Rattle.mailstore.proofs.KeyedLemmas.{listed, numbered, permuted}
-use Rattle.mailstore.proofs.ListedLemmas.{number_one}
-use Rattle.mailstore.proofs.OneLemmas.{map_one}
+use Rattle.store_tables.specs.Forms.{over_table}
+use Rattle.store_tables.specs.MessageTable.{message_key}
+use Rattle.store_tables.specs.NoticeTable.{notice, notice_tree}
+use Rattle.store_tables.specs.Rows.{Tables, HoldsTables, has_key}
+use Rattle.store_tables.specs.Schema.{mail_schema}
+use Rattle.store_tables.proofs.AnswerLemmas.{cells_in_order}
+use Rattle.store_tables.proofs.ListLemmas.{owner_key, equal_itself}
+use Rattle.store_tables.proofs.ReadLemmas.{answered}
+use Rattle.store_tables.proofs.SchemaFacts.{notice_listed}
+use Rattle.store_tables.proofs.TextFacts.{by_one, by_two, notices_shown}
+use Rattle.store_accounts.specs.declared.notice.Notice.{Notice}
+use Rattle.store_accounts.specs.Account.{Account}
+use Rattle.store_accounts.specs.FirstCells.{first_one, first_two}
+use Rattle.store_accounts.specs.FolderNumbers.{number_cells}
+use Rattle.store_accounts.specs.Listing.{select_notice, select_notice_numbers, notice_with, AreNoticeNumberRows, AreNoticeNumbersOf, HasNoticeRow, IsNoticeOf}
+use Rattle.store_accounts.specs.NoticeRows.{notice_cells, notice_row}
+use Rattle.store_accounts.specs.Shows.{rows_of, IsShown}
+use Rattle.store_accounts.proofs.AccountLemmas.{same_numbers}
+use Rattle.store_accounts.proofs.DecodeLemmas.{noticed_one}
+use Rattle.store_accounts.proofs.KeyLemmas.{key_owned}
+use Rattle.store_accounts.proofs.KeyedLemmas.{listed, numbered, permuted}
+use Rattle.store_accounts.proofs.ListedLemmas.{number_one}
+use Rattle.store_accounts.proofs.OneLemmas.{map_one}
 
 -- ---- the numbers
 
-select_notice_numbers_is : command_of (understood mail_schema select_notice_numbers) ≡ Select (over notice_tree by_one (col 1 2 ∷ []) ((col 1 2, ascending Binary) ∷ [])) (codes "id" ∷ [])
+select_notice_numbers_is : command_of (understood mail_schema select_notice_numbers) ≡ Select (over_table notice_tree by_one (col 1 2 ∷ []) ((col 1 2, ascending Binary) ∷ [])) (codes "id" ∷ [])
 unfolding understood everything
 select_notice_numbers_is = refl
 
@@ -55,7 +55,7 @@ unfolding understood everything
 select_notice_numbers_plain = ((refl, refl), refl)
 
 abbrev by_number : Query
-by_number = (over notice_tree by_one (col 1 2 ∷ []) ((col 1 2, ascending Binary) ∷ [])).body
+by_number = (over_table notice_tree by_one (col 1 2 ∷ []) ((col 1 2, ascending Binary) ∷ [])).body
 
 number_output : ℕ × Notice → Output
 number_output e = (Int (pos e.0) ∷ [], number_cells e.0)
@@ -87,7 +87,7 @@ notice_numbers_are user (Ok all) rows own are h = λ a s.
 
 -- ---- one notice
 
-select_notice_is : command_of (understood mail_schema select_notice) ≡ Select (over notice_tree by_two notices_shown []) (codes "moment" ∷ codes "text" ∷ [])
+select_notice_is : command_of (understood mail_schema select_notice) ≡ Select (over_table notice_tree by_two notices_shown []) (codes "moment" ∷ codes "text" ∷ [])
 unfolding understood everything
 select_notice_is = refl
 

@@ -16,21 +16,21 @@ use Rattle.sqlite_keyed.proofs.KeyedLemmas.{Less-from_lt}
 use Rattle.sqlite_keyed.proofs.SortLemmas.{sorted_unique}
 use Rattle.sqlite_typed.proofs.TestLemmas.{last_key}
 use Rattle.sqlite.specs.State.{State, Shown}
-use Rattle.mailtables.specs.Forms.{nth_over}
-use Rattle.mailtables.specs.Rows.{Tables, HoldsTables, has_key}
-use Rattle.mailtables.proofs.AnswerLemmas.{nth_in_order}
-use Rattle.mailtables.proofs.ReadLemmas.{answered_nth}
-use Rattle.mailtables.proofs.ListLemmas.{pair_key}
-use Rattle.mailtables.specs.Schema.{mail_schema}
-use Rattle.mailtables.specs.CopyTable.{copy, copy_tree, select_nth}
-use Rattle.mailtables.proofs.SchemaFacts.{copy_listed}
-use Rattle.mailtables.proofs.TextFacts.{by_two, filings_shown, select_nth_is, select_nth_plain}
-use Rattle.mailstore.specs.declared.filing.Filing.{Filing}
-use Rattle.mailstore.specs.FirstCells.{first_four}
-use Rattle.mailstore.specs.CopyRows.{Copy, copy_row, filing_of, filing_cells, is_in}
-use Rattle.mailstore.specs.Shows.{rows_of, IsShown, AreNthRows, IsNthFiling}
-use Rattle.mailstore.proofs.AccountLemmas.{pair_is}
-use Rattle.mailstore.proofs.OrderLemmas.{of_owner}
+use Rattle.store_tables.specs.Forms.{nth_over}
+use Rattle.store_tables.specs.Rows.{Tables, HoldsTables, has_key}
+use Rattle.store_tables.proofs.AnswerLemmas.{nth_in_order}
+use Rattle.store_tables.proofs.ReadLemmas.{answered_nth}
+use Rattle.store_tables.proofs.ListLemmas.{pair_key}
+use Rattle.store_tables.specs.Schema.{mail_schema}
+use Rattle.store_tables.specs.CopyTable.{copy, copy_tree, select_nth}
+use Rattle.store_tables.proofs.SchemaFacts.{copy_listed}
+use Rattle.store_tables.proofs.TextFacts.{by_two, filings_shown, select_nth_is, select_nth_plain}
+use Rattle.store_accounts.specs.declared.filing.Filing.{Filing}
+use Rattle.store_accounts.specs.FirstCells.{first_four}
+use Rattle.store_accounts.specs.CopyRows.{Copy, copy_row, filing_of, filing_cells, is_in}
+use Rattle.store_accounts.specs.Shows.{rows_of, IsShown, AreNthRows, IsNthFiling}
+use Rattle.store_accounts.proofs.AccountLemmas.{pair_is}
+use Rattle.store_accounts.proofs.OrderLemmas.{of_owner}
 
 abbrev by_copy : Query
 by_copy = (nth_over (col 0 2) copy_tree by_two filings_shown ((col 1 3, ascending Binary) ∷ [])).body

@@ -13,7 +13,7 @@ use Rattle.sqlite_rules.specs.Lists.{Has}
 use Rattle.sqlite_rules.proofs.ListLemmas.{all_has}
 use Rattle.sqlite_keyed.specs.Lists.{delete_where}
 use Rattle.sqlite_keyed.proofs.SortLemmas.{sorted_unique}
-use Rattle.mailstore.specs.Numbers.{AreNumbered}
+use Rattle.store_accounts.specs.Numbers.{AreNumbered}
 
 module _ {X : Type 0} (number : X → ℕ) (row : X → Row) where
   pub numbered_none : (rows : List Row) → rows ≡ [] → AreNumbered number row rows [] 1

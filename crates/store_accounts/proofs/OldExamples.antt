@@ -8,21 +8,21 @@ use Rattle.sqlite_value.specs.declared.value.Value.TheVariants.{Int}
 use Rattle.sqlite_value.specs.Order.{Row, column}
 use Rattle.sqlite_trees.specs.Tree.{IsAscending}
 use Rattle.sqlite_keyed.proofs.ListLemmas.{all-filter}
-use Rattle.mailtables.specs.Rows.{Tables, has_key}
-use Rattle.mailtables.specs.MetaTable.{meta_tree, version_key, version_row}
-use Rattle.mailtables.specs.AccountTable.{account_tree}
-use Rattle.mailtables.specs.MessageTable.{message_cells}
-use Rattle.mailtables.specs.CopyTable.{copy_cells, n_column}
-use Rattle.oldtables.specs.OldSchema.{old_copy_tree, message_from, copy_from}
-use Rattle.mailstore.specs.Account.{Account, Accounts, Folders, messages_in, flags_in}
-use Rattle.mailstore.specs.AccountRows.{account_row}
-use Rattle.mailstore.specs.QueueRows.{queue_row}
-use Rattle.mailstore.specs.NoticeRows.{notice_row}
-use Rattle.mailstore.specs.CopyRows.{Copy, folders_from, flags_from, is_in, IsBare}
-use Rattle.mailstore.specs.OldShows.{old_copy_row, old_version_row, ShowsOldCopies, IsShownOld, ShowsOldAccounts}
-use Rattle.mailstore.proofs.NumberLemmas.{numbered_none}
-use Rattle.mailstore.proofs.VersionLemmas.{version_itself}
-use Rattle.mailstore.proofs.OrderLemmas.{all_mapped, messages_are, flags_are}
+use Rattle.store_tables.specs.Rows.{Tables, has_key}
+use Rattle.store_tables.specs.MetaTable.{meta_tree, version_key, version_row}
+use Rattle.store_tables.specs.AccountTable.{account_tree}
+use Rattle.store_tables.specs.MessageTable.{message_cells}
+use Rattle.store_tables.specs.CopyTable.{copy_cells, n_column}
+use Rattle.store_versions.specs.OldSchema.{old_copy_tree, message_from, copy_from}
+use Rattle.store_accounts.specs.Account.{Account, Accounts, Folders, messages_in, folder_flags}
+use Rattle.store_accounts.specs.AccountRows.{account_row}
+use Rattle.store_accounts.specs.QueueRows.{queue_row}
+use Rattle.store_accounts.specs.NoticeRows.{notice_row}
+use Rattle.store_accounts.specs.CopyRows.{Copy, folders_from, flags_from, is_in, IsUnflagged}
+use Rattle.store_accounts.specs.OldShows.{old_copy_row, old_version_row, ShowsOldCopies, IsShownOld, ShowsOldAccounts}
+use Rattle.store_accounts.proofs.NumberLemmas.{numbered_none}
+use Rattle.store_accounts.proofs.VersionLemmas.{version_itself}
+use Rattle.store_accounts.proofs.OrderLemmas.{all_mapped, messages_are, flags_are}
 
 abbrev alice : List ℕ
 alice = codes "alice"
@@ -87,10 +87,10 @@ messages_of_lists : messages_in hers.folders (codes "lists") ≡ codes "M1" ∷ 
 messages_of_lists = messages_are (first ∷ second ∷ third ∷ []) (codes "lists")
 
 -- near miss: a folder whose message has a flag
-not_flagged : (rows : List Row) (folders flags : Folders) (next : ℕ) (folder : List ℕ) → ShowsOldCopies alice rows folders flags next → flags_in flags folder ≡ codes "\\Seen" ∷ [] → ⊥
+not_flagged : (rows : List Row) (folders flags : Folders) (next : ℕ) (folder : List ℕ) → ShowsOldCopies alice rows folders flags next → folder_flags flags folder ≡ codes "\\Seen" ∷ [] → ⊥
 not_flagged rows folders flags next folder s has =
-    let bare = all_mapped (λ (f : List ℕ). f ≡ []) (λ (c : Copy). c.flags) (filter (is_in folder) s.entries) (all-filter IsBare (is_in folder) s.entries s.bare) in
-    let told : codes "\\Seen" ∷ [] ≡ map (λ (c : Copy). c.flags) (filter (is_in folder) s.entries) = sym has ∙ ap (λ m. flags_in m folder) s.shown_flags ∙ flags_are s.entries folder in
+    let bare = all_mapped (λ (f : List ℕ). f ≡ []) (λ (c : Copy). c.flags) (filter (is_in folder) s.entries) (all-filter IsUnflagged (is_in folder) s.entries s.bare) in
+    let told : codes "\\Seen" ∷ [] ≡ map (λ (c : Copy). c.flags) (filter (is_in folder) s.entries) = sym has ∙ ap (λ m. folder_flags m folder) s.shown_flags ∙ flags_are s.entries folder in
     let one = subst (AllByRecursion (λ (f : List ℕ). f ≡ [])) (sym told) bare in
     let none = one.0 in
     cc

@@ -9,31 +9,31 @@ use Rattle.sqlite_value.specs.Order.{Row}
 use Rattle.sqlite_keyed.specs.Lists.{delete_where}
 use Rattle.sqlite_keyed.proofs.ListLemmas.{filter-map, IsPermutation-filter}
 use Rattle.sqlite_rules.specs.Lists.{Has}
-use Rattle.mailtables.specs.Rows.{Tables, HoldsTables, has_key}
-use Rattle.mailtables.specs.MetaTable.{meta_tree, version_key, version_row}
-use Rattle.oldtables.specs.OldSchema.{old_schema, oldest_schema, old_cells, message_from, copy_from, old_copy_tree, queue_columns, four_cells, oldest_outgoing_tree, oldest_reply_tree, oldest_notice_tree}
-use Rattle.mailtables.specs.AccountTable.{account_tree}
-use Rattle.mailtables.specs.ScriptTable.{script_tree}
-use Rattle.mailtables.specs.QueueTable.{outgoing_tree}
-use Rattle.mailtables.specs.ReplyTable.{reply_tree}
-use Rattle.mailtables.specs.NoticeTable.{notice_tree}
-use Rattle.mailtables.specs.MessageTable.{message_tree}
-use Rattle.mailtables.specs.CopyTable.{copy_tree}
-use Rattle.oldtables.specs.Migration.{IsMigrated, IsMoved, TurnsNew, TurnsNewest}
+use Rattle.store_tables.specs.Rows.{Tables, HoldsTables, has_key}
+use Rattle.store_tables.specs.MetaTable.{meta_tree, version_key, version_row}
+use Rattle.store_versions.specs.OldSchema.{old_schema, oldest_schema, old_cells, message_from, copy_from, old_copy_tree, queue_columns, four_cells, oldest_outgoing_tree, oldest_reply_tree, oldest_notice_tree}
+use Rattle.store_tables.specs.AccountTable.{account_tree}
+use Rattle.store_tables.specs.ScriptTable.{scripts_tree}
+use Rattle.store_tables.specs.QueueTable.{outgoing_tree}
+use Rattle.store_tables.specs.ReplyTable.{reply_tree}
+use Rattle.store_tables.specs.NoticeTable.{notice_tree}
+use Rattle.store_tables.specs.MessageTable.{message_tree}
+use Rattle.store_tables.specs.CopyTable.{copy_tree}
+use Rattle.store_versions.specs.Migration.{IsMigrated, IsMoved, TurnsNew, TurnsNewest}
 use Rattle.sqlite.specs.Effect.{Database}
-use Rattle.mailstore.specs.Account.{Account, Accounts, Folders}
-use Rattle.mailstore.specs.Numbers.{AreNumbered}
-use Rattle.mailstore.specs.CopyRows.{Copy, copy_row, message_of, folders_from, ShowsCopies, AreKept, HasCopy, IsBare}
-use Rattle.mailstore.specs.MessageRows.{Message, message_row}
+use Rattle.store_accounts.specs.Account.{Account, Accounts, Folders}
+use Rattle.store_accounts.specs.Numbers.{AreNumbered}
+use Rattle.store_accounts.specs.CopyRows.{Copy, copy_row, message_of, folders_from, ShowsCopies, AreKept, HasCopy, IsUnflagged}
+use Rattle.store_accounts.specs.MessageRows.{Message, message_row}
 use Rattle.sqlite_trees.specs.Tree.{IsAscending}
-use Rattle.mailstore.specs.ScriptRows.{ShowsScripts}
-use Rattle.mailstore.specs.QueueRows.{queue_row, ShowsQueue}
-use Rattle.mailstore.specs.ReplyRows.{ShowsReplies}
-use Rattle.mailstore.specs.NoticeRows.{notice_row, ShowsNotices}
-use Rattle.mailstore.specs.Shows.{rows_of, IsShown, IsAbsent, IsShownOrAbsent, ShowsAccounts, Presents}
-use Rattle.mailstore.specs.OldShows.{old_copy_row, ShowsOldCopies, IsShownOld, IsAbsentOld, IsShownOldOrAbsent, ShowsOldAccounts}
-use Rattle.mailstore.proofs.VersionLemmas.{version_itself}
-use Rattle.mailstore.proofs.PermutedLemmas.{replies_moved}
+use Rattle.store_accounts.specs.ScriptRows.{ShowsScripts}
+use Rattle.store_accounts.specs.QueueRows.{queue_row, ShowsQueue}
+use Rattle.store_accounts.specs.ReplyRows.{ShowsReplies}
+use Rattle.store_accounts.specs.NoticeRows.{notice_row, ShowsNotices}
+use Rattle.store_accounts.specs.Shows.{rows_of, IsShown, IsAbsent, IsShownOrAbsent, ShowsAccounts, Presents}
+use Rattle.store_accounts.specs.OldShows.{old_copy_row, ShowsOldCopies, IsShownOld, IsAbsentOld, IsShownOldOrAbsent, ShowsOldAccounts}
+use Rattle.store_accounts.proofs.VersionLemmas.{version_itself}
+use Rattle.store_accounts.proofs.PermutedLemmas.{replies_moved}
 
 -- none that was taken out is left
 none_left : {X : Type 0} (p : X → Bool) (xs : List X) → filter p (delete_where p xs) ≡ []
@@ -96,7 +96,7 @@ own_kept entries own = record {
 }
 
 module _ (user : List ℕ) where
-  same_copies : (entries : List Copy) → AllByRecursion (λ c. c.id ≡ c.n) entries → AllByRecursion IsBare entries → map copy_from (map old_cells (map (old_copy_row user) entries)) ≡ map (copy_row user) entries
+  same_copies : (entries : List Copy) → AllByRecursion (λ c. c.id ≡ c.n) entries → AllByRecursion IsUnflagged entries → map copy_from (map old_cells (map (old_copy_row user) entries)) ≡ map (copy_row user) entries
   same_copies [] own bare = refl
   same_copies (c ∷ entries) own bare = rw (own.0, bare.0, same_copies entries own.1 bare.1) refl
 
@@ -206,7 +206,7 @@ module _ (there tables moved : Tables) (one : IsMoved there tables) (other : IsM
   accounts_same : moved account_tree ≡ tables account_tree
   accounts_same = other.accounts ∙ sym one.accounts
 
-  scripts_same : moved script_tree ≡ tables script_tree
+  scripts_same : moved scripts_tree ≡ tables scripts_tree
   scripts_same = other.scripts ∙ sym one.scripts
 
   copies_same : moved old_copy_tree ≡ tables old_copy_tree

@@ -8,37 +8,37 @@ use Rattle.sqlite_value.specs.Order.{Row, bytes, column}
 use Rattle.sqlite_schema.specs.declared.schema.Table.{Table}
 use Rattle.sqlite_rules.specs.Lists.{Has}
 use Rattle.sqlite.specs.Effect.{Database}
-use Rattle.mailtables.specs.Rows.{Entry, cells_of, stored, IsHeld, Tables, HoldsTables, has_key}
-use Rattle.mailtables.specs.declared.queue.Kind.{Kind}
-use Rattle.mailtables.specs.declared.queue.Kind.TheVariants.{Redirect, Reply}
-use Rattle.mailstore.specs.declared.queue.Outgoing.{Outgoing}
-use Rattle.mailstore.specs.declared.notice.Notice.{Notice}
-use Rattle.mailtables.specs.Schema.{mail_schema}
-use Rattle.mailtables.specs.Cells.{or_null}
-use Rattle.mailstore.specs.Account.{Account, Accounts}
-use Rattle.mailtables.specs.AccountTable.{account, account_tree}
-use Rattle.mailtables.specs.ScriptTable.{script, script_tree}
-use Rattle.mailstore.specs.ScriptRows.{script_row}
-use Rattle.mailtables.specs.QueueTable.{outgoing, outgoing_tree, kind_number}
-use Rattle.mailstore.specs.QueueRows.{queue_row}
-use Rattle.mailtables.specs.ReplyTable.{reply, reply_tree}
-use Rattle.mailstore.specs.ReplyRows.{reply_row}
-use Rattle.mailtables.specs.NoticeTable.{notice, notice_tree}
-use Rattle.mailstore.specs.NoticeRows.{notice_row}
+use Rattle.store_tables.specs.Rows.{Entry, cells_of, stored, IsHeld, Tables, HoldsTables, has_key}
+use Rattle.store_tables.specs.declared.queue.QueuedKind.{QueuedKind}
+use Rattle.store_tables.specs.declared.queue.QueuedKind.TheVariants.{Redirect, Reply}
+use Rattle.store_accounts.specs.declared.queue.QueuedMessage.{QueuedMessage}
+use Rattle.store_accounts.specs.declared.notice.Notice.{Notice}
+use Rattle.store_tables.specs.Schema.{mail_schema}
+use Rattle.store_tables.specs.Cells.{or_null}
+use Rattle.store_accounts.specs.Account.{Account, Accounts}
+use Rattle.store_tables.specs.AccountTable.{account, account_tree}
+use Rattle.store_tables.specs.ScriptTable.{script, scripts_tree}
+use Rattle.store_accounts.specs.ScriptRows.{script_row}
+use Rattle.store_tables.specs.QueueTable.{outgoing, outgoing_tree, kind_number}
+use Rattle.store_accounts.specs.QueueRows.{queue_row}
+use Rattle.store_tables.specs.ReplyTable.{reply, reply_tree}
+use Rattle.store_accounts.specs.ReplyRows.{reply_row}
+use Rattle.store_tables.specs.NoticeTable.{notice, notice_tree}
+use Rattle.store_accounts.specs.NoticeRows.{notice_row}
 use Rattle.sqlite_trees.specs.Tree.{IsAscending}
 use Rattle.sqlite_keyed.proofs.ListLemmas.{map-map, ascending-map}
 use Rattle.std.specs.List.{AllByRecursion}
-use Rattle.mailstore.specs.Numbers.{AreNumbered}
-use Rattle.mailtables.specs.MessageTable.{message, message_tree, message_id_column, bytes_column}
-use Rattle.mailstore.specs.MessageRows.{Message, message_row}
-use Rattle.mailtables.specs.CopyTable.{copy, copy_cells, copy_tree, folder_column, id_column, flags_column, n_column}
-use Rattle.mailstore.specs.CopyRows.{Copy, copy_row, folders_from, flags_from, message_of}
-use Rattle.mailstore.specs.Shows.{rows_of, IsShown, IsShownOrAbsent, Presents}
-use Rattle.mailstore.proofs.AccountLemmas.{bytes_antisymmetric}
-use Rattle.mailtables.proofs.SchemaFacts.{account_listed, copy_listed, message_listed, notice_listed, outgoing_listed, reply_listed, script_listed}
+use Rattle.store_accounts.specs.Numbers.{AreNumbered}
+use Rattle.store_tables.specs.MessageTable.{message, message_tree, message_id_column, bytes_column}
+use Rattle.store_accounts.specs.MessageRows.{Message, message_row}
+use Rattle.store_tables.specs.CopyTable.{copy, copy_cells, copy_tree, folder_column, id_column, flags_column, n_column}
+use Rattle.store_accounts.specs.CopyRows.{Copy, copy_row, folders_from, flags_from, message_of}
+use Rattle.store_accounts.specs.Shows.{rows_of, IsShown, IsShownOrAbsent, Presents}
+use Rattle.store_accounts.proofs.AccountLemmas.{bytes_antisymmetric}
+use Rattle.store_tables.proofs.SchemaFacts.{account_listed, copy_listed, message_listed, notice_listed, outgoing_listed, reply_listed, script_listed}
 use Rattle.std.proofs.Math.IntN.{nat_abs}
-use Rattle.mailstore.proofs.NumberLemmas.{numbered_one, alone_at}
-use Rattle.mailstore.proofs.OrderLemmas.{all_mapped}
+use Rattle.store_accounts.proofs.NumberLemmas.{numbered_one, alone_at}
+use Rattle.store_accounts.proofs.OrderLemmas.{all_mapped}
 
 pub map_one : {X Y : Type 0} (f : X → Y) → ((x y : X) → f x ≡ f y → x ≡ y) → (xs ys : List X) → map f xs ≡ map f ys → xs ≡ ys
 map_one f one [] [] e = refl
@@ -65,7 +65,7 @@ held_one rows a b h k = h.cells_are ∙ ap (map cells_of) (map_one stored stored
 -- the rows are the same in each table that has owners, and in that of accounts
 record AreAlike (a b : Tables) : Type 0 where
   accounts : a account_tree ≡ b account_tree
-  scripts : a script_tree ≡ b script_tree
+  scripts : a scripts_tree ≡ b scripts_tree
   messages : a message_tree ≡ b message_tree
   copies : a copy_tree ≡ b copy_tree
   queue : a outgoing_tree ≡ b outgoing_tree
@@ -181,21 +181,21 @@ copies_one messages rise (x ∷ xs) (y ∷ ys) e h k =
     let rest : map filing_of xs ≡ map filing_of ys = cc in
     ap₂ ◌∷◌ same (copies_one messages rise xs ys rest h.1 k.1)
 
-kind_in : ℕ → Kind
+kind_in : ℕ → QueuedKind
 kind_in n = cond (n == 1) Redirect Reply
 
-kind_back : (k : Kind) → kind_in (kind_number k) ≡ k
+kind_back : (k : QueuedKind) → kind_in (kind_number k) ≡ k
 unfolding kind_in
 kind_back Redirect = refl
 kind_back Reply = refl
 
-queued_in : Row → Outgoing
+queued_in : Row → QueuedMessage
 unfolding number_in
 queued_in row = record { id = number_in row 1; kind = kind_in (number_in row 2); sender = bytes (column row 3); target = bytes (column row 4); message = bytes (column row 5) }
 
-queued_back : (user : List ℕ) (q : Outgoing) → queued_in (queue_row user q) ≡ q
+queued_back : (user : List ℕ) (q : QueuedMessage) → queued_in (queue_row user q) ≡ q
 unfolding queued_in
-queued_back user q = ap (λ k. let out : Outgoing = record { id = q.id; kind = k; sender = q.sender; target = q.target; message = q.message } in out) (kind_back q.kind)
+queued_back user q = ap (λ k. let out : QueuedMessage = record { id = q.id; kind = k; sender = q.sender; target = q.target; message = q.message } in out) (kind_back q.kind)
 
 notice_in : Row → ℕ × Notice
 unfolding number_in

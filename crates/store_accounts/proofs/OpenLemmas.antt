@@ -16,27 +16,27 @@ use Rattle.sqlite_rules.specs.Lists.{Has}
 use Rattle.sqlite_rules.proofs.ListLemmas.{all_has}
 use Rattle.sqlite.specs.Effect.{Database}
 use Rattle.sqlite.specs.State.{State, HasCleanDisk, Survives}
-use Rattle.mailtables.specs.Rows.{Entry, cells_of, stored, IsHeld, Tables, HoldsTables, has_key, has_key_from}
-use Rattle.mailtables.specs.Schema.{no_schema, the_tables, mail_schema, IsOurSchema}
-use Rattle.mailtables.specs.Connection.{IsSettled, Outlives}
-use Rattle.mailstore.specs.Account.{Accounts, bytes_cmp, no_accounts}
-use Rattle.mailtables.specs.MetaTable.{meta, meta_tree, version_key, version_row, version_rows, stored_value_column}
-use Rattle.mailtables.specs.Ours.{IsOurs, IsOpenedAs, MayCreate, only_version}
-use Rattle.mailstore.specs.Shows.{ShowsIn, Presents, Offers, OffersIn, OpensAs, CrashLeavesOpened, rows_of, IsAbsent, IsShownOrAbsent, ShowsAccounts}
-use Rattle.oldtables.specs.declared.opening.Layout.{Layout}
-use Rattle.oldtables.specs.declared.opening.Layout.TheVariants.{Current, Second, CopiesLast, CopiesFourth}
-use Rattle.oldtables.specs.OldSchema.{old_schema, oldest_schema, IsOldSchema, IsOld}
-use Rattle.oldtables.specs.SecondSchema.{second_schema, second_unindexed_schema, IsSecondSchema, IsSecond}
-use Rattle.oldtables.specs.Migration.{TurnsNew, TurnsNewest}
-use Rattle.oldtables.specs.Third.{TurnsThird}
-use Rattle.oldtables.specs.Opening.{IsKnown, LiesAs, Becomes, MayBecome}
-use Rattle.oldtables.proofs.OpeningLemmas.{versions_apart, orders_apart, second_not_ours, second_not_old}
-use Rattle.mailstore.specs.OldShows.{OffersOld, old_version_row}
-use Rattle.mailstore.specs.SecondShows.{OffersSecond, HoldsSecond, second_version_row}
-use Rattle.mailstore.proofs.VersionLemmas.{version_itself, one_version}
-use Rattle.mailstore.proofs.OldLemmas.{last_shows, fourth_shows}
-use Rattle.mailstore.proofs.SecondLemmas.{third_shows}
-use Rattle.mailtables.proofs.SchemaFacts.{meta_listed}
+use Rattle.store_tables.specs.Rows.{Entry, cells_of, stored, IsHeld, Tables, HoldsTables, has_key, has_key_from}
+use Rattle.store_tables.specs.Schema.{no_schema, the_tables, mail_schema, IsOurSchema}
+use Rattle.store_tables.specs.Connection.{IsSettled, Outlives}
+use Rattle.store_accounts.specs.Account.{Accounts, bytes_cmp, no_accounts}
+use Rattle.store_tables.specs.MetaTable.{meta, meta_tree, version_key, version_row, version_rows, stored_value_column}
+use Rattle.store_tables.specs.Ours.{IsOurs, IsOpenedAs, MayCreate, only_version}
+use Rattle.store_accounts.specs.Shows.{ShowsIn, Presents, OffersAccounts, OffersIn, OpensAs, CrashLeavesOpened, rows_of, IsAbsent, IsShownOrAbsent, ShowsAccounts}
+use Rattle.store_versions.specs.declared.opening.Layout.{Layout}
+use Rattle.store_versions.specs.declared.opening.Layout.TheVariants.{Current, Second, CopiesLast, CopiesFourth}
+use Rattle.store_versions.specs.OldSchema.{old_schema, oldest_schema, IsOldSchema, IsOld}
+use Rattle.store_versions.specs.SecondSchema.{second_schema, second_unindexed_schema, IsSecondSchema, IsSecondVersion}
+use Rattle.store_versions.specs.Migration.{TurnsNew, TurnsNewest}
+use Rattle.store_versions.specs.Third.{TurnsThird}
+use Rattle.store_versions.specs.Opening.{IsKnown, LiesAs, LayoutBecomes, MayBecome}
+use Rattle.store_versions.proofs.OpeningLemmas.{versions_apart, orders_apart, second_not_ours, second_not_old}
+use Rattle.store_accounts.specs.OldShows.{OffersOld, old_version_row}
+use Rattle.store_accounts.specs.SecondShows.{OffersSecond, HoldsSecond, second_version_row}
+use Rattle.store_accounts.proofs.VersionLemmas.{version_itself, one_version}
+use Rattle.store_accounts.proofs.OldLemmas.{last_shows, fourth_shows}
+use Rattle.store_accounts.proofs.SecondLemmas.{third_shows}
+use Rattle.store_tables.proofs.SchemaFacts.{meta_listed}
 use Rattle.std.specs.FinMap.{get-empty}
 
 -- the tables without a user, and with the row of their version
@@ -96,18 +96,18 @@ old_is db accounts p = elim p.1 [
 second_schema_of : (db : Database) (accounts : Accounts) → OffersSecond db accounts → IsSecondSchema db.schema
 second_schema_of db accounts p = elim p.1 [ inl h ↦ inl h.is | inr h ↦ inr h.is ]
 
-second_is : (db : Database) (accounts : Accounts) → OffersSecond db accounts → IsSecond db
+second_is : (db : Database) (accounts : Accounts) → OffersSecond db accounts → IsSecondVersion db
 second_is db accounts p = by (one_version db.trees (p.0 meta_tree) second_version_row (held p.1) p.2.version)
   where
     held : HoldsSecond db p.0 → IsHeld (db.trees meta_tree) (p.0 meta_tree)
     held (inl h) = h.each meta (inl refl)
     held (inr h) = h.each meta (inl refl)
 
-    by : (row : Row) × (version_rows db.trees ≡ row ∷ []) × (column row stored_value_column ≡ Int (pos 2)) → IsSecond db
+    by : (row : Row) × (version_rows db.trees ≡ row ∷ []) × (column row stored_value_column ≡ Int (pos 2)) → IsSecondVersion db
     by one = record { schema = second_schema_of db accounts p; row = one.0; only = one.1; says = one.2 }
 
 -- a database that offers accounts is known
-pub shown_known : (db : Database) (accounts : Accounts) → Offers db accounts → IsKnown db
+pub shown_known : (db : Database) (accounts : Accounts) → OffersAccounts db accounts → IsKnown db
 shown_known db accounts (inl p) = inl (new_ours db accounts p)
 shown_known db accounts (inr (inl p)) = inr (inl (second_is db accounts p))
 shown_known db accounts (inr (inr p)) = inr (inr (old_is db accounts p))
@@ -123,7 +123,7 @@ second_again seen db accounts schema trees p =
 -- ---- by the layout of its tables
 
 -- what opening makes of a database shows the accounts that it offered
-becomes_shows : (layout : Layout) (old new : Database) → LiesAs layout old.schema → Becomes layout old new → (accounts : Accounts) → Offers old accounts → Presents new accounts
+becomes_shows : (layout : Layout) (old new : Database) → LiesAs layout old.schema → LayoutBecomes layout old new → (accounts : Accounts) → OffersAccounts old accounts → Presents new accounts
 becomes_shows Current old new lies became accounts (inl p) = shows_again old new old accounts lies became refl p
 becomes_shows Current old new lies became accounts (inr (inl p)) = absurd (second_not_ours old.schema lies (second_schema_of old accounts p))
 becomes_shows Current old new lies became accounts (inr (inr p)) = absurd (versions_apart old.schema lies (old_schema_of old accounts p))
@@ -143,31 +143,31 @@ becomes_shows CopiesFourth old new lies became accounts (inr (inr p)) = elim p.1
   | inr moved ↦ fourth_shows old new became moved.0 p.0 moved.1 moved.2 accounts p.2
 ]
 
-became_opened : (layout : Layout) (old new : Database) → LiesAs layout old.schema → Becomes layout old new → IsOurSchema old.schema → IsOpenedAs old new
+became_opened : (layout : Layout) (old new : Database) → LiesAs layout old.schema → LayoutBecomes layout old new → IsOurSchema old.schema → IsOpenedAs old new
 became_opened Current old new lies became ours = became
 became_opened Second old new lies became ours = absurd (second_not_ours old.schema ours lies)
 became_opened CopiesLast old new lies became ours = absurd (versions_apart old.schema ours (inl lies))
 became_opened CopiesFourth old new lies became ours = absurd (versions_apart old.schema ours (inr lies))
 
-became_third : (layout : Layout) (old new : Database) → LiesAs layout old.schema → Becomes layout old new → IsSecondSchema old.schema → TurnsThird old new
+became_third : (layout : Layout) (old new : Database) → LiesAs layout old.schema → LayoutBecomes layout old new → IsSecondSchema old.schema → TurnsThird old new
 became_third Current old new lies became is = absurd (second_not_ours old.schema lies is)
 became_third Second old new lies became is = became
 became_third CopiesLast old new lies became is = absurd (second_not_old old.schema is (inl lies))
 became_third CopiesFourth old new lies became is = absurd (second_not_old old.schema is (inr lies))
 
-became_new : (layout : Layout) (old new : Database) → LiesAs layout old.schema → Becomes layout old new → old.schema ≡ old_schema → TurnsNew old new
+became_new : (layout : Layout) (old new : Database) → LiesAs layout old.schema → LayoutBecomes layout old new → old.schema ≡ old_schema → TurnsNew old new
 became_new Current old new lies became is = absurd (versions_apart old.schema lies (inl is))
 became_new Second old new lies became is = absurd (second_not_old old.schema lies (inl is))
 became_new CopiesLast old new lies became is = became
 became_new CopiesFourth old new lies became is = absurd (orders_apart old.schema is lies)
 
-became_newest : (layout : Layout) (old new : Database) → LiesAs layout old.schema → Becomes layout old new → old.schema ≡ oldest_schema → TurnsNewest old new
+became_newest : (layout : Layout) (old new : Database) → LiesAs layout old.schema → LayoutBecomes layout old new → old.schema ≡ oldest_schema → TurnsNewest old new
 became_newest Current old new lies became is = absurd (versions_apart old.schema lies (inr is))
 became_newest Second old new lies became is = absurd (second_not_old old.schema lies (inr is))
 became_newest CopiesLast old new lies became is = absurd (orders_apart old.schema lies is)
 became_newest CopiesFourth old new lies became is = became
 
-pub opens_as : (layout : Layout) (old new : Database) → LiesAs layout old.schema → Becomes layout old new → OpensAs old new
+pub opens_as : (layout : Layout) (old new : Database) → LiesAs layout old.schema → LayoutBecomes layout old new → OpensAs old new
 opens_as layout old new lies became = record {
   tables = became_opened layout old new lies became;
   second = became_third layout old new lies became;
@@ -195,13 +195,13 @@ old_known seen is (inl ours) = absurd (versions_apart seen.schema ours.schema is
 old_known seen is (inr (inl second)) = absurd (second_not_old seen.schema second.schema is)
 old_known seen is (inr (inr old)) = old
 
-second_known : (seen : Database) → IsSecondSchema seen.schema → IsKnown seen → IsSecond seen
+second_known : (seen : Database) → IsSecondSchema seen.schema → IsKnown seen → IsSecondVersion seen
 second_known seen is (inl ours) = absurd (second_not_ours seen.schema ours.schema is)
 second_known seen is (inr (inl second)) = second
 second_known seen is (inr (inr old)) = absurd (second_not_old seen.schema is old.schema)
 
 -- opened on trees that offer accounts, it shows them
-pub still_shows : (layout : Layout) (old new : Database) → LiesAs layout old.schema → IsKnown old → Becomes layout old new → (accounts : Accounts) → OffersIn old accounts → Presents new accounts
+pub still_shows : (layout : Layout) (old new : Database) → LiesAs layout old.schema → IsKnown old → LayoutBecomes layout old new → (accounts : Accounts) → OffersIn old accounts → Presents new accounts
 still_shows layout old new lies known became accounts p = by layout lies became p.offers
   where
     not_first : IsOldSchema old.schema → Presents p.db accounts → ⊥
@@ -210,7 +210,7 @@ still_shows layout old new lies known became accounts p = by layout lies became 
     not_second : IsSecondSchema old.schema → Presents p.db accounts → ⊥
     not_second is offers = let second = second_known old is known in other_version old p.db accounts 2 second.row second.only second.says (omega arith) p.trees offers
 
-    by : (layout : Layout) → LiesAs layout old.schema → Becomes layout old new → Offers p.db accounts → Presents new accounts
+    by : (layout : Layout) → LiesAs layout old.schema → LayoutBecomes layout old new → OffersAccounts p.db accounts → Presents new accounts
     by Current lies became (inl offers) = shows_again old new p.db accounts lies became p.trees offers
     by Second lies became (inl offers) = absurd (not_second lies offers)
     by CopiesLast lies became (inl offers) = absurd (not_first (inl lies) offers)

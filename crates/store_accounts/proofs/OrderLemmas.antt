@@ -19,37 +19,37 @@ use Rattle.sqlite_keyed.proofs.KeyedLemmas.{Less-from_lt}
 use Rattle.sqlite_keyed.proofs.SortLemmas.{sorted_unique}
 use Rattle.sqlite_typed.proofs.TestLemmas.{last_key, same_bytes, bytes_eq_refl}
 use Rattle.sqlite.specs.State.{State, Shown}
-use Rattle.mailtables.specs.Forms.{over, over_two}
-use Rattle.mailtables.specs.Rows.{Tables, HoldsTables, has_key}
-use Rattle.mailtables.proofs.AnswerLemmas.{cells_in_order, cells_joined}
-use Rattle.mailtables.proofs.ReadLemmas.{answered, answered_from}
-use Rattle.mailtables.proofs.ListLemmas.{owner_key, pair_key, pair_owned}
-use Rattle.mailstore.specs.declared.queue.Outgoing.{Outgoing}
-use Rattle.mailstore.specs.declared.notice.Notice.{Notice}
-use Rattle.mailtables.specs.QueueTable.{outgoing, outgoing_tree, select_queue}
-use Rattle.mailstore.specs.QueueRows.{outgoing_cells, queue_row}
-use Rattle.mailtables.specs.NoticeTable.{notice, notice_tree, select_notices}
-use Rattle.mailstore.specs.NoticeRows.{notice_cells, notice_row}
-use Rattle.mailtables.specs.Schema.{mail_schema}
-use Rattle.mailstore.specs.Account.{bytes_cmp, Folders, messages_in, filed}
-use Rattle.mailtables.specs.ScriptTable.{script, select_names, script_tree}
-use Rattle.mailstore.specs.ScriptRows.{script_row, AreApart}
-use Rattle.mailtables.specs.MessageTable.{message, message_key, message_tree, bytes_column}
-use Rattle.mailstore.specs.MessageRows.{Message, message_row}
-use Rattle.mailtables.specs.CopyTable.{copy, select_folder, copy_tree, id_column, n_column}
-use Rattle.mailstore.specs.CopyRows.{Copy, copy_row, filed_from, folders_from, flags_from, message_of, is_in}
-use Rattle.mailstore.specs.Shows.{rows_of}
-use Rattle.mailtables.proofs.TextFacts.{by_one, of_message, select_names_is, select_names_plain, select_folder_is, select_folder_plain, notices_shown, queue_shown, select_notices_is, select_notices_plain, select_queue_is, select_queue_plain}
-use Rattle.mailstore.proofs.AccountLemmas.{pair_is, message_is, bytes_antisymmetric}
-use Rattle.mailstore.proofs.NumberLemmas.{alone_at}
-use Rattle.mailstore.proofs.KeyLemmas.{key_owned}
+use Rattle.store_tables.specs.Forms.{over_table, over_two}
+use Rattle.store_tables.specs.Rows.{Tables, HoldsTables, has_key}
+use Rattle.store_tables.proofs.AnswerLemmas.{cells_in_order, cells_joined}
+use Rattle.store_tables.proofs.ReadLemmas.{answered, answered_from}
+use Rattle.store_tables.proofs.ListLemmas.{owner_key, pair_key, pair_owned}
+use Rattle.store_accounts.specs.declared.queue.QueuedMessage.{QueuedMessage}
+use Rattle.store_accounts.specs.declared.notice.Notice.{Notice}
+use Rattle.store_tables.specs.QueueTable.{outgoing, outgoing_tree, select_queue}
+use Rattle.store_accounts.specs.QueueRows.{outgoing_cells, queue_row}
+use Rattle.store_tables.specs.NoticeTable.{notice, notice_tree, select_notices}
+use Rattle.store_accounts.specs.NoticeRows.{notice_cells, notice_row}
+use Rattle.store_tables.specs.Schema.{mail_schema}
+use Rattle.store_accounts.specs.Account.{bytes_cmp, Folders, messages_in, filed}
+use Rattle.store_tables.specs.ScriptTable.{script, select_names, scripts_tree}
+use Rattle.store_accounts.specs.ScriptRows.{script_row, AreKeysApart}
+use Rattle.store_tables.specs.MessageTable.{message, message_key, message_tree, bytes_column}
+use Rattle.store_accounts.specs.MessageRows.{Message, message_row}
+use Rattle.store_tables.specs.CopyTable.{copy, select_folder, copy_tree, id_column, n_column}
+use Rattle.store_accounts.specs.CopyRows.{Copy, copy_row, filed_from, folders_from, flags_from, message_of, is_in}
+use Rattle.store_accounts.specs.Shows.{rows_of}
+use Rattle.store_tables.proofs.TextFacts.{by_one, of_message, select_names_is, select_names_plain, select_folder_is, select_folder_plain, notices_shown, queue_shown, select_notices_is, select_notices_plain, select_queue_is, select_queue_plain}
+use Rattle.store_accounts.proofs.AccountLemmas.{pair_is, message_is, bytes_antisymmetric}
+use Rattle.store_accounts.proofs.NumberLemmas.{alone_at}
+use Rattle.store_accounts.proofs.KeyLemmas.{key_owned}
 use Rattle.sqlite.proofs.Callers.{one_permutation}
 use Rattle.sqlite_rules.specs.Lists.{Has}
 use Rattle.sqlite_rules.proofs.ListLemmas.{all_has, has_kept}
 use Rattle.sqlite_schema.specs.Rules.{equal}
 use Rattle.std.proofs.lemmas.List.Elements.{recursion_from_All, All-from_recursion}
-use Rattle.mailstore.proofs.MapLemmas.{entries_permutation, entries_rise}
-use Rattle.mailtables.proofs.SchemaFacts.{copy_listed, message_listed, script_listed, notice_listed, outgoing_listed}
+use Rattle.store_accounts.proofs.MapLemmas.{entries_permutation, entries_rise}
+use Rattle.store_tables.proofs.SchemaFacts.{copy_listed, message_listed, script_listed, notice_listed, outgoing_listed}
 
 -- the rows with a key of two are among the owner's
 pub of_owner : (owner name : List ℕ) (tables : Tables) (tree : ℕ) → filter (has_key (pair_key owner name)) (tables tree) ≡ filter (has_key (pair_key owner name)) (rows_of owner tables tree)
@@ -148,17 +148,17 @@ module _ (old new : State) (rows : List Row) (tables : Tables) (h : HoldsTables 
 
 -- the same of the queue, and of the notices
 abbrev by_id : Query
-by_id = (over outgoing_tree by_one queue_shown ((col 1 2, ascending Binary) ∷ [])).body
+by_id = (over_table outgoing_tree by_one queue_shown ((col 1 2, ascending Binary) ∷ [])).body
 
-queued_output : Outgoing → Output
+queued_output : QueuedMessage → Output
 queued_output out = (Int (pos out.id) ∷ [], outgoing_cells out)
 
-queued_rise : (x y : Outgoing) → x.id < y.id → output_cmp by_id (queued_output x) (queued_output y) ≡ Less
+queued_rise : (x y : QueuedMessage) → x.id < y.id → output_cmp by_id (queued_output x) (queued_output y) ≡ Less
 unfolding queued_output
 queued_rise x y low = last_key (value_cmp-Int (pos x.id) (pos y.id) ∙ Less-from_lt (pos x.id) (pos y.id) (omega (arith, ints)))
 
 abbrev by_notice : Query
-by_notice = (over notice_tree by_one notices_shown ((col 1 2, ascending Binary) ∷ [])).body
+by_notice = (over_table notice_tree by_one notices_shown ((col 1 2, ascending Binary) ∷ [])).body
 
 noticed_output : ℕ × Notice → Output
 noticed_output e = (Int (pos e.0) ∷ [], notice_cells e.1)
@@ -168,7 +168,7 @@ unfolding noticed_output
 noticed_rise x y low = last_key (value_cmp-Int (pos x.0) (pos y.0) ∙ Less-from_lt (pos x.0) (pos y.0) (omega (arith, ints)))
 
 module _ (old new : State) (rows : List Row) (tables : Tables) (h : HoldsTables mail_schema old.now tables) where
-  pub queue_found : (owner : List ℕ) (queue : List Outgoing) → IsPermutation (map (queue_row owner) queue) (rows_of owner tables outgoing_tree) → IsAscending (λ x y. x.id < y.id) queue
+  pub queue_found : (owner : List ℕ) (queue : List QueuedMessage) → IsPermutation (map (queue_row owner) queue) (rows_of owner tables outgoing_tree) → IsAscending (λ x y. x.id < y.id) queue
       → Shown select_queue (owner_key owner) old new rows → rows ≡ map outgoing_cells queue
   unfolding queued_output
   queue_found owner queue are rise shown =
@@ -227,7 +227,7 @@ flags_are = filed_are (λ c. c.flags)
 -- ---- names in order
 
 abbrev by_name : Query
-by_name = (over script_tree by_one (col 1 2 ∷ []) ((col 1 2, ascending Binary) ∷ [])).body
+by_name = (over_table scripts_tree by_one (col 1 2 ∷ []) ((col 1 2, ascending Binary) ∷ [])).body
 
 name_output : {X : Type 0} → List ℕ × X → Output
 name_output e = (Blob e.0 ∷ [], Blob e.0 ∷ [])
@@ -237,16 +237,16 @@ unfolding name_output
 names_rise a b low = last_key (value_cmp-Blob a.0 b.0 ∙ low)
 
 module _ (old new : State) (rows : List Row) (tables : Tables) (h : HoldsTables mail_schema old.now tables) where
-  pub names_found : (owner : List ℕ) (scripts : List (List ℕ × List ℕ)) → rows_of owner tables script_tree ≡ map (script_row owner) scripts → AreApart scripts → Shown select_names (owner_key owner) old new rows
+  pub names_found : (owner : List ℕ) (scripts : List (List ℕ × List ℕ)) → rows_of owner tables scripts_tree ≡ map (script_row owner) scripts → AreKeysApart scripts → Shown select_names (owner_key owner) old new rows
       → rows ≡ map (λ n. Blob n ∷ []) (keys (from_entries {R = bytes_cmp} scripts))
   unfolding name_output
   names_found owner scripts are apart shown =
       let p = has_key (owner_key owner) in
       let m : FinMap bytes_cmp (List ℕ) = from_entries scripts in
       let show = λ (cells : Row). let o : Output = (column cells 1 ∷ [], column cells 1 ∷ []) in o in
-      let found = cells_in_order old.now.trees script_tree by_one (col 1 2 ∷ []) ((col 1 2, ascending Binary) ∷ []) (owner_key owner) (tables script_tree) (h.each script script_listed) p (λ n cells. refl) show (λ n cells. refl) rows
-      (answered mail_schema select_names (owner_key owner) old new h.is select_names_plain.0 script_tree by_one (col 1 2 ∷ []) _ _ select_names_is select_names_plain.1 rows shown) in
-      let outs : map show (filter p (tables script_tree)) ≡ map name_output scripts = ap (map show) are ∙ map-map show (script_row owner) scripts in
+      let found = cells_in_order old.now.trees scripts_tree by_one (col 1 2 ∷ []) ((col 1 2, ascending Binary) ∷ []) (owner_key owner) (tables scripts_tree) (h.each script script_listed) p (λ n cells. refl) show (λ n cells. refl) rows
+      (answered mail_schema select_names (owner_key owner) old new h.is select_names_plain.0 scripts_tree by_one (col 1 2 ∷ []) _ _ select_names_is select_names_plain.1 rows shown) in
+      let outs : map show (filter p (tables scripts_tree)) ≡ map name_output scripts = ap (map show) are ∙ map-map show (script_row owner) scripts in
       let same = IsPermutation-trans _ _ _ (IsPermutation-map name_output _ _ (IsPermutation-sym _ _ (entries_permutation bytes_cmp nat_list_cmp_total bytes_antisymmetric scripts apart))) (subst (λ l. IsPermutation l found.0) outs found.1) in
       let rising = ascending-map (λ x y. output_cmp by_name x y ≡ Less) name_output (entries m) (ascending_weaker _ (λ a b. output_cmp by_name (name_output a) (name_output b) ≡ Less) names_rise (entries m) (entries_rise bytes_cmp nat_list_cmp_total bytes_antisymmetric m)) in
       let is = sorted_unique (output_cmp by_name) (output_cmp_total by_name) (map name_output (entries m)) found.0 rising same found.2 in

@@ -14,19 +14,19 @@ use Rattle.sqlite_schema.specs.Rules.{equal}
 use Rattle.sqlite_keyed.proofs.ListLemmas.{filter-map, filter_same, filter-filter, slice_get-filter, IsPermutation-filter}
 use Rattle.sqlite_typed.proofs.TestLemmas.{at_ints, last_term, then_term}
 use Rattle.sqlite.specs.State.{State, Shown}
-use Rattle.mailtables.specs.Rows.{Tables, HoldsTables, has_key}
-use Rattle.mailtables.proofs.AnswerLemmas.{nth_in_order}
-use Rattle.mailtables.proofs.ReadLemmas.{answered_nth}
-use Rattle.mailtables.proofs.ListLemmas.{equal_itself, owner_key}
-use Rattle.mailtables.specs.Schema.{mail_schema}
-use Rattle.mailtables.specs.CopyTable.{copy, copy_tree, select_other}
-use Rattle.mailtables.proofs.SchemaFacts.{copy_listed}
-use Rattle.mailtables.proofs.TextFacts.{by_other, select_other_is, select_other_plain}
-use Rattle.mailstore.specs.declared.filing.Filing.{Filing}
-use Rattle.mailstore.specs.Account.{Account}
-use Rattle.mailstore.specs.CopyRows.{Copy, copy_row, filing_of, is_in, is_other_copy, leaving_of}
-use Rattle.mailstore.specs.Shows.{rows_of, IsShown, AreOtherRows, IsNthFiling, IsShared, IsLeaving}
-use Rattle.mailstore.proofs.AccountLemmas.{same_numbers}
+use Rattle.store_tables.specs.Rows.{Tables, HoldsTables, has_key}
+use Rattle.store_tables.proofs.AnswerLemmas.{nth_in_order}
+use Rattle.store_tables.proofs.ReadLemmas.{answered_nth}
+use Rattle.store_tables.proofs.ListLemmas.{equal_itself, owner_key}
+use Rattle.store_tables.specs.Schema.{mail_schema}
+use Rattle.store_tables.specs.CopyTable.{copy, copy_tree, select_other}
+use Rattle.store_tables.proofs.SchemaFacts.{copy_listed}
+use Rattle.store_tables.proofs.TextFacts.{by_other, select_other_is, select_other_plain}
+use Rattle.store_accounts.specs.declared.filing.Filing.{Filing}
+use Rattle.store_accounts.specs.Account.{Account}
+use Rattle.store_accounts.specs.CopyRows.{Copy, copy_row, filing_of, is_in, is_other_copy, leaving_of}
+use Rattle.store_accounts.specs.Shows.{rows_of, IsShown, AreOtherRows, IsNthFiling, IsShared, IsLeaving}
+use Rattle.store_accounts.proofs.AccountLemmas.{same_numbers}
 
 -- what the query is asked with
 abbrev pub other_params : List ℕ → ℤ → ℤ → Row

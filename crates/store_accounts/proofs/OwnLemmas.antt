@@ -2,21 +2,21 @@
 use Rattle.std.proofs.Common.{◌≡◌, ◌⊎◌, ℕ, Bool, true, false, cond, List, Ok, Err, Result, IfOk, IfErr, OnOk, IsSome, IsTrue, Option, Some, None, refl, sym, subst}
 use Rattle.std.specs.FinMap.{get}
 use Rattle.sqlite.specs.State.{State}
-use Rattle.mailtables.specs.Rows.{Tables}
-use Rattle.mailstore.specs.declared.refusal.Refusal.{Refusal}
-use Rattle.mailstore.specs.declared.refusal.Refusal.TheVariants.{NoUser}
-use Rattle.mailstore.specs.Account.{Account, Accounts}
-use Rattle.mailstore.specs.Shows.{rows_of, IsShown, IsShownOrAbsent, Presents}
-use Rattle.mailstore.specs.Refusals.{IsTransient}
-use Rattle.mailstore.specs.Promises.{HasOpen, HasNoOpen, OfOpen, FindsAmong, Reads, ReadsOwn}
-use Rattle.mailstore.specs.Account.{is_closed, open_one}
-use Rattle.mailtables.proofs.WriteLemmas.{clean_before}
-use Rattle.mailstore.proofs.KeepLemmas.{keeps_refused, keeps_then, mid_holds, transient_other, transient_named}
+use Rattle.store_tables.specs.Rows.{Tables}
+use Rattle.store_accounts.specs.declared.refusal.Refusal.{Refusal}
+use Rattle.store_accounts.specs.declared.refusal.Refusal.TheVariants.{NoUser}
+use Rattle.store_accounts.specs.Account.{Account, Accounts}
+use Rattle.store_accounts.specs.Shows.{rows_of, IsShown, IsShownOrAbsent, Presents}
+use Rattle.store_accounts.specs.Refusals.{IsTransient}
+use Rattle.store_accounts.specs.Promises.{HasOpen, HasNoOpen, OfOpen, FindsAmong, ReadsOpenAccount, ReadsOwn}
+use Rattle.store_accounts.specs.Account.{is_closed_account, open_one}
+use Rattle.store_tables.proofs.WriteLemmas.{clean_before}
+use Rattle.store_accounts.proofs.KeepLemmas.{keeps_refused, keeps_then, mid_holds, transient_other, transient_named}
 
 -- ---- reads of one user's rows
 
 -- with the refusal of an inner read
-pub own_refused : {X Y : Type 0} (user : List ℕ) (P : X → Account → Type 0) (Q : Y → Tables → Type 0) (a b : State) (e : Refusal) (q : Result Y Refusal) → q ≡ Err e → Reads user P a b (Err e) → ReadsOwn user Q a b q
+pub own_refused : {X Y : Type 0} (user : List ℕ) (P : X → Account → Type 0) (Q : Y → Tables → Type 0) (a b : State) (e : Refusal) (q : Result Y Refusal) → q ≡ Err e → ReadsOpenAccount user P a b (Err e) → ReadsOwn user Q a b q
 own_refused user P Q a b e q is r = record {
   found = λ clean tables h. subst (λ o. IfOk o (λ y. Q y (rows_of user tables))) (sym is) tt;
   there = λ clean accounts p. subst (λ o. OnOk o (HasOpen user accounts)) (sym is) tt;
@@ -27,7 +27,7 @@ own_refused user P Q a b e q is r = record {
 }
 
 -- the read of an account that was entered
-module _ {X Y : Type 0} (user : List ℕ) (P : X → Account → Type 0) (Q : Y → Tables → Type 0) (a b c : State) (r : Result X Refusal) (x : X) (was : r ≡ Ok x) (early : Reads user P a b r) where
+module _ {X Y : Type 0} (user : List ℕ) (P : X → Account → Type 0) (Q : Y → Tables → Type 0) (a b c : State) (r : Result X Refusal) (x : X) (was : r ≡ Ok x) (early : ReadsOpenAccount user P a b r) where
   has_user : {R : Account → Type 0} (accounts : Accounts) → OfOpen accounts user R → HasOpen user accounts
   has_user accounts there = rw there.1 refl
 
@@ -55,7 +55,7 @@ own_told {X} user P Q a b r tells h = record { found = λ clean tables held. tol
 
 -- the same account, read through its rows
 pub own_reads : {X : Type 0} (user : List ℕ) (P : X → Tables → Type 0) (Q : X → Account → Type 0) (a b : State) (r : Result X Refusal) → ((x : X) (own : Tables) (account : Account) → IsShown user own account → P x own → Q x account)
-    → ReadsOwn user P a b r → Reads user Q a b r
+    → ReadsOwn user P a b r → ReadsOpenAccount user Q a b r
 own_reads {X} user P Q a b r tells h = record {
   found = λ clean accounts p. answered_by accounts p r (h.there clean accounts p) (h.found clean p.0 p.1);
   absent = h.absent;
@@ -73,7 +73,7 @@ own_reads {X} user P Q a b r tells h = record {
 
         go : (o : Option Account) → IsSome (open_one o) → IsShownOrAbsent user (rows_of user p.0) o → (b : Account) × (open_one o ≡ Some b) × Q x b
         go None some shown = absurd (let no = some in cc)
-        go (Some account) some shown = by account (is_closed account) some shown
+        go (Some account) some shown = by account (is_closed_account account) some shown
 
     answered_by : (accounts : Accounts) (p : Presents a.now accounts) (o : Result X Refusal) → OnOk o (HasOpen user accounts) → IfOk o (λ x. P x (rows_of user p.0)) → IfOk o (λ x. OfOpen accounts user (Q x))
     answered_by accounts p (Err e) has is = tt

@@ -11,11 +11,11 @@ use Rattle.sqlite_value.specs.declared.value.Value.TheVariants.{Int, Blob}
 use Rattle.sqlite_value.specs.Order.{Row, column}
 use Rattle.sqlite_keyed.proofs.ListLemmas.{IsPermutation-filter, map_back}
 use Rattle.sqlite.proofs.Callers.{one_permutation}
-use Rattle.mailstore.specs.Account.{Replies, reply_cmp}
-use Rattle.mailstore.specs.ScriptRows.{AreApart}
-use Rattle.mailstore.specs.ReplyRows.{reply_row, ShowsReplies}
-use Rattle.mailstore.proofs.MapLemmas.{is_at, tied, itself, first_found}
-use Rattle.mailstore.proofs.AccountLemmas.{reply_total, reply_antisymmetric}
+use Rattle.store_accounts.specs.Account.{ReplyMoments, reply_cmp}
+use Rattle.store_accounts.specs.ScriptRows.{AreKeysApart}
+use Rattle.store_accounts.specs.ReplyRows.{reply_row, ShowsReplies}
+use Rattle.store_accounts.proofs.MapLemmas.{is_at, tied, itself, first_found}
+use Rattle.store_accounts.proofs.AccountLemmas.{reply_total, reply_antisymmetric}
 
 -- none or one, in any order
 alone : {X : Type 0} (xs ys : List X) → length xs ≤ 1 → IsPermutation xs ys → ys ≡ xs
@@ -41,7 +41,7 @@ module _ {K X : Type 0} (R : K → K → Ordering) (total : IsTotalOrder R) (ali
       go true same none = absurd (apart.0 (sym (tied R total alike e.0 k same)))
       go false other none = none
 
-  few_at : (k : K) (es : List (K × X)) → AreApart es → length (filter (at k) es) ≤ 1
+  few_at : (k : K) (es : List (K × X)) → AreKeysApart es → length (filter (at k) es) ≤ 1
   few_at k [] apart = omega arith
   few_at k (e ∷ es) apart = go (at k e) refl (few_at k es apart.1)
     where
@@ -60,7 +60,7 @@ module _ {K X : Type 0} (R : K → K → Ordering) (total : IsTotalOrder R) (ali
       go true same more low = absurd (omega (arith, low))
       go false other more low = ((λ same. let is = ap (λ q. is_eq (R q k)) (sym same) ∙ itself R total alike k in let no : true ≡ false = sym is ∙ other in absurd (let never = no in cc)), more low)
 
-  apart_of : (es : List (K × X)) → ((k : K) → length (filter (at k) es) ≤ 1) → AreApart es
+  apart_of : (es : List (K × X)) → ((k : K) → length (filter (at k) es) ≤ 1) → AreKeysApart es
   apart_of [] few = tt
   apart_of (e ∷ es) few = (others e.0 es (first (at e.0 e) (itself R total alike e.0) (few e.0)), apart_of es (λ k. rest k (at k e) (few k)))
     where
@@ -72,11 +72,11 @@ module _ {K X : Type 0} (R : K → K → Ordering) (total : IsTotalOrder R) (ali
       rest k true low = omega (arith, low)
       rest k false low = low
 
-  module _ (es fs : List (K × X)) (are : IsPermutation es fs) (apart : AreApart es) where
+  module _ (es fs : List (K × X)) (are : IsPermutation es fs) (apart : AreKeysApart es) where
     same_at : (k : K) → filter (at k) fs ≡ filter (at k) es
     same_at k = alone (filter (at k) es) (filter (at k) fs) (few_at k es apart) (IsPermutation-filter (at k) es fs are)
 
-    pub apart_moved : AreApart fs
+    pub apart_moved : AreKeysApart fs
     apart_moved = apart_of fs (λ k. subst (λ l. length l ≤ 1) (sym (same_at k)) (few_at k es apart))
 
     pub entries_moved : from_entries {R = R} es ≡ from_entries fs
@@ -117,7 +117,7 @@ module _ (user : List ℕ) where
   rows_back [] all = refl
   rows_back (r ∷ rows) all = rw (all.0) (ap (λ l. r ∷ l) (rows_back rows all.1))
 
-  pub replies_moved : (rows moved : List Row) (replies : Replies) → IsPermutation rows moved → ShowsReplies user rows replies → ShowsReplies user moved replies
+  pub replies_moved : (rows moved : List Row) (replies : ReplyMoments) → IsPermutation rows moved → ShowsReplies user rows replies → ShowsReplies user moved replies
   replies_moved rows moved replies are s =
       let shuffled = subst (λ l. IsPermutation l moved) s.rows_are are in
       let same = subst (λ l. IsPermutation l (map reply_in moved)) (map_back (reply_row user) reply_in (reply_back user) s.entries) (IsPermutation-map reply_in _ _ shuffled) in

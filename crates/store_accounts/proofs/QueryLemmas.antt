@@ -10,20 +10,20 @@ use Rattle.sqlite.specs.declared.error.Error.{Error}
 use Rattle.sqlite.specs.State.{State, HasCleanDisk, Survives, CommitsShowing, Shown, ShowsRows, FailsToQuery, FailsToShow, IsNotRun}
 use Rattle.sqlite.proofs.Callers.{IsPlain, never_commits}
 use Rattle.sqlite.proofs.StateLemmas.{survives_weaker}
-use Rattle.mailtables.specs.Rows.{Tables, HoldsTables, has_key}
-use Rattle.mailtables.proofs.AnswerLemmas.{cells_by_key}
-use Rattle.mailtables.proofs.ReadLemmas.{shown_same, fails_same, answered}
-use Rattle.mailtables.proofs.ListLemmas.{owner_key, pair_key}
-use Rattle.mailtables.specs.Schema.{mail_schema}
-use Rattle.mailtables.specs.Connection.{StaysSame}
-use Rattle.mailtables.specs.AccountTable.{account, select_account, select_counters, account_tree}
-use Rattle.mailstore.specs.AccountRows.{shown_account, shown_counters}
-use Rattle.mailtables.specs.ScriptTable.{script, select_script, script_tree, text_column}
-use Rattle.mailstore.specs.Shows.{rows_of}
-use Rattle.mailtables.proofs.VersionLemmas.{same_unchanged, same_undone}
-use Rattle.mailtables.proofs.TextFacts.{by_one, by_two, account_shown, counters_shown, select_account_is, select_account_plain, select_counters_is, select_counters_plain, select_script_is, select_script_plain}
-use Rattle.mailtables.proofs.StatementLemmas.{account_index, script_index, account_agrees, script_agrees}
-use Rattle.mailstore.specs.Promises.{HasOurTables}
+use Rattle.store_tables.specs.Rows.{Tables, HoldsTables, has_key}
+use Rattle.store_tables.proofs.AnswerLemmas.{cells_by_key}
+use Rattle.store_tables.proofs.ReadLemmas.{shown_same, fails_same, answered}
+use Rattle.store_tables.proofs.ListLemmas.{owner_key, pair_key}
+use Rattle.store_tables.specs.Schema.{mail_schema}
+use Rattle.store_tables.specs.Connection.{StaysSame}
+use Rattle.store_tables.specs.AccountTable.{account, select_account, select_counters, account_tree}
+use Rattle.store_accounts.specs.AccountRows.{shown_account, shown_counters}
+use Rattle.store_tables.specs.ScriptTable.{script, select_script, scripts_tree, text_column}
+use Rattle.store_accounts.specs.Shows.{rows_of}
+use Rattle.store_tables.proofs.VersionLemmas.{same_unchanged, same_undone}
+use Rattle.store_tables.proofs.TextFacts.{by_one, by_two, account_shown, counters_shown, select_account_is, select_account_plain, select_counters_is, select_counters_plain, select_script_is, select_script_plain}
+use Rattle.store_tables.proofs.StatementLemmas.{account_index, script_index, account_agrees, script_agrees}
+use Rattle.store_accounts.specs.Promises.{HasOurTables}
 
 module _ (sql : List ℕ) (params : Row) (old new : State) (plain : IsPlain (understood mail_schema sql)) where
   pub query_same : (r : Result (Vec Row Global) Error) → (IsTrue old.is_open → old.now ≡ old.committed) → (HasCleanDisk new → IfOk r (λ rows. Shown sql params old new rows.items))
@@ -73,11 +73,11 @@ module _ (old new : State) (rows : List Row) (tables : Tables) (h : HoldsTables 
       by_one (owner_key name) (λ n cells. refl) counters_shown shown_counters (λ n cells. refl) [] rows
       (answered mail_schema select_counters (owner_key name) old new h.is select_counters_plain.0 account_tree by_one counters_shown [] _ select_counters_is select_counters_plain.1 rows shown)
 
-  pub script_found : (owner name : List ℕ) → Shown select_script (pair_key owner name) old new rows → rows ≡ map (λ c. column c text_column ∷ []) (filter (has_key (pair_key owner name)) (tables script_tree))
+  pub script_found : (owner name : List ℕ) → Shown select_script (pair_key owner name) old new rows → rows ≡ map (λ c. column c text_column ∷ []) (filter (has_key (pair_key owner name)) (tables scripts_tree))
   script_found owner name shown =
-      cells_by_key mail_schema script (inr (inr (inl refl))) script_index (inr (inr (inl refl))) refl (pair_key owner name) (0 ∷ 1 ∷ []) (script_agrees owner name) old.now.trees h.fits (tables script_tree)
+      cells_by_key mail_schema script (inr (inr (inl refl))) script_index (inr (inr (inl refl))) refl (pair_key owner name) (0 ∷ 1 ∷ []) (script_agrees owner name) old.now.trees h.fits (tables scripts_tree)
       (h.each script (inr (inr (inl refl)))) by_two (pair_key owner name) (λ n cells. refl) (col 1 3 ∷ []) (λ c. column c text_column ∷ []) (λ n cells. refl) [] rows
-      (answered mail_schema select_script (pair_key owner name) old new h.is select_script_plain.0 script_tree by_two (col 1 3 ∷ []) [] _ select_script_is select_script_plain.1 rows shown)
+      (answered mail_schema select_script (pair_key owner name) old new h.is select_script_plain.0 scripts_tree by_two (col 1 3 ∷ []) [] _ select_script_is select_script_plain.1 rows shown)
 
 -- under a clause on Ok
 pub if_shown : (r : Result (Vec Row Global) Error) (P Q : List Row → Type 0) → ((rows : List Row) → P rows → Q rows) → IfOk r (λ rows. P rows.items) → IfOk r (λ rows. Q rows.items)

@@ -7,34 +7,34 @@ use Rattle.sqlite_value.specs.Order.{Row, column}
 use Rattle.sqlite_keyed.proofs.ListLemmas.{map-map, filter-map, filter_same}
 use Rattle.sqlite.specs.Effect.{Database}
 use Rattle.sqlite.specs.State.{State, Shown}
-use Rattle.mailtables.specs.Rows.{Tables, has_key}
-use Rattle.mailtables.proofs.ListLemmas.{owner_key, pair_key}
-use Rattle.mailstore.specs.FirstCells.{first_three}
-use Rattle.mailstore.specs.declared.account.Counters.{Counters}
-use Rattle.mailstore.specs.declared.refusal.Refusal.{Refusal}
-use Rattle.mailstore.specs.declared.refusal.Refusal.TheVariants.{NoUser}
-use Rattle.mailstore.specs.Account.{bytes_cmp, Account, Accounts, messages_in}
-use Rattle.mailstore.specs.AccountRows.{shown_account, profile_row, counter_cells, Counts, shown_counters}
-use Rattle.mailtables.specs.AccountTable.{account_tree}
-use Rattle.mailtables.specs.ScriptTable.{select_names, select_script, script_tree, text_column}
-use Rattle.mailstore.specs.ScriptRows.{script_row, AreNameRows, HasTextRow}
-use Rattle.mailtables.specs.CopyTable.{select_folder}
-use Rattle.mailstore.specs.CopyRows.{Copy, is_in, AreMessageRows}
-use Rattle.mailstore.specs.Shows.{rows_of, IsShown, IsShownOrAbsent, ShowsAccounts, Presents}
-use Rattle.mailstore.proofs.AccountLemmas.{pair_is, is_named, bytes_antisymmetric}
-use Rattle.mailstore.proofs.MapLemmas.{first_found}
-use Rattle.mailstore.proofs.QueryLemmas.{script_found}
-use Rattle.mailstore.proofs.OrderLemmas.{of_owner, folder_found, names_found, messages_are, notices_found, queue_found}
-use Rattle.mailstore.specs.NoticeRows.{AreNoticeRows, notice_cells}
-use Rattle.mailtables.specs.NoticeTable.{select_notices}
-use Rattle.mailstore.specs.QueueRows.{AreQueueRows}
-use Rattle.mailtables.specs.QueueTable.{select_queue}
+use Rattle.store_tables.specs.Rows.{Tables, has_key}
+use Rattle.store_tables.proofs.ListLemmas.{owner_key, pair_key}
+use Rattle.store_accounts.specs.FirstCells.{first_three}
+use Rattle.store_accounts.specs.declared.account.Counters.{Counters}
+use Rattle.store_accounts.specs.declared.refusal.Refusal.{Refusal}
+use Rattle.store_accounts.specs.declared.refusal.Refusal.TheVariants.{NoUser}
+use Rattle.store_accounts.specs.Account.{bytes_cmp, Account, Accounts, messages_in}
+use Rattle.store_accounts.specs.AccountRows.{shown_account, profile_row, counter_cells, HasCounters, shown_counters}
+use Rattle.store_tables.specs.AccountTable.{account_tree}
+use Rattle.store_tables.specs.ScriptTable.{select_names, select_script, scripts_tree, text_column}
+use Rattle.store_accounts.specs.ScriptRows.{script_row, AreNameRows, HasTextRow}
+use Rattle.store_tables.specs.CopyTable.{select_folder}
+use Rattle.store_accounts.specs.CopyRows.{Copy, is_in, AreMessageRows}
+use Rattle.store_accounts.specs.Shows.{rows_of, IsShown, IsShownOrAbsent, ShowsAccounts, Presents}
+use Rattle.store_accounts.proofs.AccountLemmas.{pair_is, is_named, bytes_antisymmetric}
+use Rattle.store_accounts.proofs.MapLemmas.{first_found}
+use Rattle.store_accounts.proofs.QueryLemmas.{script_found}
+use Rattle.store_accounts.proofs.OrderLemmas.{of_owner, folder_found, names_found, messages_are, notices_found, queue_found}
+use Rattle.store_accounts.specs.NoticeRows.{AreNoticeRows, notice_cells}
+use Rattle.store_tables.specs.NoticeTable.{select_notices}
+use Rattle.store_accounts.specs.QueueRows.{AreQueueRows}
+use Rattle.store_tables.specs.QueueTable.{select_queue}
 
 first_mapped : (own : List Row) → option_map first_three (slice_get (map shown_counters own) 0) ≡ option_map shown_counters (slice_get own 0)
 first_mapped [] = refl
 first_mapped (r ∷ own) = refl
 
-pub counters_are : (r : Result Counters Refusal) (rows own : List Row) → rows ≡ map shown_counters own → IfOk r (λ c. option_map first_three (slice_get rows 0) ≡ Some (counter_cells c)) → IfOk r (Counts own)
+pub counters_are : (r : Result Counters Refusal) (rows own : List Row) → rows ≡ map shown_counters own → IfOk r (λ c. option_map first_three (slice_get rows 0) ≡ Some (counter_cells c)) → IfOk r (HasCounters own)
 counters_are (Err e) rows own are h = tt
 counters_are (Ok c) rows own are h = sym (first_mapped own) ∙ ap (λ l. option_map first_three (slice_get l 0)) (sym are) ∙ h
 
@@ -84,7 +84,7 @@ module _ (old new : State) (rows : List Row) (accounts : Accounts) (p : Presents
 
   pub script_read : (name : List ℕ) → Shown select_script (pair_key user name) old new rows → IfSome (get accounts user) (HasTextRow name rows)
   script_read name shown = at_user accounts user p.0 p.2 _ (λ a s.
-      let mine = of_owner user name p.0 script_tree ∙ ap (filter (has_key (pair_key user name))) s.scripts.rows_are ∙ filter-map (has_key (pair_key user name)) (script_row user) s.scripts.entries
+      let mine = of_owner user name p.0 scripts_tree ∙ ap (filter (has_key (pair_key user name))) s.scripts.rows_are ∙ filter-map (has_key (pair_key user name)) (script_row user) s.scripts.entries
       ∙ ap (map (script_row user)) (filter_same _ (is_named name) (λ e. pair_is user name e.0 (Blob e.1 ∷ [])) s.scripts.entries) in
       ap (λ l. slice_get l 0) (script_found old new rows p.0 p.1 user name shown ∙ ap (map (λ cells. column cells text_column ∷ [])) mine ∙ map-map (λ (cells : Row). column cells text_column ∷ []) (script_row user) (filter (is_named name) s.scripts.entries))
       ∙ first_found bytes_cmp nat_list_cmp_total bytes_antisymmetric (λ text. Blob text ∷ []) name s.scripts.entries

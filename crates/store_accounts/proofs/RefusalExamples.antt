@@ -1,7 +1,7 @@
 -- What is kept of a refused write, by example, and near misses.
 use Rattle.std.proofs.Common.{◌≡◌, Some, None, refl}
 use Rattle.sqlite.specs.declared.error.ErrorCode.TheVariants.{DiskFull, OutOfMemory}
-use Rattle.mailstore.specs.Refusals.{IsCauseIn}
+use Rattle.store_accounts.specs.Refusals.{IsCauseIn}
 
 full_is_kept : IsCauseIn (Some DiskFull) (Some DiskFull)
 full_is_kept = record { store = λ other. refl; memory = λ is. absurd (let no = is in cc) }

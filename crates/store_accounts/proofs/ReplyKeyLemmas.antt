@@ -19,26 +19,26 @@ use Rattle.sqlite_typed.proofs.TestLemmas.{last_key, then_key}
 use Rattle.sqlite.specs.Listing.{understood, reads_listing}
 use Rattle.sqlite.specs.State.{State, Shown}
 use Rattle.sqlite.proofs.Callers.{IsPlain, command_of}
-use Rattle.mailtables.specs.Forms.{over}
-use Rattle.mailtables.specs.ReplyTable.{reply, reply_tree}
-use Rattle.mailtables.specs.Rows.{Tables, HoldsTables, has_key}
-use Rattle.mailtables.specs.Schema.{mail_schema}
-use Rattle.mailtables.proofs.AnswerLemmas.{cells_in_order}
-use Rattle.mailtables.proofs.ListLemmas.{owner_key}
-use Rattle.mailtables.proofs.ReadLemmas.{answered}
-use Rattle.mailtables.proofs.SchemaFacts.{reply_listed}
-use Rattle.mailtables.proofs.TextFacts.{by_one}
-use Rattle.mailstore.specs.declared.reply.ReplyKey.{ReplyKey}
-use Rattle.mailstore.specs.Account.{reply_cmp, Accounts, Replies}
-use Rattle.mailstore.specs.FirstCells.{first_two}
-use Rattle.mailstore.specs.Listing.{select_reply_keys}
-use Rattle.mailstore.specs.ReplyRows.{reply_row, reply_key_of, key_cells, AreKeyRows}
-use Rattle.mailstore.specs.ScriptRows.{AreApart}
-use Rattle.mailstore.specs.Shows.{rows_of, Presents}
-use Rattle.mailstore.proofs.AccountLemmas.{reply_total, reply_antisymmetric}
-use Rattle.mailstore.proofs.MapLemmas.{entries_permutation, entries_rise}
-use Rattle.mailstore.proofs.OneLemmas.{map_one}
-use Rattle.mailstore.proofs.ReadLemmas.{at_user}
+use Rattle.store_tables.specs.Forms.{over_table}
+use Rattle.store_tables.specs.ReplyTable.{reply, reply_tree}
+use Rattle.store_tables.specs.Rows.{Tables, HoldsTables, has_key}
+use Rattle.store_tables.specs.Schema.{mail_schema}
+use Rattle.store_tables.proofs.AnswerLemmas.{cells_in_order}
+use Rattle.store_tables.proofs.ListLemmas.{owner_key}
+use Rattle.store_tables.proofs.ReadLemmas.{answered}
+use Rattle.store_tables.proofs.SchemaFacts.{reply_listed}
+use Rattle.store_tables.proofs.TextFacts.{by_one}
+use Rattle.store_accounts.specs.declared.reply.ReplyKey.{ReplyKey}
+use Rattle.store_accounts.specs.Account.{reply_cmp, Accounts, ReplyMoments}
+use Rattle.store_accounts.specs.FirstCells.{first_two}
+use Rattle.store_accounts.specs.Listing.{select_reply_keys}
+use Rattle.store_accounts.specs.ReplyRows.{reply_row, reply_key_of, key_cells, AreKeyRows}
+use Rattle.store_accounts.specs.ScriptRows.{AreKeysApart}
+use Rattle.store_accounts.specs.Shows.{rows_of, Presents}
+use Rattle.store_accounts.proofs.AccountLemmas.{reply_total, reply_antisymmetric}
+use Rattle.store_accounts.proofs.MapLemmas.{entries_permutation, entries_rise}
+use Rattle.store_accounts.proofs.OneLemmas.{map_one}
+use Rattle.store_accounts.proofs.ReadLemmas.{at_user}
 
 abbrev keys_shown : List Term
 keys_shown = col 1 2 ∷ col 1 3 ∷ []
@@ -46,7 +46,7 @@ keys_shown = col 1 2 ∷ col 1 3 ∷ []
 abbrev by_handle : List (Term × Key)
 by_handle = (col 1 2, ascending Binary) ∷ (col 1 3, ascending Binary) ∷ []
 
-select_reply_keys_is : command_of (understood mail_schema select_reply_keys) ≡ Select (over reply_tree by_one keys_shown by_handle) (codes "handle" ∷ codes "sender" ∷ [])
+select_reply_keys_is : command_of (understood mail_schema select_reply_keys) ≡ Select (over_table reply_tree by_one keys_shown by_handle) (codes "handle" ∷ codes "sender" ∷ [])
 unfolding understood everything
 select_reply_keys_is = refl
 
@@ -55,7 +55,7 @@ unfolding understood everything
 select_reply_keys_plain = ((refl, refl), refl)
 
 abbrev key_query : Query
-key_query = (over reply_tree by_one keys_shown by_handle).body
+key_query = (over_table reply_tree by_one keys_shown by_handle).body
 
 key_output : (List ℕ × List ℕ) × ℕ → Output
 key_output e = (Blob e.0.0 ∷ Blob e.0.1 ∷ [], key_cells (reply_key_of e.0))
@@ -65,12 +65,12 @@ unfolding key_output
 keys_rise x y low = then_key (value_cmp-Blob x.0.0 y.0.0) (last_key (value_cmp-Blob x.0.1 y.0.1)) ∙ low
 
 module _ (old new : State) (rows : List Row) (tables : Tables) (h : HoldsTables mail_schema old.now tables) where
-  keys_found : (owner : List ℕ) (es : List ((List ℕ × List ℕ) × ℕ)) → rows_of owner tables reply_tree ≡ map (reply_row owner) es → AreApart es → Shown select_reply_keys (owner_key owner) old new rows
+  keys_found : (owner : List ℕ) (es : List ((List ℕ × List ℕ) × ℕ)) → rows_of owner tables reply_tree ≡ map (reply_row owner) es → AreKeysApart es → Shown select_reply_keys (owner_key owner) old new rows
       → rows ≡ map key_cells (map reply_key_of (keys (from_entries {R = reply_cmp} es)))
   unfolding key_output
   keys_found owner es are apart shown =
       let p = has_key (owner_key owner) in
-      let m : Replies = from_entries es in
+      let m : ReplyMoments = from_entries es in
       let show = λ (cells : Row). let o : Output = (column cells 1 ∷ column cells 2 ∷ [], column cells 1 ∷ column cells 2 ∷ []) in o in
       let found = cells_in_order old.now.trees reply_tree by_one keys_shown by_handle (owner_key owner) (tables reply_tree) (h.each reply reply_listed) p (λ n cells. refl) show (λ n cells. refl) rows
       (answered mail_schema select_reply_keys (owner_key owner) old new h.is select_reply_keys_plain.0 reply_tree by_one keys_shown _ _ select_reply_keys_is select_reply_keys_plain.1 rows shown) in

@@ -20,27 +20,27 @@ use Rattle.sqlite_keyed.proofs.ListLemmas.{map-map, filter-map, filter_same, fil
 use Rattle.sqlite_keyed.proofs.SortLemmas.{sorted_unique}
 use Rattle.sqlite_typed.proofs.TestLemmas.{at_blobs, last_key, last_term, same_bytes, bytes_eq_refl}
 use Rattle.sqlite.specs.State.{State, Shown}
-use Rattle.mailtables.specs.Forms.{over}
-use Rattle.mailtables.specs.Rows.{Tables, HoldsTables, has_key}
-use Rattle.mailtables.proofs.AnswerLemmas.{cells_in_order, cells_by_key}
-use Rattle.mailtables.proofs.ReadLemmas.{answered}
-use Rattle.mailtables.proofs.ListLemmas.{owner_key, pair_key, equal_itself}
-use Rattle.mailstore.specs.declared.reply.KeptReply.{KeptReply}
-use Rattle.mailtables.specs.Schema.{mail_schema}
-use Rattle.mailstore.specs.FirstCells.{first_two}
-use Rattle.mailstore.specs.Account.{bytes_cmp, reply_cmp, Accounts, Replies}
-use Rattle.mailstore.specs.ScriptRows.{AreApart}
-use Rattle.mailtables.specs.ReplyTable.{reply, reply_tree, reply_key, select_moment, select_replies}
-use Rattle.mailstore.specs.ReplyRows.{reply_row, HasMomentRow, AreReplyRows, replies_to, kept_reply, kept_cells}
-use Rattle.mailstore.specs.Shows.{rows_of, Presents}
-use Rattle.mailtables.proofs.SchemaFacts.{reply_listed}
-use Rattle.mailtables.proofs.TextFacts.{by_three, by_sender, replies_shown, select_moment_is, select_moment_plain, select_replies_is, select_replies_plain}
-use Rattle.mailtables.proofs.StatementLemmas.{reply_index, reply_agrees}
-use Rattle.mailstore.proofs.KeyLemmas.{key_owned}
-use Rattle.mailstore.proofs.MapLemmas.{tied_is, entries_permutation, entries_rise, first_found}
-use Rattle.mailstore.proofs.OneLemmas.{map_one}
-use Rattle.mailstore.proofs.ReadLemmas.{at_user}
-use Rattle.mailstore.proofs.AccountLemmas.{is_reply, reply_is, reply_total, reply_antisymmetric}
+use Rattle.store_tables.specs.Forms.{over_table}
+use Rattle.store_tables.specs.Rows.{Tables, HoldsTables, has_key}
+use Rattle.store_tables.proofs.AnswerLemmas.{cells_in_order, cells_by_key}
+use Rattle.store_tables.proofs.ReadLemmas.{answered}
+use Rattle.store_tables.proofs.ListLemmas.{owner_key, pair_key, equal_itself}
+use Rattle.store_accounts.specs.declared.reply.KeptReply.{KeptReply}
+use Rattle.store_tables.specs.Schema.{mail_schema}
+use Rattle.store_accounts.specs.FirstCells.{first_two}
+use Rattle.store_accounts.specs.Account.{bytes_cmp, reply_cmp, Accounts, ReplyMoments}
+use Rattle.store_accounts.specs.ScriptRows.{AreKeysApart}
+use Rattle.store_tables.specs.ReplyTable.{reply, reply_tree, reply_key, select_moment, select_replies}
+use Rattle.store_accounts.specs.ReplyRows.{reply_row, HasMomentRow, AreReplyRows, replies_to, kept_reply, kept_cells}
+use Rattle.store_accounts.specs.Shows.{rows_of, Presents}
+use Rattle.store_tables.proofs.SchemaFacts.{reply_listed}
+use Rattle.store_tables.proofs.TextFacts.{by_three, by_sender, replies_shown, select_moment_is, select_moment_plain, select_replies_is, select_replies_plain}
+use Rattle.store_tables.proofs.StatementLemmas.{reply_index, reply_agrees}
+use Rattle.store_accounts.proofs.KeyLemmas.{key_owned}
+use Rattle.store_accounts.proofs.MapLemmas.{tied_is, entries_permutation, entries_rise, first_found}
+use Rattle.store_accounts.proofs.OneLemmas.{map_one}
+use Rattle.store_accounts.proofs.ReadLemmas.{at_user}
+use Rattle.store_accounts.proofs.AccountLemmas.{is_reply, reply_is, reply_total, reply_antisymmetric}
 
 -- ---- one moment
 
@@ -118,7 +118,7 @@ handles_rise : (sender : List ℕ) (x y : Reply) → goes_to sender x ≡ true �
 handles_rise sender x y h k low = first_decides (bytes_cmp x.0.0 y.0.0) (bytes_cmp x.0.1 y.0.1) (equal_bytes x.0.1 y.0.1 sender h k) low
 
 abbrev by_handle : Query
-by_handle = (over reply_tree by_sender replies_shown ((col 1 2, ascending Binary) ∷ [])).body
+by_handle = (over_table reply_tree by_sender replies_shown ((col 1 2, ascending Binary) ∷ [])).body
 
 reply_output : Reply → Output
 reply_output e = (Blob e.0.0 ∷ [], kept_cells (kept_reply e))
@@ -128,12 +128,12 @@ unfolding reply_output
 replies_rise x y low = last_key (value_cmp-Blob x.0.0 y.0.0 ∙ low)
 
 module _ (old new : State) (rows : List Row) (tables : Tables) (h : HoldsTables mail_schema old.now tables) where
-  replies_found : (owner sender : List ℕ) (es : List Reply) → rows_of owner tables reply_tree ≡ map (reply_row owner) es → AreApart es → Shown select_replies (pair_key owner sender) old new rows
+  replies_found : (owner sender : List ℕ) (es : List Reply) → rows_of owner tables reply_tree ≡ map (reply_row owner) es → AreKeysApart es → Shown select_replies (pair_key owner sender) old new rows
       → rows ≡ map kept_cells (map kept_reply (replies_to sender (from_entries es)))
   unfolding reply_output
   replies_found owner sender es are apart shown =
       let p = is_sent owner sender in
-      let m : Replies = from_entries es in
+      let m : ReplyMoments = from_entries es in
       let few = replies_to sender m in
       let show = λ (cells : Row). let o : Output = (column cells 1 ∷ [], column cells 1 ∷ column cells 3 ∷ []) in o in
       let found = cells_in_order old.now.trees reply_tree by_sender replies_shown ((col 1 2, ascending Binary) ∷ []) (pair_key owner sender) (tables reply_tree) (h.each reply reply_listed) p (λ n cells. refl) show (λ n cells. refl) rows

@@ -6,22 +6,22 @@ use Rattle.std.proofs.lemmas.List.Sorted.{IsPermutation-append_comm, IsPermutati
 use Rattle.sqlite_value.specs.Order.{Row}
 use Rattle.sqlite_keyed.proofs.ListLemmas.{all-filter}
 use Rattle.sqlite_rules.specs.Lists.{Has}
-use Rattle.mailtables.specs.Rows.{Tables, has_key}
-use Rattle.mailtables.specs.MetaTable.{meta_tree, version_key, version_row}
-use Rattle.mailtables.specs.AccountTable.{account_tree}
-use Rattle.mailtables.specs.MessageTable.{message_tree}
-use Rattle.mailtables.specs.CopyTable.{copy_cells, copy_tree}
-use Rattle.oldtables.specs.SecondSchema.{flagless}
-use Rattle.mailstore.specs.Account.{Account, Accounts, Folders, messages_in, flags_in}
-use Rattle.mailstore.specs.AccountRows.{account_row}
-use Rattle.mailstore.specs.QueueRows.{queue_row}
-use Rattle.mailstore.specs.NoticeRows.{notice_row}
-use Rattle.mailstore.specs.MessageRows.{Message, message_row}
-use Rattle.mailstore.specs.CopyRows.{Copy, IsBare, message_of, folders_from, flags_from, is_in}
-use Rattle.mailstore.specs.SecondShows.{second_copy_row, ShowsSecondCopies, IsShownSecond, ShowsSecondAccounts}
-use Rattle.mailstore.proofs.NumberLemmas.{numbered_none}
-use Rattle.mailstore.proofs.VersionLemmas.{version_itself}
-use Rattle.mailstore.proofs.OrderLemmas.{all_mapped, messages_are, flags_are}
+use Rattle.store_tables.specs.Rows.{Tables, has_key}
+use Rattle.store_tables.specs.MetaTable.{meta_tree, version_key, version_row}
+use Rattle.store_tables.specs.AccountTable.{account_tree}
+use Rattle.store_tables.specs.MessageTable.{message_tree}
+use Rattle.store_tables.specs.CopyTable.{copy_cells, copy_tree}
+use Rattle.store_versions.specs.SecondSchema.{flagless}
+use Rattle.store_accounts.specs.Account.{Account, Accounts, Folders, messages_in, folder_flags}
+use Rattle.store_accounts.specs.AccountRows.{account_row}
+use Rattle.store_accounts.specs.QueueRows.{queue_row}
+use Rattle.store_accounts.specs.NoticeRows.{notice_row}
+use Rattle.store_accounts.specs.MessageRows.{Message, message_row}
+use Rattle.store_accounts.specs.CopyRows.{Copy, IsUnflagged, message_of, folders_from, flags_from, is_in}
+use Rattle.store_accounts.specs.SecondShows.{second_copy_row, ShowsSecondCopies, IsShownSecond, ShowsSecondAccounts}
+use Rattle.store_accounts.proofs.NumberLemmas.{numbered_none}
+use Rattle.store_accounts.proofs.VersionLemmas.{version_itself}
+use Rattle.store_accounts.proofs.OrderLemmas.{all_mapped, messages_are, flags_are}
 
 abbrev alice : List ℕ
 alice = codes "alice"
@@ -93,7 +93,7 @@ rows_show_account = record {
 messages_of_inbox : messages_in hers.folders (codes "INBOX") ≡ codes "M1" ∷ codes "M2" ∷ []
 messages_of_inbox = messages_are (first ∷ second ∷ third ∷ []) (codes "INBOX")
 
-flags_of_inbox : flags_in hers.flags (codes "INBOX") ≡ [] ∷ [] ∷ []
+flags_of_inbox : folder_flags hers.flags (codes "INBOX") ≡ [] ∷ [] ∷ []
 flags_of_inbox = flags_are (first ∷ second ∷ third ∷ []) (codes "INBOX")
 
 -- what the rows of the copies become: one cell more, which is empty
@@ -102,10 +102,10 @@ three_copies : map flagless (map (second_copy_row alice) (first ∷ second ∷ t
 three_copies = refl
 
 -- near miss: a folder whose message has a flag
-not_flagged : (rows messages : List Row) (folders flags : Folders) (next : ℕ) (folder : List ℕ) → ShowsSecondCopies alice rows messages folders flags next → flags_in flags folder ≡ codes "\\Seen" ∷ [] → ⊥
+not_flagged : (rows messages : List Row) (folders flags : Folders) (next : ℕ) (folder : List ℕ) → ShowsSecondCopies alice rows messages folders flags next → folder_flags flags folder ≡ codes "\\Seen" ∷ [] → ⊥
 not_flagged rows messages folders flags next folder s has =
-    let bare = all_mapped (λ (f : List ℕ). f ≡ []) (λ (c : Copy). c.flags) (filter (is_in folder) s.entries) (all-filter IsBare (is_in folder) s.entries s.bare) in
-    let told : codes "\\Seen" ∷ [] ≡ map (λ (c : Copy). c.flags) (filter (is_in folder) s.entries) = sym has ∙ ap (λ m. flags_in m folder) s.shown_flags ∙ flags_are s.entries folder in
+    let bare = all_mapped (λ (f : List ℕ). f ≡ []) (λ (c : Copy). c.flags) (filter (is_in folder) s.entries) (all-filter IsUnflagged (is_in folder) s.entries s.bare) in
+    let told : codes "\\Seen" ∷ [] ≡ map (λ (c : Copy). c.flags) (filter (is_in folder) s.entries) = sym has ∙ ap (λ m. folder_flags m folder) s.shown_flags ∙ flags_are s.entries folder in
     let one = subst (AllByRecursion (λ (f : List ℕ). f ≡ [])) (sym told) bare in
     let none = one.0 in
     cc

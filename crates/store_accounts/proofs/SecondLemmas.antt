@@ -7,30 +7,30 @@ use Rattle.std.proofs.lemmas.List.Sorted.{length_permutation, IsPermutation-tran
 use Rattle.sqlite_value.specs.Order.{Row}
 use Rattle.sqlite_keyed.proofs.ListLemmas.{filter-map, IsPermutation-filter}
 use Rattle.sqlite.specs.Effect.{Database}
-use Rattle.mailtables.specs.Rows.{Tables}
-use Rattle.mailtables.specs.MetaTable.{meta_tree}
-use Rattle.mailtables.specs.AccountTable.{account_tree}
-use Rattle.mailtables.specs.ScriptTable.{script_tree}
-use Rattle.mailtables.specs.QueueTable.{outgoing_tree}
-use Rattle.mailtables.specs.ReplyTable.{reply_tree}
-use Rattle.mailtables.specs.NoticeTable.{notice_tree}
-use Rattle.mailtables.specs.MessageTable.{message_tree}
-use Rattle.mailtables.specs.CopyTable.{copy_tree}
-use Rattle.oldtables.specs.SecondSchema.{second_schema, second_unindexed_schema, flagless}
-use Rattle.oldtables.specs.Third.{IsThird, TurnsThird}
-use Rattle.mailstore.specs.Account.{Account, Accounts, Folders}
-use Rattle.mailstore.specs.CopyRows.{Copy, copy_row, ShowsCopies, IsBare}
-use Rattle.mailstore.specs.ScriptRows.{ShowsScripts}
-use Rattle.mailstore.specs.QueueRows.{ShowsQueue}
-use Rattle.mailstore.specs.ReplyRows.{ShowsReplies}
-use Rattle.mailstore.specs.NoticeRows.{ShowsNotices}
-use Rattle.mailstore.specs.Shows.{rows_of, IsShown, IsAbsent, IsShownOrAbsent, ShowsAccounts, Presents}
-use Rattle.mailstore.specs.SecondShows.{second_copy_row, ShowsSecondCopies, IsShownSecond, IsAbsentSecond, IsShownSecondOrAbsent, ShowsSecondAccounts, HoldsSecond}
-use Rattle.mailstore.proofs.OldLemmas.{is_theirs, renewed_version}
+use Rattle.store_tables.specs.Rows.{Tables}
+use Rattle.store_tables.specs.MetaTable.{meta_tree}
+use Rattle.store_tables.specs.AccountTable.{account_tree}
+use Rattle.store_tables.specs.ScriptTable.{scripts_tree}
+use Rattle.store_tables.specs.QueueTable.{outgoing_tree}
+use Rattle.store_tables.specs.ReplyTable.{reply_tree}
+use Rattle.store_tables.specs.NoticeTable.{notice_tree}
+use Rattle.store_tables.specs.MessageTable.{message_tree}
+use Rattle.store_tables.specs.CopyTable.{copy_tree}
+use Rattle.store_versions.specs.SecondSchema.{second_schema, second_unindexed_schema, flagless}
+use Rattle.store_versions.specs.Third.{IsThird, TurnsThird}
+use Rattle.store_accounts.specs.Account.{Account, Accounts, Folders}
+use Rattle.store_accounts.specs.CopyRows.{Copy, copy_row, ShowsCopies, IsUnflagged}
+use Rattle.store_accounts.specs.ScriptRows.{ShowsScripts}
+use Rattle.store_accounts.specs.QueueRows.{ShowsQueue}
+use Rattle.store_accounts.specs.ReplyRows.{ShowsReplies}
+use Rattle.store_accounts.specs.NoticeRows.{ShowsNotices}
+use Rattle.store_accounts.specs.Shows.{rows_of, IsShown, IsAbsent, IsShownOrAbsent, ShowsAccounts, Presents}
+use Rattle.store_accounts.specs.SecondShows.{second_copy_row, ShowsSecondCopies, IsShownSecond, IsAbsentSecond, IsShownSecondOrAbsent, ShowsSecondAccounts, HoldsSecond}
+use Rattle.store_accounts.proofs.OldLemmas.{is_theirs, renewed_version}
 
 module _ (user : List ℕ) where
   -- of copies without flags the rows are those of version 3
-  same_copies : (entries : List Copy) → AllByRecursion IsBare entries → map flagless (map (second_copy_row user) entries) ≡ map (copy_row user) entries
+  same_copies : (entries : List Copy) → AllByRecursion IsUnflagged entries → map flagless (map (second_copy_row user) entries) ≡ map (copy_row user) entries
   same_copies [] bare = refl
   same_copies (c ∷ entries) bare = rw (bare.0, same_copies entries bare.1) refl
 

@@ -12,27 +12,27 @@ use Rattle.sqlite_typed.proofs.TestLemmas.{at_texts}
 use Rattle.sqlite_schema.specs.Rules.{equal}
 use Rattle.sqlite_value.specs.Order.{Row, column}
 use Rattle.sqlite_trees.specs.Tree.{IsAscending}
-use Rattle.mailtables.specs.Rows.{Tables, has_key}
-use Rattle.mailstore.specs.Account.{Account, Accounts, messages_in, flags_in}
-use Rattle.mailtables.specs.MetaTable.{meta_tree, version_key, version_row}
-use Rattle.mailtables.specs.AccountTable.{account_tree}
-use Rattle.mailstore.specs.AccountRows.{account_row}
-use Rattle.mailtables.specs.ScriptTable.{script_tree, script_cells}
-use Rattle.mailstore.specs.QueueRows.{queue_row}
-use Rattle.mailstore.specs.NoticeRows.{notice_row}
+use Rattle.store_tables.specs.Rows.{Tables, has_key}
+use Rattle.store_accounts.specs.Account.{Account, Accounts, messages_in, folder_flags}
+use Rattle.store_tables.specs.MetaTable.{meta_tree, version_key, version_row}
+use Rattle.store_tables.specs.AccountTable.{account_tree}
+use Rattle.store_accounts.specs.AccountRows.{account_row}
+use Rattle.store_tables.specs.ScriptTable.{scripts_tree, script_cells}
+use Rattle.store_accounts.specs.QueueRows.{queue_row}
+use Rattle.store_accounts.specs.NoticeRows.{notice_row}
 use Rattle.sqlite_rules.specs.Lists.{Has}
-use Rattle.mailstore.specs.Delivery.{copied}
-use Rattle.mailtables.specs.Changes.{copy_removed, message_removed}
-use Rattle.mailstore.specs.Taking.{copy_taken}
-use Rattle.mailstore.specs.MessageRows.{Message, message_row}
-use Rattle.mailtables.specs.MessageTable.{message_cells, message_tree}
-use Rattle.mailtables.specs.CopyTable.{copy_tree, n_column, copy_cells}
-use Rattle.mailstore.specs.CopyRows.{Copy, copy_row, folders_from, flags_from, message_of, HasCopy, AreKept, ShowsCopies, is_in, leaving_of, numbered_of}
-use Rattle.mailstore.specs.Shows.{IsShown, IsAbsent, IsFirstOf, ShowsAccounts}
-use Rattle.mailstore.specs.declared.taking.NumberedMessage.{NumberedMessage}
-use Rattle.mailstore.proofs.NumberLemmas.{numbered_none}
-use Rattle.mailstore.proofs.VersionLemmas.{version_itself}
-use Rattle.mailstore.proofs.OrderLemmas.{messages_are, flags_are}
+use Rattle.store_accounts.specs.Delivery.{copied}
+use Rattle.store_tables.specs.Changes.{copy_removed, message_removed}
+use Rattle.store_accounts.specs.Taking.{copy_taken}
+use Rattle.store_accounts.specs.MessageRows.{Message, message_row}
+use Rattle.store_tables.specs.MessageTable.{message_cells, message_tree}
+use Rattle.store_tables.specs.CopyTable.{copy_tree, n_column, copy_cells}
+use Rattle.store_accounts.specs.CopyRows.{Copy, copy_row, folders_from, flags_from, message_of, HasCopy, AreKept, ShowsCopies, is_in, leaving_of, numbered_of}
+use Rattle.store_accounts.specs.Shows.{IsShown, IsAbsent, IsFirstOf, ShowsAccounts}
+use Rattle.store_accounts.specs.declared.taking.NumberedMessage.{NumberedMessage}
+use Rattle.store_accounts.proofs.NumberLemmas.{numbered_none}
+use Rattle.store_accounts.proofs.VersionLemmas.{version_itself}
+use Rattle.store_accounts.proofs.OrderLemmas.{messages_are, flags_are}
 
 abbrev alice : List ℕ
 alice = codes "alice"
@@ -65,7 +65,7 @@ hers = record {
 abbrev her_rows : ℕ → List Row → List Row → Tables
 her_rows next_copy messages copies tree =
     cond (tree == account_tree) (account_row alice hers next_copy 1 ∷ [])
-    (cond (tree == script_tree) (script_cells alice (codes "main") (codes "keep;") ∷ []) (cond (tree == message_tree) messages (cond (tree == copy_tree) copies [])))
+    (cond (tree == scripts_tree) (script_cells alice (codes "main") (codes "keep;") ∷ []) (cond (tree == message_tree) messages (cond (tree == copy_tree) copies [])))
 
 -- one row of a message for its two copies
 abbrev her_messages : List Row
@@ -136,7 +136,7 @@ messages_by_number : messages_in hers.folders (codes "INBOX") ≡ codes "one" �
 messages_by_number = messages_are (first ∷ second ∷ third ∷ []) (codes "INBOX")
 
 -- and so are their flags
-flags_by_number : flags_in hers.flags (codes "INBOX") ≡ codes "\\Seen" ∷ [] ∷ []
+flags_by_number : folder_flags hers.flags (codes "INBOX") ≡ codes "\\Seen" ∷ [] ∷ []
 flags_by_number = flags_are (first ∷ second ∷ third ∷ []) (codes "INBOX")
 
 -- a message in three folders has one row, with the number of its first copy
@@ -234,7 +234,7 @@ not_twice a messages next c = at c.entries (length_permutation _ _ c.numbered.ro
         omega (arith, one, other, less)
 
 -- near miss: a script of a name that has no account
-not_orphaned : IsAbsent (λ tree. cond (tree == script_tree) (script_cells alice (codes "main") (codes "keep;") ∷ []) []) → ⊥
+not_orphaned : IsAbsent (λ tree. cond (tree == scripts_tree) (script_cells alice (codes "main") (codes "keep;") ∷ []) []) → ⊥
 not_orphaned s = let e = s.scripts in cc
 
 -- a row of the version is found by its key

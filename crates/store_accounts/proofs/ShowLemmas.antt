@@ -8,23 +8,23 @@ use Rattle.sqlite_value.specs.declared.value.Value.TheVariants.{Blob, Int}
 use Rattle.sqlite_value.specs.Order.{Row}
 use Rattle.sqlite_trees.specs.Tree.{with_tree}
 use Rattle.sqlite_keyed.specs.Lists.{update_where, delete_where}
-use Rattle.mailtables.specs.Rows.{Tables, has_key}
-use Rattle.mailtables.proofs.ListLemmas.{owner_key, pair_key, owned_by, owners_apart, pair_apart, filter_pushed, filter_beside, filter_kept, filter_unset}
-use Rattle.mailtables.specs.declared.change.Change.{Change}
-use Rattle.mailtables.specs.declared.change.Change.TheVariants.{AddAccount, SetActive, SetCounters, SetAddress, SetPassword, SetRounds, AddScript, RemoveScript, RemoveScripts, AddMessage, RemoveMessage, RemoveMessages, AddCopy, RemoveCopy, RemoveCopies, AddOutgoing, RemoveOutgoing, RemoveQueue, AddReply, RemoveReply, AddNotice, RemoveNotices, RemoveEarlyNotices}
-use Rattle.mailtables.specs.Cells.{or_null, contents}
-use Rattle.mailtables.specs.Changes.{made_one, made, owner_of, AreOf}
-use Rattle.mailstore.specs.Account.{bytes_cmp, Account, Accounts}
-use Rattle.mailtables.specs.AccountTable.{account_cells, with_active, with_counters, with_address, with_password, with_rounds, account_tree}
-use Rattle.mailtables.specs.ScriptTable.{script_cells, script_tree}
-use Rattle.mailtables.specs.MessageTable.{message_cells, message_key, message_tree}
-use Rattle.mailtables.specs.CopyTable.{copy_cells, copy_key, copy_tree}
-use Rattle.mailtables.specs.QueueTable.{queue_cells, queue_key, outgoing_tree}
-use Rattle.mailtables.specs.ReplyTable.{reply_cells, reply_key, reply_tree}
-use Rattle.mailtables.specs.NoticeTable.{notice_row_cells, is_early_notice, notice_tree}
-use Rattle.mailstore.proofs.KeyLemmas.{key_apart}
-use Rattle.mailstore.specs.Shows.{rows_of, IsShown, IsShownOrAbsent, ShowsAccounts}
-use Rattle.mailtables.specs.MetaTable.{meta_tree, version_key}
+use Rattle.store_tables.specs.Rows.{Tables, has_key}
+use Rattle.store_tables.proofs.ListLemmas.{owner_key, pair_key, owned_by, owners_apart, pair_apart, filter_pushed, filter_beside, filter_kept, filter_unset}
+use Rattle.store_tables.specs.declared.change.Change.{Change}
+use Rattle.store_tables.specs.declared.change.Change.TheVariants.{AddAccount, SetActive, SetCounters, SetAddress, SetPassword, SetRounds, AddScript, RemoveScript, RemoveScripts, AddMessage, RemoveMessage, RemoveMessages, AddCopy, RemoveCopy, RemoveCopies, AddOutgoing, RemoveOutgoing, RemoveQueue, AddReply, RemoveReply, AddNotice, RemoveNotices, RemoveEarlyNotices}
+use Rattle.store_tables.specs.Cells.{or_null, borrowed_octets}
+use Rattle.store_tables.specs.Changes.{made_one, made, change_owner, AreOf}
+use Rattle.store_accounts.specs.Account.{bytes_cmp, Account, Accounts}
+use Rattle.store_tables.specs.AccountTable.{account_cells, with_active, with_counters, with_address, with_password, with_rounds, account_tree}
+use Rattle.store_tables.specs.ScriptTable.{script_cells, scripts_tree}
+use Rattle.store_tables.specs.MessageTable.{message_cells, message_key, message_tree}
+use Rattle.store_tables.specs.CopyTable.{copy_cells, copy_key, copy_tree}
+use Rattle.store_tables.specs.QueueTable.{queue_cells, queue_key, outgoing_tree}
+use Rattle.store_tables.specs.ReplyTable.{reply_cells, reply_key, reply_tree}
+use Rattle.store_tables.specs.NoticeTable.{notice_row_cells, is_early_notice, notice_tree}
+use Rattle.store_accounts.proofs.KeyLemmas.{key_apart}
+use Rattle.store_accounts.specs.Shows.{rows_of, IsShown, IsShownOrAbsent, ShowsAccounts}
+use Rattle.store_tables.specs.MetaTable.{meta_tree, version_key}
 
 -- the filter of a user, after one tree got other rows
 filter_tree : (p : Row → Bool) (tables : Tables) (tree : ℕ) (rows : List Row) (t : ℕ) → filter p (with_tree tables tree rows t) ≡ with_tree (λ s. filter p (tables s)) tree (filter p rows) t
@@ -74,15 +74,15 @@ begins_apart : (a b : List ℕ) → a ≢ b → (rest : Row) → has_key (owner_
 begins_apart a b differ rest = owners_apart a b differ (Blob b ∷ rest) (owned_by b rest)
 
 -- a change leaves the rows of other users
-others_one : (d : Change) (user : List ℕ) (tables : Tables) → user ≢ owner_of d → rows_of user (made_one d tables) ≡ rows_of user tables
+others_one : (d : Change) (user : List ℕ) (tables : Tables) → user ≢ change_owner d → rows_of user (made_one d tables) ≡ rows_of user tables
 others_one (AddAccount name address salt rounds digest) user tables differ = same_trees user tables account_tree _ (filter_beside (has_key (owner_key user)) (tables account_tree) _ (begins_apart user name.now differ (drop 1 (account_cells name.now address.now salt.now rounds digest.now))))
 others_one (SetActive name active) user tables differ =
-    same_trees user tables account_tree _ (filter_unset (has_key (owner_key user)) (has_key (owner_key name.now)) (owners_apart user name.now differ) (with_active (or_null (contents active))) (owners_apart user name.now differ) (tables account_tree))
+    same_trees user tables account_tree _ (filter_unset (has_key (owner_key user)) (has_key (owner_key name.now)) (owners_apart user name.now differ) (with_active (or_null (borrowed_octets active))) (owners_apart user name.now differ) (tables account_tree))
 others_one (SetCounters name copy out notice) user tables differ =
     same_trees user tables account_tree _ (filter_unset (has_key (owner_key user)) (has_key (owner_key name.now)) (owners_apart user name.now differ) (with_counters copy out notice) (owners_apart user name.now differ) (tables account_tree))
-others_one (AddScript owner name text) user tables differ = same_trees user tables script_tree _ (filter_beside (has_key (owner_key user)) (tables script_tree) _ (begins_apart user owner.now differ (drop 1 (script_cells owner.now name.now text.now))))
+others_one (AddScript owner name text) user tables differ = same_trees user tables scripts_tree _ (filter_beside (has_key (owner_key user)) (tables scripts_tree) _ (begins_apart user owner.now differ (drop 1 (script_cells owner.now name.now text.now))))
 others_one (RemoveScript owner name) user tables differ =
-    same_trees user tables script_tree _ (filter_kept (has_key (owner_key user)) (has_key (pair_key owner.now name.now)) (pair_apart user name.now owner.now differ) (tables script_tree))
+    same_trees user tables scripts_tree _ (filter_kept (has_key (owner_key user)) (has_key (pair_key owner.now name.now)) (pair_apart user name.now owner.now differ) (tables scripts_tree))
 others_one (AddMessage owner id bytes) user tables differ = same_trees user tables message_tree _ (filter_beside (has_key (owner_key user)) (tables message_tree) _ (begins_apart user owner.now differ (drop 1 (message_cells owner.now id bytes.now))))
 others_one (RemoveMessage owner id) user tables differ =
     same_trees user tables message_tree _ (filter_kept (has_key (owner_key user)) (has_key (message_key owner.now id)) (key_apart user owner.now (Int id ∷ []) differ) (tables message_tree))
@@ -106,7 +106,7 @@ others_one (SetPassword name salt rounds digest) user tables differ =
 others_one (SetRounds name rounds) user tables differ =
     same_trees user tables account_tree _ (filter_unset (has_key (owner_key user)) (has_key (owner_key name.now)) (owners_apart user name.now differ) (with_rounds rounds) (owners_apart user name.now differ) (tables account_tree))
 others_one (RemoveScripts owner) user tables differ =
-    same_trees user tables script_tree _ (filter_kept (has_key (owner_key user)) (has_key (owner_key owner.now)) (owners_apart user owner.now differ) (tables script_tree))
+    same_trees user tables scripts_tree _ (filter_kept (has_key (owner_key user)) (has_key (owner_key owner.now)) (owners_apart user owner.now differ) (tables scripts_tree))
 others_one (RemoveMessages owner) user tables differ =
     same_trees user tables message_tree _ (filter_kept (has_key (owner_key user)) (has_key (owner_key owner.now)) (owners_apart user owner.now differ) (tables message_tree))
 others_one (RemoveCopies owner) user tables differ =
@@ -119,14 +119,14 @@ others_one (RemoveEarlyNotices owner until) user tables differ =
     same_trees user tables notice_tree _ (filter_kept (has_key (owner_key user)) (is_early_notice owner.now until) (λ cells early. owners_apart user owner.now differ cells (and_parts _ _ early).0) (tables notice_tree))
 
 -- and is made in those of its owner
-own_one : (d : Change) (tables : Tables) → rows_of (owner_of d) (made_one d tables) ≡ made_one d (rows_of (owner_of d) tables)
+own_one : (d : Change) (tables : Tables) → rows_of (change_owner d) (made_one d tables) ≡ made_one d (rows_of (change_owner d) tables)
 own_one (AddAccount name address salt rounds digest) tables = own_trees name.now tables account_tree _ _ (filter_pushed (has_key (owner_key name.now)) (tables account_tree) _ (owned_by name.now (drop 1 (account_cells name.now address.now salt.now rounds digest.now))))
 own_one (SetActive name active) tables =
-    own_trees name.now tables account_tree _ _ (update_swapped (has_key (owner_key name.now)) (has_key (owner_key name.now)) (with_active (or_null (contents active))) (λ r h. (h, h)) (tables account_tree))
+    own_trees name.now tables account_tree _ _ (update_swapped (has_key (owner_key name.now)) (has_key (owner_key name.now)) (with_active (or_null (borrowed_octets active))) (λ r h. (h, h)) (tables account_tree))
 own_one (SetCounters name copy out notice) tables =
     own_trees name.now tables account_tree _ _ (update_swapped (has_key (owner_key name.now)) (has_key (owner_key name.now)) (with_counters copy out notice) (λ r h. (h, h)) (tables account_tree))
-own_one (AddScript owner name text) tables = own_trees owner.now tables script_tree _ _ (filter_pushed (has_key (owner_key owner.now)) (tables script_tree) _ (owned_by owner.now (drop 1 (script_cells owner.now name.now text.now))))
-own_one (RemoveScript owner name) tables = own_trees owner.now tables script_tree _ _ (filter_swapped (has_key (owner_key owner.now)) (has_key (pair_key owner.now name.now)) (tables script_tree))
+own_one (AddScript owner name text) tables = own_trees owner.now tables scripts_tree _ _ (filter_pushed (has_key (owner_key owner.now)) (tables scripts_tree) _ (owned_by owner.now (drop 1 (script_cells owner.now name.now text.now))))
+own_one (RemoveScript owner name) tables = own_trees owner.now tables scripts_tree _ _ (filter_swapped (has_key (owner_key owner.now)) (has_key (pair_key owner.now name.now)) (tables scripts_tree))
 own_one (AddMessage owner id bytes) tables = own_trees owner.now tables message_tree _ _ (filter_pushed (has_key (owner_key owner.now)) (tables message_tree) _ (owned_by owner.now (drop 1 (message_cells owner.now id bytes.now))))
 own_one (RemoveMessage owner id) tables =
     own_trees owner.now tables message_tree _ _ (filter_swapped (has_key (owner_key owner.now)) (has_key (message_key owner.now id)) (tables message_tree))
@@ -146,7 +146,7 @@ own_one (SetPassword name salt rounds digest) tables =
     own_trees name.now tables account_tree _ _ (update_swapped (has_key (owner_key name.now)) (has_key (owner_key name.now)) (with_password salt.now rounds digest.now) (λ r h. (h, h)) (tables account_tree))
 own_one (SetRounds name rounds) tables =
     own_trees name.now tables account_tree _ _ (update_swapped (has_key (owner_key name.now)) (has_key (owner_key name.now)) (with_rounds rounds) (λ r h. (h, h)) (tables account_tree))
-own_one (RemoveScripts owner) tables = own_trees owner.now tables script_tree _ _ (filter_swapped (has_key (owner_key owner.now)) (has_key (owner_key owner.now)) (tables script_tree))
+own_one (RemoveScripts owner) tables = own_trees owner.now tables scripts_tree _ _ (filter_swapped (has_key (owner_key owner.now)) (has_key (owner_key owner.now)) (tables scripts_tree))
 own_one (RemoveMessages owner) tables = own_trees owner.now tables message_tree _ _ (filter_swapped (has_key (owner_key owner.now)) (has_key (owner_key owner.now)) (tables message_tree))
 own_one (RemoveCopies owner) tables = own_trees owner.now tables copy_tree _ _ (filter_swapped (has_key (owner_key owner.now)) (has_key (owner_key owner.now)) (tables copy_tree))
 own_one (RemoveQueue owner) tables = own_trees owner.now tables outgoing_tree _ _ (filter_swapped (has_key (owner_key owner.now)) (has_key (owner_key owner.now)) (tables outgoing_tree))

@@ -3,9 +3,9 @@ use Rattle.std.proofs.Common.{◌≡◌, ◌≢◌, ℕ, true, false, List, [], 
 use Rattle.std.specs.Prelude.{◌==◌, ◌||◌, not}
 use Rattle.std.specs.FinMap.{get, get-empty, get-insert, len-empty}
 use Rattle.std.proofs.lemmas.Cmp.{nat_list_cmp_total}
-use Rattle.mailtables.specs.declared.queue.Kind.TheVariants.{Redirect}
-use Rattle.mailstore.specs.declared.notice.Notice.{Notice}
-use Rattle.mailstore.specs.Account.{bytes_cmp, reply_cmp, Account, Accounts, Password, is_closed, is_removed, open_one, known_one, open_of, has_mail, keeps_script, keeps_active, addresses, guards, closes, opens, takes_notices, removes, renews, remembers, queues, files_copies, new_account, with_user, in_place}
+use Rattle.store_tables.specs.declared.queue.QueuedKind.TheVariants.{Redirect}
+use Rattle.store_accounts.specs.declared.notice.Notice.{Notice}
+use Rattle.store_accounts.specs.Account.{bytes_cmp, reply_cmp, Account, Accounts, Password, is_closed_account, is_removed, open_one, known_one, open_account_of, has_mail, keeps_script, keeps_active, changes_address, changes_password, closes, opens, takes_notices, removes, renews, remembers, queues, files_copies, new_account, with_user, in_place}
 
 abbrev alice : List ℕ
 alice = codes "alice"
@@ -19,7 +19,7 @@ other = record { salt = codes "salt"; rounds = 10000; digest = codes "digest" }
 -- ---- open, closed, removed
 
 -- a closed account is closed, and all of it is there
-closed_keeps : (a : Account) → (is_closed (closes a) ≡ true) × ((closes a).folders ≡ a.folders) × ((closes a).password.digest ≡ a.password.digest)
+closed_keeps : (a : Account) → (is_closed_account (closes a) ≡ true) × ((closes a).folders ≡ a.folders) × ((closes a).password.digest ≡ a.password.digest)
 closed_keeps a = (refl, refl, refl)
 
 -- opened again, it is as it was
@@ -34,10 +34,10 @@ open_stays : (a : Account) → a.password.rounds ≡ 10000 → open_one (Some a)
 open_stays a is = rw is refl
 
 -- nothing of a closed account is found, nor of none
-closed_unfound : (accounts : Accounts) (a : Account) → get accounts alice ≡ Some (closes a) → open_of accounts alice ≡ None
+closed_unfound : (accounts : Accounts) (a : Account) → get accounts alice ≡ Some (closes a) → open_account_of accounts alice ≡ None
 closed_unfound accounts a has = ap open_one has
 
-absent_unfound : (accounts : Accounts) → get accounts alice ≡ None → open_of accounts alice ≡ None
+absent_unfound : (accounts : Accounts) → get accounts alice ≡ None → open_account_of accounts alice ≡ None
 absent_unfound accounts has = ap open_one has
 
 -- a closed account is known, and a removed one isn't
@@ -50,7 +50,7 @@ removed_unknown a = refl
 -- ---- passwords and addresses
 
 -- the new password is the account's, and the rest of it stays
-guarded : (a : Account) → ((guards other a).password ≡ other) × ((guards other a).scripts ≡ a.scripts) × ((guards other a).address ≡ a.address)
+guarded : (a : Account) → ((changes_password other a).password ≡ other) × ((changes_password other a).scripts ≡ a.scripts) × ((changes_password other a).address ≡ a.address)
 guarded a = (refl, refl, refl)
 
 -- near miss: another user's password is changed
@@ -58,19 +58,19 @@ password_of : Option Account → Option Password
 password_of None = None
 password_of (Some a) = Some a.password
 
-others_password : (accounts : Accounts) (a b : Account) → get accounts alice ≡ Some a → get accounts bob ≡ Some b → b.password ≢ other → get (with_user accounts alice (guards other)) bob ≡ Some (guards other b) → ⊥
+others_password : (accounts : Accounts) (a b : Account) → get accounts alice ≡ Some a → get accounts bob ≡ Some b → b.password ≢ other → get (with_user accounts alice (changes_password other)) bob ≡ Some (changes_password other b) → ⊥
 others_password accounts a b has its differs is =
-    let kept : get (with_user accounts alice (guards other)) bob ≡ Some b = ap (λ o. get (in_place accounts alice (guards other) o) bob) has ∙ (get-insert nat_list_cmp_total accounts alice (guards other a) bob ∙ its) in
-    let same : Some (guards other b) ≡ Some b = sym is ∙ kept in
-    let no : other ≡ b.password = let own : guards other b ≡ b = cc in ap (λ (c : Account). c.password) own in
+    let kept : get (with_user accounts alice (changes_password other)) bob ≡ Some b = ap (λ o. get (in_place accounts alice (changes_password other) o) bob) has ∙ (get-insert nat_list_cmp_total accounts alice (changes_password other a) bob ∙ its) in
+    let same : Some (changes_password other b) ≡ Some b = sym is ∙ kept in
+    let no : other ≡ b.password = let own : changes_password other b ≡ b = cc in ap (λ (c : Account). c.password) own in
     differs (sym no)
 
 -- the address is another one, and the moments of replies stay under their keys
-addressed : (a : Account) → ((addresses bob a).address ≡ bob) × ((addresses bob a).replies ≡ a.replies)
+addressed : (a : Account) → ((changes_address bob a).address ≡ bob) × ((changes_address bob a).replies ≡ a.replies)
 addressed a = (refl, refl)
 
 -- near miss: the address isn't changed
-unaddressed : (a : Account) → a.address ≡ alice → addresses bob a ≡ a → ⊥
+unaddressed : (a : Account) → a.address ≡ alice → changes_address bob a ≡ a → ⊥
 unaddressed a is same = let no : bob ≡ alice = ap (λ (b : Account). b.address) same ∙ is in let short : ◌≡◌ {A = ℕ} 3 5 = ap length no in cc
 
 -- ---- scripts
@@ -116,7 +116,7 @@ removed_forgets : (a b : Account) (key : List ℕ × List ℕ) (last : ℕ) → 
 removed_forgets a b key last kept gone is = let no : None ≡ Some last = sym gone ∙ (ap (λ (c : Account). get c.replies key) is ∙ kept) in cc
 
 -- the name added again: the address and the password are new, and whom it answered is still known
-renewed : (a : Account) → (is_closed (renews bob other a) ≡ false) × ((renews bob other a).address ≡ bob) × ((renews bob other a).replies ≡ a.replies) × ((renews bob other a).next_out ≡ a.next_out)
+renewed : (a : Account) → (is_closed_account (renews bob other a) ≡ false) × ((renews bob other a).address ≡ bob) × ((renews bob other a).replies ≡ a.replies) × ((renews bob other a).next_out ≡ a.next_out)
 renewed a = (refl, refl, refl, refl)
 
 -- near miss: it is the same as an account that was never there, where the old one had answered

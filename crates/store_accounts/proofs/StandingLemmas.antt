@@ -2,17 +2,17 @@
 use Rattle.std.proofs.Common.{◌≡◌, ◌↔◌, ◌==◌, ◌||◌, IsTrue, not, length, map, [], ◌∷◌, ◌∙◌, suc, ℕ, Bool, true, false, cond, List, Option, Some, None, IsSome, IfSome, refl, sym, ap, subst}
 use Rattle.std.proofs.Math.Dec.{eqb-suc-zero}
 use Rattle.std.specs.FinMap.{get, len, entries, len-entries}
-use Rattle.mailstore.specs.declared.folder.Folder.{Folder}
-use Rattle.mailstore.specs.declared.head.Head.{Head}
-use Rattle.mailstore.specs.HeadRows.{head_of}
-use Rattle.mailstore.specs.Tally.{AreFolders, count_of, size_of}
-use Rattle.mailstore.specs.Account.{Account, Accounts, is_closed, open_one, open_of, has_mail}
-use Rattle.mailstore.specs.Promises.{HasUser, IsFree, OfUser, HasOpen, HasNoOpen, OfOpen}
+use Rattle.store_accounts.specs.declared.folder.Folder.{Folder}
+use Rattle.store_accounts.specs.declared.queued_envelope.QueuedEnvelope.{QueuedEnvelope}
+use Rattle.store_accounts.specs.HeadRows.{queued_envelope}
+use Rattle.store_accounts.specs.Tally.{AreFolders, folder_count, folder_size}
+use Rattle.store_accounts.specs.Account.{Account, Accounts, is_closed_account, open_one, open_account_of, has_mail}
+use Rattle.store_accounts.specs.Promises.{HasUser, IsFree, OfUser, HasOpen, HasNoOpen, OfOpen}
 
 -- an account that is open is there
 pub open_there : (o : Option Account) (a : Account) → open_one o ≡ Some a → o ≡ Some a
 open_there None a is = absurd (let no = is in cc)
-open_there (Some b) a is = go (is_closed b) is
+open_there (Some b) a is = go (is_closed_account b) is
   where
     go : (closed : Bool) → cond closed None (Some b) ≡ Some a → Some b ≡ Some a
     go true told = absurd (let no = told in cc)
@@ -33,10 +33,10 @@ pub free_shut : (accounts : Accounts) (user : List ℕ) → IsFree user accounts
 free_shut accounts user free = ap open_one free
 
 -- an account with rounds is open, and one without is not
-pub open_with : (accounts : Accounts) (user : List ℕ) (a : Account) → get accounts user ≡ Some a → is_closed a ≡ false → open_of accounts user ≡ Some a
+pub open_with : (accounts : Accounts) (user : List ℕ) (a : Account) → get accounts user ≡ Some a → is_closed_account a ≡ false → open_account_of accounts user ≡ Some a
 open_with accounts user a has is = ap open_one has ∙ ap (λ b. cond b None (Some a)) is
 
-pub shut_with : (accounts : Accounts) (user : List ℕ) (a : Account) → get accounts user ≡ Some a → is_closed a ≡ true → HasNoOpen user accounts
+pub shut_with : (accounts : Accounts) (user : List ℕ) (a : Account) → get accounts user ≡ Some a → is_closed_account a ≡ true → HasNoOpen user accounts
 shut_with accounts user a has is = ap open_one has ∙ ap (λ b. cond b None (Some a)) is
 
 -- ---- mail
@@ -52,13 +52,13 @@ empty_is (x ∷ xs) true h = absurd (let no = h.0 refl in cc)
 empty_is (x ∷ xs) false h = eqb-suc-zero (length xs)
 
 counted_all : (folders : List Folder) (a : Account) → AreFolders folders a → length folders ≡ len a.folders
-counted_all folders a are = sym (no_more count_of folders) ∙ (ap length are ∙ (no_more size_of (entries a.folders) ∙ sym (len-entries a.folders)))
+counted_all folders a are = sym (no_more folder_count folders) ∙ (ap length are ∙ (no_more folder_size (entries a.folders) ∙ sym (len-entries a.folders)))
 
 -- there is mail where a folder is counted
 pub mail_filed : (folders : List Folder) (a : Account) → (length folders == 0) ≡ false → AreFolders folders a → true ≡ has_mail a
 mail_filed folders a some are = sym (ap (λ b. not b || not (length a.queue == 0)) (sym (ap (λ n. n == 0) (counted_all folders a are)) ∙ some))
 
 -- and where none is, by the rows of the queue
-pub mail_queued : (folders : List Folder) (heads : List Head) (a : Account) → (length folders == 0) ≡ true → AreFolders folders a → heads ≡ map head_of a.queue → not (length heads == 0) ≡ has_mail a
+pub mail_queued : (folders : List Folder) (heads : List QueuedEnvelope) (a : Account) → (length folders == 0) ≡ true → AreFolders folders a → heads ≡ map queued_envelope a.queue → not (length heads == 0) ≡ has_mail a
 mail_queued folders heads a none are is =
-    ap (λ n. not (n == 0)) (ap length is ∙ no_more head_of a.queue) ∙ sym (ap (λ b. not b || not (length a.queue == 0)) (sym (ap (λ n. n == 0) (counted_all folders a are)) ∙ none))
+    ap (λ n. not (n == 0)) (ap length is ∙ no_more queued_envelope a.queue) ∙ sym (ap (λ b. not b || not (length a.queue == 0)) (sym (ap (λ n. n == 0) (counted_all folders a are)) ∙ none))

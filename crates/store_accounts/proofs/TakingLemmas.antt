@@ -11,23 +11,23 @@ use Rattle.sqlite_rules.proofs.ListLemmas.{all_has, all_from, some_has, has_filt
 use Rattle.sqlite_keyed.specs.Lists.{delete_where}
 use Rattle.sqlite_keyed.proofs.ListLemmas.{all-filter, all_weaker, ascending-filter, filter_all, none_from_any, slice_get-filter}
 use Rattle.sqlite_typed.proofs.TestLemmas.{at_blobs, at_ints, last_term, then_term, same_bytes, bytes_eq_refl}
-use Rattle.mailtables.specs.Rows.{Tables, has_key}
-use Rattle.mailtables.proofs.ListLemmas.{equal_itself, filter_kept}
-use Rattle.mailtables.specs.declared.change.Change.{Change}
-use Rattle.mailstore.specs.declared.taking.Leaving.{Leaving}
-use Rattle.mailstore.specs.Account.{bytes_cmp, Account, Accounts, Folders, with_user, in_place, messages_in, filed, holding, left_in, takes_mail}
-use Rattle.mailtables.specs.Changes.{made, copy_removed, message_removed}
-use Rattle.mailstore.specs.Taking.{message_left, copy_taken, AreTaking}
-use Rattle.mailstore.specs.CopyRows.{Copy, copy_row, message_of, HasCopy, AreKept, filed_from, filing_of, is_in, is_other_copy, leaving_of}
-use Rattle.mailtables.specs.CopyTable.{copy_key, copy_tree}
-use Rattle.mailstore.specs.MessageRows.{Message, message_row}
-use Rattle.mailtables.specs.MessageTable.{message_key, message_tree}
-use Rattle.mailstore.specs.Shows.{rows_of, IsShown, IsShownOrAbsent, ShowsAccounts, IsLeaving}
-use Rattle.mailstore.specs.Promises.{HasUser}
-use Rattle.mailstore.proofs.AccountLemmas.{bytes_antisymmetric, message_is, same_numbers}
-use Rattle.mailstore.proofs.NumberLemmas.{alone_at, numbered_without}
-use Rattle.mailstore.proofs.OrderLemmas.{filed_are}
-use Rattle.mailstore.proofs.ShowLemmas.{filter_swapped, shows_after}
+use Rattle.store_tables.specs.Rows.{Tables, has_key}
+use Rattle.store_tables.proofs.ListLemmas.{equal_itself, filter_kept}
+use Rattle.store_tables.specs.declared.change.Change.{Change}
+use Rattle.store_accounts.specs.declared.taking.Leaving.{Leaving}
+use Rattle.store_accounts.specs.Account.{bytes_cmp, Account, Accounts, Folders, with_user, in_place, messages_in, filed, holding, left_in, takes_mail}
+use Rattle.store_tables.specs.Changes.{made, copy_removed, message_removed}
+use Rattle.store_accounts.specs.Taking.{message_left, copy_taken, AreTaking}
+use Rattle.store_accounts.specs.CopyRows.{Copy, copy_row, message_of, HasCopy, AreKept, filed_from, filing_of, is_in, is_other_copy, leaving_of}
+use Rattle.store_tables.specs.CopyTable.{copy_key, copy_tree}
+use Rattle.store_accounts.specs.MessageRows.{Message, message_row}
+use Rattle.store_tables.specs.MessageTable.{message_key, message_tree}
+use Rattle.store_accounts.specs.Shows.{rows_of, IsShown, IsShownOrAbsent, ShowsAccounts, IsLeaving}
+use Rattle.store_accounts.specs.Promises.{HasUser}
+use Rattle.store_accounts.proofs.AccountLemmas.{bytes_antisymmetric, message_is, same_numbers}
+use Rattle.store_accounts.proofs.NumberLemmas.{alone_at, numbered_without}
+use Rattle.store_accounts.proofs.OrderLemmas.{filed_are}
+use Rattle.store_accounts.proofs.ShowLemmas.{filter_swapped, shows_after}
 
 -- ---- the folders that copies make
 

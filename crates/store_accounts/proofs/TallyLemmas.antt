@@ -8,15 +8,15 @@ use Rattle.std.proofs.lemmas.Cmp.{nat_list_cmp_total, nat_cmp_total, tied_itself
 use Rattle.std.specs.Cmp.Lexicographic.{pointwise}
 use Rattle.std.proofs.lemmas.List.Sums.{sum_by-cons}
 use Rattle.std.proofs.lemmas.List.Sorted.{sum_by-IsPermutation}
-use Rattle.mailstore.specs.Account.{bytes_cmp, Folders, messages_in, filed}
-use Rattle.mailstore.specs.CopyRows.{Copy, folders_from}
-use Rattle.mailstore.specs.Tally.{counted, tallied, count_of, size_of}
-use Rattle.mailstore.proofs.AccountLemmas.{bytes_antisymmetric}
-use Rattle.mailstore.proofs.MapLemmas.{entries_rise}
+use Rattle.store_accounts.specs.Account.{bytes_cmp, Folders, messages_in, filed}
+use Rattle.store_accounts.specs.CopyRows.{Copy, folders_from}
+use Rattle.store_accounts.specs.Tally.{counted, tallied, folder_count, folder_size}
+use Rattle.store_accounts.proofs.AccountLemmas.{bytes_antisymmetric}
+use Rattle.store_accounts.proofs.MapLemmas.{entries_rise}
 use Rattle.sqlite_trees.specs.Tree.{IsAscending}
 use Rattle.sqlite_keyed.proofs.ListLemmas.{all_weaker, ascending-map}
 use Rattle.sqlite_typed.proofs.TestLemmas.{same_bytes}
-use Rattle.mailstore.specs.declared.folder.Folder.{Folder}
+use Rattle.store_accounts.specs.declared.folder.Folder.{Folder}
 
 abbrev Below : List ℕ → List ℕ → Type 0
 Below a b = bytes_cmp a b ≡ Less
@@ -32,7 +32,7 @@ less_if_other Greater h k = absurd (true≢false h)
 
 -- how often a name was counted
 abbrev so_far : List ℕ → List Folder → Option ℕ
-so_far q fs = find bytes_cmp q (map count_of fs)
+so_far q fs = find bytes_cmp q (map folder_count fs)
 
 abbrev raised : Bool → Option ℕ → Option ℕ
 raised true o = Some (unwrap_or o 0 + 1)
@@ -191,9 +191,9 @@ same_sorted es fs up more same =
     let maps : from_sorted {R = bytes_cmp} es ≡ from_sorted fs = same_map nat_list_cmp_total bytes_antisymmetric _ _ (λ q. get-from_sorted bytes_cmp es q one ∙ same q ∙ sym (get-from_sorted bytes_cmp fs q two)) in
     sym (entries-from_sorted bytes_cmp es one) ∙ ap entries maps ∙ entries-from_sorted bytes_cmp fs two
 
-find_sizes : (q : List ℕ) (es : List (List ℕ × List (List ℕ))) → find bytes_cmp q (map size_of es) ≡ option_map length (find bytes_cmp q es)
+find_sizes : (q : List ℕ) (es : List (List ℕ × List (List ℕ))) → find bytes_cmp q (map folder_size es) ≡ option_map length (find bytes_cmp q es)
 find_sizes q [] = refl
-find_sizes q (e ∷ es) = elim (is_eq (bytes_cmp q e.0)) as (λ b. cond b (Some (length e.1)) (find bytes_cmp q (map size_of es)) ≡ option_map length (cond b (Some e.1) (find bytes_cmp q es))) [ true ↦ refl | false ↦ find_sizes q es ]
+find_sizes q (e ∷ es) = elim (is_eq (bytes_cmp q e.0)) as (λ b. cond b (Some (length e.1)) (find bytes_cmp q (map folder_size es)) ≡ option_map length (cond b (Some e.1) (find bytes_cmp q es))) [ true ↦ refl | false ↦ find_sizes q es ]
 
 -- the size of a folder, after one message more
 size_joined : (q : List ℕ) (m : Folders) (c : Copy) → option_map length (get (filed m c.folder c.message) q) ≡ raised (is_eq (bytes_cmp q c.folder)) (option_map length (get m q))
@@ -219,16 +219,16 @@ times-permutation q xs ys same = counted_by ys ∙ sum_by-IsPermutation (λ x. o
     counted_by [] = refl
     counted_by (z ∷ zs) = ap (λ n. one_if (is_eq (bytes_cmp q z)) + n) (counted_by zs) ∙ sym (sum_by-cons (λ x. one_if (is_eq (bytes_cmp q x))) z zs)
 
-rising_counts : (fs : List Folder) → Rising fs → IsAscending (λ a b. Below a.0 b.0) (map count_of fs)
-rising_counts fs up = ascending-map (λ a b. Below a.0 b.0) count_of fs up
+rising_counts : (fs : List Folder) → Rising fs → IsAscending (λ a b. Below a.0 b.0) (map folder_count fs)
+rising_counts fs up = ascending-map (λ a b. Below a.0 b.0) folder_count fs up
 
-rising_sizes : (es : List (List ℕ × List (List ℕ))) → IsAscending (λ a b. Below a.0 b.0) es → IsAscending (λ a b. Below a.0 b.0) (map size_of es)
-rising_sizes es up = ascending-map (λ a b. Below a.0 b.0) size_of es up
+rising_sizes : (es : List (List ℕ × List (List ℕ))) → IsAscending (λ a b. Below a.0 b.0) es → IsAscending (λ a b. Below a.0 b.0) (map folder_size es)
+rising_sizes es up = ascending-map (λ a b. Below a.0 b.0) folder_size es up
 
 -- names in order, counted, are the folders of the copies with their sizes
-pub tally_is : (copies : List Copy) (names : List (List ℕ)) → IsPermutation (map (λ c. c.folder) copies) names → InOrder names → map count_of (tallied names) ≡ map size_of (entries (folders_from copies))
+pub tally_is : (copies : List Copy) (names : List (List ℕ)) → IsPermutation (map (λ c. c.folder) copies) names → InOrder names → map folder_count (tallied names) ≡ map folder_size (entries (folders_from copies))
 tally_is copies names same order =
     let m = folders_from copies in
-    same_sorted (map count_of (tallied names)) (map size_of (entries m)) (rising_counts (tallied names) (tally_rises names [] order tt tt)) (rising_sizes (entries m) (entries_rise bytes_cmp nat_list_cmp_total bytes_antisymmetric m))
+    same_sorted (map folder_count (tallied names)) (map folder_size (entries m)) (rising_counts (tallied names) (tally_rises names [] order tt tt)) (rising_sizes (entries m) (entries_rise bytes_cmp nat_list_cmp_total bytes_antisymmetric m))
     (λ q. tally_finds q names [] order tt tt ∙ ap (λ n. with_more n None) (times-permutation q (map (λ c. c.folder) copies) names same)
     ∙ sym (find_sizes q (entries m) ∙ ap (option_map length) (sym (get-entries m q)) ∙ sizes_joined q copies empty ∙ ap (λ o. with_more (times q (map (λ c. c.folder) copies)) (option_map length o)) (get-empty bytes_cmp q)))

@@ -9,33 +9,33 @@ use Rattle.sqlite_sql.specs.declared.ops.CompareOp.TheVariants.{Le}
 use Rattle.sqlite_keyed.specs.Lists.{update_where, delete_where}
 use Rattle.sqlite_keyed.proofs.ListLemmas.{filter-map, filter_same}
 use Rattle.sqlite_typed.proofs.TestLemmas.{at_ints}
-use Rattle.mailtables.specs.Rows.{Tables, has_key, added, removed, removed_where, set_in}
-use Rattle.mailtables.proofs.ListLemmas.{owner_key, owned_by, equal_itself}
-use Rattle.mailtables.specs.Cells.{or_null}
-use Rattle.mailtables.specs.AccountTable.{with_active, with_address, with_password, with_rounds, account_tree}
-use Rattle.mailtables.specs.ScriptTable.{script_cells, script_tree}
-use Rattle.mailtables.specs.QueueTable.{outgoing_tree}
-use Rattle.mailtables.specs.MessageTable.{message_tree}
-use Rattle.mailtables.specs.CopyTable.{copy_tree}
-use Rattle.mailtables.specs.NoticeTable.{is_early_notice, notice_tree}
-use Rattle.mailtables.specs.Changes.{owned_removed}
-use Rattle.mailtables.specs.declared.change.Change.{Change}
-use Rattle.mailtables.specs.declared.change.Change.TheVariants.{SetActive, SetAddress, SetPassword, SetRounds, AddScript, RemoveScript, RemoveScripts, RemoveQueue, RemoveCopies, RemoveMessages, RemoveNotices, RemoveEarlyNotices}
-use Rattle.mailstore.specs.declared.notice.Notice.{Notice}
+use Rattle.store_tables.specs.Rows.{Tables, has_key, row_added, rows_removed, removed_where, set_in}
+use Rattle.store_tables.proofs.ListLemmas.{owner_key, owned_by, equal_itself}
+use Rattle.store_tables.specs.Cells.{or_null}
+use Rattle.store_tables.specs.AccountTable.{with_active, with_address, with_password, with_rounds, account_tree}
+use Rattle.store_tables.specs.ScriptTable.{script_cells, scripts_tree}
+use Rattle.store_tables.specs.QueueTable.{outgoing_tree}
+use Rattle.store_tables.specs.MessageTable.{message_tree}
+use Rattle.store_tables.specs.CopyTable.{copy_tree}
+use Rattle.store_tables.specs.NoticeTable.{is_early_notice, notice_tree}
+use Rattle.store_tables.specs.Changes.{owned_removed}
+use Rattle.store_tables.specs.declared.change.Change.{Change}
+use Rattle.store_tables.specs.declared.change.Change.TheVariants.{SetActive, SetAddress, SetPassword, SetRounds, AddScript, RemoveScript, RemoveScripts, RemoveQueue, RemoveCopies, RemoveMessages, RemoveNotices, RemoveEarlyNotices}
+use Rattle.store_accounts.specs.declared.notice.Notice.{Notice}
 use Rattle.std.specs.FinMap.{empty}
-use Rattle.mailstore.specs.declared.queue.Outgoing.{Outgoing}
-use Rattle.mailstore.specs.Account.{Account, addresses, guards, rounds_set, takes_notices, empties, empties_under, renews, keeps_active, with_user}
-use Rattle.mailstore.specs.NoticeRows.{notice_row}
-use Rattle.mailstore.specs.QueueRows.{queue_row}
-use Rattle.mailstore.specs.ScriptRows.{script_row}
-use Rattle.mailstore.specs.MessageRows.{Message, message_row}
-use Rattle.mailstore.specs.CopyRows.{Copy, copy_row}
-use Rattle.mailstore.specs.Numbers.{AreNumbered}
-use Rattle.mailstore.specs.Promises.{HasUser}
-use Rattle.mailstore.specs.Shows.{IsShown}
-use Rattle.mailstore.proofs.NumberLemmas.{numbered_without}
-use Rattle.mailstore.proofs.AccountLemmas.{active_put, script_put}
-use Rattle.mailstore.proofs.CallLemmas.{Carries, carries_user}
+use Rattle.store_accounts.specs.declared.queue.QueuedMessage.{QueuedMessage}
+use Rattle.store_accounts.specs.Account.{Account, changes_address, changes_password, with_password_rounds, takes_notices, empties, empties_under, renews, keeps_active, with_user}
+use Rattle.store_accounts.specs.NoticeRows.{notice_row}
+use Rattle.store_accounts.specs.QueueRows.{queue_row}
+use Rattle.store_accounts.specs.ScriptRows.{script_row}
+use Rattle.store_accounts.specs.MessageRows.{Message, message_row}
+use Rattle.store_accounts.specs.CopyRows.{Copy, copy_row}
+use Rattle.store_accounts.specs.Numbers.{AreNumbered}
+use Rattle.store_accounts.specs.Promises.{HasUser}
+use Rattle.store_accounts.specs.Shows.{IsShown}
+use Rattle.store_accounts.proofs.NumberLemmas.{numbered_without}
+use Rattle.store_accounts.proofs.AccountLemmas.{active_put, script_put}
+use Rattle.store_accounts.proofs.CallLemmas.{Carries, carries_user}
 
 -- a notice's row is early where its moment is
 early_is : (user : List ℕ) (until : ℕ) (e : ℕ × Notice) → is_early_notice user (pos until) (notice_row user e) ≡ nat_le e.1.moment until
@@ -45,7 +45,7 @@ later_stays : (m until : ℕ) → nat_lt until m ≡ not (nat_le m until)
 later_stays m until = grind (arith, nat_tests)
 
 module _ (user : List ℕ) (own : Tables) (a : Account) (s : IsShown user own a) where
-  pub address_put : (address : List ℕ) → IsShown user (set_in account_tree (owner_key user) (with_address address) own) (addresses address a)
+  pub address_put : (address : List ℕ) → IsShown user (set_in account_tree (owner_key user) (with_address address) own) (changes_address address a)
   address_put address = record {
     next_copy = s.next_copy;
     next_notice = s.next_notice;
@@ -58,7 +58,7 @@ module _ (user : List ℕ) (own : Tables) (a : Account) (s : IsShown user own a)
   }
 
   pub password_put : (salt : List ℕ) (rounds : ℕ) (digest : List ℕ)
-      → IsShown user (set_in account_tree (owner_key user) (with_password salt rounds digest) own) (guards (record { salt = salt; rounds = rounds; digest = digest }) a)
+      → IsShown user (set_in account_tree (owner_key user) (with_password salt rounds digest) own) (changes_password (record { salt = salt; rounds = rounds; digest = digest }) a)
   password_put salt rounds digest = record {
     next_copy = s.next_copy;
     next_notice = s.next_notice;
@@ -70,7 +70,7 @@ module _ (user : List ℕ) (own : Tables) (a : Account) (s : IsShown user own a)
     copies = s.copies;
   }
 
-  pub rounds_put : (rounds : ℕ) → IsShown user (set_in account_tree (owner_key user) (with_rounds rounds) own) (rounds_set rounds a)
+  pub rounds_put : (rounds : ℕ) → IsShown user (set_in account_tree (owner_key user) (with_rounds rounds) own) (with_password_rounds rounds a)
   rounds_put rounds = record {
     next_copy = s.next_copy;
     next_notice = s.next_notice;
@@ -116,7 +116,7 @@ numbered_gone number row user owned rows entries next h =
     subst (λ l. AreNumbered number row (delete_where (has_key (owner_key user)) rows) l next) (all_gone entries) (numbered_without number row (has_key (owner_key user)) (λ x. true) owned rows entries next h)
 
 module _ (user : List ℕ) (own : Tables) (a : Account) (s : IsShown user own a) where
-  scripts_gone : IsShown user (owned_removed script_tree user own) (record a { scripts = empty })
+  scripts_gone : IsShown user (owned_removed scripts_tree user own) (record a { scripts = empty })
   scripts_gone = record {
     next_copy = s.next_copy;
     next_notice = s.next_notice;
@@ -139,7 +139,7 @@ module _ (user : List ℕ) (own : Tables) (a : Account) (s : IsShown user own a)
     next_notice = s.next_notice;
     account_is = s.account_is;
     scripts = s.scripts;
-    queue = numbered_gone (λ (q : Outgoing). q.id) (queue_row user) user (λ q. owned_by user (drop 1 (queue_row user q))) (own outgoing_tree) a.queue a.next_out s.queue;
+    queue = numbered_gone (λ (q : QueuedMessage). q.id) (queue_row user) user (λ q. owned_by user (drop 1 (queue_row user q))) (own outgoing_tree) a.queue a.next_out s.queue;
     replies = s.replies;
     notices = s.notices;
     copies = s.copies;
@@ -185,7 +185,7 @@ module _ (user : List ℕ) (own : Tables) (a : Account) (s : IsShown user own a)
 abbrev pub emptied : List ℕ → Tables → Tables
 emptied user own =
     set_in account_tree (owner_key user) (with_active (or_null None))
-    (owned_removed message_tree user (owned_removed copy_tree user (owned_removed notice_tree user (owned_removed outgoing_tree user (owned_removed script_tree user own)))))
+    (owned_removed message_tree user (owned_removed copy_tree user (owned_removed notice_tree user (owned_removed outgoing_tree user (owned_removed scripts_tree user own)))))
 
 pub emptied_shown : (user : List ℕ) (own : Tables) (a : Account) → IsShown user own a → IsShown user (emptied user own) (empties a)
 emptied_shown user own a s =
@@ -193,16 +193,16 @@ emptied_shown user own a s =
 
 -- ---- the writes
 
-pub carries_address : (user address : Bor (List ℕ)) → Carries (SetAddress user address ∷ []) (HasUser user.now) (λ all. with_user all user.now (addresses address.now))
-carries_address user address = carries_user user.now (SetAddress user address ∷ []) (addresses address.now) (refl, tt) (λ own a s. address_put user.now own a s address.now)
+pub carries_address : (user address : Bor (List ℕ)) → Carries (SetAddress user address ∷ []) (HasUser user.now) (λ all. with_user all user.now (changes_address address.now))
+carries_address user address = carries_user user.now (SetAddress user address ∷ []) (changes_address address.now) (refl, tt) (λ own a s. address_put user.now own a s address.now)
 
 pub carries_password : (user salt : Bor (List ℕ)) (rounds : ℕ) (digest : Bor (List ℕ))
-    → Carries (SetPassword user salt rounds digest ∷ []) (HasUser user.now) (λ all. with_user all user.now (guards (record { salt = salt.now; rounds = rounds; digest = digest.now })))
+    → Carries (SetPassword user salt rounds digest ∷ []) (HasUser user.now) (λ all. with_user all user.now (changes_password (record { salt = salt.now; rounds = rounds; digest = digest.now })))
 carries_password user salt rounds digest =
-    carries_user user.now (SetPassword user salt rounds digest ∷ []) (guards (record { salt = salt.now; rounds = rounds; digest = digest.now })) (refl, tt) (λ own a s. password_put user.now own a s salt.now rounds digest.now)
+    carries_user user.now (SetPassword user salt rounds digest ∷ []) (changes_password (record { salt = salt.now; rounds = rounds; digest = digest.now })) (refl, tt) (λ own a s. password_put user.now own a s salt.now rounds digest.now)
 
-pub carries_rounds : (user : Bor (List ℕ)) (rounds : ℕ) → Carries (SetRounds user rounds ∷ []) (HasUser user.now) (λ all. with_user all user.now (rounds_set rounds))
-carries_rounds user rounds = carries_user user.now (SetRounds user rounds ∷ []) (rounds_set rounds) (refl, tt) (λ own a s. rounds_put user.now own a s rounds)
+pub carries_rounds : (user : Bor (List ℕ)) (rounds : ℕ) → Carries (SetRounds user rounds ∷ []) (HasUser user.now) (λ all. with_user all user.now (with_password_rounds rounds))
+carries_rounds user rounds = carries_user user.now (SetRounds user rounds ∷ []) (with_password_rounds rounds) (refl, tt) (λ own a s. rounds_put user.now own a s rounds)
 
 pub carries_active_script : (user name text other : Bor (List ℕ)) → other.now ≡ name.now
     → Carries (RemoveScript user name ∷ AddScript user name text ∷ SetActive user (Some other) ∷ []) (HasUser user.now) (λ all. with_user all user.now (keeps_active name.now text.now))

@@ -1,11 +1,11 @@
 -- The next user, by example, and near misses.
 use Rattle.std.proofs.Common.{◌≡◌, ℕ, List, [], ◌∷◌, codes, Some, None, refl, sym, ap, ◌∙◌, inl, inr, Less, is_some, true, false, true≢false}
 use Rattle.std.specs.FinMap.{get-empty}
-use Rattle.mailtables.specs.Rows.{Tables}
-use Rattle.mailtables.specs.AccountTable.{account_cells}
-use Rattle.mailstore.specs.Account.{bytes_cmp, no_accounts}
-use Rattle.mailstore.specs.Promises.{HasUser}
-use Rattle.mailstore.specs.Users.{IsLaterName, IsNamed, IsNextUser}
+use Rattle.store_tables.specs.Rows.{Tables}
+use Rattle.store_tables.specs.AccountTable.{account_cells}
+use Rattle.store_accounts.specs.Account.{bytes_cmp, no_accounts}
+use Rattle.store_accounts.specs.Promises.{HasUser}
+use Rattle.store_accounts.specs.Users.{IsLaterName, HasAccountRow, IsNextUser}
 
 -- by octets, and not by letters
 by-octets : IsLaterName (codes "Zoe") (codes "alice")
@@ -22,11 +22,11 @@ not-itself h = cc
 abbrev one : Tables
 one tree = account_cells (codes "alice") (codes "bob") [] 1 [] ∷ []
 
-is-named : IsNamed one (codes "alice")
+is-named : HasAccountRow one (codes "alice")
 is-named = inl refl
 
 -- near miss: not by the address
-not-named : IsNamed one (codes "bob") → ⊥
+not-named : HasAccountRow one (codes "bob") → ⊥
 not-named (inl e) = cc
 not-named (inr none) = none
 

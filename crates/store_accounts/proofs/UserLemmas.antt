@@ -23,27 +23,27 @@ use Rattle.sqlite.specs.Listing.{understood, reads_listing}
 use Rattle.sqlite.specs.State.{State, Shown, HasCleanDisk}
 use Rattle.sqlite.specs.declared.error.Error.{Error}
 use Rattle.sqlite.proofs.Callers.{IsPlain, command_of}
-use Rattle.mailtables.specs.Forms.{first_over}
-use Rattle.mailtables.specs.Rows.{Tables, HoldsTables, has_key}
-use Rattle.mailtables.specs.Schema.{mail_schema}
-use Rattle.mailtables.specs.AccountTable.{account, account_tree}
-use Rattle.mailtables.proofs.AnswerLemmas.{has_map, has_unmap}
-use Rattle.mailtables.proofs.FirstRowLemmas.{first_row}
-use Rattle.mailtables.proofs.ListLemmas.{owner_key, equal_itself}
-use Rattle.mailtables.proofs.ReadLemmas.{answered_nth}
-use Rattle.mailtables.proofs.SchemaFacts.{account_listed}
-use Rattle.mailtables.proofs.TextFacts.{exceeds}
-use Rattle.mailstore.specs.Account.{Account, Accounts, bytes_cmp}
-use Rattle.mailstore.specs.AccountRows.{account_row}
-use Rattle.mailstore.specs.FirstCells.{first_one, text_cells}
-use Rattle.mailstore.specs.Next.{FindsAll, IsLeast}
-use Rattle.mailstore.specs.Promises.{HasUser}
-use Rattle.mailstore.specs.declared.refusal.Refusal.{Refusal}
-use Rattle.mailstore.specs.Shows.{rows_of, IsShown, IsShownOrAbsent, ShowsAccounts}
-use Rattle.mailstore.specs.Users.{FindsOver, IsLaterName, IsNamed, IsNextUser, ShowLaterUser, select_later_user}
-use Rattle.mailstore.proofs.KeepLemmas.{keeps_ok, keeps_failed, none_if}
-use Rattle.mailstore.proofs.LeastLemmas.{row_least, shown_least}
-use Rattle.mailstore.proofs.NextLemmas.{owner_params}
+use Rattle.store_tables.specs.Forms.{first_over}
+use Rattle.store_tables.specs.Rows.{Tables, HoldsTables, has_key}
+use Rattle.store_tables.specs.Schema.{mail_schema}
+use Rattle.store_tables.specs.AccountTable.{account, account_tree}
+use Rattle.store_tables.proofs.AnswerLemmas.{has_map, has_unmap}
+use Rattle.store_tables.proofs.FirstRowLemmas.{first_row}
+use Rattle.store_tables.proofs.ListLemmas.{owner_key, equal_itself}
+use Rattle.store_tables.proofs.ReadLemmas.{answered_nth}
+use Rattle.store_tables.proofs.SchemaFacts.{account_listed}
+use Rattle.store_tables.proofs.TextFacts.{exceeds}
+use Rattle.store_accounts.specs.Account.{Account, Accounts, bytes_cmp}
+use Rattle.store_accounts.specs.AccountRows.{account_row}
+use Rattle.store_accounts.specs.FirstCells.{first_one, text_cells}
+use Rattle.store_accounts.specs.Next.{FindsAll, IsLeast}
+use Rattle.store_accounts.specs.Promises.{HasUser}
+use Rattle.store_accounts.specs.declared.refusal.Refusal.{Refusal}
+use Rattle.store_accounts.specs.Shows.{rows_of, IsShown, IsShownOrAbsent, ShowsAccounts}
+use Rattle.store_accounts.specs.Users.{FindsOver, IsLaterName, HasAccountRow, IsNextUser, ShowLaterUser, select_later_user}
+use Rattle.store_accounts.proofs.KeepLemmas.{keeps_ok, keeps_failed, none_if}
+use Rattle.store_accounts.proofs.LeastLemmas.{row_least, shown_least}
+use Rattle.store_accounts.proofs.NextLemmas.{owner_params}
 
 -- ---- the query
 
@@ -106,20 +106,20 @@ module _ (tables : Tables) (accounts : Accounts) (shows : ShowsAccounts tables a
       go None h = absurd (subst (λ l. Has l row) h.accounts there)
       go (Some a) h = refl
 
-  pub named_has_user : IsNamed tables name → HasUser name accounts
+  pub named_has_user : HasAccountRow tables name → HasUser name accounts
   named_has_user named =
       let at = has_unmap first_one (tables account_tree) (text_cells name) named in
       let cell : column at.0 0 ≡ Blob name = cc in
       row_has_user at.0 (has_kept (has_key (owner_key name)) (tables account_tree) at.0 at.1 (rw (cell, equal_itself name) refl))
 
-  user_has_row : (o : Option Account) → IsShownOrAbsent name (rows_of name tables) o → is_some o ≡ true → IsNamed tables name
+  user_has_row : (o : Option Account) → IsShownOrAbsent name (rows_of name tables) o → is_some o ≡ true → HasAccountRow tables name
   user_has_row None h some = absurd (true≢false (sym some))
   user_has_row (Some a) h some =
       let row = account_row name a h.next_copy h.next_notice in
       let there : Has own row = subst (λ l. Has l row) (sym h.account_is) (inl refl) in
       has_map first_one (tables account_tree) row (has_filtered (has_key (owner_key name)) (tables account_tree) row there).0
 
-  pub user_is_named : HasUser name accounts → IsNamed tables name
+  pub user_is_named : HasUser name accounts → HasAccountRow tables name
   user_is_named some = user_has_row (get accounts name) (shows.users name) some
 
 -- ---- the read
@@ -133,15 +133,15 @@ module _ (name : List ℕ) (a b : State) (r : Result (Vec Row Global) Error) (h 
   pub user_found : (rows : Vec Row Global) → r ≡ Ok rows → (q : Result (Option (List ℕ)) Refusal) → IfOk q (λ next. option_map text_cells next ≡ option_map first_one (slice_get rows.items 0)) → FindsOver (IsNextUser name) a b q
   user_found rows was q read = record {
     found = λ clean accounts p.
-        let least = shown_least text_cells first_one bytes_cmp (IsNamed p.0) (IsLaterName name) q rows.items rows.items refl (subst (λ o. IfOk o (λ (z : Vec Row Global). ShowLaterUser name z.items p.0)) was (h.found clean p.0 p.1)) read in
+        let least = shown_least text_cells first_one bytes_cmp (HasAccountRow p.0) (IsLaterName name) q rows.items rows.items refl (subst (λ o. IfOk o (λ (z : Vec Row Global). ShowLaterUser name z.items p.0)) was (h.found clean p.0 p.1)) read in
         told q accounts p.0 p.2 least;
     keeps = keeps_ok a b r rows q was h.keeps;
   }
     where
-      told : (o : Result (Option (List ℕ)) Refusal) (accounts : Accounts) (tables : Tables) → ShowsAccounts tables accounts → IfOk o (λ next. IsLeast bytes_cmp (IsNamed tables) (IsLaterName name) next) → IfOk o (λ next. IsNextUser name next accounts)
+      told : (o : Result (Option (List ℕ)) Refusal) (accounts : Accounts) (tables : Tables) → ShowsAccounts tables accounts → IfOk o (λ next. IsLeast bytes_cmp (HasAccountRow tables) (IsLaterName name) next) → IfOk o (λ next. IsNextUser name next accounts)
       told (Err e) accounts tables shows least = tt
       told (Ok next) accounts tables shows least =
-          least_of_same bytes_cmp (IsNamed tables) (λ user. HasUser user accounts) (IsLaterName name) (λ x named. named_has_user tables accounts shows x named) (λ x some. user_is_named tables accounts shows x some) next least
+          least_of_same bytes_cmp (HasAccountRow tables) (λ user. HasUser user accounts) (IsLaterName name) (λ x named. named_has_user tables accounts shows x named) (λ x some. user_is_named tables accounts shows x some) next least
 
   pub user_refused : (q : Result (Option (List ℕ)) Refusal) → OnOk q ⊥ → FindsOver (IsNextUser name) a b q
   user_refused q none = record { found = λ clean accounts p. none_if q (λ next. IsNextUser name next accounts) none; keeps = keeps_failed a b r q none h.keeps }

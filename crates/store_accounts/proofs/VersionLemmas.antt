@@ -8,8 +8,8 @@ use Rattle.sqlite_typed.proofs.TestLemmas.{at_texts, bytes_eq_refl}
 use Rattle.sqlite_trees.specs.Tree.{Trees}
 use Rattle.sqlite_schema.specs.Rules.{equal}
 use Rattle.sqlite_keyed.proofs.ListLemmas.{filter-map, filter_same}
-use Rattle.mailtables.specs.Rows.{Entry, cells_of, stored, IsHeld, has_key, has_key_from}
-use Rattle.mailtables.specs.MetaTable.{meta_tree, version_key, version_rows, stored_value_column}
+use Rattle.store_tables.specs.Rows.{Entry, cells_of, stored, IsHeld, has_key, has_key_from}
+use Rattle.store_tables.specs.MetaTable.{meta_tree, version_key, version_rows, stored_value_column}
 
 pub version_itself : equal Binary (Text (codes "version")) (Text (codes "version")) ≡ true
 version_itself = at_texts false Eq (codes "version") (codes "version") ∙ bytes_eq_refl (codes "version")

@@ -8,15 +8,15 @@ use Rattle.std.proofs.lemmas.Cmp.{nat_list_cmp_total}
 use Rattle.sqlite_rules.specs.Lists.{Has}
 use Rattle.sqlite_typed.proofs.TestLemmas.{same_bytes, bytes_eq_refl}
 use Rattle.sqlite.specs.State.{State, HasCleanDisk}
-use Rattle.mailtables.proofs.WriteLemmas.{clean_before}
-use Rattle.mailstore.specs.Account.{Account, Accounts, bytes_cmp}
-use Rattle.mailstore.specs.AccountRows.{profile_of}
-use Rattle.mailstore.specs.Promises.{HasUser, ReadsProfile}
-use Rattle.mailstore.specs.Shows.{Presents}
-use Rattle.mailstore.specs.Users.{FindsOver, IsNextUser}
-use Rattle.mailstore.specs.declared.profile.Profile.{Profile}
-use Rattle.mailstore.specs.declared.refusal.Refusal.{Refusal}
-use Rattle.mailstore.proofs.KeepLemmas.{keeps_failed, keeps_then, mid_shows, none_if}
+use Rattle.store_tables.proofs.WriteLemmas.{clean_before}
+use Rattle.store_accounts.specs.Account.{Account, Accounts, bytes_cmp}
+use Rattle.store_accounts.specs.AccountRows.{profile_of}
+use Rattle.store_accounts.specs.Promises.{HasUser, ReadsProfile}
+use Rattle.store_accounts.specs.Shows.{Presents}
+use Rattle.store_accounts.specs.Users.{FindsOver, IsNextUser}
+use Rattle.store_accounts.specs.declared.profile.Profile.{Profile}
+use Rattle.store_accounts.specs.declared.refusal.Refusal.{Refusal}
+use Rattle.store_accounts.proofs.KeepLemmas.{keeps_failed, keeps_then, mid_shows, none_if}
 
 abbrev User : Type 0
 User = List ℕ × Account

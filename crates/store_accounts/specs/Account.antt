@@ -6,13 +6,13 @@ use Rattle.std.specs.List.{find}
 use Rattle.std.specs.Ordering.{nat_cmp, on, then_cmp, is_eq}
 use Rattle.octets.specs.Ascii.{lowered}
 use Rattle.std.specs.Cmp.Lexicographic.{slice_cmp}
-use Rattle.mailflags.specs.declared.placement.Placement.{Placement}
-use Rattle.mailtables.specs.declared.queue.Kind.{Kind}
-use Rattle.mailtables.specs.declared.queue.Kind.TheVariants as kind
-use Rattle.mailstore.specs.declared.queue.Outgoing.{Outgoing}
-use Rattle.mailstore.specs.declared.notice.Notice.{Notice}
-use Rattle.mailstore.specs.declared.report.VacationReply.{VacationReply}
-use Rattle.mailstore.specs.declared.report.Plan.{Plan}
+use Rattle.mail_flags.specs.declared.placement.Placement.{Placement}
+use Rattle.store_tables.specs.declared.queue.QueuedKind.{QueuedKind}
+use Rattle.store_tables.specs.declared.queue.QueuedKind.TheVariants as kind
+use Rattle.store_accounts.specs.declared.queue.QueuedMessage.{QueuedMessage}
+use Rattle.store_accounts.specs.declared.notice.Notice.{Notice}
+use Rattle.store_accounts.specs.declared.report.VacationReply.{VacationReply}
+use Rattle.store_accounts.specs.declared.report.Plan.{Plan}
 
 -- the order of octets
 abbrev pub bytes_cmp : List ℕ → List ℕ → Ordering
@@ -36,8 +36,8 @@ abbrev pub Folders : Type 0
 Folders = FinMap bytes_cmp (List (List ℕ))
 
 -- to the key of a handle and a sender in lower case the moment of the last reply
-abbrev pub Replies : Type 0
-Replies = FinMap reply_cmp ℕ
+abbrev pub ReplyMoments : Type 0
+ReplyMoments = FinMap reply_cmp ℕ
 
 -- one user's account
 pub record Account : Type 0 where
@@ -48,8 +48,8 @@ pub record Account : Type 0 where
   pub folders : Folders
   -- to each folder's name the flags of its messages, as the text that names them, in the same order
   pub flags : Folders
-  pub queue : List Outgoing
-  pub replies : Replies
+  pub queue : List QueuedMessage
+  pub replies : ReplyMoments
   pub notices : List Notice
   -- the number of the next message on its way out
   pub next_out : ℕ
@@ -63,17 +63,17 @@ no_accounts = empty
 -- ---- open, closed and removed accounts
 
 -- a closed account's password has no rounds; its salt and its digest stay
-abbrev pub is_closed : Account → Bool
-is_closed a = a.password.rounds == 0
+abbrev pub is_closed_account : Account → Bool
+is_closed_account a = a.password.rounds == 0
 
 -- a removed account is a closed one without a digest
 abbrev pub is_removed : Account → Bool
-is_removed a = is_closed a && length a.password.digest == 0
+is_removed a = is_closed_account a && length a.password.digest == 0
 
 -- the account, where it is open
 abbrev pub open_one : Option Account → Option Account
 open_one None = None
-open_one (Some a) = cond (is_closed a) None (Some a)
+open_one (Some a) = cond (is_closed_account a) None (Some a)
 
 -- the account, where it is open or closed and not removed
 abbrev pub known_one : Option Account → Option Account
@@ -81,8 +81,8 @@ known_one None = None
 known_one (Some a) = cond (is_removed a) None (Some a)
 
 -- the user's open account
-abbrev pub open_of : Accounts → List ℕ → Option Account
-open_of accounts user = open_one (get accounts user)
+abbrev pub open_account_of : Accounts → List ℕ → Option Account
+open_account_of accounts user = open_one (get accounts user)
 
 -- a message is in a folder, or on its way out
 abbrev pub has_mail : Account → Bool
@@ -130,8 +130,8 @@ abbrev pub messages_in : Folders → List ℕ → List (List ℕ)
 messages_in folders name = unwrap_or (get folders name) []
 
 -- the flags of a folder's messages, none where it is absent
-abbrev pub flags_in : Folders → List ℕ → List (List ℕ)
-flags_in = messages_in
+abbrev pub folder_flags : Folders → List ℕ → List (List ℕ)
+folder_flags = messages_in
 
 -- a message joins the end of its folder; its flags join those of the folder in the same way
 abbrev pub filed : Folders → List ℕ → List ℕ → Folders
@@ -154,14 +154,14 @@ abbrev pub deletes_script : List ℕ → Account → Account
 deletes_script name a = record a { scripts = remove a.scripts name }
 
 -- a message joins the queue, with the account's next number
-abbrev pub queues : Kind → List ℕ → List ℕ → List ℕ → Account → Account
+abbrev pub queues : QueuedKind → List ℕ → List ℕ → List ℕ → Account → Account
 queues kind sender target message a = record a {
   queue = a.queue ++ record { id = a.next_out; kind = kind; sender = sender; target = target; message = message } ∷ [];
   next_out = suc a.next_out;
 }
 
 -- the row of the queue with the number, if there is one
-abbrev pub row_with : ℕ → List Outgoing → Option Outgoing
+abbrev pub row_with : ℕ → List QueuedMessage → Option QueuedMessage
 row_with id rows = find (λ row. row.id == id) rows
 
 -- the row with the number leaves the queue; the number is not used again
@@ -191,28 +191,28 @@ abbrev pub remembers : List ℕ → List ℕ → ℕ → Account → Account
 remembers handle sender moment a = record a { replies = insert a.replies (handle, lowered sender) moment }
 
 -- a notice joins the others
-abbrev pub notes : ℕ → List ℕ → Account → Account
-notes moment text a = record a { notices = a.notices ++ record { moment = moment; text = text } ∷ [] }
+abbrev pub adds_notice : ℕ → List ℕ → Account → Account
+adds_notice moment text a = record a { notices = a.notices ++ record { moment = moment; text = text } ∷ [] }
 
 -- ---- an account that is kept up
 
 -- another address
-abbrev pub addresses : List ℕ → Account → Account
-addresses address a = record a { address = address }
+abbrev pub changes_address : List ℕ → Account → Account
+changes_address address a = record a { address = address }
 
 -- another password
-abbrev pub guards : Password → Account → Account
-guards password a = record a { password = password }
+abbrev pub changes_password : Password → Account → Account
+changes_password password a = record a { password = password }
 
 -- the password has that many rounds: none closes the account, and takes nothing away
-abbrev pub rounds_set : ℕ → Account → Account
-rounds_set rounds a = record a { password = record a.password { rounds = rounds } }
+abbrev pub with_password_rounds : ℕ → Account → Account
+with_password_rounds rounds a = record a { password = record a.password { rounds = rounds } }
 
 abbrev pub closes : Account → Account
-closes = rounds_set 0
+closes = with_password_rounds 0
 
 abbrev pub opens : ℕ → Account → Account
-opens = rounds_set
+opens = with_password_rounds
 
 -- the script is kept and is the active one
 abbrev pub keeps_active : List ℕ → List ℕ → Account → Account
@@ -228,7 +228,7 @@ empties a = record a { scripts = empty; active = None; folders = empty; flags = 
 
 -- the same, and it is closed under this salt and this digest
 abbrev pub empties_under : List ℕ → List ℕ → Account → Account
-empties_under salt digest a = guards (record { salt = salt; rounds = 0; digest = digest }) (empties a)
+empties_under salt digest a = changes_password (record { salt = salt; rounds = 0; digest = digest }) (empties a)
 
 -- the account is closed, and all of it goes but its address, the moments of replies and the numbers
 abbrev pub removes : Account → Account
@@ -236,7 +236,7 @@ removes = empties_under [] []
 
 -- a new account over the moments of replies and the numbers of one that was there
 abbrev pub renews : List ℕ → Password → Account → Account
-renews address password a = guards password (addresses address (empties a))
+renews address password a = changes_password password (changes_address address (empties a))
 
 -- ---- a delivery
 
@@ -249,14 +249,14 @@ abbrev pub replies_if_any : List ℕ → Option VacationReply → Account → Ac
 replies_if_any sender None a = a
 replies_if_any sender (Some reply) a = remembers reply.handle sender reply.moment (queues kind.Reply [] sender reply.message a)
 
-abbrev pub notes_if_any : ℕ → Option (List ℕ) → Account → Account
-notes_if_any moment None a = a
-notes_if_any moment (Some text) a = notes moment text a
+abbrev pub adds_notice_if_any : ℕ → Option (List ℕ) → Account → Account
+adds_notice_if_any moment None a = a
+adds_notice_if_any moment (Some text) a = adds_notice moment text a
 
 -- the message joins the end of each mailbox with its flags there and goes on to each address, the reply is sent and remembered, and the notice joins the others
 abbrev pub delivers : Plan → Account → Account
 delivers plan a =
-    notes_if_any plan.moment plan.report.notice
+    adds_notice_if_any plan.moment plan.report.notice
     (replies_if_any plan.sender.now plan.reply
     (sends_on plan.sender.now plan.message.now plan.report.sent (files_copies plan.filed plan.message.now a)))
 

@@ -2,11 +2,11 @@
 use Rattle.std.specs.Prelude.{◌≡◌, ℕ, pos, List, [], ◌∷◌, Option, Some, None, option_map, slice_get}
 use Rattle.sqlite_value.specs.declared.value.Value.TheVariants.{Int, Blob}
 use Rattle.sqlite_value.specs.Order.{Row, column}
-use Rattle.mailtables.specs.AccountTable.{address_column, salt_column, rounds_column, digest_column, active_column, next_copy_column, next_out_column, next_notice_column}
-use Rattle.mailstore.specs.declared.account.Counters.{Counters}
-use Rattle.mailstore.specs.declared.profile.Profile.{Profile}
-use Rattle.mailtables.specs.Cells.{or_null}
-use Rattle.mailstore.specs.Account.{Account}
+use Rattle.store_tables.specs.AccountTable.{address_column, salt_column, rounds_column, digest_column, active_column, next_copy_column, next_out_column, next_notice_column}
+use Rattle.store_accounts.specs.declared.account.Counters.{Counters}
+use Rattle.store_accounts.specs.declared.profile.Profile.{Profile}
+use Rattle.store_tables.specs.Cells.{or_null}
+use Rattle.store_accounts.specs.Account.{Account}
 
 -- ---- what rows show
 
@@ -47,12 +47,12 @@ IsProfileIn p row =
     × (column row 4 ≡ or_null p.active)
 
 -- the same, and there is one if there is a row
-abbrev pub IsRead : Option Profile → Option Row → Type 0
-IsRead None None = Unit {0}
-IsRead None (Some row) = ⊥
-IsRead (Some p) None = ⊥
-IsRead (Some p) (Some row) = IsProfileIn p row
+abbrev pub IsProfileRead : Option Profile → Option Row → Type 0
+IsProfileRead None None = Unit {0}
+IsProfileRead None (Some row) = ⊥
+IsProfileRead (Some p) None = ⊥
+IsProfileRead (Some p) (Some row) = IsProfileIn p row
 
 -- the first of the rows has these counters
-abbrev pub Counts : List Row → Counters → Type 0
-Counts rows c = option_map shown_counters (slice_get rows 0) ≡ Some (counter_cells c)
+abbrev pub HasCounters : List Row → Counters → Type 0
+HasCounters rows c = option_map shown_counters (slice_get rows 0) ≡ Some (counter_cells c)

@@ -6,13 +6,13 @@ use Rattle.std.specs.Ordering.{is_eq}
 use Rattle.sqlite_value.specs.declared.value.Value.TheVariants.{Int, Blob}
 use Rattle.sqlite_value.specs.Order.{Row}
 use Rattle.sqlite_rules.specs.Lists.{Has}
-use Rattle.mailtables.specs.CopyTable.{copy_cells}
-use Rattle.mailstore.specs.Account.{bytes_cmp, Account, Folders, messages_in, flags_in, filed}
-use Rattle.mailstore.specs.declared.filing.Filing.{Filing}
-use Rattle.mailstore.specs.declared.taking.Leaving.{Leaving}
-use Rattle.mailstore.specs.declared.taking.NumberedMessage.{NumberedMessage}
-use Rattle.mailstore.specs.Numbers.{AreNumbered}
-use Rattle.mailstore.specs.MessageRows.{Message, message_row}
+use Rattle.store_tables.specs.CopyTable.{copy_cells}
+use Rattle.store_accounts.specs.Account.{bytes_cmp, Account, Folders, messages_in, folder_flags, filed}
+use Rattle.store_accounts.specs.declared.filing.Filing.{Filing}
+use Rattle.store_accounts.specs.declared.taking.Leaving.{Leaving}
+use Rattle.store_accounts.specs.declared.taking.NumberedMessage.{NumberedMessage}
+use Rattle.store_accounts.specs.Numbers.{AreNumbered}
+use Rattle.store_accounts.specs.MessageRows.{Message, message_row}
 
 -- ---- what rows show
 
@@ -29,8 +29,8 @@ abbrev pub copy_row : List ℕ → Copy → Row
 copy_row user copy = copy_cells user copy.folder (pos copy.n) (pos copy.id) copy.flags
 
 -- a copy without flags
-abbrev pub IsBare : Copy → Type 0
-IsBare copy = copy.flags ≡ []
+abbrev pub IsUnflagged : Copy → Type 0
+IsUnflagged copy = copy.flags ≡ []
 
 abbrev pub message_of : Copy → Message
 message_of copy = record { id = copy.id; bytes = copy.message }
@@ -108,7 +108,7 @@ HasFirstFlags first flags = option_map (λ m. m.flags) first ≡ slice_get flags
 -- it is the first message of the account's folder, with its flags there, or none if the folder is absent
 pub record IsFirstIn (folder : List ℕ) (first : Option NumberedMessage) (a : Account) : Type 0 where
   pub message : HasFirst first (messages_in a.folders folder)
-  pub flags : HasFirstFlags first (flags_in a.flags folder)
+  pub flags : HasFirstFlags first (folder_flags a.flags folder)
 
 -- these are the messages of the folder, in the order in which they came
 abbrev pub AreMessagesOf : List ℕ → List (List ℕ) → Account → Type 0

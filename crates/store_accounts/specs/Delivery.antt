@@ -1,24 +1,24 @@
 -- What the row changes of a delivery make of the tables.
 use Rattle.std.specs.Prelude.{◌≡◌, ◌+◌, ℕ, suc, ℤ, pos, Option, Some, None, List, [], ◌∷◌, length, Result, OnOk}
-use Rattle.mailflags.specs.declared.placement.Placement.{Placement}
-use Rattle.mailtables.specs.Rows.{Tables}
-use Rattle.mailtables.specs.declared.change.Change.{Change}
+use Rattle.mail_flags.specs.declared.placement.Placement.{Placement}
+use Rattle.store_tables.specs.Rows.{Tables}
+use Rattle.store_tables.specs.declared.change.Change.{Change}
 use Rattle.octets.specs.Ascii.{lowered}
-use Rattle.mailtables.specs.declared.queue.Kind.TheVariants as kind
-use Rattle.mailstore.specs.declared.account.Counters.{Counters}
-use Rattle.mailstore.specs.declared.report.VacationReply.{VacationReply}
-use Rattle.mailstore.specs.declared.report.Plan.{Plan}
-use Rattle.mailstore.specs.declared.refusal.Refusal.{Refusal}
-use Rattle.mailtables.specs.Changes.{AreOf, Extends, message_added, copy_added, outgoing_added, reply_added, reply_removed, notice_added, counters_set, made}
+use Rattle.store_tables.specs.declared.queue.QueuedKind.TheVariants as kind
+use Rattle.store_accounts.specs.declared.account.Counters.{Counters}
+use Rattle.store_accounts.specs.declared.report.VacationReply.{VacationReply}
+use Rattle.store_accounts.specs.declared.report.Plan.{Plan}
+use Rattle.store_accounts.specs.declared.refusal.Refusal.{Refusal}
+use Rattle.store_tables.specs.Changes.{AreOf, ExtendsChanges, message_added, copy_added, outgoing_added, reply_added, reply_removed, notice_added, counters_set, made}
 
 -- after Ok the changes are longer, by some that make this of the user's rows
 abbrev pub Pushes : {X : Type 0} → List ℕ → (Tables → Tables) → List Change → List Change → Result X Refusal → Type 0
-Pushes user change old new result = OnOk result (Extends user change old new)
+Pushes user change old new result = OnOk result (ExtendsChanges user change old new)
 
 -- one change after another, numbered from n on
-abbrev pub in_turn : {X : Type 0} → (ℕ → X → Tables → Tables) → ℕ → List X → Tables → Tables
-in_turn change n [] own = own
-in_turn change n (x ∷ xs) own = in_turn change (suc n) xs (change n x own)
+abbrev pub numbered_changes : {X : Type 0} → (ℕ → X → Tables → Tables) → ℕ → List X → Tables → Tables
+numbered_changes change n [] own = own
+numbered_changes change n (x ∷ xs) own = numbered_changes change (suc n) xs (change n x own)
 
 -- the message is kept once, with the number of its first copy; where no folder has it, it is not kept
 abbrev pub message_kept : List ℕ → List ℕ → ℕ → List Placement → Tables → Tables
@@ -27,7 +27,7 @@ message_kept user message n (copy ∷ copies) own = message_added user (pos n) m
 
 -- a copy of the message with the number id joins each of the mailboxes with its flags there, numbered from n on
 abbrev pub copies_added : List ℕ → ℕ → ℕ → List Placement → Tables → Tables
-copies_added user id = in_turn (λ n copy. copy_added user copy.mailbox (pos n) (pos id) copy.flags)
+copies_added user id = numbered_changes (λ n copy. copy_added user copy.mailbox (pos n) (pos id) copy.flags)
 
 -- the message is kept and joins each of the mailboxes, numbered from n on
 abbrev pub copied : List ℕ → List ℕ → ℕ → List Placement → Tables → Tables
@@ -39,7 +39,7 @@ redirect_added user sender message id target = outgoing_added user id kind.Redir
 
 -- the message joins the queue for each of the addresses, numbered from n on
 abbrev pub sent_on : List ℕ → List ℕ → List ℕ → ℕ → List (List ℕ) → Tables → Tables
-sent_on user sender message = in_turn (λ n target. redirect_added user sender message (pos n) target)
+sent_on user sender message = numbered_changes (λ n target. redirect_added user sender message (pos n) target)
 
 -- the reply, if there is one, joins the queue with the number n, for the sender: its row has its own octets and the empty sender
 abbrev pub reply_queued : List ℕ → List ℕ → ℕ → Option VacationReply → Tables → Tables
@@ -67,8 +67,8 @@ counters_raised user c plan =
     (pos (c.notice + count_of plan.report.notice))
 
 -- what a delivery makes of the user's rows, whose counters were these
-abbrev pub delivered : List ℕ → Counters → Plan → Tables → Tables
-delivered user c plan own =
+abbrev pub delivered_rows : List ℕ → Counters → Plan → Tables → Tables
+delivered_rows user c plan own =
     noticed user c.notice plan.moment plan.report.notice
     (reply_put user (lowered plan.sender.now) plan.reply
     (reply_queued user plan.sender.now (c.out + length plan.report.sent) plan.reply
@@ -79,4 +79,4 @@ delivered user c plan own =
 -- the changes of a delivery to a user whose counters were these
 pub record AreDelivery (user : List ℕ) (c : Counters) (plan : Plan) (changes : List Change) : Type 0 where
   pub owned : AreOf user changes
-  pub makes : (own : Tables) → made own changes ≡ delivered user c plan own
+  pub makes : (own : Tables) → made own changes ≡ delivered_rows user c plan own

@@ -2,10 +2,10 @@
 use Rattle.std.specs.Prelude.{◌≡◌, ℕ, pos, List, [], ◌∷◌, length, map}
 use Rattle.sqlite_value.specs.declared.value.Value.TheVariants.{Int}
 use Rattle.sqlite_value.specs.Order.{Row}
-use Rattle.mailtables.specs.Rows.{Tables}
-use Rattle.mailstore.specs.Account.{Account, messages_in}
-use Rattle.mailstore.specs.CopyRows.{Copy, copies_in}
-use Rattle.mailstore.specs.Shows.{OfCopies}
+use Rattle.store_tables.specs.Rows.{Tables}
+use Rattle.store_accounts.specs.Account.{Account, messages_in}
+use Rattle.store_accounts.specs.CopyRows.{Copy, copies_in}
+use Rattle.store_accounts.specs.Shows.{OfCopies}
 
 -- the numbers of the copies in the folder, in the order of the copies
 abbrev pub numbers_in : List ℕ → List Copy → List ℕ

@@ -2,23 +2,23 @@
 use Rattle.std.specs.Prelude.{◌≡◌, ◌==◌, ℕ, ℤ, pos, List, [], ◌∷◌, codes, map, Option, option_map, slice_get}
 use Rattle.std.specs.List.{find}
 use Rattle.sqlite_value.specs.Order.{Row}
-use Rattle.mailtables.specs.Rows.{Tables}
-use Rattle.mailtables.specs.AccountTable.{account_tree}
-use Rattle.mailstore.specs.declared.account.Counters.{Counters}
-use Rattle.mailstore.specs.declared.filing.Filing.{Filing}
-use Rattle.mailstore.specs.declared.notice.Notice.{Notice}
-use Rattle.mailstore.specs.Account.{Account}
-use Rattle.mailstore.specs.AccountRows.{Counts}
-use Rattle.mailstore.specs.CopyRows.{filing_of, filing_cells}
-use Rattle.mailstore.specs.FolderNumbers.{number_cells}
-use Rattle.mailstore.specs.NoticeRows.{notice_cells}
-use Rattle.mailstore.specs.Shows.{IsShown, OfCopies}
+use Rattle.store_tables.specs.Rows.{Tables}
+use Rattle.store_tables.specs.AccountTable.{account_tree}
+use Rattle.store_accounts.specs.declared.account.Counters.{Counters}
+use Rattle.store_accounts.specs.declared.filing.Filing.{Filing}
+use Rattle.store_accounts.specs.declared.notice.Notice.{Notice}
+use Rattle.store_accounts.specs.Account.{Account}
+use Rattle.store_accounts.specs.AccountRows.{HasCounters}
+use Rattle.store_accounts.specs.CopyRows.{filing_of, filing_cells}
+use Rattle.store_accounts.specs.FolderNumbers.{number_cells}
+use Rattle.store_accounts.specs.NoticeRows.{notice_cells}
+use Rattle.store_accounts.specs.Shows.{IsShown, OfCopies}
 
 -- ---- the counters
 
 -- the row of the user's account has these counters
 abbrev pub AreCountersOf : Counters → Tables → Type 0
-AreCountersOf c own = Counts (own account_tree) c
+AreCountersOf c own = HasCounters (own account_tree) c
 
 -- ---- copies
 

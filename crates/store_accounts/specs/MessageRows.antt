@@ -1,8 +1,8 @@
 -- A user's messages in their rows: each is stored once.
 use Rattle.std.specs.Prelude.{◌≡◌, ◌++◌, ℕ, ℤ, pos, List, [], ◌∷◌}
 use Rattle.sqlite_value.specs.Order.{Row}
-use Rattle.mailflags.specs.declared.placement.Placement.{Placement}
-use Rattle.mailtables.specs.MessageTable.{message_cells}
+use Rattle.mail_flags.specs.declared.placement.Placement.{Placement}
+use Rattle.store_tables.specs.MessageTable.{message_cells}
 
 -- a message with its number
 pub record Message : Type 0 where

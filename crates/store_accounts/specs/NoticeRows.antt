@@ -2,10 +2,10 @@
 use Rattle.std.specs.Prelude.{◌≡◌, ℕ, pos, List, [], ◌∷◌, map}
 use Rattle.sqlite_value.specs.declared.value.Value.TheVariants.{Int, Blob}
 use Rattle.sqlite_value.specs.Order.{Row}
-use Rattle.mailtables.specs.NoticeTable.{notice_row_cells}
-use Rattle.mailstore.specs.declared.notice.Notice.{Notice}
-use Rattle.mailstore.specs.Account.{Account}
-use Rattle.mailstore.specs.Numbers.{AreNumbered}
+use Rattle.store_tables.specs.NoticeTable.{notice_row_cells}
+use Rattle.store_accounts.specs.declared.notice.Notice.{Notice}
+use Rattle.store_accounts.specs.Account.{Account}
+use Rattle.store_accounts.specs.Numbers.{AreNumbered}
 
 -- what the query for the notices shows of one
 abbrev pub notice_cells : Notice → Row

@@ -5,24 +5,24 @@ use Rattle.std.specs.FinMap.{get}
 use Rattle.sqlite_value.specs.declared.value.Value.TheVariants as value
 use Rattle.sqlite_value.specs.Order.{Row}
 use Rattle.sqlite.specs.Effect.{Database}
-use Rattle.mailtables.specs.Rows.{Tables, HoldsTables, has_key}
-use Rattle.mailtables.specs.MetaTable.{meta_tree, version_key}
-use Rattle.mailtables.specs.AccountTable.{account_tree}
-use Rattle.mailtables.specs.ScriptTable.{script_tree}
-use Rattle.mailtables.specs.QueueTable.{outgoing_tree}
-use Rattle.mailtables.specs.ReplyTable.{reply_tree}
-use Rattle.mailtables.specs.NoticeTable.{notice_tree}
-use Rattle.oldtables.specs.OldSchema.{old_schema, oldest_schema, old_copy_tree}
-use Rattle.oldtables.specs.Migration.{IsMoved}
-use Rattle.mailstore.specs.Account.{Account, Accounts, Folders}
-use Rattle.mailstore.specs.AccountRows.{account_row}
-use Rattle.mailstore.specs.ScriptRows.{ShowsScripts}
-use Rattle.mailstore.specs.QueueRows.{ShowsQueue}
-use Rattle.mailstore.specs.ReplyRows.{ShowsReplies}
-use Rattle.mailstore.specs.NoticeRows.{ShowsNotices}
-use Rattle.mailstore.specs.Numbers.{AreNumbered}
-use Rattle.mailstore.specs.CopyRows.{Copy, IsBare, folders_from, flags_from}
-use Rattle.mailstore.specs.OwnRows.{rows_of}
+use Rattle.store_tables.specs.Rows.{Tables, HoldsTables, has_key}
+use Rattle.store_tables.specs.MetaTable.{meta_tree, version_key}
+use Rattle.store_tables.specs.AccountTable.{account_tree}
+use Rattle.store_tables.specs.ScriptTable.{scripts_tree}
+use Rattle.store_tables.specs.QueueTable.{outgoing_tree}
+use Rattle.store_tables.specs.ReplyTable.{reply_tree}
+use Rattle.store_tables.specs.NoticeTable.{notice_tree}
+use Rattle.store_versions.specs.OldSchema.{old_schema, oldest_schema, old_copy_tree}
+use Rattle.store_versions.specs.Migration.{IsMoved}
+use Rattle.store_accounts.specs.Account.{Account, Accounts, Folders}
+use Rattle.store_accounts.specs.AccountRows.{account_row}
+use Rattle.store_accounts.specs.ScriptRows.{ShowsScripts}
+use Rattle.store_accounts.specs.QueueRows.{ShowsQueue}
+use Rattle.store_accounts.specs.ReplyRows.{ShowsReplies}
+use Rattle.store_accounts.specs.NoticeRows.{ShowsNotices}
+use Rattle.store_accounts.specs.Numbers.{AreNumbered}
+use Rattle.store_accounts.specs.CopyRows.{Copy, IsUnflagged, folders_from, flags_from}
+use Rattle.store_accounts.specs.OwnRows.{rows_of}
 
 -- the row of a copy: its folder, its number and its message
 abbrev pub old_copy_row : List ℕ → Copy → Row
@@ -34,7 +34,7 @@ pub record ShowsOldCopies (user : List ℕ) (rows : List Row) (folders flags : F
   pub entries : List Copy
   pub numbered : AreNumbered (λ c. c.n) (old_copy_row user) rows entries next
   pub own : AllByRecursion (λ c. c.id ≡ c.n) entries
-  pub bare : AllByRecursion IsBare entries
+  pub bare : AllByRecursion IsUnflagged entries
   pub shown : folders ≡ folders_from entries
   pub shown_flags : flags ≡ flags_from entries
 
@@ -43,7 +43,7 @@ pub record IsShownOld (user : List ℕ) (own : Tables) (a : Account) : Type 0 wh
   pub next_copy : ℕ
   pub next_notice : ℕ
   pub account_is : own account_tree ≡ account_row user a next_copy next_notice ∷ []
-  pub scripts : ShowsScripts user (own script_tree) a.scripts
+  pub scripts : ShowsScripts user (own scripts_tree) a.scripts
   pub queue : ShowsQueue user (own outgoing_tree) a.queue a.next_out
   pub replies : ShowsReplies user (own reply_tree) a.replies
   pub notices : ShowsNotices user (own notice_tree) a.notices next_notice
@@ -52,7 +52,7 @@ pub record IsShownOld (user : List ℕ) (own : Tables) (a : Account) : Type 0 wh
 -- a name without an account has no row in any table
 pub record IsAbsentOld (own : Tables) : Type 0 where
   pub accounts : own account_tree ≡ []
-  pub scripts : own script_tree ≡ []
+  pub scripts : own scripts_tree ≡ []
   pub queue : own outgoing_tree ≡ []
   pub replies : own reply_tree ≡ []
   pub notices : own notice_tree ≡ []

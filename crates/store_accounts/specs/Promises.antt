@@ -6,22 +6,22 @@ use Rattle.sqlite_value.specs.Order.{Row}
 use Rattle.sqlite_trees.specs.Tree.{Trees}
 use Rattle.sqlite.specs.Effect.{Database}
 use Rattle.sqlite.specs.State.{State, HasCleanDisk, Survives}
-use Rattle.mailtables.specs.Rows.{Tables, HoldsTables}
-use Rattle.mailstore.specs.declared.account.Counters.{Counters}
-use Rattle.mailstore.specs.declared.profile.Profile.{Profile}
-use Rattle.mailstore.specs.declared.report.Plan.{Plan}
-use Rattle.mailstore.specs.declared.refusal.Refusal.{Refusal}
-use Rattle.mailstore.specs.declared.refusal.Refusal.TheVariants.{NoUser}
-use Rattle.mailtables.specs.Schema.{mail_schema}
-use Rattle.mailtables.specs.Connection.{IsSettled, StaysSame}
-use Rattle.mailstore.specs.Account.{Account, Accounts, open_of, renames_script, with_user}
-use Rattle.mailstore.specs.Refusals.{IsTransient}
-use Rattle.mailtables.specs.AccountTable.{account_tree}
-use Rattle.mailstore.specs.AccountRows.{Counts, profile_of}
-use Rattle.mailstore.specs.ScriptRows.{IsRenaming}
-use Rattle.mailtables.specs.MessageTable.{message_tree}
-use Rattle.mailstore.specs.MessageRows.{GainsOnce}
-use Rattle.mailstore.specs.Shows.{rows_of, Presents, ShowsIn}
+use Rattle.store_tables.specs.Rows.{Tables, HoldsTables}
+use Rattle.store_accounts.specs.declared.account.Counters.{Counters}
+use Rattle.store_accounts.specs.declared.profile.Profile.{Profile}
+use Rattle.store_accounts.specs.declared.report.Plan.{Plan}
+use Rattle.store_accounts.specs.declared.refusal.Refusal.{Refusal}
+use Rattle.store_accounts.specs.declared.refusal.Refusal.TheVariants.{NoUser}
+use Rattle.store_tables.specs.Schema.{mail_schema}
+use Rattle.store_tables.specs.Connection.{IsSettled, StaysSame}
+use Rattle.store_accounts.specs.Account.{Account, Accounts, open_account_of, renames_script, with_user}
+use Rattle.store_accounts.specs.Refusals.{IsTransient}
+use Rattle.store_tables.specs.AccountTable.{account_tree}
+use Rattle.store_accounts.specs.AccountRows.{HasCounters, profile_of}
+use Rattle.store_accounts.specs.ScriptRows.{IsRenaming}
+use Rattle.store_tables.specs.MessageTable.{message_tree}
+use Rattle.store_accounts.specs.MessageRows.{GainsOnce}
+use Rattle.store_accounts.specs.Shows.{rows_of, Presents, ShowsIn}
 
 -- a database of our tables
 abbrev pub HasOurTables : Database → Type 0
@@ -41,15 +41,15 @@ OfUser accounts user P = (a : Account) × (get accounts user ≡ Some a) × P a
 
 -- the user has an open account
 abbrev pub HasOpen : List ℕ → Accounts → Type 0
-HasOpen user accounts = IsSome (open_of accounts user)
+HasOpen user accounts = IsSome (open_account_of accounts user)
 
 -- the user has no open account: none at all, or a closed one
 abbrev pub HasNoOpen : List ℕ → Accounts → Type 0
-HasNoOpen user accounts = open_of accounts user ≡ None
+HasNoOpen user accounts = open_account_of accounts user ≡ None
 
 -- the user has an open account, of which this holds
 abbrev pub OfOpen : Accounts → List ℕ → (Account → Type 0) → Type 0
-OfOpen accounts user P = (a : Account) × (open_of accounts user ≡ Some a) × P a
+OfOpen accounts user P = (a : Account) × (open_account_of accounts user ≡ Some a) × P a
 
 -- ---- what holds over our tables
 
@@ -65,7 +65,7 @@ OverAccounts old P = (accounts : Accounts) → Presents old.now accounts → P a
 
 -- reads keep all, whatever they return: over our tables what is seen stays; after Ok the connection is open, and one that a fault of the disk has
 -- shut stays shut; a crash leaves what it left before
-pub record Keeps {X E : Type 0} (old new : State) (result : Result X E) : Type 0 where
+pub record KeepsTables {X E : Type 0} (old new : State) (result : Result X E) : Type 0 where
   pub same : HasCleanDisk new → HasOurTables old.now → StaysSame old new
   pub live : HasCleanDisk new → OnOk result (IsTrue new.is_open)
   pub shut : HasCleanDisk new → IsTrue new.is_open → IsTrue old.is_open
@@ -80,40 +80,40 @@ pub record KeepsSeen {X E : Type 0} (old new : State) (result : Result X E) : Ty
 -- a query for the user's rows in one table: it shows this of each
 pub record FindsOwn {E : Type 0} (user : List ℕ) (tree : ℕ) (show : Row → Row) (old new : State) (result : Result (Vec Row Global) E) : Type 0 where
   pub found : HasCleanDisk new → OverTables old (λ tables. IfOk result (λ rows. rows.items ≡ map show (rows_of user tables tree)))
-  pub keeps : Keeps old new result
+  pub keeps : KeepsTables old new result
 
 -- a query for rows of one user: this holds of them and of the user's account, if there is one
-pub record Finds {E : Type 0} (user : List ℕ) (Part : List Row → Account → Type 0) (old new : State) (result : Result (Vec Row Global) E) : Type 0 where
+pub record FindsUserRows {E : Type 0} (user : List ℕ) (Part : List Row → Account → Type 0) (old new : State) (result : Result (Vec Row Global) E) : Type 0 where
   pub found : HasCleanDisk new → OverAccounts old (λ accounts. IfOk result (λ rows. IfSome (get accounts user) (Part rows.items)))
-  pub keeps : Keeps old new result
+  pub keeps : KeepsTables old new result
 
 -- a read of one user's open account: this holds of the answer and the account; NoUser is answered only if there is no open account, over an open
 -- connection that stays open, and other refusals only if they may come without visible cause
-pub record Reads {X : Type 0} (user : List ℕ) (Part : X → Account → Type 0) (old new : State) (result : Result X Refusal) : Type 0 where
+pub record ReadsOpenAccount {X : Type 0} (user : List ℕ) (Part : X → Account → Type 0) (old new : State) (result : Result X Refusal) : Type 0 where
   pub found : HasCleanDisk new → OverAccounts old (λ accounts. IfOk result (λ x. OfOpen accounts user (Part x)))
   pub absent : HasCleanDisk new → OverAccounts old (λ accounts. IfErr result (λ e. e ≡ NoUser → HasNoOpen user accounts))
   pub sure : HasCleanDisk new → IfErr result (λ e. e ≡ NoUser → IsTrue new.is_open)
-  pub keeps : Keeps old new result
+  pub keeps : KeepsTables old new result
   pub named : IfErr result (λ e. (e ≡ NoUser) ⊎ IsTransient e)
 
 -- a read of an account that was entered, so without a check for it: this holds of the answer and of the account, if there is one; it is refused only
 -- without visible cause
 pub record ReadsEntered {X : Type 0} (user : List ℕ) (Part : X → Account → Type 0) (old new : State) (result : Result X Refusal) : Type 0 where
   pub found : HasCleanDisk new → OverAccounts old (λ accounts. IfOk result (λ x. IfSome (get accounts user) (Part x)))
-  pub keeps : Keeps old new result
+  pub keeps : KeepsTables old new result
   pub named : IfErr result IsTransient
 
 -- the read of the counters in the row of the user's account
 pub record ReadsCounters (user : List ℕ) (old new : State) (result : Result Counters Refusal) : Type 0 where
-  pub found : HasCleanDisk new → OverTables old (λ tables. IfOk result (Counts (rows_of user tables account_tree)))
+  pub found : HasCleanDisk new → OverTables old (λ tables. IfOk result (HasCounters (rows_of user tables account_tree)))
   pub absent : HasCleanDisk new → OverTables old (λ tables. IfErr result (λ e. e ≡ NoUser → rows_of user tables account_tree ≡ []))
-  pub keeps : Keeps old new result
+  pub keeps : KeepsTables old new result
   pub named : IfErr result (λ e. (e ≡ NoUser) ⊎ IsTransient e)
 
 -- a query for one user: this holds of what it finds and of all rows that the user has
 pub record FindsAmong {X E : Type 0} (user : List ℕ) (Part : X → Tables → Type 0) (old new : State) (result : Result X E) : Type 0 where
   pub found : HasCleanDisk new → OverTables old (λ tables. IfOk result (λ x. Part x (rows_of user tables)))
-  pub keeps : Keeps old new result
+  pub keeps : KeepsTables old new result
 
 -- a read of one user's rows: this holds of the answer and of all that the user has, and the user has an open account; NoUser is answered only if there is none
 pub record ReadsOwn {X : Type 0} (user : List ℕ) (Part : X → Tables → Type 0) (old new : State) (result : Result X Refusal) : Type 0 where
@@ -121,13 +121,13 @@ pub record ReadsOwn {X : Type 0} (user : List ℕ) (Part : X → Tables → Type
   pub there : HasCleanDisk new → OverAccounts old (λ accounts. OnOk result (HasOpen user accounts))
   pub absent : HasCleanDisk new → OverAccounts old (λ accounts. IfErr result (λ e. e ≡ NoUser → HasNoOpen user accounts))
   pub sure : HasCleanDisk new → IfErr result (λ e. e ≡ NoUser → IsTrue new.is_open)
-  pub keeps : Keeps old new result
+  pub keeps : KeepsTables old new result
   pub named : IfErr result (λ e. (e ≡ NoUser) ⊎ IsTransient e)
 
 -- the read of what the store has of an account, open or closed; it returns none without an account
 pub record ReadsProfile (user : List ℕ) (old new : State) (result : Result (Option Profile) Refusal) : Type 0 where
   pub found : HasCleanDisk new → OverAccounts old (λ accounts. IfOk result (λ profile. profile ≡ option_map profile_of (get accounts user)))
-  pub keeps : Keeps old new result
+  pub keeps : KeepsTables old new result
   pub named : IfErr result IsTransient
 
 -- ---- writes
@@ -143,8 +143,8 @@ StoresOnce user plan old new result =
     HasCleanDisk new → OverTables old (λ tables. OnOk result (HasStoredOnce user plan (tables message_tree) new.now))
 
 -- if the old tables show accounts that fit, the new ones show them with the change
-abbrev pub Turns : (Accounts → Type 0) → (Accounts → Accounts) → Database → Database → Type 0
-Turns Fit change old new = (accounts : Accounts) → Presents old accounts → Fit accounts → Presents new (change accounts)
+abbrev pub ChangesAccounts : (Accounts → Type 0) → (Accounts → Accounts) → Database → Database → Type 0
+ChangesAccounts Fit change old new = (accounts : Accounts) → Presents old accounts → Fit accounts → Presents new (change accounts)
 
 -- what a crash may leave of a write shows the accounts with the change
 abbrev pub CrashLeavesAccounts : (Accounts → Type 0) → (Accounts → Accounts) → State → Trees → Type 0
@@ -152,8 +152,8 @@ CrashLeavesAccounts Fit change s trees = (accounts : Accounts) → Presents s.no
 
 -- a write in one transaction: after Ok the change is made in accounts that fit, and the connection is settled; after a refusal all is as before; a
 -- crash leaves what it left before, or the accounts with the change
-pub record Writes {X : Type 0} (Fit : Accounts → Type 0) (change : Accounts → Accounts) (old new : State) (result : Result X Refusal) : Type 0 where
-  pub made : HasCleanDisk new → OnOk result (Turns Fit change old.now new.now)
+pub record WritesStore {X : Type 0} (Fit : Accounts → Type 0) (change : Accounts → Accounts) (old new : State) (result : Result X Refusal) : Type 0 where
+  pub made : HasCleanDisk new → OnOk result (ChangesAccounts Fit change old.now new.now)
   pub settled : HasCleanDisk new → OnOk result (IsSettled new)
   pub same : HasCleanDisk new → OnErr result (StaysSame old new)
   pub crash : Survives old new (CrashLeavesAccounts Fit change old)
@@ -161,11 +161,11 @@ pub record Writes {X : Type 0} (Fit : Accounts → Type 0) (change : Accounts �
 
 -- a write that changes one user's account, and no other
 abbrev pub WritesUser : {X : Type 0} → List ℕ → (Account → Account) → State → State → Result X Refusal → Type 0
-WritesUser user change = Writes (HasUser user) (λ all. with_user all user change)
+WritesUser user change = WritesStore (HasUser user) (λ all. with_user all user change)
 
 -- the same for an account of which this is known
 abbrev pub WritesKnown : {X : Type 0} → List ℕ → (Account → Type 0) → (Account → Account) → State → State → Result X Refusal → Type 0
-WritesKnown user Known change = Writes (λ all. OfUser all user Known) (λ all. with_user all user change)
+WritesKnown user Known change = WritesStore (λ all. OfUser all user Known) (λ all. with_user all user change)
 
 -- a write that gives a script another name, if its text and the active name are known
 abbrev pub Renames : {X : Type 0} → List ℕ → List ℕ → List ℕ → Option (List ℕ) → Option (List ℕ) → State → State → Result X Refusal → Type 0
@@ -173,7 +173,7 @@ Renames user name other text active = WritesKnown user (IsRenaming name other te
 
 -- a write of one user's account that first checks whether there is one; NoUser is answered only if there is no open one
 pub record WritesAccount {X : Type 0} (user : List ℕ) (change : Account → Account) (old new : State) (result : Result X Refusal) : Type 0 where
-  pub made : HasCleanDisk new → OnOk result (Turns (HasUser user) (λ all. with_user all user change) old.now new.now)
+  pub made : HasCleanDisk new → OnOk result (ChangesAccounts (HasUser user) (λ all. with_user all user change) old.now new.now)
   pub settled : HasCleanDisk new → OnOk result (IsSettled new)
   pub same : HasCleanDisk new → HasOurTables old.now → OnErr result (StaysSame old new)
   pub absent : HasCleanDisk new → OverAccounts old (λ accounts. IfErr result (λ e. e ≡ NoUser → HasNoOpen user accounts))

@@ -5,11 +5,11 @@ use Rattle.std.specs.Ordering.{is_eq}
 use Rattle.octets.specs.Ascii.{lowered}
 use Rattle.sqlite_value.specs.declared.value.Value.TheVariants.{Int, Blob}
 use Rattle.sqlite_value.specs.Order.{Row}
-use Rattle.mailtables.specs.ReplyTable.{reply_cells}
-use Rattle.mailstore.specs.declared.reply.KeptReply.{KeptReply}
-use Rattle.mailstore.specs.declared.reply.ReplyKey.{ReplyKey}
-use Rattle.mailstore.specs.Account.{bytes_cmp, Account, Replies}
-use Rattle.mailstore.specs.ScriptRows.{AreApart}
+use Rattle.store_tables.specs.ReplyTable.{reply_cells}
+use Rattle.store_accounts.specs.declared.reply.KeptReply.{KeptReply}
+use Rattle.store_accounts.specs.declared.reply.ReplyKey.{ReplyKey}
+use Rattle.store_accounts.specs.Account.{bytes_cmp, Account, ReplyMoments}
+use Rattle.store_accounts.specs.ScriptRows.{AreKeysApart}
 
 -- ---- what rows show
 
@@ -18,11 +18,11 @@ abbrev pub reply_row : List ℕ → (List ℕ × List ℕ) × ℕ → Row
 reply_row user entry = reply_cells user entry.0.0 entry.0.1 (pos entry.1)
 
 -- the rows are those of the moments that the user's account keeps, in any order
-pub record ShowsReplies (user : List ℕ) (rows : List Row) (replies : Replies) : Type 0 where
+pub record ShowsReplies (user : List ℕ) (rows : List Row) (replies : ReplyMoments) : Type 0 where
   pub entries : List ((List ℕ × List ℕ) × ℕ)
   pub rows_are : rows ≡ map (reply_row user) entries
   pub shown : replies ≡ from_entries entries
-  pub apart : AreApart entries
+  pub apart : AreKeysApart entries
 
 -- ---- what is read of them
 
@@ -31,7 +31,7 @@ abbrev pub HasMomentRow : List ℕ × List ℕ → List Row → Account → Type
 HasMomentRow key rows a = slice_get rows 0 ≡ option_map (λ moment. Int (pos moment) ∷ []) (get a.replies key)
 
 -- the replies to one sender, in the order of the octets of their handles' keys
-abbrev pub replies_to : List ℕ → Replies → List ((List ℕ × List ℕ) × ℕ)
+abbrev pub replies_to : List ℕ → ReplyMoments → List ((List ℕ × List ℕ) × ℕ)
 replies_to sender replies = filter (λ e. is_eq (bytes_cmp e.0.1 sender)) (entries replies)
 
 abbrev pub kept_reply : (List ℕ × List ℕ) × ℕ → KeptReply
@@ -42,16 +42,16 @@ abbrev pub kept_cells : KeptReply → Row
 kept_cells kept = Blob kept.handle ∷ Int (pos kept.moment) ∷ []
 
 -- this is the moment that is kept under the handle's key and the sender, if one is
-abbrev pub IsMoment : List ℕ → List ℕ → Option ℕ → Account → Type 0
-IsMoment handle sender moment a = moment ≡ get a.replies (handle, sender)
+abbrev pub IsReplyMoment : List ℕ → List ℕ → Option ℕ → Account → Type 0
+IsReplyMoment handle sender moment a = moment ≡ get a.replies (handle, sender)
 
 -- the same, case ignored in the sender
 abbrev pub IsLastReply : List ℕ → List ℕ → Option ℕ → Account → Type 0
-IsLastReply handle sender = IsMoment handle (lowered sender)
+IsLastReply handle sender = IsReplyMoment handle (lowered sender)
 
 -- these are the replies to the sender, in that order; case ignored in the sender
-abbrev pub AreReplies : List ℕ → List KeptReply → Account → Type 0
-AreReplies sender replies a = replies ≡ map kept_reply (replies_to (lowered sender) a.replies)
+abbrev pub AreKeptReplies : List ℕ → List KeptReply → Account → Type 0
+AreKeptReplies sender replies a = replies ≡ map kept_reply (replies_to (lowered sender) a.replies)
 
 -- the rows are the replies to the sender, in that order
 abbrev pub AreReplyRows : List ℕ → List Row → Account → Type 0

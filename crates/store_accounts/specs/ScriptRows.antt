@@ -4,8 +4,8 @@ use Rattle.std.specs.FinMap.{get, keys, from_entries}
 use Rattle.sqlite_value.specs.declared.value.Value.TheVariants.{Blob}
 use Rattle.sqlite_value.specs.Order.{Row}
 use Rattle.sqlite_trees.specs.Tree.{IsAscending}
-use Rattle.mailtables.specs.ScriptTable.{script_cells}
-use Rattle.mailstore.specs.Account.{Account, Scripts, other_name}
+use Rattle.store_tables.specs.ScriptTable.{script_cells}
+use Rattle.store_accounts.specs.Account.{Account, Scripts, other_name}
 
 -- ---- what rows show
 
@@ -14,15 +14,15 @@ abbrev pub script_row : List ℕ → List ℕ × List ℕ → Row
 script_row user entry = script_cells user entry.0 entry.1
 
 -- no two keys are equal
-abbrev pub AreApart : {K X : Type 0} → List (K × X) → Type 0
-AreApart = IsAscending (λ a b. a.0 ≢ b.0)
+abbrev pub AreKeysApart : {K X : Type 0} → List (K × X) → Type 0
+AreKeysApart = IsAscending (λ a b. a.0 ≢ b.0)
 
 -- the rows are those of the user's scripts, in any order
 pub record ShowsScripts (user : List ℕ) (rows : List Row) (scripts : Scripts) : Type 0 where
   pub entries : List (List ℕ × List ℕ)
   pub rows_are : rows ≡ map (script_row user) entries
   pub shown : scripts ≡ from_entries entries
-  pub apart : AreApart entries
+  pub apart : AreKeysApart entries
 
 -- ---- what is read of them
 

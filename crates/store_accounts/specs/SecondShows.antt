@@ -5,26 +5,26 @@ use Rattle.std.specs.FinMap.{get}
 use Rattle.sqlite_value.specs.declared.value.Value.TheVariants as value
 use Rattle.sqlite_value.specs.Order.{Row}
 use Rattle.sqlite.specs.Effect.{Database}
-use Rattle.mailtables.specs.Rows.{Tables, HoldsTables, has_key}
-use Rattle.mailtables.specs.MetaTable.{meta_tree, version_key}
-use Rattle.mailtables.specs.AccountTable.{account_tree}
-use Rattle.mailtables.specs.ScriptTable.{script_tree}
-use Rattle.mailtables.specs.QueueTable.{outgoing_tree}
-use Rattle.mailtables.specs.ReplyTable.{reply_tree}
-use Rattle.mailtables.specs.NoticeTable.{notice_tree}
-use Rattle.mailtables.specs.MessageTable.{message_tree}
-use Rattle.mailtables.specs.CopyTable.{copy_tree}
-use Rattle.oldtables.specs.SecondSchema.{second_schema, second_unindexed_schema}
-use Rattle.mailstore.specs.Account.{Account, Accounts, Folders}
-use Rattle.mailstore.specs.AccountRows.{account_row}
-use Rattle.mailstore.specs.ScriptRows.{ShowsScripts}
-use Rattle.mailstore.specs.QueueRows.{ShowsQueue}
-use Rattle.mailstore.specs.ReplyRows.{ShowsReplies}
-use Rattle.mailstore.specs.NoticeRows.{ShowsNotices}
-use Rattle.mailstore.specs.Numbers.{AreNumbered}
-use Rattle.mailstore.specs.MessageRows.{Message, message_row}
-use Rattle.mailstore.specs.CopyRows.{Copy, AreKept, IsBare, folders_from, flags_from}
-use Rattle.mailstore.specs.OwnRows.{rows_of}
+use Rattle.store_tables.specs.Rows.{Tables, HoldsTables, has_key}
+use Rattle.store_tables.specs.MetaTable.{meta_tree, version_key}
+use Rattle.store_tables.specs.AccountTable.{account_tree}
+use Rattle.store_tables.specs.ScriptTable.{scripts_tree}
+use Rattle.store_tables.specs.QueueTable.{outgoing_tree}
+use Rattle.store_tables.specs.ReplyTable.{reply_tree}
+use Rattle.store_tables.specs.NoticeTable.{notice_tree}
+use Rattle.store_tables.specs.MessageTable.{message_tree}
+use Rattle.store_tables.specs.CopyTable.{copy_tree}
+use Rattle.store_versions.specs.SecondSchema.{second_schema, second_unindexed_schema}
+use Rattle.store_accounts.specs.Account.{Account, Accounts, Folders}
+use Rattle.store_accounts.specs.AccountRows.{account_row}
+use Rattle.store_accounts.specs.ScriptRows.{ShowsScripts}
+use Rattle.store_accounts.specs.QueueRows.{ShowsQueue}
+use Rattle.store_accounts.specs.ReplyRows.{ShowsReplies}
+use Rattle.store_accounts.specs.NoticeRows.{ShowsNotices}
+use Rattle.store_accounts.specs.Numbers.{AreNumbered}
+use Rattle.store_accounts.specs.MessageRows.{Message, message_row}
+use Rattle.store_accounts.specs.CopyRows.{Copy, AreKept, IsUnflagged, folders_from, flags_from}
+use Rattle.store_accounts.specs.OwnRows.{rows_of}
 
 -- the row of a copy: its folder, its number, and its message's
 abbrev pub second_copy_row : List ℕ → Copy → Row
@@ -37,7 +37,7 @@ pub record ShowsSecondCopies (user : List ℕ) (rows message_rows : List Row) (f
   pub numbered : AreNumbered (λ c. c.n) (second_copy_row user) rows entries next
   pub stored : AreNumbered (λ m. m.id) (message_row user) message_rows messages next
   pub kept : AreKept entries messages
-  pub bare : AllByRecursion IsBare entries
+  pub bare : AllByRecursion IsUnflagged entries
   pub shown : folders ≡ folders_from entries
   pub shown_flags : flags ≡ flags_from entries
 
@@ -46,7 +46,7 @@ pub record IsShownSecond (user : List ℕ) (own : Tables) (a : Account) : Type 0
   pub next_copy : ℕ
   pub next_notice : ℕ
   pub account_is : own account_tree ≡ account_row user a next_copy next_notice ∷ []
-  pub scripts : ShowsScripts user (own script_tree) a.scripts
+  pub scripts : ShowsScripts user (own scripts_tree) a.scripts
   pub queue : ShowsQueue user (own outgoing_tree) a.queue a.next_out
   pub replies : ShowsReplies user (own reply_tree) a.replies
   pub notices : ShowsNotices user (own notice_tree) a.notices next_notice
@@ -55,7 +55,7 @@ pub record IsShownSecond (user : List ℕ) (own : Tables) (a : Account) : Type 0
 -- a name without an account has no row in any table
 pub record IsAbsentSecond (own : Tables) : Type 0 where
   pub accounts : own account_tree ≡ []
-  pub scripts : own script_tree ≡ []
+  pub scripts : own scripts_tree ≡ []
   pub queue : own outgoing_tree ≡ []
   pub replies : own reply_tree ≡ []
   pub notices : own notice_tree ≡ []

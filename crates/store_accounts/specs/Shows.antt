@@ -7,42 +7,42 @@ use Rattle.sqlite_value.specs.Order.{Row, column}
 use Rattle.sqlite_trees.specs.Tree.{Trees}
 use Rattle.sqlite.specs.Effect.{Database}
 use Rattle.sqlite.specs.State.{State, HasCleanDisk}
-use Rattle.mailtables.specs.Rows.{Tables, HoldsTables, has_key}
-use Rattle.mailtables.specs.Schema.{mail_schema, IsOurSchema}
-use Rattle.mailtables.specs.Ours.{IsOpenedAs}
-use Rattle.oldtables.specs.OldSchema.{old_schema, oldest_schema}
-use Rattle.oldtables.specs.SecondSchema.{IsSecondSchema}
-use Rattle.oldtables.specs.Migration.{TurnsNew, TurnsNewest}
-use Rattle.oldtables.specs.Third.{TurnsThird}
-use Rattle.oldtables.specs.Opening.{IsBehind}
-pub use Rattle.mailstore.specs.OwnRows.{rows_of}
-use Rattle.mailstore.specs.OldShows.{OffersOld}
-use Rattle.mailstore.specs.SecondShows.{OffersSecond}
-use Rattle.mailstore.specs.Account.{Account, Accounts}
-use Rattle.mailtables.specs.MetaTable.{meta_tree, version_key, version_row}
-use Rattle.mailtables.specs.AccountTable.{account_tree}
-use Rattle.mailstore.specs.AccountRows.{account_row}
-use Rattle.mailtables.specs.ScriptTable.{script_tree}
-use Rattle.mailstore.specs.ScriptRows.{ShowsScripts}
-use Rattle.mailtables.specs.QueueTable.{outgoing_tree}
-use Rattle.mailstore.specs.QueueRows.{ShowsQueue}
-use Rattle.mailtables.specs.ReplyTable.{reply_tree}
-use Rattle.mailstore.specs.ReplyRows.{ShowsReplies}
-use Rattle.mailtables.specs.NoticeTable.{notice_tree}
-use Rattle.mailstore.specs.NoticeRows.{ShowsNotices}
-use Rattle.mailtables.specs.MessageTable.{message_key, message_tree, bytes_column}
-use Rattle.mailtables.specs.CopyTable.{copy_tree}
-use Rattle.mailstore.specs.CopyRows.{Copy, ShowsCopies, is_in, copies_in, is_other_copy, filing_of, filing_cells, leaving_of, numbered_of}
-use Rattle.mailstore.specs.declared.taking.Leaving.{Leaving}
-use Rattle.mailstore.specs.declared.taking.NumberedMessage.{NumberedMessage}
-use Rattle.mailstore.specs.declared.filing.Filing.{Filing}
+use Rattle.store_tables.specs.Rows.{Tables, HoldsTables, has_key}
+use Rattle.store_tables.specs.Schema.{mail_schema, IsOurSchema}
+use Rattle.store_tables.specs.Ours.{IsOpenedAs}
+use Rattle.store_versions.specs.OldSchema.{old_schema, oldest_schema}
+use Rattle.store_versions.specs.SecondSchema.{IsSecondSchema}
+use Rattle.store_versions.specs.Migration.{TurnsNew, TurnsNewest}
+use Rattle.store_versions.specs.Third.{TurnsThird}
+use Rattle.store_versions.specs.Opening.{IsBehind}
+pub use Rattle.store_accounts.specs.OwnRows.{rows_of}
+use Rattle.store_accounts.specs.OldShows.{OffersOld}
+use Rattle.store_accounts.specs.SecondShows.{OffersSecond}
+use Rattle.store_accounts.specs.Account.{Account, Accounts}
+use Rattle.store_tables.specs.MetaTable.{meta_tree, version_key, version_row}
+use Rattle.store_tables.specs.AccountTable.{account_tree}
+use Rattle.store_accounts.specs.AccountRows.{account_row}
+use Rattle.store_tables.specs.ScriptTable.{scripts_tree}
+use Rattle.store_accounts.specs.ScriptRows.{ShowsScripts}
+use Rattle.store_tables.specs.QueueTable.{outgoing_tree}
+use Rattle.store_accounts.specs.QueueRows.{ShowsQueue}
+use Rattle.store_tables.specs.ReplyTable.{reply_tree}
+use Rattle.store_accounts.specs.ReplyRows.{ShowsReplies}
+use Rattle.store_tables.specs.NoticeTable.{notice_tree}
+use Rattle.store_accounts.specs.NoticeRows.{ShowsNotices}
+use Rattle.store_tables.specs.MessageTable.{message_key, message_tree, bytes_column}
+use Rattle.store_tables.specs.CopyTable.{copy_tree}
+use Rattle.store_accounts.specs.CopyRows.{Copy, ShowsCopies, is_in, copies_in, is_other_copy, filing_of, filing_cells, leaving_of, numbered_of}
+use Rattle.store_accounts.specs.declared.taking.Leaving.{Leaving}
+use Rattle.store_accounts.specs.declared.taking.NumberedMessage.{NumberedMessage}
+use Rattle.store_accounts.specs.declared.filing.Filing.{Filing}
 
 -- the rows of one user are those of the account
 pub record IsShown (user : List ℕ) (own : Tables) (a : Account) : Type 0 where
   pub next_copy : ℕ
   pub next_notice : ℕ
   pub account_is : own account_tree ≡ account_row user a next_copy next_notice ∷ []
-  pub scripts : ShowsScripts user (own script_tree) a.scripts
+  pub scripts : ShowsScripts user (own scripts_tree) a.scripts
   pub queue : ShowsQueue user (own outgoing_tree) a.queue a.next_out
   pub replies : ShowsReplies user (own reply_tree) a.replies
   pub notices : ShowsNotices user (own notice_tree) a.notices next_notice
@@ -51,7 +51,7 @@ pub record IsShown (user : List ℕ) (own : Tables) (a : Account) : Type 0 where
 -- a name without an account has no row in any table
 pub record IsAbsent (own : Tables) : Type 0 where
   pub accounts : own account_tree ≡ []
-  pub scripts : own script_tree ≡ []
+  pub scripts : own scripts_tree ≡ []
   pub queue : own outgoing_tree ≡ []
   pub replies : own reply_tree ≡ []
   pub notices : own notice_tree ≡ []
@@ -72,12 +72,12 @@ abbrev pub Presents : Database → Accounts → Type 0
 Presents db accounts = (tables : Tables) × HoldsTables mail_schema db tables × ShowsAccounts tables accounts
 
 -- a database of any version that `open` accepts, whose tables show the accounts
-abbrev pub Offers : Database → Accounts → Type 0
-Offers db accounts = Presents db accounts ⊎ (OffersSecond db accounts ⊎ OffersOld db accounts)
+abbrev pub OffersAccounts : Database → Accounts → Type 0
+OffersAccounts db accounts = Presents db accounts ⊎ (OffersSecond db accounts ⊎ OffersOld db accounts)
 
 -- a database that offers no accounts, not even none at all
 abbrev pub OffersNothing : Database → Type 0
-OffersNothing db = (accounts : Accounts) → ¬ Offers db accounts
+OffersNothing db = (accounts : Accounts) → ¬ OffersAccounts db accounts
 
 -- the trees are those of a database that shows the accounts
 abbrev pub ShowsIn : Trees → Accounts → Type 0
@@ -86,7 +86,7 @@ ShowsIn trees accounts = (db : Database) × Presents db accounts × (trees ≡ d
 -- what is seen has the trees of a database that offers the accounts; for one of an earlier version the schema too, since its schemas share their trees
 pub record OffersIn (seen : Database) (accounts : Accounts) : Type 0 where
   pub db : Database
-  pub offers : Offers db accounts
+  pub offers : OffersAccounts db accounts
   pub trees : seen.trees ≡ db.trees
   pub schema : IsBehind db.schema → seen.schema ≡ db.schema
 
@@ -98,8 +98,8 @@ OnlyLeaves P s = HasCleanDisk s → (trees : Trees) → s.may_leave trees → P 
 abbrev pub StillShows : State → State → Type 0
 StillShows old new = HasCleanDisk new → (accounts : Accounts) → OffersIn old.now accounts → Presents new.now accounts
 
--- ---- a database that is opened: `Becomes` (oldtables) says what its tables become, `OpensAs` what the accounts become too; of what a crash
--- leaves of it `MayBecome` (oldtables) and `CrashLeavesOpened` say the same; `OpensKnown` (oldtables) is all that `open_known` promises
+-- ---- a database that is opened: `LayoutBecomes` (store_versions) says what its tables become, `OpensAs` what the accounts become too; of what a crash
+-- leaves of it `MayBecome` (store_versions) and `CrashLeavesOpened` say the same; `OpensKnown` (store_versions) is all that `open_known` promises
 
 -- what `open` makes of a database: version 3 stays as it was; version 2 or 1 has become version 3; it shows the accounts that it offered
 pub record OpensAs (old new : Database) : Type 0 where
@@ -107,7 +107,7 @@ pub record OpensAs (old new : Database) : Type 0 where
   pub second : IsSecondSchema old.schema → TurnsThird old new
   pub last : old.schema ≡ old_schema → TurnsNew old new
   pub fourth : old.schema ≡ oldest_schema → TurnsNewest old new
-  pub shown : (accounts : Accounts) → Offers old accounts → Presents new accounts
+  pub shown : (accounts : Accounts) → OffersAccounts old accounts → Presents new accounts
 
 -- what a crash may leave of an open, besides what it left before: of a database of an earlier version, what `open` makes of it
 pub record CrashLeavesOpened (seen : Database) (trees : Trees) : Type 0 where
@@ -141,8 +141,8 @@ abbrev pub AreOctetRows : List ℕ → ℤ → List Row → Tables → Type 0
 AreOctetRows user id rows own = rows ≡ map (λ r. column r bytes_column ∷ []) (message_rows user id own)
 
 -- the octets are those of the user's message with the number
-abbrev pub HasOctets : List ℕ → ℕ → List ℕ → Tables → Type 0
-HasOctets user id octets own = slice_get (map (λ r. column r bytes_column) (message_rows user (pos id) own)) 0 ≡ Some (Blob octets)
+abbrev pub HasMessageOctets : List ℕ → ℕ → List ℕ → Tables → Type 0
+HasMessageOctets user id octets own = slice_get (map (λ r. column r bytes_column) (message_rows user (pos id) own)) 0 ≡ Some (Blob octets)
 
 -- it is the folder's message after that many, with the number of its copy, that the user's rows show, or none if they show none
 abbrev pub IsNthOf : List ℕ → List ℕ → ℤ → Option NumberedMessage → Tables → Type 0

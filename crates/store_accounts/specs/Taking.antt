@@ -1,10 +1,10 @@
 -- How the row changes that take a folder's first message change the tables.
 use Rattle.std.specs.Prelude.{◌≡◌, ℕ, pos, Bool, true, false, Option, Some, None, List}
-use Rattle.mailtables.specs.Rows.{Tables}
-use Rattle.mailtables.specs.declared.change.Change.{Change}
-use Rattle.mailstore.specs.declared.filing.Filing.{Filing}
-use Rattle.mailstore.specs.declared.taking.Leaving.{Leaving}
-use Rattle.mailtables.specs.Changes.{AreOf, message_removed, copy_removed, made}
+use Rattle.store_tables.specs.Rows.{Tables}
+use Rattle.store_tables.specs.declared.change.Change.{Change}
+use Rattle.store_accounts.specs.declared.filing.Filing.{Filing}
+use Rattle.store_accounts.specs.declared.taking.Leaving.{Leaving}
+use Rattle.store_tables.specs.Changes.{AreOf, message_removed, copy_removed, made}
 
 -- a message is removed with the last of its copies
 abbrev pub message_left : List ℕ → Filing → Bool → Tables → Tables

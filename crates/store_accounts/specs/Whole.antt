@@ -2,19 +2,19 @@
 use Rattle.std.specs.Prelude.{◌≡◌, ◌++◌, ℕ, List, [], ◌∷◌, fold, map, Option, None}
 use Rattle.std.specs.List.{flat_map}
 use Rattle.std.specs.FinMap.{empty, get, insert}
-use Rattle.accountfiles.specs.Text.{IsTextOf}
-use Rattle.accountfiles.specs.declared.head.Head.{Head}
-use Rattle.accountfiles.specs.declared.part.LetterKind.{LetterKind}
-use Rattle.accountfiles.specs.declared.part.LetterKind.TheVariants.{Redirect, Answer}
-use Rattle.accountfiles.specs.declared.part.Part.{Part}
-use Rattle.accountfiles.specs.declared.part.Part.TheVariants.{Script, Reply, Mail, Copy, Letter, Notice}
-use Rattle.mailtables.specs.declared.queue.Kind.{Kind}
-use Rattle.mailtables.specs.declared.queue.Kind.TheVariants as kind
-use Rattle.mailstore.specs.declared.notice.Notice.{Notice as KeptNotice}
-use Rattle.mailstore.specs.declared.queue.Outgoing.{Outgoing}
-use Rattle.mailstore.specs.Account.{Account, Password, Replies, Scripts, latest}
-use Rattle.mailstore.specs.CopyRows.{Copy as KeptCopy, folders_from, flags_from}
-use Rattle.mailstore.specs.MessageRows.{Message}
+use Rattle.store_text.specs.Text.{IsAccountText}
+use Rattle.store_text.specs.declared.head.AccountHead.{AccountHead}
+use Rattle.store_text.specs.declared.part.LetterKind.{LetterKind}
+use Rattle.store_text.specs.declared.part.LetterKind.TheVariants.{Redirect, Answer}
+use Rattle.store_text.specs.declared.part.Part.{Part}
+use Rattle.store_text.specs.declared.part.Part.TheVariants.{Script, Reply, Mail, Copy, Letter, Notice}
+use Rattle.store_tables.specs.declared.queue.QueuedKind.{QueuedKind}
+use Rattle.store_tables.specs.declared.queue.QueuedKind.TheVariants as kind
+use Rattle.store_accounts.specs.declared.notice.Notice.{Notice as KeptNotice}
+use Rattle.store_accounts.specs.declared.queue.QueuedMessage.{QueuedMessage}
+use Rattle.store_accounts.specs.Account.{Account, Password, ReplyMoments, Scripts, latest}
+use Rattle.store_accounts.specs.CopyRows.{Copy as KeptCopy, folders_from, flags_from}
+use Rattle.store_accounts.specs.MessageRows.{Message}
 
 -- ---- what each part makes
 
@@ -23,16 +23,16 @@ scripts_with scripts (Script name text) = insert scripts name text
 scripts_with scripts part = scripts
 
 -- if there is a moment under the same handle for the same sender already, the later one of it and the text's is kept
-abbrev pub replies_with : Replies → Part → Replies
+abbrev pub replies_with : ReplyMoments → Part → ReplyMoments
 replies_with replies (Reply handle sender moment) = insert replies (handle, sender) (latest (get replies (handle, sender)) moment)
 replies_with replies part = replies
 
-abbrev pub kind_of : LetterKind → Kind
-kind_of Redirect = kind.Redirect
-kind_of Answer = kind.Reply
+abbrev pub queued_kind : LetterKind → QueuedKind
+queued_kind Redirect = kind.Redirect
+queued_kind Answer = kind.Reply
 
-abbrev pub letters_in : Part → List Outgoing
-letters_in (Letter id way sender target message) = record { id = id; kind = kind_of way; sender = sender; target = target; message = message } ∷ []
+abbrev pub letters_in : Part → List QueuedMessage
+letters_in (Letter id way sender target message) = record { id = id; kind = queued_kind way; sender = sender; target = target; message = message } ∷ []
 letters_in part = []
 
 abbrev pub notices_in : Part → List (ℕ × KeptNotice)
@@ -45,9 +45,9 @@ messages_in_part (Mail number folder message flags) = record { id = number; byte
 messages_in_part part = []
 
 -- the octets of the last message that came
-abbrev pub octets_after : List ℕ → Part → List ℕ
-octets_after last (Mail number folder message flags) = message
-octets_after last part = last
+abbrev pub octets_after_part : List ℕ → Part → List ℕ
+octets_after_part last (Mail number folder message flags) = message
+octets_after_part last part = last
 
 -- a copy has the octets of the last message that came, and its own flags
 abbrev pub copies_in_part : List ℕ → Part → List KeptCopy
@@ -57,15 +57,15 @@ copies_in_part last part = []
 
 abbrev pub copies_of : List ℕ → List Part → List KeptCopy
 copies_of last [] = []
-copies_of last (part ∷ parts) = copies_in_part last part ++ copies_of (octets_after last part) parts
+copies_of last (part ∷ parts) = copies_in_part last part ++ copies_of (octets_after_part last part) parts
 
 -- ---- the account
 
-abbrev pub password_of : Head → Password
+abbrev pub password_of : AccountHead → Password
 password_of head = record { salt = head.owner.salt; rounds = head.numbers.rounds; digest = head.owner.digest }
 
 -- the account in a text, over moments of replies that are there
-abbrev pub whole : Head → List Part → Replies → Account
+abbrev pub whole : AccountHead → List Part → ReplyMoments → Account
 whole head parts replies = record {
   address = head.owner.address;
   password = password_of head;
@@ -80,15 +80,15 @@ whole head parts replies = record {
 }
 
 -- the same in place of an account that is there: the moments of its replies stay, except where the text has a later one
-abbrev pub takes_whole : Head → List Part → Account → Account
+abbrev pub takes_whole : AccountHead → List Part → Account → Account
 takes_whole head parts a = whole head parts a.replies
 
 -- ---- the text of an account
 
 -- the text is one of this user's account: when it is read, it makes that account again
 pub record IsCopyOf (text user : List ℕ) (a : Account) : Type 0 where
-  pub head : Head
+  pub head : AccountHead
   pub parts : List Part
-  pub spelled : IsTextOf text head parts
+  pub spelled : IsAccountText text head parts
   pub named : head.owner.name ≡ user
   pub makes : whole head parts empty ≡ a

@@ -1,15 +1,15 @@
 //! A user's account, as in its row.
 ghost use Rattle.std.specs.Prelude.{◌≡◌, false, ◌⊎◌, [], pos, Err, Some, option_map, slice_get, IfOk, IfErr};
 ghost use Rattle.sqlite.specs.Held.{state};
-ghost use Rattle.mailtables.specs.AccountTable.{account_tree};
-ghost use Rattle.mailstore.specs.AccountRows.{shown_account, shown_counters, counter_cells, profile_of, IsRead};
-ghost use Rattle.mailstore.specs.Listing.{AreCountersOf};
-ghost use Rattle.mailstore.specs.Promises.{FindsAmong, FindsOwn, Reads, ReadsCounters, ReadsEntered, ReadsProfile, IsFree, Writes, WritesUser};
-ghost use Rattle.mailtables.specs.Connection.{Queries};
-ghost use Rattle.mailtables.specs.Cells.{contents, or_null};
-ghost use Rattle.mailstore.specs.FirstCells.{first_three};
-ghost use Rattle.mailstore.specs.Account.{activates, addresses, closes, empties_under, guards, has_mail, new_user, opens, removes, renews};
-ghost use Rattle.mailstore.specs.Refusals.{IsTransient};
+ghost use Rattle.store_tables.specs.AccountTable.{account_tree};
+ghost use Rattle.store_accounts.specs.AccountRows.{shown_account, shown_counters, counter_cells, profile_of, IsProfileRead};
+ghost use Rattle.store_accounts.specs.Listing.{AreCountersOf};
+ghost use Rattle.store_accounts.specs.Promises.{FindsAmong, FindsOwn, ReadsOpenAccount, ReadsCounters, ReadsEntered, ReadsProfile, IsFree, WritesStore, WritesUser};
+ghost use Rattle.store_tables.specs.Connection.{Queries};
+ghost use Rattle.store_tables.specs.Cells.{borrowed_octets, or_null};
+ghost use Rattle.store_accounts.specs.FirstCells.{first_three};
+ghost use Rattle.store_accounts.specs.Account.{activates, changes_address, closes, empties_under, changes_password, has_mail, new_user, opens, removes, renews};
+ghost use Rattle.store_accounts.specs.Refusals.{IsTransient};
 ghost use Rattle.sqlite_value.specs.declared.value.Value.TheVariants.{Int, Blob};
 ghost use Rattle.sqlite_value.specs.Order.{column};
 
@@ -17,7 +17,7 @@ use crate::cell::{optional_text_at, text_at};
 use crate::profile::Profile;
 use crate::refusal::Refusal;
 use crate::store::Store;
-use mailtables::{Change, query};
+use store_tables::{Change, query};
 use octets::Octets;
 use sqlite::{Alter, Connection, Error, Row, params};
 
@@ -98,7 +98,7 @@ fn profile_in(row: &Row) -> Result<Profile, Error>
 
 /// The account in the first row, if there is a row.
 fn first_profile(rows: &[Row]) -> Result<Option<Profile>, Refusal>
-    ensures ok { IfOk result (λ profile. IsRead profile (slice_get rows.now 0)) }
+    ensures ok { IfOk result (λ profile. IsProfileRead profile (slice_get rows.now 0)) }
     ensures named { IfErr result IsTransient }
 {
     match rows.first() {
@@ -145,7 +145,7 @@ impl<S: Alter> Store<S> {
     ///
     /// `NoUser` if there is no account or it is closed; `Memory`; `Store`.
     pub fn enter(&mut self, user: &[u8]) -> Result<Profile, Refusal>
-        ensures { Reads user.now (λ profile a. profile ≡ profile_of a) (state S.Store self.old) (state S.Store self.new) result }
+        ensures { ReadsOpenAccount user.now (λ profile a. profile ≡ profile_of a) (state S.Store self.old) (state S.Store self.new) result }
     {
         let Some(profile) = self.account(user)? else {
             return Err(Refusal::NoUser);
@@ -183,7 +183,7 @@ impl<S: Alter> Store<S> {
         rounds: u32,
         digest: &[u8],
     ) -> Result<(), Refusal>
-        ensures writes { Writes (IsFree name.now) (new_user name.now address.now salt.now rounds digest.now) (state S.Store self.old) (state S.Store self.new) result }
+        ensures writes { WritesStore (IsFree name.now) (new_user name.now address.now salt.now rounds digest.now) (state S.Store self.old) (state S.Store self.new) result }
         ensures closed { rounds ≡ 0 → (result ≡ Err Refusal.Store) × (self.new ≡ self.old) }
     {
         if rounds == 0 {
@@ -200,7 +200,7 @@ impl<S: Alter> Store<S> {
 
     /// Makes the script with the name the active one, or none. The caller has to see to it that a script has the name.
     pub fn set_active(&mut self, user: &[u8], name: Option<&[u8]>) -> Result<(), Refusal>
-        ensures { WritesUser user.now (activates (contents name.entry)) (state S.Store self.old) (state S.Store self.new) result }
+        ensures { WritesUser user.now (activates (borrowed_octets name.entry)) (state S.Store self.old) (state S.Store self.new) result }
     {
         self.apply(&[Change::SetActive {
             name: user,
@@ -210,7 +210,7 @@ impl<S: Alter> Store<S> {
 
     /// Sets the account's address. The moments of replies stay under their keys.
     pub fn set_address(&mut self, user: &[u8], address: &[u8]) -> Result<(), Refusal>
-        ensures { WritesUser user.now (addresses address.now) (state S.Store self.old) (state S.Store self.new) result }
+        ensures { WritesUser user.now (changes_address address.now) (state S.Store self.old) (state S.Store self.new) result }
     {
         self.apply(&[Change::SetAddress {
             name: user,
@@ -226,7 +226,7 @@ impl<S: Alter> Store<S> {
         rounds: u32,
         digest: &[u8],
     ) -> Result<(), Refusal>
-        ensures { WritesUser user.now (guards (record { salt = salt.now; rounds = rounds; digest = digest.now })) (state S.Store self.old) (state S.Store self.new) result }
+        ensures { WritesUser user.now (changes_password (record { salt = salt.now; rounds = rounds; digest = digest.now })) (state S.Store self.old) (state S.Store self.new) result }
     {
         self.apply(&[Change::SetPassword {
             name: user,

@@ -1,7 +1,7 @@
 //! The texts and numbers in the cells of rows.
 ghost use Rattle.std.specs.Prelude.{◌≡◌, pos, ◌<◌, ◌≤◌, ◌^◌, option_map, slice_get, IfOk, IfErr};
-ghost use Rattle.mailtables.specs.Cells.{or_null};
-ghost use Rattle.mailstore.specs.Refusals.{IsTransient};
+ghost use Rattle.store_tables.specs.Cells.{or_null};
+ghost use Rattle.store_accounts.specs.Refusals.{IsTransient};
 ghost use Rattle.sqlite_value.specs.declared.value.Value.TheVariants.{Blob};
 ghost use Rattle.sqlite_value.specs.Order.{column};
 
@@ -44,7 +44,7 @@ pub fn first_text(rows: &[Row]) -> Result<Option<Octets>, Refusal>
 }
 
 impl FromRow for Octets {
-    ghost use Rattle.mailstore.specs.FirstCells.{first_one, text_cells};
+    ghost use Rattle.store_accounts.specs.FirstCells.{first_one, text_cells};
 
     ghost cells_of = { first_one };
 

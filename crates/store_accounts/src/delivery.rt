@@ -1,20 +1,20 @@
 //! What a delivery writes.
 ghost use Rattle.std.specs.Prelude.{◌≡◌, pos, IfOk, IfErr, ◌+◌, option_copied};
 ghost use Rattle.sqlite.specs.Held.{state};
-ghost use Rattle.mailstore.specs.Promises.{WritesAccount, StoresOnce};
-ghost use Rattle.mailstore.specs.Delivery.{AreDelivery, Pushes, message_kept, copies_added, redirect_added, sent_on, reply_queued, reply_put, noticed, counters_raised, count_of};
-ghost use Rattle.mailtables.specs.Changes.{MakesOwn};
+ghost use Rattle.store_accounts.specs.Promises.{WritesAccount, StoresOnce};
+ghost use Rattle.store_accounts.specs.Delivery.{AreDelivery, Pushes, message_kept, copies_added, redirect_added, sent_on, reply_queued, reply_put, noticed, counters_raised, count_of};
+ghost use Rattle.store_tables.specs.Changes.{MakesOwn};
 ghost use Rattle.octets.specs.Ascii.{lowered};
-ghost use Rattle.mailstore.specs.Account.{delivers};
-ghost use Rattle.mailstore.specs.Refusals.{IsTransient};
+ghost use Rattle.store_accounts.specs.Account.{delivers};
+ghost use Rattle.store_accounts.specs.Refusals.{IsTransient};
 
 use crate::account::Counters;
 use crate::cell::number;
 use crate::refusal::Refusal;
 use crate::report::{Plan, VacationReply};
 use crate::store::Store;
-use mailflags::Placement;
-use mailtables::{Change, Kind};
+use mail_flags::Placement;
+use store_tables::{Change, QueuedKind};
 use octets::Octets;
 use sqlite::Alter;
 use std::alloc::Global;
@@ -118,7 +118,7 @@ fn redirect<'a>(
     Change::AddOutgoing {
         owner: user,
         id,
-        kind: Kind::Redirect,
+        kind: QueuedKind::Redirect,
         sender,
         target,
         message,
@@ -162,7 +162,7 @@ fn push_reply<'a>(
     changes.push(Change::AddOutgoing {
         owner: user,
         id: number_after(next, sent)?,
-        kind: Kind::Reply,
+        kind: QueuedKind::Reply,
         sender: &[],
         target: sender,
         message: reply.message.as_slice(),

@@ -1,17 +1,17 @@
 //! The copies of messages in folders: one by its position, and another one of the same message.
 ghost use Rattle.std.specs.Prelude.{◌≡◌, false, IfErr};
 ghost use Rattle.sqlite.specs.Held.{state};
-ghost use Rattle.mailstore.specs.Promises.{FindsAmong};
-ghost use Rattle.mailtables.specs.Connection.{Queries};
-ghost use Rattle.mailstore.specs.Listing.{AreFilingsOf};
-ghost use Rattle.mailstore.specs.Refusals.{IsTransient};
-ghost use Rattle.mailstore.specs.Shows.{AreNthRows, AreOtherRows, IsNthFiling, IsShared};
+ghost use Rattle.store_accounts.specs.Promises.{FindsAmong};
+ghost use Rattle.store_tables.specs.Connection.{Queries};
+ghost use Rattle.store_accounts.specs.Listing.{AreFilingsOf};
+ghost use Rattle.store_accounts.specs.Refusals.{IsTransient};
+ghost use Rattle.store_accounts.specs.Shows.{AreNthRows, AreOtherRows, IsNthFiling, IsShared};
 
 use crate::cell::{number, text_at};
 use crate::refusal::Refusal;
 use crate::row::{FromRow, first_from_row, read_each};
 use crate::store::Store;
-use mailtables::query;
+use store_tables::query;
 use octets::{List, Octets};
 use sqlite::{Alter, Connection, Error, Row, params};
 
@@ -63,8 +63,8 @@ fn find_other<S: Alter>(
 }
 
 impl FromRow for Filing {
-    ghost use Rattle.mailstore.specs.FirstCells.{first_four};
-    ghost use Rattle.mailstore.specs.CopyRows.{filing_cells};
+    ghost use Rattle.store_accounts.specs.FirstCells.{first_four};
+    ghost use Rattle.store_accounts.specs.CopyRows.{filing_cells};
 
     ghost cells_of = { first_four };
 

@@ -1,11 +1,11 @@
 //! A user's folders.
 ghost use Rattle.std.specs.Prelude.{◌≡◌, ℕ, false, OnOk, List, map, option_map, slice_get, IfOk, IfErr};
 ghost use Rattle.sqlite.specs.Held.{state};
-ghost use Rattle.mailstore.specs.CopyRows.{AreMessagesOf, IsMessageAt, IsNthMessage};
-ghost use Rattle.mailstore.specs.Promises.{Finds, Reads, ReadsEntered};
-ghost use Rattle.mailtables.specs.Connection.{Queries};
-ghost use Rattle.mailstore.specs.Tally.{AreFolderRows, tallied, AreFolders, counted};
-ghost use Rattle.mailstore.specs.Refusals.{IsTransient};
+ghost use Rattle.store_accounts.specs.CopyRows.{AreMessagesOf, IsMessageAt, IsNthMessage};
+ghost use Rattle.store_accounts.specs.Promises.{FindsUserRows, ReadsOpenAccount, ReadsEntered};
+ghost use Rattle.store_tables.specs.Connection.{Queries};
+ghost use Rattle.store_accounts.specs.Tally.{AreFolderRows, tallied, AreFolders, counted};
+ghost use Rattle.store_accounts.specs.Refusals.{IsTransient};
 ghost use Rattle.sqlite_value.specs.declared.value.Value.TheVariants.{Blob};
 ghost use Rattle.sqlite_value.specs.Order.{column};
 
@@ -14,7 +14,7 @@ use crate::refusal::Refusal;
 use crate::row::read_each;
 use crate::store::Store;
 use crate::taking::NumberedMessage;
-use mailtables::query;
+use store_tables::query;
 use octets::{List, Octets, Texts};
 use sqlite::{Alter, Connection, Error, Row, params};
 use std::alloc::Global;
@@ -29,7 +29,7 @@ pub struct Folder {
 /// The folder of each copy, in the order of their octets.
 fn find_folders<S: Alter>(conn: &mut Connection<S>, owner: &[u8]) -> Result<Vec<Row>, Error>
     requires { conn.old.in_transaction ≡ false }
-    ensures { Queries S.Store (Finds owner.now AreFolderRows) conn.old conn.new result }
+    ensures { Queries S.Store (FindsUserRows owner.now AreFolderRows) conn.old conn.new result }
 {
     query(
         conn,
@@ -102,7 +102,7 @@ fn cloned_at(alloc: Global, messages: &[Octets], at: u64) -> Result<Option<Octet
 impl<S: Alter> Store<S> {
     /// The messages of the folder, in the order in which they came; none if it is absent.
     pub fn folder(&mut self, user: &[u8], folder: &[u8]) -> Result<Texts, Refusal>
-        ensures { Reads user.now (AreMessagesOf folder.now) (state S.Store self.old) (state S.Store self.new) result }
+        ensures { ReadsOpenAccount user.now (AreMessagesOf folder.now) (state S.Store self.old) (state S.Store self.new) result }
     {
         self.enter(user)?;
         self.folder_of(user, folder)
@@ -128,7 +128,7 @@ impl<S: Alter> Store<S> {
         folder: &[u8],
         at: u64,
     ) -> Result<Option<Octets>, Refusal>
-        ensures { Reads user.now (IsMessageAt folder.now at) (state S.Store self.old) (state S.Store self.new) result }
+        ensures { ReadsOpenAccount user.now (IsMessageAt folder.now at) (state S.Store self.old) (state S.Store self.new) result }
     {
         self.enter(user)?;
         self.message_at_of(user, folder, at)
@@ -179,7 +179,7 @@ impl<S: Alter> Store<S> {
     /// The user's folders in the order of the octets of their names, with the number of their
     /// messages. No message is read.
     pub fn folders(&mut self, user: &[u8]) -> Result<List<Folder>, Refusal>
-        ensures { Reads user.now AreFolders (state S.Store self.old) (state S.Store self.new) result }
+        ensures { ReadsOpenAccount user.now AreFolders (state S.Store self.old) (state S.Store self.new) result }
     {
         self.enter(user)?;
         self.folders_of(user)

@@ -1,15 +1,15 @@
 //! A user's messages by their numbers.
 ghost use Rattle.std.specs.Prelude.{◌≡◌, false, IfErr};
-ghost use Rattle.mailstore.specs.Promises.{FindsAmong};
-ghost use Rattle.mailtables.specs.Connection.{Queries};
-ghost use Rattle.mailstore.specs.Refusals.{IsTransient};
-ghost use Rattle.mailstore.specs.Shows.{AreOctetRows, HasOctets};
+ghost use Rattle.store_accounts.specs.Promises.{FindsAmong};
+ghost use Rattle.store_tables.specs.Connection.{Queries};
+ghost use Rattle.store_accounts.specs.Refusals.{IsTransient};
+ghost use Rattle.store_accounts.specs.Shows.{AreOctetRows, HasMessageOctets};
 ghost use Rattle.sqlite.specs.Held.{state};
 
 use crate::cell::{first_text, number};
 use crate::refusal::Refusal;
 use crate::store::Store;
-use mailtables::query;
+use store_tables::query;
 use octets::Octets;
 use sqlite::{Alter, Connection, Error, Row, params};
 
@@ -32,7 +32,7 @@ fn find_message<S: Alter>(
 impl<S: Alter> Store<S> {
     /// The octets of the user's message with the number, for an account that was entered. A number that isn't there is refused as `Store`.
     pub fn message_of(&mut self, user: &[u8], id: u64) -> Result<Octets, Refusal>
-        ensures finds { FindsAmong user.now (HasOctets user.now id) (state S.Store self.old) (state S.Store self.new) result }
+        ensures finds { FindsAmong user.now (HasMessageOctets user.now id) (state S.Store self.old) (state S.Store self.new) result }
         ensures named { IfErr result IsTransient }
     {
         let id = number(id)?;

@@ -1,22 +1,22 @@
 //! The next message or row over all users, for moving mail on or sending it. No message is read.
 ghost use Rattle.std.specs.Prelude.{◌≡◌, ◌≤◌, ◌^◌, false, Err, IfErr};
 ghost use Rattle.sqlite.specs.Held.{state};
-ghost use Rattle.mailtables.specs.Connection.{Queries};
-ghost use Rattle.mailstore.specs.Next.{FindsAll, IsNextFiled, IsNextQueued, LeastFiled, LeastQueued, ShowFiled, ShowQueued};
-ghost use Rattle.mailstore.specs.Next.{IsLaterInFolder, IsLaterOfUser, IsLaterFolder, IsLaterOwner, IsLaterId, IsLaterQueue, ShowLaterNumber, ShowLaterId};
-ghost use Rattle.mailstore.specs.Refusals.{IsTransient};
+ghost use Rattle.store_tables.specs.Connection.{Queries};
+ghost use Rattle.store_accounts.specs.Next.{FindsAll, IsNextFiled, IsNextQueued, LeastFiled, LeastQueued, ShowFiled, ShowQueued};
+ghost use Rattle.store_accounts.specs.Next.{IsLaterInFolder, IsLaterOfUser, IsLaterFolder, IsLaterOwner, IsLaterId, IsLaterQueue, ShowLaterNumber, ShowLaterId};
+ghost use Rattle.store_accounts.specs.Refusals.{IsTransient};
 
 use crate::cell::{number, text_at};
 use crate::refusal::Refusal;
 use crate::row::{FromRow, first_from_row};
 use crate::store::Store;
-use mailtables::query;
+use store_tables::query;
 use octets::Octets;
 use sqlite::{Alter, Connection, Error, Row, params};
 
 /// The place of a message.
 #[derive(Debug, Drop)]
-pub struct Filed {
+pub struct CopyKey {
     pub user: Octets,
     pub folder: Octets,
     /// The number of its copy in the account.
@@ -25,7 +25,7 @@ pub struct Filed {
 
 /// The place of a row in a queue.
 #[derive(Debug, Drop)]
-pub struct Queued {
+pub struct QueueKey {
     pub user: Octets,
     /// The row's number in the account.
     pub id: u64,
@@ -104,16 +104,16 @@ fn find_later_queue<S: Alter>(conn: &mut Connection<S>, owner: &[u8]) -> Result<
     )
 }
 
-impl FromRow for Filed {
-    ghost use Rattle.mailstore.specs.FirstCells.{first_three};
-    ghost use Rattle.mailstore.specs.Next.{filed_cells};
+impl FromRow for CopyKey {
+    ghost use Rattle.store_accounts.specs.FirstCells.{first_three};
+    ghost use Rattle.store_accounts.specs.Next.{filed_cells};
 
     ghost cells_of = { first_three };
 
     ghost shows = { filed_cells };
 
-    fn from_row(row: &Row) -> Result<Filed, Refusal> {
-        Ok(Filed {
+    fn from_row(row: &Row) -> Result<CopyKey, Refusal> {
+        Ok(CopyKey {
             user: text_at(row, 0)?,
             folder: text_at(row, 1)?,
             number: row.get(2)?,
@@ -121,16 +121,16 @@ impl FromRow for Filed {
     }
 }
 
-impl FromRow for Queued {
-    ghost use Rattle.mailstore.specs.FirstCells.{first_two};
-    ghost use Rattle.mailstore.specs.Next.{queued_cells};
+impl FromRow for QueueKey {
+    ghost use Rattle.store_accounts.specs.FirstCells.{first_two};
+    ghost use Rattle.store_accounts.specs.Next.{queue_key_cells};
 
     ghost cells_of = { first_two };
 
-    ghost shows = { queued_cells };
+    ghost shows = { queue_key_cells };
 
-    fn from_row(row: &Row) -> Result<Queued, Refusal> {
-        Ok(Queued {
+    fn from_row(row: &Row) -> Result<QueueKey, Refusal> {
+        Ok(QueueKey {
             user: text_at(row, 0)?,
             id: row.get(1)?,
         })
@@ -144,7 +144,7 @@ impl<S: Alter> Store<S> {
     /// # Errors
     ///
     /// `Memory`, and `Store`: always for a number from 2^63 on, which the database can't hold (`past`).
-    pub fn next_filed(&mut self, start: &Filed) -> Result<Option<Filed>, Refusal>
+    pub fn next_filed(&mut self, start: &CopyKey) -> Result<Option<CopyKey>, Refusal>
         ensures next { FindsAll (IsNextFiled start.now) (state S.Store self.old) (state S.Store self.new) result }
         ensures named { IfErr result IsTransient }
         ensures past { 2 ^ 63 ≤ start.now.number → result ≡ Err Refusal.Store }
@@ -161,7 +161,7 @@ impl<S: Alter> Store<S> {
     /// # Errors
     ///
     /// `Memory`, and `Store`: always for a number from 2^63 on, which the database can't hold (`past`).
-    pub fn next_queued(&mut self, start: &Queued) -> Result<Option<Queued>, Refusal>
+    pub fn next_queued(&mut self, start: &QueueKey) -> Result<Option<QueueKey>, Refusal>
         ensures next { FindsAll (IsNextQueued start.now) (state S.Store self.old) (state S.Store self.new) result }
         ensures named { IfErr result IsTransient }
         ensures past { 2 ^ 63 ≤ start.now.id → result ≡ Err Refusal.Store }
@@ -173,7 +173,7 @@ impl<S: Alter> Store<S> {
     }
 
     /// The first message of the same user after this place.
-    fn later_filed(&mut self, start: &Filed) -> Result<Option<Filed>, Refusal>
+    fn later_filed(&mut self, start: &CopyKey) -> Result<Option<CopyKey>, Refusal>
         ensures finds { FindsAll (LeastFiled (IsLaterOfUser start.now)) (state S.Store self.old) (state S.Store self.new) result }
         ensures named { IfErr result IsTransient }
         ensures past { 2 ^ 63 ≤ start.now.number → result ≡ Err Refusal.Store }
@@ -185,7 +185,7 @@ impl<S: Alter> Store<S> {
     }
 
     /// The first message of the same folder after this place.
-    fn filed_in_same(&mut self, start: &Filed) -> Result<Option<Filed>, Refusal>
+    fn filed_in_same(&mut self, start: &CopyKey) -> Result<Option<CopyKey>, Refusal>
         ensures finds { FindsAll (LeastFiled (IsLaterInFolder start.now)) (state S.Store self.old) (state S.Store self.new) result }
         ensures named { IfErr result IsTransient }
         ensures past { 2 ^ 63 ≤ start.now.number → result ≡ Err Refusal.Store }
@@ -201,7 +201,7 @@ impl<S: Alter> Store<S> {
     }
 
     /// The first message in a later folder of the user.
-    fn filed_in_later(&mut self, user: &[u8], folder: &[u8]) -> Result<Option<Filed>, Refusal>
+    fn filed_in_later(&mut self, user: &[u8], folder: &[u8]) -> Result<Option<CopyKey>, Refusal>
         ensures finds { FindsAll (LeastFiled (IsLaterFolder user.now folder.now)) (state S.Store self.old) (state S.Store self.new) result }
         ensures named { IfErr result IsTransient }
     {
@@ -210,7 +210,7 @@ impl<S: Alter> Store<S> {
     }
 
     /// The first message of a later user.
-    fn filed_of_later(&mut self, user: &[u8]) -> Result<Option<Filed>, Refusal>
+    fn filed_of_later(&mut self, user: &[u8]) -> Result<Option<CopyKey>, Refusal>
         ensures finds { FindsAll (LeastFiled (IsLaterOwner user.now)) (state S.Store self.old) (state S.Store self.new) result }
         ensures named { IfErr result IsTransient }
     {
@@ -219,7 +219,7 @@ impl<S: Alter> Store<S> {
     }
 
     /// The first row of the same queue after this one.
-    fn later_queued(&mut self, start: &Queued) -> Result<Option<Queued>, Refusal>
+    fn later_queued(&mut self, start: &QueueKey) -> Result<Option<QueueKey>, Refusal>
         ensures finds { FindsAll (LeastQueued (IsLaterId start.now.user start.now.id)) (state S.Store self.old) (state S.Store self.new) result }
         ensures named { IfErr result IsTransient }
         ensures past { 2 ^ 63 ≤ start.now.id → result ≡ Err Refusal.Store }
@@ -230,7 +230,7 @@ impl<S: Alter> Store<S> {
     }
 
     /// The first row of the queue of a later user.
-    fn queued_of_later(&mut self, user: &[u8]) -> Result<Option<Queued>, Refusal>
+    fn queued_of_later(&mut self, user: &[u8]) -> Result<Option<QueueKey>, Refusal>
         ensures finds { FindsAll (LeastQueued (IsLaterQueue user.now)) (state S.Store self.old) (state S.Store self.new) result }
         ensures named { IfErr result IsTransient }
     {

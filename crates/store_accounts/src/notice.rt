@@ -1,17 +1,17 @@
 //! A user's notices.
 ghost use Rattle.std.specs.Prelude.{◌≡◌, false, IfErr};
 ghost use Rattle.sqlite.specs.Held.{state};
-ghost use Rattle.mailtables.specs.Connection.{Queries};
-ghost use Rattle.mailstore.specs.Account.{takes_notices};
-ghost use Rattle.mailstore.specs.Listing.{AreNoticeNumbersOf, HasNoticeRow, IsNoticeOf};
-ghost use Rattle.mailstore.specs.Promises.{FindsAmong, Reads, ReadsEntered, WritesUser};
-ghost use Rattle.mailstore.specs.Refusals.{IsTransient};
+ghost use Rattle.store_tables.specs.Connection.{Queries};
+ghost use Rattle.store_accounts.specs.Account.{takes_notices};
+ghost use Rattle.store_accounts.specs.Listing.{AreNoticeNumbersOf, HasNoticeRow, IsNoticeOf};
+ghost use Rattle.store_accounts.specs.Promises.{FindsAmong, ReadsOpenAccount, ReadsEntered, WritesUser};
+ghost use Rattle.store_accounts.specs.Refusals.{IsTransient};
 
 use crate::cell::{number, text_at};
 use crate::refusal::Refusal;
 use crate::row::{FromRow, first_from_row, read_each};
 use crate::store::Store;
-use mailtables::{Change, query};
+use store_tables::{Change, query};
 use octets::{List, Octets};
 use sqlite::{Alter, Connection, Error, Row, params};
 
@@ -40,8 +40,8 @@ fn find_notice<S: Alter>(
 }
 
 impl FromRow for Notice {
-    ghost use Rattle.mailstore.specs.FirstCells.{first_two};
-    ghost use Rattle.mailstore.specs.NoticeRows.{notice_cells};
+    ghost use Rattle.store_accounts.specs.FirstCells.{first_two};
+    ghost use Rattle.store_accounts.specs.NoticeRows.{notice_cells};
 
     ghost cells_of = { first_two };
 
@@ -58,7 +58,7 @@ impl FromRow for Notice {
 impl<S: Alter> Store<S> {
     /// The user's notices, in the order in which they came.
     pub fn notices(&mut self, user: &[u8]) -> Result<List<Notice>, Refusal>
-        ensures { Reads user.now (λ notices a. notices ≡ a.notices) (state S.Store self.old) (state S.Store self.new) result }
+        ensures { ReadsOpenAccount user.now (λ notices a. notices ≡ a.notices) (state S.Store self.old) (state S.Store self.new) result }
     {
         self.enter(user)?;
         self.notices_of(user)

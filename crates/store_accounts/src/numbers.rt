@@ -1,9 +1,9 @@
 //! The numbers of a folder's copies.
 ghost use Rattle.std.specs.Prelude.{◌≡◌, IfErr};
 ghost use Rattle.sqlite.specs.Held.{state};
-ghost use Rattle.mailstore.specs.FolderNumbers.{AreAsMany, AreNumbersOf};
-ghost use Rattle.mailstore.specs.Promises.{FindsAmong, Reads, ReadsOwn};
-ghost use Rattle.mailstore.specs.Refusals.{IsTransient};
+ghost use Rattle.store_accounts.specs.FolderNumbers.{AreAsMany, AreNumbersOf};
+ghost use Rattle.store_accounts.specs.Promises.{FindsAmong, ReadsOpenAccount, ReadsOwn};
+ghost use Rattle.store_accounts.specs.Refusals.{IsTransient};
 
 use crate::refusal::Refusal;
 use crate::row::{FromRow, read_each};
@@ -12,8 +12,8 @@ use octets::List;
 use sqlite::{Alter, Row, params};
 
 impl FromRow for u64 {
-    ghost use Rattle.mailstore.specs.FirstCells.{first_one};
-    ghost use Rattle.mailstore.specs.FolderNumbers.{number_cells};
+    ghost use Rattle.store_accounts.specs.FirstCells.{first_one};
+    ghost use Rattle.store_accounts.specs.FolderNumbers.{number_cells};
 
     ghost cells_of = { first_one };
 
@@ -29,7 +29,7 @@ impl<S: Alter> Store<S> {
     /// time and memory are linear in the answer.
     pub fn numbers(&mut self, user: &[u8], folder: &[u8]) -> Result<List<u64>, Refusal>
         ensures numbers { ReadsOwn user.now (AreNumbersOf user.now folder.now) (state S.Store self.old) (state S.Store self.new) result }
-        ensures count { Reads user.now (AreAsMany folder.now) (state S.Store self.old) (state S.Store self.new) result }
+        ensures count { ReadsOpenAccount user.now (AreAsMany folder.now) (state S.Store self.old) (state S.Store self.new) result }
     {
         self.enter(user)?;
         self.numbers_of(user, folder)

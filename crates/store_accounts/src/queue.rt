@@ -3,40 +3,40 @@ ghost use Rattle.std.specs.Prelude.{◌≡◌, false, pos, IfOk, IfErr, option_c
 ghost use Rattle.sqlite_value.specs.declared.value.Value.TheVariants.{Int};
 ghost use Rattle.sqlite_value.specs.Order.{column};
 ghost use Rattle.sqlite.specs.Held.{state};
-ghost use Rattle.mailstore.specs.Account.{row_with, takes_out};
-ghost use Rattle.mailtables.specs.Connection.{Queries};
-ghost use Rattle.mailstore.specs.Promises.{Finds, Reads, ReadsEntered, WritesUser};
-ghost use Rattle.mailstore.specs.QueueRows.{HasOutgoingRow, IsOutgoing};
-ghost use Rattle.mailtables.specs.QueueTable.{kind_number};
-ghost use Rattle.mailstore.specs.Refusals.{IsTransient};
+ghost use Rattle.store_accounts.specs.Account.{row_with, takes_out};
+ghost use Rattle.store_tables.specs.Connection.{Queries};
+ghost use Rattle.store_accounts.specs.Promises.{FindsUserRows, ReadsOpenAccount, ReadsEntered, WritesUser};
+ghost use Rattle.store_accounts.specs.QueueRows.{HasOutgoingRow, IsOutgoing};
+ghost use Rattle.store_tables.specs.QueueTable.{kind_number};
+ghost use Rattle.store_accounts.specs.Refusals.{IsTransient};
 
 use crate::cell::{number, text_at};
 use crate::refusal::Refusal;
 use crate::row::{FromRow, first_from_row, read_each};
 use crate::store::Store;
-use mailtables::{Change, Kind, query};
+use store_tables::{Change, QueuedKind, query};
 use octets::{List, Octets};
 use sqlite::{Alter, Connection, Error, Row, params};
 use std::alloc::{AllocError, Global};
 
 /// A message on its way out.
 #[derive(Debug, Drop)]
-pub struct Outgoing {
+pub struct QueuedMessage {
     /// The account's own number, from 1 on; it is never used again.
     pub id: u64,
-    pub kind: Kind,
+    pub kind: QueuedKind,
     /// The envelope sender; empty for a reply.
     pub sender: Octets,
     pub target: Octets,
     pub message: Octets,
 }
 
-impl Outgoing {
+impl QueuedMessage {
     /// A copy of the row. Lack of memory is the only error.
-    pub fn try_clone(&self, alloc: Global) -> Result<Outgoing, AllocError>
+    pub fn try_clone(&self, alloc: Global) -> Result<QueuedMessage, AllocError>
         ensures { IfOk result (λ row. row ≡ self.now) }
     {
-        Ok(Outgoing {
+        Ok(QueuedMessage {
             id: self.id,
             kind: self.kind,
             sender: self.sender.try_clone(alloc)?,
@@ -47,14 +47,14 @@ impl Outgoing {
 }
 
 /// The row with the number, if there is one.
-fn row_in(rows: &[Outgoing], id: u64) -> Option<&Outgoing>
+fn row_in(rows: &[QueuedMessage], id: u64) -> Option<&QueuedMessage>
     ensures { option_copied result ≡ row_with id rows.now }
 {
     rows.iter().find(|row| row.id == id)
 }
 
 /// A copy of the row, if there is one.
-fn cloned(alloc: Global, row: Option<&Outgoing>) -> Result<Option<Outgoing>, Refusal>
+fn cloned(alloc: Global, row: Option<&QueuedMessage>) -> Result<Option<QueuedMessage>, Refusal>
     ensures same { IfOk result (λ copy. copy ≡ option_copied row.entry) }
     ensures named { IfErr result IsTransient }
 {
@@ -71,7 +71,7 @@ fn find_outgoing<S: Alter>(
     id: &i64,
 ) -> Result<Vec<Row>, Error>
     requires { conn.old.in_transaction ≡ false }
-    ensures { Queries S.Store (Finds owner.now (HasOutgoingRow id.now)) conn.old conn.new result }
+    ensures { Queries S.Store (FindsUserRows owner.now (HasOutgoingRow id.now)) conn.old conn.new result }
 {
     query(
         conn,
@@ -81,30 +81,30 @@ fn find_outgoing<S: Alter>(
 }
 
 /// The kind whose number is in the cell; another number is refused.
-pub(crate) fn kind_at(row: &Row, at: usize) -> Result<Kind, Refusal>
+pub(crate) fn kind_at(row: &Row, at: usize) -> Result<QueuedKind, Refusal>
     ensures ok { IfOk result (λ kind. column row.now at ≡ Int (pos (kind_number kind))) }
     ensures named { IfErr result IsTransient }
 {
     let number: i64 = row.get(at)?;
     if number == 1 {
-        return Ok(Kind::Redirect);
+        return Ok(QueuedKind::Redirect);
     }
     if number == 2 {
-        return Ok(Kind::Reply);
+        return Ok(QueuedKind::Reply);
     }
     Err(Refusal::Store)
 }
 
-impl FromRow for Outgoing {
-    ghost use Rattle.mailstore.specs.FirstCells.{first_five};
-    ghost use Rattle.mailstore.specs.QueueRows.{outgoing_cells};
+impl FromRow for QueuedMessage {
+    ghost use Rattle.store_accounts.specs.FirstCells.{first_five};
+    ghost use Rattle.store_accounts.specs.QueueRows.{outgoing_cells};
 
     ghost cells_of = { first_five };
 
     ghost shows = { outgoing_cells };
 
-    fn from_row(row: &Row) -> Result<Outgoing, Refusal> {
-        Ok(Outgoing {
+    fn from_row(row: &Row) -> Result<QueuedMessage, Refusal> {
+        Ok(QueuedMessage {
             id: row.get(0)?,
             kind: kind_at(row, 1)?,
             sender: text_at(row, 2)?,
@@ -116,15 +116,15 @@ impl FromRow for Outgoing {
 
 impl<S: Alter> Store<S> {
     /// The user's messages on their way out, in the order of their numbers. All are in memory at once.
-    pub fn queue(&mut self, user: &[u8]) -> Result<List<Outgoing>, Refusal>
-        ensures { Reads user.now (λ queue a. queue ≡ a.queue) (state S.Store self.old) (state S.Store self.new) result }
+    pub fn queue(&mut self, user: &[u8]) -> Result<List<QueuedMessage>, Refusal>
+        ensures { ReadsOpenAccount user.now (λ queue a. queue ≡ a.queue) (state S.Store self.old) (state S.Store self.new) result }
     {
         self.enter(user)?;
         self.queue_of(user)
     }
 
     /// The same of an account that was entered.
-    fn queue_of(&mut self, user: &[u8]) -> Result<List<Outgoing>, Refusal>
+    fn queue_of(&mut self, user: &[u8]) -> Result<List<QueuedMessage>, Refusal>
         ensures { ReadsEntered user.now (λ queue a. queue ≡ a.queue) (state S.Store self.old) (state S.Store self.new) result }
     {
         read_each(
@@ -136,15 +136,15 @@ impl<S: Alter> Store<S> {
     }
 
     /// The message on its way out with the number; none where no row of the queue has it. No other row is read.
-    pub fn outgoing(&mut self, user: &[u8], id: u64) -> Result<Option<Outgoing>, Refusal>
-        ensures { Reads user.now (λ row a. row ≡ row_with id a.queue) (state S.Store self.old) (state S.Store self.new) result }
+    pub fn outgoing(&mut self, user: &[u8], id: u64) -> Result<Option<QueuedMessage>, Refusal>
+        ensures { ReadsOpenAccount user.now (λ row a. row ≡ row_with id a.queue) (state S.Store self.old) (state S.Store self.new) result }
     {
         self.enter(user)?;
         self.outgoing_of(user, id)
     }
 
     /// The same of an account that was entered.
-    pub fn outgoing_of(&mut self, user: &[u8], id: u64) -> Result<Option<Outgoing>, Refusal>
+    pub fn outgoing_of(&mut self, user: &[u8], id: u64) -> Result<Option<QueuedMessage>, Refusal>
         ensures { ReadsEntered user.now (λ row a. row ≡ row_with id a.queue) (state S.Store self.old) (state S.Store self.new) result }
     {
         match i64::try_from(id) {
@@ -155,7 +155,7 @@ impl<S: Alter> Store<S> {
     }
 
     /// The message with the number, found by its key.
-    fn outgoing_at(&mut self, user: &[u8], id: i64) -> Result<Option<Outgoing>, Refusal>
+    fn outgoing_at(&mut self, user: &[u8], id: i64) -> Result<Option<QueuedMessage>, Refusal>
         ensures { ReadsEntered user.now (IsOutgoing id) (state S.Store self.old) (state S.Store self.new) result }
     {
         let rows = find_outgoing(&mut self.conn, user, &id)?;
@@ -163,7 +163,7 @@ impl<S: Alter> Store<S> {
     }
 
     /// The message with the number, found among all of the queue.
-    fn outgoing_among(&mut self, user: &[u8], id: u64) -> Result<Option<Outgoing>, Refusal>
+    fn outgoing_among(&mut self, user: &[u8], id: u64) -> Result<Option<QueuedMessage>, Refusal>
         ensures { ReadsEntered user.now (λ row a. row ≡ row_with id a.queue) (state S.Store self.old) (state S.Store self.new) result }
     {
         let queue = self.queue_of(user)?;

@@ -1,24 +1,24 @@
 //! The queue without its messages.
 ghost use Rattle.std.specs.Prelude.{◌≡◌, map};
 ghost use Rattle.sqlite.specs.Held.{state};
-ghost use Rattle.mailstore.specs.Promises.{Reads, ReadsEntered};
-ghost use Rattle.mailstore.specs.HeadRows.{head_of};
+ghost use Rattle.store_accounts.specs.Promises.{ReadsOpenAccount, ReadsEntered};
+ghost use Rattle.store_accounts.specs.HeadRows.{queued_envelope};
 
 use crate::cell::text_at;
 use crate::queue::kind_at;
 use crate::refusal::Refusal;
 use crate::row::{FromRow, read_each};
 use crate::store::Store;
-use mailtables::Kind;
+use store_tables::QueuedKind;
 use octets::{List, Octets};
 use sqlite::{Alter, Row, params};
 
 /// A message on its way out, without its octets.
 #[derive(Debug, Drop)]
-pub struct Head {
+pub struct QueuedEnvelope {
     /// The account's own number, from 1 on; it is never used again.
     pub id: u64,
-    pub kind: Kind,
+    pub kind: QueuedKind,
     /// The envelope sender; empty for a reply.
     pub sender: Octets,
     pub target: Octets,
@@ -26,16 +26,16 @@ pub struct Head {
     pub len: u64,
 }
 
-impl FromRow for Head {
-    ghost use Rattle.mailstore.specs.FirstCells.{first_five};
-    ghost use Rattle.mailstore.specs.HeadRows.{head_cells};
+impl FromRow for QueuedEnvelope {
+    ghost use Rattle.store_accounts.specs.FirstCells.{first_five};
+    ghost use Rattle.store_accounts.specs.HeadRows.{head_cells};
 
     ghost cells_of = { first_five };
 
     ghost shows = { head_cells };
 
-    fn from_row(row: &Row) -> Result<Head, Refusal> {
-        Ok(Head {
+    fn from_row(row: &Row) -> Result<QueuedEnvelope, Refusal> {
+        Ok(QueuedEnvelope {
             id: row.get(0)?,
             kind: kind_at(row, 1)?,
             sender: text_at(row, 2)?,
@@ -48,16 +48,16 @@ impl FromRow for Head {
 impl<S: Alter> Store<S> {
     /// The user's messages on their way out, in the order of their numbers, without their octets. Time is linear in the
     /// queue with its messages, memory in the queue without them.
-    pub fn queue_heads(&mut self, user: &[u8]) -> Result<List<Head>, Refusal>
-        ensures { Reads user.now (λ heads a. heads ≡ map head_of a.queue) (state S.Store self.old) (state S.Store self.new) result }
+    pub fn queue_heads(&mut self, user: &[u8]) -> Result<List<QueuedEnvelope>, Refusal>
+        ensures { ReadsOpenAccount user.now (λ heads a. heads ≡ map queued_envelope a.queue) (state S.Store self.old) (state S.Store self.new) result }
     {
         self.enter(user)?;
         self.queue_heads_of(user)
     }
 
     /// The same for an account that was entered.
-    pub fn queue_heads_of(&mut self, user: &[u8]) -> Result<List<Head>, Refusal>
-        ensures { ReadsEntered user.now (λ heads a. heads ≡ map head_of a.queue) (state S.Store self.old) (state S.Store self.new) result }
+    pub fn queue_heads_of(&mut self, user: &[u8]) -> Result<List<QueuedEnvelope>, Refusal>
+        ensures { ReadsEntered user.now (λ heads a. heads ≡ map queued_envelope a.queue) (state S.Store self.old) (state S.Store self.new) result }
     {
         read_each(
             self.alloc,

@@ -63,7 +63,7 @@ pub enum Refusal {
 
 impl From<AllocError> for Refusal {
     ghost use Rattle.std.specs.Prelude.{◌≡◌};
-    ghost use Rattle.mailstore.specs.declared.refusal.Refusal.TheVariants.{Memory};
+    ghost use Rattle.store_accounts.specs.declared.refusal.Refusal.TheVariants.{Memory};
 
     ghost from_gives = { λ _ e. e ≡ Memory };
 
@@ -74,7 +74,7 @@ impl From<AllocError> for Refusal {
 
 impl<T: Drop> From<AllocFailed<T>> for Refusal {
     ghost use Rattle.std.specs.Prelude.{◌≡◌};
-    ghost use Rattle.mailstore.specs.declared.refusal.Refusal.TheVariants.{Memory};
+    ghost use Rattle.store_accounts.specs.declared.refusal.Refusal.TheVariants.{Memory};
 
     ghost from_gives = { λ _ e. e ≡ Memory };
 
@@ -84,7 +84,7 @@ impl<T: Drop> From<AllocFailed<T>> for Refusal {
 }
 
 impl From<Error> for Refusal {
-    ghost use Rattle.mailstore.specs.Refusals.{IsTransient, IsMemoryBy, code_in};
+    ghost use Rattle.store_accounts.specs.Refusals.{IsTransient, IsMemoryBy, code_in};
 
     ghost from_gives = { λ error e. IsTransient e × IsMemoryBy (code_in error) e };
 

@@ -2,11 +2,11 @@
 ghost use Rattle.std.specs.Prelude.{◌≡◌, false, map, pos, option_map, slice_get, IfOk, IfErr};
 ghost use Rattle.sqlite_value.specs.declared.value.Value.TheVariants.{Int};
 ghost use Rattle.sqlite_value.specs.Order.{column};
-ghost use Rattle.mailstore.specs.Account as accounts;
-ghost use Rattle.mailstore.specs.Promises.{Finds, Reads, ReadsEntered};
-ghost use Rattle.mailtables.specs.Connection.{Queries};
-ghost use Rattle.mailstore.specs.Refusals.{IsTransient};
-ghost use Rattle.mailstore.specs.ReplyRows.{AreReplies, HasMomentRow, IsLastReply, IsMoment, reply_key_of};
+ghost use Rattle.store_accounts.specs.Account as accounts;
+ghost use Rattle.store_accounts.specs.Promises.{FindsUserRows, ReadsOpenAccount, ReadsEntered};
+ghost use Rattle.store_tables.specs.Connection.{Queries};
+ghost use Rattle.store_accounts.specs.Refusals.{IsTransient};
+ghost use Rattle.store_accounts.specs.ReplyRows.{AreKeptReplies, HasMomentRow, IsLastReply, IsReplyMoment, reply_key_of};
 ghost use Rattle.std.specs.FinMap.{keys};
 ghost use Rattle.sqlite.specs.Held.{state};
 
@@ -14,7 +14,7 @@ use crate::cell::text_at;
 use crate::refusal::Refusal;
 use crate::row::{FromRow, read_each};
 use crate::store::Store;
-use mailtables::query;
+use store_tables::query;
 use octets::{List, Octets};
 use sqlite::{Alter, Connection, Error, Row, params};
 
@@ -53,7 +53,7 @@ fn find_moment<S: Alter>(
     sender: &[u8],
 ) -> Result<Vec<Row>, Error>
     requires { conn.old.in_transaction ≡ false }
-    ensures { Queries S.Store (Finds owner.now (HasMomentRow (handle.now, sender.now))) conn.old conn.new result }
+    ensures { Queries S.Store (FindsUserRows owner.now (HasMomentRow (handle.now, sender.now))) conn.old conn.new result }
 {
     query(
         conn,
@@ -77,8 +77,8 @@ fn first_moment(rows: &[Row]) -> Result<Option<u64>, Refusal>
 }
 
 impl FromRow for KeptReply {
-    ghost use Rattle.mailstore.specs.FirstCells.{first_two};
-    ghost use Rattle.mailstore.specs.ReplyRows.{kept_cells};
+    ghost use Rattle.store_accounts.specs.FirstCells.{first_two};
+    ghost use Rattle.store_accounts.specs.ReplyRows.{kept_cells};
 
     ghost cells_of = { first_two };
 
@@ -93,8 +93,8 @@ impl FromRow for KeptReply {
 }
 
 impl FromRow for ReplyKey {
-    ghost use Rattle.mailstore.specs.FirstCells.{first_two};
-    ghost use Rattle.mailstore.specs.ReplyRows.{key_cells};
+    ghost use Rattle.store_accounts.specs.FirstCells.{first_two};
+    ghost use Rattle.store_accounts.specs.ReplyRows.{key_cells};
 
     ghost cells_of = { first_two };
 
@@ -116,7 +116,7 @@ impl<S: Alter> Store<S> {
         handle: &[u8],
         sender: &[u8],
     ) -> Result<Option<u64>, Refusal>
-        ensures { Reads user.now (IsLastReply handle.now sender.now) (state S.Store self.old) (state S.Store self.new) result }
+        ensures { ReadsOpenAccount user.now (IsLastReply handle.now sender.now) (state S.Store self.old) (state S.Store self.new) result }
     {
         self.enter(user)?;
         self.last_reply_of(user, handle, sender)
@@ -143,7 +143,7 @@ impl<S: Alter> Store<S> {
         handle: &[u8],
         sender: &[u8],
     ) -> Result<Option<u64>, Refusal>
-        ensures { ReadsEntered user.now (IsMoment handle.now sender.now) (state S.Store self.old) (state S.Store self.new) result }
+        ensures { ReadsEntered user.now (IsReplyMoment handle.now sender.now) (state S.Store self.old) (state S.Store self.new) result }
     {
         let rows = find_moment(&mut self.conn, user, handle, sender)?;
         first_moment(&rows)
@@ -152,7 +152,7 @@ impl<S: Alter> Store<S> {
     /// The moments of the last replies to the sender, in the order of the octets of their handles' keys; case ignored
     /// in the sender.
     pub fn replies(&mut self, user: &[u8], sender: &[u8]) -> Result<List<KeptReply>, Refusal>
-        ensures { Reads user.now (AreReplies sender.now) (state S.Store self.old) (state S.Store self.new) result }
+        ensures { ReadsOpenAccount user.now (AreKeptReplies sender.now) (state S.Store self.old) (state S.Store self.new) result }
     {
         self.enter(user)?;
         self.replies_of(user, sender)
@@ -160,7 +160,7 @@ impl<S: Alter> Store<S> {
 
     /// The same of an account that was entered.
     pub fn replies_of(&mut self, user: &[u8], sender: &[u8]) -> Result<List<KeptReply>, Refusal>
-        ensures { ReadsEntered user.now (AreReplies sender.now) (state S.Store self.old) (state S.Store self.new) result }
+        ensures { ReadsEntered user.now (AreKeptReplies sender.now) (state S.Store self.old) (state S.Store self.new) result }
     {
         let sender = octets::lowered(self.alloc, sender)?;
         read_each(

@@ -1,5 +1,5 @@
 //! What a delivery is to write, and what it reports.
-use mailflags::Placement;
+use mail_flags::Placement;
 use octets::{List, Octets, Texts};
 
 /// What a delivery did about a vacation reply.

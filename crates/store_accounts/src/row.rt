@@ -4,10 +4,10 @@ ghost use Rattle.sqlite_value.specs.Order.{Row};
 ghost use Rattle.sqlite.specs.Values.{bound};
 ghost use Rattle.sqlite.specs.Listing.{understood};
 ghost use Rattle.sqlite.specs.Given.{IsPlain};
-ghost use Rattle.mailtables.specs.Schema.{mail_schema};
-ghost use Rattle.mailtables.specs.Connection.{Queries};
-ghost use Rattle.mailstore.specs.Refusals.{IsTransient};
-ghost use Rattle.mailstore.specs.EachRow.{ReadsEach};
+ghost use Rattle.store_tables.specs.Schema.{mail_schema};
+ghost use Rattle.store_tables.specs.Connection.{Queries};
+ghost use Rattle.store_accounts.specs.Refusals.{IsTransient};
+ghost use Rattle.store_accounts.specs.EachRow.{ReadsEach};
 
 use crate::refusal::Refusal;
 use octets::List;

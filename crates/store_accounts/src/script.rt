@@ -1,18 +1,18 @@
 //! A user's scripts.
 ghost use Rattle.std.specs.Prelude.{◌≡◌, false, option_map};
 ghost use Rattle.sqlite.specs.Held.{state};
-ghost use Rattle.mailstore.specs.Promises.{Finds, Reads, ReadsEntered, Renames, WritesAccount, WritesUser};
-ghost use Rattle.mailtables.specs.Connection.{Queries};
-ghost use Rattle.mailstore.specs.ScriptRows.{HasTextAndActive, HasTextRow};
-ghost use Rattle.mailtables.specs.Cells.{contents};
-ghost use Rattle.mailstore.specs.Account.{deletes_script, keeps_active, keeps_script, other_name, renames_script};
+ghost use Rattle.store_accounts.specs.Promises.{FindsUserRows, ReadsOpenAccount, ReadsEntered, Renames, WritesAccount, WritesUser};
+ghost use Rattle.store_tables.specs.Connection.{Queries};
+ghost use Rattle.store_accounts.specs.ScriptRows.{HasTextAndActive, HasTextRow};
+ghost use Rattle.store_tables.specs.Cells.{borrowed_octets};
+ghost use Rattle.store_accounts.specs.Account.{deletes_script, keeps_active, keeps_script, other_name, renames_script};
 ghost use Rattle.std.specs.FinMap.{get, keys};
 
 use crate::cell::first_text;
 use crate::refusal::Refusal;
 use crate::row::read_each;
 use crate::store::Store;
-use mailtables::{Change, query};
+use store_tables::{Change, query};
 use octets::{Octets, Texts};
 use sqlite::{Alter, Connection, Error, Row, params};
 
@@ -23,7 +23,7 @@ fn find_script<S: Alter>(
     name: &[u8],
 ) -> Result<Vec<Row>, Error>
     requires { conn.old.in_transaction ≡ false }
-    ensures { Queries S.Store (Finds owner.now (HasTextRow name.now)) conn.old conn.new result }
+    ensures { Queries S.Store (FindsUserRows owner.now (HasTextRow name.now)) conn.old conn.new result }
 {
     query(
         conn,
@@ -34,7 +34,7 @@ fn find_script<S: Alter>(
 
 /// The other name, if this one is the active script's.
 fn active_renamed<'a>(active: Option<&'a Octets>, name: &[u8], other: &'a [u8]) -> Option<&'a [u8]>
-    ensures { contents result ≡ option_map (other_name name.now other.now) (contents active.entry) }
+    ensures { borrowed_octets result ≡ option_map (other_name name.now other.now) (borrowed_octets active.entry) }
 {
     let Some(active) = active else {
         return None;
@@ -48,7 +48,7 @@ fn active_renamed<'a>(active: Option<&'a Octets>, name: &[u8], other: &'a [u8]) 
 impl<S: Alter> Store<S> {
     /// The text of the script; `None` if no script has the name.
     pub fn script(&mut self, user: &[u8], name: &[u8]) -> Result<Option<Octets>, Refusal>
-        ensures { Reads user.now (λ text a. text ≡ get a.scripts name.now) (state S.Store self.old) (state S.Store self.new) result }
+        ensures { ReadsOpenAccount user.now (λ text a. text ≡ get a.scripts name.now) (state S.Store self.old) (state S.Store self.new) result }
     {
         self.enter(user)?;
         self.script_of(user, name)
@@ -64,7 +64,7 @@ impl<S: Alter> Store<S> {
 
     /// The names of the user's scripts, in the order of their octets.
     pub fn scripts(&mut self, user: &[u8]) -> Result<Texts, Refusal>
-        ensures { Reads user.now (λ names a. names ≡ keys a.scripts) (state S.Store self.old) (state S.Store self.new) result }
+        ensures { ReadsOpenAccount user.now (λ names a. names ≡ keys a.scripts) (state S.Store self.old) (state S.Store self.new) result }
     {
         self.enter(user)?;
         self.scripts_of(user)
@@ -129,7 +129,7 @@ impl<S: Alter> Store<S> {
         user: &[u8],
         name: &[u8],
     ) -> Result<(Option<Octets>, Option<Octets>), Refusal>
-        ensures { Reads user.now (HasTextAndActive name.now) (state S.Store self.old) (state S.Store self.new) result }
+        ensures { ReadsOpenAccount user.now (HasTextAndActive name.now) (state S.Store self.old) (state S.Store self.new) result }
     {
         let profile = self.enter(user)?;
         let text = self.script_of(user, name)?;
@@ -145,7 +145,7 @@ impl<S: Alter> Store<S> {
         text: Option<&'a Octets>,
         active: Option<&'a [u8]>,
     ) -> Result<(), Refusal>
-        ensures { Renames user.now name.now other.now (contents text.entry) (contents active.entry) (state S.Store self.old) (state S.Store self.new) result }
+        ensures { Renames user.now name.now other.now (borrowed_octets text.entry) (borrowed_octets active.entry) (state S.Store self.old) (state S.Store self.new) result }
     {
         let Some(text) = text else {
             return self.apply(&[Change::SetActive { name: user, active }]);

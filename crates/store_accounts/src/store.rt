@@ -2,17 +2,17 @@
 ghost use Rattle.std.specs.Prelude.{◌≡◌, ◌⊎◌, false, IsTrue, IfOk, IfErr, OnOk, OnErr};
 ghost use Rattle.sqlite.specs.Held.{state};
 ghost use Rattle.sqlite.specs.State.{HasCleanDisk, Survives};
-ghost use Rattle.mailtables.specs.Schema.{no_schema, mail_schema};
-ghost use Rattle.mailtables.specs.Connection.{IsSettled, StaysSame, Outlives, has_our_name};
-ghost use Rattle.mailstore.specs.Account.{no_accounts};
-ghost use Rattle.mailstore.specs.Refusals.{IsTransient, IsMemoryBy, IsStoreCause, IsCauseIn, code_in};
-ghost use Rattle.mailstore.specs.Shows.{Presents, ShowsIn, StillShows, OffersNothing, OnlyLeaves, OpensAs, CrashLeavesOpened};
-ghost use Rattle.mailtables.specs.Changes.{CrashLeavesTables, MakesAll};
-ghost use Rattle.oldtables.specs.Opening.{IsKnown};
+ghost use Rattle.store_tables.specs.Schema.{no_schema, mail_schema};
+ghost use Rattle.store_tables.specs.Connection.{IsSettled, StaysSame, Outlives, has_our_name};
+ghost use Rattle.store_accounts.specs.Account.{no_accounts};
+ghost use Rattle.store_accounts.specs.Refusals.{IsTransient, IsMemoryBy, IsStoreCause, IsCauseIn, code_in};
+ghost use Rattle.store_accounts.specs.Shows.{Presents, ShowsIn, StillShows, OffersNothing, OnlyLeaves, OpensAs, CrashLeavesOpened};
+ghost use Rattle.store_tables.specs.Changes.{CrashLeavesTables, MakesAll};
+ghost use Rattle.store_versions.specs.Opening.{IsKnown};
 
 use crate::refusal::Refusal;
-use mailtables::{Change, is_blank, is_taken, make_all, make_tables};
-use oldtables::{layout_of, open_known};
+use store_tables::{Change, has_no_tables, is_taken, make_all, make_tables};
+use store_versions::{layout_of, open_known};
 use sqlite::{Alter, Connection, Error, ErrorCode};
 use std::alloc::Global;
 use std::marker::Model;
@@ -31,7 +31,7 @@ pub struct Store<S: Alter> {
 impl<S: Alter> Model for Store<S> {
     ghost use Rattle.std.specs.Prelude.{◌≡◌, false, None};
     ghost use Rattle.sqlite.specs.Held.{Held, held_code};
-    ghost use Rattle.mailstore.specs.Refusals.{IsStoreCause};
+    ghost use Rattle.store_accounts.specs.Refusals.{IsStoreCause};
 
     ghost Value = { Held S };
 
@@ -78,7 +78,7 @@ impl<S: Alter> Store<S> {
         if is_taken(conn.schema()) {
             return Err((Refusal::NotOurs, conn, None));
         }
-        if !is_blank(conn.schema()) {
+        if !has_no_tables(conn.schema()) {
             return Err((Refusal::Store, conn, None));
         }
         conn.set_step_limit(None);

@@ -1,18 +1,18 @@
 //! The first message of a folder, and how it is taken out.
 ghost use Rattle.std.specs.Prelude.{IfOk, IfErr};
 ghost use Rattle.sqlite.specs.Held.{state};
-ghost use Rattle.mailstore.specs.Account.{takes_mail};
-ghost use Rattle.mailstore.specs.Taking.{AreTaking};
-ghost use Rattle.mailstore.specs.CopyRows.{IsFirstIn};
-ghost use Rattle.mailstore.specs.Promises.{FindsAmong, Reads, ReadsEntered, ReadsOwn, WritesAccount};
-ghost use Rattle.mailstore.specs.Refusals.{IsTransient};
-ghost use Rattle.mailstore.specs.Shows.{IsFirstOf, IsLeaving, IsNthOf};
+ghost use Rattle.store_accounts.specs.Account.{takes_mail};
+ghost use Rattle.store_accounts.specs.Taking.{AreTaking};
+ghost use Rattle.store_accounts.specs.CopyRows.{IsFirstIn};
+ghost use Rattle.store_accounts.specs.Promises.{FindsAmong, ReadsOpenAccount, ReadsEntered, ReadsOwn, WritesAccount};
+ghost use Rattle.store_accounts.specs.Refusals.{IsTransient};
+ghost use Rattle.store_accounts.specs.Shows.{IsFirstOf, IsLeaving, IsNthOf};
 
 use crate::cell::number;
 use crate::filing::Filing;
 use crate::refusal::Refusal;
 use crate::store::Store;
-use mailtables::Change;
+use store_tables::Change;
 use octets::Octets;
 use sqlite::Alter;
 use std::alloc::Global;
@@ -94,7 +94,7 @@ impl<S: Alter> Store<S> {
         user: &[u8],
         folder: &[u8],
     ) -> Result<Option<NumberedMessage>, Refusal>
-        ensures first { Reads user.now (IsFirstIn folder.now) (state S.Store self.old) (state S.Store self.new) result }
+        ensures first { ReadsOpenAccount user.now (IsFirstIn folder.now) (state S.Store self.old) (state S.Store self.new) result }
         ensures numbered { ReadsOwn user.now (IsFirstOf user.now folder.now) (state S.Store self.old) (state S.Store self.new) result }
     {
         self.enter(user)?;

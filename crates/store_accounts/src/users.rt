@@ -1,15 +1,15 @@
 //! The users who have an account, one after the other.
 ghost use Rattle.std.specs.Prelude.{◌≡◌, false, IfErr};
 ghost use Rattle.sqlite.specs.Held.{state};
-ghost use Rattle.mailtables.specs.Connection.{Queries};
-ghost use Rattle.mailstore.specs.Next.{FindsAll};
-ghost use Rattle.mailstore.specs.Users.{FindsOver, IsNextUser, ShowLaterUser};
-ghost use Rattle.mailstore.specs.Refusals.{IsTransient};
+ghost use Rattle.store_tables.specs.Connection.{Queries};
+ghost use Rattle.store_accounts.specs.Next.{FindsAll};
+ghost use Rattle.store_accounts.specs.Users.{FindsOver, IsNextUser, ShowLaterUser};
+ghost use Rattle.store_accounts.specs.Refusals.{IsTransient};
 
 use crate::refusal::Refusal;
 use crate::row::first_from_row;
 use crate::store::Store;
-use mailtables::query;
+use store_tables::query;
 use octets::Octets;
 use sqlite::{Alter, Connection, Error, Row, params};
 

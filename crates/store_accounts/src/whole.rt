@@ -2,30 +2,30 @@
 ghost use Rattle.std.specs.Prelude.{◌≡◌, ◌∷◌, ◌++◌, [], IfOk, IfErr, OnOk, option_copied};
 ghost use Rattle.std.specs.FinMap.{empty, insert};
 ghost use Rattle.sqlite.specs.Held.{state};
-ghost use Rattle.accountfiles.specs.Text.{IsAccount};
-ghost use Rattle.mailtables.specs.Changes.{active_set};
-ghost use Rattle.mailstore.specs.Delivery.{Pushes};
-ghost use Rattle.mailstore.specs.Promises.{IsFree, Writes, WritesAccount};
-ghost use Rattle.mailstore.specs.Refusals.{IsTransient};
-ghost use Rattle.mailstore.specs.Whole.{whole, takes_whole, kind_of as kind_by};
-ghost use Rattle.mailstore.specs.WholeRows.{script_put, moment_put, mail_put, part_made, parts_made, part_over, parts_over, emptied_by, numbers_made, owner_made, head_made, account_made, IsMaking, PushesOver};
+ghost use Rattle.store_text.specs.Text.{IsAccount};
+ghost use Rattle.store_tables.specs.Changes.{active_set};
+ghost use Rattle.store_accounts.specs.Delivery.{Pushes};
+ghost use Rattle.store_accounts.specs.Promises.{IsFree, WritesStore, WritesAccount};
+ghost use Rattle.store_accounts.specs.Refusals.{IsTransient};
+ghost use Rattle.store_accounts.specs.Whole.{whole, takes_whole, queued_kind as kind_by};
+ghost use Rattle.store_accounts.specs.WholeRows.{script_put, moment_put, mail_put, part_made, parts_made, part_over, parts_over, emptied_by, numbers_made, owner_made, head_made, account_made, IsMaking, PushesOver};
 
 use crate::cell::number;
 use crate::refusal::Refusal;
 use crate::reply::latest;
 use crate::store::Store;
-use accountfiles::{Head, LetterKind, Part};
-use mailtables::{Change, Kind};
+use store_text::{AccountHead, LetterKind, Part};
+use store_tables::{Change, QueuedKind};
 use octets::Octets;
 use sqlite::Alter;
 use std::alloc::Global;
 
-fn kind_of(kind: LetterKind) -> Kind
+fn kind_of(kind: LetterKind) -> QueuedKind
     ensures { result ≡ kind_by kind }
 {
     match kind {
-        LetterKind::Redirect => Kind::Redirect,
-        LetterKind::Answer => Kind::Reply,
+        LetterKind::Redirect => QueuedKind::Redirect,
+        LetterKind::Answer => QueuedKind::Reply,
     }
 }
 
@@ -205,7 +205,7 @@ fn push_parts<'a>(
 }
 
 /// The account's row has this address and this password.
-fn push_owner<'a>(changes: &mut Vec<Change<'a>>, head: &'a Head) -> Result<(), Refusal>
+fn push_owner<'a>(changes: &mut Vec<Change<'a>>, head: &'a AccountHead) -> Result<(), Refusal>
     ensures made { Pushes head.now.owner.name (owner_made head.now) changes.old.items changes.new.items result }
     ensures named { IfErr result IsTransient }
 {
@@ -224,7 +224,7 @@ fn push_owner<'a>(changes: &mut Vec<Change<'a>>, head: &'a Head) -> Result<(), R
 }
 
 /// The account's row has what is had once.
-fn push_head<'a>(changes: &mut Vec<Change<'a>>, head: &'a Head) -> Result<(), Refusal>
+fn push_head<'a>(changes: &mut Vec<Change<'a>>, head: &'a AccountHead) -> Result<(), Refusal>
     ensures made { Pushes head.now.owner.name (head_made head.now) changes.old.items changes.new.items result }
     ensures named { IfErr result IsTransient }
 {
@@ -250,7 +250,7 @@ fn push_active<'a>(
     push_one(changes, Change::SetActive { name: user, active })
 }
 
-fn push_counters<'a>(changes: &mut Vec<Change<'a>>, head: &'a Head) -> Result<(), Refusal>
+fn push_counters<'a>(changes: &mut Vec<Change<'a>>, head: &'a AccountHead) -> Result<(), Refusal>
     ensures made { Pushes head.now.owner.name (numbers_made head.now) changes.old.items changes.new.items result }
     ensures named { IfErr result IsTransient }
 {
@@ -267,7 +267,7 @@ fn push_counters<'a>(changes: &mut Vec<Change<'a>>, head: &'a Head) -> Result<()
 }
 
 /// What a new account has before its parts.
-fn push_account<'a>(changes: &mut Vec<Change<'a>>, head: &'a Head) -> Result<(), Refusal>
+fn push_account<'a>(changes: &mut Vec<Change<'a>>, head: &'a AccountHead) -> Result<(), Refusal>
     ensures made { Pushes head.now.owner.name (account_made head.now) changes.old.items changes.new.items result }
     ensures named { IfErr result IsTransient }
 {
@@ -299,7 +299,7 @@ fn push_emptying<'a>(changes: &mut Vec<Change<'a>>, user: &'a [u8]) -> Result<()
 }
 
 /// All changes of a new account.
-fn added<'a>(alloc: Global, head: &'a Head, parts: &'a [Part]) -> Result<Vec<Change<'a>>, Refusal>
+fn added<'a>(alloc: Global, head: &'a AccountHead, parts: &'a [Part]) -> Result<Vec<Change<'a>>, Refusal>
     ensures made { IfOk result (λ changes. IsMaking head.now.owner.name (account_made head.now) head.now parts.now changes.items) }
     ensures named { IfErr result IsTransient }
 {
@@ -317,9 +317,9 @@ impl<S: Alter> Store<S> {
     /// # Errors
     ///
     /// `Memory`, `Store`.
-    pub fn add_whole(&mut self, head: &Head, parts: &[Part]) -> Result<(), Refusal>
+    pub fn add_whole(&mut self, head: &AccountHead, parts: &[Part]) -> Result<(), Refusal>
         requires { IsAccount head.now parts.now }
-        ensures { Writes (IsFree head.now.owner.name) (λ all. insert all head.now.owner.name (whole head.now parts.now empty)) (state S.Store self.old) (state S.Store self.new) result }
+        ensures { WritesStore (IsFree head.now.owner.name) (λ all. insert all head.now.owner.name (whole head.now parts.now empty)) (state S.Store self.old) (state S.Store self.new) result }
     {
         let changes = added(self.alloc, head, parts)?;
         self.apply(&changes)
@@ -332,7 +332,7 @@ impl<S: Alter> Store<S> {
     /// # Errors
     ///
     /// `Memory`, `Store`.
-    pub fn renew_whole(&mut self, head: &Head, parts: &[Part]) -> Result<(), Refusal>
+    pub fn renew_whole(&mut self, head: &AccountHead, parts: &[Part]) -> Result<(), Refusal>
         requires { IsAccount head.now parts.now }
         ensures writes { WritesAccount head.now.owner.name (takes_whole head.now parts.now) (state S.Store self.old) (state S.Store self.new) result }
         ensures named { IfErr result IsTransient }

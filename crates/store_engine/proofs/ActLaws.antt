@@ -1,41 +1,41 @@
 -- The same acts of a user leave the user with the same account.
 use Rattle.std.proofs.Common.{◌≡◌, ℕ, Bool, true, false, cond, List, [], ◌∷◌, Option, Some, None, MatchBool, option_map, refl, sym, ◌∙◌, ap, subst, inl, inr}
-use Rattle.addrparts.proofs.Outbounds.{bare-found}
-use Rattle.sieveexec.specs.Mails.{mail_of}
-use Rattle.sieveexec.specs.declared.envelope.Envelope.{Envelope}
-use Rattle.msproto.specs.declared.commands.Command.{Command}
-use Rattle.msproto.specs.declared.commands.Command.TheVariants.{Capability, Noop, Logout, Authenticate, Unauthenticate, HaveSpace, PutScript, CheckScript, ListScripts, SetActive, GetScript, DeleteScript, RenameScript}
-use Rattle.msproto.specs.declared.commands.Command.TheVariants as verb
-use Rattle.msproto.specs.declared.replies.Reply.{Reply}
-use Rattle.mailstore.specs.Account.{Account, is_closed, open_one, has_mail, messages_in}
-use Rattle.mailstore.specs.declared.queue.Outgoing.{Outgoing}
-use Rattle.mailstore.specs.declared.report.Report.{Report}
-use Rattle.mailstore.specs.declared.refusal.Refusal.{Refusal}
-use Rattle.sessions.specs.Replies.{is_ok}
-use Rattle.sessions.specs.Scripts.{Where, TellsFault, RepliesToText, RepliesToPut, RepliesToSet, RepliesToDelete, RepliesToRename, RepliesTo, obeyed, carried_out}
-use Rattle.deliverplan.specs.Delivered.{Delivers}
-use Rattle.deliverplan.proofs.DeliveryLaws.{one_delivery}
-use Rattle.mailengine.specs.declared.answer.Answer.{Answer}
-use Rattle.mailengine.specs.Limits.{limit_refusal}
-use Rattle.mailstore.specs.Account.{row_with}
-use Rattle.mailengine.specs.AccountEvents.{DeliversTo, deciding_text, Refuses}
-use Rattle.sessions.specs.Table.{RepliesOf}
-use Rattle.mailengine.specs.Upkeep.{instead}
-use Rattle.mailengine.proofs.UpkeepLemmas.{keeps_one}
-use Rattle.mailstore.specs.declared.refusal.Refusal.TheVariants.{UserExists, UserHasMail}
-use Rattle.mailengine.specs.OwnActs as own
-use Rattle.mailengine.specs.Terms.{Terms}
-use Rattle.mailengine.specs.OwnActs.{Act, ActsAlone, Alone, CommandsAlone, RepliesAlone, ReceivesOpen, ReceivesIn, RenewsAlone, JoinsIn, ReplacesAlone, ImportsIn, TakesRowAlone, TakesOpen, TakesFirstAlone, TakesMailOpen}
+use Rattle.mail_address.proofs.Outbounds.{bare-found}
+use Rattle.sieve_exec.specs.Mails.{mail_spec_of}
+use Rattle.sieve_exec.specs.declared.envelope.Envelope.{Envelope}
+use Rattle.managesieve_protocol.specs.declared.commands.ClientCommand.{ClientCommand}
+use Rattle.managesieve_protocol.specs.declared.commands.ClientCommand.TheVariants.{Capability, Noop, Logout, Authenticate, Unauthenticate, HaveSpace, PutScript, CheckScript, ListScripts, SetActive, GetScript, DeleteScript, RenameScript}
+use Rattle.managesieve_protocol.specs.declared.commands.ClientCommand.TheVariants as verb
+use Rattle.managesieve_protocol.specs.declared.replies.ServerReply.{ServerReply}
+use Rattle.store_accounts.specs.Account.{Account, is_closed_account, open_one, has_mail, messages_in}
+use Rattle.store_accounts.specs.declared.queue.QueuedMessage.{QueuedMessage}
+use Rattle.store_accounts.specs.declared.report.Report.{Report}
+use Rattle.store_accounts.specs.declared.refusal.Refusal.{Refusal}
+use Rattle.managesieve_sessions.specs.Replies.{is_ok}
+use Rattle.managesieve_sessions.specs.Scripts.{IfElse, TellsFault, RepliesToText, RepliesToPut, RepliesToSet, RepliesToDelete, RepliesToRename, RepliesTo, obeyed, carried_out}
+use Rattle.sieve_plan.specs.Delivered.{Delivers}
+use Rattle.sieve_plan.proofs.DeliveryLaws.{one_delivery}
+use Rattle.store_engine.specs.declared.answer.Answer.{Answer}
+use Rattle.store_engine.specs.Limits.{limit_refusal}
+use Rattle.store_accounts.specs.Account.{row_with}
+use Rattle.store_engine.specs.AccountEvents.{DeliversTo, deciding_text, MachineRefuses}
+use Rattle.managesieve_sessions.specs.Table.{RepliesOf}
+use Rattle.store_engine.specs.Upkeep.{instead}
+use Rattle.store_engine.proofs.UpkeepLemmas.{keeps_one}
+use Rattle.store_accounts.specs.declared.refusal.Refusal.TheVariants.{UserExists, UserHasMail}
+use Rattle.store_engine.specs.OwnActs as own
+use Rattle.store_engine.specs.Terms.{Terms}
+use Rattle.store_engine.specs.OwnActs.{UserAct, ActsAlone, ActsInTurn, CommandsAlone, RepliesAlone, ReceivesOpen, ReceivesIn, RenewsAlone, JoinsIn, ReplacesAlone, ImportsIn, TakesRowAlone, TakesOpen, TakesFirstAlone, TakesMailOpen}
 
 -- any two replies that a row allows agree in whether the word is OK
-AreAlike : (Reply → Type 0) → Type 0
-AreAlike Row = (one two : Reply) → Row one → Row two → is_ok one.word ≡ is_ok two.word
+AreAlike : (ServerReply → Type 0) → Type 0
+AreAlike Row = (one two : ServerReply) → Row one → Row two → is_ok one.word ≡ is_ok two.word
 
-alike_one : (reply : Reply) → AreAlike (λ r. r ≡ reply)
+alike_one : (reply : ServerReply) → AreAlike (λ r. r ≡ reply)
 unfolding AreAlike
-alike_one reply one two is was = ap (λ (r : Reply). is_ok r.word) (is ∙ sym was)
+alike_one reply one two is was = ap (λ (r : ServerReply). is_ok r.word) (is ∙ sym was)
 
-alike_where : (P : Type 0) (A B : Reply → Type 0) → AreAlike A → AreAlike B → AreAlike (λ r. Where P (A r) (B r))
+alike_where : (P : Type 0) (A B : ServerReply → Type 0) → AreAlike A → AreAlike B → AreAlike (λ r. IfElse P (A r) (B r))
 unfolding AreAlike
 alike_where P A B as_one as_two one two (inl (p, is)) (inl (q, was)) = as_one one two is was
 alike_where P A B as_one as_two one two (inr (p, is)) (inr (q, was)) = as_two one two is was
@@ -44,17 +44,17 @@ alike_where P A B as_one as_two one two (inr (p, is)) (inl (q, was)) = absurd (p
 
 alike_fault : (text : List ℕ) → AreAlike (TellsFault text)
 unfolding AreAlike
-alike_fault text one two is was = ap (λ (r : Reply). is_ok r.word) is.4 ∙ sym (ap (λ (r : Reply). is_ok r.word) was.4)
+alike_fault text one two is was = ap (λ (r : ServerReply). is_ok r.word) is.4 ∙ sym (ap (λ (r : ServerReply). is_ok r.word) was.4)
 
-alike_text : (text : List ℕ) (right : Reply) → AreAlike (RepliesToText text right)
+alike_text : (text : List ℕ) (right : ServerReply) → AreAlike (RepliesToText text right)
 alike_text text right = alike_where _ (λ r. r ≡ right) (TellsFault text) (alike_one right) (alike_fault text)
 
 -- where a command of the user changes an account, it does so by one word
-changes_one : (a : Account) (command : Command) (one two : Reply) → RepliesTo a command one → RepliesTo a command two → obeyed command one.word a ≡ obeyed command two.word a
+changes_one : (a : Account) (command : ClientCommand) (one two : ServerReply) → RepliesTo a command one → RepliesTo a command two → obeyed command one.word a ≡ obeyed command two.word a
 unfolding AreAlike
 changes_one a command one two is was = go command is was
   where
-    by : (c : Command) (b d : Bool) → b ≡ d → cond b (carried_out c a) a ≡ cond d (carried_out c a) a
+    by : (c : ClientCommand) (b d : Bool) → b ≡ d → cond b (carried_out c a) a ≡ cond d (carried_out c a) a
     by c b d same = ap (λ e. cond e (carried_out c a) a) same
 
     still : (b d : Bool) → cond b a a ≡ cond d a a
@@ -75,7 +75,7 @@ changes_one a command one two is was = go command is was
     rename : (old new : List ℕ) → AreAlike (RepliesToRename a old new)
     rename old new = alike_where _ _ _ (alike_where _ _ _ (alike_where _ _ _ (alike_one _) (alike_one _)) (alike_one _)) (alike_one _)
 
-    go : (c : Command) → RepliesTo a c one → RepliesTo a c two → obeyed c one.word a ≡ obeyed c two.word a
+    go : (c : ClientCommand) → RepliesTo a c one → RepliesTo a c two → obeyed c one.word a ≡ obeyed c two.word a
     go Capability h k = absurd h
     go (Noop tag) h k = absurd h
     go Logout h k = absurd h
@@ -91,7 +91,7 @@ changes_one a command one two is was = go command is was
     go (DeleteScript name) h k = by (DeleteScript name) (is_ok one.word) (is_ok two.word) (delete name one two h k)
     go (RenameScript old new) h k = by (RenameScript old new) (is_ok one.word) (is_ok two.word) (rename old new one two h k)
 
-commands_one : (account : Option Account) (command : Command) (octets : List ℕ) (one two : Option Account) → CommandsAlone account command octets one → CommandsAlone account command octets two → one ≡ two
+commands_one : (account : Option Account) (command : ClientCommand) (octets : List ℕ) (one two : Option Account) → CommandsAlone account command octets one → CommandsAlone account command octets two → one ≡ two
 commands_one account command octets one two is was = is.changed ∙ (go account command is.replies was.replies ∙ sym was.changed)
   where
     still : (a : Account) (b d : Bool) → Some (cond b a a) ≡ Some (cond d a a)
@@ -101,26 +101,26 @@ commands_one account command octets one two is was = is.changed ∙ (go account 
     still a false false = refl
 
     -- to an account that is closed the command is early, whatever it is
-    shown : (a : Account) (c : Command) (closed : Bool) → RepliesOf (cond closed None (Some a)) c is.reply → RepliesOf (cond closed None (Some a)) c was.reply → obeyed c is.reply.word a ≡ obeyed c was.reply.word a
-    shown a c true h k = ap (λ (r : Reply). obeyed c r.word a) (h ∙ sym k)
+    shown : (a : Account) (c : ClientCommand) (closed : Bool) → RepliesOf (cond closed None (Some a)) c is.reply → RepliesOf (cond closed None (Some a)) c was.reply → obeyed c is.reply.word a ≡ obeyed c was.reply.word a
+    shown a c true h k = ap (λ (r : ServerReply). obeyed c r.word a) (h ∙ sym k)
     shown a c false h k = changes_one a c is.reply was.reply h k
 
-    go : (o : Option Account) (c : Command) → RepliesAlone o c is.reply → RepliesAlone o c was.reply → option_map (obeyed c is.reply.word) o ≡ option_map (obeyed c was.reply.word) o
+    go : (o : Option Account) (c : ClientCommand) → RepliesAlone o c is.reply → RepliesAlone o c was.reply → option_map (obeyed c is.reply.word) o ≡ option_map (obeyed c was.reply.word) o
     go None c h k = refl
     go (Some a) Unauthenticate h k = still a (is_ok is.reply.word) (is_ok was.reply.word)
     go (Some a) (CheckScript text) h k = still a (is_ok is.reply.word) (is_ok was.reply.word)
-    go (Some a) Capability h k = ap (λ b. Some b) (shown a Capability (is_closed a) h k)
-    go (Some a) (Noop tag) h k = ap (λ b. Some b) (shown a (Noop tag) (is_closed a) h k)
-    go (Some a) Logout h k = ap (λ b. Some b) (shown a Logout (is_closed a) h k)
-    go (Some a) (Authenticate mechanism response) h k = ap (λ b. Some b) (shown a (Authenticate mechanism response) (is_closed a) h k)
-    go (Some a) (verb.Response text) h k = ap (λ b. Some b) (shown a (verb.Response text) (is_closed a) h k)
-    go (Some a) (HaveSpace name size) h k = ap (λ b. Some b) (shown a (HaveSpace name size) (is_closed a) h k)
-    go (Some a) (PutScript name text) h k = ap (λ b. Some b) (shown a (PutScript name text) (is_closed a) h k)
-    go (Some a) ListScripts h k = ap (λ b. Some b) (shown a ListScripts (is_closed a) h k)
-    go (Some a) (SetActive name) h k = ap (λ b. Some b) (shown a (SetActive name) (is_closed a) h k)
-    go (Some a) (GetScript name) h k = ap (λ b. Some b) (shown a (GetScript name) (is_closed a) h k)
-    go (Some a) (DeleteScript name) h k = ap (λ b. Some b) (shown a (DeleteScript name) (is_closed a) h k)
-    go (Some a) (RenameScript old new) h k = ap (λ b. Some b) (shown a (RenameScript old new) (is_closed a) h k)
+    go (Some a) Capability h k = ap (λ b. Some b) (shown a Capability (is_closed_account a) h k)
+    go (Some a) (Noop tag) h k = ap (λ b. Some b) (shown a (Noop tag) (is_closed_account a) h k)
+    go (Some a) Logout h k = ap (λ b. Some b) (shown a Logout (is_closed_account a) h k)
+    go (Some a) (Authenticate mechanism response) h k = ap (λ b. Some b) (shown a (Authenticate mechanism response) (is_closed_account a) h k)
+    go (Some a) (verb.Response text) h k = ap (λ b. Some b) (shown a (verb.Response text) (is_closed_account a) h k)
+    go (Some a) (HaveSpace name size) h k = ap (λ b. Some b) (shown a (HaveSpace name size) (is_closed_account a) h k)
+    go (Some a) (PutScript name text) h k = ap (λ b. Some b) (shown a (PutScript name text) (is_closed_account a) h k)
+    go (Some a) ListScripts h k = ap (λ b. Some b) (shown a ListScripts (is_closed_account a) h k)
+    go (Some a) (SetActive name) h k = ap (λ b. Some b) (shown a (SetActive name) (is_closed_account a) h k)
+    go (Some a) (GetScript name) h k = ap (λ b. Some b) (shown a (GetScript name) (is_closed_account a) h k)
+    go (Some a) (DeleteScript name) h k = ap (λ b. Some b) (shown a (DeleteScript name) (is_closed_account a) h k)
+    go (Some a) (RenameScript old new) h k = ap (λ b. Some b) (shown a (RenameScript old new) (is_closed_account a) h k)
 
 -- ---- deliveries
 
@@ -128,7 +128,7 @@ delivered_one : (terms : Terms) (envelope : Envelope) (message : List ℕ) (a : 
 delivered_one terms envelope message a r1 r2 one two is was =
     let found : Some is.own ≡ Some was.own = sym (bare-found a.address is.own is.address) ∙ bare-found a.address was.own was.address in
     let same : is.own ≡ was.own = cc in
-    (one_delivery was.own (mail_of message envelope terms.when) (deciding_text terms.default a) a r1 r2 one two (subst (λ own. Delivers own (mail_of message envelope terms.when) (deciding_text terms.default a) a r1 one) same is.delivers) was.delivers).1
+    (one_delivery was.own (mail_spec_of message envelope terms.when) (deciding_text terms.default a) a r1 r2 one two (subst (λ own. Delivers own (mail_spec_of message envelope terms.when) (deciding_text terms.default a) a r1 one) same is.delivers) was.delivers).1
 
 receives_one : (o : Option Refusal) (account : Option Account) (envelope : Envelope) (message : List ℕ) (terms : Terms) (answer : Answer) (one two : Option Account)
     → ReceivesIn o account envelope message terms answer one → ReceivesIn o account envelope message terms answer two → one ≡ two
@@ -141,41 +141,41 @@ receives_one None account envelope message terms answer one two is was = go (ope
 
 -- ---- acts
 
-act_one : (user : List ℕ) (account : Option Account) (act : Act) (one two : Option Account) → ActsAlone user account act one → ActsAlone user account act two → one ≡ two
+act_one : (user : List ℕ) (account : Option Account) (act : UserAct) (one two : Option Account) → ActsAlone user account act one → ActsAlone user account act two → one ≡ two
 act_one user account (own.Commands command octets) one two is was = commands_one account command octets one two is was
 act_one user account (own.LogsIn password succeeds) one two is was = is.stays ∙ sym was.stays
 act_one user account (own.Receives envelope message terms answer) one two is was = receives_one (limit_refusal envelope message terms.when.moment) account envelope message terms answer one two is was
 act_one user account (own.Joins address salt password answer) one two (inl (new, is)) (inl (too, was)) = go account is was
   where
-    over : (a : Account) (closed full : Bool) → MatchBool closed (MatchBool full (Refuses UserHasMail (Some a) answer one) (RenewsAlone a address salt password answer one)) (Refuses UserExists (Some a) answer one)
-        → MatchBool closed (MatchBool full (Refuses UserHasMail (Some a) answer two) (RenewsAlone a address salt password answer two)) (Refuses UserExists (Some a) answer two) → one ≡ two
+    over : (a : Account) (closed full : Bool) → MatchBool closed (MatchBool full (MachineRefuses UserHasMail (Some a) answer one) (RenewsAlone a address salt password answer one)) (MachineRefuses UserExists (Some a) answer one)
+        → MatchBool closed (MatchBool full (MachineRefuses UserHasMail (Some a) answer two) (RenewsAlone a address salt password answer two)) (MachineRefuses UserExists (Some a) answer two) → one ≡ two
     over a true true is was = is.stays ∙ sym was.stays
     over a true false is was = is.changed ∙ sym was.changed
     over a false full is was = is.stays ∙ sym was.stays
 
     go : (o : Option Account) → JoinsIn o address salt password answer one → JoinsIn o address salt password answer two → one ≡ two
     go None is was = is.changed ∙ sym was.changed
-    go (Some a) is was = over a (is_closed a) (has_mail a) is was
+    go (Some a) is was = over a (is_closed_account a) (has_mail a) is was
 act_one user account (own.Joins address salt password answer) one two (inr (bad, is)) (inr (too, was)) = is.stays ∙ sym was.stays
 act_one user account (own.Joins address salt password answer) one two (inl (new, is)) (inr (bad, was)) = absurd (bad new)
 act_one user account (own.Joins address salt password answer) one two (inr (bad, is)) (inl (new, was)) = absurd (bad new)
 act_one user account (own.IsImported head parts answer) one two (inl (fit, is)) (inl (too, was)) = go account is was
   where
-    over : (a : Account) (closed full : Bool) → MatchBool closed (MatchBool full (Refuses UserHasMail (Some a) answer one) (ReplacesAlone a head parts answer one)) (Refuses UserExists (Some a) answer one)
-        → MatchBool closed (MatchBool full (Refuses UserHasMail (Some a) answer two) (ReplacesAlone a head parts answer two)) (Refuses UserExists (Some a) answer two) → one ≡ two
+    over : (a : Account) (closed full : Bool) → MatchBool closed (MatchBool full (MachineRefuses UserHasMail (Some a) answer one) (ReplacesAlone a head parts answer one)) (MachineRefuses UserExists (Some a) answer one)
+        → MatchBool closed (MatchBool full (MachineRefuses UserHasMail (Some a) answer two) (ReplacesAlone a head parts answer two)) (MachineRefuses UserExists (Some a) answer two) → one ≡ two
     over a true true is was = is.stays ∙ sym was.stays
     over a true false is was = is.changed ∙ sym was.changed
     over a false full is was = is.stays ∙ sym was.stays
 
     go : (o : Option Account) → ImportsIn o head parts answer one → ImportsIn o head parts answer two → one ≡ two
     go None is was = is.changed ∙ sym was.changed
-    go (Some a) is was = over a (is_closed a) (has_mail a) is was
+    go (Some a) is was = over a (is_closed_account a) (has_mail a) is was
 act_one user account (own.IsImported head parts answer) one two (inr (bad, is)) (inr (too, was)) = is.stays ∙ sym was.stays
 act_one user account (own.IsImported head parts answer) one two (inl (fit, is)) (inr (bad, was)) = absurd (bad fit)
 act_one user account (own.IsImported head parts answer) one two (inr (bad, is)) (inl (fit, was)) = absurd (bad fit)
 act_one user account (own.TakesOut id answer) one two is was = go (open_one account) is was
   where
-    row : (a : Account) (o : Option Outgoing) → TakesRowAlone a o answer one → TakesRowAlone a o answer two → one ≡ two
+    row : (a : Account) (o : Option QueuedMessage) → TakesRowAlone a o answer one → TakesRowAlone a o answer two → one ≡ two
     row a None is was = is.stays ∙ sym was.stays
     row a (Some out) is was = is.changed ∙ sym was.changed
 
@@ -193,8 +193,8 @@ act_one user account (own.TakesMail folder answer) one two is was = go (open_one
     go (Some a) is was = row a (messages_in a.folders folder) is was
 act_one user account (own.IsKept upkeep answer) one two is was = is.2 ∙ (ap (λ o. instead o account) (keeps_one answer is.0 was.0 upkeep account is.1 was.1) ∙ sym was.2)
 
-pub alone_ends : (user : List ℕ) (acts : List Act) (account one two : Option Account) → Alone user account acts one → Alone user account acts two → one ≡ two
+pub alone_ends : (user : List ℕ) (acts : List UserAct) (account one two : Option Account) → ActsInTurn user account acts one → ActsInTurn user account acts two → one ≡ two
 alone_ends user [] account one two is was = is ∙ sym was
 alone_ends user (act ∷ more) account one two is was =
     let same = act_one user account act is.0 was.0 is.1 was.1 in
-    alone_ends user more was.0 one two (subst (λ o. Alone user o more one) same is.2) was.2
+    alone_ends user more was.0 one two (subst (λ o. ActsInTurn user o more one) same is.2) was.2

@@ -2,27 +2,27 @@
 use Rattle.std.proofs.Common.{◌≡◌, ℕ, Bool, true, false, cond, List, [], ◌∷◌, codes, Some, None, refl, sym, ap, ◌∙◌, arith}
 use Rattle.std.proofs.lemmas.Cmp.{nat_list_cmp_total}
 use Rattle.std.specs.FinMap.{empty, get, get-remove}
-use Rattle.vacreply.specs.Handles.{Named}
-use Rattle.mailstore.specs.Account.{Account, deletes_script}
-use Rattle.mailstore.specs.declared.refusal.Refusal.TheVariants.{Memory, NoUser}
-use Rattle.msproto.specs.declared.commands.Command.TheVariants.{ListScripts, Noop, PutScript}
-use Rattle.sessions.specs.Clients.{Client, new_client}
-use Rattle.sessions.specs.Replies.{is_ok}
-use Rattle.sessions.specs.Scripts.{carried_out}
-use Rattle.mailengine.specs.declared.event.Event.TheVariants.{TakeOut}
-use Rattle.mailengine.specs.declared.answer.Answer.TheVariants.{Refused}
-use Rattle.mailengine.specs.OwnActs as own
-use Rattle.mailengine.specs.OwnActs.{Act, ActsAlone, Alone, acts_in, command_acts}
-use Rattle.mailengine.specs.Spacing.{Entry, Thread, AreSpaced, kept_in}
-use Rattle.mailengine.specs.World.{World}
-use Rattle.mailengine.proofs.ActLaws.{alone_ends}
+use Rattle.sieve_vacation.specs.Handles.{Named}
+use Rattle.store_accounts.specs.Account.{Account, deletes_script}
+use Rattle.store_accounts.specs.declared.refusal.Refusal.TheVariants.{Memory, NoUser}
+use Rattle.managesieve_protocol.specs.declared.commands.ClientCommand.TheVariants.{ListScripts, Noop, PutScript}
+use Rattle.managesieve_sessions.specs.Clients.{Client, new_client}
+use Rattle.managesieve_sessions.specs.Replies.{is_ok}
+use Rattle.managesieve_sessions.specs.Scripts.{carried_out}
+use Rattle.store_engine.specs.declared.event.Event.TheVariants.{TakeOut}
+use Rattle.store_engine.specs.declared.answer.Answer.TheVariants.{Refused}
+use Rattle.store_engine.specs.OwnActs as own
+use Rattle.store_engine.specs.OwnActs.{UserAct, ActsAlone, ActsInTurn, acts_in, command_acts}
+use Rattle.store_engine.specs.Spacing.{SentReply, Thread, AreSpaced, kept_in}
+use Rattle.store_engine.specs.World.{World}
+use Rattle.store_engine.proofs.ActLaws.{alone_ends}
 
 -- ---- spacing
 
 to_bob : Thread
 to_bob = record { user = codes "alice"; handle = Named (codes "h"); sender = codes "bob@example.net" }
 
-entry_at : ℕ → Entry
+entry_at : ℕ → SentReply
 unfolding to_bob
 entry_at moment = record { thread = to_bob; moment = moment; period = 604800 }
 
@@ -77,14 +77,14 @@ noop_by_alice = refl
 -- ---- what a user alone can't see, whatever the table of events says
 
 -- a script goes by another user's command: the user did nothing
-deleted_by_another : (a : Account) (text : List ℕ) → get a.scripts (codes "away") ≡ Some text → Alone (codes "carol") (Some a) [] (Some (deletes_script (codes "away") a)) → ⊥
+deleted_by_another : (a : Account) (text : List ℕ) → get a.scripts (codes "away") ≡ Some text → ActsInTurn (codes "carol") (Some a) [] (Some (deletes_script (codes "away") a)) → ⊥
 deleted_by_another a text has is =
     let same : deletes_script (codes "away") a ≡ a = cc in
     let no : None ≡ Some text = sym (get-remove nat_list_cmp_total a.scripts (codes "away") (codes "away")) ∙ (ap (λ b. get b.scripts (codes "away")) same ∙ has) in
     cc
 
 -- a row of the queue gets one number, whatever numbers other users' rows have
-one_number : (act : Act) (a one two : Account) → ActsAlone (codes "carol") (Some a) act (Some one) → ActsAlone (codes "carol") (Some a) act (Some two) → one.next_out ≡ two.next_out
+one_number : (act : UserAct) (a one two : Account) → ActsAlone (codes "carol") (Some a) act (Some one) → ActsAlone (codes "carol") (Some a) act (Some two) → one.next_out ≡ two.next_out
 one_number act a one two is was =
     let ends : Some one ≡ Some two = alone_ends (codes "carol") (act ∷ []) (Some a) (Some one) (Some two) (Some one, is, refl) (Some two, was, refl) in
     let same : one ≡ two = cc in

@@ -3,46 +3,46 @@ use Rattle.std.proofs.Common.{◌≡◌, ℕ, ◌⊎◌, Bool, true, false, cond
 use Rattle.std.specs.Prelude.{◌&&◌, not, is_some, is_none, nat_lt, MatchBool}
 use Rattle.std.specs.FinMap.{empty, get, insert, get-insert}
 use Rattle.std.proofs.lemmas.Cmp.{nat_list_cmp_total}
-use Rattle.msproto.specs.declared.commands.Command.{Command}
-use Rattle.msproto.specs.declared.commands.Command.TheVariants.{Capability, Noop, Logout, Authenticate, Unauthenticate, HaveSpace, PutScript, CheckScript, ListScripts, SetActive, GetScript, DeleteScript, RenameScript, Response}
-use Rattle.msproto.specs.declared.items.Item.{Item}
-use Rattle.msproto.specs.declared.items.Item.TheVariants as item
-use Rattle.msproto.specs.declared.replies.Reply.{Reply}
-use Rattle.msproto.specs.declared.replies.Status.{Status}
-use Rattle.msproto.specs.Replies.{spelled}
-use Rattle.saslplain.specs.Parts.{login_of}
-use Rattle.sieveexec.specs.declared.envelope.Envelope.{Envelope}
-use Rattle.mailstore.specs.Account.{Account, Accounts, is_closed, open_of, has_mail, renews, in_place, with_user, messages_in, takes_out, takes_mail}
-use Rattle.mailstore.proofs.StandingLemmas.{open_there}
+use Rattle.managesieve_protocol.specs.declared.commands.ClientCommand.{ClientCommand}
+use Rattle.managesieve_protocol.specs.declared.commands.ClientCommand.TheVariants.{Capability, Noop, Logout, Authenticate, Unauthenticate, HaveSpace, PutScript, CheckScript, ListScripts, SetActive, GetScript, DeleteScript, RenameScript, Response}
+use Rattle.managesieve_protocol.specs.declared.items.ClientItem.{ClientItem}
+use Rattle.managesieve_protocol.specs.declared.items.ClientItem.TheVariants as item
+use Rattle.managesieve_protocol.specs.declared.replies.ServerReply.{ServerReply}
+use Rattle.managesieve_protocol.specs.declared.replies.Status.{Status}
+use Rattle.managesieve_protocol.specs.Replies.{reply_octets}
+use Rattle.sasl_plain.specs.Parts.{login_of}
+use Rattle.sieve_exec.specs.declared.envelope.Envelope.{Envelope}
+use Rattle.store_accounts.specs.Account.{Account, Accounts, is_closed_account, open_account_of, has_mail, renews, in_place, with_user, messages_in, takes_out, takes_mail}
+use Rattle.store_accounts.proofs.StandingLemmas.{open_there}
 use Rattle.sqlite_typed.proofs.TestLemmas.{bytes_eq_refl, same_bytes}
-use Rattle.accountfiles.specs.declared.head.Head.{Head}
-use Rattle.accountfiles.specs.declared.part.Part.{Part}
-use Rattle.mailstore.specs.Whole.{whole, takes_whole}
-use Rattle.mailstore.specs.declared.queue.Outgoing.{Outgoing}
-use Rattle.mailstore.specs.declared.refusal.Refusal.{Refusal}
-use Rattle.mailstore.specs.declared.refusal.Refusal.TheVariants.{Memory, Store, NotOurs, NoUser, TooLarge, BadEnvelope, BadMoment, UserExists, BadUser, NoRow, AccountClosed, UserIsOpen, UserHasMail, BadScriptName, ScriptTooLarge, TooManyScripts, BadAccount}
-use Rattle.sessions.specs.Clients.{Client, item_in, past}
-use Rattle.sessions.specs.Logins.{admitted, admitted_by, checked_by, has_password, is_plain, is_star, login_reply}
-use Rattle.sessions.specs.Replies.{is_ok, declined, farewell}
-use Rattle.sessions.specs.Scripts.{obeyed}
-use Rattle.sessions.specs.Steps.{changed_for, Obeys, Answers, StepsAt, IsStep}
-use Rattle.sessions.specs.Table.{needs_login, early_reply, account_of, RepliesOf, RepliesIn, RepliesTaken}
-use Rattle.sessions.specs.Turns.{login_text}
-use Rattle.sessions.specs.declared.progress.Progress.{Progress}
-use Rattle.sessions.specs.declared.progress.Progress.TheVariants as p
-use Rattle.mailengine.specs.declared.event.Event.{Event}
-use Rattle.mailengine.specs.declared.event.Event.TheVariants.{Open, Give, Step, GiveUp, Close, Deliver, AddUser, Import, TakeOut, TakeMail, Keep}
-use Rattle.mailengine.specs.declared.answer.Answer.{Answer}
-use Rattle.mailengine.specs.declared.answer.Answer.TheVariants.{Delivered, Added, Imported, Taken, Refused, MailTaken}
-use Rattle.mailengine.specs.Limits.{limit_refusal}
-use Rattle.mailstore.specs.Account.{row_with}
-use Rattle.mailengine.specs.AccountEvents.{Refuses, Renews, Replaces, absence, DeliversIn, DeliversUnder, Delivery, AddsUnder, Addition, ImportsUnder, Importing, TakesRow, TakesIn, Taking, TakesFirst, TakesMailIn, MailTaking}
-use Rattle.mailengine.specs.declared.upkeep.Upkeep.{Upkeep}
-use Rattle.mailengine.specs.Upkeep.{kept_password, instead, put_instead, Keeping}
-use Rattle.mailengine.proofs.UpkeepLemmas.{lost_stays}
-use Rattle.mailengine.specs.OwnActs.{Act, Commands, LogsIn, Receives, Joins, IsImported, TakesOut, TakesMail, IsKept, TakesFirstAlone, TakesMailOpen, RepliesAlone, CommandsAlone, admits, ReceivesOpen, ReceivesIn, RenewsAlone, JoinsIn, ReplacesAlone, ImportsIn, TakesRowAlone, TakesOpen, ActsAlone, Alone, is_user, when_of, is_welcome, login_acts, text_acts, command_acts, item_acts, step_acts, is_lost, event_acts, acts_in, acts, IsAlone}
-use Rattle.mailengine.specs.Terms.{Terms, terms}
-use Rattle.mailengine.specs.World.{World, InSession, Opens, Steps, Happens, MayRefuse, IsRefused, Next, Runs}
+use Rattle.store_text.specs.declared.head.AccountHead.{AccountHead}
+use Rattle.store_text.specs.declared.part.Part.{Part}
+use Rattle.store_accounts.specs.Whole.{whole, takes_whole}
+use Rattle.store_accounts.specs.declared.queue.QueuedMessage.{QueuedMessage}
+use Rattle.store_accounts.specs.declared.refusal.Refusal.{Refusal}
+use Rattle.store_accounts.specs.declared.refusal.Refusal.TheVariants.{Memory, Store, NotOurs, NoUser, TooLarge, BadEnvelope, BadMoment, UserExists, BadUser, NoRow, AccountClosed, UserIsOpen, UserHasMail, BadScriptName, ScriptTooLarge, TooManyScripts, BadAccount}
+use Rattle.managesieve_sessions.specs.Clients.{Client, item_in, without_octets}
+use Rattle.managesieve_sessions.specs.Logins.{admitted, admitted_by, checked_by, has_password, is_plain_mechanism, is_star, login_reply}
+use Rattle.managesieve_sessions.specs.Replies.{is_ok, negative_reply, bye_reply}
+use Rattle.managesieve_sessions.specs.Scripts.{obeyed}
+use Rattle.managesieve_sessions.specs.Steps.{changed_for, ObeysCommand, StepAnswers, StepsAt, IsStep}
+use Rattle.managesieve_sessions.specs.Table.{needs_login, early_reply, account_of, RepliesOf, RepliesIn, RepliesTaken}
+use Rattle.managesieve_sessions.specs.CommandOutcomes.{login_text}
+use Rattle.managesieve_sessions.specs.declared.progress.Progress.{Progress}
+use Rattle.managesieve_sessions.specs.declared.progress.Progress.TheVariants as p
+use Rattle.store_engine.specs.declared.event.Event.{Event}
+use Rattle.store_engine.specs.declared.event.Event.TheVariants.{Open, Give, Step, GiveUp, Close, Deliver, AddUser, Import, TakeOut, TakeMail, Keep}
+use Rattle.store_engine.specs.declared.answer.Answer.{Answer}
+use Rattle.store_engine.specs.declared.answer.Answer.TheVariants.{Delivered, Added, Imported, Taken, Refused, MailTaken}
+use Rattle.store_engine.specs.Limits.{limit_refusal}
+use Rattle.store_accounts.specs.Account.{row_with}
+use Rattle.store_engine.specs.AccountEvents.{MachineRefuses, Renews, Replaces, absence, DeliversIn, DeliversUnder, Delivery, AddsUnder, Addition, ImportsUnder, Importing, TakesQueueRow, TakesFromQueue, Taking, TakesFirst, TakesMailIn, MailTaking}
+use Rattle.store_engine.specs.declared.upkeep.Upkeep.{Upkeep}
+use Rattle.store_engine.specs.Upkeep.{kept_password, instead, put_instead, Keeping}
+use Rattle.store_engine.proofs.UpkeepLemmas.{lost_stays}
+use Rattle.store_engine.specs.OwnActs.{UserAct, Commands, LogsIn, Receives, Joins, IsImported, TakesOut, TakesMail, IsKept, TakesFirstAlone, TakesMailOpen, RepliesAlone, CommandsAlone, admits, ReceivesOpen, ReceivesIn, RenewsAlone, JoinsIn, ReplacesAlone, ImportsIn, TakesRowAlone, TakesOpen, ActsAlone, ActsInTurn, is_user, when_of, is_welcome, login_acts, text_acts, command_acts, item_acts, step_acts, is_lost, event_acts, acts_in, user_acts, IsAlone}
+use Rattle.store_engine.specs.Terms.{Terms, terms}
+use Rattle.store_engine.specs.World.{World, InSession, OpensSession, StepsSession, EventHappens, MayRefuseEvent, IsEventRefused, Next, Runs}
 
 -- ---- accounts by name
 
@@ -87,21 +87,21 @@ changed_quietly accounts user (Some name) change quiet = go (get accounts name) 
 
 -- ---- acts in turn
 
-pub alone_one : (user : List ℕ) (account later : Option Account) (act : Act) → ActsAlone user account act later → Alone user account (act ∷ []) later
+pub alone_one : (user : List ℕ) (account later : Option Account) (act : UserAct) → ActsAlone user account act later → ActsInTurn user account (act ∷ []) later
 alone_one user account later act is = (later, is, refl)
 
-pub alone_then : (user : List ℕ) (one two : List Act) (account mid end : Option Account) → Alone user account one mid → Alone user mid two end → Alone user account (one ++ two) end
-alone_then user [] two account mid end is was = subst (λ a. Alone user a two end) is was
+pub alone_then : (user : List ℕ) (one two : List UserAct) (account mid end : Option Account) → ActsInTurn user account one mid → ActsInTurn user mid two end → ActsInTurn user account (one ++ two) end
+alone_then user [] two account mid end is was = subst (λ a. ActsInTurn user a two end) is was
 alone_then user (act ∷ more) two account mid end is was = (is.0, is.1, alone_then user more two is.0 mid end is.2 was)
 
 -- an act under a name, of this user or another: it may be lost, where nothing changed
-pub alone_of : (user name : List ℕ) (lost : Bool) (act : Act) (account later : Option Account)
+pub alone_of : (user name : List ℕ) (lost : Bool) (act : UserAct) (account later : Option Account)
     → (is_user user name ≡ false → later ≡ account) → (lost ≡ true → later ≡ account) → (is_user user name ≡ true → ActsAlone user account act later)
-    → Alone user account (cond lost [] (when_of user (Some name) act)) later
+    → ActsInTurn user account (cond lost [] (when_of user (Some name) act)) later
 alone_of user name true act account later other gone own = gone refl
 alone_of user name false act account later other gone own = go (is_user user name) refl
   where
-    go : (b : Bool) → is_user user name ≡ b → Alone user account (cond b (act ∷ []) []) later
+    go : (b : Bool) → is_user user name ≡ b → ActsInTurn user account (cond b (act ∷ []) []) later
     go true is = alone_one user account later act (own is)
     go false is = other is
 
@@ -113,7 +113,7 @@ not_lost answer said is found lost = absurd (let bad : true ≡ false = sym lost
 
 module _ (user name : List ℕ) (accounts later : Accounts) (answer : Answer) where
   -- what stands for the user where nobody's account changed
-  pub refused_stays : (refusal : Refusal) → Refuses refusal accounts answer later → get later user ≡ get accounts user
+  pub refused_stays : (refusal : Refusal) → MachineRefuses refusal accounts answer later → get later user ≡ get accounts user
   refused_stays refusal is = ap (λ all. get all user) is.stays
 
   -- a delivery: to another, or lost
@@ -131,14 +131,14 @@ module _ (user name : List ℕ) (accounts later : Accounts) (answer : Answer) wh
 
       go : (o : Option Refusal) → DeliversUnder o accounts name terms envelope message answer later → get later user ≡ get accounts user
       go (Some refusal) is = refused_stays refusal is
-      go None is = inserted (open_of accounts name) is
+      go None is = inserted (open_account_of accounts name) is
 
   pub addition_other : (address salt password : List ℕ) → Addition accounts name address salt password answer later
       → (is_user user name ≡ false) ⊎ (is_lost answer ≡ true) → get later user ≡ get accounts user
   addition_other address salt password (inr (bad, is)) why = refused_stays BadUser is
   addition_other address salt password (inl (new, made)) why = go (get accounts name) made
     where
-      over : (closed full : Bool) → MatchBool closed (MatchBool full (Refuses UserHasMail accounts answer later) (Renews accounts name address salt password answer later)) (Refuses UserExists accounts answer later) → get later user ≡ get accounts user
+      over : (closed full : Bool) → MatchBool closed (MatchBool full (MachineRefuses UserHasMail accounts answer later) (Renews accounts name address salt password answer later)) (MachineRefuses UserExists accounts answer later) → get later user ≡ get accounts user
       over true true is = refused_stays UserHasMail is
       over true false is = by why
         where
@@ -148,14 +148,14 @@ module _ (user name : List ℕ) (accounts later : Accounts) (answer : Answer) wh
       over false full is = refused_stays UserExists is
 
       go : (o : Option Account) → AddsUnder accounts name address salt password o answer later → get later user ≡ get accounts user
-      go (Some a) is = over (is_closed a) (has_mail a) is
+      go (Some a) is = over (is_closed_account a) (has_mail a) is
       go None is = by why
         where
           by : (is_user user name ≡ false) ⊎ (is_lost answer ≡ true) → get later user ≡ get accounts user
           by (inl other) = ap (λ all. get all user) is.changed ∙ put_other accounts user name _ other
           by (inr lost) = absurd (not_lost answer Added is.added refl lost)
 
-  pub importing_other : (head : Head) (parts : List Part) → head.owner.name ≡ name → Importing accounts head parts answer later
+  pub importing_other : (head : AccountHead) (parts : List Part) → head.owner.name ≡ name → Importing accounts head parts answer later
       → (is_user user name ≡ false) ⊎ (is_lost answer ≡ true) → get later user ≡ get accounts user
   importing_other head parts named (inr (bad, is)) why = refused_stays BadAccount is
   importing_other head parts named (inl (fit, made)) why = go (get accounts head.owner.name) made
@@ -163,7 +163,7 @@ module _ (user name : List ℕ) (accounts later : Accounts) (answer : Answer) wh
       elsewhere : is_user user name ≡ false → is_user user head.owner.name ≡ false
       elsewhere other = ap (is_user user) named ∙ other
 
-      over : (closed full : Bool) → MatchBool closed (MatchBool full (Refuses UserHasMail accounts answer later) (Replaces accounts head parts answer later)) (Refuses UserExists accounts answer later) → get later user ≡ get accounts user
+      over : (closed full : Bool) → MatchBool closed (MatchBool full (MachineRefuses UserHasMail accounts answer later) (Replaces accounts head parts answer later)) (MachineRefuses UserExists accounts answer later) → get later user ≡ get accounts user
       over true true is = refused_stays UserHasMail is
       over true false is = by why
         where
@@ -173,7 +173,7 @@ module _ (user name : List ℕ) (accounts later : Accounts) (answer : Answer) wh
       over false full is = refused_stays UserExists is
 
       go : (o : Option Account) → ImportsUnder accounts head parts o answer later → get later user ≡ get accounts user
-      go (Some a) is = over (is_closed a) (has_mail a) is
+      go (Some a) is = over (is_closed_account a) (has_mail a) is
       go None is = by why
         where
           by : (is_user user name ≡ false) ⊎ (is_lost answer ≡ true) → get later user ≡ get accounts user
@@ -181,9 +181,9 @@ module _ (user name : List ℕ) (accounts later : Accounts) (answer : Answer) wh
           by (inr lost) = absurd (not_lost answer Imported is.imported refl lost)
 
   pub taking_other : (id : ℕ) → Taking accounts name id answer later → (is_user user name ≡ false) ⊎ (is_lost answer ≡ true) → get later user ≡ get accounts user
-  taking_other id made why = go (open_of accounts name) made
+  taking_other id made why = go (open_account_of accounts name) made
     where
-      row : (o : Option Outgoing) → TakesRow accounts name o answer later → get later user ≡ get accounts user
+      row : (o : Option QueuedMessage) → TakesQueueRow accounts name o answer later → get later user ≡ get accounts user
       row None is = refused_stays NoRow is
       row (Some out) is = by why
         where
@@ -191,12 +191,12 @@ module _ (user name : List ℕ) (accounts later : Accounts) (answer : Answer) wh
           by (inl other) = ap (λ all. get all user) is.changed ∙ changed_other accounts user name (takes_out out.id) other
           by (inr lost) = absurd (not_lost answer (Taken out) is.taken refl lost)
 
-      go : (o : Option Account) → TakesIn accounts name id o answer later → get later user ≡ get accounts user
+      go : (o : Option Account) → TakesFromQueue accounts name id o answer later → get later user ≡ get accounts user
       go None is = refused_stays NoUser is
       go (Some a) is = row (row_with id a.queue) is
 
   pub mail_taking_other : (folder : List ℕ) → MailTaking accounts name folder answer later → (is_user user name ≡ false) ⊎ (is_lost answer ≡ true) → get later user ≡ get accounts user
-  mail_taking_other folder made why = go (open_of accounts name) made
+  mail_taking_other folder made why = go (open_account_of accounts name) made
     where
       row : (messages : List (List ℕ)) → TakesFirst accounts name folder messages answer later → get later user ≡ get accounts user
       row [] is = refused_stays NoRow is
@@ -221,7 +221,7 @@ module _ (user name : List ℕ) (accounts later : Accounts) (answer : Answer) wh
 
 module _ (user : List ℕ) (accounts later : Accounts) (answer : Answer) (itself : is_user user user ≡ true) where
   -- what the machine refuses changes nothing of the account
-  refused_alone : (refusal : Refusal) (account : Option Account) → get accounts user ≡ account → Refuses refusal accounts answer later → Refuses refusal account answer (get later user)
+  refused_alone : (refusal : Refusal) (account : Option Account) → get accounts user ≡ account → MachineRefuses refusal accounts answer later → MachineRefuses refusal account answer (get later user)
   refused_alone refusal account has is = record { refused = is.refused; stays = ap (λ all. get all user) is.stays ∙ has }
 
   pub delivery_own : (envelope : Envelope) (message : List ℕ) (terms : Terms) → Delivery accounts user envelope message terms answer later
@@ -234,15 +234,15 @@ module _ (user : List ℕ) (accounts later : Accounts) (answer : Answer) (itself
 
       go : (o : Option Refusal) → DeliversUnder o accounts user terms envelope message answer later → ReceivesIn o (get accounts user) envelope message terms answer (get later user)
       go (Some refusal) is = refused_alone refusal (get accounts user) refl is
-      go None is = inserted (open_of accounts user) is
+      go None is = inserted (open_account_of accounts user) is
 
   pub addition_own : (address salt password : List ℕ) → Addition accounts user address salt password answer later → ActsAlone user (get accounts user) (Joins address salt password answer) (get later user)
   addition_own address salt password (inr (bad, is)) = inr (bad, refused_alone BadUser (get accounts user) refl is)
   addition_own address salt password (inl (new, made)) = inl (new, go (get accounts user) refl made)
     where
       over : (a : Account) → get accounts user ≡ Some a → (closed full : Bool)
-          → MatchBool closed (MatchBool full (Refuses UserHasMail accounts answer later) (Renews accounts user address salt password answer later)) (Refuses UserExists accounts answer later)
-          → MatchBool closed (MatchBool full (Refuses UserHasMail (Some a) answer (get later user)) (RenewsAlone a address salt password answer (get later user))) (Refuses UserExists (Some a) answer (get later user))
+          → MatchBool closed (MatchBool full (MachineRefuses UserHasMail accounts answer later) (Renews accounts user address salt password answer later)) (MachineRefuses UserExists accounts answer later)
+          → MatchBool closed (MatchBool full (MachineRefuses UserHasMail (Some a) answer (get later user)) (RenewsAlone a address salt password answer (get later user))) (MachineRefuses UserExists (Some a) answer (get later user))
       over a has true true is = refused_alone UserHasMail (Some a) has is
       over a has true false is = record {
         says = is.added;
@@ -251,16 +251,16 @@ module _ (user : List ℕ) (accounts later : Accounts) (answer : Answer) (itself
       over a has false full is = refused_alone UserExists (Some a) has is
 
       go : (o : Option Account) → get accounts user ≡ o → AddsUnder accounts user address salt password o answer later → JoinsIn o address salt password answer (get later user)
-      go (Some a) has is = over a has (is_closed a) (has_mail a) is
+      go (Some a) has is = over a has (is_closed_account a) (has_mail a) is
       go None has is = record { says = is.added; changed = ap (λ all. get all user) is.changed ∙ put_own accounts user _ itself }
 
-  pub importing_own : (head : Head) (parts : List Part) → head.owner.name ≡ user → Importing accounts head parts answer later → ActsAlone user (get accounts user) (IsImported head parts answer) (get later user)
+  pub importing_own : (head : AccountHead) (parts : List Part) → head.owner.name ≡ user → Importing accounts head parts answer later → ActsAlone user (get accounts user) (IsImported head parts answer) (get later user)
   importing_own head parts named (inr (bad, is)) = inr (bad, refused_alone BadAccount (get accounts user) refl is)
   importing_own head parts named (inl (fit, made)) = inl (fit, go (get accounts user) refl (subst (λ n. ImportsUnder accounts head parts (get accounts n) answer later) named made))
     where
       over : (a : Account) → get accounts user ≡ Some a → (closed full : Bool)
-          → MatchBool closed (MatchBool full (Refuses UserHasMail accounts answer later) (Replaces accounts head parts answer later)) (Refuses UserExists accounts answer later)
-          → MatchBool closed (MatchBool full (Refuses UserHasMail (Some a) answer (get later user)) (ReplacesAlone a head parts answer (get later user))) (Refuses UserExists (Some a) answer (get later user))
+          → MatchBool closed (MatchBool full (MachineRefuses UserHasMail accounts answer later) (Replaces accounts head parts answer later)) (MachineRefuses UserExists accounts answer later)
+          → MatchBool closed (MatchBool full (MachineRefuses UserHasMail (Some a) answer (get later user)) (ReplacesAlone a head parts answer (get later user))) (MachineRefuses UserExists (Some a) answer (get later user))
       over a has true true is = refused_alone UserHasMail (Some a) has is
       over a has true false is = record {
         says = is.imported;
@@ -270,33 +270,33 @@ module _ (user : List ℕ) (accounts later : Accounts) (answer : Answer) (itself
       over a has false full is = refused_alone UserExists (Some a) has is
 
       go : (o : Option Account) → get accounts user ≡ o → ImportsUnder accounts head parts o answer later → ImportsIn o head parts answer (get later user)
-      go (Some a) has is = over a has (is_closed a) (has_mail a) is
+      go (Some a) has is = over a has (is_closed_account a) (has_mail a) is
       go None has is = record {
         says = is.imported;
         changed = ap (λ all. get all user) (is.changed ∙ ap (λ n. insert accounts n (whole head parts empty)) named) ∙ put_own accounts user (whole head parts empty) itself;
       }
 
   pub taking_own : (id : ℕ) → Taking accounts user id answer later → ActsAlone user (get accounts user) (TakesOut id answer) (get later user)
-  taking_own id made = go (open_of accounts user) refl made
+  taking_own id made = go (open_account_of accounts user) refl made
     where
-      row : (a : Account) (o : Option Outgoing) → get accounts user ≡ Some a → TakesRow accounts user o answer later → TakesRowAlone a o answer (get later user)
+      row : (a : Account) (o : Option QueuedMessage) → get accounts user ≡ Some a → TakesQueueRow accounts user o answer later → TakesRowAlone a o answer (get later user)
       row a None has is = refused_alone NoRow (Some a) has is
       row a (Some out) has is =
           record { says = is.taken; changed = ap (λ all. get all user) is.changed ∙ (changed_own accounts user (takes_out out.id) itself ∙ ap (λ o. option_map (takes_out out.id) o) has) }
 
-      go : (o : Option Account) → open_of accounts user ≡ o → TakesIn accounts user id o answer later → TakesOpen (get accounts user) o id answer (get later user)
+      go : (o : Option Account) → open_account_of accounts user ≡ o → TakesFromQueue accounts user id o answer later → TakesOpen (get accounts user) o id answer (get later user)
       go None none is = refused_alone NoUser (get accounts user) refl is
       go (Some a) has is = row a (row_with id a.queue) (open_there (get accounts user) a has) is
 
   pub mail_taking_own : (folder : List ℕ) → MailTaking accounts user folder answer later → ActsAlone user (get accounts user) (TakesMail folder answer) (get later user)
-  mail_taking_own folder made = go (open_of accounts user) refl made
+  mail_taking_own folder made = go (open_account_of accounts user) refl made
     where
       row : (a : Account) (messages : List (List ℕ)) → get accounts user ≡ Some a → TakesFirst accounts user folder messages answer later → TakesFirstAlone a folder messages answer (get later user)
       row a [] has is = refused_alone NoRow (Some a) has is
       row a (message ∷ more) has is =
           record { says = is.taken; changed = ap (λ all. get all user) is.changed ∙ (changed_own accounts user (takes_mail folder 1) itself ∙ ap (λ o. option_map (takes_mail folder 1) o) has) }
 
-      go : (o : Option Account) → open_of accounts user ≡ o → TakesMailIn accounts user folder o answer later → TakesMailOpen (get accounts user) o folder answer (get later user)
+      go : (o : Option Account) → open_account_of accounts user ≡ o → TakesMailIn accounts user folder o answer later → TakesMailOpen (get accounts user) o folder answer (get later user)
       go None none is = refused_alone NoUser (get accounts user) refl is
       go (Some a) has is = row a (messages_in a.folders folder) (open_there (get accounts user) a has) is
 
@@ -317,7 +317,7 @@ quiet_word word a b same = go (is_ok word)
     go true = same
     go false = refl
 
-pub free_is_quiet : (command : Command) (word : Option Status) (a : Account) → needs_login command ≡ false → obeyed command word a ≡ a
+pub free_is_quiet : (command : ClientCommand) (word : Option Status) (a : Account) → needs_login command ≡ false → obeyed command word a ≡ a
 free_is_quiet Capability word a free = quiet_word word a a refl
 free_is_quiet (Noop tag) word a free = quiet_word word a a refl
 free_is_quiet Logout word a free = quiet_word word a a refl
@@ -334,7 +334,7 @@ free_is_quiet (DeleteScript name) word a free = absurd (let no : true ≡ false 
 free_is_quiet (RenameScript old new) word a free = absurd (let no : true ≡ false = free in cc)
 
 -- what is answered in a session to a command that needs a login is by the account of the user who is logged in
-pub replies_alone : (accounts : Accounts) (c : Client) (user : List ℕ) (command : Command) (reply : Reply) → needs_login command ≡ true → c.user ≡ Some user → RepliesTaken accounts c command reply
+pub replies_alone : (accounts : Accounts) (c : Client) (user : List ℕ) (command : ClientCommand) (reply : ServerReply) → needs_login command ≡ true → c.user ≡ Some user → RepliesTaken accounts c command reply
     → RepliesAlone (get accounts user) command reply
 replies_alone accounts c user Capability reply late has is = absurd (let no : false ≡ true = late in cc)
 replies_alone accounts c user (Noop tag) reply late has is = absurd (let no : false ≡ true = late in cc)
@@ -352,9 +352,9 @@ replies_alone accounts c user (DeleteScript name) reply late has is = subst (λ 
 replies_alone accounts c user (RenameScript old new) reply late has is = subst (λ o. RepliesOf (account_of accounts o) (RenameScript old new) reply) has is
 
 -- a command of the user who is logged in, or of another
-pub late_alone : (user : List ℕ) (accounts : Accounts) (c : Client) (command : Command) (octets : List ℕ) (reply : Reply) → needs_login command ≡ true
-    → RepliesIn accounts c command reply → octets ≡ spelled reply
-    → Alone user (get accounts user) (when_of user c.user (Commands command octets)) (get (changed_for c.user (obeyed command reply.word) accounts) user)
+pub late_alone : (user : List ℕ) (accounts : Accounts) (c : Client) (command : ClientCommand) (octets : List ℕ) (reply : ServerReply) → needs_login command ≡ true
+    → RepliesIn accounts c command reply → octets ≡ reply_octets reply
+    → ActsInTurn user (get accounts user) (when_of user c.user (Commands command octets)) (get (changed_for c.user (obeyed command reply.word) accounts) user)
 late_alone user accounts c command octets reply late is told = go c.user refl
   where
     taken : (name : List ℕ) → c.user ≡ Some name → RepliesTaken accounts c command reply
@@ -365,22 +365,22 @@ late_alone user accounts c command octets reply late is told = go c.user refl
         let mine : c.user ≡ Some user = has ∙ ap (λ n. Some n) (sym same) in
         record { reply = reply; replies = replies_alone accounts c user command reply late mine (taken user mine); spells = told; changed = ap (λ n. get (with_user accounts n (obeyed command reply.word)) user) (sym same) ∙ changed_own accounts user (obeyed command reply.word) (bytes_eq_refl user) }
 
-    go : (o : Option (List ℕ)) → c.user ≡ o → Alone user (get accounts user) (when_of user o (Commands command octets)) (get (changed_for o (obeyed command reply.word) accounts) user)
+    go : (o : Option (List ℕ)) → c.user ≡ o → ActsInTurn user (get accounts user) (when_of user o (Commands command octets)) (get (changed_for o (obeyed command reply.word) accounts) user)
     go None has = refl
     go (Some name) has = by (is_user user name) refl
       where
-        by : (b : Bool) → is_user user name ≡ b → Alone user (get accounts user) (cond b (Commands command octets ∷ []) []) (get (with_user accounts name (obeyed command reply.word)) user)
+        by : (b : Bool) → is_user user name ≡ b → ActsInTurn user (get accounts user) (cond b (Commands command octets ∷ []) []) (get (with_user accounts name (obeyed command reply.word)) user)
         by true is = alone_one user (get accounts user) _ (Commands command octets) (own name has (same_name user name is))
         by false is = changed_other accounts user name (obeyed command reply.word) is
 
 -- ---- logins
 
 -- whether a login is answered by the welcome
-welcome_is : (who : Option (List ℕ)) (failures : ℕ) → is_welcome (spelled (login_reply who failures)) ≡ is_some who
+welcome_is : (who : Option (List ℕ)) (failures : ℕ) → is_welcome (reply_octets (login_reply who failures)) ≡ is_some who
 welcome_is (Some user) failures = refl
 welcome_is None failures = go (nat_lt failures 2)
   where
-    go : (b : Bool) → is_welcome (spelled (cond b (declined None (codes "Authentication failed.")) (farewell (codes "Too many failures.")))) ≡ false
+    go : (b : Bool) → is_welcome (reply_octets (cond b (negative_reply None (codes "Authentication failed.")) (bye_reply (codes "Too many failures.")))) ≡ false
     go true = refl
     go false = refl
 
@@ -394,48 +394,48 @@ admitted_is login (Some a) = go (has_password login.1 a.password)
     go false = refl
 
 -- a text that decides a login: by whomever it names
-text_alone : (user : List ℕ) (accounts : Accounts) (later : Option Account) (text octets : List ℕ) (failures : ℕ) → later ≡ get accounts user → octets ≡ spelled (login_reply (admitted accounts text) failures)
-    → Alone user (get accounts user) (text_acts user (Some text) octets) later
+text_alone : (user : List ℕ) (accounts : Accounts) (later : Option Account) (text octets : List ℕ) (failures : ℕ) → later ≡ get accounts user → octets ≡ reply_octets (login_reply (admitted accounts text) failures)
+    → ActsInTurn user (get accounts user) (text_acts user (Some text) octets) later
 text_alone user accounts later text octets failures stays told = go (login_of text) refl
   where
-    succeeds : (login : List ℕ × List ℕ) → login_of text ≡ Some login → is_welcome octets ≡ admits login.1 (open_of accounts login.0)
-    succeeds login has = ap is_welcome told ∙ (welcome_is (admitted accounts text) failures ∙ (ap (λ o. is_some (admitted_by accounts o)) has ∙ admitted_is login (open_of accounts login.0)))
+    succeeds : (login : List ℕ × List ℕ) → login_of text ≡ Some login → is_welcome octets ≡ admits login.1 (open_account_of accounts login.0)
+    succeeds login has = ap is_welcome told ∙ (welcome_is (admitted accounts text) failures ∙ (ap (λ o. is_some (admitted_by accounts o)) has ∙ admitted_is login (open_account_of accounts login.0)))
 
-    go : (o : Option (List ℕ × List ℕ)) → login_of text ≡ o → Alone user (get accounts user) (login_acts user o octets) later
+    go : (o : Option (List ℕ × List ℕ)) → login_of text ≡ o → ActsInTurn user (get accounts user) (login_acts user o octets) later
     go None has = stays
     go (Some login) has = by (is_user user login.0) refl
       where
-        by : (b : Bool) → is_user user login.0 ≡ b → Alone user (get accounts user) (cond b (LogsIn login.1 (is_welcome octets) ∷ []) []) later
-        by true is = alone_one user (get accounts user) later (LogsIn login.1 (is_welcome octets)) (record { says = succeeds login has ∙ ap (λ n. admits login.1 (open_of accounts n)) (sym (same_name user login.0 is)); stays = stays })
+        by : (b : Bool) → is_user user login.0 ≡ b → ActsInTurn user (get accounts user) (cond b (LogsIn login.1 (is_welcome octets) ∷ []) []) later
+        by true is = alone_one user (get accounts user) later (LogsIn login.1 (is_welcome octets)) (record { says = succeeds login has ∙ ap (λ n. admits login.1 (open_account_of accounts n)) (sym (same_name user login.0 is)); stays = stays })
         by false is = stays
 
 -- a command that needs no login: a login, or nobody's act
-pub free_alone : (user : List ℕ) (accounts : Accounts) (later : Option Account) (c : Client) (command : Command) (octets : List ℕ) (reply : Reply) → needs_login command ≡ false → later ≡ get accounts user
-    → RepliesTaken accounts c command reply → octets ≡ spelled reply → Alone user (get accounts user) (text_acts user (login_text c.user command) octets) later
+pub free_alone : (user : List ℕ) (accounts : Accounts) (later : Option Account) (c : Client) (command : ClientCommand) (octets : List ℕ) (reply : ServerReply) → needs_login command ≡ false → later ≡ get accounts user
+    → RepliesTaken accounts c command reply → octets ≡ reply_octets reply → ActsInTurn user (get accounts user) (text_acts user (login_text c.user command) octets) later
 free_alone user accounts later c Capability octets reply free stays is told = stays
 free_alone user accounts later c (Noop tag) octets reply free stays is told = stays
 free_alone user accounts later c Logout octets reply free stays is told = stays
 free_alone user accounts later c (Authenticate mechanism None) octets reply free stays is told = stays
 free_alone user accounts later c (Authenticate mechanism (Some text)) octets reply free stays is told = go c.user refl
   where
-    go : (o : Option (List ℕ)) → c.user ≡ o → Alone user (get accounts user) (text_acts user (cond (is_none o && is_plain mechanism) (Some text) None) octets) later
+    go : (o : Option (List ℕ)) → c.user ≡ o → ActsInTurn user (get accounts user) (text_acts user (cond (is_none o && is_plain_mechanism mechanism) (Some text) None) octets) later
     go (Some name) has = stays
-    go None has = by (is_plain mechanism) refl
+    go None has = by (is_plain_mechanism mechanism) refl
       where
-        by : (b : Bool) → is_plain mechanism ≡ b → Alone user (get accounts user) (text_acts user (cond b (Some text) None) octets) later
+        by : (b : Bool) → is_plain_mechanism mechanism ≡ b → ActsInTurn user (get accounts user) (text_acts user (cond b (Some text) None) octets) later
         by false odd = stays
         by true plain =
             let same : reply ≡ login_reply (admitted accounts text) c.failures =
-            is ∙ (ap (λ o. cond (is_some o) (declined None (codes "Already logged in.")) (cond (not (is_plain mechanism)) (declined None (codes "Unknown mechanism.")) (login_reply (admitted accounts text) c.failures))) has
-            ∙ ap (λ b. cond (not b) (declined None (codes "Unknown mechanism.")) (login_reply (admitted accounts text) c.failures)) plain) in
-            text_alone user accounts later text octets c.failures stays (told ∙ ap spelled same)
+            is ∙ (ap (λ o. cond (is_some o) (negative_reply None (codes "Already logged in.")) (cond (not (is_plain_mechanism mechanism)) (negative_reply None (codes "Unknown mechanism.")) (login_reply (admitted accounts text) c.failures))) has
+            ∙ ap (λ b. cond (not b) (negative_reply None (codes "Unknown mechanism.")) (login_reply (admitted accounts text) c.failures)) plain) in
+            text_alone user accounts later text octets c.failures stays (told ∙ ap reply_octets same)
 free_alone user accounts later c (Response text) octets reply free stays is told = go (is_star text) refl
   where
-    go : (b : Bool) → is_star text ≡ b → Alone user (get accounts user) (text_acts user (cond b None (Some text)) octets) later
+    go : (b : Bool) → is_star text ≡ b → ActsInTurn user (get accounts user) (text_acts user (cond b None (Some text)) octets) later
     go true star = stays
     go false star =
-        let same : reply ≡ login_reply (admitted accounts text) c.failures = is ∙ ap (λ b. cond b (declined None (codes "Cancelled.")) (login_reply (admitted accounts text) c.failures)) star in
-        text_alone user accounts later text octets c.failures stays (told ∙ ap spelled same)
+        let same : reply ≡ login_reply (admitted accounts text) c.failures = is ∙ ap (λ b. cond b (negative_reply None (codes "Cancelled.")) (login_reply (admitted accounts text) c.failures)) star in
+        text_alone user accounts later text octets c.failures stays (told ∙ ap reply_octets same)
 free_alone user accounts later c Unauthenticate octets reply free stays is told = absurd (let no : true ≡ false = free in cc)
 free_alone user accounts later c (HaveSpace name size) octets reply free stays is told = absurd (let no : true ≡ false = free in cc)
 free_alone user accounts later c (PutScript name script) octets reply free stays is told = absurd (let no : true ≡ false = free in cc)
@@ -449,75 +449,75 @@ free_alone user accounts later c (RenameScript old new) octets reply free stays 
 -- ---- a step
 
 -- a command in a session
-command_alone : (user : List ℕ) (accounts later : Accounts) (c d : Client) (command : Command) (progress : Progress) (octets : List ℕ) → Obeys accounts c command progress octets d later
-    → Alone user (get accounts user) (command_acts user c command octets) (get later user)
-command_alone user accounts later c d command progress octets made = subst (λ all. Alone user (get accounts user) (command_acts user c command octets) (get all user)) (sym made.changed) (go (needs_login command) refl)
+command_alone : (user : List ℕ) (accounts later : Accounts) (c d : Client) (command : ClientCommand) (progress : Progress) (octets : List ℕ) → ObeysCommand accounts c command progress octets d later
+    → ActsInTurn user (get accounts user) (command_acts user c command octets) (get later user)
+command_alone user accounts later c d command progress octets made = subst (λ all. ActsInTurn user (get accounts user) (command_acts user c command octets) (get all user)) (sym made.changed) (go (needs_login command) refl)
   where
     after : Accounts
     after = changed_for c.user (obeyed command made.reply.word) accounts
 
-    go : (b : Bool) → needs_login command ≡ b → Alone user (get accounts user) (cond b (when_of user c.user (Commands command octets)) (text_acts user (login_text c.user command) octets)) (get after user)
+    go : (b : Bool) → needs_login command ≡ b → ActsInTurn user (get accounts user) (cond b (when_of user c.user (Commands command octets)) (text_acts user (login_text c.user command) octets)) (get after user)
     go true late = late_alone user accounts c command octets made.reply late made.replies made.spelled
     go false free =
         let taken : RepliesTaken accounts c command made.reply = subst (λ b. MatchBool (b && is_none c.user) (made.reply ≡ early_reply) (RepliesTaken accounts c command made.reply)) free made.replies in
         free_alone user accounts (get after user) c command octets made.reply free (changed_quietly accounts user c.user (obeyed command made.reply.word) (λ a. free_is_quiet command made.reply.word a free)) taken made.spelled
 
 pub step_alone : (user : List ℕ) (accounts later : Accounts) (c d : Client) (progress : Progress) (octets : List ℕ) → IsStep accounts c progress octets d later
-    → Alone user (get accounts user) (cond c.closed [] (item_acts user c (item_in c) octets)) (get later user)
+    → ActsInTurn user (get accounts user) (cond c.closed [] (item_acts user c (item_in c) octets)) (get later user)
 step_alone user accounts later c d progress octets made = go c.closed made
   where
-    taken : (i : Item) → StepsAt accounts c i progress octets d later → Alone user (get accounts user) (item_acts user c i octets) (get later user)
+    taken : (i : ClientItem) → StepsAt accounts c i progress octets d later → ActsInTurn user (get accounts user) (item_acts user c i octets) (get later user)
     taken item.Need is = ap (λ all. get all user) is.3
-    taken (item.Command command used) is = command_alone user accounts later (past used c) d command progress octets is
+    taken (item.Command command used) is = command_alone user accounts later (without_octets used c) d command progress octets is
     taken (item.Bad used) is = ap (λ all. get all user) is.3
     taken item.TooBig is = ap (λ all. get all user) is.3
 
-    go : (b : Bool) → MatchBool b (Answers accounts p.Close [] c progress octets d later) (StepsAt accounts c (item_in c) progress octets d later) → Alone user (get accounts user) (cond b [] (item_acts user c (item_in c) octets)) (get later user)
+    go : (b : Bool) → MatchBool b (StepAnswers accounts p.Close [] c progress octets d later) (StepsAt accounts c (item_in c) progress octets d later) → ActsInTurn user (get accounts user) (cond b [] (item_acts user c (item_in c) octets)) (get later user)
     go true is = ap (λ all. get all user) is.3
     go false is = taken (item_in c) is
 
 -- ---- one event
 
 -- an event that touches no account
-untouched : (user : List ℕ) (accounts : Accounts) (account : Option Account) (answer : Answer) → account ≡ get accounts user → Alone user (get accounts user) (cond (is_lost answer) [] []) account
+untouched : (user : List ℕ) (accounts : Accounts) (account : Option Account) (answer : Answer) → account ≡ get accounts user → ActsInTurn user (get accounts user) (cond (is_lost answer) [] []) account
 untouched user accounts account answer same = go (is_lost answer)
   where
-    go : (b : Bool) → Alone user (get accounts user) (cond b [] []) account
+    go : (b : Bool) → ActsInTurn user (get accounts user) (cond b [] []) account
     go true = same
     go false = same
 
 -- an event of an open session, which changes no account
 in_session : (user : List ℕ) (w next : World) (answer : Answer) (o : Option Client) (row : Client → Answer → World → Type 0) → ((c : Client) → row c answer next → next.accounts ≡ w.accounts)
-    → InSession w o row answer next → Alone user (get w.accounts user) (cond (is_lost answer) [] []) (get next.accounts user)
+    → InSession w o row answer next → ActsInTurn user (get w.accounts user) (cond (is_lost answer) [] []) (get next.accounts user)
 in_session user w next answer None row stays is = untouched user w.accounts (get next.accounts user) answer (ap (λ v. get v.accounts user) is.stays)
 in_session user w next answer (Some c) row stays is = untouched user w.accounts (get next.accounts user) answer (ap (λ all. get all user) (stays c is))
 
 -- the events of the accounts
-account_alone : (user name : List ℕ) (w next : World) (answer : Answer) (act : Act) (later : Accounts) → next ≡ record { accounts = later; sessions = w.sessions }
+account_alone : (user name : List ℕ) (w next : World) (answer : Answer) (act : UserAct) (later : Accounts) → next ≡ record { accounts = later; sessions = w.sessions }
     → ((is_user user name ≡ false) ⊎ (is_lost answer ≡ true) → get later user ≡ get w.accounts user) → (is_user user name ≡ true → ActsAlone user (get w.accounts user) act (get later user))
-    → Alone user (get w.accounts user) (cond (is_lost answer) [] (when_of user (Some name) act)) (get next.accounts user)
+    → ActsInTurn user (get w.accounts user) (cond (is_lost answer) [] (when_of user (Some name) act)) (get next.accounts user)
 account_alone user name w next answer act later is other own =
-    subst (λ o. Alone user (get w.accounts user) (cond (is_lost answer) [] (when_of user (Some name) act)) o) (sym (ap (λ v. get v.accounts user) is))
+    subst (λ o. ActsInTurn user (get w.accounts user) (cond (is_lost answer) [] (when_of user (Some name) act)) o) (sym (ap (λ v. get v.accounts user) is))
     (alone_of user name (is_lost answer) act (get w.accounts user) (get later user) (λ is. other (inl is)) (λ is. other (inr is)) own)
 
 -- a step of an open session
-steps_alone : (user : List ℕ) (w next : World) (s : ℕ) (c : Client) (answer : Answer) → Steps w s c answer next
-    → Alone user (get w.accounts user) (cond (is_lost answer) [] (step_acts user (Some c) answer)) (get next.accounts user)
+steps_alone : (user : List ℕ) (w next : World) (s : ℕ) (c : Client) (answer : Answer) → StepsSession w s c answer next
+    → ActsInTurn user (get w.accounts user) (cond (is_lost answer) [] (step_acts user (Some c) answer)) (get next.accounts user)
 steps_alone user w next s c answer made =
-    subst (λ a. Alone user (get w.accounts user) (cond (is_lost a) [] (step_acts user (Some c) a)) (get next.accounts user)) (sym made.says)
-    (subst (λ v. Alone user (get w.accounts user) (cond c.closed [] (item_acts user c (item_in c) made.octets)) (get v.accounts user)) (sym made.changed)
+    subst (λ a. ActsInTurn user (get w.accounts user) (cond (is_lost a) [] (step_acts user (Some c) a)) (get next.accounts user)) (sym made.says)
+    (subst (λ v. ActsInTurn user (get w.accounts user) (cond c.closed [] (item_acts user c (item_in c) made.octets)) (get v.accounts user)) (sym made.changed)
     (step_alone user w.accounts made.accounts c made.client made.goes_on made.octets made.step))
 
-happens_alone : (user : List ℕ) (w next : World) (event : Event) (answer : Answer) → Happens w event answer next → Alone user (get w.accounts user) (acts_in user w event answer) (get next.accounts user)
+happens_alone : (user : List ℕ) (w next : World) (event : Event) (answer : Answer) → EventHappens w event answer next → ActsInTurn user (get w.accounts user) (acts_in user w event answer) (get next.accounts user)
 happens_alone user w next (Open s) answer made = go (get w.sessions s) made
   where
-    go : (o : Option Client) → Opens w s o answer next → Alone user (get w.accounts user) (cond (is_lost answer) [] []) (get next.accounts user)
+    go : (o : Option Client) → OpensSession w s o answer next → ActsInTurn user (get w.accounts user) (cond (is_lost answer) [] []) (get next.accounts user)
     go None is = untouched user w.accounts (get next.accounts user) answer (ap (λ v. get v.accounts user) is.changed)
     go (Some c) is = untouched user w.accounts (get next.accounts user) answer (ap (λ v. get v.accounts user) is.stays)
 happens_alone user w next (Give s piece) answer made = in_session user w next answer (get w.sessions s) _ (λ c is. ap (λ v. v.accounts) is.changed) made
 happens_alone user w next (Step s) answer made = go (get w.sessions s) made
   where
-    go : (o : Option Client) → InSession w o (Steps w s) answer next → Alone user (get w.accounts user) (cond (is_lost answer) [] (step_acts user o answer)) (get next.accounts user)
+    go : (o : Option Client) → InSession w o (StepsSession w s) answer next → ActsInTurn user (get w.accounts user) (cond (is_lost answer) [] (step_acts user o answer)) (get next.accounts user)
     go None is = untouched user w.accounts (get next.accounts user) answer (ap (λ v. get v.accounts user) is.stays)
     go (Some c) is = steps_alone user w next s c answer is
 happens_alone user w next (GiveUp s) answer made = in_session user w next answer (get w.sessions s) _ (λ c is. ap (λ v. v.accounts) is.changed) made
@@ -542,10 +542,10 @@ happens_alone user w next (Keep name upkeep) answer made =
     (λ is. keeping_own user w.accounts made.0 answer (bytes_eq_refl user) upkeep (subst (λ n. Keeping w.accounts n upkeep answer made.0) (sym (same_name user name is)) made.1))
 
 -- a refusal for memory or by the store is no act
-refused_alone_of : (user : List ℕ) (w next : World) (event : Event) (answer : Answer) → IsRefused w event answer next → Alone user (get w.accounts user) (acts_in user w event answer) (get next.accounts user)
-refused_alone_of user w next event answer is = subst (λ b. Alone user (get w.accounts user) (cond b [] (event_acts user w event answer)) (get next.accounts user)) (sym (ap is_lost is.refused ∙ go is.refusal is.may)) (ap (λ v. get v.accounts user) is.stays)
+refused_alone_of : (user : List ℕ) (w next : World) (event : Event) (answer : Answer) → IsEventRefused w event answer next → ActsInTurn user (get w.accounts user) (acts_in user w event answer) (get next.accounts user)
+refused_alone_of user w next event answer is = subst (λ b. ActsInTurn user (get w.accounts user) (cond b [] (event_acts user w event answer)) (get next.accounts user)) (sym (ap is_lost is.refused ∙ go is.refusal is.may)) (ap (λ v. get v.accounts user) is.stays)
   where
-    go : (refusal : Refusal) → MayRefuse w event refusal → is_lost (Refused refusal) ≡ true
+    go : (refusal : Refusal) → MayRefuseEvent w event refusal → is_lost (Refused refusal) ≡ true
     go Memory may = refl
     go Store may = refl
     go NotOurs may = absurd may
@@ -564,7 +564,7 @@ refused_alone_of user w next event answer is = subst (λ b. Alone user (get w.ac
     go TooManyScripts may = absurd may
     go BadAccount may = absurd may
 
-pub next_alone : (user : List ℕ) (w next : World) (event : Event) (answer : Answer) → Next w event answer next → Alone user (get w.accounts user) (acts_in user w event answer) (get next.accounts user)
+pub next_alone : (user : List ℕ) (w next : World) (event : Event) (answer : Answer) → Next w event answer next → ActsInTurn user (get w.accounts user) (acts_in user w event answer) (get next.accounts user)
 next_alone user w next event answer (inl made) = happens_alone user w next event answer made
 next_alone user w next event answer (inr refused) = refused_alone_of user w next event answer refused
 
@@ -573,7 +573,7 @@ next_alone user w next event answer (inr refused) = refused_alone_of user w next
 pub projection : (events : List Event) (told : List Answer) (w end : World) (run : Runs w events told end) → IsAlone w events told end run
 projection [] [] w end run user = ap (λ v. get v.accounts user) run
 projection (event ∷ events) (answer ∷ told) w end run user =
-    alone_then user (acts_in user w event answer) (acts user run.0 events told end run.2) (get w.accounts user) (get run.0.accounts user) (get end.accounts user) (next_alone user w run.0 event answer run.1)
+    alone_then user (acts_in user w event answer) (user_acts user run.0 events told end run.2) (get w.accounts user) (get run.0.accounts user) (get end.accounts user) (next_alone user w run.0 event answer run.1)
     (projection events told run.0 end run.2 user)
 projection [] (answer ∷ told) w end run user = absurd run
 projection (event ∷ events) [] w end run user = absurd run

@@ -2,32 +2,32 @@
 use Rattle.std.proofs.Common.{◌≡◌, ◌≤◌, ◌⊎◌, ℕ, Bool, true, false, cond, not, nat_lt, length, List, Option, Some, None, Ok, Err, Result, OnOk, IfOk, IfErr, IsSome, IsTrue, refl, sym, ap, subst, inl, inr}
 use Rattle.std.specs.FinMap.{get}
 use Rattle.std.proofs.lemmas.Bool.{ltb-false}
-use Rattle.mailtables.proofs.WriteLemmas.{clean_before}
+use Rattle.store_tables.proofs.WriteLemmas.{clean_before}
 use Rattle.sqlite.specs.State.{State, HasCleanDisk}
-use Rattle.sieveexec.specs.declared.envelope.Envelope.{Envelope}
-use Rattle.sieveexec.specs.Mails.{MailSpec, mail_of}
-use Rattle.deliverplan.specs.Delivered.{Delivers}
-use Rattle.deliverplan.specs.declared.view.View.{View}
-use Rattle.deliverplan.specs.Views.{IsViewOf}
-use Rattle.mailstore.specs.declared.refusal.Refusal.{Refusal}
-use Rattle.mailstore.specs.declared.refusal.Refusal.TheVariants.{NoUser, TooLarge, BadEnvelope, BadMoment, AccountClosed}
-use Rattle.mailstore.specs.declared.report.Plan.{Plan}
-use Rattle.mailstore.specs.declared.report.Report.{Report}
-use Rattle.mailstore.specs.Account.{Account, Accounts, open_of, in_place, with_user, delivers}
-use Rattle.mailstore.specs.Promises.{HasUser, HasNoOpen, OfOpen, WritesAccount}
-use Rattle.mailstore.proofs.StandingLemmas.{open_there, has_there}
-use Rattle.mailstore.specs.Refusals.{IsTransient}
-use Rattle.mailstore.specs.Shows.{Presents}
-use Rattle.sessions.specs.Acts.{HasAccounts, Glances, ReadsAccounts}
-use Rattle.sessions.proofs.ActLemmas.{no_glance, glanced, glances_then, accounts_stay, acts_read, acts_made, acts_undone}
-use Rattle.mailengine.specs.declared.answer.Answer.{Answer}
-use Rattle.mailengine.specs.declared.answer.Answer.TheVariants.{Delivered, Refused}
-use Rattle.mailengine.specs.declared.delivery.Lookup.{Lookup}
-use Rattle.mailengine.specs.AccountEvents.{absence, text_or, DeliversIn, DeliversUnder, Delivery}
-use Rattle.mailengine.specs.Hosts.{TurnsBy, MayTurnBy, MayRefuseDelivery, RefusesDelivery, ActsDelivery}
-use Rattle.mailengine.specs.Limits.{limit_refusal, message_limit, is_envelope, moment_limit}
-use Rattle.mailengine.specs.Terms.{Terms}
-use Rattle.mailengine.specs.Lookups.{LooksUp, IsLookup}
+use Rattle.sieve_exec.specs.declared.envelope.Envelope.{Envelope}
+use Rattle.sieve_exec.specs.Mails.{MailSpec, mail_spec_of}
+use Rattle.sieve_plan.specs.Delivered.{Delivers}
+use Rattle.sieve_plan.specs.declared.view.AccountView.{AccountView}
+use Rattle.sieve_plan.specs.Views.{IsViewOf}
+use Rattle.store_accounts.specs.declared.refusal.Refusal.{Refusal}
+use Rattle.store_accounts.specs.declared.refusal.Refusal.TheVariants.{NoUser, TooLarge, BadEnvelope, BadMoment, AccountClosed}
+use Rattle.store_accounts.specs.declared.report.Plan.{Plan}
+use Rattle.store_accounts.specs.declared.report.Report.{Report}
+use Rattle.store_accounts.specs.Account.{Account, Accounts, open_account_of, in_place, with_user, delivers}
+use Rattle.store_accounts.specs.Promises.{HasUser, HasNoOpen, OfOpen, WritesAccount}
+use Rattle.store_accounts.proofs.StandingLemmas.{open_there, has_there}
+use Rattle.store_accounts.specs.Refusals.{IsTransient}
+use Rattle.store_accounts.specs.Shows.{Presents}
+use Rattle.managesieve_sessions.specs.Acts.{HasAccounts, Glances, ReadsAccounts}
+use Rattle.managesieve_sessions.proofs.ActLemmas.{no_glance, glanced, glances_then, accounts_stay, acts_read, acts_made, acts_undone}
+use Rattle.store_engine.specs.declared.answer.Answer.{Answer}
+use Rattle.store_engine.specs.declared.answer.Answer.TheVariants.{Delivered, Refused}
+use Rattle.store_engine.specs.declared.delivery.Lookup.{Lookup}
+use Rattle.store_engine.specs.AccountEvents.{absence, script_or_default, DeliversIn, DeliversUnder, Delivery}
+use Rattle.store_engine.specs.Hosts.{TurnsBy, MayTurnBy, MayRefuseDelivery, RefusesDelivery, ActsDelivery}
+use Rattle.store_engine.specs.Limits.{limit_refusal, message_limit, is_envelope, moment_limit}
+use Rattle.store_engine.specs.Terms.{Terms}
+use Rattle.store_engine.specs.Lookups.{LooksUp, IsLookup}
 
 -- a moment that no limit stands against
 pub moment_within : (envelope : Envelope) (message : List ℕ) (moment : ℕ) → limit_refusal envelope message moment ≡ None → nat_lt moment_limit moment ≡ false
@@ -54,11 +54,11 @@ absent_refuses envelope message moment q refusal none is (inl absent) = subst (�
 absent_refuses envelope message moment q refusal none is (inr shut) = subst (λ o. IfErr o (RefusesDelivery envelope message moment)) (sym is) (inr (none, inr (inl shut)))
 
 -- what the plan says of the mail that was read, of the message under the envelope
-pub planned_at : (view : View) (text active : Option (List ℕ)) (mail : MailSpec) (envelope : Envelope) (message : List ℕ) (terms : Terms) (plan : Plan) → mail ≡ mail_of message envelope terms.when → active ≡ text
+pub planned_at : (view : AccountView) (text active : Option (List ℕ)) (mail : MailSpec) (envelope : Envelope) (message : List ℕ) (terms : Terms) (plan : Plan) → mail ≡ mail_spec_of message envelope terms.when → active ≡ text
     → ((a : Account) → IsViewOf view mail.from a → Delivers view.address mail active a plan.report (delivers plan a))
-    → (a : Account) → IsViewOf view envelope.from a → Delivers view.address (mail_of message envelope terms.when) text a plan.report (delivers plan a)
+    → (a : Account) → IsViewOf view envelope.from a → Delivers view.address (mail_spec_of message envelope terms.when) text a plan.report (delivers plan a)
 planned_at view text active mail envelope message terms plan read same planned =
-    subst (λ o. (a : Account) → IsViewOf view envelope.from a → Delivers view.address (mail_of message envelope terms.when) o a plan.report (delivers plan a)) same
+    subst (λ o. (a : Account) → IsViewOf view envelope.from a → Delivers view.address (mail_spec_of message envelope terms.when) o a plan.report (delivers plan a)) same
     (subst (λ (m : MailSpec). (a : Account) → IsViewOf view m.from a → Delivers view.address m active a plan.report (delivers plan a)) read planned)
 
 module _ (user : List ℕ) (envelope : Envelope) (message : List ℕ) (terms : Terms) where
@@ -83,7 +83,7 @@ module _ (user : List ℕ) (envelope : Envelope) (message : List ℕ) (terms : T
     delivery_lacks a (Ok report) undone transient = absurd undone
     delivery_lacks a (Err e) undone transient = acts_read a a (TurnsBy Row May (Refused e)) (MayTurnBy Row) (Err e) (λ clean open_before. tt) (no_glance a) (λ clean accounts shown. transient_turn e accounts transient)
 
-    in_row : (accounts later : Accounts) (answer : Answer) → DeliversIn accounts user terms envelope message (open_of accounts user) answer later → Row accounts answer later
+    in_row : (accounts later : Accounts) (answer : Answer) → DeliversIn accounts user terms envelope message (open_account_of accounts user) answer later → Row accounts answer later
     in_row accounts later answer is = subst (λ o. DeliversUnder o accounts user terms envelope message answer later) (sym none) is
 
     -- the account couldn't be read, without visible cause
@@ -128,7 +128,7 @@ module _ (user : List ℕ) (envelope : Envelope) (message : List ℕ) (terms : T
       delivery_failed (Err e) undone transient =
           acts_read a b (TurnsBy Row May (Refused e)) (MayTurnBy Row) (Err e) (λ clean open_before. tt) (glanced a b r look.reads.keeps) (λ clean accounts shown. transient_turn e accounts transient)
 
-      module _ (plan : Plan) (planned : (account : Account) → IsViewOf looked.view envelope.from account → Delivers looked.view.address (mail_of message envelope terms.when) (text_or looked.text terms.default) account plan.report (delivers plan account)) where
+      module _ (plan : Plan) (planned : (account : Account) → IsViewOf looked.view envelope.from account → Delivers looked.view.address (mail_spec_of message envelope terms.when) (script_or_default looked.text terms.default) account plan.report (delivers plan account)) where
         -- what the plan does is the delivery
         planned_row : (accounts : Accounts) → OfOpen accounts user (IsLookup envelope.from looked) → Row accounts (Delivered plan.report) (with_user accounts user (delivers plan))
         planned_row accounts own =
@@ -140,7 +140,7 @@ module _ (user : List ℕ) (envelope : Envelope) (message : List ℕ) (terms : T
               delivers = record {
                 own = looked.view.address;
                 address = own.2.view.address;
-                delivers = subst (λ text. Delivers looked.view.address (mail_of message envelope terms.when) (text_or text terms.default) own.0 plan.report (delivers plan own.0)) own.2.text (planned own.0 own.2.view);
+                delivers = subst (λ text. Delivers looked.view.address (mail_spec_of message envelope terms.when) (script_or_default text terms.default) own.0 plan.report (delivers plan own.0)) own.2.text (planned own.0 own.2.view);
               };
               reported = refl;
               changed = ap (in_place accounts user (delivers plan)) (open_there (get accounts user) own.0 own.1);

@@ -2,23 +2,23 @@
 use Rattle.std.proofs.Common.{◌≡◌, ℕ, true, false, cond, List, [], ◌∷◌, codes, Some, None, MatchBool, refl, sym, ap, ◌∙◌, subst, inl, inr, Option, pos, rules}
 use Rattle.std.proofs.lemmas.Int.{ints}
 use Rattle.std.specs.FinMap.{get, insert, get-empty}
-use Rattle.addrparts.specs.declared.address.Addr.{Addr}
-use Rattle.addrparts.specs.Outbound.{IsBareAddress}
-use Rattle.saslplain.specs.Password.{digest_of}
-use Rattle.sievesyntax.specs.RunState.{inbox}
-use Rattle.sieveexec.specs.declared.envelope.Envelope.{Envelope}
-use Rattle.mailstore.specs.Account.{bytes_cmp, Account, Accounts, no_accounts, is_closed, open_one, open_of, has_mail, files_copies, new_user, with_user, takes_out}
-use Rattle.mailtables.specs.declared.queue.Kind.TheVariants.{Redirect}
-use Rattle.mailstore.specs.declared.queue.Outgoing.{Outgoing}
-use Rattle.mailstore.specs.declared.refusal.Refusal.TheVariants.{NoUser, BadMoment, UserExists, UserHasMail, BadUser, NoRow}
-use Rattle.deliverplan.specs.Delivered.{Acts, kept, Silent, report_of, unflagged}
-use Rattle.mailengine.specs.declared.answer.Answer.{Answer}
-use Rattle.mailengine.specs.declared.answer.Answer.TheVariants.{Delivered, Added, Taken, Refused}
-use Rattle.mailengine.specs.Limits.{IsNewUser}
-use Rattle.mailstore.specs.Account.{row_with}
-use Rattle.mailengine.specs.AccountEvents.{Refuses, Renews, absence, active_text, text_or, deciding_text, DeliversIn, Delivery, AddsUnder, Addition, TakesIn, TakesRow, Taking}
-use Rattle.mailengine.specs.Terms.{Terms, terms}
-use Rattle.mailengine.proofs.AloneLemmas.{put_own, put_other, delivery_other}
+use Rattle.mail_address.specs.declared.address.Addr.{Addr}
+use Rattle.mail_address.specs.Outbound.{IsBareAddress}
+use Rattle.sasl_plain.specs.Password.{digest_of}
+use Rattle.sieve_syntax.specs.RunState.{inbox}
+use Rattle.sieve_exec.specs.declared.envelope.Envelope.{Envelope}
+use Rattle.store_accounts.specs.Account.{bytes_cmp, Account, Accounts, no_accounts, is_closed_account, open_one, open_account_of, has_mail, files_copies, new_user, with_user, takes_out}
+use Rattle.store_tables.specs.declared.queue.QueuedKind.TheVariants.{Redirect}
+use Rattle.store_accounts.specs.declared.queue.QueuedMessage.{QueuedMessage}
+use Rattle.store_accounts.specs.declared.refusal.Refusal.TheVariants.{NoUser, BadMoment, UserExists, UserHasMail, BadUser, NoRow}
+use Rattle.sieve_plan.specs.Delivered.{Acts, kept, Silent, report_of, unflagged_copy}
+use Rattle.store_engine.specs.declared.answer.Answer.{Answer}
+use Rattle.store_engine.specs.declared.answer.Answer.TheVariants.{Delivered, Added, Taken, Refused}
+use Rattle.store_engine.specs.Limits.{IsNewUser}
+use Rattle.store_accounts.specs.Account.{row_with}
+use Rattle.store_engine.specs.AccountEvents.{MachineRefuses, Renews, absence, active_text, script_or_default, deciding_text, DeliversIn, Delivery, AddsUnder, Addition, TakesFromQueue, TakesQueueRow, Taking}
+use Rattle.store_engine.specs.Terms.{Terms, terms}
+use Rattle.store_engine.proofs.AloneLemmas.{put_own, put_other, delivery_other}
 
 abbrev alice : List ℕ
 alice = codes "alice"
@@ -32,7 +32,7 @@ envelope = record { from = codes "bob@example.net"; to = codes "alice@example.or
 abbrev message : List ℕ
 message = codes "Hi"
 
-abbrev row : ℕ → Outgoing
+abbrev row : ℕ → QueuedMessage
 row id = record { id = id; kind = Redirect; sender = codes "bob@example.net"; target = codes "carol@example.com"; message = message }
 
 -- the fifth second of 1970, and one past the year 9999, by a host without a default script
@@ -48,7 +48,7 @@ default_decides a default none = rw none refl
 
 -- an active script decides, whatever the default is
 active_decides : (a : Account) (default : Option (List ℕ)) (text : List ℕ) → active_text a ≡ Some text → deciding_text default a ≡ Some text
-active_decides a default text has = ap (λ o. text_or o default) has
+active_decides a default text has = ap (λ o. script_or_default o default) has
 
 -- near miss: the default decides over an active script
 default_over_active : (a : Account) (default text : List ℕ) → active_text a ≡ Some text → (default ≡ text → ⊥) → deciding_text (Some default) a ≡ Some default → ⊥
@@ -58,7 +58,7 @@ default_over_active a default text has other is = let same : Some default ≡ So
 there : (accounts : Accounts) (user : List ℕ) (a : Account) → get accounts user ≡ Some a → accounts ≡ no_accounts → ⊥
 there accounts user a has is = let no : Some a ≡ None = sym has ∙ (ap (λ all. get all user) is ∙ get-empty bytes_cmp user) in cc
 
-module _ (a : Account) (open_is : is_closed a ≡ false) where
+module _ (a : Account) (open_is : is_closed_account a ≡ false) where
   -- one account, alice's
   one : Accounts
   one = insert no_accounts alice a
@@ -67,7 +67,7 @@ module _ (a : Account) (open_is : is_closed a ≡ false) where
   unfolding one
   has_alice = put_own no_accounts alice a refl
 
-  open_alice : open_of one alice ≡ Some a
+  open_alice : open_account_of one alice ≡ Some a
   open_alice = ap open_one has_alice ∙ ap (λ b. cond b None (Some a)) open_is
 
   -- ---- a delivery
@@ -75,7 +75,7 @@ module _ (a : Account) (open_is : is_closed a ≡ false) where
   -- a user without an account has none, and stays so; near miss: the delivery makes the account
   unknown_user : Delivery no_accounts alice envelope message at_five (Refused NoUser) no_accounts
   unknown_user =
-      let none : open_of no_accounts alice ≡ None = ap open_one (get-empty bytes_cmp alice) in
+      let none : open_account_of no_accounts alice ≡ None = ap open_one (get-empty bytes_cmp alice) in
       let why : absence (get no_accounts alice) ≡ NoUser = ap absence (get-empty bytes_cmp alice) in
       subst (λ o. DeliversIn no_accounts alice at_five envelope message o (Refused NoUser) no_accounts) (sym none) (record { refused = ap Refused (sym why); stays = refl })
 
@@ -90,12 +90,12 @@ module _ (a : Account) (open_is : is_closed a ≡ false) where
   unknown_user_late = record { refused = refl; stays = refl }
 
   -- without an active script the message joins INBOX
-  filed : (own : Addr) → IsBareAddress a.address own → a.active ≡ None → Delivery one alice envelope message at_five (Delivered (report_of kept Silent)) (insert one alice (files_copies (unflagged inbox ∷ []) message a))
+  filed : (own : Addr) → IsBareAddress a.address own → a.active ≡ None → Delivery one alice envelope message at_five (Delivered (report_of kept Silent)) (insert one alice (files_copies (unflagged_copy inbox ∷ []) message a))
   unfolding one
-  filed own address none = subst (λ o. DeliversIn one alice at_five envelope message o (Delivered (report_of kept Silent)) (insert one alice (files_copies (unflagged inbox ∷ []) message a))) (sym open_alice)
+  filed own address none = subst (λ o. DeliversIn one alice at_five envelope message o (Delivered (report_of kept Silent)) (insert one alice (files_copies (unflagged_copy inbox ∷ []) message a))) (sym open_alice)
       (record {
         report = report_of kept Silent;
-        account = files_copies (unflagged inbox ∷ []) message a;
+        account = files_copies (unflagged_copy inbox ∷ []) message a;
         delivers = record {
           own = own;
           address = address;
@@ -129,7 +129,7 @@ module _ (a : Account) (open_is : is_closed a ≡ false) where
     unfolding one
     joined_twice later (inl (new, is)) =
         let made = subst (λ o. AddsUnder one alice address salt password o Added later) has_alice is in
-        let row = subst (λ b. MatchBool b (MatchBool (has_mail a) (Refuses UserHasMail one Added later) (Renews one alice address salt password Added later)) (Refuses UserExists one Added later)) open_is made in
+        let row = subst (λ b. MatchBool b (MatchBool (has_mail a) (MachineRefuses UserHasMail one Added later) (Renews one alice address salt password Added later)) (MachineRefuses UserExists one Added later)) open_is made in
         let no : Added ≡ Refused UserExists = row.refused in
         cc
     joined_twice later (inr (bad, is)) = let no : Added ≡ Refused BadUser = is.refused in cc
@@ -144,14 +144,14 @@ module _ (a : Account) (open_is : is_closed a ≡ false) where
     -- the row with the number is handed out, and leaves the queue
     taken : Taking one alice 2 (Taken (row 2)) (with_user one alice (takes_out 2))
     unfolding one
-    taken = subst (λ o. TakesIn one alice 2 o (Taken (row 2)) (with_user one alice (takes_out 2))) (sym open_alice)
-        (subst (λ rows. TakesRow one alice (row_with 2 rows) (Taken (row 2)) (with_user one alice (takes_out 2))) (sym queued) (record { taken = refl; changed = refl }))
+    taken = subst (λ o. TakesFromQueue one alice 2 o (Taken (row 2)) (with_user one alice (takes_out 2))) (sym open_alice)
+        (subst (λ rows. TakesQueueRow one alice (row_with 2 rows) (Taken (row 2)) (with_user one alice (takes_out 2))) (sym queued) (record { taken = refl; changed = refl }))
 
     -- near miss: another row is handed out
     another_taken : (later : Accounts) → Taking one alice 2 (Taken (row 1)) later → ⊥
     unfolding one
     another_taken later is =
-        let made = subst (λ rows. TakesRow one alice (row_with 2 rows) (Taken (row 1)) later) queued (subst (λ o. TakesIn one alice 2 o (Taken (row 1)) later) open_alice is) in
+        let made = subst (λ rows. TakesQueueRow one alice (row_with 2 rows) (Taken (row 1)) later) queued (subst (λ o. TakesFromQueue one alice 2 o (Taken (row 1)) later) open_alice is) in
         let same : row 1 ≡ row 2 = let told : Taken (row 1) ≡ Taken (row 2) = made.taken in cc in
         let no : ◌≡◌ {A = ℕ} 1 2 = ap (λ r. r.id) same in
         cc
@@ -159,10 +159,10 @@ module _ (a : Account) (open_is : is_closed a ≡ false) where
     -- a number that isn't queued is no row's, and nothing changes; near miss: the account goes
     not_queued : Taking one alice 3 (Refused NoRow) one
     unfolding one
-    not_queued = subst (λ o. TakesIn one alice 3 o (Refused NoRow) one) (sym open_alice) (subst (λ rows. TakesRow one alice (row_with 3 rows) (Refused NoRow) one) (sym queued) (record { refused = refl; stays = refl }))
+    not_queued = subst (λ o. TakesFromQueue one alice 3 o (Refused NoRow) one) (sym open_alice) (subst (λ rows. TakesQueueRow one alice (row_with 3 rows) (Refused NoRow) one) (sym queued) (record { refused = refl; stays = refl }))
 
     not_queued_gone : Taking one alice 3 (Refused NoRow) no_accounts → ⊥
     unfolding one
     not_queued_gone is =
-        let made = subst (λ rows. TakesRow one alice (row_with 3 rows) (Refused NoRow) no_accounts) queued (subst (λ o. TakesIn one alice 3 o (Refused NoRow) no_accounts) open_alice is) in
+        let made = subst (λ rows. TakesQueueRow one alice (row_with 3 rows) (Refused NoRow) no_accounts) queued (subst (λ o. TakesFromQueue one alice 3 o (Refused NoRow) no_accounts) open_alice is) in
         there one alice a has_alice (sym made.stays)

@@ -8,37 +8,37 @@ use Rattle.std.specs.Cmp.{eq_by_cmp_equiv, nat_cmp_total}
 use Rattle.std.specs.FinMap.{get, insert, remove, get-insert, get-remove, get-from_entries, find, nat_cmp-IsAntisymmetric}
 use Rattle.std.specs.Map.{lookup}
 use Rattle.std.specs.BTreeMap as tree
-use Rattle.msproto.specs.Replies.{spelled}
-use Rattle.mailstore.specs.Account.{Accounts}
-use Rattle.mailstore.specs.Refusals.{IsTransient}
-use Rattle.sieveexec.specs.declared.envelope.Envelope.{Envelope}
-use Rattle.mailstore.specs.declared.refusal.Refusal.{Refusal}
-use Rattle.mailstore.specs.declared.refusal.Refusal.TheVariants.{Memory, Store, NotOurs, NoUser, TooLarge, BadEnvelope, BadMoment, UserExists, BadUser, NoRow, AccountClosed, UserIsOpen, UserHasMail, BadScriptName, ScriptTooLarge, TooManyScripts, BadAccount}
+use Rattle.managesieve_protocol.specs.Replies.{reply_octets}
+use Rattle.store_accounts.specs.Account.{Accounts}
+use Rattle.store_accounts.specs.Refusals.{IsTransient}
+use Rattle.sieve_exec.specs.declared.envelope.Envelope.{Envelope}
+use Rattle.store_accounts.specs.declared.refusal.Refusal.{Refusal}
+use Rattle.store_accounts.specs.declared.refusal.Refusal.TheVariants.{Memory, Store, NotOurs, NoUser, TooLarge, BadEnvelope, BadMoment, UserExists, BadUser, NoRow, AccountClosed, UserIsOpen, UserHasMail, BadScriptName, ScriptTooLarge, TooManyScripts, BadAccount}
 use Rattle.sqlite.specs.State.{State, HasCleanDisk, Survives}
 use Rattle.sqlite.proofs.StateLemmas.{survives_weaker}
-use Rattle.mailstore.proofs.OneLemmas.{accounts_one}
-use Rattle.mailstore.specs.Shows.{Presents}
-use Rattle.mailtables.proofs.ResultLemmas.{on_ok}
-use Rattle.sessions.specs.Acts.{Acts, CrashLeaves, HasAccounts, Lasts}
-use Rattle.sessions.specs.Orders.{StepsTo, MayStep, MayRefuse as MayRefuseStep}
-use Rattle.sessions.specs.Orders.{MayRefuse as MayRefuseStep}
-use Rattle.sessions.specs.Clients.{Client, new_client, client_given}
-use Rattle.sessions.specs.Counts.{SessionView, new_session}
-use Rattle.sessions.specs.GivenUp.{text_given_up, client_given_up, progress_given_up}
-use Rattle.sessions.specs.Replies.{capabilities}
-use Rattle.sessions.specs.Steps.{IsStep, StepsOver, AsksFor, progress_of, may_lack, may_fail}
-use Rattle.sessions.specs.declared.progress.Progress.{Progress}
-use Rattle.sessions.specs.declared.sort.Order.{Order}
-use Rattle.sessions.specs.declared.progress.Progress.TheVariants as p
-use Rattle.mailengine.specs.declared.event.Event.{Event}
-use Rattle.mailengine.specs.declared.event.Event.TheVariants.{Open, Give, Step, GiveUp, Close, Deliver, AddUser, Import, TakeOut, TakeMail, Keep}
-use Rattle.mailengine.specs.declared.answer.Answer.{Answer}
-use Rattle.mailengine.specs.declared.answer.Answer.TheVariants.{Out, Ignored, Refused}
-use Rattle.mailengine.specs.World.{World, Clients, with_accounts, Ignores, Becomes, InSession, Opens, Steps, Happens, MayRefuse, with_session, without_session, MayLack, MayFail, if_open, is_closed}
-use Rattle.mailengine.specs.Hosts.{Kept, IsMade, clients_of, AsksStore, HasClients, host, IsSessionEvent, KeepsClients, IsEvent, Leads, EventCrashLeaves, answer_by, answer_of, TurnsBy, MayTurnBy, MayRefuseDelivery, MayRefuseAddition, MayRefuseImport, MayRefuseKeeping}
-use Rattle.accountfiles.specs.declared.account_file.AccountFile.{AccountFile}
-use Rattle.sieveexec.specs.declared.when.When.{When}
-use Rattle.mailengine.specs.declared.upkeep.Upkeep.{Upkeep}
+use Rattle.store_accounts.proofs.OneLemmas.{accounts_one}
+use Rattle.store_accounts.specs.Shows.{Presents}
+use Rattle.store_tables.proofs.ResultLemmas.{on_ok}
+use Rattle.managesieve_sessions.specs.Acts.{Acts, CrashLeaves, HasAccounts, Lasts}
+use Rattle.managesieve_sessions.specs.Orders.{SessionStepsTo, MayStep, MayRefuse as MayRefuseStep}
+use Rattle.managesieve_sessions.specs.Orders.{MayRefuse as MayRefuseStep}
+use Rattle.managesieve_sessions.specs.Clients.{Client, new_client, client_given}
+use Rattle.managesieve_sessions.specs.Counts.{SessionView, new_session}
+use Rattle.managesieve_sessions.specs.GivenUp.{text_given_up, client_given_up, progress_given_up}
+use Rattle.managesieve_sessions.specs.Replies.{capability_reply}
+use Rattle.managesieve_sessions.specs.Steps.{IsStep, StepsOver, AsksFor, progress_of, may_lack, may_fail}
+use Rattle.managesieve_sessions.specs.declared.progress.Progress.{Progress}
+use Rattle.managesieve_sessions.specs.declared.command_class.StoreCommand.{StoreCommand}
+use Rattle.managesieve_sessions.specs.declared.progress.Progress.TheVariants as p
+use Rattle.store_engine.specs.declared.event.Event.{Event}
+use Rattle.store_engine.specs.declared.event.Event.TheVariants.{Open, Give, Step, GiveUp, Close, Deliver, AddUser, Import, TakeOut, TakeMail, Keep}
+use Rattle.store_engine.specs.declared.answer.Answer.{Answer}
+use Rattle.store_engine.specs.declared.answer.Answer.TheVariants.{Out, Ignored, Refused}
+use Rattle.store_engine.specs.World.{World, Clients, with_accounts, Ignores, WorldBecomes, InSession, OpensSession, StepsSession, EventHappens, MayRefuseEvent, with_session, without_session, MayLack, MayFail, if_open, is_free_number}
+use Rattle.store_engine.specs.Hosts.{SessionMap, IsMade, clients_of, EventAsksStore, HasClients, host, IsSessionEvent, KeepsClients, IsEvent, EventLeads, EventCrashLeaves, answer_by, answer_of, TurnsBy, MayTurnBy, MayRefuseDelivery, MayRefuseAddition, MayRefuseImport, MayRefuseKeeping}
+use Rattle.store_text.specs.declared.account_file.AccountFile.{AccountFile}
+use Rattle.sieve_exec.specs.declared.when.When.{When}
+use Rattle.store_engine.specs.declared.upkeep.Upkeep.{Upkeep}
 
 -- ---- maps
 
@@ -50,21 +50,21 @@ mapped_cond true v o = refl
 mapped_cond false v o = refl
 
 -- one session more, or another in its place
-pub clients_put : (kept after : Kept) (n : ℕ) (v : SessionView) (clients : Clients) → tree.Updates nat_cmp kept after n (Some v) → HasClients kept clients → HasClients after (insert clients n v.client)
+pub clients_put : (kept after : SessionMap) (n : ℕ) (v : SessionView) (clients : Clients) → tree.Updates nat_cmp kept after n (Some v) → HasClients kept clients → HasClients after (insert clients n v.client)
 clients_put kept after n v clients put has s =
     ap (option_map (λ session. session.client)) (put.0 s) ∙ mapped_cond (is_eq (nat_cmp n s)) (Some v) (tree.get nat_cmp kept s)
     ∙ ap (λ o. cond (is_eq (nat_cmp n s)) (Some v.client) o) (has s) ∙ ap (λ b. cond b (Some v.client) (get clients s)) (turned_round n s)
     ∙ sym (get-insert nat_cmp_total clients n v.client s)
 
 -- one session less
-pub clients_gone : (kept after : Kept) (n : ℕ) (clients : Clients) → tree.Updates nat_cmp kept after n None → HasClients kept clients → HasClients after (remove clients n)
+pub clients_gone : (kept after : SessionMap) (n : ℕ) (clients : Clients) → tree.Updates nat_cmp kept after n None → HasClients kept clients → HasClients after (remove clients n)
 clients_gone kept after n clients gone has s =
     ap (option_map (λ session. session.client)) (gone.0 s) ∙ mapped_cond (is_eq (nat_cmp n s)) None (tree.get nat_cmp kept s)
     ∙ ap (λ o. cond (is_eq (nat_cmp n s)) None o) (has s) ∙ ap (λ b. cond b None (get clients s)) (turned_round n s)
     ∙ sym (get-remove nat_cmp_total clients n s)
 
 -- the same session put back
-pub clients_back : (kept after : Kept) (n : ℕ) (v : SessionView) (clients : Clients) → Some v ≡ tree.get nat_cmp kept n → tree.Updates nat_cmp kept after n (Some v) → HasClients kept clients → HasClients after clients
+pub clients_back : (kept after : SessionMap) (n : ℕ) (v : SessionView) (clients : Clients) → Some v ≡ tree.get nat_cmp kept n → tree.Updates nat_cmp kept after n (Some v) → HasClients kept clients → HasClients after clients
 clients_back kept after n v clients one put has s = ap (option_map (λ session. session.client)) (put.0 s) ∙ (go (nat_cmp n s) refl ∙ has s)
   where
     go : (o : Ordering) → nat_cmp n s ≡ o → option_map (λ session. session.client) (cond (is_eq o) (Some v) (tree.get nat_cmp kept s)) ≡ option_map (λ session. session.client) (tree.get nat_cmp kept s)
@@ -73,7 +73,7 @@ clients_back kept after n v clients one put has s = ap (option_map (λ session. 
     go Greater at = refl
 
 -- the same sessions
-pub clients_same : (kept after : Kept) (clients : Clients) → after.entries ≡ kept.entries → HasClients kept clients → HasClients after clients
+pub clients_same : (kept after : SessionMap) (clients : Clients) → after.entries ≡ kept.entries → HasClients kept clients → HasClients after clients
 clients_same kept after clients same has s = ap (λ es. option_map (λ session. session.client) (lookup (tree.is_at (nat_cmp s)) es)) same ∙ has s
 
 -- the sessions of a map, as the machine has them
@@ -81,15 +81,15 @@ mapped_find : (s : ℕ) (es : List (ℕ × SessionView)) → option_map (λ sess
 mapped_find s [] = refl
 mapped_find s (e ∷ es) = mapped_cond (is_eq (nat_cmp s e.0)) (Some e.1) (lookup (tree.is_at (nat_cmp s)) es) ∙ ap (λ o. cond (is_eq (nat_cmp s e.0)) (Some e.1.client) o) (mapped_find s es)
 
-pub clients_are : (kept : Kept) → HasClients kept (clients_of kept)
+pub clients_are : (kept : SessionMap) → HasClients kept (clients_of kept)
 clients_are kept s = mapped_find s kept.entries ∙ sym (get-from_entries nat_cmp_total (map (λ e. (e.0, e.1.client)) kept.entries) s)
 
 -- ---- what is under a number
 
-pub none_there : (kept : Kept) (clients : Clients) (n : ℕ) → HasClients kept clients → None ≡ tree.get nat_cmp kept n → get clients n ≡ None
+pub none_there : (kept : SessionMap) (clients : Clients) (n : ℕ) → HasClients kept clients → None ≡ tree.get nat_cmp kept n → get clients n ≡ None
 none_there kept clients n has none = sym (has n) ∙ ap (option_map (λ session. session.client)) (sym none)
 
-pub one_there : (kept : Kept) (clients : Clients) (n : ℕ) (v : SessionView) → HasClients kept clients → Some v ≡ tree.get nat_cmp kept n → get clients n ≡ Some v.client
+pub one_there : (kept : SessionMap) (clients : Clients) (n : ℕ) (v : SessionView) → HasClients kept clients → Some v ≡ tree.get nat_cmp kept n → get clients n ≡ Some v.client
 one_there kept clients n v has one = sym (has n) ∙ ap (option_map (λ session. session.client)) (sym one)
 
 -- ---- events that change nothing
@@ -98,66 +98,66 @@ nothing : (w : World) → Ignores w Ignored w
 nothing w = record { ignored = refl; stays = refl }
 
 -- a number that isn't open
-pub ignored : (event : Event) (kept after : Kept) (n : ℕ) → ((w : World) → get w.sessions n ≡ None → Happens w event Ignored w) → None ≡ tree.get nat_cmp kept n → after.entries ≡ kept.entries
+pub ignored : (event : Event) (kept after : SessionMap) (n : ℕ) → ((w : World) → get w.sessions n ≡ None → EventHappens w event Ignored w) → None ≡ tree.get nat_cmp kept n → after.entries ≡ kept.entries
     → IsSessionEvent event Ignored kept after
 ignored event kept after n row none same w has = (w.sessions, inl (row w (none_there kept w.sessions n has none)), clients_same kept after w.sessions same has)
 
-pub ignored_give : (kept after : Kept) (n : ℕ) (piece : List ℕ) → None ≡ tree.get nat_cmp kept n → after.entries ≡ kept.entries → IsSessionEvent (Give n piece) Ignored kept after
-ignored_give kept after n piece none same = ignored (Give n piece) kept after n (λ w gone. subst (λ o. InSession w o (λ c. Becomes (Out (progress_of c) []) (with_session n (client_given piece c) w)) Ignored w) (sym gone) (nothing w)) none same
+pub ignored_give : (kept after : SessionMap) (n : ℕ) (piece : List ℕ) → None ≡ tree.get nat_cmp kept n → after.entries ≡ kept.entries → IsSessionEvent (Give n piece) Ignored kept after
+ignored_give kept after n piece none same = ignored (Give n piece) kept after n (λ w gone. subst (λ o. InSession w o (λ c. WorldBecomes (Out (progress_of c) []) (with_session n (client_given piece c) w)) Ignored w) (sym gone) (nothing w)) none same
 
-pub ignored_give_up : (kept after : Kept) (n : ℕ) → None ≡ tree.get nat_cmp kept n → after.entries ≡ kept.entries → IsSessionEvent (GiveUp n) Ignored kept after
+pub ignored_give_up : (kept after : SessionMap) (n : ℕ) → None ≡ tree.get nat_cmp kept n → after.entries ≡ kept.entries → IsSessionEvent (GiveUp n) Ignored kept after
 ignored_give_up kept after n none same =
-    ignored (GiveUp n) kept after n (λ w gone. subst (λ o. InSession w o (λ c. Becomes (Out (progress_given_up c) (text_given_up c)) (with_session n (client_given_up c) w)) Ignored w) (sym gone) (nothing w)) none same
+    ignored (GiveUp n) kept after n (λ w gone. subst (λ o. InSession w o (λ c. WorldBecomes (Out (progress_given_up c) (text_given_up c)) (with_session n (client_given_up c) w)) Ignored w) (sym gone) (nothing w)) none same
 
-pub ignored_close : (kept after : Kept) (n : ℕ) → None ≡ tree.get nat_cmp kept n → after.entries ≡ kept.entries → IsSessionEvent (Close n) Ignored kept after
-ignored_close kept after n none same = ignored (Close n) kept after n (λ w gone. subst (λ o. InSession w o (λ c. Becomes (Out p.Close []) (without_session n w)) Ignored w) (sym gone) (nothing w)) none same
+pub ignored_close : (kept after : SessionMap) (n : ℕ) → None ≡ tree.get nat_cmp kept n → after.entries ≡ kept.entries → IsSessionEvent (Close n) Ignored kept after
+ignored_close kept after n none same = ignored (Close n) kept after n (λ w gone. subst (λ o. InSession w o (λ c. WorldBecomes (Out p.Close []) (without_session n w)) Ignored w) (sym gone) (nothing w)) none same
 
 -- lack of memory
-pub lacking : (event : Event) (kept after : Kept) (answer : Answer) → answer ≡ Refused Memory → ((w : World) → HasClients kept w.sessions → MayLack w event) → after.entries ≡ kept.entries → IsSessionEvent event answer kept after
+pub lacking : (event : Event) (kept after : SessionMap) (answer : Answer) → answer ≡ Refused Memory → ((w : World) → HasClients kept w.sessions → MayLack w event) → after.entries ≡ kept.entries → IsSessionEvent event answer kept after
 lacking event kept after answer is may same w has = (w.sessions, inr (record { refusal = Memory; may = may w has; refused = is; stays = refl }), clients_same kept after w.sessions same has)
 
 -- lack of memory, where the session was put back
-pub lacking_back : (event : Event) (kept after : Kept) (n : ℕ) (v : SessionView) (answer : Answer) → answer ≡ Refused Memory → ((w : World) → HasClients kept w.sessions → MayLack w event) → Some v ≡ tree.get nat_cmp kept n
+pub lacking_back : (event : Event) (kept after : SessionMap) (n : ℕ) (v : SessionView) (answer : Answer) → answer ≡ Refused Memory → ((w : World) → HasClients kept w.sessions → MayLack w event) → Some v ≡ tree.get nat_cmp kept n
     → tree.Updates nat_cmp kept after n (Some v) → IsSessionEvent event answer kept after
 lacking_back event kept after n v answer is may one put w has =
     (w.sessions, inr (record { refusal = Memory; may = may w has; refused = is; stays = refl }), clients_back kept after n v w.sessions one put has)
 
 -- ---- open
 
-pub open_twice : (kept : Kept) (n : ℕ) → is_some (tree.get nat_cmp kept n) ≡ true → IsSessionEvent (Open n) Ignored kept kept
+pub open_twice : (kept : SessionMap) (n : ℕ) → is_some (tree.get nat_cmp kept n) ≡ true → IsSessionEvent (Open n) Ignored kept kept
 open_twice kept n there w has = (w.sessions, inl (go (tree.get nat_cmp kept n) refl there), has)
   where
-    go : (o : Option SessionView) → tree.get nat_cmp kept n ≡ o → is_some o ≡ true → Opens w n (get w.sessions n) Ignored w
+    go : (o : Option SessionView) → tree.get nat_cmp kept n ≡ o → is_some o ≡ true → OpensSession w n (get w.sessions n) Ignored w
     go None is some = absurd (let never : false ≡ true = some in cc)
-    go (Some v) is some = subst (λ o. Opens w n o Ignored w) (sym (one_there kept w.sessions n v has (sym is))) (record { ignored = refl; stays = refl })
+    go (Some v) is some = subst (λ o. OpensSession w n o Ignored w) (sym (one_there kept w.sessions n v has (sym is))) (record { ignored = refl; stays = refl })
 
-absent : (kept : Kept) (clients : Clients) (n : ℕ) → HasClients kept clients → is_some (tree.get nat_cmp kept n) ≡ false → get clients n ≡ None
+absent : (kept : SessionMap) (clients : Clients) (n : ℕ) → HasClients kept clients → is_some (tree.get nat_cmp kept n) ≡ false → get clients n ≡ None
 absent kept clients n has none = go (tree.get nat_cmp kept n) refl none
   where
     go : (o : Option SessionView) → tree.get nat_cmp kept n ≡ o → is_some o ≡ false → get clients n ≡ None
     go None is gone = none_there kept clients n has (sym is)
     go (Some v) is gone = absurd (let never : true ≡ false = gone in cc)
 
-pub open_lacks : (kept : Kept) (n : ℕ) → is_some (tree.get nat_cmp kept n) ≡ false → (w : World) → HasClients kept w.sessions → MayLack w (Open n)
-open_lacks kept n none w has = ap is_closed (absent kept w.sessions n has none)
+pub open_lacks : (kept : SessionMap) (n : ℕ) → is_some (tree.get nat_cmp kept n) ≡ false → (w : World) → HasClients kept w.sessions → MayLack w (Open n)
+open_lacks kept n none w has = ap is_free_number (absent kept w.sessions n has none)
 
-pub opened : (kept after : Kept) (n : ℕ) (greeting : List ℕ) → is_some (tree.get nat_cmp kept n) ≡ false → greeting ≡ spelled (capabilities None) → tree.Updates nat_cmp kept after n (Some new_session)
+pub opened : (kept after : SessionMap) (n : ℕ) (greeting : List ℕ) → is_some (tree.get nat_cmp kept n) ≡ false → greeting ≡ reply_octets (capability_reply None) → tree.Updates nat_cmp kept after n (Some new_session)
     → IsSessionEvent (Open n) (Out p.Done greeting) kept after
 opened kept after n greeting none told put w has = (
   insert w.sessions n new_client,
-  inl (subst (λ o. Opens w n o (Out p.Done greeting) (record { accounts = w.accounts; sessions = insert w.sessions n new_client })) (sym (absent kept w.sessions n has none)) (record { says = ap (λ t. Out p.Done t) told; changed = refl })),
+  inl (subst (λ o. OpensSession w n o (Out p.Done greeting) (record { accounts = w.accounts; sessions = insert w.sessions n new_client })) (sym (absent kept w.sessions n has none)) (record { says = ap (λ t. Out p.Done t) told; changed = refl })),
   clients_put kept after n new_session w.sessions put has,
 )
 
 -- ---- an open session
 
 -- what it becomes, and what is answered
-pub becomes : (event : Event) (kept after : Kept) (n : ℕ) (v u : SessionView) (answer : Answer) → ((w : World) → get w.sessions n ≡ Some v.client → Happens w event answer (record { accounts = w.accounts; sessions = insert w.sessions n u.client }))
+pub becomes : (event : Event) (kept after : SessionMap) (n : ℕ) (v u : SessionView) (answer : Answer) → ((w : World) → get w.sessions n ≡ Some v.client → EventHappens w event answer (record { accounts = w.accounts; sessions = insert w.sessions n u.client }))
     → Some v ≡ tree.get nat_cmp kept n → tree.Updates nat_cmp kept after n (Some u) → IsSessionEvent event answer kept after
 becomes event kept after n v u answer row one put w has =
     (insert w.sessions n u.client, inl (row w (one_there kept w.sessions n v has one)), clients_put kept after n u w.sessions put has)
 
-pub given : (kept after : Kept) (n : ℕ) (piece : List ℕ) (v u : SessionView) → Some v ≡ tree.get nat_cmp kept n → u.client ≡ client_given piece v.client → tree.Updates nat_cmp kept after n (Some u)
+pub given : (kept after : SessionMap) (n : ℕ) (piece : List ℕ) (v u : SessionView) → Some v ≡ tree.get nat_cmp kept n → u.client ≡ client_given piece v.client → tree.Updates nat_cmp kept after n (Some u)
     → IsSessionEvent (Give n piece) (Out (progress_of u.client) []) kept after
 given kept after n piece v u one gives put = becomes (Give n piece) kept after n v u (Out (progress_of u.client) []) row one put
   where
@@ -165,46 +165,46 @@ given kept after n piece v u one gives put = becomes (Give n piece) kept after n
     progress true c is = ap (λ e. progress_of (cond e c (record c { unread = c.unread ++ piece }))) is
     progress false c is = ap (λ e. progress_of (cond e c (record c { unread = c.unread ++ piece }))) is
 
-    row : (w : World) → get w.sessions n ≡ Some v.client → Happens w (Give n piece) (Out (progress_of u.client) []) (record { accounts = w.accounts; sessions = insert w.sessions n u.client })
+    row : (w : World) → get w.sessions n ≡ Some v.client → EventHappens w (Give n piece) (Out (progress_of u.client) []) (record { accounts = w.accounts; sessions = insert w.sessions n u.client })
     row w has =
-        let made : Becomes (Out (progress_of v.client) []) (with_session n (client_given piece v.client) w) (Out (progress_of u.client) []) (record { accounts = w.accounts; sessions = insert w.sessions n u.client }) = record {
+        let made : WorldBecomes (Out (progress_of v.client) []) (with_session n (client_given piece v.client) w) (Out (progress_of u.client) []) (record { accounts = w.accounts; sessions = insert w.sessions n u.client }) = record {
           says = ap (λ q. Out q []) (ap progress_of gives ∙ progress v.client.closed v.client refl);
           changed = ap (λ c. with_session n c w) gives;
         } in
-        subst (λ o. InSession w o (λ c. Becomes (Out (progress_of c) []) (with_session n (client_given piece c) w)) (Out (progress_of u.client) []) (record { accounts = w.accounts; sessions = insert w.sessions n u.client })) (sym has) made
+        subst (λ o. InSession w o (λ c. WorldBecomes (Out (progress_of c) []) (with_session n (client_given piece c) w)) (Out (progress_of u.client) []) (record { accounts = w.accounts; sessions = insert w.sessions n u.client })) (sym has) made
 
-pub given_told : (kept after : Kept) (n : ℕ) (piece : List ℕ) (v u : SessionView) (progress : Progress) (text : List ℕ) → progress ≡ progress_of u.client → text ≡ [] → Some v ≡ tree.get nat_cmp kept n → u.client ≡ client_given piece v.client
+pub given_told : (kept after : SessionMap) (n : ℕ) (piece : List ℕ) (v u : SessionView) (progress : Progress) (text : List ℕ) → progress ≡ progress_of u.client → text ≡ [] → Some v ≡ tree.get nat_cmp kept n → u.client ≡ client_given piece v.client
     → tree.Updates nat_cmp kept after n (Some u) → IsSessionEvent (Give n piece) (Out progress text) kept after
 given_told kept after n piece v u progress text goes none one gives put =
     subst (λ a. IsSessionEvent (Give n piece) a kept after) (sym (ap (λ q. Out q text) goes ∙ ap (λ t. Out (progress_of u.client) t) none)) (given kept after n piece v u one gives put)
 
-pub give_lacks : (kept : Kept) (n : ℕ) (piece : List ℕ) (v : SessionView) → Some v ≡ tree.get nat_cmp kept n → (w : World) → HasClients kept w.sessions → MayLack w (Give n piece)
+pub give_lacks : (kept : SessionMap) (n : ℕ) (piece : List ℕ) (v : SessionView) → Some v ≡ tree.get nat_cmp kept n → (w : World) → HasClients kept w.sessions → MayLack w (Give n piece)
 give_lacks kept n piece v one w has = ap (if_open (λ c. true)) (one_there kept w.sessions n v has one)
 
-pub gave_up : (kept after : Kept) (n : ℕ) (text : List ℕ) (v u : SessionView) (progress : Progress) → Some v ≡ tree.get nat_cmp kept n → u.client ≡ client_given_up v.client → text ≡ text_given_up v.client → progress ≡ progress_given_up v.client
+pub gave_up : (kept after : SessionMap) (n : ℕ) (text : List ℕ) (v u : SessionView) (progress : Progress) → Some v ≡ tree.get nat_cmp kept n → u.client ≡ client_given_up v.client → text ≡ text_given_up v.client → progress ≡ progress_given_up v.client
     → tree.Updates nat_cmp kept after n (Some u) → IsSessionEvent (GiveUp n) (Out progress text) kept after
 gave_up kept after n text v u progress one gives told goes put = becomes (GiveUp n) kept after n v u (Out progress text) row one put
   where
-    row : (w : World) → get w.sessions n ≡ Some v.client → Happens w (GiveUp n) (Out progress text) (record { accounts = w.accounts; sessions = insert w.sessions n u.client })
+    row : (w : World) → get w.sessions n ≡ Some v.client → EventHappens w (GiveUp n) (Out progress text) (record { accounts = w.accounts; sessions = insert w.sessions n u.client })
     row w has =
-        let made : Becomes (Out (progress_given_up v.client) (text_given_up v.client)) (with_session n (client_given_up v.client) w) (Out progress text) (record { accounts = w.accounts; sessions = insert w.sessions n u.client }) = record {
+        let made : WorldBecomes (Out (progress_given_up v.client) (text_given_up v.client)) (with_session n (client_given_up v.client) w) (Out progress text) (record { accounts = w.accounts; sessions = insert w.sessions n u.client }) = record {
           says = ap (λ q. Out q text) goes ∙ ap (λ t. Out (progress_given_up v.client) t) told;
           changed = ap (λ c. with_session n c w) gives;
         } in
-        subst (λ o. InSession w o (λ c. Becomes (Out (progress_given_up c) (text_given_up c)) (with_session n (client_given_up c) w)) (Out progress text) (record { accounts = w.accounts; sessions = insert w.sessions n u.client })) (sym has) made
+        subst (λ o. InSession w o (λ c. WorldBecomes (Out (progress_given_up c) (text_given_up c)) (with_session n (client_given_up c) w)) (Out progress text) (record { accounts = w.accounts; sessions = insert w.sessions n u.client })) (sym has) made
 
-pub closed_now : (kept after : Kept) (n : ℕ) (v : SessionView) (text : List ℕ) → text ≡ [] → Some v ≡ tree.get nat_cmp kept n → tree.Updates nat_cmp kept after n None → IsSessionEvent (Close n) (Out p.Close text) kept after
+pub closed_now : (kept after : SessionMap) (n : ℕ) (v : SessionView) (text : List ℕ) → text ≡ [] → Some v ≡ tree.get nat_cmp kept n → tree.Updates nat_cmp kept after n None → IsSessionEvent (Close n) (Out p.Close text) kept after
 closed_now kept after n v text none one gone w has = (remove w.sessions n, inl row, clients_gone kept after n w.sessions gone has)
   where
-    row : Happens w (Close n) (Out p.Close text) (without_session n w)
+    row : EventHappens w (Close n) (Out p.Close text) (without_session n w)
     row =
-        let made : Becomes (Out p.Close []) (without_session n w) (Out p.Close text) (without_session n w) = record { says = ap (λ t. Out p.Close t) none; changed = refl } in
-        subst (λ o. InSession w o (λ c. Becomes (Out p.Close []) (without_session n w)) (Out p.Close text) (without_session n w)) (sym (one_there kept w.sessions n v has one)) made
+        let made : WorldBecomes (Out p.Close []) (without_session n w) (Out p.Close text) (without_session n w) = record { says = ap (λ t. Out p.Close t) none; changed = refl } in
+        subst (λ o. InSession w o (λ c. WorldBecomes (Out p.Close []) (without_session n w)) (Out p.Close text) (without_session n w)) (sym (one_there kept w.sessions n v has one)) made
 
 -- ---- a step
 
 -- which refusals a step may give, as the machine has it
-step_refused : (w : World) (n : ℕ) (c : Client) (refusal : Refusal) → get w.sessions n ≡ Some c → MayRefuseStep c refusal → MayRefuse w (Step n) refusal
+step_refused : (w : World) (n : ℕ) (c : Client) (refusal : Refusal) → get w.sessions n ≡ Some c → MayRefuseStep c refusal → MayRefuseEvent w (Step n) refusal
 step_refused w n c Memory has may = ap (if_open may_lack) has ∙ may
 step_refused w n c Store has may = ap (if_open may_fail) has ∙ may
 step_refused w n c NotOurs has may = absurd may
@@ -225,11 +225,11 @@ step_refused w n c BadAccount has may = absurd may
 
 -- the step of one session is the machine's
 stepped : (w : World) (n : ℕ) (c d : Client) (progress : Progress) (octets : List ℕ) (later : Accounts) → get w.sessions n ≡ Some c → IsStep w.accounts c progress octets d later
-    → Happens w (Step n) (Out progress octets) (record { accounts = later; sessions = insert w.sessions n d })
+    → EventHappens w (Step n) (Out progress octets) (record { accounts = later; sessions = insert w.sessions n d })
 stepped w n c d progress octets later has is =
-    let made : Steps w n c (Out progress octets) (record { accounts = later; sessions = insert w.sessions n d }) =
+    let made : StepsSession w n c (Out progress octets) (record { accounts = later; sessions = insert w.sessions n d }) =
     record { goes_on = progress; octets = octets; client = d; accounts = later; step = is; says = refl; changed = refl } in
-    subst (λ o. InSession w o (Steps w n) (Out progress octets) (record { accounts = later; sessions = insert w.sessions n d })) (sym has) made
+    subst (λ o. InSession w o (StepsSession w n) (Out progress octets) (record { accounts = later; sessions = insert w.sessions n d })) (sym has) made
 
 -- an answer that isn't a refusal lasts: the accounts that the store shows are those
 lasts_of : {X : Type 0} (Turn MayTurn : Accounts → Accounts → Type 0) (old new : State) (q : Result X Refusal) (x : X) → q ≡ Ok x → Acts Turn MayTurn old new q → HasCleanDisk new → IsTrue old.is_open
@@ -242,20 +242,20 @@ lasts_of Turn MayTurn old new q x is acts clean was accounts p later shown =
 still_lasts : (s : State) (accounts : Accounts) → HasAccounts s accounts → IsTrue s.is_open → Lasts accounts accounts s s
 still_lasts s accounts shown is_open = record { is_open = is_open; shown = shown is_open; crash = λ trees may. inr (refl, may) }
 
-module _ (old new : State) (kept after : Kept) (n : ℕ) (v u : SessionView) (r : Result Progress Refusal) (before written : List ℕ) (one : Some v ≡ tree.get nat_cmp kept n) (put : tree.Updates nat_cmp kept after n (Some u))
-    (acts : Acts (StepsTo v.client u.client r before written) (MayStep v.client) old new r) where
+module _ (old new : State) (kept after : SessionMap) (n : ℕ) (v u : SessionView) (r : Result Progress Refusal) (before written : List ℕ) (one : Some v ≡ tree.get nat_cmp kept n) (put : tree.Updates nat_cmp kept after n (Some u))
+    (acts : Acts (SessionStepsTo v.client u.client r before written) (MayStep v.client) old new r) where
   -- it answered
   pub step_told : (progress : Progress) → r ≡ Ok progress → before ≡ [] → IsEvent (Step n) (Out progress written) (host old kept) (host new after)
   step_told progress is none clean w had =
       let turned = acts.carries clean w.accounts had.accounts in
-      let made : StepsTo v.client u.client (Ok progress) before written w.accounts turned.0 = subst (λ q. StepsTo v.client u.client q before written w.accounts turned.0) is turned.1 in
+      let made : SessionStepsTo v.client u.client (Ok progress) before written w.accounts turned.0 = subst (λ q. SessionStepsTo v.client u.client q before written w.accounts turned.0) is turned.1 in
       let text : written ≡ made.0 = made.1 ∙ ap (λ b. b ++ made.0) none in (
         record { accounts = turned.0; sessions = insert w.sessions n u.client },
         record {
-          is_next = inl (subst (λ t. Happens w (Step n) (Out progress t) (record { accounts = turned.0; sessions = insert w.sessions n u.client })) (sym text)
+          is_next = inl (subst (λ t. EventHappens w (Step n) (Out progress t) (record { accounts = turned.0; sessions = insert w.sessions n u.client })) (sym text)
               (stepped w n v.client u.client progress made.0 turned.0 (one_there kept w.sessions n v had.sessions one) made.2));
           implements = record { accounts = turned.2; sessions = clients_put kept after n u w.sessions put had.sessions };
-          lasts = λ told was. lasts_of (StepsTo v.client u.client r before written) (MayStep v.client) old new r progress is acts clean was w.accounts (had.accounts was) turned.0 turned.2;
+          lasts = λ told was. lasts_of (SessionStepsTo v.client u.client r before written) (MayStep v.client) old new r progress is acts clean was w.accounts (had.accounts was) turned.0 turned.2;
         },
       )
 
@@ -263,7 +263,7 @@ module _ (old new : State) (kept after : Kept) (n : ℕ) (v u : SessionView) (r 
   pub step_undone : (answer : Answer) (refusal : Refusal) → r ≡ Err refusal → answer ≡ Refused refusal → MayRefuseStep v.client refusal → u ≡ v → IsEvent (Step n) answer (host old kept) (host new after)
   step_undone answer refusal is told may same clean w had =
       let turned = acts.carries clean w.accounts had.accounts in
-      let stays : turned.0 ≡ w.accounts = subst (λ q. StepsTo v.client u.client q before written w.accounts turned.0) is turned.1 in (
+      let stays : turned.0 ≡ w.accounts = subst (λ q. SessionStepsTo v.client u.client q before written w.accounts turned.0) is turned.1 in (
         w,
         record {
           is_next = inr (record { refusal = refusal; may = step_refused w n v.client refusal (one_there kept w.sessions n v had.sessions one) may; refused = told; stays = refl });
@@ -273,54 +273,54 @@ module _ (old new : State) (kept after : Kept) (n : ℕ) (v u : SessionView) (r 
       )
 
 -- what a crash leaves of it
-pub step_crash : (old new : State) (kept : Kept) (n : ℕ) (v : SessionView) → Some v ≡ tree.get nat_cmp kept n → Survives old new (CrashLeaves (MayStep v.client) old) → Survives old new (EventCrashLeaves (Step n) (host old kept))
+pub step_crash : (old new : State) (kept : SessionMap) (n : ℕ) (v : SessionView) → Some v ≡ tree.get nat_cmp kept n → Survives old new (CrashLeaves (MayStep v.client) old) → Survives old new (EventCrashLeaves (Step n) (host old kept))
 step_crash old new kept n v one crash = survives_weaker old new _ _ (λ clean trees may w shown has.
     let left = may w.accounts shown in
     let step = left.1 in
     (Out step.0 step.1, record { accounts = left.0; sessions = insert w.sessions n step.2 }, inl (stepped w n v.client step.2 step.0 step.1 left.0 (one_there kept w.sessions n v has one) step.3), left.2)) crash
 
 -- an event of sessions alone asks no store
-pub session_event : (event : Event) (answer : Answer) (s : State) (kept after : Kept) → IsSessionEvent event answer kept after → IsEvent event answer (host s kept) (host s after)
+pub session_event : (event : Event) (answer : Answer) (s : State) (kept after : SessionMap) → IsSessionEvent event answer kept after → IsEvent event answer (host s kept) (host s after)
 session_event event answer s kept after is clean w had =
     let made = is w had.sessions in (
       record { accounts = w.accounts; sessions = made.0 },
       record { is_next = made.1; implements = record { accounts = had.accounts; sessions = made.2 }; lasts = λ told. still_lasts s w.accounts had.accounts },
     )
 
-pub ignored_step : (kept after : Kept) (n : ℕ) → None ≡ tree.get nat_cmp kept n → after.entries ≡ kept.entries → IsSessionEvent (Step n) Ignored kept after
-ignored_step kept after n none same = ignored (Step n) kept after n (λ w gone. subst (λ o. InSession w o (Steps w n) Ignored w) (sym gone) (nothing w)) none same
+pub ignored_step : (kept after : SessionMap) (n : ℕ) → None ≡ tree.get nat_cmp kept n → after.entries ≡ kept.entries → IsSessionEvent (Step n) Ignored kept after
+ignored_step kept after n none same = ignored (Step n) kept after n (λ w gone. subst (λ o. InSession w o (StepsSession w n) Ignored w) (sym gone) (nothing w)) none same
 
 -- ---- a step that asks no store
 
 -- it answered
-pub free_told : (kept after : Kept) (n : ℕ) (v u : SessionView) (progress : Progress) (before written : List ℕ) → Some v ≡ tree.get nat_cmp kept n → tree.Updates nat_cmp kept after n (Some u) → StepsOver v.client u.client progress before written
+pub free_told : (kept after : SessionMap) (n : ℕ) (v u : SessionView) (progress : Progress) (before written : List ℕ) → Some v ≡ tree.get nat_cmp kept n → tree.Updates nat_cmp kept after n (Some u) → StepsOver v.client u.client progress before written
     → before ≡ [] → IsSessionEvent (Step n) (Out progress written) kept after
 free_told kept after n v u progress before written one put over none w has =
     let text : written ≡ over.octets = over.written ∙ ap (λ b. b ++ over.octets) none in (
       insert w.sessions n u.client,
-      inl (subst (λ t. Happens w (Step n) (Out progress t) (record { accounts = w.accounts; sessions = insert w.sessions n u.client })) (sym text)
+      inl (subst (λ t. EventHappens w (Step n) (Out progress t) (record { accounts = w.accounts; sessions = insert w.sessions n u.client })) (sym text)
           (stepped w n v.client u.client progress over.octets w.accounts (one_there kept w.sessions n v has one) (over.step w.accounts))),
       clients_put kept after n u w.sessions put has,
     )
 
 -- there was no memory for it
-pub free_lacks : (kept : Kept) (n : ℕ) (v : SessionView) → Some v ≡ tree.get nat_cmp kept n → may_lack v.client ≡ true → (w : World) → HasClients kept w.sessions → MayLack w (Step n)
+pub free_lacks : (kept : SessionMap) (n : ℕ) (v : SessionView) → Some v ≡ tree.get nat_cmp kept n → may_lack v.client ≡ true → (w : World) → HasClients kept w.sessions → MayLack w (Step n)
 free_lacks kept n v one may w has = subst (λ o. if_open may_lack o ≡ true) (sym (one_there kept w.sessions n v has one)) may
 
 -- its command asks
-pub free_asks : (kept : Kept) (n : ℕ) (v : SessionView) (d : Client) (order : Order) (before written : List ℕ) → Some v ≡ tree.get nat_cmp kept n → AsksFor v.client d order before written → AsksStore (Step n) kept
+pub free_asks : (kept : SessionMap) (n : ℕ) (v : SessionView) (d : Client) (order : StoreCommand) (before written : List ℕ) → Some v ≡ tree.get nat_cmp kept n → AsksFor v.client d order before written → EventAsksStore (Step n) kept
 free_asks kept n v d order before written one asks =
     let it = asks.asked in
     let fails : may_fail v.client ≡ true = rw (it.live, it.first, it.late, it.asks) refl in
     subst (λ o. if_open may_fail (option_map (λ session. session.client) o) ≡ true) one fails
 
-pub free_keeps : (kept after : Kept) (n : ℕ) (v : SessionView) → Some v ≡ tree.get nat_cmp kept n → tree.Updates nat_cmp kept after n (Some v) → KeepsClients kept after
+pub free_keeps : (kept after : SessionMap) (n : ℕ) (v : SessionView) → Some v ≡ tree.get nat_cmp kept n → tree.Updates nat_cmp kept after n (Some v) → KeepsClients kept after
 free_keeps kept after n v one put clients has = clients_back kept after n v clients one put has
 
 -- ---- an event of the accounts
 
-module _ (event : Event) (Row : Accounts → Answer → Accounts → Type 0) (May : Refusal → Type 0) (rows : (w : World) (answer : Answer) (next : World) → with_accounts w (Row w.accounts) answer next → Happens w event answer next)
-    (refuses : (w : World) (refusal : Refusal) → May refusal → MayRefuse w event refusal) (old new : State) (kept : Kept) where
+module _ (event : Event) (Row : Accounts → Answer → Accounts → Type 0) (May : Refusal → Type 0) (rows : (w : World) (answer : Answer) (next : World) → with_accounts w (Row w.accounts) answer next → EventHappens w event answer next)
+    (refuses : (w : World) (refusal : Refusal) → May refusal → MayRefuseEvent w event refusal) (old new : State) (kept : SessionMap) where
   pub account_event : {X : Type 0} (told : X → Answer) (r : Result X Refusal) → Acts (TurnsBy Row May (answer_by told r)) (MayTurnBy Row) old new r → IsEvent event (answer_by told r) (host old kept) (host new kept)
   account_event {X} told r acts clean w had =
       let turned = acts.carries clean w.accounts had.accounts in
@@ -330,7 +330,7 @@ module _ (event : Event) (Row : Accounts → Answer → Accounts → Type 0) (Ma
       made (Ok x) is answered was later shown = lasts_of (TurnsBy Row May (answer_by told r)) (MayTurnBy Row) old new r x is acts clean was w.accounts (had.accounts was) later shown
       made (Err e) is answered was later shown = absurd answered
 
-      go : (later : Accounts) → TurnsBy Row May (answer_by told r) w.accounts later → HasAccounts new later → (next : World) × Leads w event (answer_by told r) (host old kept) (host new kept) next
+      go : (later : Accounts) → TurnsBy Row May (answer_by told r) w.accounts later → HasAccounts new later → (next : World) × EventLeads w event (answer_by told r) (host old kept) (host new kept) next
       go later (inl row) shown = (
         record { accounts = later; sessions = w.sessions },
         record {
@@ -355,29 +355,29 @@ module _ (event : Event) (Row : Accounts → Answer → Accounts → Type 0) (Ma
 
 -- ---- which refusals the events of accounts may give, as the machine has it
 
-lacking_may : (w : World) (event : Event) (refusal : Refusal) → refusal ≡ Memory → MayLack w event → MayRefuse w event refusal
-lacking_may w event refusal is may = subst (MayRefuse w event) (sym is) may
+lacking_may : (w : World) (event : Event) (refusal : Refusal) → refusal ≡ Memory → MayLack w event → MayRefuseEvent w event refusal
+lacking_may w event refusal is may = subst (MayRefuseEvent w event) (sym is) may
 
-failing_may : (w : World) (event : Event) (refusal : Refusal) → refusal ≡ Store → MayFail w event → MayRefuse w event refusal
-failing_may w event refusal is may = subst (MayRefuse w event) (sym is) may
+failing_may : (w : World) (event : Event) (refusal : Refusal) → refusal ≡ Store → MayFail w event → MayRefuseEvent w event refusal
+failing_may w event refusal is may = subst (MayRefuseEvent w event) (sym is) may
 
-pub delivery_may : (user message : List ℕ) (envelope : Envelope) (when : When) (default : Option (List ℕ)) (w : World) (refusal : Refusal) → MayRefuseDelivery envelope message when.moment refusal → MayRefuse w (Deliver user envelope message when default) refusal
+pub delivery_may : (user message : List ℕ) (envelope : Envelope) (when : When) (default : Option (List ℕ)) (w : World) (refusal : Refusal) → MayRefuseDelivery envelope message when.moment refusal → MayRefuseEvent w (Deliver user envelope message when default) refusal
 delivery_may user message envelope when default w refusal (inl is, none) = lacking_may w (Deliver user envelope message when default) refusal is none
 delivery_may user message envelope when default w refusal (inr is, none) = failing_may w (Deliver user envelope message when default) refusal is none
 
-pub addition_may : (name address salt password : List ℕ) (w : World) (refusal : Refusal) → MayRefuseAddition name address password refusal → MayRefuse w (AddUser name address salt password) refusal
+pub addition_may : (name address salt password : List ℕ) (w : World) (refusal : Refusal) → MayRefuseAddition name address password refusal → MayRefuseEvent w (AddUser name address salt password) refusal
 addition_may name address salt password w refusal (inl is) = lacking_may w (AddUser name address salt password) refusal is tt
 addition_may name address salt password w refusal (inr (is, new)) = failing_may w (AddUser name address salt password) refusal is new
 
-pub importing_may : (file : AccountFile) (w : World) (refusal : Refusal) → MayRefuseImport file.head file.parts refusal → MayRefuse w (Import file) refusal
+pub importing_may : (file : AccountFile) (w : World) (refusal : Refusal) → MayRefuseImport file.head file.parts refusal → MayRefuseEvent w (Import file) refusal
 importing_may file w refusal (inl is) = lacking_may w (Import file) refusal is tt
 importing_may file w refusal (inr (is, fit)) = failing_may w (Import file) refusal is fit
 
-pub taking_may : (user : List ℕ) (id : ℕ) (w : World) (refusal : Refusal) → IsTransient refusal → MayRefuse w (TakeOut user id) refusal
+pub taking_may : (user : List ℕ) (id : ℕ) (w : World) (refusal : Refusal) → IsTransient refusal → MayRefuseEvent w (TakeOut user id) refusal
 taking_may user id w refusal (inl is) = lacking_may w (TakeOut user id) refusal is tt
 taking_may user id w refusal (inr is) = failing_may w (TakeOut user id) refusal is tt
 
-pub mail_taking_may : (user folder : List ℕ) (w : World) (refusal : Refusal) → IsTransient refusal → MayRefuse w (TakeMail user folder) refusal
+pub mail_taking_may : (user folder : List ℕ) (w : World) (refusal : Refusal) → IsTransient refusal → MayRefuseEvent w (TakeMail user folder) refusal
 mail_taking_may user folder w refusal (inl is) = lacking_may w (TakeMail user folder) refusal is tt
 mail_taking_may user folder w refusal (inr is) = failing_may w (TakeMail user folder) refusal is tt
 
@@ -394,16 +394,16 @@ told_done told (Ok x) made answer same is = is ∙ ap answer_of same
 told_done told (Err e) made answer same is = is ∙ ap answer_of same
 
 -- the same event with the same answer
-pub event_is : (event told_of : Event) (answer told : Answer) (old new : State) (kept after : Kept) → event ≡ told_of → answer ≡ told → IsEvent told_of told (host old kept) (host new after) → IsEvent event answer (host old kept) (host new after)
+pub event_is : (event told_of : Event) (answer told : Answer) (old new : State) (kept after : SessionMap) → event ≡ told_of → answer ≡ told → IsEvent told_of told (host old kept) (host new after) → IsEvent event answer (host old kept) (host new after)
 event_is event told_of answer told old new kept after is same made = subst (λ e. IsEvent e answer (host old kept) (host new after)) (sym is) (subst (λ a. IsEvent told_of a (host old kept) (host new after)) (sym same) made)
 
-pub crash_is : (event told_of : Event) (old new : State) (kept : Kept) → event ≡ told_of → Survives old new (EventCrashLeaves told_of (host old kept)) → Survives old new (EventCrashLeaves event (host old kept))
+pub crash_is : (event told_of : Event) (old new : State) (kept : SessionMap) → event ≡ told_of → Survives old new (EventCrashLeaves told_of (host old kept)) → Survives old new (EventCrashLeaves event (host old kept))
 crash_is event told_of old new kept is made = subst (λ e. Survives old new (EventCrashLeaves e (host old kept))) (sym is) made
 
 -- the same event of sessions alone
-pub session_is : (event told_of : Event) (answer told : Answer) (kept after : Kept) → event ≡ told_of → answer ≡ told → IsSessionEvent told_of told kept after → IsSessionEvent event answer kept after
+pub session_is : (event told_of : Event) (answer told : Answer) (kept after : SessionMap) → event ≡ told_of → answer ≡ told → IsSessionEvent told_of told kept after → IsSessionEvent event answer kept after
 session_is event told_of answer told kept after is same made = subst (λ e. IsSessionEvent e answer kept after) (sym is) (subst (λ a. IsSessionEvent told_of a kept after) (sym same) made)
 
-pub keeping_may : (user : List ℕ) (upkeep : Upkeep) (w : World) (refusal : Refusal) → MayRefuseKeeping upkeep refusal → MayRefuse w (Keep user upkeep) refusal
+pub keeping_may : (user : List ℕ) (upkeep : Upkeep) (w : World) (refusal : Refusal) → MayRefuseKeeping upkeep refusal → MayRefuseEvent w (Keep user upkeep) refusal
 keeping_may user upkeep w refusal (inl (is, may)) = lacking_may w (Keep user upkeep) refusal is may
 keeping_may user upkeep w refusal (inr (is, fit)) = failing_may w (Keep user upkeep) refusal is fit

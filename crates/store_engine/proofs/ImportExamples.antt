@@ -4,26 +4,26 @@ use Rattle.std.specs.Prelude.{unwrap_or}
 use Rattle.std.specs.FinMap.{empty, get, insert, get-empty, get-insert}
 use Rattle.std.specs.Ordering.{is_eq}
 use Rattle.std.proofs.lemmas.Cmp.{nat_list_cmp_total}
-use Rattle.accountfiles.specs.declared.head.Head.{Head}
-use Rattle.accountfiles.specs.declared.part.Part.{Part}
-use Rattle.accountfiles.specs.declared.part.Part.TheVariants.{Script, Reply, Mail, Copy}
-use Rattle.mailstore.specs.Account.{bytes_cmp, reply_cmp, Account, Accounts, no_accounts, latest, is_closed, has_mail, with_user}
-use Rattle.mailstore.specs.Whole.{whole, takes_whole, password_of}
-use Rattle.mailstore.specs.declared.refusal.Refusal.TheVariants.{UserExists, UserHasMail, BadAccount}
-use Rattle.mailstore.proofs.AccountLemmas.{reply_total}
-use Rattle.sessions.specs.Scripts.{IsValid}
-use Rattle.mailengine.specs.AccountEvents.{Refuses, IsImportable, Replaces, ImportsUnder, Importing}
-use Rattle.mailengine.specs.Importable.{may_guard, have_short_flags}
-use Rattle.mailengine.specs.Limits.{is_user_name}
-use Rattle.mailengine.specs.declared.answer.Answer.{Answer}
-use Rattle.mailengine.specs.declared.answer.Answer.TheVariants.{Imported, Refused}
-use Rattle.mailengine.proofs.AloneLemmas.{put_own}
+use Rattle.store_text.specs.declared.head.AccountHead.{AccountHead}
+use Rattle.store_text.specs.declared.part.Part.{Part}
+use Rattle.store_text.specs.declared.part.Part.TheVariants.{Script, Reply, Mail, Copy}
+use Rattle.store_accounts.specs.Account.{bytes_cmp, reply_cmp, Account, Accounts, no_accounts, latest, is_closed_account, has_mail, with_user}
+use Rattle.store_accounts.specs.Whole.{whole, takes_whole, password_of}
+use Rattle.store_accounts.specs.declared.refusal.Refusal.TheVariants.{UserExists, UserHasMail, BadAccount}
+use Rattle.store_accounts.proofs.AccountLemmas.{reply_total}
+use Rattle.managesieve_sessions.specs.Scripts.{IsValidScript}
+use Rattle.store_engine.specs.AccountEvents.{MachineRefuses, IsImportable, Replaces, ImportsUnder, Importing}
+use Rattle.store_engine.specs.Importable.{may_guard, have_short_flags}
+use Rattle.store_engine.specs.Limits.{is_user_name}
+use Rattle.store_engine.specs.declared.answer.Answer.{Answer}
+use Rattle.store_engine.specs.declared.answer.Answer.TheVariants.{Imported, Refused}
+use Rattle.store_engine.proofs.AloneLemmas.{put_own}
 
 abbrev alice : List ℕ
 alice = codes "alice"
 
 -- the head of a text of alice's account, which has had nothing yet
-abbrev her_head : Head
+abbrev her_head : AccountHead
 her_head = record {
   owner = record { name = alice; address = codes "alice@example.org"; salt = codes "salt"; digest = codes "digest"; active = None };
   numbers = record { rounds = 10000; next_copy = 1; next_out = 1; next_notice = 1 };
@@ -80,38 +80,38 @@ module _ (parts : List Part) where
     has_alice = put_own no_accounts alice a refl
 
     by_alice : (answer : Answer) (later : Accounts) → IsImportable her_head parts → Importing one her_head parts answer later
-        → MatchBool (is_closed a) (MatchBool (has_mail a) (Refuses UserHasMail one answer later) (Replaces one her_head parts answer later)) (Refuses UserExists one answer later)
+        → MatchBool (is_closed_account a) (MatchBool (has_mail a) (MachineRefuses UserHasMail one answer later) (Replaces one her_head parts answer later)) (MachineRefuses UserExists one answer later)
     by_alice answer later fit (inl (same, made)) = subst (λ o. ImportsUnder one her_head parts o answer later) has_alice made
     by_alice answer later fit (inr (bad, made)) = absurd (bad fit)
 
     -- over a closed account without mail
-    over_closed : IsImportable her_head parts → is_closed a ≡ true → has_mail a ≡ false → Importing one her_head parts Imported (with_user one alice (takes_whole her_head parts))
+    over_closed : IsImportable her_head parts → is_closed_account a ≡ true → has_mail a ≡ false → Importing one her_head parts Imported (with_user one alice (takes_whole her_head parts))
     over_closed fit closed none =
         inl (
           fit,
           subst (λ o. ImportsUnder one her_head parts o Imported (with_user one alice (takes_whole her_head parts))) (sym has_alice)
-              (subst (λ b. MatchBool b (MatchBool (has_mail a) (Refuses UserHasMail one Imported (with_user one alice (takes_whole her_head parts))) (Replaces one her_head parts Imported (with_user one alice (takes_whole her_head parts))))
-              (Refuses UserExists one Imported (with_user one alice (takes_whole her_head parts)))) (sym closed)
-              (subst (λ b. MatchBool b (Refuses UserHasMail one Imported (with_user one alice (takes_whole her_head parts))) (Replaces one her_head parts Imported (with_user one alice (takes_whole her_head parts)))) (sym none)
+              (subst (λ b. MatchBool b (MatchBool (has_mail a) (MachineRefuses UserHasMail one Imported (with_user one alice (takes_whole her_head parts))) (Replaces one her_head parts Imported (with_user one alice (takes_whole her_head parts))))
+              (MachineRefuses UserExists one Imported (with_user one alice (takes_whole her_head parts)))) (sym closed)
+              (subst (λ b. MatchBool b (MachineRefuses UserHasMail one Imported (with_user one alice (takes_whole her_head parts))) (Replaces one her_head parts Imported (with_user one alice (takes_whole her_head parts)))) (sym none)
               (record { imported = refl; changed = refl }))),
         )
 
     -- near misses: over one that is open, and over one that has mail
-    over_open : (later : Accounts) → IsImportable her_head parts → is_closed a ≡ false → Importing one her_head parts Imported later → ⊥
+    over_open : (later : Accounts) → IsImportable her_head parts → is_closed_account a ≡ false → Importing one her_head parts Imported later → ⊥
     over_open later fit open_is made =
-        let row = subst (λ b. MatchBool b (MatchBool (has_mail a) (Refuses UserHasMail one Imported later) (Replaces one her_head parts Imported later)) (Refuses UserExists one Imported later)) open_is (by_alice Imported later fit made) in
+        let row = subst (λ b. MatchBool b (MatchBool (has_mail a) (MachineRefuses UserHasMail one Imported later) (Replaces one her_head parts Imported later)) (MachineRefuses UserExists one Imported later)) open_is (by_alice Imported later fit made) in
         let no : Imported ≡ Refused UserExists = row.refused in
         cc
 
-    over_mail : (later : Accounts) → IsImportable her_head parts → is_closed a ≡ true → has_mail a ≡ true → Importing one her_head parts Imported later → ⊥
+    over_mail : (later : Accounts) → IsImportable her_head parts → is_closed_account a ≡ true → has_mail a ≡ true → Importing one her_head parts Imported later → ⊥
     over_mail later fit closed some made =
-        let row = subst (λ b. MatchBool b (MatchBool (has_mail a) (Refuses UserHasMail one Imported later) (Replaces one her_head parts Imported later)) (Refuses UserExists one Imported later)) closed (by_alice Imported later fit made) in
-        let mail = subst (λ b. MatchBool b (Refuses UserHasMail one Imported later) (Replaces one her_head parts Imported later)) some row in
+        let row = subst (λ b. MatchBool b (MatchBool (has_mail a) (MachineRefuses UserHasMail one Imported later) (Replaces one her_head parts Imported later)) (MachineRefuses UserExists one Imported later)) closed (by_alice Imported later fit made) in
+        let mail = subst (λ b. MatchBool b (MachineRefuses UserHasMail one Imported later) (Replaces one her_head parts Imported later)) some row in
         let no : Imported ≡ Refused UserHasMail = mail.refused in
         cc
 
 -- near miss: a script comes that means nothing
-invalid_script : (text : List ℕ) (accounts later : Accounts) → (IsValid text → ⊥) → Importing accounts her_head (Script (codes "main") text ∷ []) Imported later → ⊥
+invalid_script : (text : List ℕ) (accounts later : Accounts) → (IsValidScript text → ⊥) → Importing accounts her_head (Script (codes "main") text ∷ []) Imported later → ⊥
 invalid_script text accounts later wrong (inl (fit, made)) = wrong (fit.sound.scripts (codes "main") text there).valid
   where
     there : get (whole her_head (Script (codes "main") text ∷ []) empty).scripts (codes "main") ≡ Some text
@@ -119,7 +119,7 @@ invalid_script text accounts later wrong (inl (fit, made)) = wrong (fit.sound.sc
 invalid_script text accounts later wrong (inr (bad, is)) = let no : Imported ≡ Refused BadAccount = is.refused in cc
 
 -- near miss: the name has a blank
-blank_name : (parts : List Part) (accounts later : Accounts) (head : Head) → head.owner.name ≡ codes "a b" → Importing accounts head parts Imported later → ⊥
+blank_name : (parts : List Part) (accounts later : Accounts) (head : AccountHead) → head.owner.name ≡ codes "a b" → Importing accounts head parts Imported later → ⊥
 blank_name parts accounts later head is (inl (fit, made)) = let no : false ≡ true = subst (λ n. is_user_name n ≡ true) is fit.named in cc
 blank_name parts accounts later head is (inr (bad, told)) = let no : Imported ≡ Refused BadAccount = told.refused in cc
 
@@ -142,7 +142,7 @@ long_salt = refl
 removed : may_guard (record { salt = codes "salt"; rounds = 0; digest = [] }) ≡ false
 removed = refl
 
-unguarded : (parts : List Part) (accounts later : Accounts) (head : Head) → may_guard (password_of head) ≡ false → Importing accounts head parts Imported later → ⊥
+unguarded : (parts : List Part) (accounts later : Accounts) (head : AccountHead) → may_guard (password_of head) ≡ false → Importing accounts head parts Imported later → ⊥
 unguarded parts accounts later head is (inl (fit, made)) = let no : false ≡ true = sym is ∙ fit.guarded in cc
 unguarded parts accounts later head is (inr (bad, told)) = let no : Imported ≡ Refused BadAccount = told.refused in cc
 

@@ -9,22 +9,22 @@ use Rattle.std.specs.FinMap.{empty, get, insert, len, contains_key, get-empty, g
 use Rattle.std.proofs.lemmas.Cmp.{nat_list_cmp_total}
 use Rattle.std.proofs.lemmas.List.Sums.{fold-append, sum_by-cons}
 use Rattle.sqlite_typed.proofs.TestLemmas.{bytes_eq_refl, same_bytes}
-use Rattle.accountfiles.specs.Netstring.{same_text}
-use Rattle.accountfiles.specs.Order.{are_chained, has_active, is_script}
-use Rattle.accountfiles.specs.Text.{IsAccount}
-use Rattle.accountfiles.specs.declared.head.Head.{Head}
-use Rattle.accountfiles.specs.declared.part.Part.{Part}
-use Rattle.accountfiles.specs.declared.part.Part.TheVariants.{Script, Reply, Mail, Copy, Letter, Notice}
-use Rattle.accountfiles.proofs.OrderLemmas.{Before, all_before}
-use Rattle.mailstore.specs.Account.{bytes_cmp, Folders, Scripts, filed}
-use Rattle.mailstore.specs.CopyRows.{Copy as KeptCopy}
-use Rattle.mailstore.specs.Whole.{scripts_with, copies_of, password_of}
-use Rattle.mailstore.proofs.MapLemmas.{tied_is}
-use Rattle.mailengine.specs.Limits.{IsOwnAddress, is_user_name}
-use Rattle.mailengine.specs.AccountEvents.{IsImportable}
-use Rattle.mailengine.specs.Importable.{IsSoundPart, is_a_script, HasSoundScripts, may_guard, have_short_flags}
-use Rattle.mailengine.specs.Sound.{IsSoundScript}
-use Rattle.mailengine.proofs.SoundLemmas.{inserted, still_there, filled_one}
+use Rattle.store_text.specs.Netstring.{same_text}
+use Rattle.store_text.specs.Order.{are_chained, has_active, is_script}
+use Rattle.store_text.specs.Text.{IsAccount}
+use Rattle.store_text.specs.declared.head.AccountHead.{AccountHead}
+use Rattle.store_text.specs.declared.part.Part.{Part}
+use Rattle.store_text.specs.declared.part.Part.TheVariants.{Script, Reply, Mail, Copy, Letter, Notice}
+use Rattle.store_text.proofs.OrderLemmas.{Before, all_before}
+use Rattle.store_accounts.specs.Account.{bytes_cmp, Folders, Scripts, filed}
+use Rattle.store_accounts.specs.CopyRows.{Copy as KeptCopy}
+use Rattle.store_accounts.specs.Whole.{scripts_with, copies_of, password_of}
+use Rattle.store_accounts.proofs.MapLemmas.{tied_is}
+use Rattle.store_engine.specs.Limits.{IsOwnAddress, is_user_name}
+use Rattle.store_engine.specs.AccountEvents.{IsImportable}
+use Rattle.store_engine.specs.Importable.{IsSoundPart, is_a_script, HasSoundScripts, may_guard, have_short_flags}
+use Rattle.store_engine.specs.Sound.{IsSoundScript}
+use Rattle.store_engine.proofs.SoundLemmas.{inserted, still_there, filled_one}
 
 -- ---- what the scripts of the parts make
 
@@ -195,7 +195,7 @@ all_filled : (copies : List KeptCopy) (folders : Folders) → ((f : List ℕ) �
 all_filled [] folders full = full
 all_filled (copy ∷ copies) folders full = all_filled copies (filed folders copy.folder copy.message) (filled_one folders copy.folder copy.message full)
 
-module _ (head : Head) (parts : List Part) (is : IsAccount head parts) where
+module _ (head : AccountHead) (parts : List Part) (is : IsAccount head parts) where
   active_there : (o : Option (List ℕ)) → has_active o parts ≡ true → IfSome o (λ name. IsSome (get (fold scripts_with empty parts) name))
   active_there None h = tt
   active_there (Some name) h = named_there parts empty name h

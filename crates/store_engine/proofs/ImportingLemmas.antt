@@ -2,34 +2,34 @@
 use Rattle.std.proofs.Common.{◌≡◌, Bool, true, false, cond, is_some, List, Option, Some, None, option_map, Ok, Err, Result, MatchBool, OnOk, IfErr, IsSome, refl, sym, ap, ◌∙◌, subst, inl, inr}
 use Rattle.std.specs.FinMap.{empty, get, insert}
 use Rattle.sqlite.specs.State.{State, HasCleanDisk}
-use Rattle.accountfiles.specs.declared.head.Head.{Head}
-use Rattle.accountfiles.specs.declared.part.Part.{Part}
-use Rattle.mailstore.specs.declared.refusal.Refusal.{Refusal}
-use Rattle.mailstore.specs.declared.refusal.Refusal.TheVariants.{Memory, UserExists, UserHasMail, BadAccount}
-use Rattle.mailstore.specs.Account.{Account, Accounts, is_closed, has_mail, with_user}
-use Rattle.mailstore.specs.Promises.{HasUser, IsFree, Writes, WritesAccount}
-use Rattle.mailstore.specs.Refusals.{IsTransient}
-use Rattle.mailstore.specs.Shows.{Presents}
-use Rattle.mailstore.specs.Whole.{whole, takes_whole}
-use Rattle.sessions.proofs.ActLemmas.{no_glance, glanced, read_shows, acts_read}
-use Rattle.mailengine.specs.declared.answer.Answer.{Answer}
-use Rattle.mailengine.specs.declared.answer.Answer.TheVariants.{Imported, Refused}
-use Rattle.mailengine.specs.declared.standing.Standing.{Standing}
-use Rattle.mailengine.specs.AccountEvents.{Refuses, IsImportable, Replaces, ImportsUnder, Importing}
-use Rattle.mailengine.specs.Hosts.{TurnsBy, MayTurnBy, MayRefuseImport, RefusesImport, ActsImport}
-use Rattle.mailengine.specs.Lookups.{standing_of, over_standing, ReadsStanding}
-use Rattle.mailengine.proofs.UserLemmas.{over_named, standing_found, name_free, written_by}
+use Rattle.store_text.specs.declared.head.AccountHead.{AccountHead}
+use Rattle.store_text.specs.declared.part.Part.{Part}
+use Rattle.store_accounts.specs.declared.refusal.Refusal.{Refusal}
+use Rattle.store_accounts.specs.declared.refusal.Refusal.TheVariants.{Memory, UserExists, UserHasMail, BadAccount}
+use Rattle.store_accounts.specs.Account.{Account, Accounts, is_closed_account, has_mail, with_user}
+use Rattle.store_accounts.specs.Promises.{HasUser, IsFree, WritesStore, WritesAccount}
+use Rattle.store_accounts.specs.Refusals.{IsTransient}
+use Rattle.store_accounts.specs.Shows.{Presents}
+use Rattle.store_accounts.specs.Whole.{whole, takes_whole}
+use Rattle.managesieve_sessions.proofs.ActLemmas.{no_glance, glanced, read_shows, acts_read}
+use Rattle.store_engine.specs.declared.answer.Answer.{Answer}
+use Rattle.store_engine.specs.declared.answer.Answer.TheVariants.{Imported, Refused}
+use Rattle.store_engine.specs.declared.standing.Standing.{Standing}
+use Rattle.store_engine.specs.AccountEvents.{MachineRefuses, IsImportable, Replaces, ImportsUnder, Importing}
+use Rattle.store_engine.specs.Hosts.{TurnsBy, MayTurnBy, MayRefuseImport, RefusesImport, ActsImport}
+use Rattle.store_engine.specs.Lookups.{standing_of, over_standing, ReadsStanding}
+use Rattle.store_engine.proofs.UserLemmas.{over_named, standing_found, name_free, written_by}
 
-pub import_over_refuses : (head : Head) (parts : List Part) (o : Option Standing) (refusal : Refusal) → IsImportable head parts → over_standing o ≡ Some refusal → RefusesImport head parts refusal
+pub import_over_refuses : (head : AccountHead) (parts : List Part) (o : Option Standing) (refusal : Refusal) → IsImportable head parts → over_standing o ≡ Some refusal → RefusesImport head parts refusal
 import_over_refuses head parts o refusal fit is = over_named o refusal (RefusesImport head parts) (inr (inl (refl, fit))) (inr (inr (inl (refl, fit)))) is
 
 -- the refusals of the write, and of what is read before it
-pub import_transient : {X : Type 0} (head : Head) (parts : List Part) (q : Result X Refusal) → IsImportable head parts → IfErr q IsTransient → IfErr q (RefusesImport head parts)
+pub import_transient : {X : Type 0} (head : AccountHead) (parts : List Part) (q : Result X Refusal) → IsImportable head parts → IfErr q IsTransient → IfErr q (RefusesImport head parts)
 import_transient head parts (Ok x) fit transient = tt
 import_transient head parts (Err e) fit (inl memory) = inr (inr (inr (inl memory)))
 import_transient head parts (Err e) fit (inr store) = inr (inr (inr (inr (store, fit))))
 
-module _ (head : Head) (parts : List Part) where
+module _ (head : AccountHead) (parts : List Part) where
   abbrev Row : Accounts → Answer → Accounts → Type 0
   Row accounts = Importing accounts head parts
 
@@ -62,10 +62,10 @@ module _ (head : Head) (parts : List Part) where
       -- the name has an account that stands against it
       over_turn : (refusal : Refusal) (accounts : Accounts) (has : Option Account) → over_standing (option_map standing_of has) ≡ Some refusal → ImportsUnder accounts head parts has (Refused refusal) accounts
       over_turn refusal accounts None is = absurd (let no = is in cc)
-      over_turn refusal accounts (Some account) is = go (is_closed account) (has_mail account) is
+      over_turn refusal accounts (Some account) is = go (is_closed_account account) (has_mail account) is
         where
           go : (closed full : Bool) → cond closed (cond full (Some UserHasMail) None) (Some UserExists) ≡ Some refusal
-              → MatchBool closed (MatchBool full (Refuses UserHasMail accounts (Refused refusal) accounts) (Replaces accounts head parts (Refused refusal) accounts)) (Refuses UserExists accounts (Refused refusal) accounts)
+              → MatchBool closed (MatchBool full (MachineRefuses UserHasMail accounts (Refused refusal) accounts) (Replaces accounts head parts (Refused refusal) accounts)) (MachineRefuses UserExists accounts (Refused refusal) accounts)
           go true true e = let same : UserHasMail ≡ refusal = cc in record { refused = ap Refused (sym same); stays = refl }
           go true false e = absurd (let no = e in cc)
           go false full e = let same : UserExists ≡ refusal = cc in record { refused = ap Refused (sym same); stays = refl }
@@ -80,7 +80,7 @@ module _ (head : Head) (parts : List Part) where
       abbrev added : Accounts → Accounts
       added all = insert all head.owner.name (whole head parts empty)
 
-      pub import_added : is_some o ≡ false → (c : State) (w : Result (Unit {0}) Refusal) → Writes (IsFree head.owner.name) added b c w → ActsImport head parts a c w
+      pub import_added : is_some o ≡ false → (c : State) (w : Result (Unit {0}) Refusal) → WritesStore (IsFree head.owner.name) added b c w → ActsImport head parts a c w
       import_added none c w late = written_by Row May Imported transient_turn a b c r o was read.keeps (IsFree head.owner.name) added fits w late.made late.settled (λ clean tables. late.same clean) late.crash w refl late.named
         where
           fits : HasCleanDisk b → (accounts : Accounts) → Presents a.now accounts → IsFree head.owner.name accounts × Row accounts Imported (added accounts)
@@ -94,10 +94,10 @@ module _ (head : Head) (parts : List Part) where
 
       replace_turn : is_some o ≡ true → over_standing o ≡ None → (accounts : Accounts) (has : Option Account) → o ≡ option_map standing_of has → IsSome has × ImportsUnder accounts head parts has Imported (replaced accounts)
       replace_turn some clear accounts None is = absurd (let no : false ≡ true = sym (ap is_some is) ∙ some in cc)
-      replace_turn some clear accounts (Some account) is = (refl, go (is_closed account) (has_mail account) (sym (ap over_standing is) ∙ clear))
+      replace_turn some clear accounts (Some account) is = (refl, go (is_closed_account account) (has_mail account) (sym (ap over_standing is) ∙ clear))
         where
           go : (closed full : Bool) → cond closed (cond full (Some UserHasMail) None) (Some UserExists) ≡ None
-              → MatchBool closed (MatchBool full (Refuses UserHasMail accounts Imported (replaced accounts)) (Replaces accounts head parts Imported (replaced accounts))) (Refuses UserExists accounts Imported (replaced accounts))
+              → MatchBool closed (MatchBool full (MachineRefuses UserHasMail accounts Imported (replaced accounts)) (Replaces accounts head parts Imported (replaced accounts))) (MachineRefuses UserExists accounts Imported (replaced accounts))
           go true true e = absurd (let no = e in cc)
           go true false e = record { imported = refl; changed = refl }
           go false full e = absurd (let no = e in cc)

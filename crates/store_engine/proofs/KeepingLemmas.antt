@@ -3,29 +3,29 @@ use Rattle.std.proofs.Common.{◌≡◌, ◌⊎◌, ◌≤◌, ℕ, Bool, true, 
 use Rattle.std.specs.FinMap.{get}
 use Rattle.std.specs.Result.{result_and}
 use Rattle.sqlite.specs.State.{State, HasCleanDisk}
-use Rattle.sievelex.specs.declared.fault.ScriptFault.{ScriptFault}
-use Rattle.mailtables.proofs.ResultLemmas.{on_ok}
-use Rattle.mailstore.specs.declared.refusal.Refusal.{Refusal}
-use Rattle.mailstore.specs.declared.refusal.Refusal.TheVariants.{Memory, NoUser, BadUser, BadScriptName, ScriptTooLarge, TooManyScripts, UserIsOpen, UserHasMail}
-use Rattle.mailstore.specs.Account.{Account, Accounts, is_closed, is_removed, open_one, known_one, has_mail, addresses, guards, closes, opens, removes, takes_notices, in_place, with_user}
-use Rattle.mailstore.specs.Promises as store
-use Rattle.mailstore.specs.Promises.{HasUser, HasNoOpen, OfOpen, WritesUser}
-use Rattle.mailstore.specs.Refusals.{IsTransient}
-use Rattle.mailstore.specs.Shows.{Presents}
-use Rattle.mailstore.proofs.StandingLemmas.{open_there}
-use Rattle.sessions.specs.Acts.{HasAccounts}
-use Rattle.sessions.specs.Limits.{script_limit, IsScriptName}
-use Rattle.sessions.specs.Scripts.{HasRoom, IsValid, IsVerdict}
-use Rattle.sessions.proofs.ActLemmas.{no_glance, glanced, read_shows, acts_read, acts_made, acts_undone}
-use Rattle.mailengine.specs.declared.answer.Answer.{Answer}
-use Rattle.mailengine.specs.declared.answer.Answer.TheVariants.{Changed, Stored, Invalid, Closed, Opened, Removed, NoticesTaken, Refused}
-use Rattle.mailengine.specs.declared.standing.Standing.{Standing}
-use Rattle.mailengine.specs.declared.upkeep.Upkeep.{Upkeep}
-use Rattle.mailengine.specs.declared.upkeep.Upkeep.TheVariants.{SetPassword, SetAddress, StoreScript, CloseAccount, OpenAccount, RemoveAccount, TakeNotices}
-use Rattle.mailengine.specs.Hosts.{TurnsBy, MayTurnBy, MayRefuseKeeping, ActsKeeping}
-use Rattle.mailengine.specs.Limits.{is_password, IsOwnAddress}
-use Rattle.mailengine.specs.Lookups.{LooksUp, standing_of, ReadsStanding}
-use Rattle.mailengine.specs.Upkeep.{rounds, kept_password, Alters, Tells, InAccount, stores, Stores, Opens, Removes, Keeps, Keeping, IsFit, MayLackFor}
+use Rattle.sieve_lex.specs.declared.fault.ScriptFault.{ScriptFault}
+use Rattle.store_tables.proofs.ResultLemmas.{on_ok}
+use Rattle.store_accounts.specs.declared.refusal.Refusal.{Refusal}
+use Rattle.store_accounts.specs.declared.refusal.Refusal.TheVariants.{Memory, NoUser, BadUser, BadScriptName, ScriptTooLarge, TooManyScripts, UserIsOpen, UserHasMail}
+use Rattle.store_accounts.specs.Account.{Account, Accounts, is_closed_account, is_removed, open_one, known_one, has_mail, changes_address, changes_password, closes, opens, removes, takes_notices, in_place, with_user}
+use Rattle.store_accounts.specs.Promises as store
+use Rattle.store_accounts.specs.Promises.{HasUser, HasNoOpen, OfOpen, WritesUser}
+use Rattle.store_accounts.specs.Refusals.{IsTransient}
+use Rattle.store_accounts.specs.Shows.{Presents}
+use Rattle.store_accounts.proofs.StandingLemmas.{open_there}
+use Rattle.managesieve_sessions.specs.Acts.{HasAccounts}
+use Rattle.managesieve_sessions.specs.Limits.{script_limit, IsScriptName}
+use Rattle.managesieve_sessions.specs.Scripts.{HasRoom, IsValidScript, IsVerdict}
+use Rattle.managesieve_sessions.proofs.ActLemmas.{no_glance, glanced, read_shows, acts_read, acts_made, acts_undone}
+use Rattle.store_engine.specs.declared.answer.Answer.{Answer}
+use Rattle.store_engine.specs.declared.answer.Answer.TheVariants.{Changed, Stored, Invalid, Closed, Opened, Removed, NoticesTaken, Refused}
+use Rattle.store_engine.specs.declared.standing.Standing.{Standing}
+use Rattle.store_engine.specs.declared.upkeep.Upkeep.{Upkeep}
+use Rattle.store_engine.specs.declared.upkeep.Upkeep.TheVariants.{SetPassword, SetAddress, StoreScript, CloseAccount, OpenAccount, RemoveAccount, TakeNotices}
+use Rattle.store_engine.specs.Hosts.{TurnsBy, MayTurnBy, MayRefuseKeeping, ActsKeeping}
+use Rattle.store_engine.specs.Limits.{is_password, IsOwnAddress}
+use Rattle.store_engine.specs.Lookups.{LooksUp, standing_of, ReadsStanding}
+use Rattle.store_engine.specs.Upkeep.{rounds, kept_password, Alters, OnlyAnswers, InAccount, stores, Stores, OpensClosed, Removes, DoesUpkeep, Keeping, IsFit, MayLackFor}
 
 -- where nothing that was handed in stands against it, memory may lack
 lacks_fit : (upkeep : Upkeep) → IsFit upkeep → MayLackFor upkeep
@@ -45,7 +45,7 @@ module _ (user : List ℕ) (upkeep : Upkeep) where
   May = MayRefuseKeeping upkeep
 
   -- what was handed in stands against it
-  pub keeping_unfit : (a : State) (e : Refusal) → ((o : Option Account) → Keeps upkeep o (Refused e) None) → ActsKeeping user upkeep a a (Err e)
+  pub keeping_unfit : (a : State) (e : Refusal) → ((o : Option Account) → DoesUpkeep upkeep o (Refused e) None) → ActsKeeping user upkeep a a (Err e)
   keeping_unfit a e tells = acts_read a a (TurnsBy Row May (Refused e)) (MayTurnBy Row) (Err e) (λ clean open_before. tt) (no_glance a) (λ clean accounts shown. inl (None, tells (get accounts user), refl))
 
   -- no memory for what was handed in
@@ -63,7 +63,7 @@ module _ (user : List ℕ) (upkeep : Upkeep) where
 
     -- ---- after a read
 
-    module _ {X E : Type 0} (a b : State) (r : Result X E) (k : store.Keeps a b r) where
+    module _ {X E : Type 0} (a b : State) (r : Result X E) (k : store.KeepsTables a b r) where
       -- no answer came of it
       pub keeping_failed : (q : Result Answer Refusal) → OnOk q ⊥ → IfErr q IsTransient → ActsKeeping user upkeep a b q
       keeping_failed (Ok answer) undone transient = absurd undone
@@ -71,16 +71,16 @@ module _ (user : List ℕ) (upkeep : Upkeep) where
 
       module _ (x : X) (was : r ≡ Ok x) (Known : Option Account → Type 0) (known : HasCleanDisk b → (accounts : Accounts) → Presents a.now accounts → Known (get accounts user)) where
         -- it is refused, or something is told, and nothing changes
-        pub keeping_refused : (e : Refusal) → ((o : Option Account) → Known o → Keeps upkeep o (Refused e) None) → ActsKeeping user upkeep a b (Err e)
+        pub keeping_refused : (e : Refusal) → ((o : Option Account) → Known o → DoesUpkeep upkeep o (Refused e) None) → ActsKeeping user upkeep a b (Err e)
         keeping_refused e tells = acts_read a b (TurnsBy Row May (Refused e)) (MayTurnBy Row) (Err e) (λ clean open_before. tt) (glanced a b r k)
             (λ clean accounts shown. inl (None, tells (get accounts user) (known clean accounts (read_shows a b r x was k clean accounts shown).0), refl))
 
-        pub keeping_said : (answer : Answer) → ((o : Option Account) → Known o → Keeps upkeep o answer None) → ActsKeeping user upkeep a b (Ok answer)
+        pub keeping_said : (answer : Answer) → ((o : Option Account) → Known o → DoesUpkeep upkeep o answer None) → ActsKeeping user upkeep a b (Ok answer)
         keeping_said answer tells = acts_read a b (TurnsBy Row May answer) (MayTurnBy Row) (Ok answer) (λ clean open_before. on_ok r x was (IsTrue b.is_open) (k.live clean)) (glanced a b r k)
             (λ clean accounts shown. inl (None, tells (get accounts user) (known clean accounts (read_shows a b r x was k clean accounts shown).0), refl))
 
         -- the account is changed
-        module _ (change : Account → Account) (done : Answer) (makes : (o : Option Account) → Known o → (account : Account) × (o ≡ Some account) × Keeps upkeep o done (Some (change account)))
+        module _ (change : Account → Account) (done : Answer) (makes : (o : Option Account) → Known o → (account : Account) × (o ≡ Some account) × DoesUpkeep upkeep o done (Some (change account)))
             (c : State) (w : Result (Unit {0}) Refusal) (late : WritesUser user change b c w) where
           fits : HasCleanDisk b → (accounts : Accounts) → Presents a.now accounts → HasUser user accounts × Row accounts done (with_user accounts user change)
           fits clean accounts p =
@@ -104,7 +104,7 @@ module _ (user : List ℕ) (upkeep : Upkeep) where
     abbrev IsOpenAnd : (Account → Type 0) → Option Account → Type 0
     IsOpenAnd P o = (account : Account) × (open_one o ≡ Some account) × P account
 
-    module _ (shut : (o : Option Account) → open_one o ≡ None → Keeps upkeep o (Refused NoUser) None) {X : Type 0} (P : X → Account → Type 0) (a b : State) where
+    module _ (shut : (o : Option Account) → open_one o ≡ None → DoesUpkeep upkeep o (Refused NoUser) None) {X : Type 0} (P : X → Account → Type 0) (a b : State) where
       -- it couldn't be read
       pub opened_unread : (e : Refusal) (q : Result Answer Refusal) → q ≡ Err e → LooksUp user P a b (Err e) → ActsKeeping user upkeep a b q
       opened_unread e q is look = subst (λ o. ActsKeeping user upkeep a b o) (sym is)
@@ -113,7 +113,7 @@ module _ (user : List ℕ) (upkeep : Upkeep) where
           turn : HasCleanDisk b → (accounts : Accounts) → HasAccounts a accounts → (e ≡ NoUser) ⊎ IsTransient e → TurnsBy Row May (Refused e) accounts accounts
           turn clean accounts shown (inl absent) =
               let none = look.reads.absent clean accounts (shown (look.sure clean absent)) absent in
-              inl (None, subst (λ f. Keeps upkeep (get accounts user) (Refused f) None) (sym absent) (shut (get accounts user) none), refl)
+              inl (None, subst (λ f. DoesUpkeep upkeep (get accounts user) (Refused f) None) (sym absent) (shut (get accounts user) none), refl)
           turn clean accounts shown (inr transient) = transient_turn e accounts transient
 
       module _ (r : Result X Refusal) (x : X) (was : r ≡ Ok x) (look : LooksUp user P a b r) where
@@ -123,13 +123,13 @@ module _ (user : List ℕ) (upkeep : Upkeep) where
         pub opened_failed : (q : Result Answer Refusal) → OnOk q ⊥ → IfErr q IsTransient → ActsKeeping user upkeep a b q
         opened_failed = keeping_failed a b r look.reads.keeps
 
-        pub opened_refused : (e : Refusal) → ((o : Option Account) (account : Account) → open_one o ≡ Some account → P x account → Keeps upkeep o (Refused e) None) → ActsKeeping user upkeep a b (Err e)
+        pub opened_refused : (e : Refusal) → ((o : Option Account) (account : Account) → open_one o ≡ Some account → P x account → DoesUpkeep upkeep o (Refused e) None) → ActsKeeping user upkeep a b (Err e)
         opened_refused e tells = keeping_refused a b r look.reads.keeps x was (IsOpenAnd (P x)) known e (λ o it. tells o it.0 it.1 it.2)
 
-        pub opened_said : (answer : Answer) → ((o : Option Account) (account : Account) → open_one o ≡ Some account → P x account → Keeps upkeep o answer None) → ActsKeeping user upkeep a b (Ok answer)
+        pub opened_said : (answer : Answer) → ((o : Option Account) (account : Account) → open_one o ≡ Some account → P x account → DoesUpkeep upkeep o answer None) → ActsKeeping user upkeep a b (Ok answer)
         opened_said answer tells = keeping_said a b r look.reads.keeps x was (IsOpenAnd (P x)) known answer (λ o it. tells o it.0 it.1 it.2)
 
-        pub opened_written : (change : Account → Account) (done : Answer) → ((o : Option Account) (account : Account) → open_one o ≡ Some account → P x account → Keeps upkeep o done (Some (change account)))
+        pub opened_written : (change : Account → Account) (done : Answer) → ((o : Option Account) (account : Account) → open_one o ≡ Some account → P x account → DoesUpkeep upkeep o done (Some (change account)))
             → (c : State) (w : Result (Unit {0}) Refusal) → WritesUser user change b c w → (q : Result Answer Refusal) → q ≡ result_and w (Ok done) → ActsKeeping user upkeep a c q
         opened_written change done makes =
             keeping_written a b r look.reads.keeps x was (IsOpenAnd (P x)) known change done (λ o it. (it.0, open_there o it.0 it.1, makes o it.0 it.1 it.2))
@@ -147,10 +147,10 @@ module _ (user : List ℕ) (upkeep : Upkeep) where
         stands : HasCleanDisk b → (accounts : Accounts) → Presents a.now accounts → Stands standing (get accounts user)
         stands clean accounts p = subst (λ q. IfOk q (λ s. s ≡ option_map standing_of (get accounts user))) was (read.found clean accounts p)
 
-        pub standing_refused : (e : Refusal) → ((o : Option Account) → standing ≡ option_map standing_of o → Keeps upkeep o (Refused e) None) → ActsKeeping user upkeep a b (Err e)
+        pub standing_refused : (e : Refusal) → ((o : Option Account) → standing ≡ option_map standing_of o → DoesUpkeep upkeep o (Refused e) None) → ActsKeeping user upkeep a b (Err e)
         standing_refused e tells = keeping_refused a b r read.keeps standing was (Stands standing) stands e tells
 
-        pub standing_written : (change : Account → Account) (done : Answer) → ((o : Option Account) → standing ≡ option_map standing_of o → (account : Account) × (o ≡ Some account) × Keeps upkeep o done (Some (change account)))
+        pub standing_written : (change : Account → Account) (done : Answer) → ((o : Option Account) → standing ≡ option_map standing_of o → (account : Account) × (o ≡ Some account) × DoesUpkeep upkeep o done (Some (change account)))
             → (c : State) (w : Result (Unit {0}) Refusal) → WritesUser user change b c w → (q : Result Answer Refusal) → q ≡ result_and w (Ok done) → ActsKeeping user upkeep a c q
         standing_written change done makes = keeping_written a b r read.keeps standing was (Stands standing) stands change done makes
 
@@ -164,59 +164,59 @@ in_none : (row : Account → Answer → Option Account → Type 0) (o : Option A
 in_none row o is = subst (λ p. InAccount p row (Refused NoUser) None) (sym is) (record { says = refl; stays = refl })
 
 module _ (salt password : List ℕ) where
-  pub password_bad : is_password password ≡ false → (o : Option Account) → Keeps (SetPassword salt password) o (Refused BadUser) None
+  pub password_bad : is_password password ≡ false → (o : Option Account) → DoesUpkeep (SetPassword salt password) o (Refused BadUser) None
   password_bad bad o = inr ((λ fit. let no : true ≡ false = sym fit ∙ bad in cc), record { says = refl; stays = refl })
 
   module _ (fit : is_password password ≡ true) where
-    pub password_shut : (o : Option Account) → open_one o ≡ None → Keeps (SetPassword salt password) o (Refused NoUser) None
-    password_shut o none = inl (fit, in_none (λ a. Alters Changed (guards (kept_password salt password) a)) (open_one o) none)
+    pub password_shut : (o : Option Account) → open_one o ≡ None → DoesUpkeep (SetPassword salt password) o (Refused NoUser) None
+    password_shut o none = inl (fit, in_none (λ a. Alters Changed (changes_password (kept_password salt password) a)) (open_one o) none)
 
-    pub password_makes : (o : Option Account) (account : Account) → open_one o ≡ Some account → Keeps (SetPassword salt password) o Changed (Some (guards (kept_password salt password) account))
-    password_makes o account is = inl (fit, in_found (λ a. Alters Changed (guards (kept_password salt password) a)) (open_one o) account Changed (Some (guards (kept_password salt password) account)) is (record { says = refl; changed = refl }))
+    pub password_makes : (o : Option Account) (account : Account) → open_one o ≡ Some account → DoesUpkeep (SetPassword salt password) o Changed (Some (changes_password (kept_password salt password) account))
+    password_makes o account is = inl (fit, in_found (λ a. Alters Changed (changes_password (kept_password salt password) a)) (open_one o) account Changed (Some (changes_password (kept_password salt password) account)) is (record { says = refl; changed = refl }))
 
 module _ (address : List ℕ) where
-  pub address_bad : (IsOwnAddress address → ⊥) → (o : Option Account) → Keeps (SetAddress address) o (Refused BadUser) None
+  pub address_bad : (IsOwnAddress address → ⊥) → (o : Option Account) → DoesUpkeep (SetAddress address) o (Refused BadUser) None
   address_bad bad o = inr (bad, record { says = refl; stays = refl })
 
   module _ (fit : IsOwnAddress address) where
-    pub address_shut : (o : Option Account) → open_one o ≡ None → Keeps (SetAddress address) o (Refused NoUser) None
-    address_shut o none = inl (fit, in_none (λ a. Alters Changed (addresses address a)) (open_one o) none)
+    pub address_shut : (o : Option Account) → open_one o ≡ None → DoesUpkeep (SetAddress address) o (Refused NoUser) None
+    address_shut o none = inl (fit, in_none (λ a. Alters Changed (changes_address address a)) (open_one o) none)
 
-    pub address_makes : (o : Option Account) (account : Account) → open_one o ≡ Some account → Keeps (SetAddress address) o Changed (Some (addresses address account))
-    address_makes o account is = inl (fit, in_found (λ a. Alters Changed (addresses address a)) (open_one o) account Changed (Some (addresses address account)) is (record { says = refl; changed = refl }))
+    pub address_makes : (o : Option Account) (account : Account) → open_one o ≡ Some account → DoesUpkeep (SetAddress address) o Changed (Some (changes_address address account))
+    address_makes o account is = inl (fit, in_found (λ a. Alters Changed (changes_address address a)) (open_one o) account Changed (Some (changes_address address account)) is (record { says = refl; changed = refl }))
 
 module _ (name text : List ℕ) (activate : Bool) where
-  pub name_bad : (IsScriptName name → ⊥) → (o : Option Account) → Keeps (StoreScript name text activate) o (Refused BadScriptName) None
+  pub name_bad : (IsScriptName name → ⊥) → (o : Option Account) → DoesUpkeep (StoreScript name text activate) o (Refused BadScriptName) None
   name_bad bad o = inr (bad, record { says = refl; stays = refl })
 
-  pub text_bad : IsScriptName name → (length text ≤ script_limit → ⊥) → (o : Option Account) → Keeps (StoreScript name text activate) o (Refused ScriptTooLarge) None
+  pub text_bad : IsScriptName name → (length text ≤ script_limit → ⊥) → (o : Option Account) → DoesUpkeep (StoreScript name text activate) o (Refused ScriptTooLarge) None
   text_bad named bad o = inl (named, inr (bad, record { says = refl; stays = refl }))
 
   module _ (named : IsScriptName name) (short : length text ≤ script_limit) where
-    pub script_shut : (o : Option Account) → open_one o ≡ None → Keeps (StoreScript name text activate) o (Refused NoUser) None
+    pub script_shut : (o : Option Account) → open_one o ≡ None → DoesUpkeep (StoreScript name text activate) o (Refused NoUser) None
     script_shut o none = inl (named, inl (short, in_none (Stores name text activate) (open_one o) none))
 
-    pub script_many : (o : Option Account) (account : Account) → open_one o ≡ Some account → (HasRoom account name → ⊥) → Keeps (StoreScript name text activate) o (Refused TooManyScripts) None
+    pub script_many : (o : Option Account) (account : Account) → open_one o ≡ Some account → (HasRoom account name → ⊥) → DoesUpkeep (StoreScript name text activate) o (Refused TooManyScripts) None
     script_many o account is full = inl (named, inl (short, in_found (Stores name text activate) (open_one o) account (Refused TooManyScripts) None is (inr (full, record { says = refl; stays = refl }))))
 
-    pub script_faulty : (fault : ScriptFault) → IsVerdict text (Some fault) → (o : Option Account) (account : Account) → open_one o ≡ Some account → HasRoom account name → Keeps (StoreScript name text activate) o (Invalid fault) None
+    pub script_faulty : (fault : ScriptFault) → IsVerdict text (Some fault) → (o : Option Account) (account : Account) → open_one o ≡ Some account → HasRoom account name → DoesUpkeep (StoreScript name text activate) o (Invalid fault) None
     script_faulty fault verdict o account is room =
         inl (named, inl (short, in_found (Stores name text activate) (open_one o) account (Invalid fault) None is (inl (room, inr (verdict.0, (fault, verdict, record { says = refl; stays = refl }))))))
 
-    pub script_makes : IsValid text → (o : Option Account) (account : Account) → open_one o ≡ Some account → HasRoom account name → Keeps (StoreScript name text activate) o Stored (Some (stores name text activate account))
+    pub script_makes : IsValidScript text → (o : Option Account) (account : Account) → open_one o ≡ Some account → HasRoom account name → DoesUpkeep (StoreScript name text activate) o Stored (Some (stores name text activate account))
     script_makes valid o account is room =
         inl (named, inl (short, in_found (Stores name text activate) (open_one o) account Stored (Some (stores name text activate account)) is (inl (room, inl (valid, record { says = refl; changed = refl })))))
 
-pub close_shut : (o : Option Account) → open_one o ≡ None → Keeps CloseAccount o (Refused NoUser) None
+pub close_shut : (o : Option Account) → open_one o ≡ None → DoesUpkeep CloseAccount o (Refused NoUser) None
 close_shut o none = in_none (λ a. Alters Closed (closes a)) (open_one o) none
 
-pub close_makes : (o : Option Account) (account : Account) → open_one o ≡ Some account → Keeps CloseAccount o Closed (Some (closes account))
+pub close_makes : (o : Option Account) (account : Account) → open_one o ≡ Some account → DoesUpkeep CloseAccount o Closed (Some (closes account))
 close_makes o account is = in_found (λ a. Alters Closed (closes a)) (open_one o) account Closed (Some (closes account)) is (record { says = refl; changed = refl })
 
-pub notices_shut : (until : ℕ) (o : Option Account) → open_one o ≡ None → Keeps (TakeNotices until) o (Refused NoUser) None
+pub notices_shut : (until : ℕ) (o : Option Account) → open_one o ≡ None → DoesUpkeep (TakeNotices until) o (Refused NoUser) None
 notices_shut until o none = in_none (λ a. Alters NoticesTaken (takes_notices until a)) (open_one o) none
 
-pub notices_makes : (until : ℕ) (o : Option Account) (account : Account) → open_one o ≡ Some account → Keeps (TakeNotices until) o NoticesTaken (Some (takes_notices until account))
+pub notices_makes : (until : ℕ) (o : Option Account) (account : Account) → open_one o ≡ Some account → DoesUpkeep (TakeNotices until) o NoticesTaken (Some (takes_notices until account))
 notices_makes until o account is = in_found (λ a. Alters NoticesTaken (takes_notices until a)) (open_one o) account NoticesTaken (Some (takes_notices until account)) is (record { says = refl; changed = refl })
 
 -- ---- by how the account stands
@@ -240,11 +240,11 @@ unknown row standing (inr (s, some, gone)) (Some account) is =
 known_is : (s : Standing) (account : Account) → s ≡ standing_of account → s.is_removed ≡ false → known_one (Some account) ≡ Some account
 known_is s account same here = ap (λ b. cond b None (Some account)) (sym (ap (λ (t : Standing). t.is_removed) same) ∙ here)
 
-pub open_unknown : (standing : Option Standing) → (standing ≡ None) ⊎ ((s : Standing) × (standing ≡ Some s) × (s.is_removed ≡ true)) → (o : Option Account) → standing ≡ option_map standing_of o → Keeps OpenAccount o (Refused NoUser) None
-open_unknown standing why o is = unknown Opens standing why o is
+pub open_unknown : (standing : Option Standing) → (standing ≡ None) ⊎ ((s : Standing) × (standing ≡ Some s) × (s.is_removed ≡ true)) → (o : Option Account) → standing ≡ option_map standing_of o → DoesUpkeep OpenAccount o (Refused NoUser) None
+open_unknown standing why o is = unknown OpensClosed standing why o is
 
 pub remove_unknown : (mail : Bool) (standing : Option Standing) → (standing ≡ None) ⊎ ((s : Standing) × (standing ≡ Some s) × (s.is_removed ≡ true)) → (o : Option Account) → standing ≡ option_map standing_of o
-    → Keeps (RemoveAccount mail) o (Refused NoUser) None
+    → DoesUpkeep (RemoveAccount mail) o (Refused NoUser) None
 remove_unknown mail standing why o is = unknown (Removes mail) standing why o is
 
 is_not : (b answer : Bool) → not b ≡ answer → b ≡ not answer
@@ -252,34 +252,34 @@ is_not true answer is = ap not is
 is_not false answer is = ap not is
 
 module _ (s : Standing) (here : s.is_removed ≡ false) where
-  pub open_there_already : not s.is_closed ≡ true → (o : Option Account) → Some s ≡ option_map standing_of o → Keeps OpenAccount o (Refused UserIsOpen) None
+  pub open_there_already : not s.is_closed ≡ true → (o : Option Account) → Some s ≡ option_map standing_of o → DoesUpkeep OpenAccount o (Refused UserIsOpen) None
   open_there_already live None is = absurd (no_account s is)
   open_there_already live (Some account) is =
       let same = stands_so s account is in
-      let closed : is_closed account ≡ false = sym (ap (λ (t : Standing). t.is_closed) same) ∙ is_not s.is_closed true live in
-      in_found Opens (known_one (Some account)) account (Refused UserIsOpen) None (known_is s account same here)
-      (subst (λ b. MatchBool b (Alters Opened (opens rounds account) (Refused UserIsOpen) None) (Tells (Refused UserIsOpen) (Refused UserIsOpen) None)) (sym closed) (record { says = refl; stays = refl }))
+      let closed : is_closed_account account ≡ false = sym (ap (λ (t : Standing). t.is_closed) same) ∙ is_not s.is_closed true live in
+      in_found OpensClosed (known_one (Some account)) account (Refused UserIsOpen) None (known_is s account same here)
+      (subst (λ b. MatchBool b (Alters Opened (opens rounds account) (Refused UserIsOpen) None) (OnlyAnswers (Refused UserIsOpen) (Refused UserIsOpen) None)) (sym closed) (record { says = refl; stays = refl }))
 
-  pub open_makes : not s.is_closed ≡ false → (o : Option Account) → Some s ≡ option_map standing_of o → (account : Account) × (o ≡ Some account) × Keeps OpenAccount o Opened (Some (opens rounds account))
+  pub open_makes : not s.is_closed ≡ false → (o : Option Account) → Some s ≡ option_map standing_of o → (account : Account) × (o ≡ Some account) × DoesUpkeep OpenAccount o Opened (Some (opens rounds account))
   open_makes shut None is = absurd (no_account s is)
   open_makes shut (Some account) is =
       let same = stands_so s account is in
-      let closed : is_closed account ≡ true = sym (ap (λ (t : Standing). t.is_closed) same) ∙ is_not s.is_closed false shut in (
+      let closed : is_closed_account account ≡ true = sym (ap (λ (t : Standing). t.is_closed) same) ∙ is_not s.is_closed false shut in (
         account,
         refl,
-        in_found Opens (known_one (Some account)) account Opened (Some (opens rounds account)) (known_is s account same here)
-            (subst (λ b. MatchBool b (Alters Opened (opens rounds account) Opened (Some (opens rounds account))) (Tells (Refused UserIsOpen) Opened (Some (opens rounds account)))) (sym closed) (record { says = refl; changed = refl })),
+        in_found OpensClosed (known_one (Some account)) account Opened (Some (opens rounds account)) (known_is s account same here)
+            (subst (λ b. MatchBool b (Alters Opened (opens rounds account) Opened (Some (opens rounds account))) (OnlyAnswers (Refused UserIsOpen) Opened (Some (opens rounds account)))) (sym closed) (record { says = refl; changed = refl })),
       )
 
-  pub remove_full : (mail : Bool) → (not mail && s.has_mail) ≡ true → (o : Option Account) → Some s ≡ option_map standing_of o → Keeps (RemoveAccount mail) o (Refused UserHasMail) None
+  pub remove_full : (mail : Bool) → (not mail && s.has_mail) ≡ true → (o : Option Account) → Some s ≡ option_map standing_of o → DoesUpkeep (RemoveAccount mail) o (Refused UserHasMail) None
   remove_full mail full None is = absurd (no_account s is)
   remove_full mail full (Some account) is =
       let same = stands_so s account is in
       let has : (not mail && has_mail account) ≡ true = sym (ap (λ (t : Standing). not mail && t.has_mail) same) ∙ full in
       in_found (Removes mail) (known_one (Some account)) account (Refused UserHasMail) None (known_is s account same here)
-      (subst (λ b. MatchBool b (Tells (Refused UserHasMail) (Refused UserHasMail) None) (Alters Removed (removes account) (Refused UserHasMail) None)) (sym has) (record { says = refl; stays = refl }))
+      (subst (λ b. MatchBool b (OnlyAnswers (Refused UserHasMail) (Refused UserHasMail) None) (Alters Removed (removes account) (Refused UserHasMail) None)) (sym has) (record { says = refl; stays = refl }))
 
-  pub remove_makes : (mail : Bool) → (not mail && s.has_mail) ≡ false → (o : Option Account) → Some s ≡ option_map standing_of o → (account : Account) × (o ≡ Some account) × Keeps (RemoveAccount mail) o Removed (Some (removes account))
+  pub remove_makes : (mail : Bool) → (not mail && s.has_mail) ≡ false → (o : Option Account) → Some s ≡ option_map standing_of o → (account : Account) × (o ≡ Some account) × DoesUpkeep (RemoveAccount mail) o Removed (Some (removes account))
   remove_makes mail clear None is = absurd (no_account s is)
   remove_makes mail clear (Some account) is =
       let same = stands_so s account is in
@@ -287,5 +287,5 @@ module _ (s : Standing) (here : s.is_removed ≡ false) where
         account,
         refl,
         in_found (Removes mail) (known_one (Some account)) account Removed (Some (removes account)) (known_is s account same here)
-            (subst (λ b. MatchBool b (Tells (Refused UserHasMail) Removed (Some (removes account))) (Alters Removed (removes account) Removed (Some (removes account)))) (sym has) (record { says = refl; changed = refl })),
+            (subst (λ b. MatchBool b (OnlyAnswers (Refused UserHasMail) Removed (Some (removes account))) (Alters Removed (removes account) Removed (Some (removes account)))) (sym has) (record { says = refl; changed = refl })),
       )

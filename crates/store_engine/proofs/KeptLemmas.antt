@@ -9,11 +9,11 @@ use Rattle.std.specs.declared.cmp.Ordering.{Ordering}
 use Rattle.std.specs.declared.cmp.Ordering.TheVariants.{Less, Equal, Greater}
 use Rattle.octets.specs.Ascii.{lowered}
 use Rattle.sqlite_typed.proofs.TestLemmas.{same_bytes, bytes_eq_refl}
-use Rattle.deliverplan.specs.Views.{moment_under, last_reply}
-use Rattle.mailstore.specs.Account.{bytes_cmp, reply_cmp, Account}
-use Rattle.mailstore.specs.ReplyRows.{replies_to, kept_reply}
-use Rattle.mailstore.proofs.AccountLemmas.{reply_antisymmetric}
-use Rattle.mailstore.proofs.MapLemmas.{tied_is}
+use Rattle.sieve_plan.specs.Views.{moment_under, last_reply}
+use Rattle.store_accounts.specs.Account.{bytes_cmp, reply_cmp, Account}
+use Rattle.store_accounts.specs.ReplyRows.{replies_to, kept_reply}
+use Rattle.store_accounts.proofs.AccountLemmas.{reply_antisymmetric}
+use Rattle.store_accounts.proofs.MapLemmas.{tied_is}
 
 abbrev Entry : Type 0
 Entry = (List ℕ × List ℕ) × ℕ

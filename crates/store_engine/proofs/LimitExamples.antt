@@ -1,9 +1,9 @@
 -- What is taken, at each limit and one past it.
 use Rattle.std.proofs.Common.{◌≡◌, ℕ, true, false, List, [], ◌∷◌, codes, length, Some, None, refl}
 use Rattle.std.specs.Prelude.{replicate}
-use Rattle.sieveexec.specs.declared.envelope.Envelope.{Envelope}
-use Rattle.mailstore.specs.declared.refusal.Refusal.TheVariants.{TooLarge, BadEnvelope, BadMoment}
-use Rattle.mailengine.specs.Limits.{is_user_name, is_password, is_envelope_address, is_envelope, limit_refusal}
+use Rattle.sieve_exec.specs.declared.envelope.Envelope.{Envelope}
+use Rattle.store_accounts.specs.declared.refusal.Refusal.TheVariants.{TooLarge, BadEnvelope, BadMoment}
+use Rattle.store_engine.specs.Limits.{is_user_name, is_password, is_envelope_address, is_envelope, limit_refusal}
 
 -- ---- users
 

@@ -2,20 +2,20 @@
 use Rattle.std.proofs.Common.{◌≡◌, ◌⊎◌, ℕ, List, Option, Some, None, option_map, Ok, Err, Result, OnOk, IfOk, IfErr, IsTrue, refl, sym, ap, ◌∙◌, subst}
 use Rattle.std.specs.FinMap.{get}
 use Rattle.sqlite.specs.State.{State, HasCleanDisk}
-use Rattle.mailstore.specs.declared.profile.Profile.{Profile}
-use Rattle.mailstore.specs.declared.refusal.Refusal.{Refusal}
-use Rattle.mailstore.specs.declared.refusal.Refusal.TheVariants.{NoUser}
-use Rattle.mailstore.specs.Account.{Account, Accounts}
-use Rattle.mailstore.specs.AccountRows.{profile_of}
-use Rattle.mailstore.specs.Promises.{IsFree, OfUser, HasNoOpen, OfOpen, Reads, ReadsEntered}
-use Rattle.mailstore.specs.Refusals.{IsTransient}
-use Rattle.mailstore.specs.Shows.{Presents}
-use Rattle.mailstore.proofs.KeepLemmas.{keeps_ok, keeps_refused, keeps_then, mid_shows, transient_other, reads_answer}
-use Rattle.mailstore.proofs.EnterLemmas.{enters_both, enters_failed}
-use Rattle.mailtables.proofs.ResultLemmas.{on_ok}
-use Rattle.mailtables.proofs.WriteLemmas.{clean_before}
-use Rattle.mailengine.specs.AccountEvents.{text_named, active_text}
-use Rattle.mailengine.specs.Lookups.{LooksUp}
+use Rattle.store_accounts.specs.declared.profile.Profile.{Profile}
+use Rattle.store_accounts.specs.declared.refusal.Refusal.{Refusal}
+use Rattle.store_accounts.specs.declared.refusal.Refusal.TheVariants.{NoUser}
+use Rattle.store_accounts.specs.Account.{Account, Accounts}
+use Rattle.store_accounts.specs.AccountRows.{profile_of}
+use Rattle.store_accounts.specs.Promises.{IsFree, OfUser, HasNoOpen, OfOpen, ReadsOpenAccount, ReadsEntered}
+use Rattle.store_accounts.specs.Refusals.{IsTransient}
+use Rattle.store_accounts.specs.Shows.{Presents}
+use Rattle.store_accounts.proofs.KeepLemmas.{keeps_ok, keeps_refused, keeps_then, mid_shows, transient_other, reads_answer}
+use Rattle.store_accounts.proofs.EnterLemmas.{enters_both, enters_failed}
+use Rattle.store_tables.proofs.ResultLemmas.{on_ok}
+use Rattle.store_tables.proofs.WriteLemmas.{clean_before}
+use Rattle.store_engine.specs.AccountEvents.{text_named, active_text}
+use Rattle.store_engine.specs.Lookups.{LooksUp}
 
 -- a user without a profile has no account
 pub free_of : (accounts : Accounts) (user : List ℕ) → None ≡ option_map profile_of (get accounts user) → IsFree user accounts
@@ -45,7 +45,7 @@ sure_of_transient q P transient = transient_other q P transient
 
 -- ---- a read of the store
 
-pub looked : {X : Type 0} (user : List ℕ) (P : X → Account → Type 0) (a b : State) (r : Result X Refusal) → Reads user P a b r → LooksUp user P a b r
+pub looked : {X : Type 0} (user : List ℕ) (P : X → Account → Type 0) (a b : State) (r : Result X Refusal) → ReadsOpenAccount user P a b r → LooksUp user P a b r
 looked {X} user P a b r reads = record { reads = reads; sure = λ clean. was_open clean r (reads.sure clean) }
   where
     was_open : HasCleanDisk b → (q : Result X Refusal) → IfErr q (λ e. e ≡ NoUser → IsTrue b.is_open) → IfErr q (λ e. e ≡ NoUser → IsTrue a.is_open)
@@ -71,7 +71,7 @@ module _ {X Y Z : Type 0} (user : List ℕ) (P : X → Account → Type 0) (Q : 
   was_open : HasCleanDisk b → IsTrue a.is_open
   was_open clean = early.reads.keeps.shut clean (on_ok r x was (IsTrue b.is_open) (early.reads.keeps.live clean))
 
-  pub looks_both : (y : Y) (z : Z) → ((account : Account) → P x account → Q y account → R z account) → Reads user Q b c (Ok y) → LooksUp user R a c (Ok z)
+  pub looks_both : (y : Y) (z : Z) → ((account : Account) → P x account → Q y account → R z account) → ReadsOpenAccount user Q b c (Ok y) → LooksUp user R a c (Ok z)
   looks_both y z both late = record {
     reads = record {
       found = λ clean accounts shows.
@@ -85,7 +85,7 @@ module _ {X Y Z : Type 0} (user : List ℕ) (P : X → Account → Type 0) (Q : 
     sure = λ clean. tt;
   }
 
-  pub looks_then_refused : (e : Refusal) (q : Result Z Refusal) → q ≡ Err e → Reads user Q b c (Err e) → LooksUp user R a c q
+  pub looks_then_refused : (e : Refusal) (q : Result Z Refusal) → q ≡ Err e → ReadsOpenAccount user Q b c (Err e) → LooksUp user R a c q
   looks_then_refused e q is late = record {
     reads = record {
       found = λ clean accounts shows. subst (λ o. IfOk o (λ z. OfOpen accounts user (R z))) (sym is) tt;
@@ -99,7 +99,7 @@ module _ {X Y Z : Type 0} (user : List ℕ) (P : X → Account → Type 0) (Q : 
   }
 
 -- and what it answers is the answer
-pub looks_then : {X Z : Type 0} (user : List ℕ) (P : X → Account → Type 0) (R : Z → Account → Type 0) (a b c : State) (r : Result X Refusal) (x : X) → r ≡ Ok x → LooksUp user P a b r → (q : Result Z Refusal) → Reads user R b c q
+pub looks_then : {X Z : Type 0} (user : List ℕ) (P : X → Account → Type 0) (R : Z → Account → Type 0) (a b c : State) (r : Result X Refusal) (x : X) → r ≡ Ok x → LooksUp user P a b r → (q : Result Z Refusal) → ReadsOpenAccount user R b c q
     → LooksUp user R a c q
 looks_then user P R a b c r x was early (Ok z) late = looks_both user P R R a b c r x was early z z (λ account one two. two) late
 looks_then user P R a b c r x was early (Err e) late = looks_then_refused user P R R a b c r x was early e (Err e) refl late

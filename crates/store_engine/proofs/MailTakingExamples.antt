@@ -1,13 +1,13 @@
 -- Examples of a message taken out of a folder, and near misses.
 use Rattle.std.proofs.Common.{◌≡◌, ℕ, List, [], ◌∷◌, Option, Some, None, refl, codes}
 use Rattle.std.specs.FinMap.{empty}
-use Rattle.mailstore.specs.Account.{Account, takes_mail}
-use Rattle.mailstore.specs.declared.refusal.Refusal.TheVariants.{NoUser, NoRow, Memory}
-use Rattle.mailengine.specs.declared.answer.Answer.TheVariants.{MailTaken, Refused}
-use Rattle.mailengine.specs.declared.event.Event.TheVariants.{TakeMail}
-use Rattle.mailengine.specs.OwnActs as own
-use Rattle.mailengine.specs.OwnActs.{TakesFirstAlone, TakesMailAloneIn, acts_in}
-use Rattle.mailengine.specs.World.{World}
+use Rattle.store_accounts.specs.Account.{Account, takes_mail}
+use Rattle.store_accounts.specs.declared.refusal.Refusal.TheVariants.{NoUser, NoRow, Memory}
+use Rattle.store_engine.specs.declared.answer.Answer.TheVariants.{MailTaken, Refused}
+use Rattle.store_engine.specs.declared.event.Event.TheVariants.{TakeMail}
+use Rattle.store_engine.specs.OwnActs as own
+use Rattle.store_engine.specs.OwnActs.{TakesFirstAlone, TakesMailAloneIn, acts_in}
+use Rattle.store_engine.specs.World.{World}
 
 abbrev inbox : List ℕ
 inbox = codes "INBOX"

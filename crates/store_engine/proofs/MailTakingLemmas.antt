@@ -1,22 +1,22 @@
 -- A message taken out of a folder: the reads, and then the write.
 use Rattle.std.proofs.Common.{◌≡◌, ◌⊎◌, ℕ, List, [], ◌∷◌, Option, Some, None, Ok, Err, Result, IfOk, IfErr, IsSome, refl, sym, subst, inl, inr}
 use Rattle.sqlite.specs.State.{State, HasCleanDisk}
-use Rattle.mailstore.specs.declared.taking.NumberedMessage.{NumberedMessage}
-use Rattle.mailstore.specs.declared.refusal.Refusal.{Refusal}
-use Rattle.mailstore.specs.declared.refusal.Refusal.TheVariants.{NoUser, NoRow}
-use Rattle.mailstore.specs.Account.{Account, Accounts, with_user, messages_in, takes_mail}
-use Rattle.mailstore.specs.CopyRows.{HasFirst, IsFirstIn}
-use Rattle.mailstore.specs.Promises.{HasUser, HasNoOpen, OfOpen, WritesAccount}
-use Rattle.mailstore.proofs.StandingLemmas.{has_there}
-use Rattle.mailstore.specs.Refusals.{IsTransient}
-use Rattle.mailstore.specs.Shows.{Presents}
-use Rattle.sessions.specs.Acts.{HasAccounts}
-use Rattle.sessions.proofs.ActLemmas.{glanced, read_shows, acts_read, acts_made, acts_undone}
-use Rattle.mailengine.specs.declared.answer.Answer.{Answer}
-use Rattle.mailengine.specs.declared.answer.Answer.TheVariants.{MailTaken, Refused}
-use Rattle.mailengine.specs.AccountEvents.{TakesFirst, TakesMailIn, MailTaking}
-use Rattle.mailengine.specs.Hosts.{TurnsBy, MayTurnBy, ActsMailTaking}
-use Rattle.mailengine.specs.Lookups.{LooksUp}
+use Rattle.store_accounts.specs.declared.taking.NumberedMessage.{NumberedMessage}
+use Rattle.store_accounts.specs.declared.refusal.Refusal.{Refusal}
+use Rattle.store_accounts.specs.declared.refusal.Refusal.TheVariants.{NoUser, NoRow}
+use Rattle.store_accounts.specs.Account.{Account, Accounts, with_user, messages_in, takes_mail}
+use Rattle.store_accounts.specs.CopyRows.{HasFirst, IsFirstIn}
+use Rattle.store_accounts.specs.Promises.{HasUser, HasNoOpen, OfOpen, WritesAccount}
+use Rattle.store_accounts.proofs.StandingLemmas.{has_there}
+use Rattle.store_accounts.specs.Refusals.{IsTransient}
+use Rattle.store_accounts.specs.Shows.{Presents}
+use Rattle.managesieve_sessions.specs.Acts.{HasAccounts}
+use Rattle.managesieve_sessions.proofs.ActLemmas.{glanced, read_shows, acts_read, acts_made, acts_undone}
+use Rattle.store_engine.specs.declared.answer.Answer.{Answer}
+use Rattle.store_engine.specs.declared.answer.Answer.TheVariants.{MailTaken, Refused}
+use Rattle.store_engine.specs.AccountEvents.{TakesFirst, TakesMailIn, MailTaking}
+use Rattle.store_engine.specs.Hosts.{TurnsBy, MayTurnBy, ActsMailTaking}
+use Rattle.store_engine.specs.Lookups.{LooksUp}
 
 module _ (user folder : List ℕ) where
   abbrev Row : Accounts → Answer → Accounts → Type 0

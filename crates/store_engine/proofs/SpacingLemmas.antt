@@ -5,55 +5,55 @@ use Rattle.std.specs.declared.cmp.Ordering.TheVariants.{Less, Equal, Greater}
 use Rattle.std.specs.FinMap.{get, insert, get-insert}
 use Rattle.std.specs.Ordering.{is_eq, ordering_then}
 use Rattle.std.proofs.lemmas.Bool.Decides.{nat_tests}
-use Rattle.accountfiles.specs.declared.part.Part.{Part}
-use Rattle.accountfiles.specs.declared.part.Part.TheVariants.{Script, Reply, Mail, Copy, Letter, Notice}
-use Rattle.mailstore.specs.Whole.{replies_with}
-use Rattle.mailstore.proofs.MapLemmas.{tied_is, tied}
+use Rattle.store_text.specs.declared.part.Part.{Part}
+use Rattle.store_text.specs.declared.part.Part.TheVariants.{Script, Reply, Mail, Copy, Letter, Notice}
+use Rattle.store_accounts.specs.Whole.{replies_with}
+use Rattle.store_accounts.proofs.MapLemmas.{tied_is, tied}
 use Rattle.octets.specs.Ascii.{lowered}
-use Rattle.addrparts.specs.declared.address.Addr.{Addr}
-use Rattle.addrparts.specs.Spelling.{spelling}
-use Rattle.msproto.specs.declared.commands.Command.{Command}
-use Rattle.msproto.specs.declared.commands.Command.TheVariants.{Capability, Noop, Logout, Authenticate, Unauthenticate, HaveSpace, PutScript, CheckScript, ListScripts, SetActive, GetScript, DeleteScript, RenameScript}
-use Rattle.msproto.specs.declared.commands.Command.TheVariants as verb
-use Rattle.sessions.specs.Replies.{is_ok}
-use Rattle.mailstore.specs.declared.queue.Outgoing.{Outgoing}
-use Rattle.msproto.specs.declared.replies.Status.{Status}
-use Rattle.sieveexec.specs.Mails.{MailSpec, mail_of}
-use Rattle.sievesyntax.specs.Meaning.{Actions}
-use Rattle.sievesyntax.specs.declared.tree.vacation.VacArgs.{VacArgs}
-use Rattle.vacreply.specs.Cases.{period_of, is_early}
-use Rattle.vacreply.specs.Handles.{handle_of, key_of}
-use Rattle.vacreply.specs.Reasons.{holds, first_of, decision_of}
-use Rattle.vacreply.specs.declared.reason.Reason.{Reason}
-use Rattle.vacreply.specs.declared.reason.Reason.TheVariants as R
-use Rattle.vacreply.specs.declared.reason.Decision.{Decision}
-use Rattle.vacreply.specs.declared.reason.Decision.TheVariants as D
-use Rattle.mailstore.specs.Account.{latest, bytes_cmp, reply_cmp, Account, Accounts, Replies, is_closed, open_one, open_of, has_mail, files_copies, remembers, queues, messages_in}
-use Rattle.mailstore.proofs.StandingLemmas.{open_there}
-use Rattle.mailtables.specs.declared.queue.Kind.TheVariants as kind
-use Rattle.mailstore.specs.declared.report.Report.{Report}
-use Rattle.mailstore.specs.declared.report.VacationReport.{VacationReport}
-use Rattle.mailstore.specs.declared.report.VacationReport.TheVariants as V
-use Rattle.mailstore.specs.declared.refusal.Refusal.{Refusal}
-use Rattle.sessions.specs.Scripts.{carried_out, obeyed}
-use Rattle.deliverplan.specs.Views.{last_reply}
-use Rattle.deliverplan.specs.Delivered.{Disposition, Acts, Tells, Response, Silent, Quiet, Sent, Follows, Responds, acts, redirects, responds, vacation_report, DeliversAs}
-use Rattle.mailengine.specs.declared.event.Event.{Event}
-use Rattle.mailengine.specs.declared.event.Event.TheVariants.{Open, Give, Step, GiveUp, Close, Deliver, AddUser, Import, TakeOut, TakeMail, Keep}
-use Rattle.mailengine.specs.declared.answer.Answer.{Answer}
-use Rattle.mailengine.specs.Limits.{limit_refusal}
-use Rattle.mailstore.specs.Account.{row_with}
-use Rattle.mailengine.specs.AccountEvents.{Refuses, DeliversIn, DeliversUnder}
-use Rattle.mailengine.specs.Upkeep.{stores, instead}
-use Rattle.mailengine.proofs.UpkeepLemmas.{LastsThrough, keeps_holds}
-use Rattle.mailstore.specs.declared.refusal.Refusal.TheVariants.{UserExists, UserHasMail}
-use Rattle.mailengine.specs.OwnActs as own
-use Rattle.mailengine.specs.OwnActs.{Act, ActsAlone, Alone, ReceivesOpen, ReceivesIn, RenewsAlone, JoinsIn, ReplacesAlone, ImportsIn, TakesRowAlone, TakesOpen, TakesFirstAlone, TakesMailOpen}
-use Rattle.mailengine.specs.World.{World, Next, Runs}
-use Rattle.mailengine.specs.Spacing.{Thread, Entry, entry_of, entries_if, vacation_in, sent_in, sent_under, sent_by, sent_at, sent, kept_in, kept, IsPast, ComeAfter, Follow, IsAtLeast, IsSpacing}
-use Rattle.mailengine.proofs.AloneLemmas.{put_own, next_alone, projection}
-use Rattle.mailstore.proofs.AccountLemmas.{reply_total, reply_antisymmetric}
-use Rattle.mailengine.specs.Terms.{terms}
+use Rattle.mail_address.specs.declared.address.Addr.{Addr}
+use Rattle.mail_address.specs.Spelling.{address_spelling}
+use Rattle.managesieve_protocol.specs.declared.commands.ClientCommand.{ClientCommand}
+use Rattle.managesieve_protocol.specs.declared.commands.ClientCommand.TheVariants.{Capability, Noop, Logout, Authenticate, Unauthenticate, HaveSpace, PutScript, CheckScript, ListScripts, SetActive, GetScript, DeleteScript, RenameScript}
+use Rattle.managesieve_protocol.specs.declared.commands.ClientCommand.TheVariants as verb
+use Rattle.managesieve_sessions.specs.Replies.{is_ok}
+use Rattle.store_accounts.specs.declared.queue.QueuedMessage.{QueuedMessage}
+use Rattle.managesieve_protocol.specs.declared.replies.Status.{Status}
+use Rattle.sieve_exec.specs.Mails.{MailSpec, mail_spec_of}
+use Rattle.sieve_syntax.specs.Meaning.{Actions}
+use Rattle.sieve_syntax.specs.declared.tree.vacation.VacationArgs.{VacationArgs}
+use Rattle.sieve_vacation.specs.Cases.{period_of, is_too_soon}
+use Rattle.sieve_vacation.specs.Handles.{handle_of, handle_key_of}
+use Rattle.sieve_vacation.specs.Reasons.{reason_holds, first_of, decision_of}
+use Rattle.sieve_vacation.specs.declared.reason.Reason.{Reason}
+use Rattle.sieve_vacation.specs.declared.reason.Reason.TheVariants as R
+use Rattle.sieve_vacation.specs.declared.reason.ReplyDecision.{ReplyDecision}
+use Rattle.sieve_vacation.specs.declared.reason.ReplyDecision.TheVariants as D
+use Rattle.store_accounts.specs.Account.{latest, bytes_cmp, reply_cmp, Account, Accounts, ReplyMoments, is_closed_account, open_one, open_account_of, has_mail, files_copies, remembers, queues, messages_in}
+use Rattle.store_accounts.proofs.StandingLemmas.{open_there}
+use Rattle.store_tables.specs.declared.queue.QueuedKind.TheVariants as kind
+use Rattle.store_accounts.specs.declared.report.Report.{Report}
+use Rattle.store_accounts.specs.declared.report.VacationReport.{VacationReport}
+use Rattle.store_accounts.specs.declared.report.VacationReport.TheVariants as V
+use Rattle.store_accounts.specs.declared.refusal.Refusal.{Refusal}
+use Rattle.managesieve_sessions.specs.Scripts.{carried_out, obeyed}
+use Rattle.sieve_plan.specs.Views.{last_reply}
+use Rattle.sieve_plan.specs.Delivered.{Disposition, Acts, Tells, Response, Silent, Quiet, Sent, FollowsDecision, Responds, acts, redirects, responds, vacation_report, DeliversAs}
+use Rattle.store_engine.specs.declared.event.Event.{Event}
+use Rattle.store_engine.specs.declared.event.Event.TheVariants.{Open, Give, Step, GiveUp, Close, Deliver, AddUser, Import, TakeOut, TakeMail, Keep}
+use Rattle.store_engine.specs.declared.answer.Answer.{Answer}
+use Rattle.store_engine.specs.Limits.{limit_refusal}
+use Rattle.store_accounts.specs.Account.{row_with}
+use Rattle.store_engine.specs.AccountEvents.{MachineRefuses, DeliversIn, DeliversUnder}
+use Rattle.store_engine.specs.Upkeep.{stores, instead}
+use Rattle.store_engine.proofs.UpkeepLemmas.{LastsThrough, keeps_holds}
+use Rattle.store_accounts.specs.declared.refusal.Refusal.TheVariants.{UserExists, UserHasMail}
+use Rattle.store_engine.specs.OwnActs as own
+use Rattle.store_engine.specs.OwnActs.{UserAct, ActsAlone, ActsInTurn, ReceivesOpen, ReceivesIn, RenewsAlone, JoinsIn, ReplacesAlone, ImportsIn, TakesRowAlone, TakesOpen, TakesFirstAlone, TakesMailOpen}
+use Rattle.store_engine.specs.World.{World, Next, Runs}
+use Rattle.store_engine.specs.Spacing.{Thread, SentReply, entry_of, entries_if, vacation_in, sent_in, sent_under, sent_by, sent_at, sent, kept_in, kept_moment, IsPast, ComeAfter, Follow, IsAtLeast, IsSpacing}
+use Rattle.store_engine.proofs.AloneLemmas.{put_own, next_alone, projection}
+use Rattle.store_accounts.proofs.AccountLemmas.{reply_total, reply_antisymmetric}
+use Rattle.store_engine.specs.Terms.{terms}
 use Rattle.sqlite_typed.proofs.TestLemmas.{bytes_eq_refl}
 
 -- ---- a kept moment never goes back
@@ -97,13 +97,13 @@ past_reason test reason more sends = go (test reason) refl sends
     go false is told = (is, told)
 
 -- a decision to send means that the kept moment is a period ago
-send_is_past : (args : VacArgs) (mail : MailSpec) (own : Addr) (last : Option ℕ) (moment : ℕ) → decision_of args mail own last moment ≡ D.Send → IsPast last (period_of args) moment
+send_is_past : (args : VacationArgs) (mail : MailSpec) (own : Addr) (last : Option ℕ) (moment : ℕ) → decision_of args mail own last moment ≡ D.Send → IsPast last (period_of args) moment
 send_is_past args mail own last moment sends = by last timely
   where
     test : Reason → Bool
-    test = holds args mail own last moment
+    test = reason_holds args mail own last moment
 
-    timely : is_early args last moment ≡ false
+    timely : is_too_soon args last moment ≡ false
     timely =
         let one = (past_reason test R.NullSender (R.BadSender ∷ R.RobotSender ∷ R.OwnSender ∷ R.Automatic ∷ R.ListMail ∷ R.Bulk ∷ R.NotAddressed ∷ R.TooSoon ∷ []) sends).1 in
         let two = (past_reason test R.BadSender (R.RobotSender ∷ R.OwnSender ∷ R.Automatic ∷ R.ListMail ∷ R.Bulk ∷ R.NotAddressed ∷ R.TooSoon ∷ []) one).1 in
@@ -115,14 +115,14 @@ send_is_past args mail own last moment sends = by last timely
         let eight = (past_reason test R.NotAddressed (R.TooSoon ∷ []) seven).1 in
         (past_reason test R.TooSoon [] eight).0
 
-    by : (o : Option ℕ) → is_early args o moment ≡ false → IsPast o (period_of args) moment
+    by : (o : Option ℕ) → is_too_soon args o moment ≡ false → IsPast o (period_of args) moment
     by None is = tt
     by (Some x) is = λ some. grind (arith, nat_tests, some)
 
 -- redirects leave what is remembered
 redirects_keep : (mail : MailSpec) (targets : List Addr) (a : Account) → (redirects mail targets a).replies ≡ a.replies
 redirects_keep mail [] a = refl
-redirects_keep mail (target ∷ more) a = redirects_keep mail more (queues kind.Redirect mail.from (spelling target) mail.octets a)
+redirects_keep mail (target ∷ more) a = redirects_keep mail more (queues kind.Redirect mail.from (address_spelling target) mail.octets a)
 
 -- and so do all the deeds
 acts_keep : (mail : MailSpec) (deeds : Actions) (a : Account) → (acts mail deeds a).replies ≡ a.replies
@@ -130,33 +130,33 @@ acts_keep mail deeds a = redirects_keep mail deeds.sent (files_copies deeds.file
 
 -- what an account that was just answered for keeps
 remembered : (a : Account) (handle sender : List ℕ) (moment : ℕ) (thread : Thread) → kept_in (Some (remembers handle sender moment a)) thread
-    ≡ cond (is_eq (reply_cmp (key_of thread.handle, thread.sender) (handle, lowered sender))) (Some moment) (kept_in (Some a) thread)
-remembered a handle sender moment thread = get-insert reply_total a.replies (handle, lowered sender) moment (key_of thread.handle, thread.sender)
+    ≡ cond (is_eq (reply_cmp (handle_key_of thread.handle, thread.sender) (handle, lowered sender))) (Some moment) (kept_in (Some a) thread)
+remembered a handle sender moment thread = get-insert reply_total a.replies (handle, lowered sender) moment (handle_key_of thread.handle, thread.sender)
 
 -- what is known of a response: one that is sent has the key of the handle, comes a period after the moment that is kept, and the later
 -- one of the two moments is kept
-record IsKnown (moment : ℕ) (last : List ℕ → Option ℕ) (reply : Option VacArgs) (key : List ℕ) (next : ℕ) : Type 0 where
-  args : VacArgs
+record IsKnown (moment : ℕ) (last : List ℕ → Option ℕ) (reply : Option VacationArgs) (key : List ℕ) (next : ℕ) : Type 0 where
+  args : VacationArgs
   there : reply ≡ Some args
-  keyed : key ≡ key_of (handle_of args)
-  past : IsPast (last (key_of (handle_of args))) (period_of args) moment
+  keyed : key ≡ handle_key_of (handle_of args)
+  past : IsPast (last (handle_key_of (handle_of args))) (period_of args) moment
   later : next ≡ latest (last key) moment
 
-sent_is : (own : Addr) (moment : ℕ) (mail : MailSpec) (last : List ℕ → Option ℕ) (reply : Option VacArgs) (key octets : List ℕ) (next : ℕ) → Responds own moment mail last reply (Sent key octets next)
+sent_is : (own : Addr) (moment : ℕ) (mail : MailSpec) (last : List ℕ → Option ℕ) (reply : Option VacationArgs) (key octets : List ℕ) (next : ℕ) → Responds own moment mail last reply (Sent key octets next)
     → IsKnown moment last reply key next
 sent_is own moment mail last None key octets next is = absurd (let never : Sent key octets next ≡ Silent = is in cc)
-sent_is own moment mail last (Some args) key octets next is = go (decision_of args mail own (last (key_of (handle_of args))) moment) refl is
+sent_is own moment mail last (Some args) key octets next is = go (decision_of args mail own (last (handle_key_of (handle_of args))) moment) refl is
   where
-    go : (d : Decision) → decision_of args mail own (last (key_of (handle_of args))) moment ≡ d → Follows own moment mail args (last (key_of (handle_of args))) d (Sent key octets next) → IsKnown moment last (Some args) key next
+    go : (d : ReplyDecision) → decision_of args mail own (last (handle_key_of (handle_of args))) moment ≡ d → FollowsDecision own moment mail args (last (handle_key_of (handle_of args))) d (Sent key octets next) → IsKnown moment last (Some args) key next
     go D.Send sends follows =
-        let told : Sent key octets next ≡ Sent (key_of (handle_of args)) follows.0 (latest (last (key_of (handle_of args))) moment) = follows.1.1 in
-        let same : key ≡ key_of (handle_of args) = cc in
-        let after : next ≡ latest (last (key_of (handle_of args))) moment = cc in
+        let told : Sent key octets next ≡ Sent (handle_key_of (handle_of args)) follows.0 (latest (last (handle_key_of (handle_of args))) moment) = follows.1.1 in
+        let same : key ≡ handle_key_of (handle_of args) = cc in
+        let after : next ≡ latest (last (handle_key_of (handle_of args))) moment = cc in
         record {
           args = args;
           there = refl;
           keyed = same;
-          past = send_is_past args mail own (last (key_of (handle_of args))) moment sends;
+          past = send_is_past args mail own (last (handle_key_of (handle_of args))) moment sends;
           later = after ∙ ap (λ k. latest (last k) moment) (sym same);
         }
     go (D.Quiet reason) quiet follows = absurd (let never : Sent key octets next ≡ Quiet reason = follows in cc)
@@ -175,7 +175,7 @@ reply_eq_refl key sender = ap (λ o. is_eq (ordering_then o (bytes_cmp sender se
 
 -- the key under which a thread is kept
 abbrev place : Thread → List ℕ × List ℕ
-place thread = (key_of thread.handle, thread.sender)
+place thread = (handle_key_of thread.handle, thread.sender)
 
 same_place : (thread : Thread) (key : List ℕ × List ℕ) → is_eq (reply_cmp (place thread) key) ≡ true → place thread ≡ key
 same_place thread key is = go (reply_cmp (place thread) key) refl is
@@ -214,10 +214,10 @@ delivers_keeps own moment mail (Acts deeds) a a2 report thread is =
 delivers_keeps own moment mail (Tells text) a a2 report thread is = no_sooner_is (kept_in (Some a) thread) (kept_in (Some a2) thread) (ap (λ b. kept_in (Some b) thread) is.changed)
 
 -- commands leave what is remembered
-obeyed_keeps : (command : Command) (word : Option Status) (a : Account) → (obeyed command word a).replies ≡ a.replies
+obeyed_keeps : (command : ClientCommand) (word : Option Status) (a : Account) → (obeyed command word a).replies ≡ a.replies
 obeyed_keeps command word a = go (is_ok word)
   where
-    carried : (c : Command) → (carried_out c a).replies ≡ a.replies
+    carried : (c : ClientCommand) → (carried_out c a).replies ≡ a.replies
     carried Capability = refl
     carried (Noop tag) = refl
     carried Logout = refl
@@ -244,7 +244,7 @@ mapped_keeps None change thread same = tt
 mapped_keeps (Some a) change thread same = no_sooner_is (kept_in (Some a) thread) (kept_in (Some (change a)) thread) (ap (λ m. get m (place thread)) (same a))
 
 -- what an administrator does leaves what is remembered
-replies_last : (r : Replies) → LastsThrough (λ a. a.replies ≡ r)
+replies_last : (r : ReplyMoments) → LastsThrough (λ a. a.replies ≡ r)
 replies_last r = record {
   guarded = λ a password is. is;
   addressed = λ a address own is. is;
@@ -258,20 +258,20 @@ replies_last r = record {
     go a name text true is = is
     go a name text false is = is
 
-kept_keeps : (account change : Option Account) (thread : Thread) → ((r : Replies) → IfSome account (λ a. a.replies ≡ r) → IfSome change (λ a. a.replies ≡ r)) → IsNoSooner (kept_in account thread) (kept_in (instead change account) thread)
+kept_keeps : (account change : Option Account) (thread : Thread) → ((r : ReplyMoments) → IfSome account (λ a. a.replies ≡ r) → IfSome change (λ a. a.replies ≡ r)) → IsNoSooner (kept_in account thread) (kept_in (instead change account) thread)
 kept_keeps account None thread lasts = no_sooner_same (kept_in account thread)
 kept_keeps None (Some b) thread lasts = tt
 kept_keeps (Some a) (Some b) thread lasts = no_sooner_is (kept_in (Some a) thread) (kept_in (Some b) thread) (ap (λ m. get m (place thread)) (lasts a.replies refl))
 
 -- the moments of a text never make one sooner that is there
-put_keeps : (replies : Replies) (k : List ℕ × List ℕ) (moment : ℕ) (key : List ℕ × List ℕ) → IsNoSooner (get replies key) (get (insert replies k (latest (get replies k) moment)) key)
+put_keeps : (replies : ReplyMoments) (k : List ℕ × List ℕ) (moment : ℕ) (key : List ℕ × List ℕ) → IsNoSooner (get replies key) (get (insert replies k (latest (get replies k) moment)) key)
 put_keeps replies k moment key = subst (IsNoSooner (get replies key)) (sym (get-insert reply_total replies k (latest (get replies k) moment) key)) (go (is_eq (reply_cmp key k)) refl)
   where
     go : (t : Bool) → is_eq (reply_cmp key k) ≡ t → IsNoSooner (get replies key) (cond t (Some (latest (get replies k) moment)) (get replies key))
     go true is = subst (λ j. IsNoSooner (get replies j) (Some (latest (get replies k) moment))) (sym (tied reply_cmp reply_total reply_antisymmetric key k is)) (latest_is_no_sooner (get replies k) moment)
     go false is = no_sooner_same (get replies key)
 
-parts_keep : (parts : List Part) (replies : Replies) (key : List ℕ × List ℕ) → IsNoSooner (get replies key) (get (fold replies_with replies parts) key)
+parts_keep : (parts : List Part) (replies : ReplyMoments) (key : List ℕ × List ℕ) → IsNoSooner (get replies key) (get (fold replies_with replies parts) key)
 parts_keep [] replies key = no_sooner_same (get replies key)
 parts_keep (Script a b ∷ parts) replies key = parts_keep parts replies key
 parts_keep (Reply a b c ∷ parts) replies key =
@@ -283,7 +283,7 @@ parts_keep (Letter a b c d e ∷ parts) replies key = parts_keep parts replies k
 parts_keep (Notice a b c ∷ parts) replies key = parts_keep parts replies key
 
 -- an act never makes a kept moment sooner
-act_keeps : (user : List ℕ) (account later : Option Account) (act : Act) (thread : Thread) → ActsAlone user account act later → IsNoSooner (kept_in account thread) (kept_in later thread)
+act_keeps : (user : List ℕ) (account later : Option Account) (act : UserAct) (thread : Thread) → ActsAlone user account act later → IsNoSooner (kept_in account thread) (kept_in later thread)
 act_keeps user account later (own.Commands command octets) thread is =
     subst (λ o. IsNoSooner (kept_in account thread) (kept_in o thread)) (sym is.changed) (mapped_keeps account (obeyed command is.reply.word) thread (obeyed_keeps command is.reply.word))
 act_keeps user account later (own.LogsIn password succeeds) thread is = no_sooner_is (kept_in account thread) (kept_in later thread) (ap (λ o. kept_in o thread) is.stays)
@@ -297,11 +297,11 @@ act_keeps user account later (own.Receives envelope message terms answer) thread
         opened None none is = no_sooner_is (kept_in account thread) (kept_in later thread) (ap (λ o. kept_in o thread) is.stays)
         opened (Some a) has is =
             subst (λ b. IsNoSooner (kept_in b thread) (kept_in later thread)) (sym (open_there account a has))
-            (subst (λ o. IsNoSooner (kept_in (Some a) thread) (kept_in o thread)) (sym is.changed) (delivers_keeps is.delivers.own terms.when.moment (mail_of message envelope terms.when) is.delivers.delivers.disposition a is.after is.report thread is.delivers.delivers.delivers))
+            (subst (λ o. IsNoSooner (kept_in (Some a) thread) (kept_in o thread)) (sym is.changed) (delivers_keeps is.delivers.own terms.when.moment (mail_spec_of message envelope terms.when) is.delivers.delivers.disposition a is.after is.report thread is.delivers.delivers.delivers))
 act_keeps user account later (own.Joins address salt password answer) thread (inl (new, is)) = go account is
   where
     -- an account that is opened anew keeps what it remembers
-    over : (a : Account) (closed full : Bool) → MatchBool closed (MatchBool full (Refuses UserHasMail (Some a) answer later) (RenewsAlone a address salt password answer later)) (Refuses UserExists (Some a) answer later)
+    over : (a : Account) (closed full : Bool) → MatchBool closed (MatchBool full (MachineRefuses UserHasMail (Some a) answer later) (RenewsAlone a address salt password answer later)) (MachineRefuses UserExists (Some a) answer later)
         → IsNoSooner (kept_in (Some a) thread) (kept_in later thread)
     over a true true is = no_sooner_is (kept_in (Some a) thread) (kept_in later thread) (ap (λ o. kept_in o thread) is.stays)
     over a true false is = no_sooner_is (kept_in (Some a) thread) (kept_in later thread) (ap (λ o. kept_in o thread) is.changed)
@@ -309,11 +309,11 @@ act_keeps user account later (own.Joins address salt password answer) thread (in
 
     go : (account : Option Account) → JoinsIn account address salt password answer later → IsNoSooner (kept_in account thread) (kept_in later thread)
     go None is = tt
-    go (Some a) is = over a (is_closed a) (has_mail a) is
+    go (Some a) is = over a (is_closed_account a) (has_mail a) is
 act_keeps user account later (own.Joins address salt password answer) thread (inr (bad, is)) = no_sooner_is (kept_in account thread) (kept_in later thread) (ap (λ o. kept_in o thread) is.stays)
 act_keeps user account later (own.IsImported head parts answer) thread (inl (fit, is)) = go account is
   where
-    over : (a : Account) (closed full : Bool) → MatchBool closed (MatchBool full (Refuses UserHasMail (Some a) answer later) (ReplacesAlone a head parts answer later)) (Refuses UserExists (Some a) answer later)
+    over : (a : Account) (closed full : Bool) → MatchBool closed (MatchBool full (MachineRefuses UserHasMail (Some a) answer later) (ReplacesAlone a head parts answer later)) (MachineRefuses UserExists (Some a) answer later)
         → IsNoSooner (kept_in (Some a) thread) (kept_in later thread)
     over a true true is = no_sooner_is (kept_in (Some a) thread) (kept_in later thread) (ap (λ o. kept_in o thread) is.stays)
     over a true false is = subst (λ o. IsNoSooner (kept_in (Some a) thread) (kept_in o thread)) (sym is.changed) (parts_keep parts a.replies (place thread))
@@ -321,11 +321,11 @@ act_keeps user account later (own.IsImported head parts answer) thread (inl (fit
 
     go : (account : Option Account) → ImportsIn account head parts answer later → IsNoSooner (kept_in account thread) (kept_in later thread)
     go None is = tt
-    go (Some a) is = over a (is_closed a) (has_mail a) is
+    go (Some a) is = over a (is_closed_account a) (has_mail a) is
 act_keeps user account later (own.IsImported head parts answer) thread (inr (bad, is)) = no_sooner_is (kept_in account thread) (kept_in later thread) (ap (λ o. kept_in o thread) is.stays)
 act_keeps user account later (own.TakesOut id answer) thread is = go (open_one account) refl is
   where
-    row : (a : Account) (o : Option Outgoing) → TakesRowAlone a o answer later → IsNoSooner (kept_in (Some a) thread) (kept_in later thread)
+    row : (a : Account) (o : Option QueuedMessage) → TakesRowAlone a o answer later → IsNoSooner (kept_in (Some a) thread) (kept_in later thread)
     row a None is = no_sooner_is (kept_in (Some a) thread) (kept_in later thread) (ap (λ o. kept_in o thread) is.stays)
     row a (Some out) is = no_sooner_is (kept_in (Some a) thread) (kept_in later thread) (ap (λ o. kept_in o thread) is.changed)
 
@@ -343,37 +343,37 @@ act_keeps user account later (own.TakesMail folder answer) thread is = go (open_
     go (Some a) has is = subst (λ b. IsNoSooner (kept_in b thread) (kept_in later thread)) (sym (open_there account a has)) (row a (messages_in a.folders folder) is)
 act_keeps user account later (own.IsKept upkeep answer) thread (change, keeps, is) = subst (λ o. IsNoSooner (kept_in account thread) (kept_in o thread)) (sym is) (kept_keeps account change thread (λ r fits. keeps_holds (λ a. a.replies ≡ r) (replies_last r) answer change upkeep account fits keeps))
 
-alone_keeps : (user : List ℕ) (acts : List Act) (account end : Option Account) (thread : Thread) → Alone user account acts end → IsNoSooner (kept_in account thread) (kept_in end thread)
+alone_keeps : (user : List ℕ) (acts : List UserAct) (account end : Option Account) (thread : Thread) → ActsInTurn user account acts end → IsNoSooner (kept_in account thread) (kept_in end thread)
 alone_keeps user [] account end thread is = no_sooner_is (kept_in account thread) (kept_in end thread) (ap (λ o. kept_in o thread) is)
 alone_keeps user (act ∷ more) account end thread is = no_sooner_then (kept_in account thread) (kept_in is.0 thread) (kept_in end thread) (act_keeps user account is.0 act thread is.1) (alone_keeps user more is.0 end thread is.2)
 
 -- ---- events
 
-next_keeps : (w next : World) (event : Event) (answer : Answer) (thread : Thread) → Next w event answer next → IsNoSooner (kept w.accounts thread) (kept next.accounts thread)
+next_keeps : (w next : World) (event : Event) (answer : Answer) (thread : Thread) → Next w event answer next → IsNoSooner (kept_moment w.accounts thread) (kept_moment next.accounts thread)
 next_keeps w next event answer thread made = alone_keeps thread.user (own.acts_in thread.user w event answer) (get w.accounts thread.user) (get next.accounts thread.user) thread (next_alone thread.user w next event answer made)
 
-run_keeps : (events : List Event) (told : List Answer) (w end : World) (thread : Thread) → Runs w events told end → IsNoSooner (kept w.accounts thread) (kept end.accounts thread)
-run_keeps events told w end thread run = alone_keeps thread.user (own.acts thread.user w events told end run) (get w.accounts thread.user) (get end.accounts thread.user) thread (projection events told w end run thread.user)
+run_keeps : (events : List Event) (told : List Answer) (w end : World) (thread : Thread) → Runs w events told end → IsNoSooner (kept_moment w.accounts thread) (kept_moment end.accounts thread)
+run_keeps events told w end thread run = alone_keeps thread.user (own.user_acts thread.user w events told end run) (get w.accounts thread.user) (get end.accounts thread.user) thread (projection events told w end run thread.user)
 
 -- what one event sends: nothing, or one answer, a period after what was kept, and kept then
-abbrev IsOneAnswer : Accounts → Accounts → List Entry → Type 0
+abbrev IsOneAnswer : Accounts → Accounts → List SentReply → Type 0
 IsOneAnswer start end [] = Unit {0}
-IsOneAnswer start end (entry ∷ []) = IsPast (kept start entry.thread) entry.period entry.moment × IsAtLeast (kept end entry.thread) entry.moment
+IsOneAnswer start end (entry ∷ []) = IsPast (kept_moment start entry.thread) entry.period entry.moment × IsAtLeast (kept_moment end entry.thread) entry.moment
 IsOneAnswer start end (entry ∷ (other ∷ more)) = ⊥
 
 -- the same of one account
-abbrev IsOneFor : Option Account → Option Account → List Entry → Type 0
+abbrev IsOneFor : Option Account → Option Account → List SentReply → Type 0
 IsOneFor start end [] = Unit {0}
 IsOneFor start end (entry ∷ []) = IsPast (kept_in start entry.thread) entry.period entry.moment × IsAtLeast (kept_in end entry.thread) entry.moment
 IsOneFor start end (entry ∷ (other ∷ more)) = ⊥
 
-remembered_now : (mail : MailSpec) (moment next : ℕ) (key octets user : List ℕ) (args : VacArgs) (b : Account) → key ≡ key_of (handle_of args) → moment ≤ next
+remembered_now : (mail : MailSpec) (moment next : ℕ) (key octets user : List ℕ) (args : VacationArgs) (b : Account) → key ≡ handle_key_of (handle_of args) → moment ≤ next
     → IsAtLeast (kept_in (Some (answered mail key octets next b)) (entry_of user mail.from moment args).thread) moment
 remembered_now mail moment next key octets user args b same after =
-    subst (λ o. IsAtLeast o moment) (sym (remembered (queues kind.Reply [] mail.from octets b) key mail.from next (entry_of user mail.from moment args).thread ∙ ap (λ t. cond t (Some next) (get b.replies (key_of (handle_of args), lowered mail.from))) itself)) after
+    subst (λ o. IsAtLeast o moment) (sym (remembered (queues kind.Reply [] mail.from octets b) key mail.from next (entry_of user mail.from moment args).thread ∙ ap (λ t. cond t (Some next) (get b.replies (handle_key_of (handle_of args), lowered mail.from))) itself)) after
   where
-    itself : is_eq (reply_cmp (key_of (handle_of args), lowered mail.from) (key, lowered mail.from)) ≡ true
-    itself = ap (λ k. is_eq (reply_cmp (key_of (handle_of args), lowered mail.from) (k, lowered mail.from))) same ∙ reply_eq_refl (key_of (handle_of args)) (lowered mail.from)
+    itself : is_eq (reply_cmp (handle_key_of (handle_of args), lowered mail.from) (key, lowered mail.from)) ≡ true
+    itself = ap (λ k. is_eq (reply_cmp (handle_key_of (handle_of args), lowered mail.from) (k, lowered mail.from))) same ∙ reply_eq_refl (handle_key_of (handle_of args)) (lowered mail.from)
 
 carried_one : (own : Addr) (user : List ℕ) (moment : ℕ) (mail : MailSpec) (deeds : Actions) (a : Account) (response : Response) → Responds own moment mail (last_reply a mail.from) deeds.reply response
     → IsOneFor (Some a) (Some (responds mail response (acts mail deeds a))) (entries_if (vacation_report response) user mail.from moment deeds.reply)
@@ -397,7 +397,7 @@ delivered_one own user moment mail (Tells text) a a2 report is = go report.vacat
     go (V.Quiet n) = tt
 
 -- the entry of a user, by the account of that name
-named_one : (accounts later : Accounts) (user : List ℕ) (start end : Option Account) (sender : List ℕ) (moment : ℕ) (v : VacationReport) (reply : Option VacArgs) → get accounts user ≡ start → get later user ≡ end
+named_one : (accounts later : Accounts) (user : List ℕ) (start end : Option Account) (sender : List ℕ) (moment : ℕ) (v : VacationReport) (reply : Option VacationArgs) → get accounts user ≡ start → get later user ≡ end
     → IsOneFor start end (entries_if v user sender moment reply) → IsOneAnswer accounts later (entries_if v user sender moment reply)
 named_one accounts later user start end sender moment V.None reply has then is = tt
 named_one accounts later user start end sender moment (V.Quiet n) reply has then is = tt
@@ -423,40 +423,40 @@ sent_one w next (Deliver user envelope message when default) answer (inl made) =
     later : Accounts
     later = made.0
 
-    inserted : (o : Option Account) → open_of w.accounts user ≡ o → (is : DeliversIn w.accounts user (terms when default) envelope message o answer later) → IsOneAnswer w.accounts later (sent_in w.accounts user (terms when default) envelope message o answer later is)
+    inserted : (o : Option Account) → open_account_of w.accounts user ≡ o → (is : DeliversIn w.accounts user (terms when default) envelope message o answer later) → IsOneAnswer w.accounts later (sent_in w.accounts user (terms when default) envelope message o answer later is)
     inserted None has is = tt
     inserted (Some a) has is =
         named_one w.accounts later user (Some a) (Some is.account) envelope.from when.moment is.report.vacation (vacation_in is.delivers.delivers.disposition) (open_there (get w.accounts user) a has) (ap (λ all. get all user) is.changed ∙ put_own w.accounts user is.account (bytes_eq_refl user))
-        (delivered_one is.delivers.own user when.moment (mail_of message envelope when) is.delivers.delivers.disposition a is.account is.report is.delivers.delivers.delivers)
+        (delivered_one is.delivers.own user when.moment (mail_spec_of message envelope when) is.delivers.delivers.disposition a is.account is.report is.delivers.delivers.delivers)
 
     go : (o : Option Refusal) → (is : DeliversUnder o w.accounts user (terms when default) envelope message answer later) → IsOneAnswer w.accounts later (sent_under o w.accounts user (terms when default) envelope message answer later is)
     go (Some refusal) is = tt
-    go None is = inserted (open_of w.accounts user) refl is
+    go None is = inserted (open_account_of w.accounts user) refl is
 
 -- ---- runs
 
-come_before : (accounts later : Accounts) (entries : List Entry) → ((thread : Thread) → IsNoSooner (kept accounts thread) (kept later thread)) → ComeAfter later entries → ComeAfter accounts entries
+come_before : (accounts later : Accounts) (entries : List SentReply) → ((thread : Thread) → IsNoSooner (kept_moment accounts thread) (kept_moment later thread)) → ComeAfter later entries → ComeAfter accounts entries
 come_before accounts later [] sooner come = tt
 come_before accounts later (entry ∷ more) sooner come =
-    (past_before (kept accounts entry.thread) (kept later entry.thread) entry.period entry.moment (sooner entry.thread) come.0, come_before accounts later more sooner come.1)
+    (past_before (kept_moment accounts entry.thread) (kept_moment later entry.thread) entry.period entry.moment (sooner entry.thread) come.0, come_before accounts later more sooner come.1)
 
 -- all that come after an entry is kept follow it
-pub follow_kept : (later : Accounts) (entry : Entry) (entries : List Entry) → IsAtLeast (kept later entry.thread) entry.moment → ComeAfter later entries → Follow entry entries
+pub follow_kept : (later : Accounts) (entry : SentReply) (entries : List SentReply) → IsAtLeast (kept_moment later entry.thread) entry.moment → ComeAfter later entries → Follow entry entries
 follow_kept later entry [] held come = tt
-follow_kept later entry (next ∷ more) held come = (λ same. go (kept later next.thread) (subst (λ t. IsAtLeast (kept later t) entry.moment) same held) come.0, follow_kept later entry more held come.1)
+follow_kept later entry (next ∷ more) held come = (λ same. go (kept_moment later next.thread) (subst (λ t. IsAtLeast (kept_moment later t) entry.moment) same held) come.0, follow_kept later entry more held come.1)
   where
     go : (o : Option ℕ) → IsAtLeast o entry.moment → IsPast o next.period next.moment → 0 < next.period → entry.moment + next.period ≤ next.moment
     go None held past some = absurd held
     go (Some last) held past some = let later = past some in omega (arith, later, held)
 
 -- an event, and the events after it
-spacing_then : (start mid end : Accounts) (one more : List Entry) → ((thread : Thread) → IsNoSooner (kept start thread) (kept mid thread)) → ((thread : Thread) → IsNoSooner (kept mid thread) (kept end thread))
+spacing_then : (start mid end : Accounts) (one more : List SentReply) → ((thread : Thread) → IsNoSooner (kept_moment start thread) (kept_moment mid thread)) → ((thread : Thread) → IsNoSooner (kept_moment mid thread) (kept_moment end thread))
     → IsOneAnswer start mid one → IsSpacing mid end more → IsSpacing start end (one ++ more)
 spacing_then start mid end [] more sooner late is rest = record { after_start = come_before start mid more sooner rest.after_start; spaced = rest.spaced; kept_in_the_end = rest.kept_in_the_end }
 spacing_then start mid end (entry ∷ []) more sooner late is rest = record {
   after_start = (is.0, come_before start mid more sooner rest.after_start);
   spaced = (follow_kept mid entry more is.1 rest.after_start, rest.spaced);
-  kept_in_the_end = (at_least_after (kept mid entry.thread) (kept end entry.thread) entry.moment (late entry.thread) is.1, rest.kept_in_the_end);
+  kept_in_the_end = (at_least_after (kept_moment mid entry.thread) (kept_moment end entry.thread) entry.moment (late entry.thread) is.1, rest.kept_in_the_end);
 }
 spacing_then start mid end (entry ∷ (other ∷ most)) more sooner late is rest = absurd is
 

@@ -2,17 +2,17 @@
 use Rattle.std.proofs.Common.{◌≡◌, ◌==◌, ◌&&◌, ℕ, Bool, length, List, Option, Some, None, option_map, Ok, Result, OnOk, IfOk, IfErr, IfSome, refl, ap, ◌∙◌, subst}
 use Rattle.std.specs.FinMap.{get}
 use Rattle.sqlite.specs.State.{State, HasCleanDisk}
-use Rattle.mailstore.specs.declared.profile.Profile.{Profile}
-use Rattle.mailstore.specs.declared.refusal.Refusal.{Refusal}
-use Rattle.mailstore.specs.Account.{Account, Accounts, is_closed, is_removed, has_mail}
-use Rattle.mailstore.specs.AccountRows.{profile_of}
-use Rattle.mailstore.specs.Promises.{ReadsEntered, ReadsProfile}
-use Rattle.mailstore.specs.Refusals.{IsTransient}
-use Rattle.mailstore.specs.Shows.{Presents}
-use Rattle.mailstore.proofs.KeepLemmas.{keeps_ok, keeps_failed, keeps_then, mid_shows, none_if}
-use Rattle.mailtables.proofs.WriteLemmas.{clean_before}
-use Rattle.mailengine.specs.declared.standing.Standing.{Standing}
-use Rattle.mailengine.specs.Lookups.{standing_of, ReadsStanding}
+use Rattle.store_accounts.specs.declared.profile.Profile.{Profile}
+use Rattle.store_accounts.specs.declared.refusal.Refusal.{Refusal}
+use Rattle.store_accounts.specs.Account.{Account, Accounts, is_closed_account, is_removed, has_mail}
+use Rattle.store_accounts.specs.AccountRows.{profile_of}
+use Rattle.store_accounts.specs.Promises.{ReadsEntered, ReadsProfile}
+use Rattle.store_accounts.specs.Refusals.{IsTransient}
+use Rattle.store_accounts.specs.Shows.{Presents}
+use Rattle.store_accounts.proofs.KeepLemmas.{keeps_ok, keeps_failed, keeps_then, mid_shows, none_if}
+use Rattle.store_tables.proofs.WriteLemmas.{clean_before}
+use Rattle.store_engine.specs.declared.standing.Standing.{Standing}
+use Rattle.store_engine.specs.Lookups.{standing_of, ReadsStanding}
 
 abbrev HasMail : Bool → Account → Type 0
 HasMail found account = found ≡ has_mail account
@@ -47,10 +47,10 @@ module _ (user : List ℕ) (a b : State) (r : Result (Option Profile) Refusal) (
     stands closed removed mail shut gone None e has = absurd (let no = e in cc)
     stands closed removed mail shut gone (Some account) e has =
         let same : p ≡ profile_of account = cc in
-        let one : closed ≡ is_closed account = shut ∙ ap (λ (q : Profile). q.rounds == 0) same in
+        let one : closed ≡ is_closed_account account = shut ∙ ap (λ (q : Profile). q.rounds == 0) same in
         let two : removed ≡ is_removed account = gone ∙ ap (λ (q : Profile). q.rounds == 0 && length q.digest == 0) same in
         ap (λ x. Some (record { is_closed = x; is_removed = removed; has_mail = mail })) one
-        ∙ (ap (λ x. Some (record { is_closed = is_closed account; is_removed = x; has_mail = mail })) two ∙ ap (λ x. Some (record { is_closed = is_closed account; is_removed = is_removed account; has_mail = x })) has)
+        ∙ (ap (λ x. Some (record { is_closed = is_closed_account account; is_removed = x; has_mail = mail })) two ∙ ap (λ x. Some (record { is_closed = is_closed_account account; is_removed = is_removed account; has_mail = x })) has)
 
     pub standing_seen : (mail : Bool) → w ≡ Ok mail → (closed removed : Bool) → closed ≡ (p.rounds == 0) → removed ≡ (p.rounds == 0 && length p.digest == 0)
         → ReadsStanding user a c (Ok (Some (record { is_closed = closed; is_removed = removed; has_mail = mail })))

@@ -1,16 +1,16 @@
 -- What an administrator does to one account: what it leaves as it was, and that it is one thing.
 use Rattle.std.proofs.Common.{◌≡◌, ℕ, ◌≤◌, Bool, true, false, cond, not, ◌&&◌, List, length, Option, Some, None, IfSome, MatchBool, refl, sym, ◌∙◌, subst, inl, inr}
-use Rattle.mailstore.specs.Account.{Account, Password, is_closed, is_removed, open_one, known_one, has_mail, addresses, guards, rounds_set, closes, opens, takes_notices, removes}
-use Rattle.mailstore.specs.declared.refusal.Refusal.TheVariants.{NoUser, UserIsOpen, UserHasMail}
-use Rattle.sessions.specs.Limits.{script_limit, IsScriptName}
-use Rattle.sessions.specs.Scripts.{HasRoom, IsValid}
-use Rattle.mailengine.specs.declared.answer.Answer.{Answer}
-use Rattle.mailengine.specs.declared.answer.Answer.TheVariants.{Changed, Stored, Closed, Opened, Removed, NoticesTaken, Refused}
-use Rattle.mailengine.specs.declared.upkeep.Upkeep.{Upkeep}
-use Rattle.mailengine.specs.declared.upkeep.Upkeep.TheVariants.{SetPassword, SetAddress, StoreScript, CloseAccount, OpenAccount, RemoveAccount, TakeNotices}
-use Rattle.mailengine.specs.Limits.{IsOwnAddress}
-use Rattle.mailengine.specs.OwnActs.{is_lost}
-use Rattle.mailengine.specs.Upkeep.{rounds, kept_password, Alters, Tells, InAccount, stores, Stores, Opens, Removes, Keeps, instead}
+use Rattle.store_accounts.specs.Account.{Account, Password, is_closed_account, is_removed, open_one, known_one, has_mail, changes_address, changes_password, with_password_rounds, closes, opens, takes_notices, removes}
+use Rattle.store_accounts.specs.declared.refusal.Refusal.TheVariants.{NoUser, UserIsOpen, UserHasMail}
+use Rattle.managesieve_sessions.specs.Limits.{script_limit, IsScriptName}
+use Rattle.managesieve_sessions.specs.Scripts.{HasRoom, IsValidScript}
+use Rattle.store_engine.specs.declared.answer.Answer.{Answer}
+use Rattle.store_engine.specs.declared.answer.Answer.TheVariants.{Changed, Stored, Closed, Opened, Removed, NoticesTaken, Refused}
+use Rattle.store_engine.specs.declared.upkeep.Upkeep.{Upkeep}
+use Rattle.store_engine.specs.declared.upkeep.Upkeep.TheVariants.{SetPassword, SetAddress, StoreScript, CloseAccount, OpenAccount, RemoveAccount, TakeNotices}
+use Rattle.store_engine.specs.Limits.{IsOwnAddress}
+use Rattle.store_engine.specs.OwnActs.{is_lost}
+use Rattle.store_engine.specs.Upkeep.{rounds, kept_password, Alters, OnlyAnswers, InAccount, stores, Stores, OpensClosed, Removes, DoesUpkeep, instead}
 
 -- ---- an answer that is lost
 
@@ -23,17 +23,17 @@ module _ (answer : Answer) (change : Option Account) (lost : (said : Answer) →
   in_account None row stays is = is.stays
   in_account (Some a) row stays is = stays a is
 
-  opens_lost : (a : Account) → Opens a answer change → change ≡ None
-  opens_lost a is = go (is_closed a) is
+  opens_lost : (a : Account) → OpensClosed a answer change → change ≡ None
+  opens_lost a is = go (is_closed_account a) is
     where
-      go : (b : Bool) → MatchBool b (Alters Opened (opens rounds a) answer change) (Tells (Refused UserIsOpen) answer change) → change ≡ None
+      go : (b : Bool) → MatchBool b (Alters Opened (opens rounds a) answer change) (OnlyAnswers (Refused UserIsOpen) answer change) → change ≡ None
       go true told = altered_never Opened (opens rounds a) refl told
       go false told = told.stays
 
   removes_lost : (mail : Bool) (a : Account) → Removes mail a answer change → change ≡ None
   removes_lost mail a is = go (not mail && has_mail a) is
     where
-      go : (b : Bool) → MatchBool b (Tells (Refused UserHasMail) answer change) (Alters Removed (removes a) answer change) → change ≡ None
+      go : (b : Bool) → MatchBool b (OnlyAnswers (Refused UserHasMail) answer change) (Alters Removed (removes a) answer change) → change ≡ None
       go true told = told.stays
       go false told = altered_never Removed (removes a) refl told
 
@@ -42,10 +42,10 @@ module _ (answer : Answer) (change : Option Account) (lost : (said : Answer) →
   stores_lost name text activate a (inl (room, inr (wrong, is))) = is.2.stays
   stores_lost name text activate a (inr (full, is)) = is.stays
 
-  pub lost_stays : (upkeep : Upkeep) (account : Option Account) → Keeps upkeep account answer change → change ≡ None
-  lost_stays (SetPassword salt password) account (inl (fit, is)) = in_account (open_one account) _ (λ a. altered_never Changed (guards (kept_password salt password) a) refl) is
+  pub lost_stays : (upkeep : Upkeep) (account : Option Account) → DoesUpkeep upkeep account answer change → change ≡ None
+  lost_stays (SetPassword salt password) account (inl (fit, is)) = in_account (open_one account) _ (λ a. altered_never Changed (changes_password (kept_password salt password) a) refl) is
   lost_stays (SetPassword salt password) account (inr (unfit, is)) = is.stays
-  lost_stays (SetAddress address) account (inl (fit, is)) = in_account (open_one account) _ (λ a. altered_never Changed (addresses address a) refl) is
+  lost_stays (SetAddress address) account (inl (fit, is)) = in_account (open_one account) _ (λ a. altered_never Changed (changes_address address a) refl) is
   lost_stays (SetAddress address) account (inr (unfit, is)) = is.stays
   lost_stays (StoreScript name text activate) account (inl (named, inl (short, is))) = in_account (open_one account) _ (stores_lost name text activate) is
   lost_stays (StoreScript name text activate) account (inl (named, inr (long, is))) = is.stays
@@ -60,7 +60,7 @@ module _ (answer : Answer) (change : Option Account) (lost : (said : Answer) →
 both_altered : (said : Answer) (a : Account) (answer : Answer) (one two : Option Account) → Alters said a answer one → Alters said a answer two → one ≡ two
 both_altered said a answer one two is was = is.changed ∙ sym was.changed
 
-both_told : (said other : Answer) (answer : Answer) (one two : Option Account) → Tells said answer one → Tells other answer two → one ≡ two
+both_told : (said other : Answer) (answer : Answer) (one two : Option Account) → OnlyAnswers said answer one → OnlyAnswers other answer two → one ≡ two
 both_told said other answer one two is was = is.stays ∙ sym was.stays
 
 in_one : (answer : Answer) (one two : Option Account) (o : Option Account) (row : Account → Answer → Option Account → Type 0) → ((a : Account) → row a answer one → row a answer two → one ≡ two)
@@ -69,19 +69,19 @@ in_one answer one two None row same is was = is.stays ∙ sym was.stays
 in_one answer one two (Some a) row same is was = same a is was
 
 module _ (answer : Answer) (one two : Option Account) where
-  opens_one : (a : Account) → Opens a answer one → Opens a answer two → one ≡ two
-  opens_one a is was = go (is_closed a) is was
+  opens_one : (a : Account) → OpensClosed a answer one → OpensClosed a answer two → one ≡ two
+  opens_one a is was = go (is_closed_account a) is was
     where
-      go : (b : Bool) → MatchBool b (Alters Opened (opens rounds a) answer one) (Tells (Refused UserIsOpen) answer one)
-          → MatchBool b (Alters Opened (opens rounds a) answer two) (Tells (Refused UserIsOpen) answer two) → one ≡ two
+      go : (b : Bool) → MatchBool b (Alters Opened (opens rounds a) answer one) (OnlyAnswers (Refused UserIsOpen) answer one)
+          → MatchBool b (Alters Opened (opens rounds a) answer two) (OnlyAnswers (Refused UserIsOpen) answer two) → one ≡ two
       go true h k = h.changed ∙ sym k.changed
       go false h k = h.stays ∙ sym k.stays
 
   removes_one : (mail : Bool) (a : Account) → Removes mail a answer one → Removes mail a answer two → one ≡ two
   removes_one mail a is was = go (not mail && has_mail a) is was
     where
-      go : (b : Bool) → MatchBool b (Tells (Refused UserHasMail) answer one) (Alters Removed (removes a) answer one)
-          → MatchBool b (Tells (Refused UserHasMail) answer two) (Alters Removed (removes a) answer two) → one ≡ two
+      go : (b : Bool) → MatchBool b (OnlyAnswers (Refused UserHasMail) answer one) (Alters Removed (removes a) answer one)
+          → MatchBool b (OnlyAnswers (Refused UserHasMail) answer two) (Alters Removed (removes a) answer two) → one ≡ two
       go true h k = h.stays ∙ sym k.stays
       go false h k = h.changed ∙ sym k.changed
 
@@ -94,7 +94,7 @@ module _ (answer : Answer) (one two : Option Account) where
   stores_one name text activate a (inl (room, is)) (inr (full, was)) = absurd (full room)
   stores_one name text activate a (inr (full, is)) (inl (room, was)) = absurd (full room)
 
-  pub keeps_one : (upkeep : Upkeep) (account : Option Account) → Keeps upkeep account answer one → Keeps upkeep account answer two → one ≡ two
+  pub keeps_one : (upkeep : Upkeep) (account : Option Account) → DoesUpkeep upkeep account answer one → DoesUpkeep upkeep account answer two → one ≡ two
   keeps_one (SetPassword salt password) account (inl (fit, is)) (inl (too, was)) = in_one answer one two (open_one account) _ (λ a h k. h.changed ∙ sym k.changed) is was
   keeps_one (SetPassword salt password) account (inr (unfit, is)) (inr (too, was)) = is.stays ∙ sym was.stays
   keeps_one (SetPassword salt password) account (inl (fit, is)) (inr (unfit, was)) = absurd (unfit fit)
@@ -119,15 +119,15 @@ module _ (answer : Answer) (one two : Option Account) where
 
 -- what holds of an account holds of it whatever an administrator makes of it
 pub record LastsThrough (P : Account → Type 0) : Type 0 where
-  pub guarded : (a : Account) (password : Password) → P a → P (guards password a)
-  pub addressed : (a : Account) (address : List ℕ) → IsOwnAddress address → P a → P (addresses address a)
-  pub stored : (a : Account) (name text : List ℕ) (activate : Bool) → IsScriptName name → length text ≤ script_limit → IsValid text → HasRoom a name → P a → P (stores name text activate a)
-  pub counted : (a : Account) (rounds : ℕ) → P a → P (rounds_set rounds a)
+  pub guarded : (a : Account) (password : Password) → P a → P (changes_password password a)
+  pub addressed : (a : Account) (address : List ℕ) → IsOwnAddress address → P a → P (changes_address address a)
+  pub stored : (a : Account) (name text : List ℕ) (activate : Bool) → IsScriptName name → length text ≤ script_limit → IsValidScript text → HasRoom a name → P a → P (stores name text activate a)
+  pub counted : (a : Account) (rounds : ℕ) → P a → P (with_password_rounds rounds a)
   pub removed : (a : Account) → P a → P (removes a)
   pub noticed : (a : Account) (until : ℕ) → P a → P (takes_notices until a)
 
 module _ (P : Account → Type 0) (lasts : LastsThrough P) (answer : Answer) (change : Option Account) where
-  told : (said : Answer) → Tells said answer change → IfSome change P
+  told : (said : Answer) → OnlyAnswers said answer change → IfSome change P
   told said is = subst (λ o. IfSome o P) (sym is.stays) tt
 
   altered : (said : Answer) (b : Account) → P b → Alters said b answer change → IfSome change P
@@ -143,23 +143,23 @@ module _ (P : Account → Type 0) (lasts : LastsThrough P) (answer : Answer) (ch
 
   open_holds : (o : Option Account) → IfSome o P → IfSome (open_one o) P
   open_holds None holds = tt
-  open_holds (Some a) holds = unless_holds (is_closed a) a holds
+  open_holds (Some a) holds = unless_holds (is_closed_account a) a holds
 
   known_holds : (o : Option Account) → IfSome o P → IfSome (known_one o) P
   known_holds None holds = tt
   known_holds (Some a) holds = unless_holds (is_removed a) a holds
 
-  opens_holds : (a : Account) → P a → Opens a answer change → IfSome change P
-  opens_holds a holds is = go (is_closed a) is
+  opens_holds : (a : Account) → P a → OpensClosed a answer change → IfSome change P
+  opens_holds a holds is = go (is_closed_account a) is
     where
-      go : (b : Bool) → MatchBool b (Alters Opened (opens rounds a) answer change) (Tells (Refused UserIsOpen) answer change) → IfSome change P
+      go : (b : Bool) → MatchBool b (Alters Opened (opens rounds a) answer change) (OnlyAnswers (Refused UserIsOpen) answer change) → IfSome change P
       go true h = altered Opened (opens rounds a) (lasts.counted a rounds holds) h
       go false h = told (Refused UserIsOpen) h
 
   removes_holds : (mail : Bool) (a : Account) → P a → Removes mail a answer change → IfSome change P
   removes_holds mail a holds is = go (not mail && has_mail a) is
     where
-      go : (b : Bool) → MatchBool b (Tells (Refused UserHasMail) answer change) (Alters Removed (removes a) answer change) → IfSome change P
+      go : (b : Bool) → MatchBool b (OnlyAnswers (Refused UserHasMail) answer change) (Alters Removed (removes a) answer change) → IfSome change P
       go true h = told (Refused UserHasMail) h
       go false h = altered Removed (removes a) (lasts.removed a holds) h
 
@@ -168,11 +168,11 @@ module _ (P : Account → Type 0) (lasts : LastsThrough P) (answer : Answer) (ch
   stores_holds name text activate named short a holds (inl (room, inr (wrong, is))) = told _ is.2
   stores_holds name text activate named short a holds (inr (full, is)) = told _ is
 
-  pub keeps_holds : (upkeep : Upkeep) (account : Option Account) → IfSome account P → Keeps upkeep account answer change → IfSome change P
+  pub keeps_holds : (upkeep : Upkeep) (account : Option Account) → IfSome account P → DoesUpkeep upkeep account answer change → IfSome change P
   keeps_holds (SetPassword salt password) account holds (inl (fit, is)) =
-      in_holds (open_one account) _ (open_holds account holds) (λ a h. altered Changed (guards (kept_password salt password) a) (lasts.guarded a (kept_password salt password) h)) is
+      in_holds (open_one account) _ (open_holds account holds) (λ a h. altered Changed (changes_password (kept_password salt password) a) (lasts.guarded a (kept_password salt password) h)) is
   keeps_holds (SetPassword salt password) account holds (inr (unfit, is)) = told _ is
-  keeps_holds (SetAddress address) account holds (inl (fit, is)) = in_holds (open_one account) _ (open_holds account holds) (λ a h. altered Changed (addresses address a) (lasts.addressed a address fit h)) is
+  keeps_holds (SetAddress address) account holds (inl (fit, is)) = in_holds (open_one account) _ (open_holds account holds) (λ a h. altered Changed (changes_address address a) (lasts.addressed a address fit h)) is
   keeps_holds (SetAddress address) account holds (inr (unfit, is)) = told _ is
   keeps_holds (StoreScript name text activate) account holds (inl (named, inl (short, is))) = in_holds (open_one account) _ (open_holds account holds) (stores_holds name text activate named short) is
   keeps_holds (StoreScript name text activate) account holds (inl (named, inr (long, is))) = told _ is
@@ -183,7 +183,7 @@ module _ (P : Account → Type 0) (lasts : LastsThrough P) (answer : Answer) (ch
   keeps_holds (TakeNotices until) account holds is = in_holds (open_one account) _ (open_holds account holds) (λ a h. altered NoticesTaken (takes_notices until a) (lasts.noticed a until h)) is
 
   -- the account that is there afterwards
-  pub instead_holds : (upkeep : Upkeep) (account : Option Account) → IfSome account P → Keeps upkeep account answer change → IfSome (instead change account) P
+  pub instead_holds : (upkeep : Upkeep) (account : Option Account) → IfSome account P → DoesUpkeep upkeep account answer change → IfSome (instead change account) P
   instead_holds upkeep account holds is = go change (keeps_holds upkeep account holds is)
     where
       go : (o : Option Account) → IfSome o P → IfSome (instead o account) P

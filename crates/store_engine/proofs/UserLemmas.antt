@@ -2,23 +2,23 @@
 use Rattle.std.proofs.Common.{◌≡◌, ℕ, Bool, true, false, cond, is_some, List, Option, Some, None, option_map, Ok, Err, Result, MatchBool, OnOk, OnErr, IfOk, IfErr, IsSome, refl, sym, ap, ◌∙◌, subst, inl, inr}
 use Rattle.std.specs.FinMap.{get}
 use Rattle.sqlite.specs.State.{State, HasCleanDisk, Survives}
-use Rattle.saslplain.specs.Password.{digest_of}
-use Rattle.mailstore.specs.declared.refusal.Refusal.{Refusal}
-use Rattle.mailstore.specs.declared.refusal.Refusal.TheVariants.{Memory, UserExists, UserHasMail, BadUser}
-use Rattle.mailstore.specs.Account.{Account, Accounts, is_closed, has_mail, new_user, renews, with_user}
-use Rattle.mailstore.specs.Connection.{StaysSame, IsSettled}
-use Rattle.mailstore.specs.Promises.{HasUser, IsFree, HasOurTables, Keeps, Turns, CrashLeavesAccounts, Writes, WritesUser}
-use Rattle.mailstore.specs.Refusals.{IsTransient}
-use Rattle.mailstore.specs.Shows.{Presents}
-use Rattle.sessions.proofs.ActLemmas.{no_glance, glanced, read_shows, acts_read, acts_made, acts_undone}
-use Rattle.mailengine.specs.declared.answer.Answer.{Answer}
-use Rattle.mailengine.specs.declared.answer.Answer.TheVariants.{Added, Refused}
-use Rattle.mailengine.specs.declared.standing.Standing.{Standing}
-use Rattle.mailengine.specs.AccountEvents.{Refuses, Renews, AddsUnder, Addition}
-use Rattle.mailengine.specs.Hosts.{ActsBy, TurnsBy, MayTurnBy, MayRefuseAddition, RefusesAddition, ActsAddition}
-use Rattle.mailengine.specs.Limits.{IsNewUser}
-use Rattle.mailengine.specs.Lookups.{standing_of, over_standing, ReadsStanding}
-use Rattle.mailengine.specs.Upkeep.{rounds, kept_password}
+use Rattle.sasl_plain.specs.Password.{digest_of}
+use Rattle.store_accounts.specs.declared.refusal.Refusal.{Refusal}
+use Rattle.store_accounts.specs.declared.refusal.Refusal.TheVariants.{Memory, UserExists, UserHasMail, BadUser}
+use Rattle.store_accounts.specs.Account.{Account, Accounts, is_closed_account, has_mail, new_user, renews, with_user}
+use Rattle.store_accounts.specs.Connection.{StaysSame, IsSettled}
+use Rattle.store_accounts.specs.Promises.{HasUser, IsFree, HasOurTables, KeepsTables, ChangesAccounts, CrashLeavesAccounts, WritesStore, WritesUser}
+use Rattle.store_accounts.specs.Refusals.{IsTransient}
+use Rattle.store_accounts.specs.Shows.{Presents}
+use Rattle.managesieve_sessions.proofs.ActLemmas.{no_glance, glanced, read_shows, acts_read, acts_made, acts_undone}
+use Rattle.store_engine.specs.declared.answer.Answer.{Answer}
+use Rattle.store_engine.specs.declared.answer.Answer.TheVariants.{Added, Refused}
+use Rattle.store_engine.specs.declared.standing.Standing.{Standing}
+use Rattle.store_engine.specs.AccountEvents.{MachineRefuses, Renews, AddsUnder, Addition}
+use Rattle.store_engine.specs.Hosts.{ActsBy, TurnsBy, MayTurnBy, MayRefuseAddition, RefusesAddition, ActsAddition}
+use Rattle.store_engine.specs.Limits.{IsNewUser}
+use Rattle.store_engine.specs.Lookups.{standing_of, over_standing, ReadsStanding}
+use Rattle.store_engine.specs.Upkeep.{rounds, kept_password}
 
 -- which refusals an account of the name gives
 pub over_named : (o : Option Standing) (refusal : Refusal) (P : Refusal → Type 0) → P UserExists → P UserHasMail → over_standing o ≡ Some refusal → P refusal
@@ -51,8 +51,8 @@ name_free o none (Some account) is = absurd (let no : true ≡ false = sym (ap i
 
 -- a write after how the account stands was read: one row by which the accounts turn, and what is told of it
 module _ (Row : Accounts → Answer → Accounts → Type 0) (May : Refusal → Type 0) (told : Answer) (transient_turn : (e : Refusal) (accounts : Accounts) → IsTransient e → TurnsBy Row May (Refused e) accounts accounts)
-    (a b c : State) (r : Result (Option Standing) Refusal) (o : Option Standing) (was : r ≡ Ok o) (k : Keeps a b r) (Fit : Accounts → Type 0) (change : Accounts → Accounts)
-    (fits : HasCleanDisk b → (accounts : Accounts) → Presents a.now accounts → Fit accounts × Row accounts told (change accounts)) (w : Result (Unit {0}) Refusal) (made : HasCleanDisk c → OnOk w (Turns Fit change b.now c.now))
+    (a b c : State) (r : Result (Option Standing) Refusal) (o : Option Standing) (was : r ≡ Ok o) (k : KeepsTables a b r) (Fit : Accounts → Type 0) (change : Accounts → Accounts)
+    (fits : HasCleanDisk b → (accounts : Accounts) → Presents a.now accounts → Fit accounts × Row accounts told (change accounts)) (w : Result (Unit {0}) Refusal) (made : HasCleanDisk c → OnOk w (ChangesAccounts Fit change b.now c.now))
     (settled : HasCleanDisk c → OnOk w (IsSettled c)) (same : HasCleanDisk c → HasOurTables b.now → OnErr w (StaysSame b c)) (crash : Survives b c (CrashLeavesAccounts Fit change b)) where
   pub written_by : (q : Result (Unit {0}) Refusal) → w ≡ q → IfErr q IsTransient → ActsBy Row May (λ done. told) a c q
   written_by (Ok y) done transient =
@@ -97,10 +97,10 @@ module _ (name address salt password : List ℕ) where
       -- the name has an account that stands against it
       over_turn : (refusal : Refusal) (accounts : Accounts) (has : Option Account) → over_standing (option_map standing_of has) ≡ Some refusal → AddsUnder accounts name address salt password has (Refused refusal) accounts
       over_turn refusal accounts None is = absurd (let no = is in cc)
-      over_turn refusal accounts (Some account) is = go (is_closed account) (has_mail account) is
+      over_turn refusal accounts (Some account) is = go (is_closed_account account) (has_mail account) is
         where
           go : (closed full : Bool) → cond closed (cond full (Some UserHasMail) None) (Some UserExists) ≡ Some refusal
-              → MatchBool closed (MatchBool full (Refuses UserHasMail accounts (Refused refusal) accounts) (Renews accounts name address salt password (Refused refusal) accounts)) (Refuses UserExists accounts (Refused refusal) accounts)
+              → MatchBool closed (MatchBool full (MachineRefuses UserHasMail accounts (Refused refusal) accounts) (Renews accounts name address salt password (Refused refusal) accounts)) (MachineRefuses UserExists accounts (Refused refusal) accounts)
           go true true e = let same : UserHasMail ≡ refusal = cc in record { refused = ap Refused (sym same); stays = refl }
           go true false e = absurd (let no = e in cc)
           go false full e = let same : UserExists ≡ refusal = cc in record { refused = ap Refused (sym same); stays = refl }
@@ -113,12 +113,12 @@ module _ (name address salt password : List ℕ) where
 
       -- the write, whatever it is
       module _ (Fit : Accounts → Type 0) (change : Accounts → Accounts) (fits : HasCleanDisk b → (accounts : Accounts) → Presents a.now accounts → Fit accounts × Row accounts Added (change accounts))
-          (c : State) (w : Result (Unit {0}) Refusal) (late : Writes Fit change b c w) where
+          (c : State) (w : Result (Unit {0}) Refusal) (late : WritesStore Fit change b c w) where
         written : (q : Result (Unit {0}) Refusal) → w ≡ q → IfErr q IsTransient → ActsAddition name address salt password a c q
         written = written_by Row May Added transient_turn a b c r o was read.keeps Fit change fits w late.made late.settled (λ clean tables. late.same clean) late.crash
 
       -- the name has no account, and a new one is written
-      pub addition_written : is_some o ≡ false → (c : State) (w : Result (Unit {0}) Refusal) → Writes (IsFree name) (new_user name address salt rounds (digest_of salt password rounds)) b c w → ActsAddition name address salt password a c w
+      pub addition_written : is_some o ≡ false → (c : State) (w : Result (Unit {0}) Refusal) → WritesStore (IsFree name) (new_user name address salt rounds (digest_of salt password rounds)) b c w → ActsAddition name address salt password a c w
       addition_written none c w late = written (IsFree name) (new_user name address salt rounds (digest_of salt password rounds)) fits c w late w refl late.named
         where
           fits : HasCleanDisk b → (accounts : Accounts) → Presents a.now accounts → IsFree name accounts × Row accounts Added (new_user name address salt rounds (digest_of salt password rounds) accounts)
@@ -132,10 +132,10 @@ module _ (name address salt password : List ℕ) where
 
       renew_turn : is_some o ≡ true → over_standing o ≡ None → (accounts : Accounts) (has : Option Account) → o ≡ option_map standing_of has → IsSome has × AddsUnder accounts name address salt password has Added (renewed accounts)
       renew_turn some clear accounts None is = absurd (let no : false ≡ true = sym (ap is_some is) ∙ some in cc)
-      renew_turn some clear accounts (Some account) is = (refl, go (is_closed account) (has_mail account) (sym (ap over_standing is) ∙ clear))
+      renew_turn some clear accounts (Some account) is = (refl, go (is_closed_account account) (has_mail account) (sym (ap over_standing is) ∙ clear))
         where
           go : (closed full : Bool) → cond closed (cond full (Some UserHasMail) None) (Some UserExists) ≡ None
-              → MatchBool closed (MatchBool full (Refuses UserHasMail accounts Added (renewed accounts)) (Renews accounts name address salt password Added (renewed accounts))) (Refuses UserExists accounts Added (renewed accounts))
+              → MatchBool closed (MatchBool full (MachineRefuses UserHasMail accounts Added (renewed accounts)) (Renews accounts name address salt password Added (renewed accounts))) (MachineRefuses UserExists accounts Added (renewed accounts))
           go true true e = absurd (let no = e in cc)
           go true false e = record { added = refl; changed = refl }
           go false full e = absurd (let no = e in cc)

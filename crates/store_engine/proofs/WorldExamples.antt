@@ -6,29 +6,29 @@ use Rattle.std.specs.Map.{lookup}
 use Rattle.std.specs.Ordering.{nat_cmp}
 use Rattle.std.specs.BTreeMap as tree
 use Rattle.std.specs.BTreeMap.{BTreeMap}
-use Rattle.msproto.specs.Machine.{rows}
-use Rattle.msproto.specs.Replies.{spelled}
-use Rattle.mailstore.specs.Account.{bytes_cmp, Account, open_one}
-use Rattle.mailstore.specs.declared.refusal.Refusal.{Refusal}
-use Rattle.mailstore.specs.declared.refusal.Refusal.TheVariants.{Memory, Store, NotOurs, NoUser, TooLarge, BadEnvelope, BadMoment, UserExists, BadUser, NoRow, AccountClosed, UserIsOpen, UserHasMail, BadScriptName, ScriptTooLarge, TooManyScripts, BadAccount}
-use Rattle.sieveexec.specs.declared.envelope.Envelope.{Envelope}
-use Rattle.sessions.specs.Clients.{Client, new_client, client_given}
-use Rattle.sessions.specs.Counts.{SessionView}
-use Rattle.sessions.specs.GivenUp.{text_given_up, client_given_up, progress_given_up}
-use Rattle.sessions.specs.Replies.{capabilities, done, try_later}
-use Rattle.sessions.specs.Steps.{progress_of, may_fail, may_lack}
-use Rattle.sessions.specs.declared.progress.Progress.{Progress}
-use Rattle.sessions.specs.declared.progress.Progress.TheVariants as p
-use Rattle.mailengine.specs.declared.event.Event.TheVariants.{Open, Give, Step, GiveUp, Close, Deliver, AddUser, TakeOut}
-use Rattle.mailengine.specs.declared.answer.Answer.{Answer}
-use Rattle.mailengine.specs.declared.answer.Answer.TheVariants.{Out, Ignored, Taken, Refused}
-use Rattle.mailengine.specs.Limits.{limit_refusal}
-use Rattle.mailengine.specs.AccountEvents.{TakesIn}
-use Rattle.mailengine.specs.World.{World, Clients, with_session, without_session, Becomes, Opens, InSession, Steps, Happens, if_open, MayRefuse, IsRefused, Next, Runs}
-use Rattle.mailengine.specs.Hosts.{HasClients, MayRefuseDelivery, RefusesTaking, answer_by}
-use Rattle.mailengine.proofs.AloneLemmas.{put_own}
-use Rattle.sieveexec.specs.declared.when.When.{When}
-use Rattle.mailengine.proofs.HostLemmas.{clients_are}
+use Rattle.managesieve_protocol.specs.Machine.{rows}
+use Rattle.managesieve_protocol.specs.Replies.{reply_octets}
+use Rattle.store_accounts.specs.Account.{bytes_cmp, Account, open_one}
+use Rattle.store_accounts.specs.declared.refusal.Refusal.{Refusal}
+use Rattle.store_accounts.specs.declared.refusal.Refusal.TheVariants.{Memory, Store, NotOurs, NoUser, TooLarge, BadEnvelope, BadMoment, UserExists, BadUser, NoRow, AccountClosed, UserIsOpen, UserHasMail, BadScriptName, ScriptTooLarge, TooManyScripts, BadAccount}
+use Rattle.sieve_exec.specs.declared.envelope.Envelope.{Envelope}
+use Rattle.managesieve_sessions.specs.Clients.{Client, new_client, client_given}
+use Rattle.managesieve_sessions.specs.Counts.{SessionView}
+use Rattle.managesieve_sessions.specs.GivenUp.{text_given_up, client_given_up, progress_given_up}
+use Rattle.managesieve_sessions.specs.Replies.{capability_reply, done_reply, try_later}
+use Rattle.managesieve_sessions.specs.Steps.{progress_of, may_fail, may_lack}
+use Rattle.managesieve_sessions.specs.declared.progress.Progress.{Progress}
+use Rattle.managesieve_sessions.specs.declared.progress.Progress.TheVariants as p
+use Rattle.store_engine.specs.declared.event.Event.TheVariants.{Open, Give, Step, GiveUp, Close, Deliver, AddUser, TakeOut}
+use Rattle.store_engine.specs.declared.answer.Answer.{Answer}
+use Rattle.store_engine.specs.declared.answer.Answer.TheVariants.{Out, Ignored, Taken, Refused}
+use Rattle.store_engine.specs.Limits.{limit_refusal}
+use Rattle.store_engine.specs.AccountEvents.{TakesFromQueue}
+use Rattle.store_engine.specs.World.{World, Clients, with_session, without_session, WorldBecomes, OpensSession, InSession, StepsSession, EventHappens, if_open, MayRefuseEvent, IsEventRefused, Next, Runs}
+use Rattle.store_engine.specs.Hosts.{HasClients, MayRefuseDelivery, RefusesTaking, answer_by}
+use Rattle.store_engine.proofs.AloneLemmas.{put_own}
+use Rattle.sieve_exec.specs.declared.when.When.{When}
+use Rattle.store_engine.proofs.HostLemmas.{clients_are}
 
 abbrev alice : List ℕ
 alice = codes "alice"
@@ -57,13 +57,13 @@ at_eight c = get-insert nat_cmp_total empty 7 c 8 ∙ get-empty nat_cmp 8
 
 -- ---- a client comes
 
-greeted : Happens nothing (Open 7) (Out p.Done (spelled (capabilities None))) (seven new_client)
-greeted = subst (λ o. Opens nothing 7 o (Out p.Done (spelled (capabilities None))) (seven new_client)) (sym (get-empty nat_cmp 7)) (record { says = refl; changed = refl })
+greeted : EventHappens nothing (Open 7) (Out p.Done (reply_octets (capability_reply None))) (seven new_client)
+greeted = subst (λ o. OpensSession nothing 7 o (Out p.Done (reply_octets (capability_reply None))) (seven new_client)) (sym (get-empty nat_cmp 7)) (record { says = refl; changed = refl })
 
 -- near miss: under a number that is open already
-greeted_twice : (c : Client) (progress : Progress) (octets : List ℕ) (next : World) → Happens (seven c) (Open 7) (Out progress octets) next → ⊥
+greeted_twice : (c : Client) (progress : Progress) (octets : List ℕ) (next : World) → EventHappens (seven c) (Open 7) (Out progress octets) next → ⊥
 greeted_twice c progress octets next is =
-    let made = subst (λ o. Opens (seven c) 7 o (Out progress octets) next) (at_seven c) is in
+    let made = subst (λ o. OpensSession (seven c) 7 o (Out progress octets) next) (at_seven c) is in
     let no : Out progress octets ≡ Ignored = made.ignored in
     cc
 
@@ -72,9 +72,9 @@ greeted_twice c progress octets next is =
 abbrev half : World
 half = seven (after (codes "NO"))
 
-given : Happens half (Give 7 (codes "OP")) (Out p.Done []) (with_session 7 (after (codes "NOOP")) half)
+given : EventHappens half (Give 7 (codes "OP")) (Out p.Done []) (with_session 7 (after (codes "NOOP")) half)
 given =
-    subst (λ o. InSession half o (λ c. Becomes (Out (progress_of c) []) (with_session 7 (client_given (codes "OP") c) half)) (Out p.Done []) (with_session 7 (after (codes "NOOP")) half)) (sym (at_seven (after (codes "NO"))))
+    subst (λ o. InSession half o (λ c. WorldBecomes (Out (progress_of c) []) (with_session 7 (client_given (codes "OP") c) half)) (Out p.Done []) (with_session 7 (after (codes "NOOP")) half)) (sym (at_seven (after (codes "NO"))))
     (record { says = refl; changed = refl })
 
 -- near misses: the octets are dropped; they come under a number that isn't open
@@ -82,18 +82,18 @@ unread_of : Option Client → List ℕ
 unread_of None = []
 unread_of (Some c) = c.unread
 
-given_dropped : Happens half (Give 7 (codes "OP")) (Out p.Done []) half → ⊥
+given_dropped : EventHappens half (Give 7 (codes "OP")) (Out p.Done []) half → ⊥
 unfolding unread_of
 given_dropped is =
-    let made = subst (λ o. InSession half o (λ c. Becomes (Out (progress_of c) []) (with_session 7 (client_given (codes "OP") c) half)) (Out p.Done []) half) (at_seven (after (codes "NO"))) is in
+    let made = subst (λ o. InSession half o (λ c. WorldBecomes (Out (progress_of c) []) (with_session 7 (client_given (codes "OP") c) half)) (Out p.Done []) half) (at_seven (after (codes "NO"))) is in
     let same : Some (after (codes "NO")) ≡ Some (after (codes "NOOP")) =
     sym (at_seven (after (codes "NO"))) ∙ (ap (λ (w : World). get w.sessions 7) made.changed ∙ get-insert nat_cmp_total (seven (after (codes "NO"))).sessions 7 (after (codes "NOOP")) 7) in
     let no : ◌≡◌ {A = ℕ} 2 4 = ap (λ o. length (unread_of o)) same in
     cc
 
-given_nobody : (c : Client) (progress : Progress) (octets : List ℕ) (next : World) → Happens (seven c) (Give 8 octets) (Out progress []) next → ⊥
+given_nobody : (c : Client) (progress : Progress) (octets : List ℕ) (next : World) → EventHappens (seven c) (Give 8 octets) (Out progress []) next → ⊥
 given_nobody c progress octets next is =
-    let made = subst (λ o. InSession (seven c) o (λ d. Becomes (Out (progress_of d) []) (with_session 8 (client_given octets d) (seven c))) (Out progress []) next) (at_eight c) is in
+    let made = subst (λ o. InSession (seven c) o (λ d. WorldBecomes (Out (progress_of d) []) (with_session 8 (client_given octets d) (seven c))) (Out progress []) next) (at_eight c) is in
     let no : Out progress [] ≡ Ignored = made.ignored in
     cc
 
@@ -102,27 +102,27 @@ given_nobody c progress octets next is =
 abbrev noop : List ℕ
 noop = line (codes "NOOP")
 
-stepped : Happens (seven (after (noop ++ noop))) (Step 7) (Out p.Done (spelled done)) (with_session 7 (after noop) (seven (after (noop ++ noop))))
+stepped : EventHappens (seven (after (noop ++ noop))) (Step 7) (Out p.Done (reply_octets done_reply)) (with_session 7 (after noop) (seven (after (noop ++ noop))))
 unfolding rows
-stepped = subst (λ o. InSession (seven (after (noop ++ noop))) o (Steps (seven (after (noop ++ noop))) 7) (Out p.Done (spelled done)) (with_session 7 (after noop) (seven (after (noop ++ noop))))) (sym (at_seven (after (noop ++ noop))))
+stepped = subst (λ o. InSession (seven (after (noop ++ noop))) o (StepsSession (seven (after (noop ++ noop))) 7) (Out p.Done (reply_octets done_reply)) (with_session 7 (after noop) (seven (after (noop ++ noop))))) (sym (at_seven (after (noop ++ noop))))
     (record {
       goes_on = p.Done;
-      octets = spelled done;
+      octets = reply_octets done_reply;
       client = after noop;
       accounts = empty;
-      step = record { reply = done; replies = refl; spelled = refl; session = refl; goes_on = refl; changed = refl };
+      step = record { reply = done_reply; replies = refl; spelled = refl; session = refl; goes_on = refl; changed = refl };
       says = refl;
       changed = refl;
     })
 
 -- near miss: both items are answered in one step
-stepped_twice : (next : World) → Happens (seven (after (noop ++ noop))) (Step 7) (Out p.Done (spelled done ++ spelled done)) next → ⊥
+stepped_twice : (next : World) → EventHappens (seven (after (noop ++ noop))) (Step 7) (Out p.Done (reply_octets done_reply ++ reply_octets done_reply)) next → ⊥
 unfolding rows
 stepped_twice next is =
-    let made = subst (λ o. InSession (seven (after (noop ++ noop))) o (Steps (seven (after (noop ++ noop))) 7) (Out p.Done (spelled done ++ spelled done)) next) (at_seven (after (noop ++ noop))) is in
-    let says : made.octets ≡ spelled done = made.step.spelled ∙ ap spelled made.step.replies in
-    let both : Out p.Done (spelled done ++ spelled done) ≡ Out made.goes_on made.octets = made.says in
-    let no : spelled done ++ spelled done ≡ spelled done = let same : spelled done ++ spelled done ≡ made.octets = cc in same ∙ says in
+    let made = subst (λ o. InSession (seven (after (noop ++ noop))) o (StepsSession (seven (after (noop ++ noop))) 7) (Out p.Done (reply_octets done_reply ++ reply_octets done_reply)) next) (at_seven (after (noop ++ noop))) is in
+    let says : made.octets ≡ reply_octets done_reply = made.step.spelled ∙ ap reply_octets made.step.replies in
+    let both : Out p.Done (reply_octets done_reply ++ reply_octets done_reply) ≡ Out made.goes_on made.octets = made.says in
+    let no : reply_octets done_reply ++ reply_octets done_reply ≡ reply_octets done_reply = let same : reply_octets done_reply ++ reply_octets done_reply ≡ made.octets = cc in same ∙ says in
     let odd : ◌≡◌ {A = ℕ} 24 12 = ap length no in
     cc
 
@@ -137,14 +137,14 @@ refused_step = inr (record { refusal = Store; may = ap (if_open may_fail) (at_se
 -- near misses: a refused step that changes an account; a step without an item that is refused for memory
 refused_step_writes : (c : Client) (a : Account) (sessions : Clients) → Next (seven c) (Step 7) (Refused Store) (record { accounts = insert empty alice a; sessions = sessions }) → ⊥
 refused_step_writes c a sessions (inl is) =
-    let made = subst (λ o. InSession (seven c) o (Steps (seven c) 7) (Refused Store) (record { accounts = insert empty alice a; sessions = sessions })) (at_seven c) is in
+    let made = subst (λ o. InSession (seven c) o (StepsSession (seven c) 7) (Refused Store) (record { accounts = insert empty alice a; sessions = sessions })) (at_seven c) is in
     let no : Refused Store ≡ Out made.goes_on made.octets = made.says in
     cc
 refused_step_writes c a sessions (inr is) =
     let no : Some a ≡ None = sym (put_own empty alice a refl) ∙ (ap (λ (w : World). get w.accounts alice) is.stays ∙ get-empty bytes_cmp alice) in
     cc
 
-refused_half : MayRefuse (seven (after (codes "NO"))) (Step 7) Memory → ⊥
+refused_half : MayRefuseEvent (seven (after (codes "NO"))) (Step 7) Memory → ⊥
 unfolding rows
 refused_half is = let no : false ≡ true = sym (ap (if_open may_lack) (at_seven (after (codes "NO")))) ∙ is in cc
 
@@ -153,16 +153,16 @@ refused_half is = let no : false ≡ true = sym (ap (if_open may_lack) (at_seven
 abbrev one_and_half : World
 one_and_half = seven (after (noop ++ codes "NO"))
 
-given_up : Happens one_and_half (GiveUp 7) (Out p.Done (spelled try_later)) (with_session 7 (after (codes "NO")) one_and_half)
+given_up : EventHappens one_and_half (GiveUp 7) (Out p.Done (reply_octets try_later)) (with_session 7 (after (codes "NO")) one_and_half)
 unfolding rows
-given_up = subst (λ o. InSession one_and_half o (λ c. Becomes (Out (progress_given_up c) (text_given_up c)) (with_session 7 (client_given_up c) one_and_half)) (Out p.Done (spelled try_later)) (with_session 7 (after (codes "NO")) one_and_half)) (sym (at_seven (after (noop ++ codes "NO"))))
+given_up = subst (λ o. InSession one_and_half o (λ c. WorldBecomes (Out (progress_given_up c) (text_given_up c)) (with_session 7 (client_given_up c) one_and_half)) (Out p.Done (reply_octets try_later)) (with_session 7 (after (codes "NO")) one_and_half)) (sym (at_seven (after (noop ++ codes "NO"))))
     (record { says = refl; changed = refl })
 
 -- near miss: giving up is refused
-refused_to_give_up : (w next : World) (answer : Answer) → IsRefused w (GiveUp 7) answer next → ⊥
+refused_to_give_up : (w next : World) (answer : Answer) → IsEventRefused w (GiveUp 7) answer next → ⊥
 refused_to_give_up w next answer is = never is.refusal is.may
   where
-    never : (refusal : Refusal) → MayRefuse w (GiveUp 7) refusal → ⊥
+    never : (refusal : Refusal) → MayRefuseEvent w (GiveUp 7) refusal → ⊥
     never Memory may = may
     never Store may = may
     never NotOurs may = may
@@ -183,13 +183,13 @@ refused_to_give_up w next answer is = never is.refusal is.may
 
 -- ---- a client goes
 
-closed : (c : Client) → Happens (seven c) (Close 7) (Out p.Close []) (without_session 7 (seven c))
-closed c = subst (λ o. InSession (seven c) o (λ d. Becomes (Out p.Close []) (without_session 7 (seven c))) (Out p.Close []) (without_session 7 (seven c))) (sym (at_seven c)) (record { says = refl; changed = refl })
+closed : (c : Client) → EventHappens (seven c) (Close 7) (Out p.Close []) (without_session 7 (seven c))
+closed c = subst (λ o. InSession (seven c) o (λ d. WorldBecomes (Out p.Close []) (without_session 7 (seven c))) (Out p.Close []) (without_session 7 (seven c))) (sym (at_seven c)) (record { says = refl; changed = refl })
 
 -- near miss: the number stays open
-closed_not : (c : Client) (answer : Answer) → Happens (seven c) (Close 7) answer (seven c) → ⊥
+closed_not : (c : Client) (answer : Answer) → EventHappens (seven c) (Close 7) answer (seven c) → ⊥
 closed_not c answer is =
-    let made = subst (λ o. InSession (seven c) o (λ d. Becomes (Out p.Close []) (without_session 7 (seven c))) answer (seven c)) (at_seven c) is in
+    let made = subst (λ o. InSession (seven c) o (λ d. WorldBecomes (Out p.Close []) (without_session 7 (seven c))) answer (seven c)) (at_seven c) is in
     let no : Some c ≡ None = sym (at_seven c) ∙ (ap (λ (w : World). get w.sessions 7) made.changed ∙ get-remove nat_cmp_total (seven c).sessions 7 7) in
     cc
 
@@ -199,24 +199,24 @@ abbrev envelope : Envelope
 envelope = record { from = []; to = codes "alice@example.org" }
 
 -- sessions stay as they are; near miss: one of them is gone
-row_of_none : (c : Client) → Happens (seven c) (TakeOut alice 1) (Refused NoUser) (seven c)
-row_of_none c = (empty, subst (λ o. TakesIn empty alice 1 o (Refused NoUser) empty) (sym (ap open_one (get-empty bytes_cmp alice))) (record { refused = refl; stays = refl }), refl)
+row_of_none : (c : Client) → EventHappens (seven c) (TakeOut alice 1) (Refused NoUser) (seven c)
+row_of_none c = (empty, subst (λ o. TakesFromQueue empty alice 1 o (Refused NoUser) empty) (sym (ap open_one (get-empty bytes_cmp alice))) (record { refused = refl; stays = refl }), refl)
 
-delivered_and_closed : (c : Client) (message : List ℕ) (when : When) (default : Option (List ℕ)) (answer : Answer) → Happens (seven c) (Deliver alice envelope message when default) answer nothing → ⊥
+delivered_and_closed : (c : Client) (message : List ℕ) (when : When) (default : Option (List ℕ)) (answer : Answer) → EventHappens (seven c) (Deliver alice envelope message when default) answer nothing → ⊥
 delivered_and_closed c message when default answer is =
     let no : None ≡ Some c = sym (get-empty nat_cmp 7) ∙ (ap (λ (w : World). get w.sessions 7) is.2 ∙ at_seven c) in
     cc
 
 -- near misses: the store refuses what a limit stands against, and a user whose name has a blank
-late_told_as_store : (w : World) (when : When) (default : Option (List ℕ)) → when.moment ≡ 253402300800 → MayRefuse w (Deliver alice envelope [] when default) Store → ⊥
+late_told_as_store : (w : World) (when : When) (default : Option (List ℕ)) → when.moment ≡ 253402300800 → MayRefuseEvent w (Deliver alice envelope [] when default) Store → ⊥
 late_told_as_store w when default late may = let no : Some BadMoment ≡ None = sym (ap (limit_refusal envelope []) late) ∙ may in cc
 
-blank_told_as_store : (w : World) (address salt password : List ℕ) → MayRefuse w (AddUser (codes "a b") address salt password) Store → ⊥
+blank_told_as_store : (w : World) (address salt password : List ℕ) → MayRefuseEvent w (AddUser (codes "a b") address salt password) Store → ⊥
 blank_told_as_store w address salt password may = let no : false ≡ true = may.named in cc
 
 -- ---- runs
 
-come_and_gone : Runs nothing (Open 7 ∷ Close 7 ∷ []) (Out p.Done (spelled (capabilities None)) ∷ Out p.Close [] ∷ []) (without_session 7 (seven new_client))
+come_and_gone : Runs nothing (Open 7 ∷ Close 7 ∷ []) (Out p.Done (reply_octets (capability_reply None)) ∷ Out p.Close [] ∷ []) (without_session 7 (seven new_client))
 come_and_gone = (seven new_client, inl greeted, (without_session 7 (seven new_client), inl (closed new_client), refl))
 
 -- near miss: an event without an answer

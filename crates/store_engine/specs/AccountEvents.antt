@@ -2,31 +2,31 @@
 -- (RFC 5228, 2.10). What an administrator does to one account is in `Upkeep`.
 use Rattle.std.specs.Prelude.{◌≡◌, ℕ, true, cond, List, [], ◌∷◌, Option, Some, None, MatchBool}
 use Rattle.std.specs.FinMap.{empty, get, insert}
-use Rattle.accountfiles.specs.declared.head.Head.{Head}
-use Rattle.accountfiles.specs.declared.part.Part.{Part}
-use Rattle.addrparts.specs.declared.address.Addr.{Addr}
-use Rattle.addrparts.specs.Outbound.{IsBareAddress}
-use Rattle.saslplain.specs.Password.{digest_of}
-use Rattle.mailstore.specs.Account.{Account, Accounts, Scripts, is_closed, is_removed, open_of, has_mail, renews, new_user, with_user, messages_in, row_with, takes_out, takes_mail}
-use Rattle.mailstore.specs.Whole.{password_of, whole, takes_whole}
-use Rattle.mailstore.specs.declared.queue.Outgoing.{Outgoing}
-use Rattle.mailstore.specs.declared.report.Report.{Report}
-use Rattle.mailstore.specs.declared.refusal.Refusal.{Refusal}
-use Rattle.mailstore.specs.declared.refusal.Refusal.TheVariants.{NoUser, UserExists, BadUser, NoRow, AccountClosed, UserHasMail, BadAccount}
-use Rattle.sieveexec.specs.declared.envelope.Envelope.{Envelope}
-use Rattle.sieveexec.specs.Mails.{mail_of}
-use Rattle.deliverplan.specs.Delivered.{Delivers}
-use Rattle.sessions.specs.Scripts.{Where}
-use Rattle.mailengine.specs.declared.answer.Answer.{Answer}
-use Rattle.mailengine.specs.declared.answer.Answer.TheVariants.{Delivered, Added, Imported, Taken, MailTaken, Refused}
-use Rattle.mailengine.specs.Limits.{limit_refusal, is_user_name, IsNewUser}
-use Rattle.mailengine.specs.Importable.{may_guard, have_short_flags}
-use Rattle.mailengine.specs.Sound.{IsSound}
-use Rattle.mailengine.specs.Terms.{Terms}
-use Rattle.mailengine.specs.Upkeep.{rounds, kept_password}
+use Rattle.store_text.specs.declared.head.AccountHead.{AccountHead}
+use Rattle.store_text.specs.declared.part.Part.{Part}
+use Rattle.mail_address.specs.declared.address.Addr.{Addr}
+use Rattle.mail_address.specs.Outbound.{IsBareAddress}
+use Rattle.sasl_plain.specs.Password.{digest_of}
+use Rattle.store_accounts.specs.Account.{Account, Accounts, Scripts, is_closed_account, is_removed, open_account_of, has_mail, renews, new_user, with_user, messages_in, row_with, takes_out, takes_mail}
+use Rattle.store_accounts.specs.Whole.{password_of, whole, takes_whole}
+use Rattle.store_accounts.specs.declared.queue.QueuedMessage.{QueuedMessage}
+use Rattle.store_accounts.specs.declared.report.Report.{Report}
+use Rattle.store_accounts.specs.declared.refusal.Refusal.{Refusal}
+use Rattle.store_accounts.specs.declared.refusal.Refusal.TheVariants.{NoUser, UserExists, BadUser, NoRow, AccountClosed, UserHasMail, BadAccount}
+use Rattle.sieve_exec.specs.declared.envelope.Envelope.{Envelope}
+use Rattle.sieve_exec.specs.Mails.{mail_spec_of}
+use Rattle.sieve_plan.specs.Delivered.{Delivers}
+use Rattle.managesieve_sessions.specs.Scripts.{IfElse}
+use Rattle.store_engine.specs.declared.answer.Answer.{Answer}
+use Rattle.store_engine.specs.declared.answer.Answer.TheVariants.{Delivered, Added, Imported, Taken, MailTaken, Refused}
+use Rattle.store_engine.specs.Limits.{limit_refusal, is_user_name, IsNewUser}
+use Rattle.store_engine.specs.Importable.{may_guard, have_short_flags}
+use Rattle.store_engine.specs.Sound.{IsSoundAccount}
+use Rattle.store_engine.specs.Terms.{Terms}
+use Rattle.store_engine.specs.Upkeep.{rounds, kept_password}
 
 -- the event is refused by the machine itself, and nothing changes
-pub record Refuses {X : Type 0} (refusal : Refusal) (x : X) (answer : Answer) (later : X) : Type 0 where
+pub record MachineRefuses {X : Type 0} (refusal : Refusal) (x : X) (answer : Answer) (later : X) : Type 0 where
   pub refused : answer ≡ Refused refusal
   pub stays : later ≡ x
 
@@ -42,18 +42,18 @@ abbrev pub active_text : Account → Option (List ℕ)
 active_text a = text_named a.scripts a.active
 
 -- the text by which an account's mail is delivered: that of its active script, and if none is active the host's default, if there is one
-abbrev pub text_or : Option (List ℕ) → Option (List ℕ) → Option (List ℕ)
-text_or None default = default
-text_or (Some text) default = Some text
+abbrev pub script_or_default : Option (List ℕ) → Option (List ℕ) → Option (List ℕ)
+script_or_default None default = default
+script_or_default (Some text) default = Some text
 
 abbrev pub deciding_text : Option (List ℕ) → Account → Option (List ℕ)
-deciding_text default a = text_or (active_text a) default
+deciding_text default a = script_or_default (active_text a) default
 
 -- a message is delivered to an account: to the address that it has, under the text that decides
 pub record DeliversTo (terms : Terms) (envelope : Envelope) (message : List ℕ) (a : Account) (report : Report) (a2 : Account) : Type 0 where
   pub own : Addr
   pub address : IsBareAddress a.address own
-  pub delivers : Delivers own (mail_of message envelope terms.when) (deciding_text terms.default a) a report a2
+  pub delivers : Delivers own (mail_spec_of message envelope terms.when) (deciding_text terms.default a) a report a2
 
 -- a delivery to the user: the account is as after it, and no other changes
 pub record DeliversUser (accounts : Accounts) (user : List ℕ) (terms : Terms) (envelope : Envelope) (message : List ℕ)
@@ -71,13 +71,13 @@ absence (Some a) = cond (is_removed a) NoUser AccountClosed
 
 -- depending on the open account of the user, if there is one
 abbrev pub DeliversIn : Accounts → List ℕ → Terms → Envelope → List ℕ → Option Account → Answer → Accounts → Type 0
-DeliversIn accounts user terms envelope message None answer later = Refuses (absence (get accounts user)) accounts answer later
+DeliversIn accounts user terms envelope message None answer later = MachineRefuses (absence (get accounts user)) accounts answer later
 DeliversIn accounts user terms envelope message (Some a) answer later = DeliversUser accounts user terms envelope message a answer later
 
 -- depending on the limit that forbids it, if there is one
 abbrev pub DeliversUnder : Option Refusal → Accounts → List ℕ → Terms → Envelope → List ℕ → Answer → Accounts → Type 0
-DeliversUnder (Some refusal) accounts user terms envelope message answer later = Refuses refusal accounts answer later
-DeliversUnder None accounts user terms envelope message answer later = DeliversIn accounts user terms envelope message (open_of accounts user) answer later
+DeliversUnder (Some refusal) accounts user terms envelope message answer later = MachineRefuses refusal accounts answer later
+DeliversUnder None accounts user terms envelope message answer later = DeliversIn accounts user terms envelope message (open_account_of accounts user) answer later
 
 abbrev pub Delivery : Accounts → List ℕ → Envelope → List ℕ → Terms → Answer → Accounts → Type 0
 Delivery accounts user envelope message terms answer later =
@@ -98,9 +98,9 @@ pub record Renews (accounts : Accounts) (name address salt password : List ℕ) 
 -- over an account that has the name: one that is open stays, and so does one that is closed and has mail, so that nobody's mail is lost or comes to another
 abbrev pub AddsOver : Accounts → List ℕ → List ℕ → List ℕ → List ℕ → Account → Answer → Accounts → Type 0
 AddsOver accounts name address salt password a answer later =
-    MatchBool (is_closed a)
-    (MatchBool (has_mail a) (Refuses UserHasMail accounts answer later) (Renews accounts name address salt password answer later))
-    (Refuses UserExists accounts answer later)
+    MatchBool (is_closed_account a)
+    (MatchBool (has_mail a) (MachineRefuses UserHasMail accounts answer later) (Renews accounts name address salt password answer later))
+    (MachineRefuses UserExists accounts answer later)
 
 -- depending on the account that has the name, if one has
 abbrev pub AddsUnder : Accounts → List ℕ → List ℕ → List ℕ → List ℕ → Option Account → Answer → Accounts → Type 0
@@ -109,63 +109,63 @@ AddsUnder accounts name address salt password (Some a) answer later = AddsOver a
 
 abbrev pub Addition : Accounts → List ℕ → List ℕ → List ℕ → List ℕ → Answer → Accounts → Type 0
 Addition accounts name address salt password answer later =
-    Where (IsNewUser name address password) (AddsUnder accounts name address salt password (get accounts name) answer later)
-    (Refuses BadUser accounts answer later)
+    IfElse (IsNewUser name address password) (AddsUnder accounts name address salt password (get accounts name) answer later)
+    (MachineRefuses BadUser accounts answer later)
 
 -- ---- a whole account, as a text says it (`whole`)
 
 -- an account of this text may be kept: its name is a user's, its password one that accounts have, its copies have no longer flags than a
 -- delivery gives them, and what the text makes is sound
-pub record IsImportable (head : Head) (parts : List Part) : Type 0 where
+pub record IsImportable (head : AccountHead) (parts : List Part) : Type 0 where
   pub named : is_user_name head.owner.name ≡ true
   pub guarded : may_guard (password_of head) ≡ true
   pub flagged : have_short_flags parts ≡ true
-  pub sound : IsSound (whole head parts empty)
+  pub sound : IsSoundAccount (whole head parts empty)
 
 -- it is there, as the text says
-pub record Imports (accounts : Accounts) (head : Head) (parts : List Part) (answer : Answer) (later : Accounts) : Type 0 where
+pub record Imports (accounts : Accounts) (head : AccountHead) (parts : List Part) (answer : Answer) (later : Accounts) : Type 0 where
   pub imported : answer ≡ Imported
   pub changed : later ≡ insert accounts head.owner.name (whole head parts empty)
 
 -- it takes the place of a closed one, of whose moments of replies those stay that are later than the text's, or that the text lacks
-pub record Replaces (accounts : Accounts) (head : Head) (parts : List Part) (answer : Answer) (later : Accounts) : Type 0 where
+pub record Replaces (accounts : Accounts) (head : AccountHead) (parts : List Part) (answer : Answer) (later : Accounts) : Type 0 where
   pub imported : answer ≡ Imported
   pub changed : later ≡ with_user accounts head.owner.name (takes_whole head parts)
 
 -- over an account that has the name: one that is open stays, and so does one that is closed and has mail, so that nobody's mail is lost
-abbrev pub ImportsOver : Accounts → Head → List Part → Account → Answer → Accounts → Type 0
+abbrev pub ImportsOver : Accounts → AccountHead → List Part → Account → Answer → Accounts → Type 0
 ImportsOver accounts head parts a answer later =
-    MatchBool (is_closed a)
-    (MatchBool (has_mail a) (Refuses UserHasMail accounts answer later) (Replaces accounts head parts answer later))
-    (Refuses UserExists accounts answer later)
+    MatchBool (is_closed_account a)
+    (MatchBool (has_mail a) (MachineRefuses UserHasMail accounts answer later) (Replaces accounts head parts answer later))
+    (MachineRefuses UserExists accounts answer later)
 
 -- depending on the account that has the name, if one has
-abbrev pub ImportsUnder : Accounts → Head → List Part → Option Account → Answer → Accounts → Type 0
+abbrev pub ImportsUnder : Accounts → AccountHead → List Part → Option Account → Answer → Accounts → Type 0
 ImportsUnder accounts head parts None answer later = Imports accounts head parts answer later
 ImportsUnder accounts head parts (Some a) answer later = ImportsOver accounts head parts a answer later
 
-abbrev pub Importing : Accounts → Head → List Part → Answer → Accounts → Type 0
+abbrev pub Importing : Accounts → AccountHead → List Part → Answer → Accounts → Type 0
 Importing accounts head parts answer later =
-    Where (IsImportable head parts) (ImportsUnder accounts head parts (get accounts head.owner.name) answer later)
-    (Refuses BadAccount accounts answer later)
+    IfElse (IsImportable head parts) (ImportsUnder accounts head parts (get accounts head.owner.name) answer later)
+    (MachineRefuses BadAccount accounts answer later)
 
 -- ---- a row taken out of the queue
 
 -- the row is returned, and no longer queued; its number isn't used again
-pub record Takes (accounts : Accounts) (user : List ℕ) (row : Outgoing) (answer : Answer) (later : Accounts) : Type 0 where
+pub record Takes (accounts : Accounts) (user : List ℕ) (row : QueuedMessage) (answer : Answer) (later : Accounts) : Type 0 where
   pub taken : answer ≡ Taken row
   pub changed : later ≡ with_user accounts user (takes_out row.id)
 
-abbrev pub TakesRow : Accounts → List ℕ → Option Outgoing → Answer → Accounts → Type 0
-TakesRow accounts user None answer later = Refuses NoRow accounts answer later
-TakesRow accounts user (Some row) answer later = Takes accounts user row answer later
+abbrev pub TakesQueueRow : Accounts → List ℕ → Option QueuedMessage → Answer → Accounts → Type 0
+TakesQueueRow accounts user None answer later = MachineRefuses NoRow accounts answer later
+TakesQueueRow accounts user (Some row) answer later = Takes accounts user row answer later
 
-abbrev pub TakesIn : Accounts → List ℕ → ℕ → Option Account → Answer → Accounts → Type 0
-TakesIn accounts user id None answer later = Refuses NoUser accounts answer later
-TakesIn accounts user id (Some a) answer later = TakesRow accounts user (row_with id a.queue) answer later
+abbrev pub TakesFromQueue : Accounts → List ℕ → ℕ → Option Account → Answer → Accounts → Type 0
+TakesFromQueue accounts user id None answer later = MachineRefuses NoUser accounts answer later
+TakesFromQueue accounts user id (Some a) answer later = TakesQueueRow accounts user (row_with id a.queue) answer later
 
 abbrev pub Taking : Accounts → List ℕ → ℕ → Answer → Accounts → Type 0
-Taking accounts user id answer later = TakesIn accounts user id (open_of accounts user) answer later
+Taking accounts user id answer later = TakesFromQueue accounts user id (open_account_of accounts user) answer later
 
 -- ---- a message taken out of a folder
 
@@ -176,12 +176,12 @@ pub record LosesMail (accounts : Accounts) (user folder : List ℕ) (answer : An
 
 -- depending on the messages that the folder has
 abbrev pub TakesFirst : Accounts → List ℕ → List ℕ → List (List ℕ) → Answer → Accounts → Type 0
-TakesFirst accounts user folder [] answer later = Refuses NoRow accounts answer later
+TakesFirst accounts user folder [] answer later = MachineRefuses NoRow accounts answer later
 TakesFirst accounts user folder (message ∷ more) answer later = LosesMail accounts user folder answer later
 
 abbrev pub TakesMailIn : Accounts → List ℕ → List ℕ → Option Account → Answer → Accounts → Type 0
-TakesMailIn accounts user folder None answer later = Refuses NoUser accounts answer later
+TakesMailIn accounts user folder None answer later = MachineRefuses NoUser accounts answer later
 TakesMailIn accounts user folder (Some a) answer later = TakesFirst accounts user folder (messages_in a.folders folder) answer later
 
 abbrev pub MailTaking : Accounts → List ℕ → List ℕ → Answer → Accounts → Type 0
-MailTaking accounts user folder answer later = TakesMailIn accounts user folder (open_of accounts user) answer later
+MailTaking accounts user folder answer later = TakesMailIn accounts user folder (open_account_of accounts user) answer later

@@ -4,57 +4,57 @@ use Rattle.std.specs.FinMap.{get, from_entries}
 use Rattle.std.specs.Ordering.{nat_cmp}
 use Rattle.std.specs.BTreeMap as tree
 use Rattle.std.specs.BTreeMap.{BTreeMap}
-use Rattle.accountfiles.specs.declared.head.Head.{Head}
-use Rattle.accountfiles.specs.declared.part.Part.{Part}
+use Rattle.store_text.specs.declared.head.AccountHead.{AccountHead}
+use Rattle.store_text.specs.declared.part.Part.{Part}
 use Rattle.sqlite_trees.specs.Tree.{Trees}
 use Rattle.sqlite_trees.specs.declared.store.Store.{Ghosts}
 use Rattle.sqlite.specs.Held.{Held, state}
 use Rattle.sqlite.specs.State.{State, HasCleanDisk, Survives}
-use Rattle.mailstore.specs.Account.{Accounts}
-use Rattle.mailstore.specs.Refusals.{IsTransient}
-use Rattle.mailstore.specs.Shows.{Presents, ShowsIn}
-use Rattle.sieveexec.specs.declared.envelope.Envelope.{Envelope}
-use Rattle.mailstore.specs.declared.queue.Outgoing.{Outgoing}
-use Rattle.mailstore.specs.declared.report.Report.{Report}
-use Rattle.mailstore.specs.declared.refusal.Refusal.{Refusal}
-use Rattle.mailstore.specs.declared.refusal.Refusal.TheVariants.{Memory, Store, NoUser, UserExists, BadUser, NoRow, AccountClosed, UserHasMail, BadAccount}
-use Rattle.sessions.specs.Acts.{HasAccounts, Acts, Lasts}
-use Rattle.sessions.specs.Counts.{SessionView}
-use Rattle.sessions.specs.GivenUp.{text_given_up}
-use Rattle.sessions.specs.Steps.{may_fail}
-use Rattle.mailengine.specs.declared.event.Event.TheVariants.{Open, Give, Step, Close, Deliver, GiveUp}
-use Rattle.mailengine.specs.OwnActs.{IsAlone}
-use Rattle.mailengine.specs.Spacing.{IsSpaced}
-use Rattle.mailengine.specs.declared.event.Event.{Event}
-use Rattle.mailengine.specs.declared.answer.Answer.{Answer}
-use Rattle.mailengine.specs.declared.machine.World.{World as Machine}
-use Rattle.mailengine.specs.declared.clients.Clients.{Clients as Sessions}
-use Rattle.mailengine.specs.declared.answer.Answer.TheVariants.{Delivered, Added, Imported, Taken, MailTaken, Refused}
-use Rattle.mailengine.specs.AccountEvents.{Delivery, Addition, IsImportable, Importing, Taking, MailTaking}
-use Rattle.mailengine.specs.declared.upkeep.Upkeep.{Upkeep}
-use Rattle.mailengine.specs.Upkeep.{Keeping, IsFit, MayLackFor}
-use Rattle.mailengine.specs.Limits.{limit_refusal, IsNewUser}
-use Rattle.mailengine.specs.Terms.{Terms}
-use Rattle.mailengine.specs.World.{World, Clients, if_open, Next, Runs}
+use Rattle.store_accounts.specs.Account.{Accounts}
+use Rattle.store_accounts.specs.Refusals.{IsTransient}
+use Rattle.store_accounts.specs.Shows.{Presents, ShowsIn}
+use Rattle.sieve_exec.specs.declared.envelope.Envelope.{Envelope}
+use Rattle.store_accounts.specs.declared.queue.QueuedMessage.{QueuedMessage}
+use Rattle.store_accounts.specs.declared.report.Report.{Report}
+use Rattle.store_accounts.specs.declared.refusal.Refusal.{Refusal}
+use Rattle.store_accounts.specs.declared.refusal.Refusal.TheVariants.{Memory, Store, NoUser, UserExists, BadUser, NoRow, AccountClosed, UserHasMail, BadAccount}
+use Rattle.managesieve_sessions.specs.Acts.{HasAccounts, Acts, Lasts}
+use Rattle.managesieve_sessions.specs.Counts.{SessionView}
+use Rattle.managesieve_sessions.specs.GivenUp.{text_given_up}
+use Rattle.managesieve_sessions.specs.Steps.{may_fail}
+use Rattle.store_engine.specs.declared.event.Event.TheVariants.{Open, Give, Step, Close, Deliver, GiveUp}
+use Rattle.store_engine.specs.OwnActs.{IsAlone}
+use Rattle.store_engine.specs.Spacing.{IsSpaced}
+use Rattle.store_engine.specs.declared.event.Event.{Event}
+use Rattle.store_engine.specs.declared.answer.Answer.{Answer}
+use Rattle.store_engine.specs.declared.machine.World.{World as Machine}
+use Rattle.store_engine.specs.declared.clients.Clients.{Clients as Sessions}
+use Rattle.store_engine.specs.declared.answer.Answer.TheVariants.{Delivered, Added, Imported, Taken, MailTaken, Refused}
+use Rattle.store_engine.specs.AccountEvents.{Delivery, Addition, IsImportable, Importing, Taking, MailTaking}
+use Rattle.store_engine.specs.declared.upkeep.Upkeep.{Upkeep}
+use Rattle.store_engine.specs.Upkeep.{Keeping, IsFit, MayLackFor}
+use Rattle.store_engine.specs.Limits.{limit_refusal, IsNewUser}
+use Rattle.store_engine.specs.Terms.{Terms}
+use Rattle.store_engine.specs.World.{World, Clients, if_open, Next, Runs}
 
 -- sessions by their numbers, as the code keeps them
-abbrev pub Kept : Type 0
-Kept = BTreeMap ℕ SessionView
+abbrev pub SessionMap : Type 0
+SessionMap = BTreeMap ℕ SessionView
 
 -- the sessions that a map has, by their numbers
-abbrev pub clients_of : Kept → Clients
+abbrev pub clients_of : SessionMap → Clients
 clients_of kept = from_entries (map (λ entry. (entry.0, entry.1.client)) kept.entries)
 
 -- under each number there is the same session, or none
-abbrev pub HasClients : Kept → Clients → Type 0
+abbrev pub HasClients : SessionMap → Clients → Type 0
 HasClients kept clients = (s : ℕ) → option_map (λ session. session.client) (tree.get nat_cmp kept s) ≡ get clients s
 
 -- a store and the sessions beside it
 pub record Host : Type 1 where
   pub store : State
-  pub sessions : Kept
+  pub sessions : SessionMap
 
-abbrev pub host : State → Kept → Host
+abbrev pub host : State → SessionMap → Host
 host store sessions = record { store = store; sessions = sessions }
 
 -- from the values of the code
@@ -73,23 +73,23 @@ pub record Implements (h : Host) (w : World) : Type 0 where
 -- ---- one event
 
 -- the event, of sessions alone, with this answer, whatever the world was: no account changes
-abbrev pub IsSessionEvent : Event → Answer → Kept → Kept → Type 0
+abbrev pub IsSessionEvent : Event → Answer → SessionMap → SessionMap → Type 0
 IsSessionEvent event answer before after =
     (w : World) → HasClients before w.sessions
     → (clients : Clients) × Next w event answer (record { accounts = w.accounts; sessions = clients }) × HasClients after clients
 
 -- whatever sessions there were are still there
-abbrev pub KeepsClients : Kept → Kept → Type 0
+abbrev pub KeepsClients : SessionMap → SessionMap → Type 0
 KeepsClients before after = (clients : Clients) → HasClients before clients → HasClients after clients
 
 -- the event asks a store: one of the accounts, or a step whose command does
-abbrev pub AsksStore : Event → Kept → Type 0
-AsksStore (Open s) kept = ⊥
-AsksStore (Give s piece) kept = ⊥
-AsksStore (GiveUp s) kept = ⊥
-AsksStore (Close s) kept = ⊥
-AsksStore (Step s) kept = if_open may_fail (option_map (λ session. session.client) (tree.get nat_cmp kept s)) ≡ true
-AsksStore event kept = Unit {0}
+abbrev pub EventAsksStore : Event → SessionMap → Type 0
+EventAsksStore (Open s) kept = ⊥
+EventAsksStore (Give s piece) kept = ⊥
+EventAsksStore (GiveUp s) kept = ⊥
+EventAsksStore (Close s) kept = ⊥
+EventAsksStore (Step s) kept = if_open may_fail (option_map (λ session. session.client) (tree.get nat_cmp kept s)) ≡ true
+EventAsksStore event kept = Unit {0}
 
 -- a client's first item is given up
 abbrev pub IsGivenUp : Event → Type 0
@@ -103,7 +103,7 @@ IsMade answer = Unit {0}
 
 -- the event leads from this world to that, which the store and its sessions then implement; and if it was made, over a connection that was
 -- open, the connection is still open, the store shows that world's accounts, and so does what a crash leaves (`Lasts`)
-pub record Leads (w : World) (event : Event) (answer : Answer) (old new : Host) (next : World) : Type 0 where
+pub record EventLeads (w : World) (event : Event) (answer : Answer) (old new : Host) (next : World) : Type 0 where
   pub is_next : Next w event answer next
   pub implements : Implements new next
   pub lasts : IsMade answer → IsTrue old.store.is_open → Lasts w.accounts next.accounts old.store new.store
@@ -111,7 +111,7 @@ pub record Leads (w : World) (event : Event) (answer : Answer) (old new : Host) 
 -- it leads from one store and its sessions to another by this event with this answer, whatever the world was
 abbrev pub IsEvent : Event → Answer → Host → Host → Type 0
 IsEvent event answer old new =
-    HasCleanDisk new.store → (w : World) → Implements old w → (next : World) × Leads w event answer old new next
+    HasCleanDisk new.store → (w : World) → Implements old w → (next : World) × EventLeads w event answer old new next
 
 -- what a crash leaves of the event shows the accounts of a world after it, as a whole
 abbrev pub EventCrashLeaves : Event → Host → Trees → Type 0
@@ -124,19 +124,19 @@ abbrev pub SurvivesEvent : Event → Host → Host → Type 0
 SurvivesEvent event old new = Survives old.store new.store (EventCrashLeaves event old)
 
 -- a text that was prepared for the event: that of giving up, if it is one
-abbrev pub IsPrepared : Event → Kept → List ℕ → Type 0
+abbrev pub IsPrepared : Event → SessionMap → List ℕ → Type 0
 IsPrepared (GiveUp s) kept text = IfSome (tree.get nat_cmp kept s) (λ session. text ≡ text_given_up session.client)
 IsPrepared event kept text = Unit {0}
 
 -- ---- events in order
 
 -- the events that were answered: the first ones, one for each answer
-abbrev pub answered : List Event → List Answer → List Event
-answered events answers = take (length answers) events
+abbrev pub answered_events : List Event → List Answer → List Event
+answered_events events answers = take (length answers) events
 
 -- it leads from one store and its sessions to another by these events with these answers, whatever the world was
-abbrev pub IsRun : List Event → List Answer → Host → Host → Type 0
-IsRun events answers old new =
+abbrev pub IsHostRun : List Event → List Answer → Host → Host → Type 0
+IsHostRun events answers old new =
     HasCleanDisk new.store → (w : World) → Implements old w → (end : World) × Runs w events answers end × Implements new end
 
 -- a run in which each user is alone: its account at the end is what its own acts make of the one at the start, and each answer among
@@ -200,7 +200,7 @@ abbrev pub MayRefuseAddition : List ℕ → List ℕ → List ℕ → Refusal �
 MayRefuseAddition name address password refusal = (refusal ≡ Memory) ⊎ ((refusal ≡ Store) × IsNewUser name address password)
 
 -- and an account of a text by the store only if it may be kept
-abbrev pub MayRefuseImport : Head → List Part → Refusal → Type 0
+abbrev pub MayRefuseImport : AccountHead → List Part → Refusal → Type 0
 MayRefuseImport head parts refusal = (refusal ≡ Memory) ⊎ ((refusal ≡ Store) × IsImportable head parts)
 
 -- how a delivery changes the store
@@ -222,11 +222,11 @@ ActsAddition name address salt password =
     ActsBy (λ accounts. Addition accounts name address salt password) (MayRefuseAddition name address password) (λ done. Added)
 
 -- how an account of a text changes it
-abbrev pub ActsImport : Head → List Part → State → State → Result (Unit {0}) Refusal → Type 0
+abbrev pub ActsImport : AccountHead → List Part → State → State → Result (Unit {0}) Refusal → Type 0
 ActsImport head parts = ActsBy (λ accounts. Importing accounts head parts) (MayRefuseImport head parts) (λ done. Imported)
 
 -- how taking out a row changes it
-abbrev pub ActsTaking : List ℕ → ℕ → State → State → Result Outgoing Refusal → Type 0
+abbrev pub ActsTaking : List ℕ → ℕ → State → State → Result QueuedMessage Refusal → Type 0
 ActsTaking user id = ActsBy (λ accounts. Taking accounts user id) IsTransient Taken
 
 -- how taking a message out of a folder changes it
@@ -260,7 +260,7 @@ RefusesAddition name address password refusal =
 
 -- an account of a text is refused if it may not be kept, if its name has an open account, or a closed one with mail, or without
 -- visible cause
-abbrev pub RefusesImport : Head → List Part → Refusal → Type 0
+abbrev pub RefusesImport : AccountHead → List Part → Refusal → Type 0
 RefusesImport head parts refusal =
     ((refusal ≡ BadAccount) × (IsImportable head parts → ⊥))
     ⊎ ((refusal ≡ UserExists) × IsImportable head parts)

@@ -1,12 +1,12 @@
 -- What the scripts, the flags and the password of a text have to be, so that its account may be kept.
 use Rattle.std.specs.Prelude.{◌≤◌, ◌==◌, ◌&&◌, ◌||◌, ℕ, Bool, true, false, not, nat_le, List, length}
 use Rattle.std.specs.List.{AllByRecursion, count_by, list_all}
-use Rattle.accountfiles.specs.declared.part.Part.{Part}
-use Rattle.accountfiles.specs.declared.part.Part.TheVariants.{Script, Mail, Copy}
-use Rattle.sessions.specs.Limits.{scripts_limit}
-use Rattle.mailstore.specs.Account.{Password}
-use Rattle.mailengine.specs.Sound.{IsSoundScript}
-use Rattle.mailengine.specs.Upkeep.{rounds}
+use Rattle.store_text.specs.declared.part.Part.{Part}
+use Rattle.store_text.specs.declared.part.Part.TheVariants.{Script, Mail, Copy}
+use Rattle.managesieve_sessions.specs.Limits.{scripts_limit}
+use Rattle.store_accounts.specs.Account.{Password}
+use Rattle.store_engine.specs.Sound.{IsSoundScript}
+use Rattle.store_engine.specs.Upkeep.{rounds}
 
 -- a script that may be kept, or no script
 abbrev pub IsSoundPart : Part → Type 0

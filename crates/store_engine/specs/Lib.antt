@@ -9,6 +9,6 @@ pub mod Spacing
 pub mod Terms
 pub mod Upkeep
 pub mod World
-pub use Rattle.sievesyntax.specs.Meaning
-pub use Rattle.sievesyntax.specs.Means
-pub use Rattle.sievesyntax.specs.Tree
+pub use Rattle.sieve_syntax.specs.Meaning
+pub use Rattle.sieve_syntax.specs.Means
+pub use Rattle.sieve_syntax.specs.Tree

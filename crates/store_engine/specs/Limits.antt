@@ -2,21 +2,21 @@
 use Rattle.std.specs.Prelude.{◌≡◌, ℕ, Bool, true, cond, not, ◌&&◌, ◌||◌, ◌==◌, nat_le, nat_lt, List, length, Option, Some, None}
 use Rattle.std.specs.List.{list_all, list_any}
 use Rattle.octets.specs.Ascii.{is_letter, is_digit}
-use Rattle.addrparts.specs.declared.address.Addr.{Addr}
-use Rattle.addrparts.specs.Outbound.{IsBareAddress}
-use Rattle.mailstore.specs.declared.refusal.Refusal.{Refusal}
-use Rattle.mailstore.specs.declared.refusal.Refusal.TheVariants.{TooLarge, BadEnvelope, BadMoment}
-use Rattle.sieveexec.specs.declared.envelope.Envelope.{Envelope}
+use Rattle.mail_address.specs.declared.address.Addr.{Addr}
+use Rattle.mail_address.specs.Outbound.{IsBareAddress}
+use Rattle.store_accounts.specs.declared.refusal.Refusal.{Refusal}
+use Rattle.store_accounts.specs.declared.refusal.Refusal.TheVariants.{TooLarge, BadEnvelope, BadMoment}
+use Rattle.sieve_exec.specs.declared.envelope.Envelope.{Envelope}
 
 -- ---- accounts
 
 -- an octet of a user's name: a letter, a digit, or one of `. _ - @`
-abbrev pub is_name_octet : ℕ → Bool
-is_name_octet octet = is_letter octet || is_digit octet || octet == 46 || octet == 95 || octet == 45 || octet == 64
+abbrev pub is_user_octet : ℕ → Bool
+is_user_octet octet = is_letter octet || is_digit octet || octet == 46 || octet == 95 || octet == 45 || octet == 64
 
 -- a user's name: 1 to 64 of these
 abbrev pub is_user_name : List ℕ → Bool
-is_user_name name = nat_le 1 (length name) && nat_le (length name) 64 && list_all is_name_octet name
+is_user_name name = nat_le 1 (length name) && nat_le (length name) 64 && list_all is_user_octet name
 
 -- a password: 1 to 1024 octets without NUL (RFC 4616, 2)
 abbrev pub is_password : List ℕ → Bool

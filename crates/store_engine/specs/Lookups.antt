@@ -2,21 +2,21 @@
 use Rattle.std.specs.Prelude.{◌≡◌, ℕ, cond, List, Option, Some, None, option_map, Result, IfOk, IfErr, IsTrue}
 use Rattle.std.specs.FinMap.{get}
 use Rattle.sqlite.specs.State.{State, HasCleanDisk}
-use Rattle.deliverplan.specs.Views.{IsViewOf}
-use Rattle.mailstore.specs.declared.refusal.Refusal.{Refusal}
-use Rattle.mailstore.specs.declared.refusal.Refusal.TheVariants.{NoUser, UserExists, UserHasMail}
-use Rattle.mailstore.specs.Account.{Account, is_closed, is_removed, has_mail}
-use Rattle.mailstore.specs.AccountRows.{profile_of}
-use Rattle.mailstore.specs.Promises.{Keeps, OverAccounts, Reads}
-use Rattle.mailstore.specs.Refusals.{IsTransient}
-use Rattle.mailengine.specs.declared.account.ActiveScript.{ActiveScript}
-use Rattle.mailengine.specs.declared.delivery.Lookup.{Lookup}
-use Rattle.mailengine.specs.declared.standing.Standing.{Standing}
-use Rattle.mailengine.specs.AccountEvents.{active_text}
+use Rattle.sieve_plan.specs.Views.{IsViewOf}
+use Rattle.store_accounts.specs.declared.refusal.Refusal.{Refusal}
+use Rattle.store_accounts.specs.declared.refusal.Refusal.TheVariants.{NoUser, UserExists, UserHasMail}
+use Rattle.store_accounts.specs.Account.{Account, is_closed_account, is_removed, has_mail}
+use Rattle.store_accounts.specs.AccountRows.{profile_of}
+use Rattle.store_accounts.specs.Promises.{KeepsTables, OverAccounts, ReadsOpenAccount}
+use Rattle.store_accounts.specs.Refusals.{IsTransient}
+use Rattle.store_engine.specs.declared.account.ActiveScript.{ActiveScript}
+use Rattle.store_engine.specs.declared.delivery.Lookup.{Lookup}
+use Rattle.store_engine.specs.declared.standing.Standing.{Standing}
+use Rattle.store_engine.specs.AccountEvents.{active_text}
 
 -- a read of one user's open account; of a store that a fault of the disk has shut it isn't said that the user has none
 pub record LooksUp {X : Type 0} (user : List ℕ) (Part : X → Account → Type 0) (old new : State) (result : Result X Refusal) : Type 0 where
-  pub reads : Reads user Part old new result
+  pub reads : ReadsOpenAccount user Part old new result
   pub sure : HasCleanDisk new → IfErr result (λ e. e ≡ NoUser → IsTrue old.is_open)
 
 -- the account's profile, and the text of its active script
@@ -32,12 +32,12 @@ pub record IsLookup (sender : List ℕ) (lookup : Lookup) (a : Account) : Type 0
 -- ---- how an account stands
 
 abbrev pub standing_of : Account → Standing
-standing_of a = record { is_closed = is_closed a; is_removed = is_removed a; has_mail = has_mail a }
+standing_of a = record { is_closed = is_closed_account a; is_removed = is_removed a; has_mail = has_mail a }
 
 -- a read of how the user's account stands, open or closed; it answers none without an account
 pub record ReadsStanding (user : List ℕ) (old new : State) (result : Result (Option Standing) Refusal) : Type 0 where
   pub found : HasCleanDisk new → OverAccounts old (λ accounts. IfOk result (λ standing. standing ≡ option_map standing_of (get accounts user)))
-  pub keeps : Keeps old new result
+  pub keeps : KeepsTables old new result
   pub named : IfErr result IsTransient
 
 -- why no user can be added over an account that stands so, if it stands against it

@@ -3,28 +3,28 @@ use Rattle.std.specs.Prelude.{◌≡◌, ℕ, ◌+◌, ◌<◌, ◌≤◌, List,
 use mathlib.Core.Logic.{inl, inr}
 use Rattle.std.specs.FinMap.{get}
 use Rattle.octets.specs.Ascii.{lowered}
-use Rattle.accountfiles.specs.Text.{IsTextOf}
-use Rattle.accountfiles.specs.declared.head.Head.{Head}
-use Rattle.accountfiles.specs.declared.part.Part.{Part}
-use Rattle.sievesyntax.specs.declared.tree.vacation.VacArgs.{VacArgs}
-use Rattle.sieveexec.specs.declared.envelope.Envelope.{Envelope}
-use Rattle.vacreply.specs.Cases.{period_of}
-use Rattle.vacreply.specs.Handles.{Handle, handle_of, key_of}
-use Rattle.mailstore.specs.Account.{Account, Accounts, open_of}
-use Rattle.mailstore.specs.Whole.{IsCopyOf}
-use Rattle.mailstore.specs.declared.report.Report.{Report}
-use Rattle.mailstore.specs.declared.report.VacationReport.{VacationReport}
-use Rattle.mailstore.specs.declared.report.VacationReport.TheVariants as V
-use Rattle.mailstore.specs.declared.refusal.Refusal.{Refusal}
-use Rattle.deliverplan.specs.Delivered.{Disposition, Acts, Tells}
-use Rattle.mailengine.specs.declared.event.Event.{Event}
-use Rattle.mailengine.specs.declared.event.Event.TheVariants.{Deliver}
-use Rattle.mailengine.specs.declared.answer.Answer.{Answer}
-use Rattle.mailengine.specs.declared.answer.Answer.TheVariants.{Imported}
-use Rattle.mailengine.specs.Limits.{limit_refusal}
-use Rattle.mailengine.specs.AccountEvents.{DeliversTo, DeliversIn, DeliversUnder, Importing}
-use Rattle.mailengine.specs.Terms.{Terms, terms}
-use Rattle.mailengine.specs.World.{World, Happens, Next, Runs}
+use Rattle.store_text.specs.Text.{IsAccountText}
+use Rattle.store_text.specs.declared.head.AccountHead.{AccountHead}
+use Rattle.store_text.specs.declared.part.Part.{Part}
+use Rattle.sieve_syntax.specs.declared.tree.vacation.VacationArgs.{VacationArgs}
+use Rattle.sieve_exec.specs.declared.envelope.Envelope.{Envelope}
+use Rattle.sieve_vacation.specs.Cases.{period_of}
+use Rattle.sieve_vacation.specs.Handles.{Handle, handle_of, handle_key_of}
+use Rattle.store_accounts.specs.Account.{Account, Accounts, open_account_of}
+use Rattle.store_accounts.specs.Whole.{IsCopyOf}
+use Rattle.store_accounts.specs.declared.report.Report.{Report}
+use Rattle.store_accounts.specs.declared.report.VacationReport.{VacationReport}
+use Rattle.store_accounts.specs.declared.report.VacationReport.TheVariants as V
+use Rattle.store_accounts.specs.declared.refusal.Refusal.{Refusal}
+use Rattle.sieve_plan.specs.Delivered.{Disposition, Acts, Tells}
+use Rattle.store_engine.specs.declared.event.Event.{Event}
+use Rattle.store_engine.specs.declared.event.Event.TheVariants.{Deliver}
+use Rattle.store_engine.specs.declared.answer.Answer.{Answer}
+use Rattle.store_engine.specs.declared.answer.Answer.TheVariants.{Imported}
+use Rattle.store_engine.specs.Limits.{limit_refusal}
+use Rattle.store_engine.specs.AccountEvents.{DeliversTo, DeliversIn, DeliversUnder, Importing}
+use Rattle.store_engine.specs.Terms.{Terms, terms}
+use Rattle.store_engine.specs.World.{World, EventHappens, Next, Runs}
 
 -- to whom a reply went: the user, the handle's key, and the sender, ignoring case
 pub record Thread : Type 0 where
@@ -33,7 +33,7 @@ pub record Thread : Type 0 where
   pub sender : List ℕ
 
 -- a reply that was sent
-pub record Entry : Type 0 where
+pub record SentReply : Type 0 where
   pub thread : Thread
   -- when, in seconds since 1970-01-01 UTC
   pub moment : ℕ
@@ -42,49 +42,49 @@ pub record Entry : Type 0 where
 
 -- ---- what a run sends
 
-abbrev pub entry_of : List ℕ → List ℕ → ℕ → VacArgs → Entry
+abbrev pub entry_of : List ℕ → List ℕ → ℕ → VacationArgs → SentReply
 entry_of user sender moment args =
     record { thread = record { user = user; handle = handle_of args; sender = lowered sender }; moment = moment; period = period_of args }
 
 -- the entry of a `vacation` that was executed, if the report says that a reply was sent
-abbrev pub entries_if : VacationReport → List ℕ → List ℕ → ℕ → Option VacArgs → List Entry
+abbrev pub entries_if : VacationReport → List ℕ → List ℕ → ℕ → Option VacationArgs → List SentReply
 entries_if V.Sent user sender moment (Some args) = entry_of user sender moment args ∷ []
 entries_if vacation user sender moment reply = []
 
 -- the `vacation` that is executed if a message comes to this
-abbrev pub vacation_in : Disposition → Option VacArgs
+abbrev pub vacation_in : Disposition → Option VacationArgs
 vacation_in (Acts deeds) = deeds.reply
 vacation_in (Tells text) = None
 
 -- for a delivery to the user's account as it is
-abbrev pub sent_to : List ℕ → (terms : Terms) (envelope : Envelope) (message : List ℕ) (a : Account) (report : Report) (a2 : Account)
-    → DeliversTo terms envelope message a report a2 → List Entry
-sent_to user terms envelope message a report a2 made = entries_if report.vacation user envelope.from terms.when.moment (vacation_in made.delivers.disposition)
+abbrev pub sent_to_account : List ℕ → (terms : Terms) (envelope : Envelope) (message : List ℕ) (a : Account) (report : Report) (a2 : Account)
+    → DeliversTo terms envelope message a report a2 → List SentReply
+sent_to_account user terms envelope message a report a2 made = entries_if report.vacation user envelope.from terms.when.moment (vacation_in made.delivers.disposition)
 
 abbrev pub sent_in : (accounts : Accounts) (user : List ℕ) (terms : Terms) (envelope : Envelope) (message : List ℕ)
     (account : Option Account) (answer : Answer) (later : Accounts)
-    → DeliversIn accounts user terms envelope message account answer later → List Entry
+    → DeliversIn accounts user terms envelope message account answer later → List SentReply
 sent_in accounts user terms envelope message None answer later made = []
-sent_in accounts user terms envelope message (Some a) answer later made = sent_to user terms envelope message a made.report made.account made.delivers
+sent_in accounts user terms envelope message (Some a) answer later made = sent_to_account user terms envelope message a made.report made.account made.delivers
 
 abbrev pub sent_under : (refusal : Option Refusal) (accounts : Accounts) (user : List ℕ) (terms : Terms) (envelope : Envelope)
     (message : List ℕ) (answer : Answer) (later : Accounts)
-    → DeliversUnder refusal accounts user terms envelope message answer later → List Entry
+    → DeliversUnder refusal accounts user terms envelope message answer later → List SentReply
 sent_under (Some refusal) accounts user terms envelope message answer later made = []
-sent_under None accounts user terms envelope message answer later made = sent_in accounts user terms envelope message (open_of accounts user) answer later made
+sent_under None accounts user terms envelope message answer later made = sent_in accounts user terms envelope message (open_account_of accounts user) answer later made
 
-abbrev pub sent_by : (w : World) (event : Event) (answer : Answer) (next : World) → Happens w event answer next → List Entry
+abbrev pub sent_by : (w : World) (event : Event) (answer : Answer) (next : World) → EventHappens w event answer next → List SentReply
 sent_by w (Deliver user envelope message when default) answer next made =
     sent_under (limit_refusal envelope message when.moment) w.accounts user (terms when default) envelope message answer made.0 made.1
 sent_by w event answer next made = []
 
 -- for one event; one that is refused sends nothing
-abbrev pub sent_at : (w : World) (event : Event) (answer : Answer) (next : World) → Next w event answer next → List Entry
+abbrev pub sent_at : (w : World) (event : Event) (answer : Answer) (next : World) → Next w event answer next → List SentReply
 sent_at w event answer next (inl made) = sent_by w event answer next made
 sent_at w event answer next (inr refused) = []
 
 -- the replies that a run sends, in their order
-abbrev pub sent : (w : World) (events : List Event) (told : List Answer) (end : World) → Runs w events told end → List Entry
+abbrev pub sent : (w : World) (events : List Event) (told : List Answer) (end : World) → Runs w events told end → List SentReply
 sent w [] [] end run = []
 sent w (event ∷ events) (answer ∷ told) end run = sent_at w event answer run.0 run.1 ++ sent run.0 events told end run.2
 sent w [] (answer ∷ told) end run = []
@@ -95,10 +95,10 @@ sent w (event ∷ events) [] end run = []
 -- the moment that an account keeps of a reply, if one is kept; a closed or removed one keeps it too
 abbrev pub kept_in : Option Account → Thread → Option ℕ
 kept_in None thread = None
-kept_in (Some a) thread = get a.replies (key_of thread.handle, thread.sender)
+kept_in (Some a) thread = get a.replies (handle_key_of thread.handle, thread.sender)
 
-abbrev pub kept : Accounts → Thread → Option ℕ
-kept accounts thread = kept_in (get accounts thread.user) thread
+abbrev pub kept_moment : Accounts → Thread → Option ℕ
+kept_moment accounts thread = kept_in (get accounts thread.user) thread
 
 -- a moment is at least a period later than the one that is kept, if one is; a period of 0 requires nothing
 abbrev pub IsPast : Option ℕ → ℕ → ℕ → Type 0
@@ -106,17 +106,17 @@ IsPast None period moment = Unit {0}
 IsPast (Some last) period moment = 0 < period → last + period ≤ moment
 
 -- each entry is its period later than what the accounts keep
-abbrev pub ComeAfter : Accounts → List Entry → Type 0
+abbrev pub ComeAfter : Accounts → List SentReply → Type 0
 ComeAfter accounts [] = Unit {0}
-ComeAfter accounts (entry ∷ more) = IsPast (kept accounts entry.thread) entry.period entry.moment × ComeAfter accounts more
+ComeAfter accounts (entry ∷ more) = IsPast (kept_moment accounts entry.thread) entry.period entry.moment × ComeAfter accounts more
 
 -- each of these is its period later than the entry, if it goes to the same and has a period
-abbrev pub Follow : Entry → List Entry → Type 0
+abbrev pub Follow : SentReply → List SentReply → Type 0
 Follow entry [] = Unit {0}
 Follow entry (later ∷ more) = (entry.thread ≡ later.thread → 0 < later.period → entry.moment + later.period ≤ later.moment) × Follow entry more
 
 -- any two entries that go to the same are spaced by the later one's period, if it has one
-abbrev pub AreSpaced : List Entry → Type 0
+abbrev pub AreSpaced : List SentReply → Type 0
 AreSpaced [] = Unit {0}
 AreSpaced (entry ∷ more) = Follow entry more × AreSpaced more
 
@@ -125,15 +125,15 @@ abbrev pub IsAtLeast : Option ℕ → ℕ → Type 0
 IsAtLeast None moment = ⊥
 IsAtLeast (Some last) moment = moment ≤ last
 
-abbrev pub AreKept : Accounts → List Entry → Type 0
-AreKept accounts [] = Unit {0}
-AreKept accounts (entry ∷ more) = IsAtLeast (kept accounts entry.thread) entry.moment × AreKept accounts more
+abbrev pub AreMomentsKept : Accounts → List SentReply → Type 0
+AreMomentsKept accounts [] = Unit {0}
+AreMomentsKept accounts (entry ∷ more) = IsAtLeast (kept_moment accounts entry.thread) entry.moment × AreMomentsKept accounts more
 
 -- the replies of a run, from these accounts to those
-pub record IsSpacing (start end : Accounts) (entries : List Entry) : Type 0 where
+pub record IsSpacing (start end : Accounts) (entries : List SentReply) : Type 0 where
   pub after_start : ComeAfter start entries
   pub spaced : AreSpaced entries
-  pub kept_in_the_end : AreKept end entries
+  pub kept_in_the_end : AreMomentsKept end entries
 
 -- a run's replies are
 abbrev pub IsSpaced : (w : World) (events : List Event) (told : List Answer) (end : World) → Runs w events told end → Type 0
@@ -147,12 +147,12 @@ pub record IsMove (user : List ℕ) (left here came : Accounts) : Type 0 where
   pub had : get left user ≡ Some account
   pub text : List ℕ
   pub copied : IsCopyOf text user account
-  pub head : Head
+  pub head : AccountHead
   pub parts : List Part
-  pub read : IsTextOf text head parts
+  pub read : IsAccountText text head parts
   pub imported : Importing here head parts Imported came
 
 -- each of the user's earlier entries is followed by these
-abbrev pub GoOn : List ℕ → List Entry → List Entry → Type 0
+abbrev pub GoOn : List ℕ → List SentReply → List SentReply → Type 0
 GoOn user [] later = Unit {0}
 GoOn user (entry ∷ more) later = (entry.thread.user ≡ user → Follow entry later) × GoOn user more later

@@ -1,8 +1,8 @@
 -- The terms of a delivery: the moment, and the script if the account has no active one.
 use Rattle.std.specs.Prelude.{List, ℕ, Option}
 use Rattle.std.specs.Borrow.{Bor}
-use Rattle.mailtables.specs.Cells.{contents}
-use Rattle.sieveexec.specs.declared.when.When.{When}
+use Rattle.store_tables.specs.Cells.{borrowed_octets}
+use Rattle.sieve_exec.specs.declared.when.When.{When}
 
 pub record Terms : Type 0 where
   pub when : When
@@ -14,4 +14,4 @@ terms when default = record { when = when; default = default }
 
 -- from the values of the code
 abbrev pub terms_of : When → Option (Bor (List ℕ)) → Terms
-terms_of when default = terms when (contents default)
+terms_of when default = terms when (borrowed_octets default)

@@ -1,17 +1,17 @@
 -- What an administrator does to one account: the answer, and what the account becomes.
 use Rattle.std.specs.Prelude.{◌≡◌, ℕ, ◌≤◌, Bool, true, cond, not, ◌&&◌, List, length, Option, Some, None, MatchBool}
 use Rattle.std.specs.FinMap.{get, insert}
-use Rattle.saslplain.specs.Password.{digest_of}
-use Rattle.sievelex.specs.declared.fault.ScriptFault.{ScriptFault}
-use Rattle.mailstore.specs.Account.{Account, Accounts, Password, is_closed, open_one, known_one, has_mail, keeps_script, keeps_active, addresses, guards, closes, opens, takes_notices, removes}
-use Rattle.mailstore.specs.declared.refusal.Refusal.TheVariants.{NoUser, BadUser, BadScriptName, ScriptTooLarge, TooManyScripts, UserIsOpen, UserHasMail}
-use Rattle.sessions.specs.Limits.{script_limit, IsScriptName}
-use Rattle.sessions.specs.Scripts.{Where, HasRoom, IsValid, IsVerdict}
-use Rattle.mailengine.specs.declared.answer.Answer.{Answer}
-use Rattle.mailengine.specs.declared.answer.Answer.TheVariants.{Changed, Stored, Invalid, Closed, Opened, Removed, NoticesTaken, Refused}
-use Rattle.mailengine.specs.declared.upkeep.Upkeep.{Upkeep}
-use Rattle.mailengine.specs.declared.upkeep.Upkeep.TheVariants.{SetPassword, SetAddress, StoreScript, CloseAccount, OpenAccount, RemoveAccount, TakeNotices}
-use Rattle.mailengine.specs.Limits.{is_password, IsOwnAddress}
+use Rattle.sasl_plain.specs.Password.{digest_of}
+use Rattle.sieve_lex.specs.declared.fault.ScriptFault.{ScriptFault}
+use Rattle.store_accounts.specs.Account.{Account, Accounts, Password, is_closed_account, open_one, known_one, has_mail, keeps_script, keeps_active, changes_address, changes_password, closes, opens, takes_notices, removes}
+use Rattle.store_accounts.specs.declared.refusal.Refusal.TheVariants.{NoUser, BadUser, BadScriptName, ScriptTooLarge, TooManyScripts, UserIsOpen, UserHasMail}
+use Rattle.managesieve_sessions.specs.Limits.{script_limit, IsScriptName}
+use Rattle.managesieve_sessions.specs.Scripts.{IfElse, HasRoom, IsValidScript, IsVerdict}
+use Rattle.store_engine.specs.declared.answer.Answer.{Answer}
+use Rattle.store_engine.specs.declared.answer.Answer.TheVariants.{Changed, Stored, Invalid, Closed, Opened, Removed, NoticesTaken, Refused}
+use Rattle.store_engine.specs.declared.upkeep.Upkeep.{Upkeep}
+use Rattle.store_engine.specs.declared.upkeep.Upkeep.TheVariants.{SetPassword, SetAddress, StoreScript, CloseAccount, OpenAccount, RemoveAccount, TakeNotices}
+use Rattle.store_engine.specs.Limits.{is_password, IsOwnAddress}
 
 -- ---- passwords
 
@@ -31,13 +31,13 @@ pub record Alters (said : Answer) (account : Account) (answer : Answer) (change 
   pub changed : change ≡ Some account
 
 -- this is answered, and the account stays
-pub record Tells (said : Answer) (answer : Answer) (change : Option Account) : Type 0 where
+pub record OnlyAnswers (said : Answer) (answer : Answer) (change : Option Account) : Type 0 where
   pub says : answer ≡ said
   pub stays : change ≡ None
 
 -- for the account that is found this; if there is none, there is no such user
 abbrev pub InAccount : Option Account → (Account → Answer → Option Account → Type 0) → Answer → Option Account → Type 0
-InAccount None row answer change = Tells (Refused NoUser) answer change
+InAccount None row answer change = OnlyAnswers (Refused NoUser) answer change
 InAccount (Some a) row answer change = row a answer change
 
 -- ---- row by row
@@ -47,46 +47,46 @@ abbrev pub stores : List ℕ → List ℕ → Bool → Account → Account
 stores name text activate a = cond activate (keeps_active name text a) (keeps_script name text a)
 
 -- what is wrong with the text is answered: a fault on one of its lines; which one isn't specified
-abbrev pub TellsFault : List ℕ → Answer → Option Account → Type 0
-TellsFault text answer change = (fault : ScriptFault) × IsVerdict text (Some fault) × Tells (Invalid fault) answer change
+abbrev pub AnswersFault : List ℕ → Answer → Option Account → Type 0
+AnswersFault text answer change = (fault : ScriptFault) × IsVerdict text (Some fault) × OnlyAnswers (Invalid fault) answer change
 
 -- the script is stored if there is room for its name and the text means a tree
 abbrev pub Stores : List ℕ → List ℕ → Bool → Account → Answer → Option Account → Type 0
 Stores name text activate a answer change =
-    Where (HasRoom a name)
-    (Where (IsValid text) (Alters Stored (stores name text activate a) answer change) (TellsFault text answer change))
-    (Tells (Refused TooManyScripts) answer change)
+    IfElse (HasRoom a name)
+    (IfElse (IsValidScript text) (Alters Stored (stores name text activate a) answer change) (AnswersFault text answer change))
+    (OnlyAnswers (Refused TooManyScripts) answer change)
 
 -- a closed account is opened
-abbrev pub Opens : Account → Answer → Option Account → Type 0
-Opens a answer change = MatchBool (is_closed a) (Alters Opened (opens rounds a) answer change) (Tells (Refused UserIsOpen) answer change)
+abbrev pub OpensClosed : Account → Answer → Option Account → Type 0
+OpensClosed a answer change = MatchBool (is_closed_account a) (Alters Opened (opens rounds a) answer change) (OnlyAnswers (Refused UserIsOpen) answer change)
 
 -- the account is removed, its mail too only if asked for
 abbrev pub Removes : Bool → Account → Answer → Option Account → Type 0
 Removes mail a answer change =
-    MatchBool (not mail && has_mail a) (Tells (Refused UserHasMail) answer change) (Alters Removed (removes a) answer change)
+    MatchBool (not mail && has_mail a) (OnlyAnswers (Refused UserHasMail) answer change) (Alters Removed (removes a) answer change)
 
 -- ---- the table: the answer, and what the account becomes, if there is one
 
-abbrev pub Keeps : Upkeep → Option Account → Answer → Option Account → Type 0
-Keeps (SetPassword salt password) account answer change =
-    Where (is_password password ≡ true)
-    (InAccount (open_one account) (λ a. Alters Changed (guards (kept_password salt password) a)) answer change)
-    (Tells (Refused BadUser) answer change)
-Keeps (SetAddress address) account answer change =
-    Where (IsOwnAddress address)
-    (InAccount (open_one account) (λ a. Alters Changed (addresses address a)) answer change)
-    (Tells (Refused BadUser) answer change)
-Keeps (StoreScript name text activate) account answer change =
-    Where (IsScriptName name)
-    (Where (length text ≤ script_limit)
+abbrev pub DoesUpkeep : Upkeep → Option Account → Answer → Option Account → Type 0
+DoesUpkeep (SetPassword salt password) account answer change =
+    IfElse (is_password password ≡ true)
+    (InAccount (open_one account) (λ a. Alters Changed (changes_password (kept_password salt password) a)) answer change)
+    (OnlyAnswers (Refused BadUser) answer change)
+DoesUpkeep (SetAddress address) account answer change =
+    IfElse (IsOwnAddress address)
+    (InAccount (open_one account) (λ a. Alters Changed (changes_address address a)) answer change)
+    (OnlyAnswers (Refused BadUser) answer change)
+DoesUpkeep (StoreScript name text activate) account answer change =
+    IfElse (IsScriptName name)
+    (IfElse (length text ≤ script_limit)
     (InAccount (open_one account) (Stores name text activate) answer change)
-    (Tells (Refused ScriptTooLarge) answer change))
-    (Tells (Refused BadScriptName) answer change)
-Keeps CloseAccount account answer change = InAccount (open_one account) (λ a. Alters Closed (closes a)) answer change
-Keeps OpenAccount account answer change = InAccount (known_one account) Opens answer change
-Keeps (RemoveAccount mail) account answer change = InAccount (known_one account) (Removes mail) answer change
-Keeps (TakeNotices until) account answer change = InAccount (open_one account) (λ a. Alters NoticesTaken (takes_notices until a)) answer change
+    (OnlyAnswers (Refused ScriptTooLarge) answer change))
+    (OnlyAnswers (Refused BadScriptName) answer change)
+DoesUpkeep CloseAccount account answer change = InAccount (open_one account) (λ a. Alters Closed (closes a)) answer change
+DoesUpkeep OpenAccount account answer change = InAccount (known_one account) OpensClosed answer change
+DoesUpkeep (RemoveAccount mail) account answer change = InAccount (known_one account) (Removes mail) answer change
+DoesUpkeep (TakeNotices until) account answer change = InAccount (open_one account) (λ a. Alters NoticesTaken (takes_notices until a)) answer change
 
 -- ---- the accounts, and one of them
 
@@ -103,11 +103,11 @@ put_instead (Some a) user accounts = insert accounts user a
 -- this is done to the user's account, and no other changes
 abbrev pub Keeping : Accounts → List ℕ → Upkeep → Answer → Accounts → Type 0
 Keeping accounts user upkeep answer later =
-    (change : Option Account) × Keeps upkeep (get accounts user) answer change × (later ≡ put_instead change user accounts)
+    (change : Option Account) × DoesUpkeep upkeep (get accounts user) answer change × (later ≡ put_instead change user accounts)
 
 -- the same for the user's account alone
 abbrev pub KeepingAlone : Option Account → Upkeep → Answer → Option Account → Type 0
-KeepingAlone account upkeep answer later = (change : Option Account) × Keeps upkeep account answer change × (later ≡ instead change account)
+KeepingAlone account upkeep answer later = (change : Option Account) × DoesUpkeep upkeep account answer change × (later ≡ instead change account)
 
 -- ---- what may be refused without visible cause
 

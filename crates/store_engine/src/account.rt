@@ -2,14 +2,14 @@
 ghost use Rattle.std.specs.Prelude.{◌≡◌};
 ghost use Rattle.std.specs.FinMap.{keys};
 ghost use Rattle.sqlite.specs.Held.{state};
-ghost use Rattle.mailstore.specs.AccountRows.{profile_of};
-ghost use Rattle.mailstore.specs.CopyRows.{IsFirstIn};
-ghost use Rattle.mailstore.specs.Account.{row_with};
-ghost use Rattle.mailstore.specs.Promises.{ReadsOwn};
-ghost use Rattle.mailstore.specs.Shows.{IsFirstOf};
-ghost use Rattle.mailengine.specs.Lookups.{LooksUp, IsActiveScript};
+ghost use Rattle.store_accounts.specs.AccountRows.{profile_of};
+ghost use Rattle.store_accounts.specs.CopyRows.{IsFirstIn};
+ghost use Rattle.store_accounts.specs.Account.{row_with};
+ghost use Rattle.store_accounts.specs.Promises.{ReadsOwn};
+ghost use Rattle.store_accounts.specs.Shows.{IsFirstOf};
+ghost use Rattle.store_engine.specs.Lookups.{LooksUp, IsActiveScript};
 
-use mailstore::{NumberedMessage, Outgoing, Profile, Refusal, Store};
+use store_accounts::{NumberedMessage, QueuedMessage, Profile, Refusal, Store};
 use octets::{Octets, Texts};
 use sqlite::Alter;
 
@@ -58,7 +58,7 @@ pub(crate) fn outgoing<S: Alter>(
     store: &mut Store<S>,
     user: &[u8],
     id: u64,
-) -> Result<Option<Outgoing>, Refusal>
+) -> Result<Option<QueuedMessage>, Refusal>
     ensures { LooksUp user.now (λ row a. row ≡ row_with id a.queue) (state S.Store store.old) (state S.Store store.new) result }
 {
     let _ = profile(store, user)?;

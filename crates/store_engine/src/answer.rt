@@ -1,8 +1,8 @@
 //! The answers to events.
-use mailstore::{Outgoing, Refusal, Report};
+use store_accounts::{QueuedMessage, Refusal, Report};
 use octets::Octets;
-use sessions::Progress;
-use sievelex::ScriptFault;
+use managesieve_sessions::Progress;
+use sieve_lex::ScriptFault;
 
 /// The answer to an event.
 #[derive(Drop)]
@@ -16,7 +16,7 @@ pub enum Answer {
     /// The account of the text is there.
     Imported,
     /// The row was taken out of the queue.
-    Taken(Outgoing),
+    Taken(QueuedMessage),
     /// The first message of the folder was taken out.
     MailTaken,
     /// The password or the address was changed.

@@ -1,18 +1,18 @@
 //! Tries one script on one message.
 ghost use Rattle.std.specs.Prelude.{◌≡◌, ◌≤◌, ◌+◌, ℕ, List, IfOk};
-ghost use Rattle.mailhead.specs.Heads.{size_of};
-ghost use Rattle.mailfronts.specs.Fronts.{HasHeaderOf};
-ghost use Rattle.sievelex.specs.Finding.{IfFault, IfFaultLine};
-ghost use Rattle.sievelex.specs.Text.{line_ends};
-ghost use Rattle.sievesyntax.specs.Tree.{Commands};
-ghost use Rattle.sievesyntax.specs.Means.{Means};
-ghost use Rattle.sieveexec.specs.Mails.{mail_of};
-ghost use Rattle.sieveexec.specs.Outcomes.{outcome_at};
-ghost use Rattle.sieveexec.specs.Runs.{outcome_view};
+ghost use Rattle.mail_head.specs.Heads.{size_of};
+ghost use Rattle.mail_head.specs.Prefixes.{IsHeaderPrefix};
+ghost use Rattle.sieve_lex.specs.Finding.{IfFault, IfFaultLine};
+ghost use Rattle.sieve_lex.specs.Text.{line_ends};
+ghost use Rattle.sieve_syntax.specs.Tree.{Commands};
+ghost use Rattle.sieve_syntax.specs.Means.{Means};
+ghost use Rattle.sieve_exec.specs.Mails.{mail_spec_of};
+ghost use Rattle.sieve_exec.specs.Outcomes.{outcome_at};
+ghost use Rattle.sieve_exec.specs.Runs.{outcome_view};
 
-use deliverplan::outcome_on;
-use sieveexec::{Envelope, Mail, Outcome, When};
-use sievelex::ScriptError;
+use sieve_plan::evaluate_script;
+use sieve_exec::{Envelope, Mail, Outcome, When};
+use sieve_lex::ScriptError;
 use std::alloc::Global;
 
 /// What a script does with a message that is delivered at that moment (RFC 5228, 2.10), or why it is no valid script.
@@ -34,13 +34,13 @@ pub fn attempt(
 ) -> Result<Outcome, ScriptError>
     ensures valid { IfOk result (λ done. (tree : Commands) × Means script.now tree) }
     ensures done { IfOk result (λ done. (tree : Commands) → Means script.now tree →
-        outcome_view done ≡ outcome_at (mail_of message.now envelope when) tree) }
+        outcome_view done ≡ outcome_at (mail_spec_of message.now envelope when) tree) }
     ensures fault { IfFault result ((tree : Commands) → Means script.now tree → ⊥) }
     ensures line { IfFaultLine result (λ line.
         (1 ≤ line) × (line ≤ 1 + line_ends script.now)) }
 {
     let mail = Mail::read(alloc, message, envelope, when)?;
-    outcome_on(alloc, script, &mail)
+    evaluate_script(alloc, script, &mail)
 }
 
 /// What a script does with a message of which a prefix with an empty line, and the size, are known: the same as `attempt`
@@ -51,7 +51,7 @@ pub fn attempt(
 /// # Errors
 ///
 /// Those of [`attempt`].
-pub fn attempt_on_front(
+pub fn attempt_on_prefix(
     alloc: Global,
     script: &[u8],
     envelope: Envelope,
@@ -60,12 +60,12 @@ pub fn attempt_on_front(
     when: When,
 ) -> Result<Outcome, ScriptError>
     ensures valid { IfOk result (λ done. (tree : Commands) × Means script.now tree) }
-    ensures done { IfOk result (λ done. (tree : Commands) (message : List ℕ) → Means script.now tree → HasHeaderOf front.now message → size ≡ size_of message
-        → outcome_view done ≡ outcome_at (mail_of message envelope when) tree) }
+    ensures done { IfOk result (λ done. (tree : Commands) (message : List ℕ) → Means script.now tree → IsHeaderPrefix front.now message → size ≡ size_of message
+        → outcome_view done ≡ outcome_at (mail_spec_of message envelope when) tree) }
     ensures fault { IfFault result ((tree : Commands) → Means script.now tree → ⊥) }
     ensures line { IfFaultLine result (λ line.
         (1 ≤ line) × (line ≤ 1 + line_ends script.now)) }
 {
-    let known = Mail::read_front(alloc, front, size, envelope, when)?;
-    outcome_on(alloc, script, &known)
+    let known = Mail::read_prefix(alloc, front, size, envelope, when)?;
+    evaluate_script(alloc, script, &known)
 }

@@ -5,13 +5,13 @@ ghost use Rattle.std.specs.Option.{option_copied};
 ghost use Rattle.std.specs.Ordering.{nat_cmp};
 ghost use Rattle.sqlite.specs.Held.{state};
 ghost use Rattle.sqlite.specs.State.{HasCleanDisk};
-ghost use Rattle.mailengine.specs.declared.event.Event.TheVariants.{Open, Give, Step, GiveUp, Close};
-ghost use Rattle.mailengine.specs.Hosts.{host, AsksStore, IsSessionEvent, IsEvent, KeepsClients, SurvivesEvent, IsPrepared, answer_of};
+ghost use Rattle.store_engine.specs.declared.event.Event.TheVariants.{Open, Give, Step, GiveUp, Close};
+ghost use Rattle.store_engine.specs.Hosts.{host, EventAsksStore, IsSessionEvent, IsEvent, KeepsClients, SurvivesEvent, IsPrepared, answer_of};
 
 use crate::answer::Answer;
-use mailstore::{Refusal, Store};
+use store_accounts::{Refusal, Store};
 use octets::Octets;
-use sessions::{Progress, Session, Stepped};
+use managesieve_sessions::{Progress, Session, FreeStep};
 use sqlite::Alter;
 use std::alloc::{AllocError, Global};
 use std::collections::BTreeMap;
@@ -114,7 +114,7 @@ pub fn step_free(
     number: u32,
 ) -> Option<Answer>
     ensures made { IfSome result (λ answer. IsSessionEvent (Step number) answer sessions.old sessions.new) }
-    ensures asks { IfNone result (AsksStore (Step number) sessions.old) }
+    ensures asks { IfNone result (EventAsksStore (Step number) sessions.old) }
     ensures kept { IfNone result (KeepsClients sessions.old sessions.new) }
 {
     let Some(session) = sessions.get_mut(&number) else {
@@ -122,8 +122,8 @@ pub fn step_free(
     };
     let mut out = Octets::new(alloc);
     match session.step_free(&mut out) {
-        Ok(Stepped::Made(progress)) => Some(Answer::Out(progress, out)),
-        Ok(Stepped::Asks(_)) => None,
+        Ok(FreeStep::Made(progress)) => Some(Answer::Out(progress, out)),
+        Ok(FreeStep::Asks(_)) => None,
         Err(AllocError) => Some(Answer::Refused(Refusal::Memory)),
     }
 }

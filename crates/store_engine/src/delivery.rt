@@ -2,33 +2,33 @@
 ghost use Rattle.std.specs.Prelude.{◌≡◌, ◌⊎◌, Err, OnOk, IfOk, IfErr, IfSome};
 ghost use Rattle.sqlite.specs.Held.{state};
 ghost use Rattle.sqlite.specs.State.{HasCleanDisk};
-ghost use Rattle.mailstore.specs.Account.{delivers};
-ghost use Rattle.mailstore.specs.Cells.{contents};
-ghost use Rattle.mailstore.specs.Connection.{IsSettled};
-ghost use Rattle.mailstore.specs.Promises.{WritesAccount};
-ghost use Rattle.mailstore.specs.Refusals.{IsTransient};
-ghost use Rattle.sessions.specs.Acts.{ReadsAccounts};
+ghost use Rattle.store_accounts.specs.Account.{delivers};
+ghost use Rattle.store_accounts.specs.Cells.{borrowed_octets};
+ghost use Rattle.store_accounts.specs.Connection.{IsSettled};
+ghost use Rattle.store_accounts.specs.Promises.{WritesAccount};
+ghost use Rattle.store_accounts.specs.Refusals.{IsTransient};
+ghost use Rattle.managesieve_sessions.specs.Acts.{ReadsAccounts};
 ghost use Rattle.std.specs.FinMap.{get};
-ghost use Rattle.mailengine.specs.AccountEvents.{absence as absence_of, text_or};
-ghost use Rattle.mailengine.specs.Hosts.{ActsDelivery, IsSpacedDelivery, RefusesDelivery};
-ghost use Rattle.mailengine.specs.Limits as limits;
-ghost use Rattle.mailengine.specs.Lookups.{LooksUp, IsLookup};
-ghost use Rattle.mailengine.specs.Terms.{terms_of};
+ghost use Rattle.store_engine.specs.AccountEvents.{absence as absence_of, script_or_default};
+ghost use Rattle.store_engine.specs.Hosts.{ActsDelivery, IsSpacedDelivery, RefusesDelivery};
+ghost use Rattle.store_engine.specs.Limits as limits;
+ghost use Rattle.store_engine.specs.Lookups.{LooksUp, IsLookup};
+ghost use Rattle.store_engine.specs.Terms.{terms_of};
 
 use crate::account::{ActiveScript, active_script};
 use crate::limits::limit_refusal;
-use addrparts::bare_address;
-use deliverplan::{View, has_long_header, plan, plan_unread};
-use mailstore::{Plan, Refusal, Report, Store};
+use mail_address::bare_address;
+use sieve_plan::{AccountView, has_long_header, plan, plan_unread};
+use store_accounts::{Plan, Refusal, Report, Store};
 use octets::Octets;
-use sieveexec::{Envelope, Mail, When};
+use sieve_exec::{Envelope, Mail, When};
 use sqlite::Alter;
 use std::alloc::Global;
 
 /// What a delivery has to know of the account.
 #[derive(Drop)]
 pub(crate) struct Lookup {
-    pub view: View,
+    pub view: AccountView,
     /// The text of the active script, if one is active.
     pub text: Option<Octets>,
 }
@@ -111,7 +111,7 @@ fn look_up<S: Alter>(
     };
     let replies = store.replies_of(user, sender)?;
     Ok(Lookup {
-        view: View { address, replies },
+        view: AccountView { address, replies },
         text,
     })
 }
@@ -154,7 +154,7 @@ fn report_of(plan: Plan<'_>) -> Report
 
 /// The text that decides: that of the active script, and where none is active the host's default, if there is one.
 fn deciding<'t>(active: &'t Option<Octets>, default: Option<&'t [u8]>) -> Option<&'t [u8]>
-    ensures { contents result ≡ text_or active.now (contents default.entry) }
+    ensures { borrowed_octets result ≡ script_or_default active.now (borrowed_octets default.entry) }
 {
     match active {
         Some(text) => Some(text.as_slice()),

@@ -2,20 +2,20 @@
 ghost use Rattle.std.specs.Prelude.{◌≡◌, OnOk, IfOk, IfErr, MatchBool};
 ghost use Rattle.sqlite.specs.Held.{state};
 ghost use Rattle.sqlite.specs.State.{HasCleanDisk};
-ghost use Rattle.mailstore.specs.Connection.{IsSettled};
-ghost use Rattle.mailstore.specs.declared.refusal.Refusal.TheVariants.{BadAccount};
-ghost use Rattle.mailengine.specs.AccountEvents.{IsImportable};
-ghost use Rattle.mailengine.specs.Hosts.{ActsImport, RefusesImport};
-ghost use Rattle.mailengine.specs.Importable.{HasSoundScripts, may_guard, has_short_flags as has_short_flags_of, have_short_flags};
-ghost use Rattle.mailengine.specs.Sound.{IsSoundScript};
+ghost use Rattle.store_accounts.specs.Connection.{IsSettled};
+ghost use Rattle.store_accounts.specs.declared.refusal.Refusal.TheVariants.{BadAccount};
+ghost use Rattle.store_engine.specs.AccountEvents.{IsImportable};
+ghost use Rattle.store_engine.specs.Hosts.{ActsImport, RefusesImport};
+ghost use Rattle.store_engine.specs.Importable.{HasSoundScripts, may_guard, has_short_flags as has_short_flags_of, have_short_flags};
+ghost use Rattle.store_engine.specs.Sound.{IsSoundScript};
 
 use crate::standing::read_standing;
 use crate::user::{is_own_address, is_user_name, refusal_over};
-use accountfiles::{AccountFile, Owner, Part};
-use mailstore::{Refusal, Store};
-use saslplain::ROUNDS;
-use sessions::script_name::is_script_name;
-use sessions::scripts::{MAX_SCRIPT, MAX_SCRIPTS, fault_in};
+use store_text::{AccountFile, AccountOwner, Part};
+use store_accounts::{Refusal, Store};
+use sasl_plain::ROUNDS;
+use managesieve_sessions::script_name::is_script_name;
+use managesieve_sessions::scripts::{MAX_SCRIPT, MAX_SCRIPTS, fault_in};
 use sqlite::Alter;
 use std::alloc::{AllocError, Global};
 
@@ -100,7 +100,7 @@ fn has_short_flags(part: &Part) -> bool
 }
 
 /// Whether a password with that many rounds may be kept: each login takes their time, by anyone and with any password.
-fn may_guard(owner: &Owner, rounds: u32) -> bool
+fn may_guard(owner: &AccountOwner, rounds: u32) -> bool
     ensures { result ≡ may_guard (record { salt = owner.now.salt; rounds = rounds; digest = owner.now.digest }) }
 {
     (rounds == 0 || rounds == ROUNDS) && owner.salt.len() <= MAX_SALT && !owner.digest.is_empty()

@@ -1,12 +1,12 @@
 //! Limits on sizes, names and moments.
 ghost use Rattle.std.specs.Prelude.{◌≡◌};
 ghost use Rattle.std.specs.List.{list_any};
-ghost use Rattle.mailengine.specs.Limits as limits;
-ghost use Rattle.mailengine.specs.Limits.{is_envelope_address, is_forbidden_octet};
+ghost use Rattle.store_engine.specs.Limits as limits;
+ghost use Rattle.store_engine.specs.Limits.{is_envelope_address, is_forbidden_octet};
 
-use mailstore::Refusal;
-use sieveexec::Envelope;
-use vacreply::MAX_MOMENT;
+use store_accounts::Refusal;
+use sieve_exec::Envelope;
+use sieve_vacation::MAX_MOMENT;
 
 /// The largest message, in octets.
 pub const MAX_MESSAGE: usize = 33_554_432;

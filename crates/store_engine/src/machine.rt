@@ -2,11 +2,11 @@
 ghost use Rattle.std.specs.Prelude.{◌≡◌, [], IsTrue, IfOk, IfSome, IfNone, OnErr};
 ghost use Rattle.sqlite.specs.Held.{state};
 ghost use Rattle.sqlite.specs.State.{HasCleanDisk};
-ghost use Rattle.mailengine.specs.declared.event.Event.TheVariants.{Deliver};
-ghost use Rattle.mailstore.specs.Cells.{contents};
-ghost use Rattle.mailengine.specs.Terms.{terms};
-ghost use Rattle.mailengine.specs.Hosts as hosts;
-ghost use Rattle.mailengine.specs.Hosts.{host, host_with, AsksStore, IsEvent, IsGivenUp, IsSessionEvent, KeepsClients, SurvivesEvent, IsPrepared, ActsDelivery};
+ghost use Rattle.store_engine.specs.declared.event.Event.TheVariants.{Deliver};
+ghost use Rattle.store_accounts.specs.Cells.{borrowed_octets};
+ghost use Rattle.store_engine.specs.Terms.{terms};
+ghost use Rattle.store_engine.specs.Hosts as hosts;
+ghost use Rattle.store_engine.specs.Hosts.{host, host_with, EventAsksStore, IsEvent, IsGivenUp, IsSessionEvent, KeepsClients, SurvivesEvent, IsPrepared, ActsDelivery};
 
 use crate::answer::Answer;
 use crate::clients::{Clients, close, give, give_up, open, step, step_free, text_given_up};
@@ -15,12 +15,12 @@ use crate::event::Event;
 use crate::importing::import;
 use crate::limits::limit_refusal;
 use crate::taking::{take_mail, take_out};
-use crate::upkeep::keep;
+use crate::upkeep::do_upkeep;
 use crate::user::add_user;
-use mailstore::{Outgoing, Refusal, Report, Store};
+use store_accounts::{QueuedMessage, Refusal, Report, Store};
 use octets::Octets;
-use sessions::Session;
-use sieveexec::{Envelope, When};
+use managesieve_sessions::Session;
+use sieve_exec::{Envelope, When};
 use sqlite::Alter;
 use std::alloc::{AllocError, Global};
 use std::collections::BTreeMap;
@@ -93,7 +93,7 @@ pub fn apply<S: Alter>(
 /// Those of [`apply`].
 pub fn apply_free(clients: &mut Clients, event: &Event) -> Result<Option<Answer>, AllocError>
     ensures made { IfOk result (λ told. IfSome told (λ answer. IsSessionEvent event.now answer clients.old.sessions clients.new.sessions)) }
-    ensures asks { IfOk result (λ told. IfNone told (AsksStore event.now clients.old.sessions)) }
+    ensures asks { IfOk result (λ told. IfNone told (EventAsksStore event.now clients.old.sessions)) }
     ensures kept { IfOk result (λ told. IfNone told (KeepsClients clients.old.sessions clients.new.sessions)) }
     ensures lacks { OnErr result (IsGivenUp event.now) }
     ensures err { OnErr result (clients.new ≡ clients.old) }
@@ -184,7 +184,7 @@ fn carry_out<S: Alter>(
             let taken = take_mail(store, user.as_slice(), folder.as_slice());
             answer_of(taken.and(Ok(Answer::MailTaken)))
         }
-        Event::Keep { user, upkeep } => { answer_of(keep(alloc, store, user.as_slice(), upkeep)) }
+        Event::Keep { user, upkeep } => { answer_of(do_upkeep(alloc, store, user.as_slice(), upkeep)) }
     }
 }
 
@@ -197,7 +197,7 @@ fn carry_out_free(
 ) -> Option<Answer>
     requires { IsPrepared event.now sessions.old text }
     ensures made { IfSome result (λ answer. IsSessionEvent event.now answer sessions.old sessions.new) }
-    ensures asks { IfNone result (AsksStore event.now sessions.old) }
+    ensures asks { IfNone result (EventAsksStore event.now sessions.old) }
     ensures kept { IfNone result (KeepsClients sessions.old sessions.new) }
 {
     match event {
@@ -240,7 +240,7 @@ fn carry_out_delivery<S: Alter>(
 
 /// The text's octets, if there is one.
 fn slice_of(text: &Option<Octets>) -> Option<&[u8]>
-    ensures { contents result ≡ text.now }
+    ensures { borrowed_octets result ≡ text.now }
 {
     match text {
         Some(text) => Some(text.as_slice()),

@@ -1,8 +1,8 @@
 //! Events in order.
 ghost use Rattle.std.specs.Prelude.{◌≡◌, ◌↔◌, IsTrue, length};
 ghost use Rattle.sqlite.specs.Held.{state};
-ghost use Rattle.mailengine.specs.Hosts.{answered, host_of, IsRun, IsRunAlone, IsRunSpaced, SurvivesRun};
-ghost use Rattle.mailengine.specs.Sound.{KeepsSound};
+ghost use Rattle.store_engine.specs.Hosts.{answered_events, host_of, IsHostRun, IsRunAlone, IsRunSpaced, SurvivesRun};
+ghost use Rattle.store_engine.specs.Sound.{KeepsSound};
 
 use crate::answer::Answer;
 use crate::event::Event;
@@ -11,7 +11,7 @@ use sqlite::Alter;
 
 /// The result of a list of events.
 #[derive(Drop)]
-pub struct Ran {
+pub struct RunAnswers {
     /// The answers to the first events, in their order: one for each event that was carried out or refused.
     pub answers: Vec<Answer>,
     /// Whether all events were answered. If not, there was no memory for the next answer.
@@ -24,40 +24,40 @@ pub struct Ran {
 /// memory: if there is no memory for it, the run ends before that event, and `whole` is false. An event that is refused
 /// changes nothing that is seen, and the next one follows. Events are borrowed, and a message is not copied. Memory besides
 /// that of the events themselves is in proportion to their number and to what the sessions hold.
-pub fn run<S: Alter>(world: &mut World<S>, events: &[Event]) -> Ran
-    ensures runs { IsRun (answered events.now result.answers.items) result.answers.items (host_of S.Store world.old) (host_of S.Store world.new) }
+pub fn run<S: Alter>(world: &mut World<S>, events: &[Event]) -> RunAnswers
+    ensures runs { IsHostRun (answered_events events.now result.answers.items) result.answers.items (host_of S.Store world.old) (host_of S.Store world.new) }
     ensures whole { IsTrue result.whole ↔ (length result.answers.items ≡ length events.now) }
     ensures sound { KeepsSound (state S.Store world.old.store) (state S.Store world.new.store) }
-    ensures alone { IsRunAlone (answered events.now result.answers.items) result.answers.items (host_of S.Store world.old) (host_of S.Store world.new) }
-    ensures spaced { IsRunSpaced (answered events.now result.answers.items) result.answers.items (host_of S.Store world.old) (host_of S.Store world.new) }
+    ensures alone { IsRunAlone (answered_events events.now result.answers.items) result.answers.items (host_of S.Store world.old) (host_of S.Store world.new) }
+    ensures spaced { IsRunSpaced (answered_events events.now result.answers.items) result.answers.items (host_of S.Store world.old) (host_of S.Store world.new) }
     ensures crash { SurvivesRun events.now (host_of S.Store world.old) (host_of S.Store world.new) }
 {
     run_events(world, events)
 }
 
 /// Carries out the events in order. What else `run` promises is true of every run.
-fn run_events<S: Alter>(world: &mut World<S>, events: &[Event]) -> Ran
-    ensures runs { IsRun (answered events.now result.answers.items) result.answers.items (host_of S.Store world.old) (host_of S.Store world.new) }
+fn run_events<S: Alter>(world: &mut World<S>, events: &[Event]) -> RunAnswers
+    ensures runs { IsHostRun (answered_events events.now result.answers.items) result.answers.items (host_of S.Store world.old) (host_of S.Store world.new) }
     ensures whole { IsTrue result.whole ↔ (length result.answers.items ≡ length events.now) }
     ensures crash { SurvivesRun events.now (host_of S.Store world.old) (host_of S.Store world.new) }
 {
     let mut answers = Vec::new(world.clients.alloc);
     for event in events {
         if answers.reserve(1).is_err() {
-            return Ran {
+            return RunAnswers {
                 answers,
                 whole: false,
             };
         }
         let Ok(answer) = apply(&mut world.clients, &mut world.store, event) else {
-            return Ran {
+            return RunAnswers {
                 answers,
                 whole: false,
             };
         };
         answers.push_reserved(answer);
     }
-    Ran {
+    RunAnswers {
         answers,
         whole: true,
     }

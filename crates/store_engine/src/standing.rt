@@ -1,8 +1,8 @@
 //! The state of a user's account.
 ghost use Rattle.sqlite.specs.Held.{state};
-ghost use Rattle.mailengine.specs.Lookups.{ReadsStanding};
+ghost use Rattle.store_engine.specs.Lookups.{ReadsStanding};
 
-use mailstore::{Refusal, Store};
+use store_accounts::{Refusal, Store};
 use sqlite::Alter;
 
 /// The state of an account: what decides whether it can be opened, removed or made again.

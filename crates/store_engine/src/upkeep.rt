@@ -1,20 +1,20 @@
 //! Maintains one account, for an administrator.
 ghost use Rattle.std.specs.Prelude.{◌≡◌, ◌&&◌, not};
 ghost use Rattle.sqlite.specs.Held.{state};
-ghost use Rattle.mailstore.specs.Promises.{WritesUser};
-ghost use Rattle.mailengine.specs.declared.upkeep.Upkeep.TheVariants as upkeep;
-ghost use Rattle.mailengine.specs.Hosts.{ActsKeeping};
-ghost use Rattle.mailengine.specs.Upkeep.{stores};
+ghost use Rattle.store_accounts.specs.Promises.{WritesUser};
+ghost use Rattle.store_engine.specs.declared.upkeep.Upkeep.TheVariants as upkeep;
+ghost use Rattle.store_engine.specs.Hosts.{ActsKeeping};
+ghost use Rattle.store_engine.specs.Upkeep.{stores};
 
 use crate::account::{profile, script_names};
 use crate::answer::Answer;
 use crate::standing::{Standing, read_standing};
 use crate::user::{is_own_address, is_password};
-use mailstore::{Refusal, Store};
+use store_accounts::{Refusal, Store};
 use octets::Octets;
-use saslplain::{ROUNDS, digest};
-use sessions::script_name::is_script_name;
-use sessions::scripts::{MAX_SCRIPT, fault_in, has_room};
+use sasl_plain::{ROUNDS, digest};
+use managesieve_sessions::script_name::is_script_name;
+use managesieve_sessions::scripts::{MAX_SCRIPT, fault_in, has_room};
 use sqlite::Alter;
 use std::alloc::Global;
 
@@ -74,7 +74,7 @@ pub enum Upkeep {
 /// [`Refusal::UserIsOpen`], [`Refusal::UserHasMail`]. [`Refusal::Memory`] and [`Refusal::Store`] may come at any point after
 /// the first ones, and lack of memory also when an address is checked. The store then stays as it was. A text that is no script
 /// is not an error: [`Answer::Invalid`].
-pub fn keep<S: Alter>(
+pub fn do_upkeep<S: Alter>(
     alloc: Global,
     store: &mut Store<S>,
     user: &[u8],

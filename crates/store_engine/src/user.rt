@@ -3,18 +3,18 @@ ghost use Rattle.std.specs.Prelude.{◌≡◌, ◌==◌, OnOk, IfOk, IfErr, Matc
 ghost use Rattle.std.specs.List.{list_all, list_any};
 ghost use Rattle.sqlite.specs.Held.{state};
 ghost use Rattle.sqlite.specs.State.{HasCleanDisk};
-ghost use Rattle.mailstore.specs.Connection.{IsSettled};
-ghost use Rattle.mailstore.specs.declared.refusal.Refusal.TheVariants.{BadUser};
-ghost use Rattle.mailengine.specs.Hosts.{ActsAddition, RefusesAddition};
-ghost use Rattle.mailengine.specs.Lookups.{over_standing};
-ghost use Rattle.mailengine.specs.Limits as limits;
-ghost use Rattle.mailengine.specs.Limits.{IsNewUser, IsOwnAddress};
+ghost use Rattle.store_accounts.specs.Connection.{IsSettled};
+ghost use Rattle.store_accounts.specs.declared.refusal.Refusal.TheVariants.{BadUser};
+ghost use Rattle.store_engine.specs.Hosts.{ActsAddition, RefusesAddition};
+ghost use Rattle.store_engine.specs.Lookups.{over_standing};
+ghost use Rattle.store_engine.specs.Limits as limits;
+ghost use Rattle.store_engine.specs.Limits.{IsNewUser, IsOwnAddress};
 
 use crate::standing::{Standing, read_standing};
-use addrparts::bare_address;
-use mailstore::{Refusal, Store};
+use mail_address::bare_address;
+use store_accounts::{Refusal, Store};
 use octets::is_letter;
-use saslplain::{ROUNDS, digest};
+use sasl_plain::{ROUNDS, digest};
 use sqlite::Alter;
 use std::alloc::{AllocError, Global};
 
@@ -110,13 +110,13 @@ pub(crate) fn is_user_name(name: &[u8]) -> bool
 }
 
 fn has_name_octets(name: &[u8]) -> bool
-    ensures { result ≡ list_all limits.is_name_octet name.now }
+    ensures { result ≡ list_all limits.is_user_octet name.now }
 {
     name.iter().all(|octet| is_name_octet(*octet))
 }
 
 fn is_name_octet(octet: u8) -> bool
-    ensures { result ≡ limits.is_name_octet octet }
+    ensures { result ≡ limits.is_user_octet octet }
 {
     is_letter(octet)
         || octet.is_ascii_digit()

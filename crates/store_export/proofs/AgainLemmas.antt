@@ -10,23 +10,23 @@ use Rattle.std.proofs.lemmas.List.Sums.{fold-append}
 use Rattle.sqlite_trees.specs.Tree.{IsAscending}
 use Rattle.sqlite_keyed.proofs.ListLemmas.{all_both, all_weaker}
 use Rattle.sqlite_rules.specs.Lists.{Has}
-use Rattle.accountfiles.specs.declared.part.Part.{Part}
-use Rattle.accountfiles.specs.declared.part.Part.TheVariants.{Mail, Copy}
-use Rattle.mailtables.specs.declared.queue.Kind.{Kind}
-use Rattle.mailtables.specs.declared.queue.Kind.TheVariants as kind
-use Rattle.mailstore.specs.declared.notice.Notice.{Notice as KeptNotice}
-use Rattle.mailstore.specs.declared.queue.Outgoing.{Outgoing}
-use Rattle.mailstore.specs.Account.{bytes_cmp, reply_cmp, Account, Folders, Replies, Scripts, filed, latest}
-use Rattle.mailstore.specs.CopyRows.{Copy as KeptCopy, filed_from, folders_from, flags_from, message_of}
-use Rattle.mailstore.specs.MessageRows.{Message, message_row}
-use Rattle.mailstore.specs.ScriptRows.{AreApart}
-use Rattle.mailstore.specs.Whole.{scripts_with, replies_with, kind_of, letters_in, notices_in, octets_after, copies_in_part, copies_of, whole}
-use Rattle.mailstore.proofs.AccountLemmas.{bytes_antisymmetric, reply_total, reply_antisymmetric}
-use Rattle.mailstore.proofs.MapLemmas.{tied}
-use Rattle.mailstore.proofs.NumberLemmas.{alone_at}
-use Rattle.accountcopies.specs.declared.run.Run.{Run}
-use Rattle.accountcopies.specs.Parts.{head_of, goes_on, first_in, run_with, script_part, reply_part, copy_parts, way_of, letter_part, notice_part, parts_of}
-use Rattle.accountcopies.proofs.PutLemmas.{entries_apart, put_all, put_entries}
+use Rattle.store_text.specs.declared.part.Part.{Part}
+use Rattle.store_text.specs.declared.part.Part.TheVariants.{Mail, Copy}
+use Rattle.store_tables.specs.declared.queue.QueuedKind.{QueuedKind}
+use Rattle.store_tables.specs.declared.queue.QueuedKind.TheVariants as kind
+use Rattle.store_accounts.specs.declared.notice.Notice.{Notice as KeptNotice}
+use Rattle.store_accounts.specs.declared.queue.QueuedMessage.{QueuedMessage}
+use Rattle.store_accounts.specs.Account.{bytes_cmp, reply_cmp, Account, Folders, ReplyMoments, Scripts, filed, latest}
+use Rattle.store_accounts.specs.CopyRows.{Copy as KeptCopy, filed_from, folders_from, flags_from, message_of}
+use Rattle.store_accounts.specs.MessageRows.{Message, message_row}
+use Rattle.store_accounts.specs.ScriptRows.{AreKeysApart}
+use Rattle.store_accounts.specs.Whole.{scripts_with, replies_with, queued_kind, letters_in, notices_in, octets_after_part, copies_in_part, copies_of, whole}
+use Rattle.store_accounts.proofs.AccountLemmas.{bytes_antisymmetric, reply_total, reply_antisymmetric}
+use Rattle.store_accounts.proofs.MapLemmas.{tied}
+use Rattle.store_accounts.proofs.NumberLemmas.{alone_at}
+use Rattle.store_export.specs.declared.run.Run.{Run}
+use Rattle.store_export.specs.Parts.{account_head, continues_run, first_in, run_with, script_part, reply_part, copy_parts, way_of, letter_part, notice_part, account_parts}
+use Rattle.store_export.proofs.PutLemmas.{entries_apart, put_all, put_entries}
 
 -- ---- what parts of one kind leave as it is
 
@@ -37,7 +37,7 @@ fold_kept f g same s (x ∷ xs) = ap (λ t. fold f t (map g xs)) (same s x) ∙ 
 fold_copies : {A : Type 0} (f : A → Part → A) → ((s : A) (n : ℕ) (folder message flags : List ℕ) → f s (Mail n folder message flags) ≡ s) → ((s : A) (n : ℕ) (folder : List ℕ) (first : ℕ) (flags : List ℕ) → f s (Copy n folder first flags) ≡ s)
     → (run : Option Run) (cs : List KeptCopy) (s : A) → fold f s (copy_parts run cs) ≡ s
 fold_copies f mail copy run [] s = refl
-fold_copies {A} f mail copy run (c ∷ cs) s = ap (λ t. fold f t (copy_parts (Some (run_with run c.n c.id)) cs)) (go (goes_on run c.id)) ∙ fold_copies f mail copy (Some (run_with run c.n c.id)) cs s
+fold_copies {A} f mail copy run (c ∷ cs) s = ap (λ t. fold f t (copy_parts (Some (run_with run c.n c.id)) cs)) (go (continues_run run c.id)) ∙ fold_copies f mail copy (Some (run_with run c.n c.id)) cs s
   where
     go : (b : Bool) → f s (cond b (Copy c.n c.folder (first_in run c.n c.id) c.flags) (Mail c.n c.folder c.message c.flags)) ≡ s
     go true = copy s c.n c.folder (first_in run c.n c.id) c.flags
@@ -54,7 +54,7 @@ one_in f g one (x ∷ xs) = ap₂ ◌++◌ (one x) (one_in f g one xs)
 none_in_copies : {Y : Type 0} (f : Part → List Y) → ((n : ℕ) (folder message flags : List ℕ) → f (Mail n folder message flags) ≡ []) → ((n : ℕ) (folder : List ℕ) (first : ℕ) (flags : List ℕ) → f (Copy n folder first flags) ≡ [])
     → (run : Option Run) (cs : List KeptCopy) → flat_map f (copy_parts run cs) ≡ []
 none_in_copies f mail copy run [] = refl
-none_in_copies f mail copy run (c ∷ cs) = ap₂ ◌++◌ (go (goes_on run c.id)) (none_in_copies f mail copy (Some (run_with run c.n c.id)) cs)
+none_in_copies f mail copy run (c ∷ cs) = ap₂ ◌++◌ (go (continues_run run c.id)) (none_in_copies f mail copy (Some (run_with run c.n c.id)) cs)
   where
     go : (b : Bool) → f (cond b (Copy c.n c.folder (first_in run c.n c.id) c.flags) (Mail c.n c.folder c.message c.flags)) ≡ []
     go true = copy c.n c.folder (first_in run c.n c.id) c.flags
@@ -63,12 +63,12 @@ none_in_copies f mail copy run (c ∷ cs) = ap₂ ◌++◌ (go (goes_on run c.id
 -- ---- moments
 
 -- a moment whose key is new stays as it is
-later_free : (m : Replies) (e d : (List ℕ × List ℕ) × ℕ) → (e.0 ≡ d.0 → ⊥) → get m d.0 ≡ None → get (insert m e.0 e.1) d.0 ≡ None
+later_free : (m : ReplyMoments) (e d : (List ℕ × List ℕ) × ℕ) → (e.0 ≡ d.0 → ⊥) → get m d.0 ≡ None → get (insert m e.0 e.1) d.0 ≡ None
 later_free m e d apart none =
     let other = false_from_ne_true (is_eq (reply_cmp d.0 e.0)) (λ same. apart (sym (tied reply_cmp reply_total reply_antisymmetric d.0 e.0 same))) in
     get-insert reply_total m e.0 e.1 d.0 ∙ ap (λ b. cond b (Some e.1) (get m d.0)) other ∙ none
 
-replies_put : (es : List ((List ℕ × List ℕ) × ℕ)) (m : Replies) → AreApart es → AllByRecursion (λ e. get m e.0 ≡ None) es → fold replies_with m (map reply_part es) ≡ put_all reply_cmp reply_total reply_antisymmetric m es
+replies_put : (es : List ((List ℕ × List ℕ) × ℕ)) (m : ReplyMoments) → AreKeysApart es → AllByRecursion (λ e. get m e.0 ≡ None) es → fold replies_with m (map reply_part es) ≡ put_all reply_cmp reply_total reply_antisymmetric m es
 replies_put [] m apart free = refl
 replies_put (e ∷ es) m apart free =
     ap (λ n. fold replies_with n (map reply_part es)) (ap (λ o. insert m e.0 (latest o e.1)) free.0)
@@ -111,16 +111,16 @@ alike ms rise (c ∷ cs) present = (
   alike ms rise cs present.1,
 )
 
-copies_again : (run : Option Run) (last : List ℕ) (cs : List KeptCopy) → AreAlike cs → AllByRecursion (λ d. goes_on run d.id ≡ true → d.message ≡ last) cs → map said (copies_of last (copy_parts run cs)) ≡ map said cs
+copies_again : (run : Option Run) (last : List ℕ) (cs : List KeptCopy) → AreAlike cs → AllByRecursion (λ d. continues_run run d.id ≡ true → d.message ≡ last) cs → map said (copies_of last (copy_parts run cs)) ≡ map said cs
 copies_again run last [] same all = refl
-copies_again run last (c ∷ cs) same all = go (goes_on run c.id) refl (λ l more. copies_again (Some (run_with run c.n c.id)) l cs same.1 more)
+copies_again run last (c ∷ cs) same all = go (continues_run run c.id) refl (λ l more. copies_again (Some (run_with run c.n c.id)) l cs same.1 more)
   where
     -- of those that go on with this one's run
-    alike_to : (l : List ℕ) → c.message ≡ l → AllByRecursion (λ d. goes_on (Some (run_with run c.n c.id)) d.id ≡ true → d.message ≡ l) cs
+    alike_to : (l : List ℕ) → c.message ≡ l → AllByRecursion (λ d. continues_run (Some (run_with run c.n c.id)) d.id ≡ true → d.message ≡ l) cs
     alike_to l is =
-        all_weaker (λ d. c.id ≡ d.id → c.message ≡ d.message) (λ d. goes_on (Some (run_with run c.n c.id)) d.id ≡ true → d.message ≡ l) (λ d told on. sym (told (sym (eqb-true d.id c.id on))) ∙ is) cs same.0
+        all_weaker (λ d. c.id ≡ d.id → c.message ≡ d.message) (λ d. continues_run (Some (run_with run c.n c.id)) d.id ≡ true → d.message ≡ l) (λ d told on. sym (told (sym (eqb-true d.id c.id on))) ∙ is) cs same.0
 
-    go : (b : Bool) → goes_on run c.id ≡ b → ((l : List ℕ) → AllByRecursion (λ d. goes_on (Some (run_with run c.n c.id)) d.id ≡ true → d.message ≡ l) cs → map said (copies_of l (copy_parts (Some (run_with run c.n c.id)) cs)) ≡ map said cs)
+    go : (b : Bool) → continues_run run c.id ≡ b → ((l : List ℕ) → AllByRecursion (λ d. continues_run (Some (run_with run c.n c.id)) d.id ≡ true → d.message ≡ l) cs → map said (copies_of l (copy_parts (Some (run_with run c.n c.id)) cs)) ≡ map said cs)
         → map said (copies_of last (cond b (Copy c.n c.folder (first_in run c.n c.id) c.flags) (Mail c.n c.folder c.message c.flags) ∷ copy_parts (Some (run_with run c.n c.id)) cs)) ≡ said c ∷ map said cs
     go true on more =
         let here : c.message ≡ last = all.0 on in
@@ -128,16 +128,16 @@ copies_again run last (c ∷ cs) same all = go (goes_on run c.id) refl (λ l mor
     go false off more = ap (λ l. said c ∷ l) (more c.message (alike_to c.message refl))
 
 -- parts that are no copies
-passed : {X : Type 0} (g : X → Part) → ((last : List ℕ) (x : X) → copies_in_part last (g x) ≡ []) → ((last : List ℕ) (x : X) → octets_after last (g x) ≡ last) → (last : List ℕ) (xs : List X) (rest : List Part)
+passed : {X : Type 0} (g : X → Part) → ((last : List ℕ) (x : X) → copies_in_part last (g x) ≡ []) → ((last : List ℕ) (x : X) → octets_after_part last (g x) ≡ last) → (last : List ℕ) (xs : List X) (rest : List Part)
     → copies_of last (map g xs ++ rest) ≡ copies_of last rest
 passed g none still last [] rest = refl
 passed g none still last (x ∷ xs) rest = ap₂ (λ front l. front ++ copies_of l (map g xs ++ rest)) (none last x) (still last x) ∙ passed g none still last xs rest
 
 front_copies : (rest : List Part) → ((last : List ℕ) → copies_of last rest ≡ []) → (last : List ℕ) (ps : List Part) → copies_of last (ps ++ rest) ≡ copies_of last ps
 front_copies rest none last [] = none last
-front_copies rest none last (p ∷ ps) = ap (λ l. copies_in_part last p ++ l) (front_copies rest none (octets_after last p) ps)
+front_copies rest none last (p ∷ ps) = ap (λ l. copies_in_part last p ++ l) (front_copies rest none (octets_after_part last p) ps)
 
-kind_again : (k : Kind) → kind_of (way_of k) ≡ k
+kind_again : (k : QueuedKind) → queued_kind (way_of k) ≡ k
 kind_again kind.Redirect = refl
 kind_again kind.Reply = refl
 
@@ -153,7 +153,7 @@ module _ (a : Account) (copies : List KeptCopy) (notices : List (ℕ × KeptNoti
 
   -- ---- scripts and moments
 
-  scripts_again : fold scripts_with empty (parts_of a copies notices) ≡ a.scripts
+  scripts_again : fold scripts_with empty (account_parts a copies notices) ≡ a.scripts
   scripts_again =
       let m : Scripts = empty in
       fold-append scripts_with m (map script_part (entries a.scripts)) moments
@@ -166,9 +166,9 @@ module _ (a : Account) (copies : List KeptCopy) (notices : List (ℕ × KeptNoti
       ∙ ap (λ s. fold scripts_with s (map notice_part notices)) (fold_kept scripts_with letter_part (λ s x. refl) a.scripts a.queue)
       ∙ fold_kept scripts_with notice_part (λ s x. refl) a.scripts notices
 
-  replies_again : fold replies_with empty (parts_of a copies notices) ≡ a.replies
+  replies_again : fold replies_with empty (account_parts a copies notices) ≡ a.replies
   replies_again =
-      let m : Replies = empty in
+      let m : ReplyMoments = empty in
       fold-append replies_with m (map script_part (entries a.scripts)) moments
       ∙ ap (λ s. fold replies_with s moments) (fold_kept replies_with script_part (λ s x. refl) m (entries a.scripts))
       ∙ fold-append replies_with m (map reply_part (entries a.replies)) mail
@@ -181,10 +181,10 @@ module _ (a : Account) (copies : List KeptCopy) (notices : List (ℕ × KeptNoti
 
   -- ---- the queue and the notices
 
-  letter_again : (o : Outgoing) → letters_in (letter_part o) ≡ o ∷ []
+  letter_again : (o : QueuedMessage) → letters_in (letter_part o) ≡ o ∷ []
   letter_again o = ap (λ k. (record { id = o.id; kind = k; sender = o.sender; target = o.target; message = o.message }) ∷ []) (kind_again o.kind)
 
-  queue_again : flat_map letters_in (parts_of a copies notices) ≡ a.queue
+  queue_again : flat_map letters_in (account_parts a copies notices) ≡ a.queue
   queue_again =
       flat_map-append letters_in (map script_part (entries a.scripts)) moments
       ∙ ap₂ ◌++◌ (none_in letters_in script_part (λ x. refl) (entries a.scripts)) (flat_map-append letters_in (map reply_part (entries a.replies)) mail
@@ -192,7 +192,7 @@ module _ (a : Account) (copies : List KeptCopy) (notices : List (ℕ × KeptNoti
       ∙ ap₂ ◌++◌ (none_in_copies letters_in (λ n folder message flags. refl) (λ n folder first flags. refl) None copies) (flat_map-append letters_in (map letter_part a.queue) (map notice_part notices)
       ∙ ap₂ ◌++◌ (one_in letters_in letter_part letter_again a.queue) (none_in letters_in notice_part (λ x. refl) notices) ∙ append-nil a.queue)))
 
-  notices_again : flat_map notices_in (parts_of a copies notices) ≡ notices
+  notices_again : flat_map notices_in (account_parts a copies notices) ≡ notices
   notices_again =
       flat_map-append notices_in (map script_part (entries a.scripts)) moments
       ∙ ap₂ ◌++◌ (none_in notices_in script_part (λ x. refl) (entries a.scripts)) (flat_map-append notices_in (map reply_part (entries a.replies)) mail
@@ -207,19 +207,19 @@ module _ (a : Account) (copies : List KeptCopy) (notices : List (ℕ × KeptNoti
       passed letter_part (λ l x. refl) (λ l x. refl) last a.queue (map notice_part notices) ∙ ap (copies_of last) (sym (append-nil (map notice_part notices)))
       ∙ passed notice_part (λ l x. refl) (λ l x. refl) last notices []
 
-  filed_again : (what : Said → List ℕ) → AreAlike copies → filed_from (λ c. what (said c)) (copies_of [] (parts_of a copies notices)) ≡ filed_from (λ c. what (said c)) copies
+  filed_again : (what : Said → List ℕ) → AreAlike copies → filed_from (λ c. what (said c)) (copies_of [] (account_parts a copies notices)) ≡ filed_from (λ c. what (said c)) copies
   filed_again what same =
-      let only : copies_of [] (parts_of a copies notices) ≡ copies_of [] (copy_parts None copies) =
+      let only : copies_of [] (account_parts a copies notices) ≡ copies_of [] (copy_parts None copies) =
       passed script_part (λ l x. refl) (λ l x. refl) [] (entries a.scripts) moments ∙ passed reply_part (λ l x. refl) (λ l x. refl) [] (entries a.replies) mail ∙ front_copies out no_copies [] (copy_parts None copies) in
       ap (filed_from (λ c. what (said c))) only ∙ filed_same what (copies_of [] (copy_parts None copies)) copies (copies_again None [] copies same (never copies))
     where
-      never : (cs : List KeptCopy) → AllByRecursion (λ d. goes_on None d.id ≡ true → d.message ≡ []) cs
+      never : (cs : List KeptCopy) → AllByRecursion (λ d. continues_run None d.id ≡ true → d.message ≡ []) cs
       never [] = tt
       never (c ∷ cs) = ((λ no. absurd (true≢false (sym no))), never cs)
 
   -- ---- all of it
 
-  pub account_again : (user : List ℕ) (next_copy next_notice : ℕ) → AreAlike copies → a.folders ≡ folders_from copies → a.flags ≡ flags_from copies → a.notices ≡ map (λ e. e.1) notices → whole (head_of user a next_copy next_notice) (parts_of a copies notices) empty ≡ a
+  pub account_again : (user : List ℕ) (next_copy next_notice : ℕ) → AreAlike copies → a.folders ≡ folders_from copies → a.flags ≡ flags_from copies → a.notices ≡ map (λ e. e.1) notices → whole (account_head user a next_copy next_notice) (account_parts a copies notices) empty ≡ a
   account_again user next_copy next_notice same folders flags kept =
       let scripts = scripts_again in
       let replies = replies_again in

@@ -1,8 +1,8 @@
 -- Copies as parts of a text at work, and some beside them that aren't.
 use Rattle.std.proofs.Common.{◌≡◌, [], ◌∷◌, codes, None, refl}
-use Rattle.accountfiles.specs.declared.part.Part.TheVariants.{Mail, Copy}
-use Rattle.mailstore.specs.CopyRows.{Copy as KeptCopy}
-use Rattle.accountcopies.specs.Parts.{copy_parts}
+use Rattle.store_text.specs.declared.part.Part.TheVariants.{Mail, Copy}
+use Rattle.store_accounts.specs.CopyRows.{Copy as KeptCopy}
+use Rattle.store_export.specs.Parts.{copy_parts}
 
 abbrev one : KeptCopy
 one = record { folder = codes "a"; n = 1; id = 1; message = codes "m"; flags = [] }

@@ -3,16 +3,16 @@ use Rattle.std.proofs.Common.{◌≡◌, ℕ, List, Ok, Err, Result, IfOk, IfErr
 use Rattle.std.specs.FinMap.{get}
 use Rattle.sqlite.specs.Effect.{Database}
 use Rattle.sqlite.specs.State.{State, HasCleanDisk}
-use Rattle.mailtables.specs.Rows.{Tables, HoldsTables}
-use Rattle.mailtables.specs.Schema.{mail_schema}
-use Rattle.mailtables.proofs.WriteLemmas.{clean_before}
-use Rattle.mailstore.specs.declared.refusal.Refusal.{Refusal}
-use Rattle.mailstore.specs.Account.{Account, Accounts}
-use Rattle.mailstore.specs.Promises.{FindsAmong, HasOurTables, HasNoOpen, Keeps, OfOpen, OverAccounts, Reads, ReadsEntered}
-use Rattle.mailstore.specs.Refusals.{IsTransient}
-use Rattle.mailstore.specs.Shows.{rows_of}
-use Rattle.mailstore.proofs.KeepLemmas.{keeps_ok, keeps_failed, keeps_then, mid_shows, none_if, transient_other, transient_named}
-use Rattle.mailstore.proofs.StandingLemmas.{open_there}
+use Rattle.store_tables.specs.Rows.{Tables, HoldsTables}
+use Rattle.store_tables.specs.Schema.{mail_schema}
+use Rattle.store_tables.proofs.WriteLemmas.{clean_before}
+use Rattle.store_accounts.specs.declared.refusal.Refusal.{Refusal}
+use Rattle.store_accounts.specs.Account.{Account, Accounts}
+use Rattle.store_accounts.specs.Promises.{FindsAmong, HasOurTables, HasNoOpen, KeepsTables, OfOpen, OverAccounts, ReadsOpenAccount, ReadsEntered}
+use Rattle.store_accounts.specs.Refusals.{IsTransient}
+use Rattle.store_accounts.specs.Shows.{rows_of}
+use Rattle.store_accounts.proofs.KeepLemmas.{keeps_ok, keeps_failed, keeps_then, mid_shows, none_if, transient_other, transient_named}
+use Rattle.store_accounts.proofs.StandingLemmas.{open_there}
 
 -- what was found of the user's rows, of whatever rows the database has
 pub among_entered : {X : Type 0} (user : List ℕ) (P : X → Tables → Type 0) (a b : State) (r : Result X Refusal) → IfErr r IsTransient → FindsAmong user P a b r
@@ -30,7 +30,7 @@ among_entered {X} user P a b r named h = record { found = λ clean accounts p. t
 -- all was kept since, and this holds of what the database had and of the user's account, if there is one
 pub record Learns (user : List ℕ) (P : Database → Account → Type 0) (a b : State) : Type 0 where
   pub found : HasCleanDisk b → OverAccounts a (λ accounts. IfSome (get accounts user) (P a.now))
-  pub keeps : Keeps {X = Unit {0}} {E = Refusal} a b (Ok tt)
+  pub keeps : KeepsTables {X = Unit {0}} {E = Refusal} a b (Ok tt)
 
 -- both hold
 abbrev pub Both : (P Q : Database → Account → Type 0) → Database → Account → Type 0
@@ -83,14 +83,14 @@ learned_answer {Z} user P R a b h q named made = record { found = λ clean accou
 
 -- ---- an account is entered, and then read
 
-module _ {X Y : Type 0} (user : List ℕ) (P : X → Account → Type 0) (Q : Y → Database → Account → Type 0) (a b c : State) (r : Result X Refusal) (x : X) (was : r ≡ Ok x) (early : Reads user P a b r) (q : Result Y Refusal)
+module _ {X Y : Type 0} (user : List ℕ) (P : X → Account → Type 0) (Q : Y → Database → Account → Type 0) (a b c : State) (r : Result X Refusal) (x : X) (was : r ≡ Ok x) (early : ReadsOpenAccount user P a b r) (q : Result Y Refusal)
     (late : ReadsEntered user (λ y account. P x account → Q y b.now account) b c q) where
   mid_now : HasCleanDisk c → HasOurTables a.now → b.now ≡ a.now
   mid_now clean ours =
       let before = clean_before b c _ late.keeps.crash clean in
       (early.keeps.same before ours).now_is (subst (λ o. OnOk o (IsTrue b.is_open)) was (early.keeps.live before))
 
-  pub enters_at : Reads user (λ y. Q y a.now) a c q
+  pub enters_at : ReadsOpenAccount user (λ y. Q y a.now) a c q
   enters_at = record {
     found = λ clean accounts p.
         let ours : HasOurTables a.now = (p.0, p.1) in

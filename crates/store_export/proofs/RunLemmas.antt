@@ -1,9 +1,9 @@
 -- One copy more in its run.
 use Rattle.std.proofs.Common.{◌≡◌, ◌++◌, List, [], ◌∷◌, Option, Some, refl, ap}
-use Rattle.mailstore.specs.declared.filing.Filing.{Filing}
-use Rattle.accountcopies.specs.declared.run.Run.{Run}
-use Rattle.accountcopies.specs.Parts.{run_with}
-use Rattle.accountcopies.specs.Places.{copy_place, copy_places}
+use Rattle.store_accounts.specs.declared.filing.Filing.{Filing}
+use Rattle.store_export.specs.declared.run.Run.{Run}
+use Rattle.store_export.specs.Parts.{run_with}
+use Rattle.store_export.specs.Places.{copy_place, copy_places}
 
 -- the run of the last of these copies, behind this one
 abbrev pub run_after : Option Run → List Filing → Option Run

@@ -1,15 +1,15 @@
 //! The contents of an account, without its texts and messages.
 ghost use Rattle.std.specs.Prelude.{◌≡◌, true, IfOk, IfErr};
 ghost use Rattle.sqlite.specs.Held.{state};
-ghost use Rattle.accountfiles.specs.Text.{IsHead};
-ghost use Rattle.mailstore.specs.Refusals.{IsTransient};
-ghost use Rattle.accountcopies.specs.Parts.{head_by};
-ghost use Rattle.accountcopies.specs.Places.{has_active as has_active_in};
-ghost use Rattle.accountcopies.specs.Reading.{ListsContents, ListsEntered};
+ghost use Rattle.store_text.specs.Text.{IsHead};
+ghost use Rattle.store_accounts.specs.Refusals.{IsTransient};
+ghost use Rattle.store_export.specs.Parts.{head_by};
+ghost use Rattle.store_export.specs.Places.{has_active_place as has_active_in};
+ghost use Rattle.store_export.specs.Reading.{ListsContents, ListsEntered};
 
-use crate::place::{Place, has_active, list_places};
-use accountfiles::{Head, Numbers, Owner, is_head};
-use mailstore::{Counters, Profile, Refusal, Store};
+use crate::place::{PartPlace, has_active, list_places};
+use store_text::{AccountHead, Numbers, AccountOwner, is_head};
+use store_accounts::{Counters, Profile, Refusal, Store};
 use octets::{List, Octets};
 use sqlite::Alter;
 use std::alloc::{AllocError, Global};
@@ -18,8 +18,8 @@ use std::alloc::{AllocError, Global};
 /// proportion to names and numbers only: it holds no script's text, no message, and no notice's text.
 #[derive(Debug, Drop)]
 pub struct Contents {
-    pub head: Head,
-    pub places: List<Place>,
+    pub head: AccountHead,
+    pub places: List<PartPlace>,
 }
 
 /// Lists the contents of the user's open account.
@@ -64,10 +64,10 @@ fn head_of(
     user: &[u8],
     profile: Profile,
     counters: Counters,
-) -> Result<Head, AllocError>
+) -> Result<AccountHead, AllocError>
     ensures { IfOk result (λ head. head ≡ head_by user.now profile counters) }
 {
-    let owner = Owner {
+    let owner = AccountOwner {
         name: Octets::from_slice(alloc, user)?,
         address: profile.address,
         salt: profile.salt,
@@ -80,11 +80,11 @@ fn head_of(
         next_out: counters.out,
         next_notice: counters.notice,
     };
-    Ok(Head { owner, numbers })
+    Ok(AccountHead { owner, numbers })
 }
 
 /// Both, if a text can have this head and the active script has a place.
-fn contents_of(head: Head, places: List<Place>) -> Result<Contents, Refusal>
+fn contents_of(head: AccountHead, places: List<PartPlace>) -> Result<Contents, Refusal>
     ensures made { IfOk result (λ contents. contents ≡ record { head = head; places = places }) }
     ensures head { IfOk result (λ contents. IsHead contents.head) }
     ensures active { IfOk result (λ contents. has_active_in contents.head.owner.active contents.places ≡ true) }

@@ -9,4 +9,4 @@ mod run;
 
 pub use contents::{Contents, list_contents};
 pub use part::read_part;
-pub use place::Place;
+pub use place::PartPlace;

@@ -1,17 +1,17 @@
 //! One part of an account.
 ghost use Rattle.std.specs.Prelude.{◌≡◌, ◌<◌, length, true, Some, option_map, IfOk, IfErr};
 ghost use Rattle.sqlite.specs.Held.{state};
-ghost use Rattle.accountfiles.specs.declared.part.Part.{Part};
-ghost use Rattle.mailtables.specs.declared.queue.Kind.{Kind};
-ghost use Rattle.mailstore.specs.Refusals.{IsTransient};
-ghost use Rattle.accountcopies.specs.Parts.{letter_part, way_of as way_by};
-ghost use Rattle.accountcopies.specs.Reading.{ReadsNext};
-ghost use Rattle.accountcopies.specs.Saying.{ReadsPlace};
+ghost use Rattle.store_text.specs.declared.part.Part.{Part};
+ghost use Rattle.store_tables.specs.declared.queue.QueuedKind.{QueuedKind};
+ghost use Rattle.store_accounts.specs.Refusals.{IsTransient};
+ghost use Rattle.store_export.specs.Parts.{letter_part, way_of as way_by};
+ghost use Rattle.store_export.specs.Reading.{ReadsNextPart};
+ghost use Rattle.store_export.specs.Saying.{ReadsPlace};
 
 use crate::contents::Contents;
-use crate::place::Place;
-use accountfiles::{LetterKind, Part, may_have};
-use mailstore::{Filing, Kind, Notice, Outgoing, Refusal, ReplyKey, Store};
+use crate::place::PartPlace;
+use store_text::{LetterKind, Part, may_have};
+use store_accounts::{Filing, QueuedKind, Notice, QueuedMessage, Refusal, ReplyKey, Store};
 use octets::Octets;
 use sqlite::Alter;
 use std::alloc::Global;
@@ -30,7 +30,7 @@ pub fn read_part<S: Alter>(
     at: usize,
 ) -> Result<Part, Refusal>
     requires { at < length contents.now.places }
-    ensures { ReadsNext contents.now at (state S.Store store.old) (state S.Store store.new) result }
+    ensures { ReadsNextPart contents.now at (state S.Store store.old) (state S.Store store.new) result }
 {
     let user = contents.head.owner.name.as_slice();
     let part = part_at(alloc, store, user, &contents.places.as_slice()[at])?;
@@ -45,17 +45,17 @@ fn part_at<S: Alter>(
     alloc: Global,
     store: &mut Store<S>,
     user: &[u8],
-    place: &Place,
+    place: &PartPlace,
 ) -> Result<Part, Refusal>
     ensures { ReadsPlace user.now place.now (state S.Store store.old) (state S.Store store.new) result }
 {
     match place {
-        Place::Script(name) => read_script(alloc, store, user, name),
-        Place::Reply(key) => read_reply(alloc, store, user, key),
-        Place::Mail(copy) => read_mail(alloc, store, user, copy),
-        Place::Copy { copy, first } => read_copy(alloc, store, user, copy, *first),
-        Place::Letter(id) => read_letter(store, user, *id),
-        Place::Notice(number) => read_notice(store, user, *number),
+        PartPlace::Script(name) => read_script(alloc, store, user, name),
+        PartPlace::Reply(key) => read_reply(alloc, store, user, key),
+        PartPlace::Mail(copy) => read_mail(alloc, store, user, copy),
+        PartPlace::Copy { copy, first } => read_copy(alloc, store, user, copy, *first),
+        PartPlace::Letter(id) => read_letter(store, user, *id),
+        PartPlace::Notice(number) => read_notice(store, user, *number),
     }
 }
 
@@ -65,7 +65,7 @@ fn read_script<S: Alter>(
     user: &[u8],
     name: &Octets,
 ) -> Result<Part, Refusal>
-    ensures { ReadsPlace user.now (Place.Script name.now) (state S.Store store.old) (state S.Store store.new) result }
+    ensures { ReadsPlace user.now (PartPlace.Script name.now) (state S.Store store.old) (state S.Store store.new) result }
 {
     let text = store.script_of(user, name.as_slice())?;
     script(alloc, name, text)
@@ -77,7 +77,7 @@ fn read_reply<S: Alter>(
     user: &[u8],
     key: &ReplyKey,
 ) -> Result<Part, Refusal>
-    ensures { ReadsPlace user.now (Place.Reply key.now) (state S.Store store.old) (state S.Store store.new) result }
+    ensures { ReadsPlace user.now (PartPlace.Reply key.now) (state S.Store store.old) (state S.Store store.new) result }
 {
     let moment = store.moment_of(user, key.handle.as_slice(), key.sender.as_slice())?;
     reply(alloc, key, moment)
@@ -89,7 +89,7 @@ fn read_mail<S: Alter>(
     user: &[u8],
     copy: &Filing,
 ) -> Result<Part, Refusal>
-    ensures { ReadsPlace user.now (Place.Mail copy.now) (state S.Store store.old) (state S.Store store.new) result }
+    ensures { ReadsPlace user.now (PartPlace.Mail copy.now) (state S.Store store.old) (state S.Store store.new) result }
 {
     let message = store.message_of(user, copy.id)?;
     mail(alloc, copy, message)
@@ -103,21 +103,21 @@ fn read_copy<S: Alter>(
     copy: &Filing,
     first: u64,
 ) -> Result<Part, Refusal>
-    ensures { ReadsPlace user.now (Place.Copy copy.now first) (state S.Store store.old) (state S.Store store.new) result }
+    ensures { ReadsPlace user.now (PartPlace.Copy copy.now first) (state S.Store store.old) (state S.Store store.new) result }
 {
     let is_shared = store.has_other_copy(user, copy)?;
     copy_behind(alloc, copy, first, is_shared)
 }
 
 fn read_letter<S: Alter>(store: &mut Store<S>, user: &[u8], id: u64) -> Result<Part, Refusal>
-    ensures { ReadsPlace user.now (Place.Letter id) (state S.Store store.old) (state S.Store store.new) result }
+    ensures { ReadsPlace user.now (PartPlace.Letter id) (state S.Store store.old) (state S.Store store.new) result }
 {
     let row = store.outgoing_of(user, id)?;
     letter(row)
 }
 
 fn read_notice<S: Alter>(store: &mut Store<S>, user: &[u8], number: u64) -> Result<Part, Refusal>
-    ensures { ReadsPlace user.now (Place.Notice number) (state S.Store store.old) (state S.Store store.new) result }
+    ensures { ReadsPlace user.now (PartPlace.Notice number) (state S.Store store.old) (state S.Store store.new) result }
 {
     let found = store.notice_of(user, number)?;
     notice(number, found)
@@ -178,7 +178,7 @@ fn copy_behind(alloc: Global, copy: &Filing, first: u64, is_shared: bool) -> Res
     })
 }
 
-fn letter(row: Option<Outgoing>) -> Result<Part, Refusal>
+fn letter(row: Option<QueuedMessage>) -> Result<Part, Refusal>
     ensures made { IfOk result (λ part. Some part ≡ option_map letter_part row) }
     ensures named { IfErr result IsTransient }
 {
@@ -194,12 +194,12 @@ fn letter(row: Option<Outgoing>) -> Result<Part, Refusal>
     })
 }
 
-fn way_of(kind: Kind) -> LetterKind
+fn way_of(kind: QueuedKind) -> LetterKind
     ensures { result ≡ way_by kind }
 {
     match kind {
-        Kind::Redirect => LetterKind::Redirect,
-        Kind::Reply => LetterKind::Answer,
+        QueuedKind::Redirect => LetterKind::Redirect,
+        QueuedKind::Reply => LetterKind::Answer,
     }
 }
 

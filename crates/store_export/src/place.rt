@@ -2,20 +2,20 @@
 ghost use Rattle.std.specs.Prelude.{◌≡◌, ◌++◌, List, None, OnOk, IfErr, map, option_copied};
 ghost use Rattle.std.specs.List.{list_any};
 ghost use Rattle.sqlite.specs.Held.{state};
-ghost use Rattle.mailstore.specs.Promises.{ReadsEntered};
-ghost use Rattle.mailstore.specs.Refusals.{IsTransient};
-ghost use Rattle.accountcopies.specs.Places.{ListsPlaces, JoinsCopies, JoinsNotices, copy_places, letter_places, reply_places, script_places};
-ghost use Rattle.accountcopies.specs.Places.{copy_place as copy_place_of, has_active as has_active_in, is_script as is_script_of};
+ghost use Rattle.store_accounts.specs.Promises.{ReadsEntered};
+ghost use Rattle.store_accounts.specs.Refusals.{IsTransient};
+ghost use Rattle.store_export.specs.Places.{ListsPlaces, JoinsCopies, JoinsNotices, copy_places, letter_places, reply_places, script_places};
+ghost use Rattle.store_export.specs.Places.{copy_place as copy_place_of, has_active_place as has_active_in, is_script_place as is_script_of};
 
 use crate::run::Run;
-use mailstore::{Filing, Head, Refusal, ReplyKey, Store};
+use store_accounts::{Filing, QueuedEnvelope, Refusal, ReplyKey, Store};
 use octets::{List, Octets, Texts};
 use sqlite::Alter;
 use std::alloc::Global;
 
 /// The place where a part of an account is found.
 #[derive(Debug, Drop)]
-pub enum Place {
+pub enum PartPlace {
     /// A script, by its name.
     Script(Octets),
     /// The moment of a reply, by its key.
@@ -35,7 +35,7 @@ pub(crate) fn list_places<S: Alter>(
     alloc: Global,
     store: &mut Store<S>,
     user: &[u8],
-) -> Result<List<Place>, Refusal>
+) -> Result<List<PartPlace>, Refusal>
     ensures { ListsPlaces user.now (state S.Store store.old) (state S.Store store.new) result }
 {
     let mut places = List::new(alloc);
@@ -50,7 +50,7 @@ pub(crate) fn list_places<S: Alter>(
 fn list_scripts<S: Alter>(
     store: &mut Store<S>,
     user: &[u8],
-    places: &mut List<Place>,
+    places: &mut List<PartPlace>,
 ) -> Result<(), Refusal>
     ensures { ReadsEntered user.now (λ _ a. places.new ≡ places.old ++ script_places a) (state S.Store store.old) (state S.Store store.new) result }
 {
@@ -61,7 +61,7 @@ fn list_scripts<S: Alter>(
 fn list_replies<S: Alter>(
     store: &mut Store<S>,
     user: &[u8],
-    places: &mut List<Place>,
+    places: &mut List<PartPlace>,
 ) -> Result<(), Refusal>
     ensures { ReadsEntered user.now (λ _ a. places.new ≡ places.old ++ reply_places a) (state S.Store store.old) (state S.Store store.new) result }
 {
@@ -72,7 +72,7 @@ fn list_replies<S: Alter>(
 fn list_copies<S: Alter>(
     store: &mut Store<S>,
     user: &[u8],
-    places: &mut List<Place>,
+    places: &mut List<PartPlace>,
 ) -> Result<(), Refusal>
     ensures { JoinsCopies user.now places.old places.new (state S.Store store.old) (state S.Store store.new) result }
 {
@@ -83,7 +83,7 @@ fn list_copies<S: Alter>(
 fn list_letters<S: Alter>(
     store: &mut Store<S>,
     user: &[u8],
-    places: &mut List<Place>,
+    places: &mut List<PartPlace>,
 ) -> Result<(), Refusal>
     ensures { ReadsEntered user.now (λ _ a. places.new ≡ places.old ++ letter_places a) (state S.Store store.old) (state S.Store store.new) result }
 {
@@ -94,7 +94,7 @@ fn list_letters<S: Alter>(
 fn list_notices<S: Alter>(
     store: &mut Store<S>,
     user: &[u8],
-    places: &mut List<Place>,
+    places: &mut List<PartPlace>,
 ) -> Result<(), Refusal>
     ensures { JoinsNotices user.now places.old places.new (state S.Store store.old) (state S.Store store.new) result }
 {
@@ -102,28 +102,28 @@ fn list_notices<S: Alter>(
     push_notices(places, numbers)
 }
 
-fn push_scripts(places: &mut List<Place>, names: Texts) -> Result<(), Refusal>
-    ensures pushed { OnOk result (places.new ≡ places.old ++ map Place.Script names) }
+fn push_scripts(places: &mut List<PartPlace>, names: Texts) -> Result<(), Refusal>
+    ensures pushed { OnOk result (places.new ≡ places.old ++ map PartPlace.Script names) }
     ensures named { IfErr result IsTransient }
 {
     for name in names.into_vec() {
-        places.push(Place::Script(name))?;
+        places.push(PartPlace::Script(name))?;
     }
     Ok(())
 }
 
-fn push_replies(places: &mut List<Place>, all: List<ReplyKey>) -> Result<(), Refusal>
-    ensures pushed { OnOk result (places.new ≡ places.old ++ map Place.Reply all) }
+fn push_replies(places: &mut List<PartPlace>, all: List<ReplyKey>) -> Result<(), Refusal>
+    ensures pushed { OnOk result (places.new ≡ places.old ++ map PartPlace.Reply all) }
     ensures named { IfErr result IsTransient }
 {
     for key in all.into_vec() {
-        places.push(Place::Reply(key))?;
+        places.push(PartPlace::Reply(key))?;
     }
     Ok(())
 }
 
 /// Appends the places of copies, each with whether it follows another one of the same message.
-fn push_copies(places: &mut List<Place>, filings: List<Filing>) -> Result<(), Refusal>
+fn push_copies(places: &mut List<PartPlace>, filings: List<Filing>) -> Result<(), Refusal>
     ensures pushed { OnOk result (places.new ≡ places.old ++ copy_places None filings) }
     ensures named { IfErr result IsTransient }
 {
@@ -137,39 +137,39 @@ fn push_copies(places: &mut List<Place>, filings: List<Filing>) -> Result<(), Re
 }
 
 /// The place of a copy after this run.
-fn copy_place(run: Option<Run>, copy: Filing) -> Place
+fn copy_place(run: Option<Run>, copy: Filing) -> PartPlace
     ensures { result ≡ copy_place_of run copy }
 {
     if Run::goes_on(run, copy.id) {
         let first = Run::with(run, copy.n, copy.id).first;
-        Place::Copy { copy, first }
+        PartPlace::Copy { copy, first }
     } else {
-        Place::Mail(copy)
+        PartPlace::Mail(copy)
     }
 }
 
-fn push_letters(places: &mut List<Place>, heads: List<Head>) -> Result<(), Refusal>
-    ensures pushed { OnOk result (places.new ≡ places.old ++ map (λ head. Place.Letter head.id) heads) }
+fn push_letters(places: &mut List<PartPlace>, heads: List<QueuedEnvelope>) -> Result<(), Refusal>
+    ensures pushed { OnOk result (places.new ≡ places.old ++ map (λ head. PartPlace.Letter head.id) heads) }
     ensures named { IfErr result IsTransient }
 {
     for head in heads.into_vec() {
-        places.push(Place::Letter(head.id))?;
+        places.push(PartPlace::Letter(head.id))?;
     }
     Ok(())
 }
 
-fn push_notices(places: &mut List<Place>, numbers: List<u64>) -> Result<(), Refusal>
-    ensures pushed { OnOk result (places.new ≡ places.old ++ map Place.Notice numbers) }
+fn push_notices(places: &mut List<PartPlace>, numbers: List<u64>) -> Result<(), Refusal>
+    ensures pushed { OnOk result (places.new ≡ places.old ++ map PartPlace.Notice numbers) }
     ensures named { IfErr result IsTransient }
 {
     for number in numbers.into_vec() {
-        places.push(Place::Notice(number))?;
+        places.push(PartPlace::Notice(number))?;
     }
     Ok(())
 }
 
 /// Whether the active script, if there is one, has a place.
-pub(crate) fn has_active(active: Option<&Octets>, places: &[Place]) -> bool
+pub(crate) fn has_active(active: Option<&Octets>, places: &[PartPlace]) -> bool
     ensures { result ≡ has_active_in (option_copied active.entry) places.now }
 {
     match active {
@@ -179,18 +179,18 @@ pub(crate) fn has_active(active: Option<&Octets>, places: &[Place]) -> bool
 }
 
 /// Whether one of the places is that of the script with the name.
-fn has_script(name: &[u8], places: &[Place]) -> bool
+fn has_script(name: &[u8], places: &[PartPlace]) -> bool
     ensures { result ≡ list_any (is_script_of name.now) places.now }
 {
     places.iter().any(|place| is_script(name, place))
 }
 
 /// Whether the place is that of the script with the name.
-fn is_script(name: &[u8], place: &Place) -> bool
+fn is_script(name: &[u8], place: &PartPlace) -> bool
     ensures { result ≡ is_script_of name.now place.now }
 {
     match place {
-        Place::Script(other) => name == other.as_slice(),
+        PartPlace::Script(other) => name == other.as_slice(),
         _ => false,
     }
 }

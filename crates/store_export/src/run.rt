@@ -11,11 +11,11 @@ pub(crate) struct Run {
 }
 
 impl Run {
-    ghost use Rattle.accountcopies.specs.Parts.{goes_on, run_with};
+    ghost use Rattle.store_export.specs.Parts.{continues_run, run_with};
 
     /// Whether a copy of the message with this number continues the run.
     pub(crate) fn goes_on(run: Option<Run>, id: u64) -> bool
-        ensures { result ≡ goes_on run id }
+        ensures { result ≡ continues_run run id }
     {
         match run {
             Some(run) => id == run.id,

@@ -1,9 +1,9 @@
 -- What is told of a close, and what isn't.
 use Rattle.std.proofs.Common.{◌≡◌, None, Some, Ok, Err, refl}
 use Rattle.sqlite.specs.declared.error.Error.{Error}
-use Rattle.mailstore.specs.declared.refusal.Refusal.TheVariants.{Store}
-use Rattle.keepers.specs.Closing.{IsToldOf}
-use Rattle.keepers.specs.Memory.{told_of_close}
+use Rattle.store_accounts.specs.declared.refusal.Refusal.TheVariants.{Store}
+use Rattle.store_lock.specs.Closing.{IsToldOf}
+use Rattle.store_lock.specs.Memory.{told_of_close}
 
 -- of one that went well nothing
 nothing_told : IsToldOf (Ok tt) None

@@ -1,14 +1,14 @@
 -- A store that was taken, from what is known of it in either case.
 use Rattle.std.proofs.Common.{◌≡◌, Bool, true, false, Result, Ok, Err, IfOk, IsTrue, refl}
 use Rattle.sqlite.specs.Effect.{Database}
-use Rattle.mailstore.specs.Account.{no_accounts}
-use Rattle.mailstore.specs.Schema.{no_schema, mail_schema}
-use Rattle.mailstore.specs.Shows.{Presents, OpensAs}
-use Rattle.mailstore.specs.Opening.{IsKnown}
-use Rattle.keepers.specs.Taken.{IsTaken}
+use Rattle.store_accounts.specs.Account.{no_accounts}
+use Rattle.store_accounts.specs.Schema.{no_schema, mail_schema}
+use Rattle.store_accounts.specs.Shows.{Presents, OpensAs}
+use Rattle.store_accounts.specs.Opening.{IsKnown}
+use Rattle.store_lock.specs.Taken.{IsStoreTaken}
 
 pub is_taken : (fresh : Bool) (held seen : Database) → (fresh ≡ false → OpensAs held seen) → (fresh ≡ false → held.schema ≡ mail_schema → seen ≡ held) → (fresh ≡ false → IsKnown held)
-    → (IsTrue fresh → Presents seen no_accounts) → (IsTrue fresh → held.schema ≡ no_schema) → IsTaken fresh held seen
+    → (IsTrue fresh → Presents seen no_accounts) → (IsTrue fresh → held.schema ≡ no_schema) → IsStoreTaken fresh held seen
 is_taken false held seen opened same ours none blank = (opened refl, same refl, ours refl)
 is_taken true held seen opened same ours none blank = (none refl, blank refl)
 

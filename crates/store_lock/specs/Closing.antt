@@ -2,8 +2,8 @@
 use Rattle.std.specs.Prelude.{◌≡◌, Option, Some, None, Result, Ok, Err}
 use Rattle.sqlite.specs.declared.error.Error.{Error}
 use Rattle.sqlite.specs.declared.error.ErrorCode.{ErrorCode}
-use Rattle.mailstore.specs.declared.refusal.Refusal.{Refusal}
-use Rattle.mailstore.specs.Refusals.{IsTransient, IsMemoryBy, code_in}
+use Rattle.store_accounts.specs.declared.refusal.Refusal.{Refusal}
+use Rattle.store_accounts.specs.Refusals.{IsTransient, IsMemoryBy, code_in}
 
 -- SQLite answered this when the connection was closed. The definition is opaque, and only the one function that closes says it: so whoever can
 -- say it closed, and got this answer

@@ -1,6 +1,6 @@
 //! The causes that the system and SQLite give for a failure, as texts for a person.
 ghost use Rattle.std.specs.Prelude.{◌≡◌, option_copied};
-ghost use Rattle.keepers.specs.Causes.{file_text};
+ghost use Rattle.store_lock.specs.Causes.{file_text};
 
 use sqlite::ErrorCode;
 use std::io::ErrorKind;
@@ -16,7 +16,7 @@ pub(crate) const LOG_OF_ANOTHER: &str =
     "log is that of a file that was replaced: move FILE-wal away";
 
 /// The cause if a file can't be opened, written or renamed; `None` if nothing more is known.
-pub fn of_file(kind: ErrorKind) -> Option<&'static str>
+pub fn file_cause(kind: ErrorKind) -> Option<&'static str>
     ensures { option_copied result ≡ file_text kind }
 {
     match kind {
@@ -31,7 +31,7 @@ pub fn of_file(kind: ErrorKind) -> Option<&'static str>
 }
 
 /// The cause if a port, or the file of a socket, can't be listened on; `None` if nothing more is known.
-pub fn of_socket(kind: ErrorKind) -> Option<&'static str> {
+pub fn socket_cause(kind: ErrorKind) -> Option<&'static str> {
     match kind {
         ErrorKind::AddrInUse => Some("port is taken"),
         ErrorKind::PermissionDenied => Some("permission denied"),
@@ -40,20 +40,20 @@ pub fn of_socket(kind: ErrorKind) -> Option<&'static str> {
 }
 
 /// The cause if a lock's file can't be opened or locked.
-pub(crate) fn of_lock(kind: ErrorKind) -> &'static str {
-    of_file_of_store(kind).unwrap_or("lock file can't be used")
+pub(crate) fn lock_cause(kind: ErrorKind) -> &'static str {
+    store_file_cause(kind).unwrap_or("lock file can't be used")
 }
 
 /// The cause if a file of the store, or beside it, can't be made, opened or locked; `None` if nothing more is known.
-pub(crate) fn of_file_of_store(kind: ErrorKind) -> Option<&'static str> {
+pub(crate) fn store_file_cause(kind: ErrorKind) -> Option<&'static str> {
     match kind {
         ErrorKind::StorageFull => Some(NO_ROOM),
-        _ => of_file(kind),
+        _ => file_cause(kind),
     }
 }
 
 /// The cause if SQLite refused a call; `None` if its code says no more.
-pub fn of_sqlite(code: ErrorCode) -> Option<&'static str> {
+pub fn sqlite_cause(code: ErrorCode) -> Option<&'static str> {
     match code {
         ErrorCode::CannotOpen => Some("file can't be opened"),
         ErrorCode::SystemIoFailure => Some("disk can't be read or written"),

@@ -1,13 +1,13 @@
 //! A keeper over a file.
 ghost use Rattle.std.specs.Prelude.{◌≡◌, IfSome};
-ghost use Rattle.mailstore.specs.Refusals.{IsTransient};
-ghost use Rattle.keepers.specs.Closing.{WasAnswered, IsToldOf, IsToldOfClosing, code_at_end};
+ghost use Rattle.store_accounts.specs.Refusals.{IsTransient};
+ghost use Rattle.store_lock.specs.Closing.{WasAnswered, IsToldOf, IsToldOfClosing, code_at_end};
 
-use crate::cause::{FILE_IS_GONE, LOG_OF_ANOTHER, of_file_of_store, of_lock, of_sqlite};
+use crate::cause::{FILE_IS_GONE, LOG_OF_ANOTHER, store_file_cause, lock_cause, sqlite_cause};
 use crate::identity::{Identity, Log};
-use crate::keeper::{Keeper, Unavailable, release, store_of};
+use crate::keeper::{Keeper, StoreUnavailable, release, store_of};
 use crate::note::Note;
-use mailstore::{Refusal, Store};
+use store_accounts::{Refusal, Store};
 use sqlite::{Connection, Error, ErrorCode, File as Database, FileStore};
 use std::alloc::AllocError;
 use std::fs::{File, OpenOptions, TryLockError};
@@ -43,7 +43,7 @@ pub struct FileKeeper<'a> {
 /// Why no store is given out, and what is known of the cause.
 #[derive(Clone, Copy)]
 struct Failure {
-    denial: Unavailable,
+    denial: StoreUnavailable,
     cause: Option<&'static str>,
 }
 
@@ -62,7 +62,7 @@ impl<'a> FileKeeper<'a> {
     }
 
     /// Opens a store whose lock is held, and keeps the cause if it fails.
-    fn open(&mut self, path: &str, fresh: bool) -> Result<Store<FileStore<Database>>, Unavailable>
+    fn open(&mut self, path: &str, fresh: bool) -> Result<Store<FileStore<Database>>, StoreUnavailable>
         ensures kept { self.new.lock ≡ self.old.lock }
         ensures closed { self.new.unclosed ≡ self.old.unclosed }
     {
@@ -86,7 +86,7 @@ impl<'a> FileKeeper<'a> {
     {
         let (conn, said) = release(store);
         let closed = close(conn);
-        self.cause = first_code(said, &closed).and_then(of_sqlite);
+        self.cause = first_code(said, &closed).and_then(sqlite_cause);
         self.unclosed = unclosed_of(closed);
     }
 }
@@ -95,8 +95,8 @@ impl Keeper for FileKeeper<'_> {
     type S = FileStore<Database>;
 
     ghost use Rattle.std.specs.Prelude.{false, is_some, option_copied};
-    ghost use Rattle.keepers.specs.Memory.{no_database};
-    ghost use Rattle.keepers.specs.Laws.{never_told};
+    ghost use Rattle.store_lock.specs.Memory.{no_database};
+    ghost use Rattle.store_lock.specs.Laws.{never_told};
 
     ghost tells = { false };
 
@@ -117,7 +117,7 @@ impl Keeper for FileKeeper<'_> {
         self.waits = waits;
     }
 
-    fn lock(&mut self, path: &str) -> Result<(), Unavailable> {
+    fn lock(&mut self, path: &str) -> Result<(), StoreUnavailable> {
         match lock_file(self.rt, path, self.waits) {
             Ok(lock) => {
                 self.lock = Some(lock);
@@ -134,13 +134,13 @@ impl Keeper for FileKeeper<'_> {
         matches!(
             try_lock_beside(self.rt, path, "wait"),
             Err(Failure {
-                denial: Unavailable::Busy,
+                denial: StoreUnavailable::Busy,
                 cause: _,
             })
         )
     }
 
-    fn lock_for_life(&mut self, path: &str) -> Result<(), Unavailable> {
+    fn lock_for_life(&mut self, path: &str) -> Result<(), StoreUnavailable> {
         match try_lock_beside(self.rt, path, "daemon") {
             Ok(lock) => {
                 self.life = Some(lock);
@@ -157,7 +157,7 @@ impl Keeper for FileKeeper<'_> {
         self.lock = None;
     }
 
-    fn take(&mut self, path: &str, fresh: bool) -> Result<Store<FileStore<Database>>, Unavailable> {
+    fn take(&mut self, path: &str, fresh: bool) -> Result<Store<FileStore<Database>>, StoreUnavailable> {
         if self.lock.is_some() {
             return self.open(path, fresh);
         }
@@ -244,7 +244,7 @@ fn try_lock_beside(rt: &HostRuntime, path: &str, ending: &str) -> Result<File, F
     match file.try_lock() {
         Ok(()) => Ok(file),
         Err(TryLockError::WouldBlock) => Err(Failure {
-            denial: Unavailable::Busy,
+            denial: StoreUnavailable::Busy,
             cause: None,
         }),
         Err(TryLockError::Error(error)) => Err(lock_failure(error)),
@@ -277,8 +277,8 @@ fn open_beside(rt: &HostRuntime, path: &str, ending: &str) -> Result<File, Failu
 /// The failure if the system can't open or lock a lock's file.
 fn lock_failure(error: io::Error) -> Failure {
     Failure {
-        denial: Unavailable::Refused(Refusal::Store),
-        cause: Some(of_lock(error.kind())),
+        denial: StoreUnavailable::Refused(Refusal::Store),
+        cause: Some(lock_cause(error.kind())),
     }
 }
 
@@ -305,8 +305,8 @@ fn open_file(
         Err((refusal, conn, code)) => {
             let _ = conn.close();
             Err(Failure {
-                denial: Unavailable::Refused(refusal),
-                cause: code.and_then(of_sqlite),
+                denial: StoreUnavailable::Refused(refusal),
+                cause: code.and_then(sqlite_cause),
             })
         }
     }
@@ -388,8 +388,8 @@ fn make_file(rt: &HostRuntime, path: &str) -> Result<(), Failure> {
         Ok(_) => Ok(()),
         Err(error) if error.kind() == ErrorKind::AlreadyExists => Ok(()),
         Err(error) => Err(Failure {
-            denial: Unavailable::Refused(Refusal::Store),
-            cause: of_file_of_store(error.kind()),
+            denial: StoreUnavailable::Refused(Refusal::Store),
+            cause: store_file_cause(error.kind()),
         }),
     }
 }
@@ -397,12 +397,12 @@ fn make_file(rt: &HostRuntime, path: &str) -> Result<(), Failure> {
 /// The failure if SQLite can't open a file.
 fn open_failure(error: Error) -> Failure {
     let denial = match error {
-        Error::SqliteFailure(ErrorCode::DatabaseBusy) => Unavailable::Busy,
-        Error::SqliteFailure(ErrorCode::NotADatabase) => Unavailable::Refused(Refusal::NotOurs),
-        _ => Unavailable::Refused(Refusal::from(error)),
+        Error::SqliteFailure(ErrorCode::DatabaseBusy) => StoreUnavailable::Busy,
+        Error::SqliteFailure(ErrorCode::NotADatabase) => StoreUnavailable::Refused(Refusal::NotOurs),
+        _ => StoreUnavailable::Refused(Refusal::from(error)),
     };
     let cause = match error {
-        Error::SqliteFailure(code) => of_sqlite(code),
+        Error::SqliteFailure(code) => sqlite_cause(code),
         _ => None,
     };
     Failure { denial, cause }
@@ -411,7 +411,7 @@ fn open_failure(error: Error) -> Failure {
 impl From<Refusal> for Failure {
     fn from(refusal: Refusal) -> Failure {
         Failure {
-            denial: Unavailable::Refused(refusal),
+            denial: StoreUnavailable::Refused(refusal),
             cause: None,
         }
     }
@@ -426,7 +426,7 @@ impl From<AllocError> for Failure {
 /// A store that isn't opened, for this cause.
 fn refused_for(cause: &'static str) -> Failure {
     Failure {
-        denial: Unavailable::Refused(Refusal::Store),
+        denial: StoreUnavailable::Refused(Refusal::Store),
         cause: Some(cause),
     }
 }
@@ -437,7 +437,7 @@ fn file_failure(error: io::Error) -> Failure {
         return Failure::from(Refusal::Memory);
     }
     Failure {
-        denial: Unavailable::Refused(Refusal::Store),
-        cause: of_file_of_store(error.kind()),
+        denial: StoreUnavailable::Refused(Refusal::Store),
+        cause: store_file_cause(error.kind()),
     }
 }

@@ -4,37 +4,37 @@ ghost use Rattle.sqlite.specs.Effect.{Database};
 ghost use Rattle.sqlite.specs.Held as sqlite;
 ghost use Rattle.sqlite.specs.Held.{state};
 ghost use Rattle.sqlite.specs.State.{HasCleanDisk};
-ghost use Rattle.mailstore.specs.Schema.{no_schema, mail_schema};
-ghost use Rattle.mailstore.specs.Connection.{StaysSame, IsSettled};
-ghost use Rattle.mailstore.specs.Account.{no_accounts};
-ghost use Rattle.mailstore.specs.declared.refusal.Refusal.{Refusal};
-ghost use Rattle.mailstore.specs.Refusals.{IsTransient};
-ghost use Rattle.mailstore.specs.Opening.{IsKnown};
-ghost use Rattle.mailstore.specs.Shows.{Presents, OpensAs};
-ghost use Rattle.keepers.specs.Taken.{IsTaken};
-ghost use Rattle.keepers.specs.declared.keeper.Unavailable.{Unavailable};
+ghost use Rattle.store_accounts.specs.Schema.{no_schema, mail_schema};
+ghost use Rattle.store_accounts.specs.Connection.{StaysSame, IsSettled};
+ghost use Rattle.store_accounts.specs.Account.{no_accounts};
+ghost use Rattle.store_accounts.specs.declared.refusal.Refusal.{Refusal};
+ghost use Rattle.store_accounts.specs.Refusals.{IsTransient};
+ghost use Rattle.store_accounts.specs.Opening.{IsKnown};
+ghost use Rattle.store_accounts.specs.Shows.{Presents, OpensAs};
+ghost use Rattle.store_lock.specs.Taken.{IsStoreTaken};
+ghost use Rattle.store_lock.specs.declared.keeper.StoreUnavailable.{StoreUnavailable};
 
-use mailstore::{Refusal, Store};
+use store_accounts::{Refusal, Store};
 use sqlite::{Alter, Connection, ErrorCode};
 use std::alloc::Global;
 
 /// Why no store is given out.
 #[derive(Clone, Copy, Debug, PartialEq, Eq)]
-pub enum Unavailable {
+pub enum StoreUnavailable {
     /// Another process has it.
     Busy,
     /// It can't be opened or made.
     Refused(Refusal),
 }
 
-impl From<Refusal> for Unavailable {
+impl From<Refusal> for StoreUnavailable {
     ghost use Rattle.std.specs.Prelude.{◌≡◌};
-    ghost use Rattle.keepers.specs.declared.keeper.Unavailable.TheVariants.{Refused};
+    ghost use Rattle.store_lock.specs.declared.keeper.StoreUnavailable.TheVariants.{Refused};
 
     ghost from_gives = { λ refusal denial. denial ≡ Refused refusal };
 
-    fn from(refusal: Refusal) -> Unavailable {
-        Unavailable::Refused(refusal)
+    fn from(refusal: Refusal) -> StoreUnavailable {
+        StoreUnavailable::Refused(refusal)
     }
 }
 
@@ -70,7 +70,7 @@ pub trait Keeper {
 
     /// What is true of a keeper that refused the lock, which wasn't out, or the store at a path, and why. Only the refusals of `lock`
     /// and `take` say it, so whoever can say it of any keeper asked it for that path, and was refused with that cause.
-    ghost refuses: { Self → List ℕ → Unavailable → Type 0 } = { λ _ _ _. ⊤ };
+    ghost refuses: { Self → List ℕ → StoreUnavailable → Type 0 } = { λ _ _ _. ⊤ };
 
     /// Sets whether a call of `lock` or `take` waits for a lock that another process has, or answers Busy.
     fn wait_for_lock(&mut self, waits: bool)
@@ -85,7 +85,7 @@ pub trait Keeper {
     /// # Errors
     ///
     /// `Busy` if another process has the lock and there is no waiting; else why it can't be taken. The tables stay as they are.
-    fn lock(&mut self, path: &str) -> Result<(), Unavailable>
+    fn lock(&mut self, path: &str) -> Result<(), StoreUnavailable>
         ensures same { IsTrue tells → holds self.new ≡ holds self.old }
         ensures out { OnOk result (IsTrue (is_out self.new)) }
         ensures kept { OnErr result (is_out self.new ≡ is_out self.old) }
@@ -105,7 +105,7 @@ pub trait Keeper {
     /// # Errors
     ///
     /// `Busy` if another daemon has it; else why it can't be taken.
-    fn lock_for_life(&mut self, path: &str) -> Result<(), Unavailable>
+    fn lock_for_life(&mut self, path: &str) -> Result<(), StoreUnavailable>
         ensures same { IsTrue tells → holds self.new ≡ holds self.old }
         ensures kept { is_out self.new ≡ is_out self.old }
         ensures closed { unclosed self.new ≡ unclosed self.old };
@@ -123,8 +123,8 @@ pub trait Keeper {
     ///
     /// `Busy` if another process has the store and there is no waiting; else why it can't be opened, or made. The
     /// tables stay as they are.
-    fn take(&mut self, path: &str, fresh: bool) -> Result<Store<Self::S>, Unavailable>
-        ensures taken { IfOk result (λ store. IsTrue tells → IsTaken fresh (holds self.old) (state Self.S.Store store).now) }
+    fn take(&mut self, path: &str, fresh: bool) -> Result<Store<Self::S>, StoreUnavailable>
+        ensures taken { IfOk result (λ store. IsTrue tells → IsStoreTaken fresh (holds self.old) (state Self.S.Store store).now) }
         ensures settled { IfOk result (λ store. IsTrue tells → IsSettled (state Self.S.Store store)) }
         ensures refused { OnErr result (IsTrue tells → holds self.new ≡ holds self.old) }
         ensures out { OnOk result (IsTrue (is_out self.new)) }

@@ -9,5 +9,5 @@ mod memory;
 mod note;
 
 pub use file::FileKeeper;
-pub use keeper::{Keeper, Unavailable};
+pub use keeper::{Keeper, StoreUnavailable};
 pub use memory::MemoryKeeper;

@@ -1,9 +1,9 @@
 //! A keeper over memory, for tests.
 ghost use Rattle.std.specs.Prelude.{◌≡◌};
-ghost use Rattle.keepers.specs.Memory.{told_of_close, left_after};
+ghost use Rattle.store_lock.specs.Memory.{told_of_close, left_after};
 
-use crate::keeper::{Keeper, Unavailable, store_of};
-use mailstore::{Refusal, Store};
+use crate::keeper::{Keeper, StoreUnavailable, store_of};
+use store_accounts::{Refusal, Store};
 use sqlite::{Connection, MemStore};
 use std::alloc::{AllocError, Global};
 
@@ -88,7 +88,7 @@ impl Keeper for MemoryKeeper {
 
     ghost use Rattle.std.specs.Prelude.{true, None, refl};
     ghost use Rattle.sqlite.proofs.Callers.{memory_is_clean};
-    ghost use Rattle.keepers.specs.Memory.{database_in};
+    ghost use Rattle.store_lock.specs.Memory.{database_in};
 
     ghost tells = { true };
 
@@ -108,9 +108,9 @@ impl Keeper for MemoryKeeper {
         self.waits = waits;
     }
 
-    fn lock(&mut self, _path: &str) -> Result<(), Unavailable> {
+    fn lock(&mut self, _path: &str) -> Result<(), StoreUnavailable> {
         if self.is_chosen() {
-            return Err(Unavailable::Busy);
+            return Err(StoreUnavailable::Busy);
         }
         self.locked = true;
         Ok(())
@@ -120,7 +120,7 @@ impl Keeper for MemoryKeeper {
         false
     }
 
-    fn lock_for_life(&mut self, _path: &str) -> Result<(), Unavailable> {
+    fn lock_for_life(&mut self, _path: &str) -> Result<(), StoreUnavailable> {
         Ok(())
     }
 
@@ -128,12 +128,12 @@ impl Keeper for MemoryKeeper {
         self.locked = false;
     }
 
-    fn take(&mut self, _path: &str, fresh: bool) -> Result<Store<MemStore>, Unavailable> {
+    fn take(&mut self, _path: &str, fresh: bool) -> Result<Store<MemStore>, StoreUnavailable> {
         if !self.locked && self.is_chosen() {
-            return Err(Unavailable::Busy);
+            return Err(StoreUnavailable::Busy);
         }
         let Some(conn) = self.conn.take() else {
-            return Err(Unavailable::Busy);
+            return Err(StoreUnavailable::Busy);
         };
         match store_of(self.alloc, conn, fresh) {
             Ok(store) => {
@@ -142,7 +142,7 @@ impl Keeper for MemoryKeeper {
             }
             Err((refusal, conn, _)) => {
                 self.conn = Some(conn);
-                Err(Unavailable::Refused(refusal))
+                Err(StoreUnavailable::Refused(refusal))
             }
         }
     }

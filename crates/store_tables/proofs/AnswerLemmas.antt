@@ -28,8 +28,8 @@ use Rattle.sqlite_keyed.proofs.ListLemmas.{map-map, filter-map, filter_none, map
 use Rattle.sqlite_keyed.proofs.KeyedLemmas.{same_int}
 use Rattle.sqlite_typed.proofs.TestLemmas.{at_ints}
 use Rattle.sqlite.proofs.Callers.{one_permutation}
-use Rattle.mailtables.specs.Forms.{over, over_two, nth_over, limited_from}
-use Rattle.mailtables.specs.Rows.{Entry, id_of, cells_of, stored, IsHeld, has_key}
+use Rattle.store_tables.specs.Forms.{over_table, over_two, nth_over, limited_from}
+use Rattle.store_tables.specs.Rows.{Entry, id_of, cells_of, stored, IsHeld, has_key}
 
 pub has_map : {X Y : Type 0} (f : X → Y) (xs : List X) (x : X) → Has xs x → Has (map f xs) (f x)
 has_map f [] x h = absurd h
@@ -135,7 +135,7 @@ module _ (limit offset : Term) (db : Trees) (tree : ℕ) (terms project : List T
 module _ (db : Trees) (tree : ℕ) (terms project : List Term) (order : List (Term × Key)) (params : Row) (cells : List Row) (h : IsHeld (db tree) cells) (p : Row → Bool)
     (meets : (n : ℤ) (cells : Row) → list_all (holds (params ∷ (Int n ∷ cells) ∷ [])) terms ≡ p cells) where
   abbrev all_asked : Query
-  all_asked = (over tree terms project order).body
+  all_asked = (over_table tree terms project order).body
 
   -- where at most one row is found
   pub entries_found : (rows : List Row) → IsAtMostOne (λ e. p (cells_of e)) h.entries → IsAnswer all_asked (overlay db []) params rows
@@ -224,13 +224,13 @@ module _ (db : Trees) (tree other : ℕ) (terms project : List Term) (order : Li
 module _ (schema : Schema) (table : Table) (listed : Has schema.tables table) (index : Index) (indexed : Has schema.indexes index) (guarding : guards index table ≡ true) (key : Row) (places : List ℕ)
     (agrees : (n : ℤ) (cells : Row) → has_key key cells ≡ true → agree index.order index.columns (Int n ∷ cells) places key ≡ true) (db : Trees) (fits : Fits schema db) (cells : List Row)
     (h : IsHeld (db table.tree) cells) (terms : List Term) (params : Row) (meets : (n : ℤ) (cells : Row) → list_all (holds (params ∷ (Int n ∷ cells) ∷ [])) terms ≡ has_key key cells) where
-  pub found_by_key : (project : List Term) (order : List (Term × Key)) (rows : List Row) → IsAnswer (over table.tree terms project order).body (overlay db []) params rows
+  pub found_by_key : (project : List Term) (order : List (Term × Key)) (rows : List Row) → IsAnswer (over_table table.tree terms project order).body (overlay db []) params rows
       → rows ≡ map (λ e. eval_all project (params ∷ stored e ∷ [])) (filter (λ e. has_key key (cells_of e)) h.entries)
   found_by_key project order rows a =
       entries_found db table.tree terms project order params cells h (has_key key) meets rows (one_entry schema table listed index indexed guarding key places agrees db fits cells h) a
 
   pub cells_by_key : (project : List Term) (show : Row → Row) → ((n : ℤ) (cells : Row) → eval_all project (params ∷ (Int n ∷ cells) ∷ []) ≡ show cells) → (order : List (Term × Key)) (rows : List Row)
-      → IsAnswer (over table.tree terms project order).body (overlay db []) params rows → rows ≡ map show (filter (has_key key) cells)
+      → IsAnswer (over_table table.tree terms project order).body (overlay db []) params rows → rows ≡ map show (filter (has_key key) cells)
   cells_by_key project show shows order rows a =
       found_by_key project order rows a ∙ map_same _ (λ e. show (cells_of e)) (λ e. shows (id_of e) (cells_of e)) _ ∙ sym (map-map show cells_of _) ∙ ap (map show) (sym (filter-entries (has_key key) h.entries))
       ∙ sym (ap (λ l. map show (filter (has_key key) l)) h.cells_are)

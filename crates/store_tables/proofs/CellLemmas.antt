@@ -20,7 +20,7 @@ use Rattle.sqlite_keyed.proofs.KeyedLemmas.{Less-from_lt, IsKeyedBy-insert_by, I
 use Rattle.sqlite_keyed.proofs.SliceLemmas.{insert_next}
 use Rattle.sqlite_keyed.proofs.WriteLemmas.{removes_delete}
 use Rattle.sqlite_typed.proofs.RowLemmas.{puts-map, deletes-map}
-use Rattle.mailtables.specs.Rows.{Entry, id_of, cells_of, stored, IsHeld}
+use Rattle.store_tables.specs.Rows.{Entry, id_of, cells_of, stored, IsHeld}
 
 either : (b : Bool) (x : Value) → cond b x x ≡ x
 either true x = refl

@@ -15,10 +15,10 @@ use Rattle.sqlite_schema.specs.Rules.{Fits, are_typed, suits, is_of}
 use Rattle.sqlite_rules.specs.Lists.{Has}
 use Rattle.sqlite_rules.specs.Cast.{cast}
 use Rattle.sqlite_rules.proofs.RuleLemmas.{keeps_at}
-use Rattle.mailtables.specs.Forms.{keyed}
-use Rattle.mailtables.specs.Rows.{cells_of, stored, IsHeld}
-use Rattle.mailtables.proofs.CellLemmas.{cast_null, cast_int}
-use Rattle.mailtables.proofs.AnswerLemmas.{has_map, has_unmap}
+use Rattle.store_tables.specs.Forms.{keyed}
+use Rattle.store_tables.specs.Rows.{cells_of, stored, IsHeld}
+use Rattle.store_tables.proofs.CellLemmas.{cast_null, cast_int}
+use Rattle.store_tables.proofs.AnswerLemmas.{has_map, has_unmap}
 
 null_fits : (kind : Kind) → is_of kind Null ≡ true
 null_fits kind = refl

@@ -22,16 +22,16 @@ use Rattle.sqlite_trees.specs.declared.store.Store.{Ghosts}
 use Rattle.sqlite.proofs.StateLemmas.{survives_then}
 use Rattle.sqlite.proofs.Callers.{IsPlain, command_of, statement_of, runs_as, survives_begin}
 use Rattle.sqlite.proofs.InsideLemmas.{keeps_then}
-use Rattle.mailtables.specs.Rows.{Entry, IsHeld, Tables, HoldsTables, cells_of, stored, added}
-use Rattle.mailtables.proofs.StepLemmas.{went, same_value}
-use Rattle.mailtables.specs.Schema.{no_schema, the_tables, mail_schema, schema_8}
-use Rattle.mailtables.specs.Connection.{no_rows, RunsInside, Makes, TurnsRows, TurnsSchema, ChangesRows, MakesTables}
-use Rattle.mailtables.specs.MetaTable.{version_row, meta_tree}
-use Rattle.mailtables.specs.CopyTable.{copy, copy_message, create_copy_message}
-use Rattle.mailtables.specs.Ours.{TurnsOurs, MakesOurs, MayCreate}
-use Rattle.mailtables.proofs.ResultLemmas.{on_ok}
-use Rattle.mailtables.proofs.WriteLemmas.{MakesInside, clean_before}
-use Rattle.mailtables.proofs.SchemaFacts.{copy_message_defined, copy_message_creates, copy_message_added}
+use Rattle.store_tables.specs.Rows.{Entry, IsHeld, Tables, HoldsTables, cells_of, stored, row_added}
+use Rattle.store_tables.proofs.StepLemmas.{went, same_value}
+use Rattle.store_tables.specs.Schema.{no_schema, the_tables, mail_schema, schema_8}
+use Rattle.store_tables.specs.Connection.{no_rows, RunsInside, Makes, TurnsRows, TurnsSchema, ChangesRows, MakesTables}
+use Rattle.store_tables.specs.MetaTable.{version_row, meta_tree}
+use Rattle.store_tables.specs.CopyTable.{copy, copy_message, create_copy_message}
+use Rattle.store_tables.specs.Ours.{TurnsOurs, MakesOurs, MayCreate}
+use Rattle.store_tables.proofs.ResultLemmas.{on_ok}
+use Rattle.store_tables.proofs.WriteLemmas.{MakesInside, clean_before}
+use Rattle.store_tables.proofs.SchemaFacts.{copy_message_defined, copy_message_creates, copy_message_added}
 
 nothing_held : (rows : List Row) → rows ≡ [] → IsHeld rows []
 nothing_held rows none = record { entries = []; keyed = tt; rows_are = none; cells_are = refl }
@@ -116,9 +116,9 @@ pub makes_failed : {S X Y : Type 0} (g : Ghosts S) (a b : Transaction S) (s t u 
 makes_failed g a b s t u r e q is one = inside_failed g (TurnsSchema s t) (TurnsSchema s u) a b r e q is one
 
 -- all tables, and then the row of the version
-pub ours_then : {S X Y : Type 0} (g : Ghosts S) (a b c : Transaction S) (r : Result X Error) (x : X) (q : Result Y Error) → r ≡ Ok x → MakesTables g no_schema mail_schema a b r → ChangesRows g (added meta_tree version_row) b c q → MakesOurs g a c q
+pub ours_then : {S X Y : Type 0} (g : Ghosts S) (a b c : Transaction S) (r : Result X Error) (x : X) (q : Result Y Error) → r ≡ Ok x → MakesTables g no_schema mail_schema a b r → ChangesRows g (row_added meta_tree version_row) b c q → MakesOurs g a c q
 ours_then g a b c r x q ok tables version =
-    inside_then g (TurnsSchema no_schema mail_schema) (TurnsRows (added meta_tree version_row)) TurnsOurs (λ old mid new first second blank. second no_rows (first no_rows (starts_empty old blank) (λ _ _. refl))) a b c r x q ok tables version
+    inside_then g (TurnsSchema no_schema mail_schema) (TurnsRows (row_added meta_tree version_row)) TurnsOurs (λ old mid new first second blank. second no_rows (first no_rows (starts_empty old blank) (λ _ _. refl))) a b c r x q ok tables version
 
 -- and the commit
 module _ {X : Type 0} (Turned : Database → Database → Type 0) (old last : State) (r : Result X Error) (x : X) (ok : r ≡ Ok x) (inside : IsTrue old.in_transaction) (makes : MakesInside Turned old last r) where

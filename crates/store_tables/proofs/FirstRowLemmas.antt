@@ -16,9 +16,9 @@ use Rattle.sqlite_sql.specs.Program.{overlay}
 use Rattle.sqlite_sql.proofs.QueryLemmas.{output_cmp_total}
 use Rattle.sqlite_rules.specs.Lists.{Has}
 use Rattle.sqlite_rules.proofs.ListLemmas.{all_has, all_from, has_filtered, has_kept}
-use Rattle.mailtables.specs.Forms.{first_over}
-use Rattle.mailtables.specs.Rows.{IsHeld}
-use Rattle.mailtables.proofs.AnswerLemmas.{has_map, has_unmap, nth_in_order}
+use Rattle.store_tables.specs.Forms.{first_over}
+use Rattle.store_tables.specs.Rows.{IsHeld}
+use Rattle.store_tables.proofs.AnswerLemmas.{has_map, has_unmap, nth_in_order}
 
 has_permuted : {X : Type 0} (xs ys : List X) → IsPermutation xs ys → (x : X) → Has ys x → Has xs x
 has_permuted xs ys same x there = all_has (Has xs) ys x (recursion_from_All (Has xs) ys (All-permutation (Has xs) xs ys same (All-from_recursion (Has xs) xs (all_from (Has xs) xs (λ e h. h))))) there

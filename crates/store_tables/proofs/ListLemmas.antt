@@ -12,7 +12,7 @@ use Rattle.sqlite_sql.specs.declared.ops.CompareOp.TheVariants.{Eq}
 use Rattle.sqlite_schema.specs.Rules.{equal}
 use Rattle.sqlite_keyed.specs.Lists.{update_where, delete_where}
 use Rattle.sqlite_typed.proofs.TestLemmas.{at_blobs, same_bytes, bytes_eq_refl}
-use Rattle.mailtables.specs.Rows.{has_key}
+use Rattle.store_tables.specs.Rows.{has_key}
 
 module _ {X : Type 0} (p : X → Bool) where
   pub filter_pushed : (xs : List X) (y : X) → p y ≡ true → filter p (xs ++ y ∷ []) ≡ filter p xs ++ y ∷ []

@@ -14,10 +14,10 @@ use Rattle.sqlite_resolve.specs.Compile.{table_defined_by}
 use Rattle.sqlite_tied.specs.Compute.{everything}
 use Rattle.sqlite.specs.Effect.{Database}
 use Rattle.sqlite.specs.Listing.{understood}
-use Rattle.mailtables.specs.Schema.{no_schema, mail_schema, schema_8, IsOurSchema}
-use Rattle.mailtables.specs.MetaTable.{meta_tree, stored_value_column, version_row}
-use Rattle.mailtables.specs.Connection.{has_our_name}
-use Rattle.mailtables.specs.Ours.{IsOurs}
+use Rattle.store_tables.specs.Schema.{no_schema, mail_schema, schema_8, IsOurSchema}
+use Rattle.store_tables.specs.MetaTable.{meta_tree, stored_value_column, version_row}
+use Rattle.store_tables.specs.Connection.{has_our_name}
+use Rattle.store_tables.specs.Ours.{IsOurs}
 
 -- a database of our tables, with these rows in that of the version
 abbrev with_versions : List Row → Database

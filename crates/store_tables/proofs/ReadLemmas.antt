@@ -14,7 +14,7 @@ use Rattle.sqlite.specs.Listing.{understood, reads_listing}
 use Rattle.sqlite.specs.State.{State, Survives, Shown, ShowsRows, CommitsShowing, FailsToQuery, FailsToShow, IsNotRun, IsUnchanged, IsRolledBack}
 use Rattle.sqlite.proofs.StateLemmas.{survives_weaker}
 use Rattle.sqlite.proofs.Callers.{IsPlain, command_of, never_commits, reads_as}
-use Rattle.mailtables.specs.Forms.{over, over_from, nth_over, limited_from}
+use Rattle.store_tables.specs.Forms.{over_table, over_from, nth_over, limited_from}
 use Rattle.sqlite_sql.specs.Query.{Join, inner, end}
 
 module _ (schema : Schema) (sql : List ℕ) (params : Row) (old new : State) (has : old.now.schema ≡ schema) (plain : IsPlain (understood schema sql)) where
@@ -48,8 +48,8 @@ module _ (schema : Schema) (sql : List ℕ) (params : Row) (old new : State) (ha
       → reads_listing schema sql ≡ false → (rows : List Row) → Shown sql params old new rows → IsAnswer (over_from from terms project order).body (overlay old.now.trees []) params rows
   answered_from = answered_limited (lit (Int (negsuc 0))) (lit (Int (pos 0)))
 
-  pub answered : (tree : ℕ) (terms project : List Term) (order : List (Term × Key)) (names : List (List ℕ)) → command_of (understood schema sql) ≡ Select (over tree terms project order) names
-      → reads_listing schema sql ≡ false → (rows : List Row) → Shown sql params old new rows → IsAnswer (over tree terms project order).body (overlay old.now.trees []) params rows
+  pub answered : (tree : ℕ) (terms project : List Term) (order : List (Term × Key)) (names : List (List ℕ)) → command_of (understood schema sql) ≡ Select (over_table tree terms project order) names
+      → reads_listing schema sql ≡ false → (rows : List Row) → Shown sql params old new rows → IsAnswer (over_table tree terms project order).body (overlay old.now.trees []) params rows
   answered tree = answered_from (inner tree end)
 
   -- of one row of an answer, after that many

@@ -14,15 +14,15 @@ use Rattle.sqlite_resolve.specs.Compile.{table_defined_by, index_defined_by}
 use Rattle.sqlite_tied.specs.Compute.{everything}
 use Rattle.sqlite.specs.Listing.{understood}
 use Rattle.sqlite.proofs.Callers.{IsPlain, command_of, statement_of}
-use Rattle.mailtables.specs.Schema.{no_schema, the_keys, mail_schema, schema_1, schema_2, schema_3, schema_4, schema_5, schema_6, schema_7, schema_8}
-use Rattle.mailtables.specs.MetaTable.{meta, create_meta, meta_tree}
-use Rattle.mailtables.specs.AccountTable.{account, create_account, account_tree}
-use Rattle.mailtables.specs.ScriptTable.{script, create_script, script_tree}
-use Rattle.mailtables.specs.QueueTable.{outgoing, create_outgoing, outgoing_tree}
-use Rattle.mailtables.specs.ReplyTable.{reply, create_reply, reply_tree}
-use Rattle.mailtables.specs.NoticeTable.{notice, create_notice, notice_tree}
-use Rattle.mailtables.specs.MessageTable.{message, create_message, message_tree}
-use Rattle.mailtables.specs.CopyTable.{copy, create_copy, copy_message, create_copy_message, copy_tree}
+use Rattle.store_tables.specs.Schema.{no_schema, the_keys, mail_schema, schema_1, schema_2, schema_3, schema_4, schema_5, schema_6, schema_7, schema_8}
+use Rattle.store_tables.specs.MetaTable.{meta, create_meta, meta_tree}
+use Rattle.store_tables.specs.AccountTable.{account, create_account, account_tree}
+use Rattle.store_tables.specs.ScriptTable.{script, create_script, scripts_tree}
+use Rattle.store_tables.specs.QueueTable.{outgoing, create_outgoing, outgoing_tree}
+use Rattle.store_tables.specs.ReplyTable.{reply, create_reply, reply_tree}
+use Rattle.store_tables.specs.NoticeTable.{notice, create_notice, notice_tree}
+use Rattle.store_tables.specs.MessageTable.{message, create_message, message_tree}
+use Rattle.store_tables.specs.CopyTable.{copy, create_copy, copy_message, create_copy_message, copy_tree}
 
 -- where each table stands in the schema
 pub meta_listed : Has mail_schema.tables meta
@@ -141,7 +141,7 @@ index_named name table places = record { name = name; tree = table + 1; table = 
 abbrev pub named_indexes : List Index
 named_indexes =
     index_named (codes "sqlite_autoindex_meta_1") meta_tree (1 ∷ []) ∷ index_named (codes "sqlite_autoindex_account_1") account_tree (1 ∷ [])
-    ∷ index_named (codes "sqlite_autoindex_script_1") script_tree (1 ∷ 2 ∷ []) ∷ index_named (codes "sqlite_autoindex_outgoing_1") outgoing_tree (1 ∷ 2 ∷ [])
+    ∷ index_named (codes "sqlite_autoindex_script_1") scripts_tree (1 ∷ 2 ∷ []) ∷ index_named (codes "sqlite_autoindex_outgoing_1") outgoing_tree (1 ∷ 2 ∷ [])
     ∷ index_named (codes "sqlite_autoindex_reply_1") reply_tree (1 ∷ 2 ∷ 3 ∷ []) ∷ index_named (codes "sqlite_autoindex_notice_1") notice_tree (1 ∷ 2 ∷ [])
     ∷ index_named (codes "sqlite_autoindex_message_1") message_tree (1 ∷ 2 ∷ []) ∷ index_named (codes "sqlite_autoindex_copy_1") copy_tree (1 ∷ 2 ∷ 3 ∷ []) ∷ []
 

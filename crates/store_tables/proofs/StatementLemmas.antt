@@ -14,32 +14,32 @@ use Rattle.sqlite_rules.specs.Cast.{cast, cast_all}
 use Rattle.sqlite_catalog.specs.Listing.{automatic}
 use Rattle.sqlite.specs.State.{State, Executes}
 use Rattle.sqlite.specs.Values.{bound_value, or_null as bound_or_null}
-use Rattle.mailtables.specs.Forms.{needed}
-use Rattle.mailtables.specs.Rows.{Tables, HoldsTables, has_key, at_most, added, removed, removed_where, set_in}
-use Rattle.mailtables.proofs.CellLemmas.{cast_int}
-use Rattle.mailtables.proofs.ListLemmas.{owner_key, pair_key}
-use Rattle.mailtables.proofs.StepLemmas.{on_insert, on_update, on_delete, insert_holds, update_holds, delete_holds, delete_all_holds}
-use Rattle.mailtables.proofs.ColumnLemmas.{column_is_of, cast_integer}
-use Rattle.mailtables.specs.Schema.{mail_schema}
-use Rattle.mailtables.specs.Connection.{TurnsRows}
-use Rattle.mailtables.specs.Cells.{or_null, contents}
-use Rattle.mailtables.specs.MetaTable.{meta, insert_version, meta_tree}
-use Rattle.mailtables.specs.AccountTable.{account, insert_account, update_active, update_counters, update_address, update_password, update_rounds, account_cells, with_active, with_counters, with_address, with_password, with_rounds, account_tree, next_copy_column, next_notice_column, next_out_column, rounds_column}
-use Rattle.mailtables.specs.ScriptTable.{script, insert_script, delete_script, delete_scripts, script_cells, script_tree}
-use Rattle.mailtables.specs.MessageTable.{message, insert_message, delete_message, delete_messages, message_cells, message_key, message_tree}
-use Rattle.mailtables.specs.CopyTable.{copy, insert_copy, delete_copy, delete_copies, copy_cells, copy_key, copy_tree}
-use Rattle.mailtables.specs.declared.queue.Kind.{Kind}
-use Rattle.mailtables.specs.QueueTable.{outgoing, insert_outgoing, delete_outgoing, delete_queue, queue_cells, queue_key, outgoing_tree, kind_number}
-use Rattle.mailtables.specs.ReplyTable.{reply, insert_reply, delete_reply, reply_cells, reply_key, reply_tree}
-use Rattle.mailtables.specs.NoticeTable.{notice, insert_notice, delete_notices, delete_early_notices, notice_row_cells, notice_moment_column, is_early_notice, notice_tree}
-use Rattle.mailtables.proofs.SchemaFacts.{no_works, message_listed, copy_listed, script_listed, outgoing_listed, reply_listed, notice_listed}
-use Rattle.mailtables.proofs.TextFacts.{by_one, by_two, by_three, six_terms, insert_outgoing_is, insert_outgoing_plain, delete_outgoing_is, delete_outgoing_plain, insert_reply_is, insert_reply_plain, delete_reply_is, delete_reply_plain, insert_notice_is, insert_notice_plain, version_terms, account_terms, active_columns, counter_columns, three_terms, four_terms, five_terms, insert_version_is, insert_version_plain, insert_account_is, insert_account_plain, update_active_is, update_active_plain, update_counters_is, update_counters_plain, insert_script_is, insert_script_plain, delete_script_is, delete_script_plain, insert_message_is, insert_message_plain, insert_copy_is, insert_copy_plain, delete_message_is, delete_message_plain, delete_copy_is, delete_copy_plain, address_columns, password_columns, rounds_columns, by_early, update_address_is, update_address_plain, update_password_is, update_password_plain, update_rounds_is, update_rounds_plain, delete_scripts_is, delete_scripts_plain, delete_queue_is, delete_queue_plain, delete_notices_is, delete_notices_plain, delete_messages_is, delete_messages_plain, delete_copies_is, delete_copies_plain, delete_early_notices_is, delete_early_notices_plain}
+use Rattle.store_tables.specs.Forms.{needed}
+use Rattle.store_tables.specs.Rows.{Tables, HoldsTables, has_key, at_most, row_added, rows_removed, removed_where, set_in}
+use Rattle.store_tables.proofs.CellLemmas.{cast_int}
+use Rattle.store_tables.proofs.ListLemmas.{owner_key, pair_key}
+use Rattle.store_tables.proofs.StepLemmas.{on_insert, on_update, on_delete, insert_holds, update_holds, delete_holds, delete_all_holds}
+use Rattle.store_tables.proofs.ColumnLemmas.{column_is_of, cast_integer}
+use Rattle.store_tables.specs.Schema.{mail_schema}
+use Rattle.store_tables.specs.Connection.{TurnsRows}
+use Rattle.store_tables.specs.Cells.{or_null, borrowed_octets}
+use Rattle.store_tables.specs.MetaTable.{meta, insert_version, meta_tree}
+use Rattle.store_tables.specs.AccountTable.{account, insert_account, update_active, update_counters, update_address, update_password, update_rounds, account_cells, with_active, with_counters, with_address, with_password, with_rounds, account_tree, next_copy_column, next_notice_column, next_out_column, rounds_column}
+use Rattle.store_tables.specs.ScriptTable.{script, insert_script, delete_script, delete_scripts, script_cells, scripts_tree}
+use Rattle.store_tables.specs.MessageTable.{message, insert_message, delete_message, delete_messages, message_cells, message_key, message_tree}
+use Rattle.store_tables.specs.CopyTable.{copy, insert_copy, delete_copy, delete_copies, copy_cells, copy_key, copy_tree}
+use Rattle.store_tables.specs.declared.queue.QueuedKind.{QueuedKind}
+use Rattle.store_tables.specs.QueueTable.{outgoing, insert_outgoing, delete_outgoing, delete_queue, queue_cells, queue_key, outgoing_tree, kind_number}
+use Rattle.store_tables.specs.ReplyTable.{reply, insert_reply, delete_reply, reply_cells, reply_key, reply_tree}
+use Rattle.store_tables.specs.NoticeTable.{notice, insert_notice, delete_notices, delete_early_notices, notice_row_cells, notice_moment_column, is_early_notice, notice_tree}
+use Rattle.store_tables.proofs.SchemaFacts.{no_works, message_listed, copy_listed, script_listed, outgoing_listed, reply_listed, notice_listed}
+use Rattle.store_tables.proofs.TextFacts.{by_one, by_two, by_three, six_terms, insert_outgoing_is, insert_outgoing_plain, delete_outgoing_is, delete_outgoing_plain, insert_reply_is, insert_reply_plain, delete_reply_is, delete_reply_plain, insert_notice_is, insert_notice_plain, version_terms, account_terms, active_columns, counter_columns, three_terms, four_terms, five_terms, insert_version_is, insert_version_plain, insert_account_is, insert_account_plain, update_active_is, update_active_plain, update_counters_is, update_counters_plain, insert_script_is, insert_script_plain, delete_script_is, delete_script_plain, insert_message_is, insert_message_plain, insert_copy_is, insert_copy_plain, delete_message_is, delete_message_plain, delete_copy_is, delete_copy_plain, address_columns, password_columns, rounds_columns, by_early, update_address_is, update_address_plain, update_password_is, update_password_plain, update_rounds_is, update_rounds_plain, delete_scripts_is, delete_scripts_plain, delete_queue_is, delete_queue_plain, delete_notices_is, delete_notices_plain, delete_messages_is, delete_messages_plain, delete_copies_is, delete_copies_plain, delete_early_notices_is, delete_early_notices_plain}
 
 abbrev pub account_index : Index
 account_index = automatic account 0 (1 ∷ []) (account_tree + 1)
 
 abbrev pub script_index : Index
-script_index = automatic script 0 (1 ∷ 2 ∷ []) (script_tree + 1)
+script_index = automatic script 0 (1 ∷ 2 ∷ []) (scripts_tree + 1)
 
 pub account_agrees : (name : List ℕ) (n : ℤ) (cells : Row) → has_key (owner_key name) cells ≡ true → agree account_index.order account_index.columns (Int n ∷ cells) (0 ∷ []) (owner_key name) ≡ true
 unfolding first_key
@@ -80,36 +80,36 @@ unfolding first_key
 copy_agrees owner folder number n cells h = h
 
 pub removes_script : (old new : State) (owner name : List ℕ) (count : ℕ) → Executes delete_script (pair_key owner name) old new (Ok count)
-    → TurnsRows (removed script_tree (pair_key owner name)) old.now new.now
+    → TurnsRows (rows_removed scripts_tree (pair_key owner name)) old.now new.now
 removes_script old new owner name count ran tables h =
     let params = pair_key owner name in
     let on = on_delete mail_schema delete_script params old new tables h delete_script_plain count ran 2 script refl _ delete_script_is in
-    delete_holds mail_schema no_works script.name script_tree script.primary script.references script.columns params old new tables h script_listed script_index (inr (inr (inl refl))) refl params (0 ∷ 1 ∷ [])
+    delete_holds mail_schema no_works script.name scripts_tree script.primary script.references script.columns params old new tables h script_listed script_index (inr (inr (inl refl))) refl params (0 ∷ 1 ∷ [])
     (script_agrees owner name) by_two (λ n cells. refl) 2 on.0 on.1
 
 pub inserts_script : (old new : State) (owner name text : List ℕ) (count : ℕ) → Executes insert_script (script_cells owner name text) old new (Ok count)
-    → TurnsRows (added script_tree (script_cells owner name text)) old.now new.now
+    → TurnsRows (row_added scripts_tree (script_cells owner name text)) old.now new.now
 inserts_script old new owner name text count ran tables h =
     let params = script_cells owner name text in
     let on = on_insert mail_schema insert_script params old new tables h insert_script_plain count ran 2 script refl _ insert_script_is in
-    insert_holds mail_schema no_works script.name script_tree script.primary script.references script.columns params old new tables h script_listed 2 three_terms 4 params on.0 refl refl on.1
+    insert_holds mail_schema no_works script.name scripts_tree script.primary script.references script.columns params old new tables h script_listed 2 three_terms 4 params on.0 refl refl on.1
 
 pub inserts_message : (old new : State) (owner : List ℕ) (id : ℤ) (bytes : List ℕ) (count : ℕ) → Executes insert_message (message_cells owner id bytes) old new (Ok count)
-    → TurnsRows (added message_tree (message_cells owner id bytes)) old.now new.now
+    → TurnsRows (row_added message_tree (message_cells owner id bytes)) old.now new.now
 inserts_message old new owner id bytes count ran tables h =
     let params = message_cells owner id bytes in
     let on = on_insert mail_schema insert_message params old new tables h insert_message_plain count ran 6 message refl _ insert_message_is in
     insert_holds mail_schema no_works message.name message_tree message.primary message.references message.columns params old new tables h message_listed 6 three_terms 4 params on.0 refl (rw cast_int) on.1
 
 pub inserts_copy : (old new : State) (owner folder : List ℕ) (n id : ℤ) (flags : List ℕ) (count : ℕ) → Executes insert_copy (copy_cells owner folder n id flags) old new (Ok count)
-    → TurnsRows (added copy_tree (copy_cells owner folder n id flags)) old.now new.now
+    → TurnsRows (row_added copy_tree (copy_cells owner folder n id flags)) old.now new.now
 inserts_copy old new owner folder n id flags count ran tables h =
     let params = copy_cells owner folder n id flags in
     let on = on_insert mail_schema insert_copy params old new tables h insert_copy_plain count ran 7 copy refl _ insert_copy_is in
     insert_holds mail_schema no_works copy.name copy_tree copy.primary copy.references copy.columns params old new tables h copy_listed 7 five_terms 6 params on.0 refl (rw (cast_int n, cast_int id)) on.1
 
 pub removes_message : (old new : State) (owner : List ℕ) (id : ℤ) (count : ℕ) → Executes delete_message (message_key owner id) old new (Ok count)
-    → TurnsRows (removed message_tree (message_key owner id)) old.now new.now
+    → TurnsRows (rows_removed message_tree (message_key owner id)) old.now new.now
 removes_message old new owner id count ran tables h =
     let params = message_key owner id in
     let on = on_delete mail_schema delete_message params old new tables h delete_message_plain count ran 6 message refl _ delete_message_is in
@@ -117,7 +117,7 @@ removes_message old new owner id count ran tables h =
     (message_agrees owner id) by_two (λ n cells. refl) 6 on.0 on.1
 
 pub removes_copy : (old new : State) (owner folder : List ℕ) (n : ℤ) (count : ℕ) → Executes delete_copy (copy_key owner folder n) old new (Ok count)
-    → TurnsRows (removed copy_tree (copy_key owner folder n)) old.now new.now
+    → TurnsRows (rows_removed copy_tree (copy_key owner folder n)) old.now new.now
 removes_copy old new owner folder n count ran tables h =
     let params = copy_key owner folder n in
     let on = on_delete mail_schema delete_copy params old new tables h delete_copy_plain count ran 7 copy refl _ delete_copy_is in
@@ -125,14 +125,14 @@ removes_copy old new owner folder n count ran tables h =
     (copy_agrees owner folder n) by_three (λ n cells. refl) 7 on.0 on.1
 
 pub inserts_account : (old new : State) (name address salt : List ℕ) (rounds : ℕ) (digest : List ℕ) (count : ℕ) → Executes insert_account (Blob name ∷ Blob address ∷ Blob salt ∷ Int (pos rounds) ∷ Blob digest ∷ []) old new (Ok count)
-    → TurnsRows (added account_tree (account_cells name address salt rounds digest)) old.now new.now
+    → TurnsRows (row_added account_tree (account_cells name address salt rounds digest)) old.now new.now
 inserts_account old new name address salt rounds digest count ran tables h =
     let params : Row = Blob name ∷ Blob address ∷ Blob salt ∷ Int (pos rounds) ∷ Blob digest ∷ [] in
     let on = on_insert mail_schema insert_account params old new tables h insert_account_plain count ran 1 account refl _ insert_account_is in
     insert_holds mail_schema no_works account.name account_tree account.primary account.references account.columns params old new tables h (inr (inl refl)) 1 account_terms 10 (account_cells name address salt rounds digest) on.0 refl
     (rw (cast_int (pos rounds), cast_int (pos 1))) on.1
 
-pub inserts_version : (old new : State) (count : ℕ) → Executes insert_version [] old new (Ok count) → TurnsRows (added meta_tree (Text (codes "version") ∷ Int (pos 3) ∷ [])) old.now new.now
+pub inserts_version : (old new : State) (count : ℕ) → Executes insert_version [] old new (Ok count) → TurnsRows (row_added meta_tree (Text (codes "version") ∷ Int (pos 3) ∷ [])) old.now new.now
 inserts_version old new count ran tables h =
     let on = on_insert mail_schema insert_version [] old new tables h insert_version_plain count ran 0 meta refl _ insert_version_is in
     insert_holds mail_schema no_works meta.name meta_tree meta.primary meta.references meta.columns [] old new tables h (inl refl) 0 version_terms 3 (Text (codes "version") ∷ Int (pos 3) ∷ []) on.0 refl
@@ -176,12 +176,12 @@ sets_counters old new name copies outs notices count ran tables h =
     (account_agrees name) by_one (λ n cells. refl) (with_counters copies outs notices) (λ cells there. counters_fit old tables h cells there copies outs notices) counter_columns (λ n cells. refl) 1 on.0 on.1
 
 -- how an option is bound
-pub active_bound : (o : Option (Bor (List ℕ))) → bound_value (bound_or_null (λ b. Blob b.now) o) ≡ or_null (contents o)
+pub active_bound : (o : Option (Bor (List ℕ))) → bound_value (bound_or_null (λ b. Blob b.now) o) ≡ or_null (borrowed_octets o)
 active_bound None = refl
 active_bound (Some b) = refl
 
-pub inserts_outgoing : (old new : State) (owner : List ℕ) (id : ℤ) (kind : Kind) (sender target message : List ℕ) (count : ℕ) → Executes insert_outgoing (queue_cells owner id kind sender target message) old new (Ok count)
-    → TurnsRows (added outgoing_tree (queue_cells owner id kind sender target message)) old.now new.now
+pub inserts_outgoing : (old new : State) (owner : List ℕ) (id : ℤ) (kind : QueuedKind) (sender target message : List ℕ) (count : ℕ) → Executes insert_outgoing (queue_cells owner id kind sender target message) old new (Ok count)
+    → TurnsRows (row_added outgoing_tree (queue_cells owner id kind sender target message)) old.now new.now
 inserts_outgoing old new owner id kind sender target message count ran tables h =
     let params = queue_cells owner id kind sender target message in
     let on = on_insert mail_schema insert_outgoing params old new tables h insert_outgoing_plain count ran 3 outgoing refl _ insert_outgoing_is in
@@ -189,7 +189,7 @@ inserts_outgoing old new owner id kind sender target message count ran tables h 
     (rw (cast_int id, cast_int (pos (kind_number kind)))) on.1
 
 pub removes_outgoing : (old new : State) (owner : List ℕ) (id : ℤ) (count : ℕ) → Executes delete_outgoing (queue_key owner id) old new (Ok count)
-    → TurnsRows (removed outgoing_tree (queue_key owner id)) old.now new.now
+    → TurnsRows (rows_removed outgoing_tree (queue_key owner id)) old.now new.now
 removes_outgoing old new owner id count ran tables h =
     let params = queue_key owner id in
     let on = on_delete mail_schema delete_outgoing params old new tables h delete_outgoing_plain count ran 3 outgoing refl _ delete_outgoing_is in
@@ -197,14 +197,14 @@ removes_outgoing old new owner id count ran tables h =
     (outgoing_agrees owner id) by_two (λ n cells. refl) 3 on.0 on.1
 
 pub inserts_reply : (old new : State) (owner handle sender : List ℕ) (moment : ℤ) (count : ℕ) → Executes insert_reply (reply_cells owner handle sender moment) old new (Ok count)
-    → TurnsRows (added reply_tree (reply_cells owner handle sender moment)) old.now new.now
+    → TurnsRows (row_added reply_tree (reply_cells owner handle sender moment)) old.now new.now
 inserts_reply old new owner handle sender moment count ran tables h =
     let params = reply_cells owner handle sender moment in
     let on = on_insert mail_schema insert_reply params old new tables h insert_reply_plain count ran 4 reply refl _ insert_reply_is in
     insert_holds mail_schema no_works reply.name reply_tree reply.primary reply.references reply.columns params old new tables h reply_listed 4 four_terms 5 params on.0 refl (rw cast_int) on.1
 
 pub removes_reply : (old new : State) (owner handle sender : List ℕ) (count : ℕ) → Executes delete_reply (reply_key owner handle sender) old new (Ok count)
-    → TurnsRows (removed reply_tree (reply_key owner handle sender)) old.now new.now
+    → TurnsRows (rows_removed reply_tree (reply_key owner handle sender)) old.now new.now
 removes_reply old new owner handle sender count ran tables h =
     let params = reply_key owner handle sender in
     let on = on_delete mail_schema delete_reply params old new tables h delete_reply_plain count ran 4 reply refl _ delete_reply_is in
@@ -212,7 +212,7 @@ removes_reply old new owner handle sender count ran tables h =
     (reply_agrees owner handle sender) by_three (λ n cells. refl) 4 on.0 on.1
 
 pub inserts_notice : (old new : State) (owner : List ℕ) (id moment : ℤ) (text : List ℕ) (count : ℕ) → Executes insert_notice (notice_row_cells owner id moment text) old new (Ok count)
-    → TurnsRows (added notice_tree (notice_row_cells owner id moment text)) old.now new.now
+    → TurnsRows (row_added notice_tree (notice_row_cells owner id moment text)) old.now new.now
 inserts_notice old new owner id moment text count ran tables h =
     let params = notice_row_cells owner id moment text in
     let on = on_insert mail_schema insert_notice params old new tables h insert_notice_plain count ran 5 notice refl _ insert_notice_is in
@@ -244,31 +244,31 @@ sets_rounds old new name rounds count ran tables h =
 
 -- ---- all rows of an owner
 
-pub removes_scripts : (old new : State) (owner : List ℕ) (count : ℕ) → Executes delete_scripts (owner_key owner) old new (Ok count) → TurnsRows (removed script_tree (owner_key owner)) old.now new.now
+pub removes_scripts : (old new : State) (owner : List ℕ) (count : ℕ) → Executes delete_scripts (owner_key owner) old new (Ok count) → TurnsRows (rows_removed scripts_tree (owner_key owner)) old.now new.now
 removes_scripts old new owner count ran tables h =
     let params = owner_key owner in
     let on = on_delete mail_schema delete_scripts params old new tables h delete_scripts_plain count ran 2 script refl _ delete_scripts_is in
-    delete_all_holds mail_schema no_works script.name script_tree script.primary script.references script.columns params old new tables h script_listed (has_key params) by_one (λ n cells. refl) 2 on.0 on.1
+    delete_all_holds mail_schema no_works script.name scripts_tree script.primary script.references script.columns params old new tables h script_listed (has_key params) by_one (λ n cells. refl) 2 on.0 on.1
 
-pub removes_queue : (old new : State) (owner : List ℕ) (count : ℕ) → Executes delete_queue (owner_key owner) old new (Ok count) → TurnsRows (removed outgoing_tree (owner_key owner)) old.now new.now
+pub removes_queue : (old new : State) (owner : List ℕ) (count : ℕ) → Executes delete_queue (owner_key owner) old new (Ok count) → TurnsRows (rows_removed outgoing_tree (owner_key owner)) old.now new.now
 removes_queue old new owner count ran tables h =
     let params = owner_key owner in
     let on = on_delete mail_schema delete_queue params old new tables h delete_queue_plain count ran 3 outgoing refl _ delete_queue_is in
     delete_all_holds mail_schema no_works outgoing.name outgoing_tree outgoing.primary outgoing.references outgoing.columns params old new tables h outgoing_listed (has_key params) by_one (λ n cells. refl) 3 on.0 on.1
 
-pub removes_notices : (old new : State) (owner : List ℕ) (count : ℕ) → Executes delete_notices (owner_key owner) old new (Ok count) → TurnsRows (removed notice_tree (owner_key owner)) old.now new.now
+pub removes_notices : (old new : State) (owner : List ℕ) (count : ℕ) → Executes delete_notices (owner_key owner) old new (Ok count) → TurnsRows (rows_removed notice_tree (owner_key owner)) old.now new.now
 removes_notices old new owner count ran tables h =
     let params = owner_key owner in
     let on = on_delete mail_schema delete_notices params old new tables h delete_notices_plain count ran 5 notice refl _ delete_notices_is in
     delete_all_holds mail_schema no_works notice.name notice_tree notice.primary notice.references notice.columns params old new tables h notice_listed (has_key params) by_one (λ n cells. refl) 5 on.0 on.1
 
-pub removes_messages : (old new : State) (owner : List ℕ) (count : ℕ) → Executes delete_messages (owner_key owner) old new (Ok count) → TurnsRows (removed message_tree (owner_key owner)) old.now new.now
+pub removes_messages : (old new : State) (owner : List ℕ) (count : ℕ) → Executes delete_messages (owner_key owner) old new (Ok count) → TurnsRows (rows_removed message_tree (owner_key owner)) old.now new.now
 removes_messages old new owner count ran tables h =
     let params = owner_key owner in
     let on = on_delete mail_schema delete_messages params old new tables h delete_messages_plain count ran 6 message refl _ delete_messages_is in
     delete_all_holds mail_schema no_works message.name message_tree message.primary message.references message.columns params old new tables h message_listed (has_key params) by_one (λ n cells. refl) 6 on.0 on.1
 
-pub removes_copies : (old new : State) (owner : List ℕ) (count : ℕ) → Executes delete_copies (owner_key owner) old new (Ok count) → TurnsRows (removed copy_tree (owner_key owner)) old.now new.now
+pub removes_copies : (old new : State) (owner : List ℕ) (count : ℕ) → Executes delete_copies (owner_key owner) old new (Ok count) → TurnsRows (rows_removed copy_tree (owner_key owner)) old.now new.now
 removes_copies old new owner count ran tables h =
     let params = owner_key owner in
     let on = on_delete mail_schema delete_copies params old new tables h delete_copies_plain count ran 7 copy refl _ delete_copies_is in

@@ -37,10 +37,10 @@ use Rattle.sqlite.specs.declared.run.Mode.{Mode}
 use Rattle.sqlite.specs.Listing.{understood}
 use Rattle.sqlite.specs.State.{State, mode_of, Executes}
 use Rattle.sqlite.proofs.Callers.{IsPlain, command_of, statement_of, runs_as, one_step}
-use Rattle.mailtables.specs.Forms.{keyed, over}
-use Rattle.mailtables.specs.Rows.{Entry, id_of, cells_of, stored, IsHeld, Tables, HoldsTables, has_key, added, removed, removed_where, set_in}
-use Rattle.mailtables.proofs.CellLemmas.{cast_null, cast_int, changed, held_insert, held_delete, held_delete_all, held_update}
-use Rattle.mailtables.proofs.AnswerLemmas.{has_map, entries_some, found_by_key}
+use Rattle.store_tables.specs.Forms.{keyed, over_table}
+use Rattle.store_tables.specs.Rows.{Entry, id_of, cells_of, stored, IsHeld, Tables, HoldsTables, has_key, row_added, rows_removed, removed_where, set_in}
+use Rattle.store_tables.proofs.CellLemmas.{cast_null, cast_int, changed, held_insert, held_delete, held_delete_all, held_update}
+use Rattle.store_tables.proofs.AnswerLemmas.{has_map, entries_some, found_by_key}
 
 -- a part that gave a value did not stop on the way
 pub went : {B E R : Type 0} {b : B} {Stops : E → Type 0} → ((stop : E) × Stops stop × (Ok b ≡ Err stop)) ⊎ R → R
@@ -98,7 +98,7 @@ module _ (schema : Schema) (no_works : (depth tree : ℕ) (olds news : List Row)
     inserted rows cells fits = rw (cast_null, fits)
 
     pub insert_holds : (at : ℕ) (terms : List Term) (width : ℕ) (cells : Row) (tally : Tally) → value_rows params width (suc (length terms) / width) (lit Null ∷ terms) ≡ (Null ∷ cells) ∷ []
-        → cast_all columns cells ≡ cells → On it params old new (Insert at (Values (lit Null ∷ terms) width)) tally → HoldsTables schema new.now (added tree cells tables)
+        → cast_all columns cells ≡ cells → On it params old new (Insert at (Values (lit Null ∷ terms) width)) tally → HoldsTables schema new.now (row_added tree cells tables)
     insert_holds at terms width cells tally values fits on =
         let db = old.now.trees in
         let done = went on in
@@ -116,7 +116,7 @@ module _ (schema : Schema) (no_works : (depth tree : ℕ) (olds news : List Row)
 
     -- a DELETE of all rows that pass
     module _ (p : Row → Bool) (terms : List Term) (meets : (n : ℤ) (cells : Row) → list_all (holds (params ∷ (Int n ∷ cells) ∷ [])) terms ≡ p cells) where
-      pub delete_all_holds : (at : ℕ) (tally : Tally) → On it params old new (Delete at (over tree terms (col 1 0 ∷ []) [])) tally → HoldsTables schema new.now (removed_where tree p tables)
+      pub delete_all_holds : (at : ℕ) (tally : Tally) → On it params old new (Delete at (over_table tree terms (col 1 0 ∷ []) [])) tally → HoldsTables schema new.now (removed_where tree p tables)
       delete_all_holds at tally on =
           let db = old.now.trees in
           let done = went on in
@@ -129,7 +129,7 @@ module _ (schema : Schema) (no_works : (depth tree : ℕ) (olds news : List Row)
           let some = entries_some db tree terms (col 1 0 ∷ []) [] params (tables tree) (h.each it listed) p meets given.0 (given.1.answer Null) in
           let passing = filter (λ e. p (cells_of e)) (h.each it listed).entries in
           let number = λ (o : Output). id_in (rowid o.1) in
-          let found : map number (map (λ e. output (over tree terms (col 1 0 ∷ []) []).body (params ∷ stored e ∷ [])) passing) ≡ map id_of passing = map-map number _ passing in
+          let found : map number (map (λ e. output (over_table tree terms (col 1 0 ∷ []) []).body (params ∷ stored e ∷ [])) passing) ≡ map id_of passing = map-map number _ passing in
           let ids : ids_of given.0 ≡ map number some.0 = ap ids_of some.2 ∙ map-map _ (λ (o : Output). o.1) some.0 in
           let same : IsPermutation (map id_of passing) (ids_of given.0) =
           subst (λ l. IsPermutation (map id_of passing) l) (sym ids) (subst (λ l. IsPermutation l (map number some.0)) found (IsPermutation-map number _ some.0 some.1)) in
@@ -141,10 +141,10 @@ module _ (schema : Schema) (no_works : (depth tree : ℕ) (olds news : List Row)
       abbrev found : List Entry
       found = filter (λ e. has_key key (cells_of e)) (h.each it listed).entries
 
-      asked : (project : List Term) (rows : List Row) → IsAnswer (over tree terms project []).body (overlay old.now.trees []) params rows → rows ≡ map (λ e. eval_all project (params ∷ stored e ∷ [])) found
+      asked : (project : List Term) (rows : List Row) → IsAnswer (over_table tree terms project []).body (overlay old.now.trees []) params rows → rows ≡ map (λ e. eval_all project (params ∷ stored e ∷ [])) found
       asked project rows a = found_by_key schema it listed index indexed guarding key places agrees old.now.trees h.fits (tables tree) (h.each it listed) terms params meets project [] rows a
 
-      pub delete_holds : (at : ℕ) (tally : Tally) → On it params old new (Delete at (over tree terms (col 1 0 ∷ []) [])) tally → HoldsTables schema new.now (removed tree key tables)
+      pub delete_holds : (at : ℕ) (tally : Tally) → On it params old new (Delete at (over_table tree terms (col 1 0 ∷ []) [])) tally → HoldsTables schema new.now (rows_removed tree key tables)
       delete_holds at tally on =
           let db = old.now.trees in
           let done = went on in
@@ -169,7 +169,7 @@ module _ (schema : Schema) (no_works : (depth tree : ℕ) (olds news : List Row)
             ∙ map_same_on _ (λ e. stored (changed f e)) found (λ e there. ap (λ s. cast_row it (drop 1 s)) (sets (id_of e) (cells_of e)) ∙ rw (cast_int, fits (cells_of e) (found_cells e there)))
             ∙ sym (map-map stored (changed f) found)
 
-        pub update_holds : (at : ℕ) (tally : Tally) → On it params old new (Update at (over tree terms project [])) tally → HoldsTables schema new.now (set_in tree key f tables)
+        pub update_holds : (at : ℕ) (tally : Tally) → On it params old new (Update at (over_table tree terms project [])) tally → HoldsTables schema new.now (set_in tree key f tables)
         update_holds at tally on =
             let db = old.now.trees in
             let done = went on in

@@ -13,16 +13,16 @@ use Rattle.sqlite_schema.specs.declared.command.Command.TheVariants.{Insert, Upd
 use Rattle.sqlite_tied.specs.Compute.{everything}
 use Rattle.sqlite.specs.Listing.{understood, reads_listing}
 use Rattle.sqlite.proofs.Callers.{IsPlain, command_of}
-use Rattle.mailtables.specs.Forms.{equals, over, over_two, first_over, nth_over}
-use Rattle.mailtables.specs.Schema.{mail_schema}
-use Rattle.mailtables.specs.MetaTable.{insert_version, select_version, meta_tree}
-use Rattle.mailtables.specs.AccountTable.{insert_account, update_active, update_counters, update_address, update_password, update_rounds, select_account, select_counters, account_tree}
-use Rattle.mailtables.specs.ScriptTable.{insert_script, delete_script, delete_scripts, select_names, select_script, script_tree}
-use Rattle.mailtables.specs.MessageTable.{insert_message, delete_message, delete_messages, select_message, message_tree}
-use Rattle.mailtables.specs.CopyTable.{insert_copy, delete_copy, delete_copies, select_later_number, select_later_folder, select_later_owner, select_nth, select_numbers, select_other, select_folders, select_folder, copy_tree}
-use Rattle.mailtables.specs.QueueTable.{outgoing_tree, select_heads, select_later_id, select_later_queue, select_outgoing, select_queue, insert_outgoing, delete_outgoing, delete_queue}
-use Rattle.mailtables.specs.NoticeTable.{notice_tree, select_notices, insert_notice, delete_notices, delete_early_notices}
-use Rattle.mailtables.specs.ReplyTable.{reply_tree, insert_reply, delete_reply, select_moment, select_replies}
+use Rattle.store_tables.specs.Forms.{equals, over_table, over_two, first_over, nth_over}
+use Rattle.store_tables.specs.Schema.{mail_schema}
+use Rattle.store_tables.specs.MetaTable.{insert_version, select_version, meta_tree}
+use Rattle.store_tables.specs.AccountTable.{insert_account, update_active, update_counters, update_address, update_password, update_rounds, select_account, select_counters, account_tree}
+use Rattle.store_tables.specs.ScriptTable.{insert_script, delete_script, delete_scripts, select_names, select_script, scripts_tree}
+use Rattle.store_tables.specs.MessageTable.{insert_message, delete_message, delete_messages, select_message, message_tree}
+use Rattle.store_tables.specs.CopyTable.{insert_copy, delete_copy, delete_copies, select_later_number, select_later_folder, select_later_owner, select_nth, select_numbers, select_other, select_folders, select_folder, copy_tree}
+use Rattle.store_tables.specs.QueueTable.{outgoing_tree, select_heads, select_later_id, select_later_queue, select_outgoing, select_queue, insert_outgoing, delete_outgoing, delete_queue}
+use Rattle.store_tables.specs.NoticeTable.{notice_tree, select_notices, insert_notice, delete_notices, delete_early_notices}
+use Rattle.store_tables.specs.ReplyTable.{reply_tree, insert_reply, delete_reply, select_moment, select_replies}
 
 abbrev pub by_one : List Term
 by_one = equals 1 0 ∷ []
@@ -55,7 +55,7 @@ insert_account_plain = (refl, refl)
 abbrev pub active_columns : List Term
 active_columns = col 1 0 ∷ col 1 0 ∷ col 1 1 ∷ col 1 2 ∷ col 1 3 ∷ col 1 4 ∷ col 1 5 ∷ col 0 1 ∷ col 1 7 ∷ col 1 8 ∷ col 1 9 ∷ []
 
-pub update_active_is : command_of (understood mail_schema update_active) ≡ Update 1 (over account_tree by_one active_columns [])
+pub update_active_is : command_of (understood mail_schema update_active) ≡ Update 1 (over_table account_tree by_one active_columns [])
 unfolding understood everything
 update_active_is = refl
 
@@ -66,7 +66,7 @@ update_active_plain = (refl, refl)
 abbrev pub counter_columns : List Term
 counter_columns = col 1 0 ∷ col 1 0 ∷ col 1 1 ∷ col 1 2 ∷ col 1 3 ∷ col 1 4 ∷ col 1 5 ∷ col 1 6 ∷ col 0 1 ∷ col 0 2 ∷ col 0 3 ∷ []
 
-pub update_counters_is : command_of (understood mail_schema update_counters) ≡ Update 1 (over account_tree by_one counter_columns [])
+pub update_counters_is : command_of (understood mail_schema update_counters) ≡ Update 1 (over_table account_tree by_one counter_columns [])
 unfolding understood everything
 update_counters_is = refl
 
@@ -85,7 +85,7 @@ pub insert_script_plain : IsPlain (understood mail_schema insert_script)
 unfolding understood everything
 insert_script_plain = (refl, refl)
 
-pub delete_script_is : command_of (understood mail_schema delete_script) ≡ Delete 2 (over script_tree by_two (col 1 0 ∷ []) [])
+pub delete_script_is : command_of (understood mail_schema delete_script) ≡ Delete 2 (over_table scripts_tree by_two (col 1 0 ∷ []) [])
 unfolding understood everything
 delete_script_is = refl
 
@@ -118,7 +118,7 @@ insert_copy_plain = (refl, refl)
 abbrev pub account_shown : List Term
 account_shown = col 1 2 ∷ col 1 3 ∷ col 1 4 ∷ col 1 5 ∷ col 1 6 ∷ []
 
-pub select_account_is : command_of (understood mail_schema select_account) ≡ Select (over account_tree by_one account_shown []) (codes "address" ∷ codes "salt" ∷ codes "rounds" ∷ codes "digest" ∷ codes "active" ∷ [])
+pub select_account_is : command_of (understood mail_schema select_account) ≡ Select (over_table account_tree by_one account_shown []) (codes "address" ∷ codes "salt" ∷ codes "rounds" ∷ codes "digest" ∷ codes "active" ∷ [])
 unfolding understood everything
 select_account_is = refl
 
@@ -126,7 +126,7 @@ pub select_account_plain : IsPlain (understood mail_schema select_account) × (r
 unfolding understood everything
 select_account_plain = ((refl, refl), refl)
 
-pub select_version_is : command_of (understood mail_schema select_version) ≡ Select (over meta_tree by_one (col 1 2 ∷ []) []) (codes "value" ∷ [])
+pub select_version_is : command_of (understood mail_schema select_version) ≡ Select (over_table meta_tree by_one (col 1 2 ∷ []) []) (codes "value" ∷ [])
 unfolding understood everything
 select_version_is = refl
 
@@ -137,7 +137,7 @@ select_version_plain = ((refl, refl), refl)
 abbrev pub counters_shown : List Term
 counters_shown = col 1 7 ∷ col 1 8 ∷ col 1 9 ∷ []
 
-pub select_counters_is : command_of (understood mail_schema select_counters) ≡ Select (over account_tree by_one counters_shown []) (codes "next_copy" ∷ codes "next_out" ∷ codes "next_notice" ∷ [])
+pub select_counters_is : command_of (understood mail_schema select_counters) ≡ Select (over_table account_tree by_one counters_shown []) (codes "next_copy" ∷ codes "next_out" ∷ codes "next_notice" ∷ [])
 unfolding understood everything
 select_counters_is = refl
 
@@ -145,7 +145,7 @@ pub select_counters_plain : IsPlain (understood mail_schema select_counters) × 
 unfolding understood everything
 select_counters_plain = ((refl, refl), refl)
 
-pub select_names_is : command_of (understood mail_schema select_names) ≡ Select (over script_tree by_one (col 1 2 ∷ []) ((col 1 2, ascending Binary) ∷ [])) (codes "name" ∷ [])
+pub select_names_is : command_of (understood mail_schema select_names) ≡ Select (over_table scripts_tree by_one (col 1 2 ∷ []) ((col 1 2, ascending Binary) ∷ [])) (codes "name" ∷ [])
 unfolding understood everything
 select_names_is = refl
 
@@ -153,7 +153,7 @@ pub select_names_plain : IsPlain (understood mail_schema select_names) × (reads
 unfolding understood everything
 select_names_plain = ((refl, refl), refl)
 
-pub select_script_is : command_of (understood mail_schema select_script) ≡ Select (over script_tree by_two (col 1 3 ∷ []) []) (codes "text" ∷ [])
+pub select_script_is : command_of (understood mail_schema select_script) ≡ Select (over_table scripts_tree by_two (col 1 3 ∷ []) []) (codes "text" ∷ [])
 unfolding understood everything
 select_script_is = refl
 
@@ -161,7 +161,7 @@ pub select_script_plain : IsPlain (understood mail_schema select_script) × (rea
 unfolding understood everything
 select_script_plain = ((refl, refl), refl)
 
-pub select_folders_is : command_of (understood mail_schema select_folders) ≡ Select (over copy_tree by_one (col 1 2 ∷ []) ((col 1 2, ascending Binary) ∷ [])) (codes "folder" ∷ [])
+pub select_folders_is : command_of (understood mail_schema select_folders) ≡ Select (over_table copy_tree by_one (col 1 2 ∷ []) ((col 1 2, ascending Binary) ∷ [])) (codes "folder" ∷ [])
 unfolding understood everything
 select_folders_is = refl
 
@@ -184,7 +184,7 @@ select_folder_plain = ((refl, refl), refl)
 abbrev pub queue_shown : List Term
 queue_shown = col 1 2 ∷ col 1 3 ∷ col 1 4 ∷ col 1 5 ∷ col 1 6 ∷ []
 
-pub select_queue_is : command_of (understood mail_schema select_queue) ≡ Select (over outgoing_tree by_one queue_shown ((col 1 2, ascending Binary) ∷ [])) (codes "id" ∷ codes "kind" ∷ codes "sender" ∷ codes "target" ∷ codes "message" ∷ [])
+pub select_queue_is : command_of (understood mail_schema select_queue) ≡ Select (over_table outgoing_tree by_one queue_shown ((col 1 2, ascending Binary) ∷ [])) (codes "id" ∷ codes "kind" ∷ codes "sender" ∷ codes "target" ∷ codes "message" ∷ [])
 unfolding understood everything
 select_queue_is = refl
 
@@ -192,7 +192,7 @@ pub select_queue_plain : IsPlain (understood mail_schema select_queue) × (reads
 unfolding understood everything
 select_queue_plain = ((refl, refl), refl)
 
-pub select_outgoing_is : command_of (understood mail_schema select_outgoing) ≡ Select (over outgoing_tree by_two queue_shown []) (codes "id" ∷ codes "kind" ∷ codes "sender" ∷ codes "target" ∷ codes "message" ∷ [])
+pub select_outgoing_is : command_of (understood mail_schema select_outgoing) ≡ Select (over_table outgoing_tree by_two queue_shown []) (codes "id" ∷ codes "kind" ∷ codes "sender" ∷ codes "target" ∷ codes "message" ∷ [])
 unfolding understood everything
 select_outgoing_is = refl
 
@@ -203,7 +203,7 @@ select_outgoing_plain = ((refl, refl), refl)
 abbrev pub notices_shown : List Term
 notices_shown = col 1 3 ∷ col 1 4 ∷ []
 
-pub select_notices_is : command_of (understood mail_schema select_notices) ≡ Select (over notice_tree by_one notices_shown ((col 1 2, ascending Binary) ∷ [])) (codes "moment" ∷ codes "text" ∷ [])
+pub select_notices_is : command_of (understood mail_schema select_notices) ≡ Select (over_table notice_tree by_one notices_shown ((col 1 2, ascending Binary) ∷ [])) (codes "moment" ∷ codes "text" ∷ [])
 unfolding understood everything
 select_notices_is = refl
 
@@ -225,7 +225,7 @@ pub insert_outgoing_plain : IsPlain (understood mail_schema insert_outgoing)
 unfolding understood everything
 insert_outgoing_plain = (refl, refl)
 
-pub delete_outgoing_is : command_of (understood mail_schema delete_outgoing) ≡ Delete 3 (over outgoing_tree by_two (col 1 0 ∷ []) [])
+pub delete_outgoing_is : command_of (understood mail_schema delete_outgoing) ≡ Delete 3 (over_table outgoing_tree by_two (col 1 0 ∷ []) [])
 unfolding understood everything
 delete_outgoing_is = refl
 
@@ -241,7 +241,7 @@ pub insert_reply_plain : IsPlain (understood mail_schema insert_reply)
 unfolding understood everything
 insert_reply_plain = (refl, refl)
 
-pub delete_reply_is : command_of (understood mail_schema delete_reply) ≡ Delete 4 (over reply_tree by_three (col 1 0 ∷ []) [])
+pub delete_reply_is : command_of (understood mail_schema delete_reply) ≡ Delete 4 (over_table reply_tree by_three (col 1 0 ∷ []) [])
 unfolding understood everything
 delete_reply_is = refl
 
@@ -257,7 +257,7 @@ pub insert_notice_plain : IsPlain (understood mail_schema insert_notice)
 unfolding understood everything
 insert_notice_plain = (refl, refl)
 
-pub select_moment_is : command_of (understood mail_schema select_moment) ≡ Select (over reply_tree by_three (col 1 4 ∷ []) []) (codes "moment" ∷ [])
+pub select_moment_is : command_of (understood mail_schema select_moment) ≡ Select (over_table reply_tree by_three (col 1 4 ∷ []) []) (codes "moment" ∷ [])
 unfolding understood everything
 select_moment_is = refl
 
@@ -272,7 +272,7 @@ by_sender = equals 1 0 ∷ equals 3 1 ∷ []
 abbrev pub replies_shown : List Term
 replies_shown = col 1 2 ∷ col 1 4 ∷ []
 
-pub select_replies_is : command_of (understood mail_schema select_replies) ≡ Select (over reply_tree by_sender replies_shown ((col 1 2, ascending Binary) ∷ [])) (codes "handle" ∷ codes "moment" ∷ [])
+pub select_replies_is : command_of (understood mail_schema select_replies) ≡ Select (over_table reply_tree by_sender replies_shown ((col 1 2, ascending Binary) ∷ [])) (codes "handle" ∷ codes "moment" ∷ [])
 unfolding understood everything
 select_replies_is = refl
 
@@ -280,7 +280,7 @@ pub select_replies_plain : IsPlain (understood mail_schema select_replies) × (r
 unfolding understood everything
 select_replies_plain = ((refl, refl), refl)
 
-pub delete_message_is : command_of (understood mail_schema delete_message) ≡ Delete 6 (over message_tree by_two (col 1 0 ∷ []) [])
+pub delete_message_is : command_of (understood mail_schema delete_message) ≡ Delete 6 (over_table message_tree by_two (col 1 0 ∷ []) [])
 unfolding understood everything
 delete_message_is = refl
 
@@ -288,7 +288,7 @@ pub delete_message_plain : IsPlain (understood mail_schema delete_message)
 unfolding understood everything
 delete_message_plain = (refl, refl)
 
-pub delete_copy_is : command_of (understood mail_schema delete_copy) ≡ Delete 7 (over copy_tree by_three (col 1 0 ∷ []) [])
+pub delete_copy_is : command_of (understood mail_schema delete_copy) ≡ Delete 7 (over_table copy_tree by_three (col 1 0 ∷ []) [])
 unfolding understood everything
 delete_copy_is = refl
 
@@ -296,7 +296,7 @@ pub delete_copy_plain : IsPlain (understood mail_schema delete_copy)
 unfolding understood everything
 delete_copy_plain = (refl, refl)
 
-pub select_message_is : command_of (understood mail_schema select_message) ≡ Select (over message_tree by_two (col 1 3 ∷ []) []) (codes "bytes" ∷ [])
+pub select_message_is : command_of (understood mail_schema select_message) ≡ Select (over_table message_tree by_two (col 1 3 ∷ []) []) (codes "bytes" ∷ [])
 unfolding understood everything
 select_message_is = refl
 
@@ -318,7 +318,7 @@ select_nth_plain = ((refl, refl), refl)
 abbrev pub heads_shown : List Term
 heads_shown = col 1 2 ∷ col 1 3 ∷ col 1 4 ∷ col 1 5 ∷ op1 Length (col 1 6) ∷ []
 
-pub select_heads_is : command_of (understood mail_schema select_heads) ≡ Select (over outgoing_tree by_one heads_shown ((col 1 2, ascending Binary) ∷ [])) (codes "id" ∷ codes "kind" ∷ codes "sender" ∷ codes "target" ∷ codes "length(message)" ∷ [])
+pub select_heads_is : command_of (understood mail_schema select_heads) ≡ Select (over_table outgoing_tree by_one heads_shown ((col 1 2, ascending Binary) ∷ [])) (codes "id" ∷ codes "kind" ∷ codes "sender" ∷ codes "target" ∷ codes "length(message)" ∷ [])
 unfolding understood everything
 select_heads_is = refl
 
@@ -326,7 +326,7 @@ pub select_heads_plain : IsPlain (understood mail_schema select_heads) × (reads
 unfolding understood everything
 select_heads_plain = ((refl, refl), refl)
 
-pub select_numbers_is : command_of (understood mail_schema select_numbers) ≡ Select (over copy_tree by_two (col 1 3 ∷ []) ((col 1 3, ascending Binary) ∷ [])) (codes "n" ∷ [])
+pub select_numbers_is : command_of (understood mail_schema select_numbers) ≡ Select (over_table copy_tree by_two (col 1 3 ∷ []) ((col 1 3, ascending Binary) ∷ [])) (codes "n" ∷ [])
 unfolding understood everything
 select_numbers_is = refl
 
@@ -407,7 +407,7 @@ select_later_queue_plain = ((refl, refl), refl)
 abbrev pub address_columns : List Term
 address_columns = col 1 0 ∷ col 1 0 ∷ col 1 1 ∷ col 0 1 ∷ col 1 3 ∷ col 1 4 ∷ col 1 5 ∷ col 1 6 ∷ col 1 7 ∷ col 1 8 ∷ col 1 9 ∷ []
 
-pub update_address_is : command_of (understood mail_schema update_address) ≡ Update 1 (over account_tree by_one address_columns [])
+pub update_address_is : command_of (understood mail_schema update_address) ≡ Update 1 (over_table account_tree by_one address_columns [])
 unfolding understood everything
 update_address_is = refl
 
@@ -418,7 +418,7 @@ update_address_plain = (refl, refl)
 abbrev pub password_columns : List Term
 password_columns = col 1 0 ∷ col 1 0 ∷ col 1 1 ∷ col 1 2 ∷ col 0 1 ∷ col 0 2 ∷ col 0 3 ∷ col 1 6 ∷ col 1 7 ∷ col 1 8 ∷ col 1 9 ∷ []
 
-pub update_password_is : command_of (understood mail_schema update_password) ≡ Update 1 (over account_tree by_one password_columns [])
+pub update_password_is : command_of (understood mail_schema update_password) ≡ Update 1 (over_table account_tree by_one password_columns [])
 unfolding understood everything
 update_password_is = refl
 
@@ -429,7 +429,7 @@ update_password_plain = (refl, refl)
 abbrev pub rounds_columns : List Term
 rounds_columns = col 1 0 ∷ col 1 0 ∷ col 1 1 ∷ col 1 2 ∷ col 1 3 ∷ col 0 1 ∷ col 1 5 ∷ col 1 6 ∷ col 1 7 ∷ col 1 8 ∷ col 1 9 ∷ []
 
-pub update_rounds_is : command_of (understood mail_schema update_rounds) ≡ Update 1 (over account_tree by_one rounds_columns [])
+pub update_rounds_is : command_of (understood mail_schema update_rounds) ≡ Update 1 (over_table account_tree by_one rounds_columns [])
 unfolding understood everything
 update_rounds_is = refl
 
@@ -437,7 +437,7 @@ pub update_rounds_plain : IsPlain (understood mail_schema update_rounds)
 unfolding understood everything
 update_rounds_plain = (refl, refl)
 
-pub delete_scripts_is : command_of (understood mail_schema delete_scripts) ≡ Delete 2 (over script_tree by_one (col 1 0 ∷ []) [])
+pub delete_scripts_is : command_of (understood mail_schema delete_scripts) ≡ Delete 2 (over_table scripts_tree by_one (col 1 0 ∷ []) [])
 unfolding understood everything
 delete_scripts_is = refl
 
@@ -445,7 +445,7 @@ pub delete_scripts_plain : IsPlain (understood mail_schema delete_scripts)
 unfolding understood everything
 delete_scripts_plain = (refl, refl)
 
-pub delete_queue_is : command_of (understood mail_schema delete_queue) ≡ Delete 3 (over outgoing_tree by_one (col 1 0 ∷ []) [])
+pub delete_queue_is : command_of (understood mail_schema delete_queue) ≡ Delete 3 (over_table outgoing_tree by_one (col 1 0 ∷ []) [])
 unfolding understood everything
 delete_queue_is = refl
 
@@ -453,7 +453,7 @@ pub delete_queue_plain : IsPlain (understood mail_schema delete_queue)
 unfolding understood everything
 delete_queue_plain = (refl, refl)
 
-pub delete_notices_is : command_of (understood mail_schema delete_notices) ≡ Delete 5 (over notice_tree by_one (col 1 0 ∷ []) [])
+pub delete_notices_is : command_of (understood mail_schema delete_notices) ≡ Delete 5 (over_table notice_tree by_one (col 1 0 ∷ []) [])
 unfolding understood everything
 delete_notices_is = refl
 
@@ -461,7 +461,7 @@ pub delete_notices_plain : IsPlain (understood mail_schema delete_notices)
 unfolding understood everything
 delete_notices_plain = (refl, refl)
 
-pub delete_messages_is : command_of (understood mail_schema delete_messages) ≡ Delete 6 (over message_tree by_one (col 1 0 ∷ []) [])
+pub delete_messages_is : command_of (understood mail_schema delete_messages) ≡ Delete 6 (over_table message_tree by_one (col 1 0 ∷ []) [])
 unfolding understood everything
 delete_messages_is = refl
 
@@ -469,7 +469,7 @@ pub delete_messages_plain : IsPlain (understood mail_schema delete_messages)
 unfolding understood everything
 delete_messages_plain = (refl, refl)
 
-pub delete_copies_is : command_of (understood mail_schema delete_copies) ≡ Delete 7 (over copy_tree by_one (col 1 0 ∷ []) [])
+pub delete_copies_is : command_of (understood mail_schema delete_copies) ≡ Delete 7 (over_table copy_tree by_one (col 1 0 ∷ []) [])
 unfolding understood everything
 delete_copies_is = refl
 
@@ -480,7 +480,7 @@ delete_copies_plain = (refl, refl)
 abbrev pub by_early : List Term
 by_early = equals 1 0 ∷ op2 (Compare Le Binary) (col 1 3) (col 0 1) ∷ []
 
-pub delete_early_notices_is : command_of (understood mail_schema delete_early_notices) ≡ Delete 5 (over notice_tree by_early (col 1 0 ∷ []) [])
+pub delete_early_notices_is : command_of (understood mail_schema delete_early_notices) ≡ Delete 5 (over_table notice_tree by_early (col 1 0 ∷ []) [])
 unfolding understood everything
 delete_early_notices_is = refl
 

@@ -17,15 +17,15 @@ use Rattle.sqlite.specs.declared.error.Error.{Error}
 use Rattle.sqlite.specs.State.{State, HasCleanDisk, Survives, Shown, FailsToQuery, IsUnchanged, IsRolledBack}
 use Rattle.sqlite_keyed.proofs.ListLemmas.{map-map}
 use Rattle.sqlite.proofs.Callers.{IsPlain, command_of, one_permutation}
-use Rattle.mailtables.specs.Forms.{over}
-use Rattle.mailtables.specs.Rows.{has_key_from}
-use Rattle.mailtables.proofs.ReadLemmas.{shown_same, fails_same, answered, quiet}
-use Rattle.mailtables.specs.Schema.{mail_schema, IsOurSchema}
-use Rattle.mailtables.specs.Connection.{StaysSame, SeesCommit, Asks, Answers}
-use Rattle.mailtables.specs.MetaTable.{select_version, version_key, version_rows, Says, meta_tree, stored_value_column, AreVersions}
-use Rattle.mailtables.specs.Ours.{IsOurs}
-use Rattle.mailtables.proofs.TextFacts.{by_one, select_version_is, select_version_plain}
-use Rattle.mailtables.proofs.ResultLemmas.{on_any, on_ok}
+use Rattle.store_tables.specs.Forms.{over_table}
+use Rattle.store_tables.specs.Rows.{has_key_from}
+use Rattle.store_tables.proofs.ReadLemmas.{shown_same, fails_same, answered, quiet}
+use Rattle.store_tables.specs.Schema.{mail_schema, IsOurSchema}
+use Rattle.store_tables.specs.Connection.{StaysSame, SeesCommit, AsksDatabase, AnswersQuery}
+use Rattle.store_tables.specs.MetaTable.{select_version, version_key, version_rows, HoldsVersion, meta_tree, stored_value_column, AreVersions}
+use Rattle.store_tables.specs.Ours.{IsOurs}
+use Rattle.store_tables.proofs.TextFacts.{by_one, select_version_is, select_version_plain}
+use Rattle.store_tables.proofs.ResultLemmas.{on_any, on_ok}
 
 pub same_unchanged : (old new : State) → IsUnchanged old new → StaysSame old new
 same_unchanged old new h = record { now_is = λ _. h.0.now_is; committed_is = λ _. h.0.committed_is }
@@ -48,7 +48,7 @@ module _ (schema : Schema) (sql : List ℕ) (params : Row) (old new : State) (ou
   sees_commit (Err e) settled ok clean = tt
 
 abbrev asked : Query
-asked = (over meta_tree by_one (col 1 2 ∷ []) []).body
+asked = (over_table meta_tree by_one (col 1 2 ∷ []) []).body
 
 abbrev slots : Row → Env
 slots row = version_key ∷ row ∷ []
@@ -70,7 +70,7 @@ numbers_are trees rows a =
 
 -- what the text of the query is understood as, under a schema
 pub record AsksVersion (schema : Schema) : Type 0 where
-  pub is : command_of (understood schema select_version) ≡ Select (over meta_tree by_one (col 1 2 ∷ []) []) (codes "value" ∷ [])
+  pub is : command_of (understood schema select_version) ≡ Select (over_table meta_tree by_one (col 1 2 ∷ []) []) (codes "value" ∷ [])
   pub plain : IsPlain (understood schema select_version)
   pub unlisted : reads_listing schema select_version ≡ false
 
@@ -87,7 +87,7 @@ pub record SaysVersion (n : ℤ) (trees : Trees) : Type 0 where
   pub only : version_rows trees ≡ row ∷ []
   pub says : column row stored_value_column ≡ Int n
 
-says_it : (n : ℤ) (trees : Trees) (rows found : List Row) → version_rows trees ≡ found → IsPermutation (map (λ r. column r stored_value_column ∷ []) found) rows → Says n rows ↔ SaysVersion n trees
+says_it : (n : ℤ) (trees : Trees) (rows found : List Row) → version_rows trees ≡ found → IsPermutation (map (λ r. column r stored_value_column ∷ []) found) rows → HoldsVersion n rows ↔ SaysVersion n trees
 says_it n trees rows [] are same = (
   λ one. absurd (let none = length_permutation _ _ (subst (IsPermutation []) one.1 same) in omega (arith, none)),
   λ h. absurd (let none = sym are ∙ h.only in cc),
@@ -106,11 +106,11 @@ says_it n trees rows (r ∷ q ∷ more) are same = (
   λ h. absurd (let one = sym are ∙ h.only in let many : length (r ∷ q ∷ more) ≡ 1 = ap length one in omega (arith, many)),
 )
 
-pub row_says : (n : ℤ) (rows : List Row) (row : Row) → rows ≡ row ∷ [] → (r : Result Bool Error) → IfOk r (λ is. IsTrue is ↔ (column row 0 ≡ Int n)) → IfOk r (λ is. IsTrue is ↔ Says n rows)
+pub row_says : (n : ℤ) (rows : List Row) (row : Row) → rows ≡ row ∷ [] → (r : Result Bool Error) → IfOk r (λ is. IsTrue is ↔ (column row 0 ≡ Int n)) → IfOk r (λ is. IsTrue is ↔ HoldsVersion n rows)
 row_says n rows row are (Err e) said = tt
 row_says n rows row are (Ok is) said = (λ e. (row, are, said.0 e), λ h. let same : row ∷ [] ≡ h.0 ∷ [] = sym are ∙ h.1 in let one : row ≡ h.0 = cc in said.1 (ap (λ (x : Row). column x 0) one ∙ h.2))
 
-version_says : (n : ℤ) (trees : Trees) (P : Type 0) → P ↔ SaysVersion n trees → (rows : List Row) → IsPermutation (map (λ r. column r stored_value_column ∷ []) (version_rows trees)) rows → (r : Result Bool Error) → IfOk r (λ is. IsTrue is ↔ Says n rows)
+version_says : (n : ℤ) (trees : Trees) (P : Type 0) → P ↔ SaysVersion n trees → (rows : List Row) → IsPermutation (map (λ r. column r stored_value_column ∷ []) (version_rows trees)) rows → (r : Result Bool Error) → IfOk r (λ is. IsTrue is ↔ HoldsVersion n rows)
     → IfOk r (λ is. IsTrue is ↔ P)
 version_says n trees P means rows same (Err e) said = tt
 version_says n trees P means rows same (Ok is) said = let both = says_it n trees rows _ refl same in (λ e. means.1 (both.0 (said.0 e)), λ h. said.1 (both.1 (means.0 h)))
@@ -123,7 +123,7 @@ pub asks_ours : (schema : Schema) → IsOurSchema schema → AsksVersion schema
 asks_ours schema ours = subst AsksVersion (sym ours) asks_mail
 
 -- the query for the version, under one schema
-module _ (schema : Schema) (asks : AsksVersion schema) (old new : State) (r : Result (Vec Row Global) Error) (asked : Answers select_version version_key old new r) (is : old.now.schema ≡ schema) where
+module _ (schema : Schema) (asks : AsksVersion schema) (old new : State) (r : Result (Vec Row Global) Error) (asked : AnswersQuery select_version version_key old new r) (is : old.now.schema ≡ schema) where
   rows_found : HasCleanDisk new → IfOk r (AreVersions old.now.trees)
   rows_found clean = go r (asked.ok clean)
     where
@@ -141,8 +141,8 @@ module _ (schema : Schema) (asks : AsksVersion schema) (old new : State) (r : Re
   crash_leaves = quiet schema select_version version_key old new is asks.plain asked.survives
 
 -- under any of those that understand it so
-module _ (Known : Schema → Type 0) (understands : (schema : Schema) → Known schema → AsksVersion schema) (old new : State) (r : Result (Vec Row Global) Error) (asked : Answers select_version version_key old new r) where
-  asks_version : Asks Known (AreVersions old.now.trees) old new r
+module _ (Known : Schema → Type 0) (understands : (schema : Schema) → Known schema → AsksVersion schema) (old new : State) (r : Result (Vec Row Global) Error) (asked : AnswersQuery select_version version_key old new r) where
+  asks_version : AsksDatabase Known (AreVersions old.now.trees) old new r
   asks_version = record {
     found = λ known. rows_found old.now.schema (understands old.now.schema known) old new r asked refl;
     same = λ known. stays_same old.now.schema (understands old.now.schema known) old new r asked refl;
@@ -151,7 +151,7 @@ module _ (Known : Schema → Type 0) (understands : (schema : Schema) → Known 
   }
 
   -- with a refusal as the answer
-  pub asks_refused : {Y F : Type 0} (Q : Y → Type 0) (e : F) (q : Result Y F) → q ≡ Err e → Asks Known Q old new q
+  pub asks_refused : {Y F : Type 0} (Q : Y → Type 0) (e : F) (q : Result Y F) → q ≡ Err e → AsksDatabase Known Q old new q
   asks_refused Q e q is = record {
     found = λ known clean. subst (λ o. IfOk o Q) (sym is) tt;
     same = asks_version.same;
@@ -160,8 +160,8 @@ module _ (Known : Schema → Type 0) (understands : (schema : Schema) → Known 
   }
 
   -- and what its rows say
-  pub says_version : (n : ℤ) (P : Database → Type 0) → ((db : Database) → Known db.schema → P db ↔ SaysVersion n db.trees) → (rows : Vec Row Global) → r ≡ Ok rows → (q : Result Bool Error) → IfOk q (λ is. IsTrue is ↔ Says n rows.items)
-      → Asks Known (λ is. IsTrue is ↔ P old.now) old new q
+  pub says_version : (n : ℤ) (P : Database → Type 0) → ((db : Database) → Known db.schema → P db ↔ SaysVersion n db.trees) → (rows : Vec Row Global) → r ≡ Ok rows → (q : Result Bool Error) → IfOk q (λ is. IsTrue is ↔ HoldsVersion n rows.items)
+      → AsksDatabase Known (λ is. IsTrue is ↔ P old.now) old new q
   says_version n P means rows was q said = record {
     found = λ known clean. version_says n old.now.trees (P old.now) (means old.now known) rows.items (subst (λ o. IfOk o (AreVersions old.now.trees)) was (asks_version.found known clean)) q said;
     same = asks_version.same;

@@ -12,11 +12,11 @@ use Rattle.sqlite.specs.State.{State, HasCleanDisk, Executes, KeepsCommit, Survi
 use Rattle.sqlite.proofs.InsideLemmas.{inside_keeps, keeps_then}
 use Rattle.sqlite.proofs.StateLemmas.{survives_then}
 use Rattle.sqlite.proofs.Callers.{survives_begin}
-use Rattle.mailtables.specs.Rows.{Tables, HoldsTables}
-use Rattle.mailtables.specs.declared.change.Change.{Change}
-use Rattle.mailtables.specs.Schema.{mail_schema}
-use Rattle.mailtables.specs.Connection.{RunsInside, RunsText, RunsStatement, Makes, TurnsRows}
-use Rattle.mailtables.specs.Changes.{made_one, made, CrashLeavesTables}
+use Rattle.store_tables.specs.Rows.{Tables, HoldsTables}
+use Rattle.store_tables.specs.declared.change.Change.{Change}
+use Rattle.store_tables.specs.Schema.{mail_schema}
+use Rattle.store_tables.specs.Connection.{RunsInside, RunsText, RunsStatement, Makes, TurnsRows}
+use Rattle.store_tables.specs.Changes.{made_one, made, CrashLeavesTables}
 
 -- what is made inside a transaction, where the disk is honest
 abbrev pub MakesInside : {X : Type 0} → (Database → Database → Type 0) → State → State → Result X Error → Type 0

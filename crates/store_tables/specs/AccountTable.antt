@@ -7,7 +7,7 @@ use Rattle.sqlite_schema.specs.declared.schema.Table.{Table}
 use Rattle.sqlite_value.specs.declared.value.Value.{Value}
 use Rattle.sqlite_value.specs.declared.value.Value.TheVariants.{Null, Int, Blob}
 use Rattle.sqlite_value.specs.Order.{Row, column}
-use Rattle.mailtables.specs.Forms.{needed, maybe, keyed}
+use Rattle.store_tables.specs.Forms.{needed, maybe, keyed}
 
 abbrev pub account_tree : ℕ
 account_tree = 2

@@ -5,9 +5,9 @@ use Rattle.sqlite_value.specs.declared.value.Value.{Value}
 use Rattle.sqlite_value.specs.declared.value.Value.TheVariants.{Null, Blob}
 
 -- the octets after the reference, if there is one
-abbrev pub contents : Option (Bor (List ℕ)) → Option (List ℕ)
-contents None = None
-contents (Some b) = Some b.now
+abbrev pub borrowed_octets : Option (Bor (List ℕ)) → Option (List ℕ)
+borrowed_octets None = None
+borrowed_octets (Some b) = Some b.now
 
 abbrev pub or_null : Option (List ℕ) → Value
 or_null None = Null

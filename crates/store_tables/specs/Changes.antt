@@ -5,24 +5,24 @@ use Rattle.sqlite_value.specs.declared.value.Value.TheVariants.{Blob}
 use Rattle.sqlite_trees.specs.Tree.{Trees}
 use Rattle.sqlite.specs.Effect.{Database}
 use Rattle.sqlite.specs.State.{State, HasCleanDisk}
-use Rattle.mailtables.specs.Rows.{Tables, HoldsTables, added, removed, removed_where, set_in}
-use Rattle.mailtables.specs.declared.change.Change.{Change}
-use Rattle.mailtables.specs.declared.change.Change.TheVariants.{AddAccount, SetActive, SetCounters, SetAddress, SetPassword, SetRounds, AddScript, RemoveScript, RemoveScripts, AddMessage, RemoveMessage, RemoveMessages, AddCopy, RemoveCopy, RemoveCopies, AddOutgoing, RemoveOutgoing, RemoveQueue, AddReply, RemoveReply, AddNotice, RemoveNotices, RemoveEarlyNotices}
-use Rattle.mailtables.specs.Schema.{mail_schema}
-use Rattle.mailtables.specs.Cells.{or_null, contents}
-use Rattle.mailtables.specs.AccountTable.{account_cells, with_active, with_counters, with_address, with_password, with_rounds, account_tree}
-use Rattle.mailtables.specs.ScriptTable.{script_cells, script_tree}
-use Rattle.mailtables.specs.MessageTable.{message_cells, message_key, message_tree}
-use Rattle.mailtables.specs.CopyTable.{copy_cells, copy_key, copy_tree}
-use Rattle.mailtables.specs.QueueTable.{queue_cells, queue_key, outgoing_tree}
-use Rattle.mailtables.specs.ReplyTable.{reply_cells, reply_key, reply_tree}
-use Rattle.mailtables.specs.NoticeTable.{notice_row_cells, is_early_notice, notice_tree}
-use Rattle.mailtables.specs.declared.queue.Kind.{Kind}
+use Rattle.store_tables.specs.Rows.{Tables, HoldsTables, row_added, rows_removed, removed_where, set_in}
+use Rattle.store_tables.specs.declared.change.Change.{Change}
+use Rattle.store_tables.specs.declared.change.Change.TheVariants.{AddAccount, SetActive, SetCounters, SetAddress, SetPassword, SetRounds, AddScript, RemoveScript, RemoveScripts, AddMessage, RemoveMessage, RemoveMessages, AddCopy, RemoveCopy, RemoveCopies, AddOutgoing, RemoveOutgoing, RemoveQueue, AddReply, RemoveReply, AddNotice, RemoveNotices, RemoveEarlyNotices}
+use Rattle.store_tables.specs.Schema.{mail_schema}
+use Rattle.store_tables.specs.Cells.{or_null, borrowed_octets}
+use Rattle.store_tables.specs.AccountTable.{account_cells, with_active, with_counters, with_address, with_password, with_rounds, account_tree}
+use Rattle.store_tables.specs.ScriptTable.{script_cells, scripts_tree}
+use Rattle.store_tables.specs.MessageTable.{message_cells, message_key, message_tree}
+use Rattle.store_tables.specs.CopyTable.{copy_cells, copy_key, copy_tree}
+use Rattle.store_tables.specs.QueueTable.{queue_cells, queue_key, outgoing_tree}
+use Rattle.store_tables.specs.ReplyTable.{reply_cells, reply_key, reply_tree}
+use Rattle.store_tables.specs.NoticeTable.{notice_row_cells, is_early_notice, notice_tree}
+use Rattle.store_tables.specs.declared.queue.QueuedKind.{QueuedKind}
 
 -- ---- one row change
 
 abbrev pub account_added : List ℕ → List ℕ → List ℕ → ℕ → List ℕ → Tables → Tables
-account_added name address salt rounds digest = added account_tree (account_cells name address salt rounds digest)
+account_added name address salt rounds digest = row_added account_tree (account_cells name address salt rounds digest)
 
 abbrev pub active_set : List ℕ → Option (List ℕ) → Tables → Tables
 active_set name active = set_in account_tree (Blob name ∷ []) (with_active (or_null active))
@@ -41,54 +41,54 @@ rounds_set name rounds = set_in account_tree (Blob name ∷ []) (with_rounds rou
 
 -- all rows of the owner go
 abbrev pub owned_removed : ℕ → List ℕ → Tables → Tables
-owned_removed tree owner = removed tree (Blob owner ∷ [])
+owned_removed tree owner = rows_removed tree (Blob owner ∷ [])
 
 abbrev pub script_added : List ℕ → List ℕ → List ℕ → Tables → Tables
-script_added owner name text = added script_tree (script_cells owner name text)
+script_added owner name text = row_added scripts_tree (script_cells owner name text)
 
 abbrev pub script_removed : List ℕ → List ℕ → Tables → Tables
-script_removed owner name = removed script_tree (Blob owner ∷ Blob name ∷ [])
+script_removed owner name = rows_removed scripts_tree (Blob owner ∷ Blob name ∷ [])
 
 abbrev pub message_added : List ℕ → ℤ → List ℕ → Tables → Tables
-message_added owner id bytes = added message_tree (message_cells owner id bytes)
+message_added owner id bytes = row_added message_tree (message_cells owner id bytes)
 
 abbrev pub message_removed : List ℕ → ℤ → Tables → Tables
-message_removed owner id = removed message_tree (message_key owner id)
+message_removed owner id = rows_removed message_tree (message_key owner id)
 
 abbrev pub copy_added : List ℕ → List ℕ → ℤ → ℤ → List ℕ → Tables → Tables
-copy_added owner folder n id flags = added copy_tree (copy_cells owner folder n id flags)
+copy_added owner folder n id flags = row_added copy_tree (copy_cells owner folder n id flags)
 
 abbrev pub copy_removed : List ℕ → List ℕ → ℤ → Tables → Tables
-copy_removed owner folder n = removed copy_tree (copy_key owner folder n)
+copy_removed owner folder n = rows_removed copy_tree (copy_key owner folder n)
 
-abbrev pub outgoing_added : List ℕ → ℤ → Kind → List ℕ → List ℕ → List ℕ → Tables → Tables
-outgoing_added owner id kind sender target message = added outgoing_tree (queue_cells owner id kind sender target message)
+abbrev pub outgoing_added : List ℕ → ℤ → QueuedKind → List ℕ → List ℕ → List ℕ → Tables → Tables
+outgoing_added owner id kind sender target message = row_added outgoing_tree (queue_cells owner id kind sender target message)
 
 abbrev pub outgoing_removed : List ℕ → ℤ → Tables → Tables
-outgoing_removed owner id = removed outgoing_tree (queue_key owner id)
+outgoing_removed owner id = rows_removed outgoing_tree (queue_key owner id)
 
 abbrev pub reply_added : List ℕ → List ℕ → List ℕ → ℤ → Tables → Tables
-reply_added owner handle sender moment = added reply_tree (reply_cells owner handle sender moment)
+reply_added owner handle sender moment = row_added reply_tree (reply_cells owner handle sender moment)
 
 abbrev pub reply_removed : List ℕ → List ℕ → List ℕ → Tables → Tables
-reply_removed owner handle sender = removed reply_tree (reply_key owner handle sender)
+reply_removed owner handle sender = rows_removed reply_tree (reply_key owner handle sender)
 
 abbrev pub notice_added : List ℕ → ℤ → ℤ → List ℕ → Tables → Tables
-notice_added owner id moment text = added notice_tree (notice_row_cells owner id moment text)
+notice_added owner id moment text = row_added notice_tree (notice_row_cells owner id moment text)
 
 abbrev pub early_notices_removed : List ℕ → ℤ → Tables → Tables
 early_notices_removed owner until = removed_where notice_tree (is_early_notice owner until)
 
 abbrev pub made_one : Change → Tables → Tables
 made_one (AddAccount name address salt rounds digest) = account_added name.now address.now salt.now rounds digest.now
-made_one (SetActive name active) = active_set name.now (contents active)
+made_one (SetActive name active) = active_set name.now (borrowed_octets active)
 made_one (SetCounters name copy out notice) = counters_set name.now copy out notice
 made_one (SetAddress name address) = address_set name.now address.now
 made_one (SetPassword name salt rounds digest) = password_set name.now salt.now rounds digest.now
 made_one (SetRounds name rounds) = rounds_set name.now rounds
 made_one (AddScript owner name text) = script_added owner.now name.now text.now
 made_one (RemoveScript owner name) = script_removed owner.now name.now
-made_one (RemoveScripts owner) = owned_removed script_tree owner.now
+made_one (RemoveScripts owner) = owned_removed scripts_tree owner.now
 made_one (AddMessage owner id bytes) = message_added owner.now id bytes.now
 made_one (RemoveMessage owner id) = message_removed owner.now id
 made_one (RemoveMessages owner) = owned_removed message_tree owner.now
@@ -119,41 +119,41 @@ abbrev pub CrashLeavesTables : List Change → State → Trees → Type 0
 CrashLeavesTables changes s trees = (tables : Tables) → HoldsTables mail_schema s.now tables → (after : Database) × HoldsTables mail_schema after (made tables changes) × (trees ≡ after.trees)
 
 -- whose row it is
-abbrev pub owner_of : Change → List ℕ
-owner_of (AddAccount name address salt rounds digest) = name.now
-owner_of (SetActive name active) = name.now
-owner_of (SetCounters name copy out notice) = name.now
-owner_of (SetAddress name address) = name.now
-owner_of (SetPassword name salt rounds digest) = name.now
-owner_of (SetRounds name rounds) = name.now
-owner_of (AddScript owner name text) = owner.now
-owner_of (RemoveScript owner name) = owner.now
-owner_of (RemoveScripts owner) = owner.now
-owner_of (AddMessage owner id bytes) = owner.now
-owner_of (RemoveMessage owner id) = owner.now
-owner_of (RemoveMessages owner) = owner.now
-owner_of (AddCopy owner folder n id flags) = owner.now
-owner_of (RemoveCopy owner folder n) = owner.now
-owner_of (RemoveCopies owner) = owner.now
-owner_of (AddOutgoing owner id kind sender target message) = owner.now
-owner_of (RemoveOutgoing owner id) = owner.now
-owner_of (RemoveQueue owner) = owner.now
-owner_of (AddReply owner handle sender moment) = owner.now
-owner_of (RemoveReply owner handle sender) = owner.now
-owner_of (AddNotice owner id moment text) = owner.now
-owner_of (RemoveNotices owner) = owner.now
-owner_of (RemoveEarlyNotices owner until) = owner.now
+abbrev pub change_owner : Change → List ℕ
+change_owner (AddAccount name address salt rounds digest) = name.now
+change_owner (SetActive name active) = name.now
+change_owner (SetCounters name copy out notice) = name.now
+change_owner (SetAddress name address) = name.now
+change_owner (SetPassword name salt rounds digest) = name.now
+change_owner (SetRounds name rounds) = name.now
+change_owner (AddScript owner name text) = owner.now
+change_owner (RemoveScript owner name) = owner.now
+change_owner (RemoveScripts owner) = owner.now
+change_owner (AddMessage owner id bytes) = owner.now
+change_owner (RemoveMessage owner id) = owner.now
+change_owner (RemoveMessages owner) = owner.now
+change_owner (AddCopy owner folder n id flags) = owner.now
+change_owner (RemoveCopy owner folder n) = owner.now
+change_owner (RemoveCopies owner) = owner.now
+change_owner (AddOutgoing owner id kind sender target message) = owner.now
+change_owner (RemoveOutgoing owner id) = owner.now
+change_owner (RemoveQueue owner) = owner.now
+change_owner (AddReply owner handle sender moment) = owner.now
+change_owner (RemoveReply owner handle sender) = owner.now
+change_owner (AddNotice owner id moment text) = owner.now
+change_owner (RemoveNotices owner) = owner.now
+change_owner (RemoveEarlyNotices owner until) = owner.now
 
 -- all changes are of one user
 abbrev pub AreOf : List ℕ → List Change → Type 0
-AreOf user = AllByRecursion (λ d. owner_of d ≡ user)
+AreOf user = AllByRecursion (λ d. change_owner d ≡ user)
 
 -- the changes are of one user, and change the tables like this after what the earlier ones made
-pub record Extends (user : List ℕ) (change : Tables → Tables) (earlier changes : List Change) : Type 0 where
+pub record ExtendsChanges (user : List ℕ) (change : Tables → Tables) (earlier changes : List Change) : Type 0 where
   pub owned : AreOf user earlier → AreOf user changes
   pub makes : (own : Tables) → made own changes ≡ change (made own earlier)
 
 -- the change is of one user, and changes the tables like this
 pub record MakesOwn (user : List ℕ) (change : Tables → Tables) (one : Change) : Type 0 where
-  pub owned : owner_of one ≡ user
+  pub owned : change_owner one ≡ user
   pub makes : (own : Tables) → made_one one own ≡ change own

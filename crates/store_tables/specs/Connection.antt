@@ -13,8 +13,8 @@ use Rattle.sqlite.specs.declared.transaction.Transaction.{Transaction}
 use Rattle.sqlite.specs.Effect.{Database}
 use Rattle.sqlite.specs.Held.{Held, state}
 use Rattle.sqlite.specs.State.{State, HasCleanDisk, CommitsShowing, ExecutesInside, FailsToQuery, IsTooLate, KeepsCommit, Shown, Shows, Survives}
-use Rattle.mailtables.specs.Rows.{Tables, HoldsTables}
-use Rattle.mailtables.specs.Schema.{mail_schema}
+use Rattle.store_tables.specs.Rows.{Tables, HoldsTables}
+use Rattle.store_tables.specs.Schema.{mail_schema}
 
 -- no table has a row
 abbrev pub no_rows : Tables
@@ -76,7 +76,7 @@ pub record StaysSame (old new : State) : Type 0 where
   pub committed_is : IsTrue new.is_open → new.committed ≡ old.committed
 
 -- no fault of the disk is forgotten, and a crash leaves what it left before and nothing else
-pub record Leaves (old new : State) : Type 0 where
+pub record LeavesAsBefore (old new : State) : Type 0 where
   pub faults : doubt old.is_clean ≤ doubt new.is_clean
   pub alone : HasCleanDisk new → (db : Trees) → new.may_leave db → old.may_leave db
 
@@ -98,14 +98,14 @@ pub record Queries {S X E : Type 0} (g : Ghosts S) (Found : State → State → 
   pub finds : Found (state g old) (state g new) result
 
 -- the answer to the query of this text, over a connection that, if it is open, sees its last commit
-pub record Answers (sql : List ℕ) (params : Row) (old new : State) (result : Result (Vec Row Global) Error) : Type 0 where
+pub record AnswersQuery (sql : List ℕ) (params : Row) (old new : State) (result : Result (Vec Row Global) Error) : Type 0 where
   pub settled : IsTrue old.is_open → old.now ≡ old.committed
   pub ok : HasCleanDisk new → IfOk result (λ rows. Shown sql params old new rows.items)
   pub err : HasCleanDisk new → IfErr result (FailsToQuery sql params old new)
   pub survives : Survives old new (CommitsShowing sql params old)
 
 -- a query of a database of such a schema, whatever its rows are: this holds of the answer; all stays as it was, and after Ok the last commit is seen
-pub record Asks {X E : Type 0} (Known : Schema → Type 0) (P : X → Type 0) (old new : State) (result : Result X E) : Type 0 where
+pub record AsksDatabase {X E : Type 0} (Known : Schema → Type 0) (P : X → Type 0) (old new : State) (result : Result X E) : Type 0 where
   pub found : Known old.now.schema → HasCleanDisk new → IfOk result P
   pub same : Known old.now.schema → HasCleanDisk new → StaysSame old new
   pub live : Known old.now.schema → HasCleanDisk new → OnOk result (SeesCommit new)

@@ -65,8 +65,8 @@ abbrev pub over_from : Join → List Term → List Term → List (Term × Key) �
 over_from = limited_from (lit (Int (negsuc 0))) (lit (Int (pos 0)))
 
 -- over one table
-abbrev pub over : ℕ → List Term → List Term → List (Term × Key) → Program
-over tree = over_from (inner tree end)
+abbrev pub over_table : ℕ → List Term → List Term → List (Term × Key) → Program
+over_table tree = over_from (inner tree end)
 
 -- over two, of which the first is the outer one
 abbrev pub over_two : ℕ → ℕ → List Term → List Term → List (Term × Key) → Program

@@ -6,8 +6,8 @@ use Rattle.sqlite_schema.specs.declared.schema.Table.{Table}
 use Rattle.sqlite_value.specs.declared.value.Value.TheVariants as value
 use Rattle.sqlite_value.specs.Order.{Row, column}
 use Rattle.sqlite_trees.specs.Tree.{Trees}
-use Rattle.mailtables.specs.Forms.{needed, keyed}
-use Rattle.mailtables.specs.Rows.{has_key_from}
+use Rattle.store_tables.specs.Forms.{needed, keyed}
+use Rattle.store_tables.specs.Rows.{has_key_from}
 
 abbrev pub meta_tree : ℕ
 meta_tree = 0
@@ -39,8 +39,8 @@ abbrev pub version_rows : Trees → List Row
 version_rows trees = filter (has_key_from 1 version_key) (trees meta_tree)
 
 -- there is one row, and it begins with the number
-abbrev pub Says : ℤ → List Row → Type 0
-Says n rows = (row : Row) × (rows ≡ row ∷ []) × (column row 0 ≡ value.Int n)
+abbrev pub HoldsVersion : ℤ → List Row → Type 0
+HoldsVersion n rows = (row : Row) × (rows ≡ row ∷ []) × (column row 0 ≡ value.Int n)
 
 -- the rows are the numbers of the version, in any order
 abbrev pub AreVersions : Trees → Vec Row Global → Type 0

@@ -4,9 +4,9 @@ use Rattle.sqlite_schema.specs.declared.schema.Kind.TheVariants as kind
 use Rattle.sqlite_schema.specs.declared.schema.Table.{Table}
 use Rattle.sqlite_value.specs.declared.value.Value.TheVariants.{Int, Blob}
 use Rattle.sqlite_value.specs.Order.{Row, column}
-use Rattle.mailtables.specs.Forms.{needed, keyed}
-use Rattle.mailtables.specs.Rows.{has_key, at_most}
-use Rattle.mailtables.specs.AccountTable.{to_account}
+use Rattle.store_tables.specs.Forms.{needed, keyed}
+use Rattle.store_tables.specs.Rows.{has_key, at_most}
+use Rattle.store_tables.specs.AccountTable.{to_account}
 
 abbrev pub notice_tree : ℕ
 notice_tree = 10

@@ -8,10 +8,10 @@ use Rattle.sqlite.specs.declared.error.Error.{Error}
 use Rattle.sqlite.specs.declared.transaction.Transaction.{Transaction}
 use Rattle.sqlite.specs.Effect.{Database}
 use Rattle.sqlite.specs.State.{State, HasCleanDisk}
-use Rattle.mailtables.specs.Rows.{Tables, HoldsTables, added}
-use Rattle.mailtables.specs.Schema.{no_schema, mail_schema, IsOurSchema}
-use Rattle.mailtables.specs.Connection.{no_rows, RunsInside, Makes, Asks}
-use Rattle.mailtables.specs.MetaTable.{meta_tree, version_row, version_rows, stored_value_column}
+use Rattle.store_tables.specs.Rows.{Tables, HoldsTables, row_added}
+use Rattle.store_tables.specs.Schema.{no_schema, mail_schema, IsOurSchema}
+use Rattle.store_tables.specs.Connection.{no_rows, RunsInside, Makes, AsksDatabase}
+use Rattle.store_tables.specs.MetaTable.{meta_tree, version_row, version_rows, stored_value_column}
 
 -- a database of our tables, whose one row of the version says 3
 pub record IsOurs (db : Database) : Type 0 where
@@ -22,7 +22,7 @@ pub record IsOurs (db : Database) : Type 0 where
 
 -- no table has a row but that of the version
 abbrev pub only_version : Tables
-only_version = added meta_tree version_row no_rows
+only_version = row_added meta_tree version_row no_rows
 
 -- an empty database has turned into one that holds our tables, and no row but that of the version
 abbrev pub TurnsOurs : Database → Database → Type 0
@@ -48,5 +48,5 @@ IsOpenedAs old new = new ≡ old
 
 -- a database of our tables is opened: the answer says whether it is ours; all stays as it was, a crash leaves what it left before, and after
 -- an answer the last commit is seen
-abbrev pub Opens : {E : Type 0} → State → State → Result Bool E → Type 0
-Opens old new result = Asks IsOurSchema (λ is. IsTrue is ↔ IsOurs old.now) old new result
+abbrev pub OpensOurs : {E : Type 0} → State → State → Result Bool E → Type 0
+OpensOurs old new result = AsksDatabase IsOurSchema (λ is. IsTrue is ↔ IsOurs old.now) old new result

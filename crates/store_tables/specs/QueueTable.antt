@@ -4,10 +4,10 @@ use Rattle.sqlite_schema.specs.declared.schema.Kind.TheVariants as kind
 use Rattle.sqlite_schema.specs.declared.schema.Table.{Table}
 use Rattle.sqlite_value.specs.declared.value.Value.TheVariants.{Int, Blob}
 use Rattle.sqlite_value.specs.Order.{Row}
-use Rattle.mailtables.specs.Forms.{needed, keyed}
-use Rattle.mailtables.specs.declared.queue.Kind.{Kind}
-use Rattle.mailtables.specs.declared.queue.Kind.TheVariants.{Redirect, Reply}
-use Rattle.mailtables.specs.AccountTable.{to_account}
+use Rattle.store_tables.specs.Forms.{needed, keyed}
+use Rattle.store_tables.specs.declared.queue.QueuedKind.{QueuedKind}
+use Rattle.store_tables.specs.declared.queue.QueuedKind.TheVariants.{Redirect, Reply}
+use Rattle.store_tables.specs.AccountTable.{to_account}
 
 abbrev pub outgoing_tree : ℕ
 outgoing_tree = 6
@@ -22,11 +22,11 @@ create_outgoing =
     codes "CREATE TABLE outgoing (owner BLOB NOT NULL REFERENCES account (name), id INTEGER NOT NULL, kind INTEGER NOT NULL, sender BLOB NOT NULL, target BLOB NOT NULL, message BLOB NOT NULL, PRIMARY KEY (owner, id)) STRICT"
 
 -- a redirect, or a vacation reply (RFC 5230)
-abbrev pub kind_number : Kind → ℕ
+abbrev pub kind_number : QueuedKind → ℕ
 kind_number Redirect = 1
 kind_number Reply = 2
 
-abbrev pub queue_cells : List ℕ → ℤ → Kind → List ℕ → List ℕ → List ℕ → Row
+abbrev pub queue_cells : List ℕ → ℤ → QueuedKind → List ℕ → List ℕ → List ℕ → Row
 queue_cells owner id kind sender target message = Blob owner ∷ Int id ∷ Int (pos (kind_number kind)) ∷ Blob sender ∷ Blob target ∷ Blob message ∷ []
 
 -- the key of a row: the owner and the number

@@ -61,16 +61,16 @@ abbrev pub at_most : Value → Value → Bool
 at_most a b = is_true (binary (Compare Le Binary) a b)
 
 -- a row joins the end of its table
-abbrev pub added : ℕ → Row → Tables → Tables
-added tree cells tables = with_tree tables tree (tables tree ++ cells ∷ [])
+abbrev pub row_added : ℕ → Row → Tables → Tables
+row_added tree cells tables = with_tree tables tree (tables tree ++ cells ∷ [])
 
 -- the rows that fulfil this are removed
 abbrev pub removed_where : ℕ → (Row → Bool) → Tables → Tables
 removed_where tree test tables = with_tree tables tree (delete_where test (tables tree))
 
 -- the rows that begin with the key are removed, if there are any: if it is a whole key, at most one
-abbrev pub removed : ℕ → Row → Tables → Tables
-removed tree key = removed_where tree (has_key key)
+abbrev pub rows_removed : ℕ → Row → Tables → Tables
+rows_removed tree key = removed_where tree (has_key key)
 
 -- the row with the key is changed, if there is one
 abbrev pub set_in : ℕ → Row → (Row → Row) → Tables → Tables

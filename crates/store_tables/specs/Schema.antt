@@ -9,18 +9,18 @@ use Rattle.sqlite_catalog.specs.Change.{automatics, created}
 use Rattle.sqlite_value.specs.declared.value.Value.TheVariants.{Null}
 use Rattle.sqlite_value.specs.declared.keys.Collation.TheVariants.{Binary}
 use Rattle.sqlite_value.specs.Keys.{plain}
-use Rattle.mailtables.specs.declared.schema.Form.{Form}
-use Rattle.mailtables.specs.declared.schema.Parents.{Parents}
-use Rattle.mailtables.specs.declared.schema.Parents.TheVariants.{Nothing, Account, AccountAndMessage}
-use Rattle.mailtables.specs.declared.schema.KeyForm.{KeyForm}
-use Rattle.mailtables.specs.MetaTable.{meta_tree, meta}
-use Rattle.mailtables.specs.AccountTable.{account_tree, account, to_account}
-use Rattle.mailtables.specs.ScriptTable.{script_tree, script}
-use Rattle.mailtables.specs.QueueTable.{outgoing_tree, outgoing}
-use Rattle.mailtables.specs.ReplyTable.{reply_tree, reply}
-use Rattle.mailtables.specs.NoticeTable.{notice_tree, notice}
-use Rattle.mailtables.specs.MessageTable.{message_tree, message}
-use Rattle.mailtables.specs.CopyTable.{copy_tree, copy, copy_message, to_message}
+use Rattle.store_tables.specs.declared.schema.Form.{Form}
+use Rattle.store_tables.specs.declared.schema.Parents.{Parents}
+use Rattle.store_tables.specs.declared.schema.Parents.TheVariants.{Nothing, Account, AccountAndMessage}
+use Rattle.store_tables.specs.declared.schema.KeyForm.{KeyForm}
+use Rattle.store_tables.specs.MetaTable.{meta_tree, meta}
+use Rattle.store_tables.specs.AccountTable.{account_tree, account, to_account}
+use Rattle.store_tables.specs.ScriptTable.{scripts_tree, script}
+use Rattle.store_tables.specs.QueueTable.{outgoing_tree, outgoing}
+use Rattle.store_tables.specs.ReplyTable.{reply_tree, reply}
+use Rattle.store_tables.specs.NoticeTable.{notice_tree, notice}
+use Rattle.store_tables.specs.MessageTable.{message_tree, message}
+use Rattle.store_tables.specs.CopyTable.{copy_tree, copy, copy_message, to_message}
 
 abbrev pub the_tables : List Table
 the_tables = meta ∷ account ∷ script ∷ outgoing ∷ reply ∷ notice ∷ message ∷ copy ∷ []
@@ -31,7 +31,7 @@ no_schema = record { tables = []; indexes = []; views = [] }
 -- the index of each table's key: its tree is the one after the table's
 abbrev pub the_keys : List Index
 the_keys =
-    automatics meta 0 (meta_tree + 1) meta.uniques ++ automatics account 0 (account_tree + 1) account.uniques ++ automatics script 0 (script_tree + 1) script.uniques
+    automatics meta 0 (meta_tree + 1) meta.uniques ++ automatics account 0 (account_tree + 1) account.uniques ++ automatics script 0 (scripts_tree + 1) script.uniques
     ++ automatics outgoing 0 (outgoing_tree + 1) outgoing.uniques ++ automatics reply 0 (reply_tree + 1) reply.uniques ++ automatics notice 0 (notice_tree + 1) notice.uniques
     ++ automatics message 0 (message_tree + 1) message.uniques ++ automatics copy 0 (copy_tree + 1) copy.uniques
 

@@ -4,17 +4,17 @@ use Rattle.sqlite_schema.specs.declared.schema.Kind.TheVariants as kind
 use Rattle.sqlite_schema.specs.declared.schema.Table.{Table}
 use Rattle.sqlite_value.specs.declared.value.Value.TheVariants.{Blob}
 use Rattle.sqlite_value.specs.Order.{Row}
-use Rattle.mailtables.specs.Forms.{needed, keyed}
-use Rattle.mailtables.specs.AccountTable.{to_account}
+use Rattle.store_tables.specs.Forms.{needed, keyed}
+use Rattle.store_tables.specs.AccountTable.{to_account}
 
-abbrev pub script_tree : ℕ
-script_tree = 4
+abbrev pub scripts_tree : ℕ
+scripts_tree = 4
 
 abbrev pub text_column : ℕ
 text_column = 2
 
 abbrev pub script : Table
-script = keyed (codes "script") script_tree (1 ∷ 2 ∷ []) to_account (needed (codes "owner") kind.Blob ∷ needed (codes "name") kind.Blob ∷ needed (codes "text") kind.Blob ∷ [])
+script = keyed (codes "script") scripts_tree (1 ∷ 2 ∷ []) to_account (needed (codes "owner") kind.Blob ∷ needed (codes "name") kind.Blob ∷ needed (codes "text") kind.Blob ∷ [])
 
 -- ---- its statements
 

@@ -1,8 +1,8 @@
 //! The table of accounts: its rows are the users.
-ghost use Rattle.mailtables.specs.Cells.{contents};
-ghost use Rattle.mailtables.specs.Changes.{account_added, active_set, address_set, counters_set, password_set, rounds_set};
-ghost use Rattle.mailtables.specs.Connection.{ChangesRows, MakesTables};
-ghost use Rattle.mailtables.specs.Schema.{schema_1, schema_2};
+ghost use Rattle.store_tables.specs.Cells.{borrowed_octets};
+ghost use Rattle.store_tables.specs.Changes.{account_added, active_set, address_set, counters_set, password_set, rounds_set};
+ghost use Rattle.store_tables.specs.Connection.{ChangesRows, MakesTables};
+ghost use Rattle.store_tables.specs.Schema.{schema_1, schema_2};
 
 use crate::statement::execute;
 use sqlite::{Alter, Error, Transaction, params};
@@ -42,7 +42,7 @@ pub(crate) fn set_active<S: Alter>(
     name: &[u8],
     active: Option<&[u8]>,
 ) -> Result<(), Error>
-    ensures { ChangesRows S.Store (active_set name.now (contents active.entry)) tx.old tx.new result }
+    ensures { ChangesRows S.Store (active_set name.now (borrowed_octets active.entry)) tx.old tx.new result }
 {
     execute(
         tx,

@@ -1,17 +1,15 @@
 //! Changes of rows, and a list of them in one transaction.
 ghost use Rattle.std.specs.Prelude.{◌≡◌, false, OnOk, OnErr};
 ghost use Rattle.sqlite.specs.Held.{state};
-ghost use Rattle.mailtables.specs.Changes.{MakesAll, CrashLeavesTables, made_one};
+ghost use Rattle.store_tables.specs.Changes.{MakesAll, CrashLeavesTables, made_one};
 ghost use Rattle.sqlite.specs.State.{Survives, HasCleanDisk};
-ghost use Rattle.mailtables.specs.Connection.{ChangesRows, IsSettled, StaysSame};
+ghost use Rattle.store_tables.specs.Connection.{ChangesRows, IsSettled, StaysSame};
 
-use crate::account::{
-    add_account, set_active, set_address, set_counters, set_password, set_rounds,
-};
+use crate::account::{add_account, set_active, set_address, set_counters, set_password, set_rounds};
 use crate::copy::{add_copy, remove_copies, remove_copy};
 use crate::message::{add_message, remove_message, remove_messages};
 use crate::notice::{add_notice, remove_early_notices, remove_notices};
-use crate::queue::{Kind, add_outgoing, remove_outgoing, remove_queue};
+use crate::queue::{QueuedKind, add_outgoing, remove_outgoing, remove_queue};
 use crate::reply::{add_reply, remove_reply};
 use crate::script::{add_script, remove_script, remove_scripts};
 use sqlite::{Alter, Connection, Error, Transaction};
@@ -92,7 +90,7 @@ pub enum Change<'a> {
     AddOutgoing {
         owner: &'a [u8],
         id: i64,
-        kind: Kind,
+        kind: QueuedKind,
         sender: &'a [u8],
         target: &'a [u8],
         message: &'a [u8],

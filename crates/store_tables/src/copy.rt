@@ -1,8 +1,8 @@
 //! The table of the copies of messages, which make up the folders.
-ghost use Rattle.mailtables.specs.Changes.{owned_removed, copy_added, copy_removed};
-ghost use Rattle.mailtables.specs.CopyTable.{copy_tree};
-ghost use Rattle.mailtables.specs.Connection.{ChangesRows, MakesTables};
-ghost use Rattle.mailtables.specs.Schema.{mail_schema, schema_7, schema_8};
+ghost use Rattle.store_tables.specs.Changes.{owned_removed, copy_added, copy_removed};
+ghost use Rattle.store_tables.specs.CopyTable.{copy_tree};
+ghost use Rattle.store_tables.specs.Connection.{ChangesRows, MakesTables};
+ghost use Rattle.store_tables.specs.Schema.{mail_schema, schema_7, schema_8};
 
 use crate::statement::execute;
 use sqlite::{Alter, Error, Transaction, params};

@@ -18,11 +18,9 @@ pub use change::{Change, make_all};
 pub use copy::add_copy;
 pub use message::add_message;
 pub use notice::add_notice;
-pub use queue::Kind;
+pub use queue::QueuedKind;
 pub use reply::add_reply;
 pub use schema::is_ours;
 pub use statement::{execute, query};
-pub use table::{
-    is_blank, is_taken, make_copies, make_folders, make_later, make_tables, open_tables,
-};
+pub use table::{has_no_tables, is_taken, make_copies, make_folders, make_later, make_tables, open_tables};
 pub use version::{add_version, are_version, find_version};

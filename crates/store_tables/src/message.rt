@@ -1,8 +1,8 @@
 //! The table of the messages in folders: each is stored once.
-ghost use Rattle.mailtables.specs.Changes.{owned_removed, message_added, message_removed};
-ghost use Rattle.mailtables.specs.MessageTable.{message_tree};
-ghost use Rattle.mailtables.specs.Connection.{ChangesRows, MakesTables};
-ghost use Rattle.mailtables.specs.Schema.{schema_6, schema_7};
+ghost use Rattle.store_tables.specs.Changes.{owned_removed, message_added, message_removed};
+ghost use Rattle.store_tables.specs.MessageTable.{message_tree};
+ghost use Rattle.store_tables.specs.Connection.{ChangesRows, MakesTables};
+ghost use Rattle.store_tables.specs.Schema.{schema_6, schema_7};
 
 use crate::statement::execute;
 use sqlite::{Alter, Error, Transaction, params};

@@ -1,8 +1,8 @@
 //! The table of notices.
-ghost use Rattle.mailtables.specs.Changes.{early_notices_removed, owned_removed, notice_added};
-ghost use Rattle.mailtables.specs.NoticeTable.{notice_tree};
-ghost use Rattle.mailtables.specs.Connection.{ChangesRows, MakesTables};
-ghost use Rattle.mailtables.specs.Schema.{schema_5, schema_6};
+ghost use Rattle.store_tables.specs.Changes.{early_notices_removed, owned_removed, notice_added};
+ghost use Rattle.store_tables.specs.NoticeTable.{notice_tree};
+ghost use Rattle.store_tables.specs.Connection.{ChangesRows, MakesTables};
+ghost use Rattle.store_tables.specs.Schema.{schema_5, schema_6};
 
 use crate::statement::execute;
 use sqlite::{Alter, Error, Transaction, params};

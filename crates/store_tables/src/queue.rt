@@ -1,17 +1,17 @@
 //! The table of messages on their way out.
 ghost use Rattle.std.specs.Prelude.{◌≡◌};
-ghost use Rattle.mailtables.specs.Changes.{owned_removed, outgoing_added, outgoing_removed};
-ghost use Rattle.mailtables.specs.QueueTable.{outgoing_tree};
-ghost use Rattle.mailtables.specs.Connection.{ChangesRows, MakesTables};
-ghost use Rattle.mailtables.specs.QueueTable.{kind_number};
-ghost use Rattle.mailtables.specs.Schema.{schema_3, schema_4};
+ghost use Rattle.store_tables.specs.Changes.{owned_removed, outgoing_added, outgoing_removed};
+ghost use Rattle.store_tables.specs.QueueTable.{outgoing_tree};
+ghost use Rattle.store_tables.specs.Connection.{ChangesRows, MakesTables};
+ghost use Rattle.store_tables.specs.QueueTable.{kind_number};
+ghost use Rattle.store_tables.specs.Schema.{schema_3, schema_4};
 
 use crate::statement::execute;
 use sqlite::{Alter, Error, Transaction, params};
 
 /// Why a message goes out.
 #[derive(Clone, Copy, Debug, PartialEq, Eq)]
-pub enum Kind {
+pub enum QueuedKind {
     /// A `redirect` (RFC 5228, section 4.2).
     Redirect,
     /// A vacation reply (RFC 5230).
@@ -30,12 +30,12 @@ pub(crate) fn make_outgoing<S: Alter>(tx: &mut Transaction<'_, S>) -> Result<(),
 }
 
 /// The number of the kind in the table.
-fn number_of(kind: Kind) -> u32
+fn number_of(kind: QueuedKind) -> u32
     ensures { result ≡ kind_number kind }
 {
     match kind {
-        Kind::Redirect => 1,
-        Kind::Reply => 2,
+        QueuedKind::Redirect => 1,
+        QueuedKind::Reply => 2,
     }
 }
 
@@ -44,7 +44,7 @@ pub(crate) fn add_outgoing<S: Alter>(
     tx: &mut Transaction<'_, S>,
     owner: &[u8],
     id: &i64,
-    kind: Kind,
+    kind: QueuedKind,
     sender: &[u8],
     target: &[u8],
     message: &[u8],

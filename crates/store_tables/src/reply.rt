@@ -1,7 +1,7 @@
 //! The table of the moments of the last replies.
-ghost use Rattle.mailtables.specs.Changes.{reply_added, reply_removed};
-ghost use Rattle.mailtables.specs.Connection.{ChangesRows, MakesTables};
-ghost use Rattle.mailtables.specs.Schema.{schema_4, schema_5};
+ghost use Rattle.store_tables.specs.Changes.{reply_added, reply_removed};
+ghost use Rattle.store_tables.specs.Connection.{ChangesRows, MakesTables};
+ghost use Rattle.store_tables.specs.Schema.{schema_4, schema_5};
 
 use crate::statement::execute;
 use sqlite::{Alter, Error, Transaction, params};

@@ -1,16 +1,16 @@
 //! Checks whether the tables of a database are ours: those that the SQL texts in `table.rt` make, and no others.
 ghost use Rattle.std.specs.Prelude.{◌≡◌, ◌↔◌, true, [], ◌∷◌, map, IsTrue};
 ghost use Rattle.sqlite_value.specs.Keys.{plain};
-ghost use Rattle.mailtables.specs.Forms.{needed, maybe, keyed};
-ghost use Rattle.mailtables.specs.Schema as spec;
-ghost use Rattle.mailtables.specs.MetaTable as meta_table;
-ghost use Rattle.mailtables.specs.AccountTable as account_table;
-ghost use Rattle.mailtables.specs.ScriptTable as script_table;
-ghost use Rattle.mailtables.specs.QueueTable as queue_table;
-ghost use Rattle.mailtables.specs.ReplyTable as reply_table;
-ghost use Rattle.mailtables.specs.NoticeTable as notice_table;
-ghost use Rattle.mailtables.specs.MessageTable as message_table;
-ghost use Rattle.mailtables.specs.CopyTable as copy_table;
+ghost use Rattle.store_tables.specs.Forms.{needed, maybe, keyed};
+ghost use Rattle.store_tables.specs.Schema as spec;
+ghost use Rattle.store_tables.specs.MetaTable as meta_table;
+ghost use Rattle.store_tables.specs.AccountTable as account_table;
+ghost use Rattle.store_tables.specs.ScriptTable as script_table;
+ghost use Rattle.store_tables.specs.QueueTable as queue_table;
+ghost use Rattle.store_tables.specs.ReplyTable as reply_table;
+ghost use Rattle.store_tables.specs.NoticeTable as notice_table;
+ghost use Rattle.store_tables.specs.MessageTable as message_table;
+ghost use Rattle.store_tables.specs.CopyTable as copy_table;
 
 use sqlite_items::Items;
 use sqlite_schema::schema::{Action, Column, Index, Kind, Reference, Schema, Table};

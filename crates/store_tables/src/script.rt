@@ -1,8 +1,8 @@
 //! The table of scripts.
-ghost use Rattle.mailtables.specs.Changes.{owned_removed, script_added, script_removed};
-ghost use Rattle.mailtables.specs.ScriptTable.{script_tree};
-ghost use Rattle.mailtables.specs.Connection.{ChangesRows, MakesTables};
-ghost use Rattle.mailtables.specs.Schema.{schema_2, schema_3};
+ghost use Rattle.store_tables.specs.Changes.{owned_removed, script_added, script_removed};
+ghost use Rattle.store_tables.specs.ScriptTable.{scripts_tree};
+ghost use Rattle.store_tables.specs.Connection.{ChangesRows, MakesTables};
+ghost use Rattle.store_tables.specs.Schema.{schema_2, schema_3};
 
 use crate::statement::execute;
 use sqlite::{Alter, Error, Transaction, params};
@@ -54,7 +54,7 @@ pub(crate) fn remove_scripts<S: Alter>(
     tx: &mut Transaction<'_, S>,
     owner: &[u8],
 ) -> Result<(), Error>
-    ensures { ChangesRows S.Store (owned_removed script_tree owner.now) tx.old tx.new result }
+    ensures { ChangesRows S.Store (owned_removed scripts_tree owner.now) tx.old tx.new result }
 {
     execute(tx, "DELETE FROM script WHERE owner = ?1", params![owner])
 }

@@ -1,7 +1,7 @@
 //! One statement: inside a transaction, or a query outside one.
 ghost use Rattle.std.specs.Prelude.{◌≡◌, false};
 ghost use Rattle.sqlite.specs.Values.{bound};
-ghost use Rattle.mailtables.specs.Connection.{RunsStatement, Answers, Queries};
+ghost use Rattle.store_tables.specs.Connection.{RunsStatement, AnswersQuery, Queries};
 
 use sqlite::{Alter, Connection, Error, Row, Transaction};
 use sqlite_value::value::ValueRef;
@@ -25,7 +25,7 @@ pub fn query<S: Alter>(
     params: &[ValueRef<'_>],
 ) -> Result<Vec<Row>, Error>
     requires { conn.old.in_transaction ≡ false }
-    ensures { Queries S.Store (Answers sql.now (bound params.now)) conn.old conn.new result }
+    ensures { Queries S.Store (AnswersQuery sql.now (bound params.now)) conn.old conn.new result }
 {
     // Outside a transaction what is seen is what was committed, as this call states.
     let _settled = conn.is_autocommit();

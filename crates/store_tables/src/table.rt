@@ -1,10 +1,10 @@
 //! All tables, and whether a database has them.
 ghost use Rattle.std.specs.Prelude.{◌≡◌, false, ◌↔◌, IsTrue, OnOk, OnErr};
 ghost use Rattle.sqlite.specs.Held.{state};
-ghost use Rattle.mailtables.specs.Ours.{Creates, MakesOurs, MayCreate, Opens};
+ghost use Rattle.store_tables.specs.Ours.{Creates, MakesOurs, MayCreate, OpensOurs};
 ghost use Rattle.sqlite.specs.State.{Survives, HasCleanDisk};
-ghost use Rattle.mailtables.specs.Connection.{MakesTables, IsSettled, StaysSame, has_our_name};
-ghost use Rattle.mailtables.specs.Schema.{no_schema, mail_schema, schema_3, schema_6, schema_7};
+ghost use Rattle.store_tables.specs.Connection.{MakesTables, IsSettled, StaysSame, has_our_name};
+ghost use Rattle.store_tables.specs.Schema.{no_schema, mail_schema, schema_3, schema_6, schema_7};
 
 use crate::account::make_account;
 use crate::copy::{make_copy, make_copy_message};
@@ -32,7 +32,7 @@ pub fn is_taken(schema: &Schema) -> bool
 }
 
 /// Whether there is no table, index or view.
-pub fn is_blank(schema: &Schema) -> bool
+pub fn has_no_tables(schema: &Schema) -> bool
     ensures { IsTrue result ↔ (schema.now ≡ no_schema) }
 {
     schema.tables.as_slice().is_empty()
@@ -112,7 +112,7 @@ pub fn open_tables<S: Alter>(conn: &mut Connection<S>) -> Result<bool, Error>
     requires { conn.old.in_transaction ≡ false }
     ensures ended { conn.new.in_transaction ≡ false }
     ensures limit { conn.new.step_limit ≡ conn.old.step_limit }
-    ensures opens { Opens (state S.Store conn.old) (state S.Store conn.new) result }
+    ensures opens { OpensOurs (state S.Store conn.old) (state S.Store conn.new) result }
 {
     has_version(conn)
 }

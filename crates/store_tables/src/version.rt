@@ -1,11 +1,11 @@
 //! The table of the version.
 ghost use Rattle.std.specs.Prelude.{◌≡◌, false, ◌↔◌, IsTrue, pos, IfOk};
 ghost use Rattle.sqlite.specs.Held.{state};
-ghost use Rattle.mailtables.specs.Ours.{IsOurs};
-ghost use Rattle.mailtables.specs.MetaTable.{select_version, version_key, version_row, meta_tree, Says};
-ghost use Rattle.mailtables.specs.Connection.{Answers, Asks, Queries, ChangesRows, MakesTables};
-ghost use Rattle.mailtables.specs.Rows.{added};
-ghost use Rattle.mailtables.specs.Schema.{no_schema, schema_1, IsOurSchema};
+ghost use Rattle.store_tables.specs.Ours.{IsOurs};
+ghost use Rattle.store_tables.specs.MetaTable.{select_version, version_key, version_row, meta_tree, HoldsVersion};
+ghost use Rattle.store_tables.specs.Connection.{AnswersQuery, AsksDatabase, Queries, ChangesRows, MakesTables};
+ghost use Rattle.store_tables.specs.Rows.{row_added};
+ghost use Rattle.store_tables.specs.Schema.{no_schema, schema_1, IsOurSchema};
 ghost use Rattle.sqlite_value.specs.declared.value.Value.TheVariants.{Int};
 ghost use Rattle.sqlite_value.specs.Order.{column};
 
@@ -25,7 +25,7 @@ pub(crate) fn make_meta<S: Alter>(tx: &mut Transaction<'_, S>) -> Result<(), Err
 
 /// Adds the row of the version, inside a transaction.
 pub fn add_version<S: Alter>(tx: &mut Transaction<'_, S>) -> Result<(), Error>
-    ensures { ChangesRows S.Store (added meta_tree version_row) tx.old tx.new result }
+    ensures { ChangesRows S.Store (row_added meta_tree version_row) tx.old tx.new result }
 {
     execute(
         tx,
@@ -37,7 +37,7 @@ pub fn add_version<S: Alter>(tx: &mut Transaction<'_, S>) -> Result<(), Error>
 /// The numbers in the rows of the version.
 pub fn find_version<S: Alter>(conn: &mut Connection<S>) -> Result<Vec<Row>, Error>
     requires { conn.old.in_transaction ≡ false }
-    ensures { Queries S.Store (Answers select_version version_key) conn.old conn.new result }
+    ensures { Queries S.Store (AnswersQuery select_version version_key) conn.old conn.new result }
 {
     query(
         conn,
@@ -49,7 +49,7 @@ pub fn find_version<S: Alter>(conn: &mut Connection<S>) -> Result<Vec<Row>, Erro
 /// Whether there is one row of the version, and it says 3.
 pub(crate) fn has_version<S: Alter>(conn: &mut Connection<S>) -> Result<bool, Error>
     requires { conn.old.in_transaction ≡ false }
-    ensures { Queries S.Store (Asks IsOurSchema (λ is. IsTrue is ↔ IsOurs (state S.Store conn.old).now)) conn.old conn.new result }
+    ensures { Queries S.Store (AsksDatabase IsOurSchema (λ is. IsTrue is ↔ IsOurs (state S.Store conn.old).now)) conn.old conn.new result }
 {
     let rows = find_version(conn)?;
     are_version(&rows, &3)
@@ -65,7 +65,7 @@ fn is_version(row: &Row, version: &i64) -> Result<bool, Error>
 
 /// Whether there is one row, and it says this version.
 pub fn are_version(rows: &[Row], version: &i64) -> Result<bool, Error>
-    ensures { IfOk result (λ is. IsTrue is ↔ Says version.now rows.now) }
+    ensures { IfOk result (λ is. IsTrue is ↔ HoldsVersion version.now rows.now) }
 {
     match rows {
         [row] => is_version(row, version),

@@ -3,7 +3,7 @@ use Prim.Native.Nat.{zero}
 use Rattle.std.proofs.Common.{◌≡◌, ℕ, suc, ◌+◌, ◌==◌, ◌&&◌, not, cond, Bool, true, false, List, [], ◌∷◌, ◌++◌, length, take, drop, refl, sym, ap, ◌∙◌, arith}
 use Rattle.std.specs.List.{list_all, prefix_len}
 use Rattle.std.proofs.lemmas.Bool.{and_parts, eqb-true}
-use Rattle.accountfiles.specs.Netstring.{other, CutsAt}
+use Rattle.store_text.specs.Netstring.{other, CutsAtMark}
 
 pub both_true : (a b : Bool) → a ≡ true → b ≡ true → (a && b) ≡ true
 both_true true b one two = two
@@ -20,7 +20,7 @@ pub own_mark : (mark : ℕ) → other mark mark ≡ true → ⊥
 own_mark mark is = let same : (mark == mark) ≡ true = grind arith in let no : not true ≡ true = ap not (sym same) ∙ is in cc
 
 -- the octets up to the first mark, and the mark with those behind it
-pub cut_there : (mark : ℕ) (text rest : List ℕ) (octet count : ℕ) → count ≡ prefix_len (other mark) text → drop count text ≡ octet ∷ rest → CutsAt mark text (take count text) rest
+pub cut_there : (mark : ℕ) (text rest : List ℕ) (octet count : ℕ) → count ≡ prefix_len (other mark) text → drop count text ≡ octet ∷ rest → CutsAtMark mark text (take count text) rest
 cut_there mark [] rest octet count value behind = let none : drop {A = ℕ} count [] ≡ [] = nothing count in absurd (let no = sym none ∙ behind in cc)
   where
     nothing : (n : ℕ) → drop {A = ℕ} n [] ≡ []
@@ -28,7 +28,7 @@ cut_there mark [] rest octet count value behind = let none : drop {A = ℕ} coun
     nothing (suc n) = refl
 cut_there mark (x ∷ text) rest octet count value behind = go (x == mark) refl count value behind (λ n v h. cut_there mark text rest octet n v h)
   where
-    go : (b : Bool) → (x == mark) ≡ b → (n : ℕ) → n ≡ cond (not b) (1 + prefix_len (other mark) text) 0 → drop n (x ∷ text) ≡ octet ∷ rest → ((m : ℕ) → m ≡ prefix_len (other mark) text → drop m text ≡ octet ∷ rest → CutsAt mark text (take m text) rest) → CutsAt mark (x ∷ text) (take n (x ∷ text)) rest
+    go : (b : Bool) → (x == mark) ≡ b → (n : ℕ) → n ≡ cond (not b) (1 + prefix_len (other mark) text) 0 → drop n (x ∷ text) ≡ octet ∷ rest → ((m : ℕ) → m ≡ prefix_len (other mark) text → drop m text ≡ octet ∷ rest → CutsAtMark mark text (take m text) rest) → CutsAtMark mark (x ∷ text) (take n (x ∷ text)) rest
     go true is zero v h below = record { written = ap (λ o. o ∷ text) (eqb-true x mark is) ∙ ap (λ t. mark ∷ t) (tail_same x octet text rest h); first = refl }
     go true is (suc n) v h below = absurd (omega (arith, v))
     go false is zero v h below = absurd (omega (arith, v))

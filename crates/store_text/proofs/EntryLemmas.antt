@@ -3,12 +3,12 @@ use Rattle.std.proofs.Common.{◌≡◌, ℕ, List, ◌++◌, true, false, Optio
 use Rattle.std.specs.Prelude.{IfSome}
 use Rattle.std.specs.Borrow.{Bor}
 use Rattle.std.specs.declared.alloc.Global.{Global}
-use Rattle.accountfiles.specs.Netstring.{line, texts, AreFields}
-use Rattle.accountfiles.specs.Fields.{version_fields, is_version}
-use Rattle.accountfiles.specs.Reading.{ReadsLine}
-use Rattle.accountfiles.specs.declared.account_file.ReadError.TheVariants.{NotAnAccount}
-use Rattle.accountfiles.proofs.FieldLemmas.{IsCodec, version_written, version_again}
-use Rattle.accountfiles.proofs.NetstringLemmas.{one_line}
+use Rattle.store_text.specs.Netstring.{line, texts, AreFields}
+use Rattle.store_text.specs.Fields.{version_fields, is_version}
+use Rattle.store_text.specs.Reading.{ReadsAccountLine}
+use Rattle.store_text.specs.declared.account_file.AccountReadError.TheVariants.{NotAnAccount}
+use Rattle.store_text.proofs.FieldLemmas.{IsCodec, version_written, version_again}
+use Rattle.store_text.proofs.NetstringLemmas.{one_line}
 
 abbrev pub Fields : Type 0
 Fields = Vec (Bor (List ℕ)) Global
@@ -22,7 +22,7 @@ module _ (octets : List ℕ) (o : Option (Fields × Bor (List ℕ))) (found : If
   are_small = subst (λ fs. AreFields (texts fs)) (sym value) (subst (λ q. IfSome q (λ t. AreFields (texts t.0.items))) is small)
 
   module _ {X : Type 0} (fields_of : X → List (List ℕ)) (Fits : X → Type 0) (at : List (List ℕ) → Option X) (codec : IsCodec fields_of Fits at) where
-    pub line_says : (x : X) → Some x ≡ at (texts slice) → ReadsLine fields_of Fits octets (Ok (x, rest))
+    pub line_says : (x : X) → Some x ≡ at (texts slice) → ReadsAccountLine fields_of Fits octets (Ok (x, rest))
     line_says x says =
         let read = codec.written (texts slice) x (sym says) in
         record {
@@ -32,7 +32,7 @@ module _ (octets : List ℕ) (o : Option (Fields × Bor (List ℕ))) (found : If
           none = tt;
         }
 
-    pub line_says_none : None ≡ at (texts slice) → ReadsLine fields_of Fits octets (Err NotAnAccount)
+    pub line_says_none : None ≡ at (texts slice) → ReadsAccountLine fields_of Fits octets (Err NotAnAccount)
     line_says_none says = record {
       found = tt;
       fits = tt;

@@ -1,11 +1,11 @@
 -- Parts of a text at work, and some beside them that are none.
 use Rattle.std.proofs.Common.{◌≡◌, true, false, [], ◌∷◌, ◌++◌, codes, decimal, Some, None, refl, arith}
 use Rattle.std.proofs.lemmas.Fmt.{decimal_digit}
-use Rattle.accountfiles.specs.Netstring.{netstring, line}
-use Rattle.accountfiles.specs.Fields.{is_version, part_fields, five_at, part_at}
-use Rattle.accountfiles.specs.Order.{are_chained, fits, has_active}
-use Rattle.accountfiles.specs.declared.head.Numbers.{Numbers}
-use Rattle.accountfiles.specs.declared.part.Part.TheVariants.{Script, Mail, Copy}
+use Rattle.store_text.specs.Netstring.{netstring, line}
+use Rattle.store_text.specs.Fields.{is_version, part_fields, five_at, part_at}
+use Rattle.store_text.specs.Order.{are_chained, fits, has_active}
+use Rattle.store_text.specs.declared.head.Numbers.{Numbers}
+use Rattle.store_text.specs.declared.part.Part.TheVariants.{Script, Mail, Copy}
 
 -- five octets, and a line of one field
 hello : netstring (codes "hello") ≡ codes "5:hello,"

@@ -2,18 +2,18 @@
 use Rattle.std.proofs.Common.{◌≡◌, ℕ, ◌^◌, ◌<◌, ◌⊎◌, inl, inr, cond, Bool, true, false, List, [], ◌∷◌, codes, decimal, Option, Some, None, option_map, refl, ap, ◌∙◌, subst, arith}
 use Rattle.std.specs.Prelude.{nat_lt, option_and_then, option_to_list, ⊤}
 use Rattle.std.proofs.lemmas.Bool.{and_parts, lt-ltb, ltb-true}
-use Rattle.accountfiles.specs.Netstring.{same_text, number_in}
-use Rattle.accountfiles.specs.Fields.{version_fields, owner_fields, numbers_fields, part_fields, flags_fields, sum_fields, letter_word, owner_at, owner_with, owner_by, rounds_in, counters_at, numbers_at, numbers_by, script_at, reply_at, mail_at, copy_at, notice_at, four_at, where_flags, five_at, kind_at, letter_at, part_at, sum_at, is_version}
-use Rattle.accountfiles.specs.Reading.{HasNumbers, AreSmall, entry_fields, IsEntry, entry_by, entry_at}
-use Rattle.accountfiles.specs.declared.head.Owner.{Owner}
-use Rattle.accountfiles.specs.declared.head.Numbers.{Numbers}
-use Rattle.accountfiles.specs.declared.entry.Entry.{Entry}
-use Rattle.accountfiles.specs.declared.entry.Entry.TheVariants as entry
-use Rattle.accountfiles.specs.declared.part.LetterKind.{LetterKind}
-use Rattle.accountfiles.specs.declared.part.LetterKind.TheVariants.{Redirect, Answer}
-use Rattle.accountfiles.specs.declared.part.Part.{Part}
-use Rattle.accountfiles.specs.declared.part.Part.TheVariants.{Script, Reply, Mail, Copy, Letter, Notice}
-use Rattle.accountfiles.proofs.NumberLemmas.{same_is, number_written, number_again}
+use Rattle.store_text.specs.Netstring.{same_text, decimal_in}
+use Rattle.store_text.specs.Fields.{version_fields, owner_fields, numbers_fields, part_fields, flags_fields, sum_fields, letter_word, owner_at, owner_with, owner_by, rounds_in, counters_at, numbers_at, numbers_by, script_at, reply_at, mail_at, copy_at, notice_at, four_at, where_flags, five_at, kind_at, letter_at, part_at, sum_at, is_version}
+use Rattle.store_text.specs.Reading.{HasNumbers, AreSmall, entry_fields, IsEntry, entry_by, entry_at}
+use Rattle.store_text.specs.declared.head.AccountOwner.{AccountOwner}
+use Rattle.store_text.specs.declared.head.Numbers.{Numbers}
+use Rattle.store_text.specs.declared.entry.Entry.{Entry}
+use Rattle.store_text.specs.declared.entry.Entry.TheVariants as entry
+use Rattle.store_text.specs.declared.part.LetterKind.{LetterKind}
+use Rattle.store_text.specs.declared.part.LetterKind.TheVariants.{Redirect, Answer}
+use Rattle.store_text.specs.declared.part.Part.{Part}
+use Rattle.store_text.specs.declared.part.Part.TheVariants.{Script, Reply, Mail, Copy, Letter, Notice}
+use Rattle.store_text.proofs.NumberLemmas.{same_is, number_written, number_again}
 
 -- fields are read as what they were written for, and as nothing else
 pub record IsCodec {X : Type 0} (fields_of : X → List (List ℕ)) (Fits : X → Type 0) (at : List (List ℕ) → Option X) : Type 0 where
@@ -61,13 +61,13 @@ version_again = refl
 
 -- ---- the owner
 
-owner_read : (word a b c d : List ℕ) (e : Option (List ℕ)) (o : Owner) → owner_with word a b c d e ≡ Some o → word ∷ a ∷ b ∷ c ∷ d ∷ option_to_list e ≡ owner_fields o
+owner_read : (word a b c d : List ℕ) (e : Option (List ℕ)) (o : AccountOwner) → owner_with word a b c d e ≡ Some o → word ∷ a ∷ b ∷ c ∷ d ∷ option_to_list e ≡ owner_fields o
 unfolding owner_with
 owner_read word a b c d e o is =
     let found = passed (same_text word (codes "account")) (Some (owner_by a b c d e)) o is in
     ap (λ w. w ∷ a ∷ b ∷ c ∷ d ∷ option_to_list e) (same_is word (codes "account") found.0) ∙ ap owner_fields (same_some (owner_by a b c d e) o found.1)
 
-owner_written : (fields : List (List ℕ)) (o : Owner) → owner_at fields ≡ Some o → (fields ≡ owner_fields o) × ⊤
+owner_written : (fields : List (List ℕ)) (o : AccountOwner) → owner_at fields ≡ Some o → (fields ≡ owner_fields o) × ⊤
 unfolding owner_at
 owner_written [] o is = none_some o is
 owner_written (word ∷ []) o is = none_some o is
@@ -78,7 +78,7 @@ owner_written (word ∷ a ∷ b ∷ c ∷ d ∷ []) o is = (owner_read word a b 
 owner_written (word ∷ a ∷ b ∷ c ∷ d ∷ e ∷ []) o is = (owner_read word a b c d (Some e) o is, tt)
 owner_written (word ∷ a ∷ b ∷ c ∷ d ∷ e ∷ f ∷ more) o is = none_some o is
 
-owner_again : (o : Owner) → ⊤ → owner_at (owner_fields o) ≡ Some o
+owner_again : (o : AccountOwner) → ⊤ → owner_at (owner_fields o) ≡ Some o
 unfolding owner_at owner_with
 owner_again o fits = go o.active refl
   where
@@ -94,7 +94,7 @@ owner_codec = record { written = owner_written; again = owner_again }
 rounds_written : (text : List ℕ) (n : ℕ) → rounds_in text ≡ Some n → (text ≡ decimal n) × (n < 2 ^ 32)
 unfolding rounds_in
 rounds_written text n is =
-    let found = then_some (λ m. cond (nat_lt m (2 ^ 32)) (Some m) None) (number_in text) n is in
+    let found = then_some (λ m. cond (nat_lt m (2 ^ 32)) (Some m) None) (decimal_in text) n is in
     let small = passed (nat_lt found.0 (2 ^ 32)) (Some found.0) n found.2 in
     let same : found.0 ≡ n = same_some found.0 n small.1 in
     ((number_written text found.0 found.1).0 ∙ ap decimal same, subst (λ k. k < 2 ^ 32) same (ltb-true found.0 (2 ^ 32) small.0))
@@ -111,9 +111,9 @@ same_four a b c d e f g h one two three four =
 numbers_read : (rounds : ℕ) (r c o n : List ℕ) (x : Numbers) → rounds < 2 ^ 32 → r ≡ decimal rounds → counters_at rounds c o n ≡ Some x → (codes "numbers" ∷ r ∷ c ∷ o ∷ n ∷ [] ≡ numbers_fields x) × AreSmall x
 unfolding counters_at
 numbers_read rounds r c o n x small read is =
-    let one = then_some (λ c. option_and_then (λ o. option_map (λ n. numbers_by rounds c o n) (number_in n)) (number_in o)) (number_in c) x is in
-    let two = then_some (λ o. option_map (λ n. numbers_by rounds one.0 o n) (number_in n)) (number_in o) x one.2 in
-    let three = mapped (λ n. numbers_by rounds one.0 two.0 n) (number_in n) x two.2 in
+    let one = then_some (λ c. option_and_then (λ o. option_map (λ n. numbers_by rounds c o n) (decimal_in n)) (decimal_in o)) (decimal_in c) x is in
+    let two = then_some (λ o. option_map (λ n. numbers_by rounds one.0 o n) (decimal_in n)) (decimal_in o) x one.2 in
+    let three = mapped (λ n. numbers_by rounds one.0 two.0 n) (decimal_in n) x two.2 in
     let first = number_written c one.0 one.1 in
     let second = number_written o two.0 two.1 in
     let third = number_written n three.0 three.1 in
@@ -159,22 +159,22 @@ script_written word name text p is =
 reply_written : (handle sender moment : List ℕ) (p : Part) → reply_at handle sender moment ≡ Some p → ReadsPart (codes "reply" ∷ handle ∷ sender ∷ moment ∷ []) p
 unfolding reply_at
 reply_written handle sender moment p is =
-    let found = mapped (λ n. Reply handle sender n) (number_in moment) p is in
+    let found = mapped (λ n. Reply handle sender n) (decimal_in moment) p is in
     let number = number_written moment found.0 found.1 in
     subst (ReadsPart (codes "reply" ∷ handle ∷ sender ∷ moment ∷ [])) found.2 (ap (λ m. codes "reply" ∷ handle ∷ sender ∷ m ∷ []) number.0, number.1)
 
 mail_written : (number folder message flags : List ℕ) (more : List (List ℕ)) (p : Part) → more ≡ flags_fields flags → mail_at number folder message flags ≡ Some p → ReadsPart (codes "mail" ∷ number ∷ folder ∷ message ∷ more) p
 unfolding mail_at
 mail_written number folder message flags more p written is =
-    let found = mapped (λ n. Mail n folder message flags) (number_in number) p is in
+    let found = mapped (λ n. Mail n folder message flags) (decimal_in number) p is in
     let read = number_written number found.0 found.1 in
     subst (ReadsPart (codes "mail" ∷ number ∷ folder ∷ message ∷ more)) found.2 (ap (λ m. codes "mail" ∷ m ∷ folder ∷ message ∷ more) read.0 ∙ ap (λ fs. codes "mail" ∷ decimal found.0 ∷ folder ∷ message ∷ fs) written, read.1)
 
 copy_written : (number folder first flags : List ℕ) (more : List (List ℕ)) (p : Part) → more ≡ flags_fields flags → copy_at number folder first flags ≡ Some p → ReadsPart (codes "copy" ∷ number ∷ folder ∷ first ∷ more) p
 unfolding copy_at
 copy_written number folder first flags more p written is =
-    let one = then_some (λ n. option_map (λ m. Copy n folder m flags) (number_in first)) (number_in number) p is in
-    let two = mapped (λ m. Copy one.0 folder m flags) (number_in first) p one.2 in
+    let one = then_some (λ n. option_map (λ m. Copy n folder m flags) (decimal_in first)) (decimal_in number) p is in
+    let two = mapped (λ m. Copy one.0 folder m flags) (decimal_in first) p one.2 in
     let read = number_written number one.0 one.1 in
     let other = number_written first two.0 two.1 in
     subst (ReadsPart (codes "copy" ∷ number ∷ folder ∷ first ∷ more)) two.2
@@ -183,8 +183,8 @@ copy_written number folder first flags more p written is =
 notice_written : (number moment text : List ℕ) (p : Part) → notice_at number moment text ≡ Some p → ReadsPart (codes "notice" ∷ number ∷ moment ∷ text ∷ []) p
 unfolding notice_at
 notice_written number moment text p is =
-    let one = then_some (λ n. option_map (λ m. Notice n m text) (number_in moment)) (number_in number) p is in
-    let two = mapped (λ m. Notice one.0 m text) (number_in moment) p one.2 in
+    let one = then_some (λ n. option_map (λ m. Notice n m text) (decimal_in moment)) (decimal_in number) p is in
+    let two = mapped (λ m. Notice one.0 m text) (decimal_in moment) p one.2 in
     let read = number_written number one.0 one.1 in
     let other = number_written moment two.0 two.1 in
     subst (ReadsPart (codes "notice" ∷ number ∷ moment ∷ text ∷ [])) two.2 (ap (λ m. codes "notice" ∷ m ∷ moment ∷ text ∷ []) read.0 ∙ ap (λ m. codes "notice" ∷ decimal one.0 ∷ m ∷ text ∷ []) other.0, (read.1, other.1))
@@ -200,8 +200,8 @@ kind_written word kind is =
 letter_written : (word id sender target message : List ℕ) (p : Part) → letter_at word id sender target message ≡ Some p → ReadsPart (word ∷ id ∷ sender ∷ target ∷ message ∷ []) p
 unfolding letter_at
 letter_written word id sender target message p is =
-    let one = then_some (λ kind. option_map (λ n. Letter n kind sender target message) (number_in id)) (kind_at word) p is in
-    let two = mapped (λ n. Letter n one.0 sender target message) (number_in id) p one.2 in
+    let one = then_some (λ kind. option_map (λ n. Letter n kind sender target message) (decimal_in id)) (kind_at word) p is in
+    let two = mapped (λ n. Letter n one.0 sender target message) (decimal_in id) p one.2 in
     let read = number_written id two.0 two.1 in
     subst (ReadsPart (word ∷ id ∷ sender ∷ target ∷ message ∷ [])) two.2 (ap (λ w. w ∷ id ∷ sender ∷ target ∷ message ∷ []) (kind_written word one.0 one.1) ∙ ap (λ m. letter_word one.0 ∷ m ∷ sender ∷ target ∷ message ∷ []) read.0, read.1)
 

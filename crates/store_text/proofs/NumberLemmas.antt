@@ -8,8 +8,8 @@ use Rattle.std.proofs.lemmas.List.Folds.{list_all-append}
 use Rattle.std.proofs.lemmas.List.Sums.{AllPass-from_list_all, fold-append}
 use Rattle.octets.specs.Ascii.{is_digit}
 use Rattle.octets.specs.Decimal.{with_digit, number_of, Writes}
-use Rattle.accountfiles.specs.Netstring.{other, same_text, number_in}
-use Rattle.accountfiles.proofs.CutLemmas.{both_true}
+use Rattle.store_text.specs.Netstring.{other, same_text, decimal_in}
+use Rattle.store_text.proofs.CutLemmas.{both_true}
 
 digit_is : (d : ℕ) → d < 10 → is_digit (48 + d) ≡ true
 digit_is d small = both_true _ _ (le-leb 48 (48 + d) (omega arith)) (le-leb (48 + d) 57 (omega arith))
@@ -75,15 +75,15 @@ chosen : {X : Type 0} (b : Bool) (x y : X) → cond b (Some x) None ≡ Some y �
 chosen true x y is = (refl, let same = is in cc)
 chosen false x y is = absurd (let no = is in cc)
 
-pub number_written : (text : List ℕ) (n : ℕ) → number_in text ≡ Some n → (text ≡ decimal n) × (n < 2 ^ 63)
-unfolding number_in
+pub number_written : (text : List ℕ) (n : ℕ) → decimal_in text ≡ Some n → (text ≡ decimal n) × (n < 2 ^ 63)
+unfolding decimal_in
 number_written text n is =
     let found = chosen (nat_lt (number_of text) (2 ^ 63) && same_text text (decimal (number_of text))) (number_of text) n is in
     let parts = and_parts (nat_lt (number_of text) (2 ^ 63)) (same_text text (decimal (number_of text))) found.0 in
     (same_is text (decimal (number_of text)) parts.1 ∙ ap decimal found.1, subst (λ k. k < 2 ^ 63) found.1 (ltb-true (number_of text) (2 ^ 63) parts.0))
 
-pub number_again : (n : ℕ) → n < 2 ^ 63 → number_in (decimal n) ≡ Some n
-unfolding number_in
+pub number_again : (n : ℕ) → n < 2 ^ 63 → decimal_in (decimal n) ≡ Some n
+unfolding decimal_in
 number_again n small =
     let is : number_of (decimal n) ≡ n = (digits_of n (omega arith)).value in
     let passes : (nat_lt (number_of (decimal n)) (2 ^ 63) && same_text (decimal n) (decimal (number_of (decimal n)))) ≡ true =
@@ -91,8 +91,8 @@ number_again n small =
     rw passes (ap Some is)
 
 -- where no number below 2^64 is written, none is read
-pub number_lost : (text : List ℕ) → ((n : ℕ) → n < 2 ^ 64 → Writes text n → ⊥) → number_in text ≡ None
-unfolding number_in
+pub number_lost : (text : List ℕ) → ((n : ℕ) → n < 2 ^ 64 → Writes text n → ⊥) → decimal_in text ≡ None
+unfolding decimal_in
 number_lost text none = go (nat_lt (number_of text) (2 ^ 63) && same_text text (decimal (number_of text))) refl
   where
     go : (b : Bool) → (nat_lt (number_of text) (2 ^ 63) && same_text text (decimal (number_of text))) ≡ b → cond b (Some (number_of text)) None ≡ None

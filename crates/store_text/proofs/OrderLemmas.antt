@@ -4,11 +4,11 @@ use Rattle.std.specs.List.{AllByRecursion}
 use Rattle.std.specs.Cmp.{IsTotalOrder, nat_cmp_total, on_total, then_total}
 use Rattle.std.specs.Cmp.Lexicographic.{nat_list_cmp_total}
 use Rattle.std.proofs.lemmas.Bool.{and_parts}
-use Rattle.accountfiles.specs.Order.{rank_of, number_of, key_of, second_of, part_cmp, follows, comes_after, joins, are_chained}
-use Rattle.accountfiles.specs.declared.part.Part.{Part}
+use Rattle.store_text.specs.Order.{part_rank, part_number, part_key, part_second, part_cmp, follows, comes_after, joins, are_chained}
+use Rattle.store_text.specs.declared.part.Part.{Part}
 
 pub part_total : IsTotalOrder part_cmp
-part_total = then_total (on_total rank_of nat_cmp_total) (then_total (on_total number_of nat_cmp_total) (then_total (on_total key_of nat_list_cmp_total) (on_total second_of nat_list_cmp_total)))
+part_total = then_total (on_total part_rank nat_cmp_total) (then_total (on_total part_number nat_cmp_total) (then_total (on_total part_key nat_list_cmp_total) (on_total part_second nat_list_cmp_total)))
 
 -- the part comes before the other
 abbrev pub Before : Part → Part → Type 0

@@ -13,23 +13,23 @@ use Rattle.std.proofs.lemmas.List.Folds.{list_all-append}
 use Rattle.sha2.specs.Sha256.{sha256, digest_bytes, final_hash, initial_hash_256}
 use Rattle.hex.specs.Hex.{encode_lower, lower_digits}
 use Rattle.hex.proofs.HexLemmas.{length-encode_with}
-use Rattle.accountfiles.specs.Netstring.{netstring, line, IsField, AreFields, same_text}
-use Rattle.accountfiles.specs.Fields.{version_fields, owner_fields, numbers_fields, part_fields, sum_fields}
-use Rattle.accountfiles.specs.Order.{is_counter, are_numbers, is_given, fits, follows, are_chained, has_active}
-use Rattle.accountfiles.specs.Reading.{ReadsLine, HasNumbers, AreSmall, entry_fields, IsEntry, MayStand, stands, ends}
-use Rattle.accountfiles.specs.Text.{IsHead, IsTextOf, head_text, body_of, part_line, sum_line, has_sum}
-use Rattle.accountfiles.specs.declared.account_file.ReadError.TheVariants.{NotAnAccount}
-use Rattle.accountfiles.specs.declared.entry.Entry.{Entry}
-use Rattle.accountfiles.specs.declared.entry.Entry.TheVariants as entry
-use Rattle.accountfiles.specs.declared.head.Head.{Head}
-use Rattle.accountfiles.specs.declared.head.Owner.{Owner}
-use Rattle.accountfiles.specs.declared.head.Numbers.{Numbers}
-use Rattle.accountfiles.specs.declared.part.Part.{Part}
-use Rattle.accountfiles.specs.declared.part.Part.TheVariants.{Script, Reply, Mail, Copy, Letter, Notice}
-use Rattle.accountfiles.proofs.CutLemmas.{both_true, no_octets}
-use Rattle.accountfiles.proofs.FieldLemmas.{IsCodec, owner_codec, numbers_codec, entry_codec}
-use Rattle.accountfiles.proofs.NetstringLemmas.{one_line}
-use Rattle.accountfiles.proofs.NumberLemmas.{same_is, same_itself}
+use Rattle.store_text.specs.Netstring.{netstring, line, IsNetstringField, AreFields, same_text}
+use Rattle.store_text.specs.Fields.{version_fields, owner_fields, numbers_fields, part_fields, sum_fields}
+use Rattle.store_text.specs.Order.{is_counter, are_numbers, is_given, fits, follows, are_chained, has_active}
+use Rattle.store_text.specs.Reading.{ReadsAccountLine, HasNumbers, AreSmall, entry_fields, IsEntry, MayStand, stands, ends}
+use Rattle.store_text.specs.Text.{IsHead, IsAccountText, head_text, account_body, part_line, sum_line, has_sum}
+use Rattle.store_text.specs.declared.account_file.AccountReadError.TheVariants.{NotAnAccount}
+use Rattle.store_text.specs.declared.entry.Entry.{Entry}
+use Rattle.store_text.specs.declared.entry.Entry.TheVariants as entry
+use Rattle.store_text.specs.declared.head.AccountHead.{AccountHead}
+use Rattle.store_text.specs.declared.head.AccountOwner.{AccountOwner}
+use Rattle.store_text.specs.declared.head.Numbers.{Numbers}
+use Rattle.store_text.specs.declared.part.Part.{Part}
+use Rattle.store_text.specs.declared.part.Part.TheVariants.{Script, Reply, Mail, Copy, Letter, Notice}
+use Rattle.store_text.proofs.CutLemmas.{both_true, no_octets}
+use Rattle.store_text.proofs.FieldLemmas.{IsCodec, owner_codec, numbers_codec, entry_codec}
+use Rattle.store_text.proofs.NetstringLemmas.{one_line}
+use Rattle.store_text.proofs.NumberLemmas.{same_is, same_itself}
 
 -- a line says one thing
 pub line_same : {X : Type 0} (fields_of : X → List (List ℕ)) (Fits : X → Type 0) (at : List (List ℕ) → Option X) → IsCodec fields_of Fits at → (octets : List ℕ) (x y : X) (a b : List ℕ) → Fits x → Fits y → AreFields (fields_of x)
@@ -41,12 +41,12 @@ line_same fields_of Fits at codec octets x y a b fx fy sx sy isx isy =
 
 -- ---- what an account has once
 
-pub head_then : (h : Head) (more : List ℕ) → head_text h ++ more ≡ line version_fields ++ (line (owner_fields h.owner) ++ (line (numbers_fields h.numbers) ++ more))
+pub head_then : (h : AccountHead) (more : List ℕ) → head_text h ++ more ≡ line version_fields ++ (line (owner_fields h.owner) ++ (line (numbers_fields h.numbers) ++ more))
 head_then h more =
     append_assoc (line version_fields) (line (owner_fields h.owner) ++ line (numbers_fields h.numbers)) more
     ∙ ap (λ t. line version_fields ++ t) (append_assoc (line (owner_fields h.owner)) (line (numbers_fields h.numbers)) more)
 
-pub number_small : (n : ℕ) → n < 2 ^ 64 → IsField (decimal n)
+pub number_small : (n : ℕ) → n < 2 ^ 64 → IsNetstringField (decimal n)
 number_small n small = let h = length-decimal-le 20 n (omega arith) (omega arith) (omega arith) in omega (arith, h)
 
 counter_below : (n : ℕ) → is_counter n ≡ true → (1 ≤ n) × (n < 2 ^ 63)
@@ -58,17 +58,17 @@ numbers_below n is =
     let two = and_parts _ _ one.1 in
     (counter_below n.next_copy one.0, (counter_below n.next_out two.0, counter_below n.next_notice two.1))
 
-pub head_numbers : (h : Head) → IsHead h → AreSmall h.numbers
+pub head_numbers : (h : AccountHead) → IsHead h → AreSmall h.numbers
 head_numbers h is = let below = numbers_below h.numbers is.counters in record { rounds = is.rounds; copy = below.0.1; out = below.1.0.1; notice = below.1.1.1 }
 
 pub numbers_fields_small : (n : Numbers) → AreSmall n → AreFields (numbers_fields n)
 numbers_fields_small n small = (lit≤ tt, (number_small n.rounds (omega (arith, small.rounds)), (number_small n.next_copy (omega (arith, small.copy)), (number_small n.next_out (omega (arith, small.out)), (number_small n.next_notice (omega (arith, small.notice)), tt)))))
 
-module _ (text rest : List ℕ) (version : text ≡ line version_fields ++ rest) (h : Head) (more : List ℕ) (is : IsHead h) (written : text ≡ head_text h ++ more) where
+module _ (text rest : List ℕ) (version : text ≡ line version_fields ++ rest) (h : AccountHead) (more : List ℕ) (is : IsHead h) (written : text ≡ head_text h ++ more) where
   pub owner_next : rest ≡ line (owner_fields h.owner) ++ (line (numbers_fields h.numbers) ++ more)
   owner_next = append_cancel_left (line version_fields) rest _ (sym version ∙ (written ∙ head_then h more))
 
-  module _ (o : Owner) (later : List ℕ) (found : rest ≡ line (owner_fields o) ++ later) (small : AreFields (owner_fields o)) where
+  module _ (o : AccountOwner) (later : List ℕ) (found : rest ≡ line (owner_fields o) ++ later) (small : AreFields (owner_fields o)) where
     owner_same : (o ≡ h.owner) × (later ≡ line (numbers_fields h.numbers) ++ more)
     owner_same = line_same owner_fields _ _ owner_codec rest o h.owner later (line (numbers_fields h.numbers) ++ more) tt tt small is.small found owner_next
 
@@ -80,7 +80,7 @@ module _ (text rest : List ℕ) (version : text ≡ line version_fields ++ rest)
         line_same numbers_fields AreSmall _ numbers_codec later n h.numbers last more fits (head_numbers h is) small (numbers_fields_small h.numbers (head_numbers h is)) found numbers_next
 
 -- what was read once is what the text has once
-pub head_same : (text rest more : List ℕ) (g h : Head) → IsHead g → IsHead h → text ≡ head_text g ++ rest → text ≡ head_text h ++ more → (h ≡ g) × (rest ≡ more)
+pub head_same : (text rest more : List ℕ) (g h : AccountHead) → IsHead g → IsHead h → text ≡ head_text g ++ rest → text ≡ head_text h ++ more → (h ≡ g) × (rest ≡ more)
 head_same text rest more g h isg ish wg wh =
     let version = wg ∙ head_then g rest in
     let after = line (owner_fields g.owner) ++ (line (numbers_fields g.numbers) ++ rest) in
@@ -90,8 +90,8 @@ head_same text rest more g h isg ish wg wh =
 
 -- ---- what stands behind the last part
 
-pub next_refused : (numbers : Numbers) (last : Option Part) (octets : List ℕ) (e : Entry) (rest : Bor (List ℕ)) → ReadsLine entry_fields IsEntry octets (Ok (e, rest)) → stands numbers last e ≡ false
-    → ReadsLine entry_fields (MayStand numbers last) octets (Err NotAnAccount)
+pub next_refused : (numbers : Numbers) (last : Option Part) (octets : List ℕ) (e : Entry) (rest : Bor (List ℕ)) → ReadsAccountLine entry_fields IsEntry octets (Ok (e, rest)) → stands numbers last e ≡ false
+    → ReadsAccountLine entry_fields (MayStand numbers last) octets (Err NotAnAccount)
 next_refused numbers last octets e rest read fails = record {
   found = tt;
   fits = tt;
@@ -171,15 +171,15 @@ sum_small body = (lit≤ tt, (omega (arith, length-encode_with lower_digits (sha
 
 -- ---- a text of which the parts so far were read
 
-pub record IsReading (text : List ℕ) (head : Head) (parts : List Part) (rest : List ℕ) : Type 0 where
+pub record IsReading (text : List ℕ) (head : AccountHead) (parts : List Part) (rest : List ℕ) : Type 0 where
   pub once : IsHead head
   pub given : list_all (fits head.numbers) parts ≡ true
   pub chained : are_chained None parts ≡ true
   pub small : AllByRecursion (λ p. AreFields (part_fields p)) parts
-  pub spelled : text ≡ body_of head parts ++ rest
-  pub left : (h : Head) (ps : List Part) → IsTextOf text h ps → (h ≡ head) × ((more : List Part) × (ps ≡ parts ++ more) × (rest ≡ flat_map part_line more ++ sum_line (body_of h ps)))
+  pub spelled : text ≡ account_body head parts ++ rest
+  pub left : (h : AccountHead) (ps : List Part) → IsAccountText text h ps → (h ≡ head) × ((more : List Part) × (ps ≡ parts ++ more) × (rest ≡ flat_map part_line more ++ sum_line (account_body h ps)))
 
-pub reading_begins : (text : List ℕ) (head : Head) (rest : List ℕ) → IsHead head → text ≡ head_text head ++ rest → IsReading text head [] rest
+pub reading_begins : (text : List ℕ) (head : AccountHead) (rest : List ℕ) → IsHead head → text ≡ head_text head ++ rest → IsReading text head [] rest
 reading_begins text head rest is written = record {
   once = is;
   given = refl;
@@ -187,14 +187,14 @@ reading_begins text head rest is written = record {
   small = tt;
   spelled = written ∙ ap (λ t. t ++ rest) (sym (append-nil (head_text head)));
   left = λ h ps of.
-      let whole = of.spelled ∙ append_assoc (head_text h) (flat_map part_line ps) (sum_line (body_of h ps)) in
-      let same = head_same text rest (flat_map part_line ps ++ sum_line (body_of h ps)) head h is of.account.once written whole in
+      let whole = of.spelled ∙ append_assoc (head_text h) (flat_map part_line ps) (sum_line (account_body h ps)) in
+      let same = head_same text rest (flat_map part_line ps ++ sum_line (account_body h ps)) head h is of.account.once written whole in
       (same.0, (ps, refl, same.1));
 }
 
-module _ (text : List ℕ) (head : Head) (parts : List Part) (rest : List ℕ) (so_far : IsReading text head parts rest) where
+module _ (text : List ℕ) (head : AccountHead) (parts : List Part) (rest : List ℕ) (so_far : IsReading text head parts rest) where
   -- the next line of a text of an account may stand there
-  module _ (h : Head) (ps : List Part) (of : IsTextOf text h ps) (same : h ≡ head) where
+  module _ (h : AccountHead) (ps : List Part) (of : IsAccountText text h ps) (same : h ≡ head) where
     part_may : (p : Part) (more : List Part) → ps ≡ parts ++ p ∷ more → MayStand head.numbers (last_of None parts) (entry.Part p)
     part_may p more is =
         let fit : fits head.numbers p ≡ true = given_at head.numbers parts more p (ap (list_all (fits head.numbers)) (sym is) ∙ (ap (λ g. list_all (fits g.numbers) ps) (sym same) ∙ of.account.given)) in
@@ -208,13 +208,13 @@ module _ (text : List ℕ) (head : Head) (parts : List Part) (rest : List ℕ) (
   part_behind p more last = append_assoc (part_line p) (flat_map part_line more) last
 
   -- where nothing that may stand there does, it is no text of an account
-  pub reading_lost : ((x : Entry) (more : List ℕ) → MayStand head.numbers (last_of None parts) x → AreFields (entry_fields x) → rest ≡ line (entry_fields x) ++ more → ⊥) → (h : Head) (ps : List Part) → IsTextOf text h ps → ⊥
+  pub reading_lost : ((x : Entry) (more : List ℕ) → MayStand head.numbers (last_of None parts) x → AreFields (entry_fields x) → rest ≡ line (entry_fields x) ++ more → ⊥) → (h : AccountHead) (ps : List Part) → IsAccountText text h ps → ⊥
   reading_lost none h ps of = go (so_far.left h ps of)
     where
-      go : (h ≡ head) × ((more : List Part) × (ps ≡ parts ++ more) × (rest ≡ flat_map part_line more ++ sum_line (body_of h ps))) → ⊥
-      go (same, ([], is, behind)) = none (entry.Sum (encode_lower (sha256 (body_of h ps)))) [] (record { is = tt; there = refl }) (sum_small (body_of h ps)) (behind ∙ sym (append-nil (sum_line (body_of h ps))))
+      go : (h ≡ head) × ((more : List Part) × (ps ≡ parts ++ more) × (rest ≡ flat_map part_line more ++ sum_line (account_body h ps))) → ⊥
+      go (same, ([], is, behind)) = none (entry.Sum (encode_lower (sha256 (account_body h ps)))) [] (record { is = tt; there = refl }) (sum_small (account_body h ps)) (behind ∙ sym (append-nil (sum_line (account_body h ps))))
       go (same, (p ∷ more, is, behind)) =
-          none (entry.Part p) (flat_map part_line more ++ sum_line (body_of h ps)) (part_may h ps of same p more is) (part_small h ps of same p more is) (behind ∙ part_behind p more (sum_line (body_of h ps)))
+          none (entry.Part p) (flat_map part_line more ++ sum_line (account_body h ps)) (part_may h ps of same p more is) (part_small h ps of same p more is) (behind ∙ part_behind p more (sum_line (account_body h ps)))
 
   pub reading_on : (p : Part) (more : List ℕ) → rest ≡ line (part_fields p) ++ more → MayStand head.numbers (last_of None parts) (entry.Part p) → AreFields (part_fields p) → IsReading text head (parts ++ p ∷ []) more
   reading_on p more found may small = record {
@@ -222,45 +222,45 @@ module _ (text : List ℕ) (head : Head) (parts : List Part) (rest : List ℕ) (
     given = list_all-append (fits head.numbers) parts (p ∷ []) ∙ both_true _ _ so_far.given (both_true (fits head.numbers p) true (and_parts (fits head.numbers p) (follows (last_of None parts) p) may.there).0 refl);
     chained = chained_push None parts p so_far.chained (and_parts (fits head.numbers p) (follows (last_of None parts) p) may.there).1;
     small = small_push parts p so_far.small small;
-    spelled = so_far.spelled ∙ (ap (λ r. body_of head parts ++ r) found ∙ (sym (append_assoc (body_of head parts) (part_line p) more) ∙ ap (λ t. t ++ more) pushed));
+    spelled = so_far.spelled ∙ (ap (λ r. account_body head parts ++ r) found ∙ (sym (append_assoc (account_body head parts) (part_line p) more) ∙ ap (λ t. t ++ more) pushed));
     left = λ h ps of. go h ps of (so_far.left h ps of);
   }
     where
-      pushed : body_of head parts ++ part_line p ≡ body_of head (parts ++ p ∷ [])
+      pushed : account_body head parts ++ part_line p ≡ account_body head (parts ++ p ∷ [])
       pushed = append_assoc (head_text head) (flat_map part_line parts) (part_line p)
           ∙ ap (λ t. head_text head ++ t) (ap (λ t. flat_map part_line parts ++ t) (sym (append-nil (part_line p))) ∙ sym (flat_map-append part_line parts (p ∷ [])))
 
-      go : (h : Head) (ps : List Part) → IsTextOf text h ps → (h ≡ head) × ((left : List Part) × (ps ≡ parts ++ left) × (rest ≡ flat_map part_line left ++ sum_line (body_of h ps)))
-          → (h ≡ head) × ((left : List Part) × (ps ≡ (parts ++ p ∷ []) ++ left) × (more ≡ flat_map part_line left ++ sum_line (body_of h ps)))
+      go : (h : AccountHead) (ps : List Part) → IsAccountText text h ps → (h ≡ head) × ((left : List Part) × (ps ≡ parts ++ left) × (rest ≡ flat_map part_line left ++ sum_line (account_body h ps)))
+          → (h ≡ head) × ((left : List Part) × (ps ≡ (parts ++ p ∷ []) ++ left) × (more ≡ flat_map part_line left ++ sum_line (account_body h ps)))
       go h ps of (same, ([], is, behind)) =
-          let one = line_same entry_fields IsEntry _ entry_codec rest (entry.Part p) (entry.Sum (encode_lower (sha256 (body_of h ps)))) more [] may.is tt small (sum_small (body_of h ps)) found (behind ∙ sym (append-nil (sum_line (body_of h ps)))) in
+          let one = line_same entry_fields IsEntry _ entry_codec rest (entry.Part p) (entry.Sum (encode_lower (sha256 (account_body h ps)))) more [] may.is tt small (sum_small (account_body h ps)) found (behind ∙ sym (append-nil (sum_line (account_body h ps)))) in
           absurd (let no = one.0 in cc)
       go h ps of (same, (q ∷ left, is, behind)) =
           let stands_there = part_may h ps of same q left is in
-          let one = line_same entry_fields IsEntry _ entry_codec rest (entry.Part p) (entry.Part q) more (flat_map part_line left ++ sum_line (body_of h ps)) may.is stands_there.is small (part_small h ps of same q left is) found
-          (behind ∙ part_behind q left (sum_line (body_of h ps))) in
+          let one = line_same entry_fields IsEntry _ entry_codec rest (entry.Part p) (entry.Part q) more (flat_map part_line left ++ sum_line (account_body h ps)) may.is stands_there.is small (part_small h ps of same q left is) found
+          (behind ∙ part_behind q left (sum_line (account_body h ps))) in
           let part : p ≡ q = (let e = one.0 in cc) in
           (same, (left, is ∙ (ap (λ x. parts ++ x ∷ left) (sym part) ∙ sym (append_assoc parts (p ∷ []) left)), one.1))
 
   -- the last line
   module _ (sum more : List ℕ) (found : rest ≡ line (sum_fields sum) ++ more) (small : AreFields (sum_fields sum)) where
-    pub text_whole : more ≡ [] → has_active head.owner.active parts ≡ true → has_sum sum (body_of head parts) ≡ true → IsTextOf text head parts
+    pub text_whole : more ≡ [] → has_active head.owner.active parts ≡ true → has_sum sum (account_body head parts) ≡ true → IsAccountText text head parts
     text_whole none active is = record {
       account = record { once = so_far.once; given = so_far.given; chained = so_far.chained; active = active; small = so_far.small };
       spelled =
-          so_far.spelled ∙ ap (λ r. body_of head parts ++ r)
-          (found ∙ (ap (λ m. line (sum_fields sum) ++ m) none ∙ (append-nil (line (sum_fields sum)) ∙ ap (λ s. line (sum_fields s)) (same_is sum (encode_lower (sha256 (body_of head parts))) is))));
+          so_far.spelled ∙ ap (λ r. account_body head parts ++ r)
+          (found ∙ (ap (λ m. line (sum_fields sum) ++ m) none ∙ (append-nil (line (sum_fields sum)) ∙ ap (λ s. line (sum_fields s)) (same_is sum (encode_lower (sha256 (account_body head parts))) is))));
     }
 
     -- a text of an account is the one of these parts, and has their sum
-    pub text_told : (h : Head) (ps : List Part) → IsTextOf text h ps → (more ≡ []) × ((has_active head.owner.active parts ≡ true) × (has_sum sum (body_of head parts) ≡ true))
+    pub text_told : (h : AccountHead) (ps : List Part) → IsAccountText text h ps → (more ≡ []) × ((has_active head.owner.active parts ≡ true) × (has_sum sum (account_body head parts) ≡ true))
     text_told h ps of = go (so_far.left h ps of)
       where
-        go : (h ≡ head) × ((left : List Part) × (ps ≡ parts ++ left) × (rest ≡ flat_map part_line left ++ sum_line (body_of h ps))) → (more ≡ []) × ((has_active head.owner.active parts ≡ true) × (has_sum sum (body_of head parts) ≡ true))
+        go : (h ≡ head) × ((left : List Part) × (ps ≡ parts ++ left) × (rest ≡ flat_map part_line left ++ sum_line (account_body h ps))) → (more ≡ []) × ((has_active head.owner.active parts ≡ true) × (has_sum sum (account_body head parts) ≡ true))
         go (same, ([], is, behind)) =
-            let body : body_of h ps ≡ body_of head parts = ap (λ g. body_of g ps) same ∙ ap (body_of head) (is ∙ append-nil parts) in
-            let one = line_same entry_fields IsEntry _ entry_codec rest (entry.Sum sum) (entry.Sum (encode_lower (sha256 (body_of h ps)))) more [] tt tt small (sum_small (body_of h ps)) found (behind ∙ sym (append-nil (sum_line (body_of h ps)))) in
-            let told : sum ≡ encode_lower (sha256 (body_of h ps)) = (let e = one.0 in cc) in (
+            let body : account_body h ps ≡ account_body head parts = ap (λ g. account_body g ps) same ∙ ap (account_body head) (is ∙ append-nil parts) in
+            let one = line_same entry_fields IsEntry _ entry_codec rest (entry.Sum sum) (entry.Sum (encode_lower (sha256 (account_body h ps)))) more [] tt tt small (sum_small (account_body h ps)) found (behind ∙ sym (append-nil (sum_line (account_body h ps)))) in
+            let told : sum ≡ encode_lower (sha256 (account_body h ps)) = (let e = one.0 in cc) in (
               one.1,
               (
                 ap (λ g. has_active g.owner.active parts) (sym same) ∙ (ap (has_active h.owner.active) (sym (is ∙ append-nil parts)) ∙ of.account.active),
@@ -269,19 +269,19 @@ module _ (text : List ℕ) (head : Head) (parts : List Part) (rest : List ℕ) (
             )
         go (same, (q ∷ left, is, behind)) =
             let stands_there = part_may h ps of same q left is in
-            let one = line_same entry_fields IsEntry _ entry_codec rest (entry.Sum sum) (entry.Part q) more (flat_map part_line left ++ sum_line (body_of h ps)) tt stands_there.is small (part_small h ps of same q left is) found
-            (behind ∙ part_behind q left (sum_line (body_of h ps))) in
+            let one = line_same entry_fields IsEntry _ entry_codec rest (entry.Sum sum) (entry.Part q) more (flat_map part_line left ++ sum_line (account_body h ps)) tt stands_there.is small (part_small h ps of same q left is) found
+            (behind ∙ part_behind q left (sum_line (account_body h ps))) in
             absurd (let no = one.0 in cc)
 
     -- the last line ends the parts exactly where the text is of an account
-    module _ (body : List ℕ) (is : body ≡ body_of head parts) where
-      pub text_ends : ends head parts body sum more ≡ true → IsTextOf text head parts
+    module _ (body : List ℕ) (is : body ≡ account_body head parts) where
+      pub text_ends : ends head parts body sum more ≡ true → IsAccountText text head parts
       text_ends told =
           let one = and_parts _ _ told in
           let two = and_parts (has_active head.owner.active parts) (has_sum sum body) one.1 in
           text_whole (no_octets more (eqb-true (length more) 0 one.0)) two.0 (ap (has_sum sum) (sym is) ∙ two.1)
 
-      pub text_goes_on : ends head parts body sum more ≡ false → (h : Head) (ps : List Part) → IsTextOf text h ps → ⊥
+      pub text_goes_on : ends head parts body sum more ≡ false → (h : AccountHead) (ps : List Part) → IsAccountText text h ps → ⊥
       text_goes_on told h ps of =
           let parts_of = text_told h ps of in
           let empty : (length more == 0) ≡ true = ap (λ m. length m == 0) parts_of.0 in
@@ -298,8 +298,8 @@ pub line_shrinks : (rest : List ℕ) (fields : List (List ℕ)) (more : List ℕ
 unfolding line
 line_shrinks rest fields more is = omega (arith, ap length is, length-append (flat_map netstring fields ++ 10 ∷ []) more, length-append (flat_map netstring fields) (10 ∷ []))
 
-pub text_head : (text : List ℕ) (h : Head) (ps : List Part) → IsTextOf text h ps → text ≡ head_text h ++ (flat_map part_line ps ++ sum_line (body_of h ps))
-text_head text h ps of = of.spelled ∙ append_assoc (head_text h) (flat_map part_line ps) (sum_line (body_of h ps))
+pub text_head : (text : List ℕ) (h : AccountHead) (ps : List Part) → IsAccountText text h ps → text ≡ head_text h ++ (flat_map part_line ps ++ sum_line (account_body h ps))
+text_head text h ps of = of.spelled ∙ append_assoc (head_text h) (flat_map part_line ps) (sum_line (account_body h ps))
 
 -- ---- a text is that of one account
 
@@ -310,7 +310,7 @@ all_numbers n small (p ∷ ps) is = let parts = and_parts (fits n p) (list_all (
 abbrev AreFine : List Part → Type 0
 AreFine ps = AllByRecursion HasNumbers ps × AllByRecursion (λ p. AreFields (part_fields p)) ps
 
-fine_parts : (text : List ℕ) (h : Head) (ps : List Part) → IsTextOf text h ps → AreFine ps
+fine_parts : (text : List ℕ) (h : AccountHead) (ps : List Part) → IsAccountText text h ps → AreFine ps
 fine_parts text h ps of = (all_numbers h.numbers (head_numbers h of.account.once) ps of.account.given, of.account.small)
 
 later_parts : (p : Part) (ps : List Part) → AreFine (p ∷ ps) → AreFine ps
@@ -336,15 +336,15 @@ parts_same (p ∷ ps) (q ∷ qs) b c more last fp fq is =
     let later = parts_same ps qs b c more last (later_parts p ps fp) (later_parts q qs fq) one.1 in
     (ap (λ x. x ∷ ps) first ∙ ap (λ xs. q ∷ xs) later.0, later.1)
 
-pub texts_same : (text more : List ℕ) (h g : Head) (ps qs : List Part) → IsTextOf text h ps → IsTextOf (text ++ more) g qs → (more ≡ []) × ((h ≡ g) × (ps ≡ qs))
+pub texts_same : (text more : List ℕ) (h g : AccountHead) (ps qs : List Part) → IsAccountText text h ps → IsAccountText (text ++ more) g qs → (more ≡ []) × ((h ≡ g) × (ps ≡ qs))
 texts_same text more h g ps qs one two =
-    let first : text ++ more ≡ head_text h ++ (flat_map part_line ps ++ (sum_line (body_of h ps) ++ more)) =
+    let first : text ++ more ≡ head_text h ++ (flat_map part_line ps ++ (sum_line (account_body h ps) ++ more)) =
     ap (λ t. t ++ more) (text_head text h ps one)
-    ∙ (append_assoc (head_text h) (flat_map part_line ps ++ sum_line (body_of h ps)) more ∙ ap (λ t. head_text h ++ t) (append_assoc (flat_map part_line ps) (sum_line (body_of h ps)) more)) in
-    let second : text ++ more ≡ head_text g ++ (flat_map part_line qs ++ (sum_line (body_of g qs) ++ [])) =
-    text_head (text ++ more) g qs two ∙ ap (λ t. head_text g ++ (flat_map part_line qs ++ t)) (sym (append-nil (sum_line (body_of g qs)))) in
-    let heads = head_same (text ++ more) (flat_map part_line qs ++ (sum_line (body_of g qs) ++ [])) (flat_map part_line ps ++ (sum_line (body_of h ps) ++ more)) g h two.account.once one.account.once second first in
-    let parts = parts_same ps qs (body_of h ps) (body_of g qs) more [] (fine_parts text h ps one) (fine_parts (text ++ more) g qs two) (sym heads.1) in
-    let body : body_of h ps ≡ body_of g qs = ap (λ x. body_of x ps) heads.0 ∙ ap (body_of g) parts.0 in
-    let last = append_cancel_left (sum_line (body_of g qs)) more [] (ap (λ b. sum_line b ++ more) (sym body) ∙ parts.1) in
+    ∙ (append_assoc (head_text h) (flat_map part_line ps ++ sum_line (account_body h ps)) more ∙ ap (λ t. head_text h ++ t) (append_assoc (flat_map part_line ps) (sum_line (account_body h ps)) more)) in
+    let second : text ++ more ≡ head_text g ++ (flat_map part_line qs ++ (sum_line (account_body g qs) ++ [])) =
+    text_head (text ++ more) g qs two ∙ ap (λ t. head_text g ++ (flat_map part_line qs ++ t)) (sym (append-nil (sum_line (account_body g qs)))) in
+    let heads = head_same (text ++ more) (flat_map part_line qs ++ (sum_line (account_body g qs) ++ [])) (flat_map part_line ps ++ (sum_line (account_body h ps) ++ more)) g h two.account.once one.account.once second first in
+    let parts = parts_same ps qs (account_body h ps) (account_body g qs) more [] (fine_parts text h ps one) (fine_parts (text ++ more) g qs two) (sym heads.1) in
+    let body : account_body h ps ≡ account_body g qs = ap (λ x. account_body x ps) heads.0 ∙ ap (account_body g) parts.0 in
+    let last = append_cancel_left (sum_line (account_body g qs)) more [] (ap (λ b. sum_line b ++ more) (sym body) ∙ parts.1) in
     (last, (heads.0, parts.0))

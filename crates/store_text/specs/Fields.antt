@@ -1,12 +1,12 @@
 -- The fields of a line: what an account has once, one of its parts, and the sum at the end.
 use Rattle.std.specs.Prelude.{Bool, false, ◌&&◌, ℕ, ◌^◌, List, [], ◌∷◌, codes, decimal, cond, nat_lt, Option, Some, None, option_and_then, option_map, option_to_list}
-use Rattle.accountfiles.specs.Netstring.{same_text, number_in}
-use Rattle.accountfiles.specs.declared.head.Owner.{Owner}
-use Rattle.accountfiles.specs.declared.head.Numbers.{Numbers}
-use Rattle.accountfiles.specs.declared.part.LetterKind.{LetterKind}
-use Rattle.accountfiles.specs.declared.part.LetterKind.TheVariants.{Redirect, Answer}
-use Rattle.accountfiles.specs.declared.part.Part.{Part}
-use Rattle.accountfiles.specs.declared.part.Part.TheVariants.{Script, Reply, Mail, Copy, Letter, Notice}
+use Rattle.store_text.specs.Netstring.{same_text, decimal_in}
+use Rattle.store_text.specs.declared.head.AccountOwner.{AccountOwner}
+use Rattle.store_text.specs.declared.head.Numbers.{Numbers}
+use Rattle.store_text.specs.declared.part.LetterKind.{LetterKind}
+use Rattle.store_text.specs.declared.part.LetterKind.TheVariants.{Redirect, Answer}
+use Rattle.store_text.specs.declared.part.Part.{Part}
+use Rattle.store_text.specs.declared.part.Part.TheVariants.{Script, Reply, Mail, Copy, Letter, Notice}
 
 -- ---- what is written
 
@@ -15,7 +15,7 @@ abbrev pub version_fields : List (List ℕ)
 version_fields = codes "sieved-account" ∷ codes "1" ∷ []
 
 -- a name that isn't there has no field
-abbrev pub owner_fields : Owner → List (List ℕ)
+abbrev pub owner_fields : AccountOwner → List (List ℕ)
 owner_fields o = codes "account" ∷ o.name ∷ o.address ∷ o.salt ∷ o.digest ∷ option_to_list o.active
 
 abbrev pub numbers_fields : Numbers → List (List ℕ)
@@ -44,13 +44,13 @@ sum_fields sum = codes "sum" ∷ sum ∷ []
 
 -- ---- what is read
 
-abbrev pub owner_by : List ℕ → List ℕ → List ℕ → List ℕ → Option (List ℕ) → Owner
+abbrev pub owner_by : List ℕ → List ℕ → List ℕ → List ℕ → Option (List ℕ) → AccountOwner
 owner_by name address salt digest active = record { name = name; address = address; salt = salt; digest = digest; active = active }
 
-unfoldable pub owner_with : List ℕ → List ℕ → List ℕ → List ℕ → List ℕ → Option (List ℕ) → Option Owner
+unfoldable pub owner_with : List ℕ → List ℕ → List ℕ → List ℕ → List ℕ → Option (List ℕ) → Option AccountOwner
 owner_with word name address salt digest active = cond (same_text word (codes "account")) (Some (owner_by name address salt digest active)) None
 
-unfoldable pub owner_at : List (List ℕ) → Option Owner
+unfoldable pub owner_at : List (List ℕ) → Option AccountOwner
 owner_at [] = None
 owner_at (word ∷ []) = None
 owner_at (word ∷ a ∷ []) = None
@@ -62,13 +62,13 @@ owner_at (word ∷ a ∷ b ∷ c ∷ d ∷ e ∷ f ∷ more) = None
 
 -- a number below 2^32
 unfoldable pub rounds_in : List ℕ → Option ℕ
-rounds_in text = option_and_then (λ n. cond (nat_lt n (2 ^ 32)) (Some n) None) (number_in text)
+rounds_in text = option_and_then (λ n. cond (nat_lt n (2 ^ 32)) (Some n) None) (decimal_in text)
 
 abbrev pub numbers_by : ℕ → ℕ → ℕ → ℕ → Numbers
 numbers_by rounds copy out notice = record { rounds = rounds; next_copy = copy; next_out = out; next_notice = notice }
 
 unfoldable pub counters_at : ℕ → List ℕ → List ℕ → List ℕ → Option Numbers
-counters_at rounds copy out notice = option_and_then (λ c. option_and_then (λ o. option_map (λ n. numbers_by rounds c o n) (number_in notice)) (number_in out)) (number_in copy)
+counters_at rounds copy out notice = option_and_then (λ c. option_and_then (λ o. option_map (λ n. numbers_by rounds c o n) (decimal_in notice)) (decimal_in out)) (decimal_in copy)
 
 unfoldable pub numbers_at : List (List ℕ) → Option Numbers
 numbers_at [] = None
@@ -83,16 +83,16 @@ unfoldable pub script_at : List ℕ → List ℕ → List ℕ → Option Part
 script_at word name text = cond (same_text word (codes "script")) (Some (Script name text)) None
 
 unfoldable pub reply_at : List ℕ → List ℕ → List ℕ → Option Part
-reply_at handle sender moment = option_map (λ n. Reply handle sender n) (number_in moment)
+reply_at handle sender moment = option_map (λ n. Reply handle sender n) (decimal_in moment)
 
 unfoldable pub mail_at : List ℕ → List ℕ → List ℕ → List ℕ → Option Part
-mail_at number folder message flags = option_map (λ n. Mail n folder message flags) (number_in number)
+mail_at number folder message flags = option_map (λ n. Mail n folder message flags) (decimal_in number)
 
 unfoldable pub copy_at : List ℕ → List ℕ → List ℕ → List ℕ → Option Part
-copy_at number folder first flags = option_and_then (λ n. option_map (λ m. Copy n folder m flags) (number_in first)) (number_in number)
+copy_at number folder first flags = option_and_then (λ n. option_map (λ m. Copy n folder m flags) (decimal_in first)) (decimal_in number)
 
 unfoldable pub notice_at : List ℕ → List ℕ → List ℕ → Option Part
-notice_at number moment text = option_and_then (λ n. option_map (λ m. Notice n m text) (number_in moment)) (number_in number)
+notice_at number moment text = option_and_then (λ n. option_map (λ m. Notice n m text) (decimal_in moment)) (decimal_in number)
 
 unfoldable pub four_at : List ℕ → List ℕ → List ℕ → List ℕ → Option Part
 four_at word a b c =
@@ -105,7 +105,7 @@ unfoldable pub kind_at : List ℕ → Option LetterKind
 kind_at word = cond (same_text word (codes "redirect")) (Some Redirect) (cond (same_text word (codes "answer")) (Some Answer) None)
 
 unfoldable pub letter_at : List ℕ → List ℕ → List ℕ → List ℕ → List ℕ → Option Part
-letter_at word id sender target message = option_and_then (λ kind. option_map (λ n. Letter n kind sender target message) (number_in id)) (kind_at word)
+letter_at word id sender target message = option_and_then (λ kind. option_map (λ n. Letter n kind sender target message) (decimal_in id)) (kind_at word)
 
 -- a field of flags that is there isn't empty
 abbrev pub where_flags : List ℕ → Option Part → Option Part

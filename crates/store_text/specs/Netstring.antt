@@ -14,11 +14,11 @@ unfoldable pub line : List (List ℕ) → List ℕ
 line fields = flat_map netstring fields ++ 10 ∷ []
 
 -- a field has any length that memory can hold: no text there is longer
-abbrev pub IsField : List ℕ → Type 0
-IsField text = length text < 2 ^ 63
+abbrev pub IsNetstringField : List ℕ → Type 0
+IsNetstringField text = length text < 2 ^ 63
 
 abbrev pub AreFields : List (List ℕ) → Type 0
-AreFields = AllByRecursion IsField
+AreFields = AllByRecursion IsNetstringField
 
 -- the texts of slices
 abbrev pub texts : List (Bor (List ℕ)) → List (List ℕ)
@@ -29,7 +29,7 @@ abbrev pub other : ℕ → ℕ → Bool
 other mark octet = not (octet == mark)
 
 -- the text is cut at its first mark
-pub record CutsAt (mark : ℕ) (text front rest : List ℕ) : Type 0 where
+pub record CutsAtMark (mark : ℕ) (text front rest : List ℕ) : Type 0 where
   pub written : text ≡ front ++ mark ∷ rest
   pub first : list_all (other mark) front ≡ true
 
@@ -38,5 +38,5 @@ abbrev pub same_text : List ℕ → List ℕ → Bool
 same_text = pointwise nat_eq
 
 -- the number below 2^63 in decimal digits without leading zeros, if they are one
-unfoldable pub number_in : List ℕ → Option ℕ
-number_in text = cond (nat_lt (number_of text) (2 ^ 63) && same_text text (decimal (number_of text))) (Some (number_of text)) None
+unfoldable pub decimal_in : List ℕ → Option ℕ
+decimal_in text = cond (nat_lt (number_of text) (2 ^ 63) && same_text text (decimal (number_of text))) (Some (number_of text)) None

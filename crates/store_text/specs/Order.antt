@@ -4,40 +4,40 @@ use Rattle.std.specs.List.{list_any}
 use Rattle.std.specs.declared.cmp.Ordering.{Ordering}
 use Rattle.std.specs.Ordering.{nat_cmp, on, then_cmp, is_lt}
 use Rattle.std.specs.Cmp.Lexicographic.{slice_cmp}
-use Rattle.accountfiles.specs.Netstring.{same_text}
-use Rattle.accountfiles.specs.declared.head.Numbers.{Numbers}
-use Rattle.accountfiles.specs.declared.part.Part.{Part}
-use Rattle.accountfiles.specs.declared.part.Part.TheVariants.{Script, Reply, Mail, Copy, Letter, Notice}
+use Rattle.store_text.specs.Netstring.{same_text}
+use Rattle.store_text.specs.declared.head.Numbers.{Numbers}
+use Rattle.store_text.specs.declared.part.Part.{Part}
+use Rattle.store_text.specs.declared.part.Part.TheVariants.{Script, Reply, Mail, Copy, Letter, Notice}
 
 -- scripts come first, then moments, messages in folders, messages on their way out, notices
-abbrev pub rank_of : Part → ℕ
-rank_of (Script name text) = 0
-rank_of (Reply handle sender moment) = 1
-rank_of (Mail number folder message flags) = 2
-rank_of (Copy number folder first flags) = 2
-rank_of (Letter id kind sender target message) = 3
-rank_of (Notice number moment text) = 4
+abbrev pub part_rank : Part → ℕ
+part_rank (Script name text) = 0
+part_rank (Reply handle sender moment) = 1
+part_rank (Mail number folder message flags) = 2
+part_rank (Copy number folder first flags) = 2
+part_rank (Letter id kind sender target message) = 3
+part_rank (Notice number moment text) = 4
 
-abbrev pub number_of : Part → ℕ
-number_of (Script name text) = 0
-number_of (Reply handle sender moment) = 0
-number_of (Mail number folder message flags) = number
-number_of (Copy number folder first flags) = number
-number_of (Letter id kind sender target message) = id
-number_of (Notice number moment text) = number
+abbrev pub part_number : Part → ℕ
+part_number (Script name text) = 0
+part_number (Reply handle sender moment) = 0
+part_number (Mail number folder message flags) = number
+part_number (Copy number folder first flags) = number
+part_number (Letter id kind sender target message) = id
+part_number (Notice number moment text) = number
 
-abbrev pub key_of : Part → List ℕ
-key_of (Script name text) = name
-key_of (Reply handle sender moment) = handle
-key_of part = []
+abbrev pub part_key : Part → List ℕ
+part_key (Script name text) = name
+part_key (Reply handle sender moment) = handle
+part_key part = []
 
-abbrev pub second_of : Part → List ℕ
-second_of (Reply handle sender moment) = sender
-second_of part = []
+abbrev pub part_second : Part → List ℕ
+part_second (Reply handle sender moment) = sender
+part_second part = []
 
 -- by rank, by number, by the octets of the name or the handle, and by those of the sender
 abbrev pub part_cmp : Part → Part → Ordering
-part_cmp = then_cmp (on rank_of nat_cmp) (then_cmp (on number_of nat_cmp) (then_cmp (on key_of (slice_cmp nat_cmp)) (on second_of (slice_cmp nat_cmp))))
+part_cmp = then_cmp (on part_rank nat_cmp) (then_cmp (on part_number nat_cmp) (then_cmp (on part_key (slice_cmp nat_cmp)) (on part_second (slice_cmp nat_cmp))))
 
 -- the part before is a copy of the same message
 abbrev pub has_come : ℕ → Option Part → Bool

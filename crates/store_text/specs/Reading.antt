@@ -1,18 +1,18 @@
 -- What a line is read as.
 use Rattle.std.specs.Prelude.{Bool, true, ◌&&◌, ◌==◌, ◌≡◌, length, ◌<◌, ◌^◌, ◌++◌, ℕ, List, Option, Some, None, option_map, Result, IfOk, IfErr}
 use Rattle.std.specs.Borrow.{Bor}
-use Rattle.accountfiles.specs.Netstring.{line, AreFields}
-use Rattle.accountfiles.specs.Fields.{part_fields, sum_fields, part_at, sum_at}
-use Rattle.accountfiles.specs.Order.{fits, follows, has_active}
-use Rattle.accountfiles.specs.Text.{has_sum}
-use Rattle.accountfiles.specs.declared.head.Head.{Head}
-use Rattle.accountfiles.specs.declared.account_file.ReadError.{ReadError}
-use Rattle.accountfiles.specs.declared.account_file.ReadError.TheVariants.{NotAnAccount}
-use Rattle.accountfiles.specs.declared.entry.Entry.{Entry}
-use Rattle.accountfiles.specs.declared.entry.Entry.TheVariants as entry
-use Rattle.accountfiles.specs.declared.head.Numbers.{Numbers}
-use Rattle.accountfiles.specs.declared.part.Part.{Part}
-use Rattle.accountfiles.specs.declared.part.Part.TheVariants.{Script, Reply, Mail, Copy, Letter, Notice}
+use Rattle.store_text.specs.Netstring.{line, AreFields}
+use Rattle.store_text.specs.Fields.{part_fields, sum_fields, part_at, sum_at}
+use Rattle.store_text.specs.Order.{fits, follows, has_active}
+use Rattle.store_text.specs.Text.{has_sum}
+use Rattle.store_text.specs.declared.head.AccountHead.{AccountHead}
+use Rattle.store_text.specs.declared.account_file.AccountReadError.{AccountReadError}
+use Rattle.store_text.specs.declared.account_file.AccountReadError.TheVariants.{NotAnAccount}
+use Rattle.store_text.specs.declared.entry.Entry.{Entry}
+use Rattle.store_text.specs.declared.entry.Entry.TheVariants as entry
+use Rattle.store_text.specs.declared.head.Numbers.{Numbers}
+use Rattle.store_text.specs.declared.part.Part.{Part}
+use Rattle.store_text.specs.declared.part.Part.TheVariants.{Script, Reply, Mail, Copy, Letter, Notice}
 
 -- each number of the part is below 2^63
 abbrev pub HasNumbers : Part → Type 0
@@ -56,11 +56,11 @@ pub record MayStand (numbers : Numbers) (last : Option Part) (e : Entry) : Type 
   pub there : stands numbers last e ≡ true
 
 -- whether the parts end: nothing comes after the sum, which is that of the body, and the active script is one of them
-abbrev pub ends : Head → List Part → List ℕ → List ℕ → List ℕ → Bool
+abbrev pub ends : AccountHead → List Part → List ℕ → List ℕ → List ℕ → Bool
 ends head parts body sum behind = length behind == 0 && (has_active head.owner.active parts && has_sum sum body)
 
 -- such a line is at the start; or none is
-pub record ReadsLine {X : Type 0} (fields_of : X → List (List ℕ)) (Fits : X → Type 0) (octets : List ℕ) (result : Result (X × Bor (List ℕ)) ReadError) : Type 0 where
+pub record ReadsAccountLine {X : Type 0} (fields_of : X → List (List ℕ)) (Fits : X → Type 0) (octets : List ℕ) (result : Result (X × Bor (List ℕ)) AccountReadError) : Type 0 where
   pub found : IfOk result (λ taken. octets ≡ line (fields_of taken.0) ++ taken.1.now)
   pub fits : IfOk result (λ taken. Fits taken.0)
   pub small : IfOk result (λ taken. AreFields (fields_of taken.0))

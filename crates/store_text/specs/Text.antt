@@ -3,23 +3,23 @@ use Rattle.std.specs.Prelude.{◌≡◌, ◌<◌, ◌^◌, ℕ, Bool, true, List
 use Rattle.std.specs.List.{flat_map, AllByRecursion, list_all}
 use Rattle.sha2.specs.Sha256.{sha256}
 use Rattle.hex.specs.Hex.{encode_lower}
-use Rattle.accountfiles.specs.Netstring.{line, same_text, AreFields}
-use Rattle.accountfiles.specs.Fields.{version_fields, owner_fields, numbers_fields, part_fields, sum_fields}
-use Rattle.accountfiles.specs.Order.{are_numbers, fits, are_chained, has_active}
-use Rattle.accountfiles.specs.declared.head.Head.{Head}
-use Rattle.accountfiles.specs.declared.part.Part.{Part}
+use Rattle.store_text.specs.Netstring.{line, same_text, AreFields}
+use Rattle.store_text.specs.Fields.{version_fields, owner_fields, numbers_fields, part_fields, sum_fields}
+use Rattle.store_text.specs.Order.{are_numbers, fits, are_chained, has_active}
+use Rattle.store_text.specs.declared.head.AccountHead.{AccountHead}
+use Rattle.store_text.specs.declared.part.Part.{Part}
 
 -- ---- an account that has a text
 
 -- a database can hold the numbers, and memory can hold the fields
-pub record IsHead (head : Head) : Type 0 where
+pub record IsHead (head : AccountHead) : Type 0 where
   pub rounds : head.numbers.rounds < 2 ^ 32
   pub counters : are_numbers head.numbers ≡ true
   pub small : AreFields (owner_fields head.owner)
 
 -- the head is one, the numbers of each part were given, the parts are in their order, the active script is one of them, and memory can
 -- hold the fields
-pub record IsAccount (head : Head) (parts : List Part) : Type 0 where
+pub record IsAccount (head : AccountHead) (parts : List Part) : Type 0 where
   pub once : IsHead head
   pub given : list_all (fits head.numbers) parts ≡ true
   pub chained : are_chained None parts ≡ true
@@ -32,25 +32,25 @@ abbrev pub part_line : Part → List ℕ
 part_line part = line (part_fields part)
 
 -- the version, and what the account has once
-abbrev pub head_text : Head → List ℕ
+abbrev pub head_text : AccountHead → List ℕ
 head_text head = line version_fields ++ (line (owner_fields head.owner) ++ line (numbers_fields head.numbers))
 
 -- and its parts
-abbrev pub body_of : Head → List Part → List ℕ
-body_of head parts = head_text head ++ flat_map part_line parts
+abbrev pub account_body : AccountHead → List Part → List ℕ
+account_body head parts = head_text head ++ flat_map part_line parts
 
 -- the SHA-256 of all before it, in hexadecimal
 abbrev pub sum_line : List ℕ → List ℕ
 sum_line body = line (sum_fields (encode_lower (sha256 body)))
 
-abbrev pub text_of : Head → List Part → List ℕ
-text_of head parts = body_of head parts ++ sum_line (body_of head parts)
+abbrev pub account_text : AccountHead → List Part → List ℕ
+account_text head parts = account_body head parts ++ sum_line (account_body head parts)
 
 -- whether this is that SHA-256
 abbrev pub has_sum : List ℕ → List ℕ → Bool
 has_sum sum body = same_text sum (encode_lower (sha256 body))
 
 -- the text is that of this account
-pub record IsTextOf (text : List ℕ) (head : Head) (parts : List Part) : Type 0 where
+pub record IsAccountText (text : List ℕ) (head : AccountHead) (parts : List Part) : Type 0 where
   pub account : IsAccount head parts
-  pub spelled : text ≡ text_of head parts
+  pub spelled : text ≡ account_text head parts

@@ -1,12 +1,12 @@
 //! The contents of the lines of a text.
 ghost use Rattle.std.specs.Prelude.{◌≡◌, ◌++◌, ⊤, ℕ, List, IfOk, IfErr};
-ghost use Rattle.accountfiles.specs.Netstring.{line, texts};
-ghost use Rattle.accountfiles.specs.Fields.{version_fields, owner_fields, numbers_fields};
-ghost use Rattle.accountfiles.specs.Reading.{ReadsLine, entry_fields, IsEntry, AreSmall, entry_at};
+ghost use Rattle.store_text.specs.Netstring.{line, texts};
+ghost use Rattle.store_text.specs.Fields.{version_fields, owner_fields, numbers_fields};
+ghost use Rattle.store_text.specs.Reading.{ReadsAccountLine, entry_fields, IsEntry, AreSmall, entry_at};
 
-use crate::account_file::ReadError;
+use crate::account_file::AccountReadError;
 use crate::fields::{are_version, numbers_of, owner_of, part_of, sum_of};
-use crate::head::{Numbers, Owner};
+use crate::head::{Numbers, AccountOwner};
 use crate::line::take_line;
 use crate::part::Part;
 use octets::Octets;
@@ -21,54 +21,54 @@ pub(crate) enum Entry {
 }
 
 /// Reads the first line, and returns the rest.
-pub(crate) fn take_version(alloc: Global, octets: &[u8]) -> Result<&[u8], ReadError>
+pub(crate) fn take_version(alloc: Global, octets: &[u8]) -> Result<&[u8], AccountReadError>
     ensures found { IfOk result (λ rest. octets.now ≡ line version_fields ++ rest.now) }
-    ensures none { IfErr result (λ e. e ≡ ReadError.NotAnAccount → (more : List ℕ) → octets.now ≡ line version_fields ++ more → ⊥) }
+    ensures none { IfErr result (λ e. e ≡ AccountReadError.NotAnAccount → (more : List ℕ) → octets.now ≡ line version_fields ++ more → ⊥) }
 {
     let Some((fields, rest)) = take_line(alloc, octets)? else {
-        return Err(ReadError::NotAnAccount);
+        return Err(AccountReadError::NotAnAccount);
     };
     if !are_version(fields.as_slice()) {
-        return Err(ReadError::NotAnAccount);
+        return Err(AccountReadError::NotAnAccount);
     }
     Ok(rest)
 }
 
 /// Reads the line on the account's owner, and returns it with the rest.
-pub(crate) fn take_owner(alloc: Global, octets: &[u8]) -> Result<(Owner, &[u8]), ReadError>
-    ensures { ReadsLine owner_fields (λ _. ⊤) octets.now result }
+pub(crate) fn take_owner(alloc: Global, octets: &[u8]) -> Result<(AccountOwner, &[u8]), AccountReadError>
+    ensures { ReadsAccountLine owner_fields (λ _. ⊤) octets.now result }
 {
     let Some((fields, rest)) = take_line(alloc, octets)? else {
-        return Err(ReadError::NotAnAccount);
+        return Err(AccountReadError::NotAnAccount);
     };
     let Some(owner) = owner_of(alloc, fields.as_slice())? else {
-        return Err(ReadError::NotAnAccount);
+        return Err(AccountReadError::NotAnAccount);
     };
     Ok((owner, rest))
 }
 
 /// Reads the line with the account's numbers, and returns them with the rest.
-pub(crate) fn take_numbers(alloc: Global, octets: &[u8]) -> Result<(Numbers, &[u8]), ReadError>
-    ensures { ReadsLine numbers_fields AreSmall octets.now result }
+pub(crate) fn take_numbers(alloc: Global, octets: &[u8]) -> Result<(Numbers, &[u8]), AccountReadError>
+    ensures { ReadsAccountLine numbers_fields AreSmall octets.now result }
 {
     let Some((fields, rest)) = take_line(alloc, octets)? else {
-        return Err(ReadError::NotAnAccount);
+        return Err(AccountReadError::NotAnAccount);
     };
     let Some(numbers) = numbers_of(fields.as_slice()) else {
-        return Err(ReadError::NotAnAccount);
+        return Err(AccountReadError::NotAnAccount);
     };
     Ok((numbers, rest))
 }
 
 /// Reads the next line, and returns its contents with the rest.
-pub(crate) fn take_entry(alloc: Global, octets: &[u8]) -> Result<(Entry, &[u8]), ReadError>
-    ensures { ReadsLine entry_fields IsEntry octets.now result }
+pub(crate) fn take_entry(alloc: Global, octets: &[u8]) -> Result<(Entry, &[u8]), AccountReadError>
+    ensures { ReadsAccountLine entry_fields IsEntry octets.now result }
 {
     let Some((fields, rest)) = take_line(alloc, octets)? else {
-        return Err(ReadError::NotAnAccount);
+        return Err(AccountReadError::NotAnAccount);
     };
     let Some(entry) = entry_of(alloc, fields.as_slice())? else {
-        return Err(ReadError::NotAnAccount);
+        return Err(AccountReadError::NotAnAccount);
     };
     Ok((entry, rest))
 }

@@ -1,9 +1,9 @@
 //! The parts of an account from the fields of a line.
 ghost use Rattle.std.specs.Prelude.{◌≡◌, ◌&&◌, IfOk, codes, option_map};
-ghost use Rattle.accountfiles.specs.Fields.{is_version, owner_at, owner_with as owner_by_word, rounds_in, counters_at, numbers_at, sum_at, part_at, script_at, reply_at, mail_at, copy_at, notice_at, four_at, where_flags, five_at, kind_at, letter_at};
-ghost use Rattle.accountfiles.specs.Netstring.{same_text, texts};
+ghost use Rattle.store_text.specs.Fields.{is_version, owner_at, owner_with as owner_by_word, rounds_in, counters_at, numbers_at, sum_at, part_at, script_at, reply_at, mail_at, copy_at, notice_at, four_at, where_flags, five_at, kind_at, letter_at};
+ghost use Rattle.store_text.specs.Netstring.{same_text, texts};
 
-use crate::head::{Numbers, Owner};
+use crate::head::{Numbers, AccountOwner};
 use crate::netstring::number_of;
 use crate::part::{LetterKind, Part};
 use octets::Octets;
@@ -31,7 +31,7 @@ fn is_version_of(word: &[u8], version: &[u8]) -> bool
 
 /// The account's owner; `None` if the fields aren't one's.
 #[tactic(auto, unfolding(crate::specs::Fields::owner_at))]
-pub(crate) fn owner_of(alloc: Global, fields: &[&[u8]]) -> Result<Option<Owner>, AllocError>
+pub(crate) fn owner_of(alloc: Global, fields: &[&[u8]]) -> Result<Option<AccountOwner>, AllocError>
     ensures { IfOk result (λ owner. owner ≡ owner_at (texts fields.now)) }
 {
     match fields {
@@ -55,13 +55,13 @@ fn owner_with(
     salt: &[u8],
     digest: &[u8],
     active: Option<Octets>,
-) -> Result<Option<Owner>, AllocError>
+) -> Result<Option<AccountOwner>, AllocError>
     ensures { IfOk result (λ owner. owner ≡ owner_by_word word.now name.now address.now salt.now digest.now active) }
 {
     if word != b"account".as_slice() {
         return Ok(None);
     }
-    Ok(Some(Owner {
+    Ok(Some(AccountOwner {
         name: Octets::from_slice(alloc, name)?,
         address: Octets::from_slice(alloc, address)?,
         salt: Octets::from_slice(alloc, salt)?,

@@ -3,7 +3,7 @@ use octets::Octets;
 
 /// Whose account it is: name, address and stored password, and which script is active.
 #[derive(Debug, Drop)]
-pub struct Owner {
+pub struct AccountOwner {
     pub name: Octets,
     pub address: Octets,
     pub salt: Octets,
@@ -27,7 +27,7 @@ pub struct Numbers {
 
 /// What an account has once.
 #[derive(Debug, Drop)]
-pub struct Head {
-    pub owner: Owner,
+pub struct AccountHead {
+    pub owner: AccountOwner,
     pub numbers: Numbers,
 }

@@ -14,10 +14,10 @@ mod part;
 mod reading;
 mod writing;
 
-pub use account_file::{AccountFile, ReadError};
-pub use head::{Head, Numbers, Owner};
+pub use account_file::{AccountFile, AccountReadError};
+pub use head::{AccountHead, Numbers, AccountOwner};
 pub use limits::{is_head, may_have};
 pub use netstring::MAX_FIELD;
 pub use part::{LetterKind, Part};
-pub use reading::read;
-pub use writing::{Line, Writer};
+pub use reading::read_account_file;
+pub use writing::{AccountLine, Writer};

@@ -1,19 +1,19 @@
 //! What a text can have: numbers that were given, and fields of any length.
 ghost use Rattle.std.specs.Prelude.{◌≡◌, ◌<◌, ◌^◌, ◌↔◌, true, IsTrue, option_copied, option_to_list};
-ghost use Rattle.accountfiles.specs.Fields.{owner_fields, flags_fields};
-ghost use Rattle.accountfiles.specs.Limits.{MayHave, texts_of};
-ghost use Rattle.accountfiles.specs.Netstring.{AreFields, IsField};
-ghost use Rattle.accountfiles.specs.Order.{are_numbers as are_numbers_in};
-ghost use Rattle.accountfiles.specs.Text.{IsHead};
+ghost use Rattle.store_text.specs.Fields.{owner_fields, flags_fields};
+ghost use Rattle.store_text.specs.Limits.{MayHave, part_texts};
+ghost use Rattle.store_text.specs.Netstring.{AreFields, IsNetstringField};
+ghost use Rattle.store_text.specs.Order.{are_numbers as are_numbers_in};
+ghost use Rattle.store_text.specs.Text.{IsHead};
 
-use crate::head::{Head, Numbers, Owner};
+use crate::head::{AccountHead, Numbers, AccountOwner};
 use crate::netstring::MAX_FIELD;
 use crate::order::{are_numbers, fits};
 use crate::part::Part;
 use octets::Octets;
 
 /// Whether a text can have this head: its counters are at least 1 and below 2^63. No field is too long: none in memory has 2^63 octets.
-pub fn is_head(head: &Head) -> bool
+pub fn is_head(head: &AccountHead) -> bool
     ensures { IsTrue result ↔ IsHead head.now }
 {
     has_counters(head.numbers) && has_owner_fields(&head.owner)
@@ -35,12 +35,12 @@ pub fn may_have(numbers: Numbers, part: &Part) -> bool
 }
 
 fn is_field(text: &Octets) -> bool
-    ensures { IsTrue result ↔ IsField text.now }
+    ensures { IsTrue result ↔ IsNetstringField text.now }
 {
     text.len() as u64 <= MAX_FIELD
 }
 
-fn has_owner_fields(owner: &Owner) -> bool
+fn has_owner_fields(owner: &AccountOwner) -> bool
     ensures { IsTrue result ↔ AreFields (owner_fields owner.now) }
 {
     is_field(&owner.name)
@@ -69,7 +69,7 @@ fn are_flags(flags: &Octets) -> bool
 
 /// Whether no text of the part is too long for a field. A number never is.
 fn has_texts(part: &Part) -> bool
-    ensures { IsTrue result ↔ AreFields (texts_of part.now) }
+    ensures { IsTrue result ↔ AreFields (part_texts part.now) }
 {
     match part {
         Part::Script { name, text } => is_field(name) && is_field(text),

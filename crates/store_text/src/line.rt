@@ -1,6 +1,6 @@
 //! Lines of netstrings.
 ghost use Rattle.std.specs.Prelude.{◌≡◌, ◌∷◌, ◌++◌, ℕ, List, IfOk, IfSome, IfNone};
-ghost use Rattle.accountfiles.specs.Netstring.{line, texts, AreFields};
+ghost use Rattle.store_text.specs.Netstring.{line, texts, AreFields};
 
 use crate::netstring::take_netstring;
 use std::alloc::{AllocError, Global};

@@ -1,7 +1,7 @@
 //! Texts preceded by their lengths.
 ghost use Rattle.std.specs.Prelude.{◌≡◌, ◌≤◌, ◌++◌, ◌∷◌, [], ℕ, List, length, decimal, OnOk, IfSome, IfNone};
 ghost use Rattle.std.specs.List.{prefix_len};
-ghost use Rattle.accountfiles.specs.Netstring.{netstring, number_in, other, CutsAt, IsField};
+ghost use Rattle.store_text.specs.Netstring.{netstring, decimal_in, other, CutsAtMark, IsNetstringField};
 
 use itoa::Buffer;
 use octets::{Octets, parse_decimal, write_decimal};
@@ -37,9 +37,9 @@ pub(crate) fn push_number(out: &mut Octets, number: u64) -> Result<(), AllocErro
 }
 
 /// The number in decimal digits, without leading zeros; `None` if it isn't one, or if it is 2^63 or more.
-#[tactic(auto, unfolding(crate::specs::Netstring::number_in))]
+#[tactic(auto, unfolding(crate::specs::Netstring::decimal_in))]
 pub(crate) fn number_of(text: &[u8]) -> Option<u64>
-    ensures { result ≡ number_in text.now }
+    ensures { result ≡ decimal_in text.now }
 {
     let Some(number) = parse_decimal(text) else {
         return None;
@@ -57,8 +57,8 @@ pub(crate) fn number_of(text: &[u8]) -> Option<u64>
 /// Reads a text preceded by its length, and returns it with the rest; `None` if there is none.
 pub(crate) fn take_netstring(octets: &[u8]) -> Option<(&[u8], &[u8])>
     ensures found { IfSome result (λ taken. octets.now ≡ netstring taken.0.now ++ taken.1.now) }
-    ensures field { IfSome result (λ taken. IsField taken.0.now) }
-    ensures none { IfNone result ((text more : List ℕ) → IsField text → octets.now ≡ netstring text ++ more → ⊥) }
+    ensures field { IfSome result (λ taken. IsNetstringField taken.0.now) }
+    ensures none { IfNone result ((text more : List ℕ) → IsNetstringField text → octets.now ≡ netstring text ++ more → ⊥) }
 {
     let Some((digits, rest)) = cut_at_colon(octets) else {
         return None;
@@ -86,7 +86,7 @@ fn take_text(octets: &[u8], count: usize) -> Option<(&[u8], &[u8])>
 
 /// What comes before the first colon and after it; `None` if there is no colon.
 fn cut_at_colon(text: &[u8]) -> Option<(&[u8], &[u8])>
-    ensures found { IfSome result (λ cut. CutsAt 58 text.now cut.0.now cut.1.now) }
+    ensures found { IfSome result (λ cut. CutsAtMark 58 text.now cut.0.now cut.1.now) }
     ensures none { IfNone result ((front rest : List ℕ) → text.now ≡ front ++ 58 ∷ rest → ⊥) }
 {
     let count = length_before_colon(text);

@@ -1,7 +1,7 @@
 //! The order of the parts of an account, and which part may follow which.
 ghost use Rattle.std.specs.Prelude.{◌≡◌, ◌^◌, nat_lt, option_copied};
 ghost use Rattle.std.specs.List.{list_any};
-ghost use Rattle.accountfiles.specs.Order.{rank_of, number_of as number_in, key_of as key_in, second_of as second_in, part_cmp, has_come as has_come_in, joins as joins_in, follows as follows_in, fits as fits_in, is_given as is_given_by, are_numbers as are_numbers_in, is_counter as is_counter_of, has_active as has_active_in, is_script as is_script_of};
+ghost use Rattle.store_text.specs.Order.{part_rank, part_number as number_in, part_key as key_in, part_second as second_in, part_cmp, has_come as has_come_in, joins as joins_in, follows as follows_in, fits as fits_in, is_given as is_given_by, are_numbers as are_numbers_in, is_counter as is_counter_of, has_active as has_active_in, is_script as is_script_of};
 
 use crate::head::Numbers;
 use crate::part::Part;
@@ -10,7 +10,7 @@ use std::cmp::Ordering;
 
 /// Scripts come first, then moments, messages in folders, messages on their way out, notices.
 fn rank(part: &Part) -> u8
-    ensures { result ≡ rank_of part.now }
+    ensures { result ≡ part_rank part.now }
 {
     match part {
         Part::Script { .. } => 0,

@@ -1,13 +1,13 @@
 //! Reads an account's text.
 ghost use Rattle.std.specs.Prelude.{◌≡◌, ◌++◌, ⊤, ℕ, List, option_copied, IfOk, IfErr};
-ghost use Rattle.accountfiles.specs.declared.head.Head.{Head};
-ghost use Rattle.accountfiles.specs.declared.part.Part.{Part};
-ghost use Rattle.accountfiles.specs.Text.{IsTextOf, IsHead, head_text};
-ghost use Rattle.accountfiles.specs.Reading.{ReadsLine, entry_fields, MayStand, stands, ends};
+ghost use Rattle.store_text.specs.declared.head.AccountHead.{AccountHead};
+ghost use Rattle.store_text.specs.declared.part.Part.{Part};
+ghost use Rattle.store_text.specs.Text.{IsAccountText, IsHead, head_text};
+ghost use Rattle.store_text.specs.Reading.{ReadsAccountLine, entry_fields, MayStand, stands, ends};
 
-use crate::account_file::{AccountFile, ReadError};
+use crate::account_file::{AccountFile, AccountReadError};
 use crate::entry::{Entry, take_entry, take_numbers, take_owner, take_version};
-use crate::head::{Head, Numbers};
+use crate::head::{AccountHead, Numbers};
 use crate::order::{are_numbers, fits, follows, has_active};
 use crate::part::Part;
 use sha2::{Digest, Sha256};
@@ -22,9 +22,9 @@ use std::alloc::{AllocError, Global};
 /// # Errors
 ///
 /// `NotAnAccount` if it isn't the text of an account, and `Memory`.
-pub fn read(alloc: Global, text: &[u8]) -> Result<AccountFile, ReadError>
-    ensures found { IfOk result (λ file. IsTextOf text.now file.head file.parts) }
-    ensures none { IfErr result (λ e. e ≡ ReadError.NotAnAccount → (head : Head) (parts : List Part) → IsTextOf text.now head parts → ⊥) }
+pub fn read_account_file(alloc: Global, text: &[u8]) -> Result<AccountFile, AccountReadError>
+    ensures found { IfOk result (λ file. IsAccountText text.now file.head file.parts) }
+    ensures none { IfErr result (λ e. e ≡ AccountReadError.NotAnAccount → (head : AccountHead) (parts : List Part) → IsAccountText text.now head parts → ⊥) }
 {
     let (head, mut rest) = take_head(alloc, text)?;
     let mut parts = octets::List::new(alloc);
@@ -39,7 +39,7 @@ pub fn read(alloc: Global, text: &[u8]) -> Result<AccountFile, ReadError>
                 let body = &text[..text.len() - rest.len()];
                 let ends = is_end(alloc, &head, parts.as_slice(), body, sum.as_slice(), more)?;
                 if !ends {
-                    return Err(ReadError::NotAnAccount);
+                    return Err(AccountReadError::NotAnAccount);
                 }
                 return Ok(AccountFile { head, parts });
             }
@@ -50,7 +50,7 @@ pub fn read(alloc: Global, text: &[u8]) -> Result<AccountFile, ReadError>
 /// Whether the parts are those of an account, nothing comes after the last line, and that line has the SHA-256 of all before it.
 fn is_end(
     alloc: Global,
-    head: &Head,
+    head: &AccountHead,
     parts: &[Part],
     body: &[u8],
     sum: &[u8],
@@ -66,18 +66,18 @@ fn is_end(
 }
 
 /// What the account has once, and the rest.
-fn take_head(alloc: Global, text: &[u8]) -> Result<(Head, &[u8]), ReadError>
+fn take_head(alloc: Global, text: &[u8]) -> Result<(AccountHead, &[u8]), AccountReadError>
     ensures found { IfOk result (λ taken. text.now ≡ head_text taken.0 ++ taken.1.now) }
     ensures head { IfOk result (λ taken. IsHead taken.0) }
-    ensures none { IfErr result (λ e. e ≡ ReadError.NotAnAccount → (head : Head) (more : List ℕ) → IsHead head → text.now ≡ head_text head ++ more → ⊥) }
+    ensures none { IfErr result (λ e. e ≡ AccountReadError.NotAnAccount → (head : AccountHead) (more : List ℕ) → IsHead head → text.now ≡ head_text head ++ more → ⊥) }
 {
     let rest = take_version(alloc, text)?;
     let (owner, rest) = take_owner(alloc, rest)?;
     let (numbers, rest) = take_numbers(alloc, rest)?;
     if !are_numbers(numbers) {
-        return Err(ReadError::NotAnAccount);
+        return Err(AccountReadError::NotAnAccount);
     }
-    Ok((Head { owner, numbers }, rest))
+    Ok((AccountHead { owner, numbers }, rest))
 }
 
 /// The contents of the next line, if it may come after the last part, and the rest.
@@ -86,12 +86,12 @@ fn take_next<'a>(
     numbers: &Numbers,
     last: Option<&Part>,
     octets: &'a [u8],
-) -> Result<(Entry, &'a [u8]), ReadError>
-    ensures { ReadsLine entry_fields (MayStand numbers.now (option_copied last.entry)) octets.now result }
+) -> Result<(Entry, &'a [u8]), AccountReadError>
+    ensures { ReadsAccountLine entry_fields (MayStand numbers.now (option_copied last.entry)) octets.now result }
 {
     let (entry, rest) = take_entry(alloc, octets)?;
     if !may_stand(numbers, last, &entry) {
-        return Err(ReadError::NotAnAccount);
+        return Err(AccountReadError::NotAnAccount);
     }
     Ok((entry, rest))
 }

@@ -3,12 +3,12 @@ ghost use Rattle.std.specs.Prelude.{◌≡◌, ◌++◌, ℕ, List, [], ◌∷�
 ghost use Rattle.std.specs.List.{flat_map};
 ghost use Rattle.sha2.specs.Sha256.{sha256};
 ghost use Rattle.hex.specs.Hex.{encode_lower};
-ghost use Rattle.accountfiles.specs.Netstring.{netstring, line};
-ghost use Rattle.accountfiles.specs.Fields.{version_fields, owner_fields, numbers_fields, part_fields, flags_fields, letter_word, sum_fields};
-ghost use Rattle.accountfiles.specs.Text.{head_text, part_line, sum_line};
-ghost use Rattle.accountfiles.specs.Writing.{HasWritten, text_in};
+ghost use Rattle.store_text.specs.Netstring.{netstring, line};
+ghost use Rattle.store_text.specs.Fields.{version_fields, owner_fields, numbers_fields, part_fields, flags_fields, letter_word, sum_fields};
+ghost use Rattle.store_text.specs.Text.{head_text, part_line, sum_line};
+ghost use Rattle.store_text.specs.Writing.{HasWritten, line_octets};
 
-use crate::head::{Head, Numbers, Owner};
+use crate::head::{AccountHead, Numbers, AccountOwner};
 use crate::netstring::{push_length, push_netstring, push_number};
 use crate::part::{LetterKind, Part};
 use octets::Octets;
@@ -24,7 +24,7 @@ pub struct Writer {
 
 /// A line: its start, a text of the part that isn't copied, and its end.
 #[derive(Drop)]
-pub struct Line<'a> {
+pub struct AccountLine<'a> {
     pub front: Octets,
     pub last: &'a [u8],
     pub back: Octets,
@@ -32,7 +32,7 @@ pub struct Line<'a> {
 
 impl Writer {
     /// The first lines of the text: its version, and what the account has once.
-    pub fn begin(alloc: Global, head: &Head) -> Result<(Writer, Octets), AllocError>
+    pub fn begin(alloc: Global, head: &AccountHead) -> Result<(Writer, Octets), AllocError>
         ensures { IfOk result (λ begun. (begun.1 ≡ head_text head.now) × HasWritten begun.0 begun.1) }
     {
         let mut text = Octets::new(alloc);
@@ -45,8 +45,8 @@ impl Writer {
     }
 
     /// The line of the next part. If memory runs out, nothing was written.
-    pub fn part<'a>(&mut self, alloc: Global, part: &'a Part) -> Result<Line<'a>, AllocError>
-        ensures line { IfOk result (λ line. text_in line ≡ part_line part.now) }
+    pub fn part<'a>(&mut self, alloc: Global, part: &'a Part) -> Result<AccountLine<'a>, AllocError>
+        ensures line { IfOk result (λ line. line_octets line ≡ part_line part.now) }
         ensures written { IfOk result (λ line. (text : List ℕ) → HasWritten self.old text → HasWritten self.new (text ++ part_line part.now)) }
     {
         let line = line_of(alloc, part)?;
@@ -79,7 +79,7 @@ fn push_pair(out: &mut Octets, word: &[u8], value: &[u8]) -> Result<(), AllocErr
 }
 
 #[tactic(auto, unfolding(crate::specs::Netstring::line))]
-fn push_owner(out: &mut Octets, owner: &Owner) -> Result<(), AllocError>
+fn push_owner(out: &mut Octets, owner: &AccountOwner) -> Result<(), AllocError>
     ensures { OnOk result (out.new ≡ out.old ++ line (owner_fields owner.now)) }
 {
     push_netstring(out, b"account")?;
@@ -130,15 +130,15 @@ fn ended<'a>(
     mut front: Octets,
     last: &'a [u8],
     flags: &[u8],
-) -> Result<Line<'a>, AllocError>
-    ensures { IfOk result (λ line. text_in line ≡ front ++ (netstring last.now ++ (flat_map netstring (flags_fields flags.now) ++ 10 ∷ []))) }
+) -> Result<AccountLine<'a>, AllocError>
+    ensures { IfOk result (λ line. line_octets line ≡ front ++ (netstring last.now ++ (flat_map netstring (flags_fields flags.now) ++ 10 ∷ []))) }
 {
     push_length(&mut front, last.len())?;
     let mut back = Octets::new(alloc);
     back.push(b',')?;
     push_flags(&mut back, flags)?;
     back.push(b'\n')?;
-    Ok(Line { front, last, back })
+    Ok(AccountLine { front, last, back })
 }
 
 /// A line with this number after other fields, and with the flags, if there are any.
@@ -148,13 +148,13 @@ fn counted<'a>(
     mut front: Octets,
     last: u64,
     flags: &[u8],
-) -> Result<Line<'a>, AllocError>
-    ensures { IfOk result (λ line. text_in line ≡ front ++ (netstring (decimal last) ++ (flat_map netstring (flags_fields flags.now) ++ 10 ∷ []))) }
+) -> Result<AccountLine<'a>, AllocError>
+    ensures { IfOk result (λ line. line_octets line ≡ front ++ (netstring (decimal last) ++ (flat_map netstring (flags_fields flags.now) ++ 10 ∷ []))) }
 {
     push_number(&mut front, last)?;
     push_flags(&mut front, flags)?;
     front.push(b'\n')?;
-    Ok(Line {
+    Ok(AccountLine {
         front,
         last: b"",
         back: Octets::new(alloc),
@@ -172,8 +172,8 @@ fn word_of(kind: LetterKind) -> &'static [u8]
 
 /// The line of a part.
 #[tactic(auto, unfolding(crate::specs::Netstring::line))]
-fn line_of(alloc: Global, part: &Part) -> Result<Line<'_>, AllocError>
-    ensures { IfOk result (λ line. text_in line ≡ part_line part.now) }
+fn line_of(alloc: Global, part: &Part) -> Result<AccountLine<'_>, AllocError>
+    ensures { IfOk result (λ line. line_octets line ≡ part_line part.now) }
 {
     let mut front = Octets::new(alloc);
     match part {

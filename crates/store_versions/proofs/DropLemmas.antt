@@ -15,9 +15,9 @@ use Rattle.sqlite_trees.specs.Tree.{Trees}
 use Rattle.sqlite.specs.Listing.{understood}
 use Rattle.sqlite.specs.State.{State, Executes, mode_of}
 use Rattle.sqlite.proofs.Callers.{IsPlain, command_of, runs_as}
-use Rattle.mailtables.specs.Rows.{IsHeld}
-use Rattle.mailtables.proofs.StepLemmas.{went, same_value}
-use Rattle.oldtables.specs.Inside.{LosesTable}
+use Rattle.store_tables.specs.Rows.{IsHeld}
+use Rattle.store_tables.proofs.StepLemmas.{went, same_value}
+use Rattle.store_versions.specs.Inside.{LosesTable}
 
 -- nothing acts, and nothing is counted
 quiet : (task : Task) (db after : Trees) → is_acted_on task.schema task.keys task.table ≡ false → Empties task db (Ok after) → after ≡ db

@@ -19,33 +19,33 @@ use Rattle.sqlite.specs.declared.error.Error.{Error}
 use Rattle.sqlite.specs.declared.transaction.Transaction.{Transaction}
 use Rattle.sqlite.specs.State.{State, Executes, HasCleanDisk, Shows, Shown, ShowsRows, FailsToShow, FailsToQuery, IsNotRun, IsTooLate, KeepsCommit, Survives}
 use Rattle.sqlite.proofs.InsideLemmas.{unchanged_keeps, keeps_then}
-use Rattle.mailtables.specs.Rows.{Tables, HoldsTables, IsHeld}
-use Rattle.mailtables.specs.Connection.{RunsInside, Makes, TurnsRows, HasNoneFrom, TurnsSchema}
-use Rattle.oldtables.specs.OldSchema.{old_schema, oldest_schema, oldest_4, drop_copy, old_copy, old_copy_tree, oldest_copy_tree, select_old_copies, old_cells, message_from, copy_from}
-use Rattle.oldtables.specs.Migration.{AreOldCopies, LosesCopies, Remakes, TurnsNew, IsMigrated, before, refiled, filled, joined, renewed}
-use Rattle.mailtables.specs.MetaTable.{meta_tree, version_key, version_row}
-use Rattle.mailtables.specs.AccountTable.{account_tree}
-use Rattle.mailtables.specs.ScriptTable.{script_tree}
-use Rattle.mailtables.specs.QueueTable.{outgoing_tree}
-use Rattle.mailtables.specs.ReplyTable.{reply_tree}
-use Rattle.mailtables.specs.NoticeTable.{notice_tree}
-use Rattle.mailtables.specs.MessageTable.{message_tree}
-use Rattle.mailtables.specs.CopyTable.{copy_tree}
-use Rattle.mailtables.specs.Rows.{has_key}
+use Rattle.store_tables.specs.Rows.{Tables, HoldsTables, IsHeld}
+use Rattle.store_tables.specs.Connection.{RunsInside, Makes, TurnsRows, HasNoneFrom, TurnsSchema}
+use Rattle.store_versions.specs.OldSchema.{old_schema, oldest_schema, oldest_4, drop_copy, old_copy, old_copy_tree, oldest_copy_tree, select_old_copies, old_cells, message_from, copy_from}
+use Rattle.store_versions.specs.Migration.{AreOldCopies, LosesCopies, Remakes, TurnsNew, IsMigrated, tables_before, refiled, filled, rows_joined, renewed}
+use Rattle.store_tables.specs.MetaTable.{meta_tree, version_key, version_row}
+use Rattle.store_tables.specs.AccountTable.{account_tree}
+use Rattle.store_tables.specs.ScriptTable.{scripts_tree}
+use Rattle.store_tables.specs.QueueTable.{outgoing_tree}
+use Rattle.store_tables.specs.ReplyTable.{reply_tree}
+use Rattle.store_tables.specs.NoticeTable.{notice_tree}
+use Rattle.store_tables.specs.MessageTable.{message_tree}
+use Rattle.store_tables.specs.CopyTable.{copy_tree}
+use Rattle.store_tables.specs.Rows.{has_key}
 use Rattle.sqlite_keyed.specs.Lists.{delete_where}
 use Rattle.std.proofs.lemmas.List.{take_more}
 use Rattle.sqlite.proofs.StateLemmas.{survives_then}
-use Rattle.mailtables.proofs.WriteLemmas.{clean_before, survives_same}
-use Rattle.mailtables.proofs.ResultLemmas.{on_ok, on_any}
-use Rattle.mailtables.specs.Schema.{mail_schema, schema_6, schema_7}
+use Rattle.store_tables.proofs.WriteLemmas.{clean_before, survives_same}
+use Rattle.store_tables.proofs.ResultLemmas.{on_ok, on_any}
+use Rattle.store_tables.specs.Schema.{mail_schema, schema_6, schema_7}
 use Rattle.sqlite_rules.proofs.ListLemmas.{all_has}
-use Rattle.oldtables.proofs.OldFacts.{old_without_copy, oldest_without_copy, drops_last, drops_fourth, last_not_acted_on, fourth_not_acted_on, Selects, selects_last, selects_fourth, four_columns, copy_names}
-use Rattle.oldtables.specs.SecondSchema.{second_copy, second_schema, second_unindexed_schema}
-use Rattle.oldtables.proofs.SecondFacts.{second_without_copy, unindexed_without_copy, drops_second, drops_unindexed, second_not_acted_on, unindexed_not_acted_on}
-use Rattle.mailtables.proofs.ReadLemmas.{answered, shown_same}
-use Rattle.mailtables.proofs.AnswerLemmas.{cells_in_order}
-use Rattle.oldtables.proofs.DropLemmas.{drops}
-use Rattle.oldtables.specs.Inside.{TurnsInside, Finds, Lists, LosesTable}
+use Rattle.store_versions.proofs.OldFacts.{old_without_copy, oldest_without_copy, drops_last, drops_fourth, last_not_acted_on, fourth_not_acted_on, Selects, selects_last, selects_fourth, four_columns, copy_names}
+use Rattle.store_versions.specs.SecondSchema.{second_copy, second_schema, second_unindexed_schema}
+use Rattle.store_versions.proofs.SecondFacts.{second_without_copy, unindexed_without_copy, drops_second, drops_unindexed, second_not_acted_on, unindexed_not_acted_on}
+use Rattle.store_tables.proofs.ReadLemmas.{answered, shown_same}
+use Rattle.store_tables.proofs.AnswerLemmas.{cells_in_order}
+use Rattle.store_versions.proofs.DropLemmas.{drops}
+use Rattle.store_versions.specs.Inside.{TurnsInside, FindsInside, Lists, LosesTable}
 
 -- ---- a query inside a transaction keeps the last commit, and the transaction
 
@@ -75,25 +75,25 @@ module _ (sql : List ℕ) (old new : State) (inside : IsTrue old.in_transaction)
   query_fails e (inr late) = unchanged_keeps old new (inl late.5)
 
 pub finds_listed : {S : Type 0} (g : Ghosts S) (sql : List ℕ) (Found : Vec Row Global → Database → Database → Type 0) (a b : Transaction S) (r : Result (Vec Row Global) Error)
-    → ((rows : Vec Row Global) → Shown sql [] (state g a.conn.now) (state g b.conn.now) rows.items → Found rows (state g a.conn.now).now (state g b.conn.now).now) → RunsInside g (Lists sql) a b r → RunsInside g (Finds Found) a b r
+    → ((rows : Vec Row Global) → Shown sql [] (state g a.conn.now) (state g b.conn.now) rows.items → Found rows (state g a.conn.now).now (state g b.conn.now).now) → RunsInside g (Lists sql) a b r → RunsInside g (FindsInside Found) a b r
 finds_listed g sql Found a b r finds ran = record { same_reference = ran.same_reference; made = λ clean inside. go r inside (ran.made clean inside); survives = ran.survives }
   where
-    go : (o : Result (Vec Row Global) Error) → IsTrue (state g a.conn.now).in_transaction → Lists sql (state g a.conn.now) (state g b.conn.now) o → Finds Found (state g a.conn.now) (state g b.conn.now) o
+    go : (o : Result (Vec Row Global) Error) → IsTrue (state g a.conn.now).in_transaction → Lists sql (state g a.conn.now) (state g b.conn.now) o → FindsInside Found (state g a.conn.now) (state g b.conn.now) o
     go (Ok rows) inside h =
         let seen = shown_seen sql (state g a.conn.now) (state g b.conn.now) inside rows.items h.0 in
         (record { was_open = λ _. seen.was_open; committed = λ _. seen.committed_is }, (finds rows h.0, seen))
     go (Err e) inside h = (query_fails sql (state g a.conn.now) (state g b.conn.now) inside e h.1, tt)
 
 -- what was found is made, as it were
-pub found_makes : {S X : Type 0} (g : Ghosts S) (Found : X → Database → Database → Type 0) (a b : Transaction S) (r : Result X Error) (x : X) → r ≡ Ok x → RunsInside g (Finds Found) a b r → RunsInside g (Makes (Found x)) a b r
+pub found_makes : {S X : Type 0} (g : Ghosts S) (Found : X → Database → Database → Type 0) (a b : Transaction S) (r : Result X Error) (x : X) → r ≡ Ok x → RunsInside g (FindsInside Found) a b r → RunsInside g (Makes (Found x)) a b r
 found_makes g Found a b r x ok ran = record { same_reference = ran.same_reference; made = λ clean inside. go r ok (ran.made clean inside); survives = ran.survives }
   where
-    go : (o : Result _ Error) → o ≡ Ok x → Finds Found (state g a.conn.now) (state g b.conn.now) o → Makes (Found x) (state g a.conn.now) (state g b.conn.now) o
+    go : (o : Result _ Error) → o ≡ Ok x → FindsInside Found (state g a.conn.now) (state g b.conn.now) o → Makes (Found x) (state g a.conn.now) (state g b.conn.now) o
     go (Ok y) is h = (h.0, let same : y ≡ x = cc in rw same at h.1)
     go (Err e) is h = absurd (let no = is in cc)
 
 pub find_failed : {S X Y : Type 0} (g : Ghosts S) (Found : X → Database → Database → Type 0) (V : Database → Database → Type 0) (a b : Transaction S) (r : Result X Error) (e : Error) (q : Result Y Error) → q ≡ Err e
-    → RunsInside g (Finds Found) a b r → RunsInside g (Makes V) a b q
+    → RunsInside g (FindsInside Found) a b r → RunsInside g (Makes V) a b q
 find_failed g Found V a b r e q is ran = record {
   same_reference = ran.same_reference;
   made = λ clean inside. ((ran.made clean inside).0, subst (λ o. OnOk o (V (state g a.conn.now).now (state g b.conn.now).now × Shows (state g a.conn.now) (state g b.conn.now) (state g b.conn.now).now (state g a.conn.now).committed true)) (sym is) tt);
@@ -152,19 +152,19 @@ copies_dropped old new count ran = record {
 le_true : (n m : ℕ) → n ≤ m → nat_le n m ≡ true
 le_true n m low = grind (arith, low)
 
-pub none_before : (n : ℕ) (tables : Tables) → HasNoneFrom n (before n tables)
+pub none_before : (n : ℕ) (tables : Tables) → HasNoneFrom n (tables_before n tables)
 none_before n tables tree from = rw (le_true n tree from) refl
 
 -- the tables before the copies are the same
-held_before : (db : Database) (tables : Tables) → HoldsTables schema_6 db tables → HoldsTables schema_6 db (before old_copy_tree tables)
+held_before : (db : Database) (tables : Tables) → HoldsTables schema_6 db tables → HoldsTables schema_6 db (tables_before old_copy_tree tables)
 held_before db tables h = record {
   is = h.is;
   fits = h.fits;
-  each = λ t listed. subst (IsHeld (db.trees t.tree)) (sym (all_has (λ (x : Table). before old_copy_tree tables x.tree ≡ tables x.tree) schema_6.tables t (refl, (refl, (refl, (refl, (refl, (refl, tt)))))) listed)) (h.each t listed);
+  each = λ t listed. subst (IsHeld (db.trees t.tree)) (sym (all_has (λ (x : Table). tables_before old_copy_tree tables x.tree ≡ tables x.tree) schema_6.tables t (refl, (refl, (refl, (refl, (refl, (refl, tt)))))) listed)) (h.each t listed);
 }
 
 pub remakes : (old mid new : Database) → LosesCopies old mid → TurnsSchema schema_6 mail_schema mid new → Remakes old new
-remakes old mid new loses makes tables h = makes (before old_copy_tree tables) (held_before mid tables (loses.last tables h)) (none_before old_copy_tree tables)
+remakes old mid new loses makes tables h = makes (tables_before old_copy_tree tables) (held_before mid tables (loses.last tables h)) (none_before old_copy_tree tables)
 
 -- ---- the copies, one after another
 
@@ -179,7 +179,7 @@ none_filled g a = record {
   survives = survives_same (state g a.conn.now) (λ _. ⊥);
 }
 
-pub none_joined : {S : Type 0} (g : Ghosts S) (tree : ℕ) (columns : Row → Row) (a : Transaction S) → RunsInside {X = Unit {0}} g (TurnsInside (TurnsRows (joined tree columns []))) a a (Ok tt)
+pub none_joined : {S : Type 0} (g : Ghosts S) (tree : ℕ) (columns : Row → Row) (a : Transaction S) → RunsInside {X = Unit {0}} g (TurnsInside (TurnsRows (rows_joined tree columns []))) a a (Ok tt)
 none_joined g tree columns a = record {
   same_reference = refl;
   made = λ clean inside. (record { was_open = λ h. h; committed = λ _. refl }, ((λ tables h. h), inside));
@@ -272,7 +272,7 @@ filled_beside tree no_message no_copy (r ∷ rows) tables = filled_beside tree n
 pub record IsCleared (old new : Tables) : Type 0 where
   pub versions : new meta_tree ≡ old meta_tree
   pub accounts : new account_tree ≡ old account_tree
-  pub scripts : new script_tree ≡ old script_tree
+  pub scripts : new scripts_tree ≡ old scripts_tree
   pub queue : new outgoing_tree ≡ old outgoing_tree
   pub replies : new reply_tree ≡ old reply_tree
   pub notices : new notice_tree ≡ old notice_tree
@@ -287,7 +287,7 @@ migrated tables cleared rows is same = record {
   filed = filled_copies rows cleared ∙ ap (λ l. l ++ map copy_from rows) is.filed;
   version = ap (λ l. delete_where (has_key version_key) l ++ version_row ∷ []) (filled_beside meta_tree refl refl rows cleared ∙ is.versions);
   accounts = filled_beside account_tree refl refl rows cleared ∙ is.accounts;
-  scripts = filled_beside script_tree refl refl rows cleared ∙ is.scripts;
+  scripts = filled_beside scripts_tree refl refl rows cleared ∙ is.scripts;
   queue = filled_beside outgoing_tree refl refl rows cleared ∙ is.queue;
   replies = filled_beside reply_tree refl refl rows cleared ∙ is.replies;
   notices = filled_beside notice_tree refl refl rows cleared ∙ is.notices;
@@ -296,9 +296,9 @@ migrated tables cleared rows is same = record {
 pub turns_new : (old found between new : Database) (rows : Vec Row Global) → AreOldCopies rows old found → Remakes found between → TurnsRows (λ tables. renewed (filled rows.items tables)) between new → TurnsNew old new
 turns_new old found between new rows copies remade refilled tables h =
     let at = subst (λ d. HoldsTables old_schema d tables) (sym (copies.same (inl h.is))) h in
-    (renewed (filled rows.items (before old_copy_tree tables)), migrated tables (before old_copy_tree tables) rows.items cleared (copies.last tables h), refilled (before old_copy_tree tables) (remade tables at))
+    (renewed (filled rows.items (tables_before old_copy_tree tables)), migrated tables (tables_before old_copy_tree tables) rows.items cleared (copies.last tables h), refilled (tables_before old_copy_tree tables) (remade tables at))
   where
-    cleared : IsCleared tables (before old_copy_tree tables)
+    cleared : IsCleared tables (tables_before old_copy_tree tables)
     cleared = record { versions = refl; accounts = refl; scripts = refl; queue = refl; replies = refl; notices = refl; messages = refl; filed = refl }
 
 -- ---- more steps
@@ -330,7 +330,7 @@ keeps_chain {Y = Y} g T U V a b c r x ok q one two both = record {
 
 -- what was made is found
 pub makes_found : {S X Y : Type 0} (g : Ghosts S) (T : Database → Database → Type 0) (Found : Y → Database → Database → Type 0) (a b : Transaction S) (r : Result X Error) (x : X) → r ≡ Ok x → (y : Y)
-    → ((old new : Database) → T old new → Found y old new) → RunsInside g (Makes T) a b r → RunsInside g (Finds Found) a b (Ok y)
+    → ((old new : Database) → T old new → Found y old new) → RunsInside g (Makes T) a b r → RunsInside g (FindsInside Found) a b (Ok y)
 makes_found g T Found a b r x ok y is one = record {
   same_reference = one.same_reference;
   made = λ clean inside. (let was = one.made clean inside in let now = on_ok r x ok _ was.1 in (was.0, (is _ _ now.0, now.1)));
@@ -338,7 +338,7 @@ makes_found g T Found a b r x ok y is one = record {
 }
 
 pub find_failed_find : {S X Y : Type 0} (g : Ghosts S) (Found : X → Database → Database → Type 0) (Other : Y → Database → Database → Type 0) (a b : Transaction S) (r : Result X Error) (e : Error) (q : Result Y Error) → q ≡ Err e
-    → RunsInside g (Finds Found) a b r → RunsInside g (Finds Other) a b q
+    → RunsInside g (FindsInside Found) a b r → RunsInside g (FindsInside Other) a b q
 find_failed_find g Found Other a b r e q is one = record {
   same_reference = one.same_reference;
   made = λ clean inside. ((one.made clean inside).0, subst (λ o. IfOk o (λ y. Other y (state g a.conn.now).now (state g b.conn.now).now × Shows (state g a.conn.now) (state g b.conn.now) (state g b.conn.now).now (state g a.conn.now).committed true)) (sym is) tt);
@@ -347,7 +347,7 @@ find_failed_find g Found Other a b r e q is one = record {
 
 -- a query failed after what was made
 pub find_stopped : {S X Y Z : Type 0} (g : Ghosts S) (T : Database → Database → Type 0) (Found : Y → Database → Database → Type 0) (Other : Z → Database → Database → Type 0) (a b c : Transaction S) (r : Result X Error) (x : X) → r ≡ Ok x
-    → (q : Result Y Error) (e : Error) (z : Result Z Error) → z ≡ Err e → RunsInside g (Makes T) a b r → RunsInside g (Finds Found) b c q → RunsInside g (Finds Other) a c z
+    → (q : Result Y Error) (e : Error) (z : Result Z Error) → z ≡ Err e → RunsInside g (Makes T) a b r → RunsInside g (FindsInside Found) b c q → RunsInside g (FindsInside Other) a c z
 find_stopped g T Found Other a b c r x ok q e z is one two = record {
   same_reference = two.same_reference ∙ one.same_reference;
   made = λ clean inside.
@@ -361,7 +361,7 @@ find_stopped g T Found Other a b c r x ok q e z is one two = record {
 
 -- the same, for a call that makes
 pub makes_stopped : {S X Y Z : Type 0} (g : Ghosts S) (T V : Database → Database → Type 0) (Found : Y → Database → Database → Type 0) (a b c : Transaction S) (r : Result X Error) (x : X) → r ≡ Ok x
-    → (q : Result Y Error) (e : Error) (z : Result Z Error) → z ≡ Err e → RunsInside g (Makes T) a b r → RunsInside g (Finds Found) b c q → RunsInside g (Makes V) a c z
+    → (q : Result Y Error) (e : Error) (z : Result Z Error) → z ≡ Err e → RunsInside g (Makes T) a b r → RunsInside g (FindsInside Found) b c q → RunsInside g (Makes V) a c z
 makes_stopped g T V Found a b c r x ok q e z is one two = record {
   same_reference = two.same_reference ∙ one.same_reference;
   made = λ clean inside.

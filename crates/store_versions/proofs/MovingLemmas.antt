@@ -11,29 +11,29 @@ use Rattle.sqlite_schema.specs.declared.schema.Table.{Table}
 use Rattle.sqlite_trees.specs.Tree.{with_tree}
 use Rattle.sqlite.specs.Effect.{Database}
 use Rattle.sqlite.specs.State.{State, Executes, Shown}
-use Rattle.mailtables.specs.Rows.{Tables, HoldsTables, IsHeld, added}
-use Rattle.mailtables.specs.Schema.{mail_schema, schema_3, schema_6}
-use Rattle.mailtables.specs.Connection.{TurnsRows, TurnsSchema}
-use Rattle.oldtables.specs.OldSchema.{oldest_schema, oldest_4, oldest_5, oldest_6, oldest_copy_tree, old_copy_tree, oldest_outgoing_tree, oldest_reply_tree, oldest_notice_tree, select_old_queue, select_old_replies, select_old_notices, drop_outgoing, drop_reply, drop_notice, queue_columns, four_cells, old_cells}
-use Rattle.mailtables.specs.MetaTable.{meta_tree}
-use Rattle.mailtables.specs.AccountTable.{account_tree}
-use Rattle.mailtables.specs.ScriptTable.{script_tree}
-use Rattle.mailtables.specs.QueueTable.{outgoing, outgoing_tree, insert_outgoing}
-use Rattle.mailtables.specs.ReplyTable.{reply, reply_tree}
-use Rattle.mailtables.specs.NoticeTable.{notice, notice_tree}
-use Rattle.mailtables.specs.MessageTable.{message_tree}
-use Rattle.mailtables.specs.CopyTable.{copy_tree}
-use Rattle.oldtables.specs.declared.moving.Later.{Later}
-use Rattle.oldtables.specs.declared.moving.Queued.{Queued}
-use Rattle.oldtables.specs.Migration.{AreOldCopies, AreOldRows, AreLater, RemakesAll, IsMoved, TurnsNewest, before, joined, restored, filled, renewed, queued_cells}
-use Rattle.mailtables.proofs.CellLemmas.{cast_int}
-use Rattle.mailtables.proofs.SchemaFacts.{no_works, outgoing_listed}
-use Rattle.mailtables.proofs.TextFacts.{six_terms, insert_outgoing_is, insert_outgoing_plain}
-use Rattle.mailtables.proofs.StepLemmas.{on_insert, insert_holds}
-use Rattle.oldtables.proofs.DropLemmas.{drops}
-use Rattle.oldtables.proofs.OldFacts.{six_columns, four_columns, queue_names, reply_names, notice_names, selects_queue, selects_replies, selects_notices, drops_notice, drops_reply, drops_outgoing, without_notice, without_reply, without_outgoing, notice_not_acted_on, reply_not_acted_on, outgoing_not_acted_on}
-use Rattle.oldtables.proofs.MigrationLemmas.{rows_listed, stays_seen, none_before, IsCleared, migrated}
-use Rattle.oldtables.specs.Inside.{LosesTable}
+use Rattle.store_tables.specs.Rows.{Tables, HoldsTables, IsHeld, row_added}
+use Rattle.store_tables.specs.Schema.{mail_schema, schema_3, schema_6}
+use Rattle.store_tables.specs.Connection.{TurnsRows, TurnsSchema}
+use Rattle.store_versions.specs.OldSchema.{oldest_schema, oldest_4, oldest_5, oldest_6, oldest_copy_tree, old_copy_tree, oldest_outgoing_tree, oldest_reply_tree, oldest_notice_tree, select_old_queue, select_old_replies, select_old_notices, drop_outgoing, drop_reply, drop_notice, queue_columns, four_cells, old_cells}
+use Rattle.store_tables.specs.MetaTable.{meta_tree}
+use Rattle.store_tables.specs.AccountTable.{account_tree}
+use Rattle.store_tables.specs.ScriptTable.{scripts_tree}
+use Rattle.store_tables.specs.QueueTable.{outgoing, outgoing_tree, insert_outgoing}
+use Rattle.store_tables.specs.ReplyTable.{reply, reply_tree}
+use Rattle.store_tables.specs.NoticeTable.{notice, notice_tree}
+use Rattle.store_tables.specs.MessageTable.{message_tree}
+use Rattle.store_tables.specs.CopyTable.{copy_tree}
+use Rattle.store_versions.specs.declared.moving.Later.{Later}
+use Rattle.store_versions.specs.declared.moving.Queued.{Queued}
+use Rattle.store_versions.specs.Migration.{AreOldCopies, AreOldRows, AreLater, RemakesAll, IsMoved, TurnsNewest, tables_before, rows_joined, restored, filled, renewed, queued_cells}
+use Rattle.store_tables.proofs.CellLemmas.{cast_int}
+use Rattle.store_tables.proofs.SchemaFacts.{no_works, outgoing_listed}
+use Rattle.store_tables.proofs.TextFacts.{six_terms, insert_outgoing_is, insert_outgoing_plain}
+use Rattle.store_tables.proofs.StepLemmas.{on_insert, insert_holds}
+use Rattle.store_versions.proofs.DropLemmas.{drops}
+use Rattle.store_versions.proofs.OldFacts.{six_columns, four_columns, queue_names, reply_names, notice_names, selects_queue, selects_replies, selects_notices, drops_notice, drops_reply, drops_outgoing, without_notice, without_reply, without_outgoing, notice_not_acted_on, reply_not_acted_on, outgoing_not_acted_on}
+use Rattle.store_versions.proofs.MigrationLemmas.{rows_listed, stays_seen, none_before, IsCleared, migrated}
+use Rattle.store_versions.specs.Inside.{LosesTable}
 
 -- ---- what is read
 
@@ -95,26 +95,26 @@ outgoing_dropped old new count ran =
     subst (λ s. LosesTable oldest_5 s old.now new.now) without_outgoing (drops oldest_5 drop_outgoing 4 (record outgoing { tree = oldest_outgoing_tree }) refl drops_outgoing.is drops_outgoing.plain outgoing_not_acted_on refl old new count ran)
 
 -- the first three tables stay
-held_first : (db : Database) (tables : Tables) → HoldsTables schema_3 db tables → HoldsTables schema_3 db (before oldest_copy_tree tables)
+held_first : (db : Database) (tables : Tables) → HoldsTables schema_3 db tables → HoldsTables schema_3 db (tables_before oldest_copy_tree tables)
 held_first db tables h = record {
   is = h.is;
   fits = h.fits;
-  each = λ t listed. subst (IsHeld (db.trees t.tree)) (sym (all_has (λ (x : Table). before oldest_copy_tree tables x.tree ≡ tables x.tree) schema_3.tables t (refl, (refl, (refl, tt))) listed)) (h.each t listed);
+  each = λ t listed. subst (IsHeld (db.trees t.tree)) (sym (all_has (λ (x : Table). tables_before oldest_copy_tree tables x.tree ≡ tables x.tree) schema_3.tables t (refl, (refl, (refl, tt))) listed)) (h.each t listed);
 }
 
 -- those after them are made anew, up to the notices; and then the messages and the copies
 abbrev pub Halfway : Database → Database → Type 0
-Halfway old new = (tables : Tables) → HoldsTables oldest_schema old tables → HoldsTables schema_6 new (before oldest_copy_tree tables)
+Halfway old new = (tables : Tables) → HoldsTables oldest_schema old tables → HoldsTables schema_6 new (tables_before oldest_copy_tree tables)
 
 pub halfway : (old between new : Database) → LosesTable oldest_schema schema_3 old between → TurnsSchema schema_3 schema_6 between new → Halfway old new
-halfway old between new loses makes tables h = makes (before oldest_copy_tree tables) (held_first between tables (loses tables h)) (none_before oldest_copy_tree tables)
+halfway old between new loses makes tables h = makes (tables_before oldest_copy_tree tables) (held_first between tables (loses tables h)) (none_before oldest_copy_tree tables)
 
 pub remakes_all : (old between new : Database) → Halfway old between → TurnsSchema schema_6 mail_schema between new → RemakesAll old new
-remakes_all old between new half makes tables h = makes (before oldest_copy_tree tables) (half tables h) (λ tree from. none_before oldest_copy_tree tables tree (omega (arith, from)))
+remakes_all old between new half makes tables h = makes (tables_before oldest_copy_tree tables) (half tables h) (λ tree from. none_before oldest_copy_tree tables tree (omega (arith, from)))
 
 -- ---- their rows join them again
 
-pub requeues : (old new : State) (queued : Queued) (count : ℕ) → Executes insert_outgoing (queued_cells queued) old new (Ok count) → TurnsRows (added outgoing_tree (queued_cells queued)) old.now new.now
+pub requeues : (old new : State) (queued : Queued) (count : ℕ) → Executes insert_outgoing (queued_cells queued) old new (Ok count) → TurnsRows (row_added outgoing_tree (queued_cells queued)) old.now new.now
 requeues old new queued count ran tables h =
     let params = queued_cells queued in
     let on = on_insert mail_schema insert_outgoing params old new tables h insert_outgoing_plain count ran 3 outgoing refl _ insert_outgoing_is in
@@ -122,24 +122,24 @@ requeues old new queued count ran tables h =
     (rw (cast_int queued.id, cast_int queued.kind)) on.1
 
 module _ (tree : ℕ) (columns : Row → Row) where
-  joined_push : (rows : List Row) (cells : Row) (tables : Tables) → joined tree columns (rows ++ cells ∷ []) tables ≡ added tree (columns cells) (joined tree columns rows tables)
+  joined_push : (rows : List Row) (cells : Row) (tables : Tables) → rows_joined tree columns (rows ++ cells ∷ []) tables ≡ row_added tree (columns cells) (rows_joined tree columns rows tables)
   joined_push [] cells tables = refl
-  joined_push (r ∷ rows) cells tables = joined_push rows cells (added tree (columns r) tables)
+  joined_push (r ∷ rows) cells tables = joined_push rows cells (row_added tree (columns r) tables)
 
-  pub one_more_joined : (rows : List Row) (at : ℕ) (d : Row) (cells : Row) → at < length rows → columns (get_or rows at d) ≡ cells → (old between new : Database) → TurnsRows (joined tree columns (take at rows)) old between
-      → TurnsRows (added tree cells) between new → TurnsRows (joined tree columns (take (at + 1) rows)) old new
+  pub one_more_joined : (rows : List Row) (at : ℕ) (d : Row) (cells : Row) → at < length rows → columns (get_or rows at d) ≡ cells → (old between new : Database) → TurnsRows (rows_joined tree columns (take at rows)) old between
+      → TurnsRows (row_added tree cells) between new → TurnsRows (rows_joined tree columns (take (at + 1) rows)) old new
   one_more_joined rows at d cells within is old between new first second tables h =
-      let more = ap (λ l. joined tree columns l tables) (take_more rows at d within) ∙ joined_push (take at rows) (get_or rows at d) tables in
-      let last = subst (λ (c : Row). TurnsRows (added tree c) between new) (sym is) second (joined tree columns (take at rows) tables) (first tables h) in
+      let more = ap (λ l. rows_joined tree columns l tables) (take_more rows at d within) ∙ joined_push (take at rows) (get_or rows at d) tables in
+      let last = subst (λ (c : Row). TurnsRows (row_added tree c) between new) (sym is) second (rows_joined tree columns (take at rows) tables) (first tables h) in
       subst (HoldsTables mail_schema new) (sym more) last
 
-  pub joined_at : (rows : List Row) (tables : Tables) → (tree == tree) ≡ true → joined tree columns rows tables tree ≡ tables tree ++ map columns rows
+  pub joined_at : (rows : List Row) (tables : Tables) → (tree == tree) ≡ true → rows_joined tree columns rows tables tree ≡ tables tree ++ map columns rows
   joined_at [] tables itself = sym (append-nil (tables tree))
-  joined_at (r ∷ rows) tables itself = joined_at rows (added tree (columns r) tables) itself ∙ ap (λ l. l ++ map columns rows) (rw itself refl) ∙ append_assoc (tables tree) (columns r ∷ []) (map columns rows)
+  joined_at (r ∷ rows) tables itself = joined_at rows (row_added tree (columns r) tables) itself ∙ ap (λ l. l ++ map columns rows) (rw itself refl) ∙ append_assoc (tables tree) (columns r ∷ []) (map columns rows)
 
-  pub joined_beside : (other : ℕ) → (other == tree) ≡ false → (rows : List Row) (tables : Tables) → joined tree columns rows tables other ≡ tables other
+  pub joined_beside : (other : ℕ) → (other == tree) ≡ false → (rows : List Row) (tables : Tables) → rows_joined tree columns rows tables other ≡ tables other
   joined_beside other apart [] tables = refl
-  joined_beside other apart (r ∷ rows) tables = joined_beside other apart rows (added tree (columns r) tables) ∙ rw apart refl
+  joined_beside other apart (r ∷ rows) tables = joined_beside other apart rows (row_added tree (columns r) tables) ∙ rw apart refl
 
 -- a table beside the three stays
 restored_beside : (tree : ℕ) → (tree == outgoing_tree) ≡ false → (tree == reply_tree) ≡ false → (tree == notice_tree) ≡ false → (later : Later) (tables : Tables) → restored later tables tree ≡ tables tree
@@ -159,13 +159,13 @@ again columns twice all rows same =
 
 -- the tables as they would be with the copies last
 abbrev pub moved : Later → Tables → Tables
-moved later tables = with_tree (restored later (before oldest_copy_tree tables)) old_copy_tree (tables oldest_copy_tree)
+moved later tables = with_tree (restored later (tables_before oldest_copy_tree tables)) old_copy_tree (tables oldest_copy_tree)
 
 is_moved : (later : Later) (db : Database) (tables : Tables) → HoldsTables oldest_schema db tables → (new : Database) → AreLater later db new → IsMoved tables (moved later tables)
 is_moved later db tables h new is = record {
-  versions = restored_beside meta_tree refl refl refl later (before oldest_copy_tree tables);
-  accounts = restored_beside account_tree refl refl refl later (before oldest_copy_tree tables);
-  scripts = restored_beside script_tree refl refl refl later (before oldest_copy_tree tables);
+  versions = restored_beside meta_tree refl refl refl later (tables_before oldest_copy_tree tables);
+  accounts = restored_beside account_tree refl refl refl later (tables_before oldest_copy_tree tables);
+  scripts = restored_beside scripts_tree refl refl refl later (tables_before oldest_copy_tree tables);
   queue = subst (IsPermutation (map queue_columns (tables oldest_outgoing_tree))) (sym queue_rows) (again queue_columns (λ cells. refl) (tables oldest_outgoing_tree) later.queue.items (is.queue tables h));
   replies = subst (IsPermutation (map four_cells (tables oldest_reply_tree))) (sym reply_rows) (again four_cells (λ cells. refl) (tables oldest_reply_tree) later.replies.items (is.replies tables h));
   notices = subst (IsPermutation (map four_cells (tables oldest_notice_tree))) (sym notice_rows) (again four_cells (λ cells. refl) (tables oldest_notice_tree) later.notices.items (is.notices tables h));
@@ -173,22 +173,22 @@ is_moved later db tables h new is = record {
 }
   where
     empty : Tables
-    empty = before oldest_copy_tree tables
+    empty = tables_before oldest_copy_tree tables
 
     queue_rows : moved later tables outgoing_tree ≡ map queue_columns later.queue.items
-    queue_rows = joined_beside notice_tree four_cells outgoing_tree refl later.notices.items _ ∙ joined_beside reply_tree four_cells outgoing_tree refl later.replies.items _ ∙ joined_at outgoing_tree queue_columns later.queue.items (before oldest_copy_tree tables) refl
+    queue_rows = joined_beside notice_tree four_cells outgoing_tree refl later.notices.items _ ∙ joined_beside reply_tree four_cells outgoing_tree refl later.replies.items _ ∙ joined_at outgoing_tree queue_columns later.queue.items (tables_before oldest_copy_tree tables) refl
 
     reply_rows : moved later tables reply_tree ≡ map four_cells later.replies.items
     reply_rows =
         joined_beside notice_tree four_cells reply_tree refl later.notices.items _ ∙ joined_at reply_tree four_cells later.replies.items _ refl
-        ∙ ap (λ l. l ++ map four_cells later.replies.items) (joined_beside outgoing_tree queue_columns reply_tree refl later.queue.items (before oldest_copy_tree tables))
+        ∙ ap (λ l. l ++ map four_cells later.replies.items) (joined_beside outgoing_tree queue_columns reply_tree refl later.queue.items (tables_before oldest_copy_tree tables))
 
     notice_rows : moved later tables notice_tree ≡ map four_cells later.notices.items
     notice_rows =
         joined_at notice_tree four_cells later.notices.items _ refl
-        ∙ ap (λ l. l ++ map four_cells later.notices.items) (joined_beside reply_tree four_cells notice_tree refl later.replies.items _ ∙ joined_beside outgoing_tree queue_columns notice_tree refl later.queue.items (before oldest_copy_tree tables))
+        ∙ ap (λ l. l ++ map four_cells later.notices.items) (joined_beside reply_tree four_cells notice_tree refl later.replies.items _ ∙ joined_beside outgoing_tree queue_columns notice_tree refl later.queue.items (tables_before oldest_copy_tree tables))
 
-is_cleared : (later : Later) (tables : Tables) → IsCleared (moved later tables) (restored later (before oldest_copy_tree tables))
+is_cleared : (later : Later) (tables : Tables) → IsCleared (moved later tables) (restored later (tables_before oldest_copy_tree tables))
 is_cleared later tables = record {
   versions = refl;
   accounts = refl;
@@ -196,21 +196,21 @@ is_cleared later tables = record {
   queue = refl;
   replies = refl;
   notices = refl;
-  messages = restored_beside message_tree refl refl refl later (before oldest_copy_tree tables);
-  filed = restored_beside copy_tree refl refl refl later (before oldest_copy_tree tables);
+  messages = restored_beside message_tree refl refl refl later (tables_before oldest_copy_tree tables);
+  filed = restored_beside copy_tree refl refl refl later (tables_before oldest_copy_tree tables);
 }
 
 -- what is found, and what is made of it
 pub record Remade (rows : Vec Row Global) (later : Later) (old new : Database) : Type 0 where
   pub copies : (tables : Tables) → HoldsTables oldest_schema old tables → IsPermutation (map old_cells (tables oldest_copy_tree)) rows.items
   pub rest : AreLater later old old
-  pub holds : (tables : Tables) → HoldsTables oldest_schema old tables → HoldsTables mail_schema new (restored later (before oldest_copy_tree tables))
+  pub holds : (tables : Tables) → HoldsTables oldest_schema old tables → HoldsTables mail_schema new (restored later (tables_before oldest_copy_tree tables))
 
 pub remade : (rows : Vec Row Global) (later : Later) (old first second third new : Database) → AreOldCopies rows old first → AreLater later first second → RemakesAll second third → TurnsRows (restored later) third new → Remade rows later old new
 remade rows later old first second third new copies is remakes restores = record {
   copies = copies.fourth;
   rest = record { same = λ _. refl; queue = λ tables h. is.queue tables (at_first tables h); replies = λ tables h. is.replies tables (at_first tables h); notices = λ tables h. is.notices tables (at_first tables h) };
-  holds = λ tables h. restores (before oldest_copy_tree tables) (remakes tables (subst (λ d. HoldsTables oldest_schema d tables) (sym (is.same (at_first tables h).is)) (at_first tables h)));
+  holds = λ tables h. restores (tables_before oldest_copy_tree tables) (remakes tables (subst (λ d. HoldsTables oldest_schema d tables) (sym (is.same (at_first tables h).is)) (at_first tables h)));
 }
   where
     at_first : (tables : Tables) → HoldsTables oldest_schema old tables → HoldsTables oldest_schema first tables
@@ -219,8 +219,8 @@ remade rows later old first second third new copies is remakes restores = record
 pub turns_newest : (rows : Vec Row Global) (later : Later) (old between new : Database) → Remade rows later old between → TurnsRows (λ tables. renewed (filled rows.items tables)) between new → TurnsNewest old new
 turns_newest rows later old between new is refilled tables h = (
   moved later tables,
-  renewed (filled rows.items (restored later (before oldest_copy_tree tables))),
+  renewed (filled rows.items (restored later (tables_before oldest_copy_tree tables))),
   is_moved later old tables h old is.rest,
-  migrated (moved later tables) (restored later (before oldest_copy_tree tables)) rows.items (is_cleared later tables) (is.copies tables h),
-  refilled (restored later (before oldest_copy_tree tables)) (is.holds tables h),
+  migrated (moved later tables) (restored later (tables_before oldest_copy_tree tables)) rows.items (is_cleared later tables) (is.copies tables h),
+  refilled (restored later (tables_before oldest_copy_tree tables)) (is.holds tables h),
 )

@@ -13,13 +13,13 @@ use Rattle.sqlite.specs.Listing.{understood, reads_listing}
 use Rattle.sqlite.proofs.Callers.{IsPlain, command_of}
 use Rattle.sqlite_schema.specs.declared.schema.Index.{Index}
 use Rattle.sqlite_value.specs.Keys.{plain}
-use Rattle.mailtables.specs.Forms.{over}
-use Rattle.mailtables.specs.Schema.{schema_3, schema_6}
-use Rattle.oldtables.specs.OldSchema.{old_copy, create_old_copy, old_copy_tree, oldest_copy_tree, old_schema, oldest_schema, oldest_4, oldest_5, oldest_6, select_old_copies, select_old_queue, select_old_replies, select_old_notices, oldest_outgoing_tree, oldest_reply_tree, oldest_notice_tree, drop_copy, drop_outgoing, drop_reply, drop_notice}
-use Rattle.mailtables.proofs.VersionLemmas.{AsksVersion}
-use Rattle.mailtables.specs.QueueTable.{outgoing}
-use Rattle.mailtables.specs.ReplyTable.{reply}
-use Rattle.mailtables.specs.NoticeTable.{notice}
+use Rattle.store_tables.specs.Forms.{over_table}
+use Rattle.store_tables.specs.Schema.{schema_3, schema_6}
+use Rattle.store_versions.specs.OldSchema.{old_copy, create_old_copy, old_copy_tree, oldest_copy_tree, old_schema, oldest_schema, oldest_4, oldest_5, oldest_6, select_old_copies, select_old_queue, select_old_replies, select_old_notices, oldest_outgoing_tree, oldest_reply_tree, oldest_notice_tree, drop_copy, drop_outgoing, drop_reply, drop_notice}
+use Rattle.store_tables.proofs.VersionLemmas.{AsksVersion}
+use Rattle.store_tables.specs.QueueTable.{outgoing}
+use Rattle.store_tables.specs.ReplyTable.{reply}
+use Rattle.store_tables.specs.NoticeTable.{notice}
 
 -- it is the table that the text of version 1 made
 pub old_copy_defined : table_defined_by create_old_copy ≡ Ok (old_copy 0)
@@ -43,7 +43,7 @@ copy_names = codes "owner" ∷ codes "folder" ∷ codes "n" ∷ codes "message" 
 
 -- what the text of a query without parameters is understood as: all rows of a table
 pub record Selects (schema : Schema) (sql : List ℕ) (tree : ℕ) (project : List Term) (names : List (List ℕ)) : Type 0 where
-  pub is : command_of (understood schema sql) ≡ Select (over tree [] project []) names
+  pub is : command_of (understood schema sql) ≡ Select (over_table tree [] project []) names
   pub plain : IsPlain (understood schema sql)
   pub unlisted : reads_listing schema sql ≡ false
 

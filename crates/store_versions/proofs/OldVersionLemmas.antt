@@ -14,22 +14,22 @@ use Rattle.sqlite.specs.Effect.{Database}
 use Rattle.sqlite.specs.Listing.{understood}
 use Rattle.sqlite.specs.State.{State, Executes}
 use Rattle.sqlite.proofs.Callers.{IsPlain, command_of}
-use Rattle.mailtables.specs.Forms.{over}
-use Rattle.mailtables.specs.Rows.{has_key, removed}
-use Rattle.mailtables.specs.Schema.{mail_schema}
-use Rattle.mailtables.specs.MetaTable.{meta, meta_tree, version_key}
-use Rattle.mailtables.specs.Connection.{TurnsRows}
-use Rattle.mailtables.proofs.TextFacts.{by_one}
-use Rattle.mailtables.proofs.SchemaFacts.{no_works}
-use Rattle.mailtables.proofs.StepLemmas.{on_delete, delete_holds}
-use Rattle.mailtables.proofs.VersionLemmas.{AsksVersion, SaysVersion}
-use Rattle.oldtables.specs.OldSchema.{IsOldSchema, IsOld, delete_version}
-use Rattle.oldtables.specs.SecondSchema.{IsSecondSchema, IsSecond}
-use Rattle.oldtables.specs.declared.version.Older.{Older}
-use Rattle.oldtables.specs.declared.version.Older.TheVariants.{Second, CopiesLast, CopiesFourth}
-use Rattle.oldtables.specs.Upgrade.{IsOlderSchema, IsOlder, version_of}
-use Rattle.oldtables.proofs.OldFacts.{version_last, version_fourth}
-use Rattle.oldtables.proofs.SecondFacts.{version_second, version_unindexed}
+use Rattle.store_tables.specs.Forms.{over_table}
+use Rattle.store_tables.specs.Rows.{has_key, rows_removed}
+use Rattle.store_tables.specs.Schema.{mail_schema}
+use Rattle.store_tables.specs.MetaTable.{meta, meta_tree, version_key}
+use Rattle.store_tables.specs.Connection.{TurnsRows}
+use Rattle.store_tables.proofs.TextFacts.{by_one}
+use Rattle.store_tables.proofs.SchemaFacts.{no_works}
+use Rattle.store_tables.proofs.StepLemmas.{on_delete, delete_holds}
+use Rattle.store_tables.proofs.VersionLemmas.{AsksVersion, SaysVersion}
+use Rattle.store_versions.specs.OldSchema.{IsOldSchema, IsOld, delete_version}
+use Rattle.store_versions.specs.SecondSchema.{IsSecondSchema, IsSecondVersion}
+use Rattle.store_versions.specs.declared.version.Older.{Older}
+use Rattle.store_versions.specs.declared.version.Older.TheVariants.{Second, CopiesLast, CopiesFourth}
+use Rattle.store_versions.specs.Upgrade.{IsOlderSchema, IsOlder, version_of}
+use Rattle.store_versions.proofs.OldFacts.{version_last, version_fourth}
+use Rattle.store_versions.proofs.SecondFacts.{version_second, version_unindexed}
 
 -- the query for it is understood in either order of the tables
 asks_old : (schema : Schema) → IsOldSchema schema → AsksVersion schema
@@ -42,7 +42,7 @@ old_says db old = (λ h. record { row = h.row; only = h.only; says = h.says }, �
 asks_second : (schema : Schema) → IsSecondSchema schema → AsksVersion schema
 asks_second schema second = elim second [ inl is ↦ subst AsksVersion (sym is) version_second | inr is ↦ subst AsksVersion (sym is) version_unindexed ]
 
-second_says : (db : Database) → IsSecondSchema db.schema → IsSecond db ↔ SaysVersion (pos 2) db.trees
+second_says : (db : Database) → IsSecondSchema db.schema → IsSecondVersion db ↔ SaysVersion (pos 2) db.trees
 second_says db second = (λ h. record { row = h.row; only = h.only; says = h.says }, λ h. record { schema = second; row = h.row; only = h.only; says = h.says })
 
 -- in either version
@@ -56,7 +56,7 @@ older_says Second db is = second_says db is
 older_says CopiesLast db is = old_says db is
 older_says CopiesFourth db is = old_says db is
 
-delete_version_is : command_of (understood mail_schema delete_version) ≡ Delete 0 (over meta_tree by_one (col 1 0 ∷ []) [])
+delete_version_is : command_of (understood mail_schema delete_version) ≡ Delete 0 (over_table meta_tree by_one (col 1 0 ∷ []) [])
 unfolding understood everything
 delete_version_is = refl
 
@@ -71,7 +71,7 @@ version_agrees : (n : ℤ) (cells : Row) → has_key version_key cells ≡ true 
 unfolding first_key
 version_agrees n cells h = h
 
-pub removes_version : (old new : State) (count : ℕ) → Executes delete_version version_key old new (Ok count) → TurnsRows (removed meta_tree version_key) old.now new.now
+pub removes_version : (old new : State) (count : ℕ) → Executes delete_version version_key old new (Ok count) → TurnsRows (rows_removed meta_tree version_key) old.now new.now
 removes_version old new count ran tables h =
     let on = on_delete mail_schema delete_version version_key old new tables h delete_version_plain count ran 0 meta refl _ delete_version_is in
     delete_holds mail_schema no_works meta.name meta_tree meta.primary meta.references meta.columns version_key old new tables h (inl refl) meta_index (inl refl) refl version_key (0 ∷ [])

@@ -5,17 +5,17 @@ use Rattle.sqlite_schema.specs.declared.schema.Table.{Table}
 use Rattle.sqlite.specs.Effect.{Database}
 use Rattle.sqlite.specs.State.{State}
 use Rattle.sqlite.proofs.StateLemmas.{survives_weaker}
-use Rattle.mailtables.specs.Schema.{IsOurSchema}
-use Rattle.mailtables.specs.Connection.{SeesCommit, StaysSame}
-use Rattle.mailtables.specs.Ours.{IsOurs, IsOpenedAs, Opens}
-use Rattle.oldtables.specs.declared.opening.Layout.{Layout}
-use Rattle.oldtables.specs.declared.opening.Layout.TheVariants.{Current, Second, CopiesLast, CopiesFourth}
-use Rattle.oldtables.specs.declared.version.Older.{Older}
-use Rattle.oldtables.specs.declared.version.Older.TheVariants as older
-use Rattle.oldtables.specs.OldSchema.{old_schema, oldest_schema, IsOldSchema, IsOld}
-use Rattle.oldtables.specs.SecondSchema.{second_tables, IsSecondSchema, IsSecond}
-use Rattle.oldtables.specs.Upgrade.{IsOlderSchema, IsOlder, MigratesBy, MayOpenOld, OpensOld}
-use Rattle.oldtables.specs.Opening.{IsBehind, IsKnown, LiesAs, Becomes, MayBecome, OpensKnown}
+use Rattle.store_tables.specs.Schema.{IsOurSchema}
+use Rattle.store_tables.specs.Connection.{SeesCommit, StaysSame}
+use Rattle.store_tables.specs.Ours.{IsOurs, IsOpenedAs, OpensOurs}
+use Rattle.store_versions.specs.declared.opening.Layout.{Layout}
+use Rattle.store_versions.specs.declared.opening.Layout.TheVariants.{Current, Second, CopiesLast, CopiesFourth}
+use Rattle.store_versions.specs.declared.version.Older.{Older}
+use Rattle.store_versions.specs.declared.version.Older.TheVariants as older
+use Rattle.store_versions.specs.OldSchema.{old_schema, oldest_schema, IsOldSchema, IsOld}
+use Rattle.store_versions.specs.SecondSchema.{second_tables, IsSecondSchema, IsSecondVersion}
+use Rattle.store_versions.specs.Upgrade.{IsOlderSchema, IsOlder, MigratesBy, MayOpenOld, OpensOld}
+use Rattle.store_versions.specs.Opening.{IsBehind, IsKnown, LiesAs, LayoutBecomes, MayBecome, OpensKnown}
 
 -- ---- no schema is two of them
 
@@ -68,7 +68,7 @@ ours_known db is (inl ours) = ours
 ours_known db is (inr (inl second)) = absurd (second_not_ours db.schema is second.schema)
 ours_known db is (inr (inr old)) = absurd (versions_apart db.schema is old.schema)
 
-pub opens_current : {E : Type 0} (old new : State) (r : Result Bool E) → Opens old new r → OpensKnown Current old new r
+pub opens_current : {E : Type 0} (old new : State) (r : Result Bool E) → OpensOurs old new r → OpensKnown Current old new r
 opens_current old new r h = record {
   found = λ ours clean. means (IsOurs old.now) (IsKnown old.now) (λ is. inl is, ours_known old.now ours) r (h.found ours clean);
   opened = λ ours clean. seen r (h.same ours clean) (h.live ours clean);
@@ -103,7 +103,7 @@ is_behind older.Second schema is = inl is
 is_behind older.CopiesLast schema is = inr is
 is_behind older.CopiesFourth schema is = inr is
 
-second_known : (db : Database) → IsSecondSchema db.schema → IsKnown db → IsSecond db
+second_known : (db : Database) → IsSecondSchema db.schema → IsKnown db → IsSecondVersion db
 second_known db is (inl ours) = absurd (second_not_ours db.schema ours.schema is)
 second_known db is (inr (inl second)) = second
 second_known db is (inr (inr old)) = absurd (second_not_old db.schema is old.schema)
@@ -118,11 +118,11 @@ older_known older.Second db is = (λ second. inr (inl second), second_known db i
 older_known older.CopiesLast db is = (λ old. inr (inr old), old_known db is)
 older_known older.CopiesFourth db is = (λ old. inr (inr old), old_known db is)
 
-module _ {E : Type 0} (layout : Layout) (older : Older) (lies : (schema : Schema) → LiesAs layout schema → IsOlderSchema older schema) (so : (old new : Database) → MigratesBy older old new → Becomes layout old new) where
+module _ {E : Type 0} (layout : Layout) (older : Older) (lies : (schema : Schema) → LiesAs layout schema → IsOlderSchema older schema) (so : (old new : Database) → MigratesBy older old new → LayoutBecomes layout old new) where
   pub opens_older : (old new : State) (r : Result Bool E) → OpensOld older old new r → OpensKnown layout old new r
   opens_older old new r h = record {
     found = λ lie clean. means (IsOlder older old.now) (IsKnown old.now) (older_known older old.now (lies old.now.schema lie)) r (h.found (lies old.now.schema lie) clean);
-    opened = λ lie clean. then_becomes (MigratesBy older old.now new.now × SeesCommit new) (Becomes layout old.now new.now × SeesCommit new) (λ both. (so old.now new.now both.0, both.1)) r (h.migrated (lies old.now.schema lie) clean);
+    opened = λ lie clean. then_becomes (MigratesBy older old.now new.now × SeesCommit new) (LayoutBecomes layout old.now new.now × SeesCommit new) (λ both. (so old.now new.now both.0, both.1)) r (h.migrated (lies old.now.schema lie) clean);
     unknown = λ lie. h.not_old (lies old.now.schema lie);
     refused = λ lie. h.refused (lies old.now.schema lie);
     unchanged = λ lie clean is. absurd (older_apart older old.now.schema (lies old.now.schema lie) is);

@@ -7,12 +7,12 @@ use Rattle.sqlite_resolve.specs.Compile.{table_defined_by}
 use Rattle.sqlite_tied.specs.Compute.{everything}
 use Rattle.sqlite.specs.Does.{is_acted_on}
 use Rattle.sqlite.specs.Listing.{understood}
-use Rattle.mailtables.specs.Schema.{schema_7}
-use Rattle.mailtables.specs.CopyTable.{copy_tree, copy_message}
-use Rattle.mailtables.proofs.VersionLemmas.{AsksVersion}
-use Rattle.oldtables.specs.OldSchema.{drop_copy}
-use Rattle.oldtables.specs.SecondSchema.{second_copy, create_second_copy, second_schema, second_unindexed_schema, select_second_copies}
-use Rattle.oldtables.proofs.OldFacts.{Selects, DropsAt, four_columns}
+use Rattle.store_tables.specs.Schema.{schema_7}
+use Rattle.store_tables.specs.CopyTable.{copy_tree, copy_message}
+use Rattle.store_tables.proofs.VersionLemmas.{AsksVersion}
+use Rattle.store_versions.specs.OldSchema.{drop_copy}
+use Rattle.store_versions.specs.SecondSchema.{second_copy, create_second_copy, second_schema, second_unindexed_schema, select_second_copies}
+use Rattle.store_versions.proofs.OldFacts.{Selects, DropsAt, four_columns}
 
 -- it is the table that the text of version 2 made, after those of today, and so was its index
 pub second_copy_defined : table_defined_by create_second_copy ≡ Ok (record second_copy { tree = 0 })

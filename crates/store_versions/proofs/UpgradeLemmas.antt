@@ -2,12 +2,12 @@
 use Rattle.std.proofs.Common.{◌≡◌, ◌↔◌, Bool, true, false, Ok, Err, Result, IfOk, OnOk, OnErr, IsTrue, refl, sym, ◌∙◌, subst}
 use Rattle.sqlite.specs.State.{State, HasCleanDisk, Survives}
 use Rattle.sqlite.proofs.StateLemmas.{survives_then, survives_weaker}
-use Rattle.mailtables.specs.Connection.{SeesCommit, IsSettled, StaysSame, Asks}
-use Rattle.oldtables.specs.declared.version.Older.{Older}
-use Rattle.oldtables.specs.Upgrade.{IsOlderSchema, IsOlder, MigratesBy, Migrates, MayMigrate, MayOpenOld, OpensOld}
-use Rattle.mailtables.proofs.WriteLemmas.{clean_before}
+use Rattle.store_tables.specs.Connection.{SeesCommit, IsSettled, StaysSame, AsksDatabase}
+use Rattle.store_versions.specs.declared.version.Older.{Older}
+use Rattle.store_versions.specs.Upgrade.{IsOlderSchema, IsOlder, MigratesBy, Migrates, MayMigrate, MayOpenOld, OpensOld}
+use Rattle.store_tables.proofs.WriteLemmas.{clean_before}
 
-module _ {E F : Type 0} (older : Older) (old between new : State) (r : Result Bool E) (asks : Asks (IsOlderSchema older) (λ is. IsTrue is ↔ IsOlder older old.now) old between r) where
+module _ {E F : Type 0} (older : Older) (old between new : State) (r : Result Bool E) (asks : AsksDatabase (IsOlderSchema older) (λ is. IsTrue is ↔ IsOlder older old.now) old between r) where
   -- the query failed
   pub old_refused : (e : F) (q : Result Bool F) → q ≡ Err e → OpensOld older old between q
   old_refused e q is = record {

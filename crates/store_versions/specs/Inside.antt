@@ -6,15 +6,15 @@ use Rattle.sqlite_schema.specs.declared.schema.Schema.{Schema}
 use Rattle.sqlite.specs.declared.error.Error.{Error}
 use Rattle.sqlite.specs.Effect.{Database}
 use Rattle.sqlite.specs.State.{State, FailsToQuery, IsTooLate, KeepsCommit, Shown, Shows}
-use Rattle.mailtables.specs.Rows.{Tables, HoldsTables}
+use Rattle.store_tables.specs.Rows.{Tables, HoldsTables}
 
 -- the answer to the query of this text inside a transaction
 abbrev pub Lists : List ℕ → State → State → Result (Vec Row Global) Error → Type 0
 Lists sql old new result = IfOk result (λ rows. Shown sql [] old new rows.items) × IfErr result (λ e. FailsToQuery sql [] old new e ⊎ IsTooLate sql [] old new e)
 
 -- the last commit stays, and after Ok this is found
-abbrev pub Finds : {X : Type 0} → (X → Database → Database → Type 0) → State → State → Result X Error → Type 0
-Finds Found old new result = KeepsCommit old new × IfOk result (λ x. Found x old.now new.now × Shows old new new.now old.committed true)
+abbrev pub FindsInside : {X : Type 0} → (X → Database → Database → Type 0) → State → State → Result X Error → Type 0
+FindsInside Found old new result = KeepsCommit old new × IfOk result (λ x. Found x old.now new.now × Shows old new new.now old.committed true)
 
 -- the last commit stays, and after Ok what is seen has turned like this, still inside the same transaction
 abbrev pub TurnsInside : {X : Type 0} → (Database → Database → Type 0) → State → State → Result X Error → Type 0

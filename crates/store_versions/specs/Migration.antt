@@ -3,31 +3,31 @@ use Rattle.std.specs.Prelude.{◌≡◌, nat_le, cond, ℕ, List, [], ◌∷◌,
 use Rattle.std.specs.declared.alloc.Global.{Global}
 use Rattle.sqlite_value.specs.Order.{Row}
 use Rattle.sqlite_value.specs.declared.value.Value.TheVariants.{Int, Blob}
-use Rattle.oldtables.specs.declared.migration.OldCopy.{OldCopy}
-use Rattle.oldtables.specs.declared.moving.Later.{Later}
-use Rattle.oldtables.specs.declared.moving.Queued.{Queued}
-use Rattle.oldtables.specs.declared.moving.Replied.{Replied}
-use Rattle.oldtables.specs.declared.moving.Noted.{Noted}
+use Rattle.store_versions.specs.declared.migration.OldCopy.{OldCopy}
+use Rattle.store_versions.specs.declared.moving.Later.{Later}
+use Rattle.store_versions.specs.declared.moving.Queued.{Queued}
+use Rattle.store_versions.specs.declared.moving.Replied.{Replied}
+use Rattle.store_versions.specs.declared.moving.Noted.{Noted}
 use Rattle.sqlite_keyed.specs.Lists.{delete_where}
 use Rattle.sqlite_schema.specs.declared.schema.Schema.{Schema}
 use Rattle.sqlite.specs.Effect.{Database}
-use Rattle.mailtables.specs.Rows.{Tables, HoldsTables, has_key, added, removed}
-use Rattle.mailtables.specs.Schema.{mail_schema, schema_3, schema_6, schema_7}
-use Rattle.oldtables.specs.OldSchema.{IsOldSchema, old_schema, oldest_schema, oldest_4, old_copy_tree, oldest_copy_tree, oldest_outgoing_tree, oldest_reply_tree, oldest_notice_tree, queue_columns, four_cells, old_cells, message_from, copy_from}
-use Rattle.mailtables.specs.MetaTable.{meta_tree, version_key, version_row}
-use Rattle.mailtables.specs.AccountTable.{account_tree}
-use Rattle.mailtables.specs.ScriptTable.{script_tree}
-use Rattle.mailtables.specs.QueueTable.{outgoing_tree}
-use Rattle.mailtables.specs.ReplyTable.{reply_tree}
-use Rattle.mailtables.specs.NoticeTable.{notice_tree}
-use Rattle.mailtables.specs.MessageTable.{message_tree}
-use Rattle.mailtables.specs.CopyTable.{copy_tree}
-use Rattle.oldtables.specs.SecondSchema.{IsSecondSchema}
-use Rattle.oldtables.specs.Inside.{LosesTable}
+use Rattle.store_tables.specs.Rows.{Tables, HoldsTables, has_key, row_added, rows_removed}
+use Rattle.store_tables.specs.Schema.{mail_schema, schema_3, schema_6, schema_7}
+use Rattle.store_versions.specs.OldSchema.{IsOldSchema, old_schema, oldest_schema, oldest_4, old_copy_tree, oldest_copy_tree, oldest_outgoing_tree, oldest_reply_tree, oldest_notice_tree, queue_columns, four_cells, old_cells, message_from, copy_from}
+use Rattle.store_tables.specs.MetaTable.{meta_tree, version_key, version_row}
+use Rattle.store_tables.specs.AccountTable.{account_tree}
+use Rattle.store_tables.specs.ScriptTable.{scripts_tree}
+use Rattle.store_tables.specs.QueueTable.{outgoing_tree}
+use Rattle.store_tables.specs.ReplyTable.{reply_tree}
+use Rattle.store_tables.specs.NoticeTable.{notice_tree}
+use Rattle.store_tables.specs.MessageTable.{message_tree}
+use Rattle.store_tables.specs.CopyTable.{copy_tree}
+use Rattle.store_versions.specs.SecondSchema.{IsSecondSchema}
+use Rattle.store_versions.specs.Inside.{LosesTable}
 
 -- a copy of version 1, as in its row
-abbrev pub cells_of : OldCopy → Row
-cells_of copy = Blob copy.owner.now ∷ Blob copy.folder.now ∷ Int copy.n ∷ Blob copy.message.now ∷ []
+abbrev pub old_copy_cells : OldCopy → Row
+old_copy_cells copy = Blob copy.owner.now ∷ Blob copy.folder.now ∷ Int copy.n ∷ Blob copy.message.now ∷ []
 
 -- the rows are those of version 1's copies, in any order, and what is seen stays as it is
 pub record AreOldCopies (rows : Vec Row Global) (old new : Database) : Type 0 where
@@ -42,16 +42,16 @@ pub record LosesCopies (old new : Database) : Type 0 where
   pub second : (schema : Schema) → IsSecondSchema schema → LosesTable schema schema_7 old new
 
 -- the tables without those from this number on
-abbrev pub before : ℕ → Tables → Tables
-before n tables tree = cond (nat_le n tree) [] (tables tree)
+abbrev pub tables_before : ℕ → Tables → Tables
+tables_before n tables tree = cond (nat_le n tree) [] (tables tree)
 
 -- drops the table of the copies, which is the last, and makes those of the messages and of their copies, without rows
 abbrev pub Remakes : Database → Database → Type 0
-Remakes old new = (tables : Tables) → HoldsTables old_schema old tables → HoldsTables mail_schema new (before old_copy_tree tables)
+Remakes old new = (tables : Tables) → HoldsTables old_schema old tables → HoldsTables mail_schema new (tables_before old_copy_tree tables)
 
 -- a copy of version 1 joins the messages and the copies
 abbrev pub refiled : Row → Tables → Tables
-refiled cells tables = added copy_tree (copy_from cells) (added message_tree (message_from cells) tables)
+refiled cells tables = row_added copy_tree (copy_from cells) (row_added message_tree (message_from cells) tables)
 
 -- these do, in order
 abbrev pub filled : List Row → Tables → Tables
@@ -59,7 +59,7 @@ filled rows tables = fold (λ now cells. refiled cells now) tables rows
 
 -- the row of the version is that of version 3
 abbrev pub renewed : Tables → Tables
-renewed tables = added meta_tree version_row (removed meta_tree version_key tables)
+renewed tables = row_added meta_tree version_row (rows_removed meta_tree version_key tables)
 
 -- from the tables of version 1, with the copies last, these are those of version 3: each copy has its message, of its own number, and the other rows
 -- are as before
@@ -70,7 +70,7 @@ pub record IsMigrated (old new : Tables) : Type 0 where
   pub filed : new copy_tree ≡ map copy_from copies
   pub version : new meta_tree ≡ delete_where (has_key version_key) (old meta_tree) ++ version_row ∷ []
   pub accounts : new account_tree ≡ old account_tree
-  pub scripts : new script_tree ≡ old script_tree
+  pub scripts : new scripts_tree ≡ old scripts_tree
   pub queue : new outgoing_tree ≡ old outgoing_tree
   pub replies : new reply_tree ≡ old reply_tree
   pub notices : new notice_tree ≡ old notice_tree
@@ -99,21 +99,21 @@ pub record AreLater (later : Later) (old new : Database) : Type 0 where
 
 -- drops the tables from the copies on, and makes those of version 3 without rows
 abbrev pub RemakesAll : Database → Database → Type 0
-RemakesAll old new = (tables : Tables) → HoldsTables oldest_schema old tables → HoldsTables mail_schema new (before oldest_copy_tree tables)
+RemakesAll old new = (tables : Tables) → HoldsTables oldest_schema old tables → HoldsTables mail_schema new (tables_before oldest_copy_tree tables)
 
 -- these rows are added to a table, in order
-abbrev pub joined : ℕ → (Row → Row) → List Row → Tables → Tables
-joined tree columns rows tables = fold (λ now cells. added tree (columns cells) now) tables rows
+abbrev pub rows_joined : ℕ → (Row → Row) → List Row → Tables → Tables
+rows_joined tree columns rows tables = fold (λ now cells. row_added tree (columns cells) now) tables rows
 
 -- those of the later tables
 abbrev pub restored : Later → Tables → Tables
-restored later tables = joined notice_tree four_cells later.notices.items (joined reply_tree four_cells later.replies.items (joined outgoing_tree queue_columns later.queue.items tables))
+restored later tables = rows_joined notice_tree four_cells later.notices.items (rows_joined reply_tree four_cells later.replies.items (rows_joined outgoing_tree queue_columns later.queue.items tables))
 
 -- from the tables of version 1 with the copies fourth, these are those with the copies last: each has the rows that it had, in any order
 pub record IsMoved (old new : Tables) : Type 0 where
   pub versions : new meta_tree ≡ old meta_tree
   pub accounts : new account_tree ≡ old account_tree
-  pub scripts : new script_tree ≡ old script_tree
+  pub scripts : new scripts_tree ≡ old scripts_tree
   pub queue : IsPermutation (map queue_columns (old oldest_outgoing_tree)) (new outgoing_tree)
   pub replies : IsPermutation (map four_cells (old oldest_reply_tree)) (new reply_tree)
   pub notices : IsPermutation (map four_cells (old oldest_notice_tree)) (new notice_tree)

@@ -7,13 +7,13 @@ use Rattle.sqlite_catalog.specs.Change.{created}
 use Rattle.sqlite_value.specs.declared.value.Value.TheVariants.{Int, Blob}
 use Rattle.sqlite_value.specs.Order.{Row, column}
 use Rattle.sqlite.specs.Effect.{Database}
-use Rattle.mailtables.specs.MetaTable.{version_rows, stored_value_column}
-use Rattle.mailtables.specs.Forms.{needed, keyed}
-use Rattle.mailtables.specs.AccountTable.{to_account}
-use Rattle.mailtables.specs.QueueTable.{outgoing}
-use Rattle.mailtables.specs.ReplyTable.{reply}
-use Rattle.mailtables.specs.NoticeTable.{notice}
-use Rattle.mailtables.specs.Schema.{schema_3, schema_6}
+use Rattle.store_tables.specs.MetaTable.{version_rows, stored_value_column}
+use Rattle.store_tables.specs.Forms.{needed, keyed}
+use Rattle.store_tables.specs.AccountTable.{to_account}
+use Rattle.store_tables.specs.QueueTable.{outgoing}
+use Rattle.store_tables.specs.ReplyTable.{reply}
+use Rattle.store_tables.specs.NoticeTable.{notice}
+use Rattle.store_tables.specs.Schema.{schema_3, schema_6}
 
 -- the table of the copies of version 1, each with its own octets, by its tree
 abbrev pub old_copy : ℕ → Table

@@ -6,16 +6,16 @@ use Rattle.sqlite_schema.specs.declared.schema.Schema.{Schema}
 use Rattle.sqlite_value.specs.declared.value.Value.TheVariants.{Int, Blob}
 use Rattle.sqlite_value.specs.Order.{Row, column}
 use Rattle.sqlite.specs.Effect.{Database}
-use Rattle.mailtables.specs.MetaTable.{meta, version_rows, stored_value_column}
-use Rattle.mailtables.specs.Forms.{needed, keyed}
-use Rattle.mailtables.specs.AccountTable.{account}
-use Rattle.mailtables.specs.ScriptTable.{script}
-use Rattle.mailtables.specs.QueueTable.{outgoing}
-use Rattle.mailtables.specs.ReplyTable.{reply}
-use Rattle.mailtables.specs.NoticeTable.{notice}
-use Rattle.mailtables.specs.MessageTable.{message}
-use Rattle.mailtables.specs.CopyTable.{copy_tree, to_message}
-use Rattle.mailtables.specs.Schema.{the_keys, the_indexes}
+use Rattle.store_tables.specs.MetaTable.{meta, version_rows, stored_value_column}
+use Rattle.store_tables.specs.Forms.{needed, keyed}
+use Rattle.store_tables.specs.AccountTable.{account}
+use Rattle.store_tables.specs.ScriptTable.{script}
+use Rattle.store_tables.specs.QueueTable.{outgoing}
+use Rattle.store_tables.specs.ReplyTable.{reply}
+use Rattle.store_tables.specs.NoticeTable.{notice}
+use Rattle.store_tables.specs.MessageTable.{message}
+use Rattle.store_tables.specs.CopyTable.{copy_tree, to_message}
+use Rattle.store_tables.specs.Schema.{the_keys, the_indexes}
 
 -- the table of its copies
 abbrev pub second_copy : Table
@@ -42,7 +42,7 @@ abbrev pub IsSecondSchema : Schema → Type 0
 IsSecondSchema schema = (schema ≡ second_schema) ⊎ (schema ≡ second_unindexed_schema)
 
 -- a database of version 2's tables, whose one row of the version says 2
-pub record IsSecond (db : Database) : Type 0 where
+pub record IsSecondVersion (db : Database) : Type 0 where
   pub schema : IsSecondSchema db.schema
   pub row : Row
   pub only : version_rows db.trees ≡ row ∷ []

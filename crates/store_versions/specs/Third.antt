@@ -5,20 +5,20 @@ use Rattle.sqlite_value.specs.Order.{Row}
 use Rattle.sqlite_keyed.specs.Lists.{delete_where}
 use Rattle.sqlite_schema.specs.declared.schema.Schema.{Schema}
 use Rattle.sqlite.specs.Effect.{Database}
-use Rattle.mailtables.specs.Rows.{Tables, HoldsTables, has_key}
-use Rattle.mailtables.specs.Schema.{mail_schema}
-use Rattle.mailtables.specs.MetaTable.{meta_tree, version_key, version_row}
-use Rattle.mailtables.specs.AccountTable.{account_tree}
-use Rattle.mailtables.specs.ScriptTable.{script_tree}
-use Rattle.mailtables.specs.QueueTable.{outgoing_tree}
-use Rattle.mailtables.specs.ReplyTable.{reply_tree}
-use Rattle.mailtables.specs.NoticeTable.{notice_tree}
-use Rattle.mailtables.specs.MessageTable.{message_tree}
-use Rattle.mailtables.specs.CopyTable.{copy_tree, copy_cells}
-use Rattle.oldtables.specs.declared.third.SecondCopy.{SecondCopy}
-use Rattle.oldtables.specs.OldSchema.{four_cells}
-use Rattle.oldtables.specs.SecondSchema.{IsSecondSchema, flagless}
-use Rattle.oldtables.specs.Migration.{before, joined, renewed}
+use Rattle.store_tables.specs.Rows.{Tables, HoldsTables, has_key}
+use Rattle.store_tables.specs.Schema.{mail_schema}
+use Rattle.store_tables.specs.MetaTable.{meta_tree, version_key, version_row}
+use Rattle.store_tables.specs.AccountTable.{account_tree}
+use Rattle.store_tables.specs.ScriptTable.{scripts_tree}
+use Rattle.store_tables.specs.QueueTable.{outgoing_tree}
+use Rattle.store_tables.specs.ReplyTable.{reply_tree}
+use Rattle.store_tables.specs.NoticeTable.{notice_tree}
+use Rattle.store_tables.specs.MessageTable.{message_tree}
+use Rattle.store_tables.specs.CopyTable.{copy_tree, copy_cells}
+use Rattle.store_versions.specs.declared.third.SecondCopy.{SecondCopy}
+use Rattle.store_versions.specs.OldSchema.{four_cells}
+use Rattle.store_versions.specs.SecondSchema.{IsSecondSchema, flagless}
+use Rattle.store_versions.specs.Migration.{tables_before, rows_joined, renewed}
 
 -- a copy of version 2, as a row of version 3
 abbrev pub third_cells : SecondCopy → Row
@@ -31,18 +31,18 @@ pub record AreSecondCopies (rows : Vec Row Global) (old new : Database) : Type 0
 
 -- drops the table of the copies, and makes that of version 3 without rows
 abbrev pub RemakesCopies : Database → Database → Type 0
-RemakesCopies old new = (schema : Schema) → IsSecondSchema schema → (tables : Tables) → HoldsTables schema old tables → HoldsTables mail_schema new (before copy_tree tables)
+RemakesCopies old new = (schema : Schema) → IsSecondSchema schema → (tables : Tables) → HoldsTables schema old tables → HoldsTables mail_schema new (tables_before copy_tree tables)
 
 -- the copies of version 2 are added to those of version 3 in order, and the row of the version is that of version 3
 abbrev pub flagged : List Row → Tables → Tables
-flagged rows tables = renewed (joined copy_tree flagless rows tables)
+flagged rows tables = renewed (rows_joined copy_tree flagless rows tables)
 
 -- from the tables of version 2 these are those of version 3: each copy is as it was, in any order, without flags, and the other rows are as before
 pub record IsThird (old new : Tables) : Type 0 where
   pub filed : IsPermutation (map flagless (old copy_tree)) (new copy_tree)
   pub version : new meta_tree ≡ delete_where (has_key version_key) (old meta_tree) ++ version_row ∷ []
   pub accounts : new account_tree ≡ old account_tree
-  pub scripts : new script_tree ≡ old script_tree
+  pub scripts : new scripts_tree ≡ old scripts_tree
   pub queue : new outgoing_tree ≡ old outgoing_tree
   pub replies : new reply_tree ≡ old reply_tree
   pub notices : new notice_tree ≡ old notice_tree

@@ -4,13 +4,13 @@ use Rattle.sqlite_trees.specs.Tree.{Trees}
 use Rattle.sqlite_schema.specs.declared.schema.Schema.{Schema}
 use Rattle.sqlite.specs.Effect.{Database}
 use Rattle.sqlite.specs.State.{State, HasCleanDisk, Survives}
-use Rattle.mailtables.specs.Connection.{SeesCommit, StaysSame}
-use Rattle.oldtables.specs.declared.version.Older.{Older}
-use Rattle.oldtables.specs.declared.version.Older.TheVariants.{Second, CopiesLast, CopiesFourth}
-use Rattle.oldtables.specs.OldSchema.{IsOldSchema, IsOld}
-use Rattle.oldtables.specs.SecondSchema.{IsSecondSchema, IsSecond}
-use Rattle.oldtables.specs.Migration.{TurnsNew, TurnsNewest}
-use Rattle.oldtables.specs.Third.{TurnsThird}
+use Rattle.store_tables.specs.Connection.{SeesCommit, StaysSame}
+use Rattle.store_versions.specs.declared.version.Older.{Older}
+use Rattle.store_versions.specs.declared.version.Older.TheVariants.{Second, CopiesLast, CopiesFourth}
+use Rattle.store_versions.specs.OldSchema.{IsOldSchema, IsOld}
+use Rattle.store_versions.specs.SecondSchema.{IsSecondSchema, IsSecondVersion}
+use Rattle.store_versions.specs.Migration.{TurnsNew, TurnsNewest}
+use Rattle.store_versions.specs.Third.{TurnsThird}
 
 -- the number of the version
 abbrev pub version_of : Older → ℤ
@@ -26,7 +26,7 @@ IsOlderSchema CopiesFourth = IsOldSchema
 
 -- a database of the version's tables, whose one row of the version says it
 abbrev pub IsOlder : Older → Database → Type 0
-IsOlder Second = IsSecond
+IsOlder Second = IsSecondVersion
 IsOlder CopiesLast = IsOld
 IsOlder CopiesFourth = IsOld
 

@@ -2,14 +2,14 @@
 ghost use Rattle.std.specs.Prelude.{◌≡◌, IfOk};
 ghost use Rattle.sqlite_value.specs.declared.value.Value.TheVariants.{Int, Blob};
 ghost use Rattle.sqlite_value.specs.Order.{column};
-ghost use Rattle.mailtables.specs.Connection.{RunsInside, Makes, TurnsRows, ChangesRows};
-ghost use Rattle.oldtables.specs.Inside.{TurnsInside, Finds};
-ghost use Rattle.oldtables.specs.OldSchema.{old_cells};
-ghost use Rattle.oldtables.specs.Migration.{cells_of, AreOldCopies, LosesCopies, Remakes, TurnsNew, refiled, filled, renewed};
+ghost use Rattle.store_tables.specs.Connection.{RunsInside, Makes, TurnsRows, ChangesRows};
+ghost use Rattle.store_versions.specs.Inside.{TurnsInside, FindsInside};
+ghost use Rattle.store_versions.specs.OldSchema.{old_cells};
+ghost use Rattle.store_versions.specs.Migration.{old_copy_cells, AreOldCopies, LosesCopies, Remakes, TurnsNew, refiled, filled, renewed};
 
 use crate::statement::list;
 use crate::version::remove_version;
-use mailtables::{add_copy, add_message, add_version, execute, make_folders};
+use store_tables::{add_copy, add_message, add_version, execute, make_folders};
 use sqlite::{Alter, Error, Row, Transaction};
 use sqlite_value::value::ValueRef;
 
@@ -34,7 +34,7 @@ pub(crate) fn text_at<'a>(row: &'a Row, at: usize) -> Result<&'a [u8], Error>
 
 /// The copy that the row shows.
 fn copy_in<'a>(row: &'a Row) -> Result<OldCopy<'a>, Error>
-    ensures { IfOk result (λ copy. old_cells row.now ≡ cells_of copy) }
+    ensures { IfOk result (λ copy. old_cells row.now ≡ old_copy_cells copy) }
 {
     let owner = text_at(row, 0)?;
     let folder = text_at(row, 1)?;
@@ -50,7 +50,7 @@ fn copy_in<'a>(row: &'a Row) -> Result<OldCopy<'a>, Error>
 
 /// The rows of the copies, inside a transaction.
 pub(crate) fn find_copies<S: Alter>(tx: &mut Transaction<'_, S>) -> Result<Vec<Row>, Error>
-    ensures { RunsInside S.Store (Finds AreOldCopies) tx.old tx.new result }
+    ensures { RunsInside S.Store (FindsInside AreOldCopies) tx.old tx.new result }
 {
     list(tx, "SELECT owner, folder, n, message FROM copy")
 }
@@ -72,7 +72,7 @@ fn remake<S: Alter>(tx: &mut Transaction<'_, S>) -> Result<(), Error>
 
 /// Adds the copy to the messages and, without flags, to the copies, inside a transaction.
 fn refile<S: Alter>(tx: &mut Transaction<'_, S>, copy: &OldCopy<'_>) -> Result<(), Error>
-    ensures { ChangesRows S.Store (refiled (cells_of copy.now)) tx.old tx.new result }
+    ensures { ChangesRows S.Store (refiled (old_copy_cells copy.now)) tx.old tx.new result }
 {
     add_message(tx, copy.owner, &copy.n, copy.message)?;
     add_copy(tx, copy.owner, copy.folder, &copy.n, &copy.n, b"")

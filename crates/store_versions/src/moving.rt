@@ -1,18 +1,18 @@
 //! Migrates version 1 with the table of the copies fourth: the tables from it on are made again, with their rows, in today's order.
 ghost use Rattle.std.specs.Prelude.{◌≡◌, IfOk};
-ghost use Rattle.mailtables.specs.Connection.{RunsInside, Makes, TurnsRows, ChangesRows};
-ghost use Rattle.oldtables.specs.Inside.{TurnsInside, Finds, LosesTable};
-ghost use Rattle.mailtables.specs.Rows.{added};
-ghost use Rattle.mailtables.specs.Schema.{schema_3};
-ghost use Rattle.mailtables.specs.QueueTable.{outgoing_tree};
-ghost use Rattle.mailtables.specs.ReplyTable.{reply_tree};
-ghost use Rattle.mailtables.specs.NoticeTable.{notice_tree};
-ghost use Rattle.oldtables.specs.OldSchema.{oldest_schema, oldest_4, oldest_5, oldest_6, oldest_outgoing_tree, oldest_reply_tree, oldest_notice_tree, queue_columns, four_cells};
-ghost use Rattle.oldtables.specs.Migration.{AreOldRows, AreLater, RemakesAll, TurnsNewest, joined, restored, queued_cells, replied_cells, noted_cells};
+ghost use Rattle.store_tables.specs.Connection.{RunsInside, Makes, TurnsRows, ChangesRows};
+ghost use Rattle.store_versions.specs.Inside.{TurnsInside, FindsInside, LosesTable};
+ghost use Rattle.store_tables.specs.Rows.{row_added};
+ghost use Rattle.store_tables.specs.Schema.{schema_3};
+ghost use Rattle.store_tables.specs.QueueTable.{outgoing_tree};
+ghost use Rattle.store_tables.specs.ReplyTable.{reply_tree};
+ghost use Rattle.store_tables.specs.NoticeTable.{notice_tree};
+ghost use Rattle.store_versions.specs.OldSchema.{oldest_schema, oldest_4, oldest_5, oldest_6, oldest_outgoing_tree, oldest_reply_tree, oldest_notice_tree, queue_columns, four_cells};
+ghost use Rattle.store_versions.specs.Migration.{AreOldRows, AreLater, RemakesAll, TurnsNewest, rows_joined, restored, queued_cells, replied_cells, noted_cells};
 
 use crate::migration::{drop_copy, find_copies, refill, text_at};
 use crate::statement::list;
-use mailtables::{add_notice, add_reply, execute, make_folders, make_later};
+use store_tables::{add_notice, add_reply, execute, make_folders, make_later};
 use sqlite::{Alter, Error, Row, Transaction, params};
 
 /// The rows of the queue, the replies and the notices.
@@ -106,7 +106,7 @@ fn noted_in<'a>(row: &'a Row) -> Result<Noted<'a>, Error>
 
 /// The rows of the queue, inside a transaction.
 fn find_queue<S: Alter>(tx: &mut Transaction<'_, S>) -> Result<Vec<Row>, Error>
-    ensures { RunsInside S.Store (Finds (AreOldRows oldest_outgoing_tree queue_columns)) tx.old tx.new result }
+    ensures { RunsInside S.Store (FindsInside (AreOldRows oldest_outgoing_tree queue_columns)) tx.old tx.new result }
 {
     list(
         tx,
@@ -116,21 +116,21 @@ fn find_queue<S: Alter>(tx: &mut Transaction<'_, S>) -> Result<Vec<Row>, Error>
 
 /// The rows of the replies, inside a transaction.
 fn find_replies<S: Alter>(tx: &mut Transaction<'_, S>) -> Result<Vec<Row>, Error>
-    ensures { RunsInside S.Store (Finds (AreOldRows oldest_reply_tree four_cells)) tx.old tx.new result }
+    ensures { RunsInside S.Store (FindsInside (AreOldRows oldest_reply_tree four_cells)) tx.old tx.new result }
 {
     list(tx, "SELECT owner, handle, sender, moment FROM reply")
 }
 
 /// The rows of the notices, inside a transaction.
 fn find_notices<S: Alter>(tx: &mut Transaction<'_, S>) -> Result<Vec<Row>, Error>
-    ensures { RunsInside S.Store (Finds (AreOldRows oldest_notice_tree four_cells)) tx.old tx.new result }
+    ensures { RunsInside S.Store (FindsInside (AreOldRows oldest_notice_tree four_cells)) tx.old tx.new result }
 {
     list(tx, "SELECT owner, id, moment, text FROM notice")
 }
 
 /// The rows of all three, inside a transaction.
 fn find_later<S: Alter>(tx: &mut Transaction<'_, S>) -> Result<Later, Error>
-    ensures { RunsInside S.Store (Finds AreLater) tx.old tx.new result }
+    ensures { RunsInside S.Store (FindsInside AreLater) tx.old tx.new result }
 {
     let queue = find_queue(tx)?;
     let replies = find_replies(tx)?;
@@ -191,7 +191,7 @@ fn remake_all<S: Alter>(tx: &mut Transaction<'_, S>) -> Result<(), Error>
 
 /// Adds the message to the queue, as it was in its row, inside a transaction.
 fn requeue<S: Alter>(tx: &mut Transaction<'_, S>, queued: &Queued<'_>) -> Result<(), Error>
-    ensures { ChangesRows S.Store (added outgoing_tree (queued_cells queued.now)) tx.old tx.new result }
+    ensures { ChangesRows S.Store (row_added outgoing_tree (queued_cells queued.now)) tx.old tx.new result }
 {
     execute(
         tx,
@@ -209,7 +209,7 @@ fn requeue<S: Alter>(tx: &mut Transaction<'_, S>, queued: &Queued<'_>) -> Result
 
 /// Adds the moment to the replies, inside a transaction.
 fn rereply<S: Alter>(tx: &mut Transaction<'_, S>, replied: &Replied<'_>) -> Result<(), Error>
-    ensures { ChangesRows S.Store (added reply_tree (replied_cells replied.now)) tx.old tx.new result }
+    ensures { ChangesRows S.Store (row_added reply_tree (replied_cells replied.now)) tx.old tx.new result }
 {
     add_reply(
         tx,
@@ -222,14 +222,14 @@ fn rereply<S: Alter>(tx: &mut Transaction<'_, S>, replied: &Replied<'_>) -> Resu
 
 /// Adds the notice to the notices, inside a transaction.
 fn renote<S: Alter>(tx: &mut Transaction<'_, S>, noted: &Noted<'_>) -> Result<(), Error>
-    ensures { ChangesRows S.Store (added notice_tree (noted_cells noted.now)) tx.old tx.new result }
+    ensures { ChangesRows S.Store (row_added notice_tree (noted_cells noted.now)) tx.old tx.new result }
 {
     add_notice(tx, noted.owner, &noted.id, &noted.moment, noted.text)
 }
 
 /// Adds the rows to the queue in order, inside a transaction.
 fn fill_queue<S: Alter>(tx: &mut Transaction<'_, S>, rows: &[Row]) -> Result<(), Error>
-    ensures { RunsInside S.Store (TurnsInside (TurnsRows (joined outgoing_tree queue_columns rows.now))) tx.old tx.new result }
+    ensures { RunsInside S.Store (TurnsInside (TurnsRows (rows_joined outgoing_tree queue_columns rows.now))) tx.old tx.new result }
 {
     for row in rows {
         let queued = queued_in(row)?;
@@ -240,7 +240,7 @@ fn fill_queue<S: Alter>(tx: &mut Transaction<'_, S>, rows: &[Row]) -> Result<(),
 
 /// Adds the rows to the replies in order, inside a transaction.
 fn fill_replies<S: Alter>(tx: &mut Transaction<'_, S>, rows: &[Row]) -> Result<(), Error>
-    ensures { RunsInside S.Store (TurnsInside (TurnsRows (joined reply_tree four_cells rows.now))) tx.old tx.new result }
+    ensures { RunsInside S.Store (TurnsInside (TurnsRows (rows_joined reply_tree four_cells rows.now))) tx.old tx.new result }
 {
     for row in rows {
         let replied = replied_in(row)?;
@@ -251,7 +251,7 @@ fn fill_replies<S: Alter>(tx: &mut Transaction<'_, S>, rows: &[Row]) -> Result<(
 
 /// Adds the rows to the notices in order, inside a transaction.
 fn fill_notices<S: Alter>(tx: &mut Transaction<'_, S>, rows: &[Row]) -> Result<(), Error>
-    ensures { RunsInside S.Store (TurnsInside (TurnsRows (joined notice_tree four_cells rows.now))) tx.old tx.new result }
+    ensures { RunsInside S.Store (TurnsInside (TurnsRows (rows_joined notice_tree four_cells rows.now))) tx.old tx.new result }
 {
     for row in rows {
         let noted = noted_in(row)?;

@@ -1,12 +1,12 @@
 //! Opens a database of any version.
 ghost use Rattle.std.specs.Prelude.{◌≡◌, false, IfSome, IfNone};
 ghost use Rattle.sqlite.specs.Held.{state};
-ghost use Rattle.oldtables.specs.Opening.{IsKnownSchema, LiesAs, OpensKnown};
+ghost use Rattle.store_versions.specs.Opening.{IsKnownSchema, LiesAs, OpensKnown};
 
 use crate::schema::{is_old, is_oldest, is_second};
 use crate::upgrade::open_old;
 use crate::version::Older;
-use mailtables::{is_ours, open_tables};
+use store_tables::{is_ours, open_tables};
 use sqlite::{Alter, Connection, Error};
 use sqlite_schema::schema::Schema;
 

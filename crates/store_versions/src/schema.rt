@@ -1,17 +1,14 @@
 //! Checks whether the tables of a database are those of version 2, or of version 1 in either order, and no others.
 ghost use Rattle.std.specs.Prelude.{◌≡◌, ◌⊎◌, ◌↔◌, [], ◌∷◌, IsTrue};
-ghost use Rattle.mailtables.specs.QueueTable.{outgoing as the_outgoing};
-ghost use Rattle.mailtables.specs.ReplyTable.{reply as the_reply};
-ghost use Rattle.mailtables.specs.NoticeTable.{notice as the_notice};
-ghost use Rattle.mailtables.specs.MessageTable.{message as the_message};
-ghost use Rattle.mailtables.specs.Schema.{the_keys, the_indexes};
-ghost use Rattle.oldtables.specs.OldSchema.{old_copy, old_schema, oldest_schema};
-ghost use Rattle.oldtables.specs.SecondSchema.{second_copy, second_tables, IsSecondSchema};
+ghost use Rattle.store_tables.specs.QueueTable.{outgoing as the_outgoing};
+ghost use Rattle.store_tables.specs.ReplyTable.{reply as the_reply};
+ghost use Rattle.store_tables.specs.NoticeTable.{notice as the_notice};
+ghost use Rattle.store_tables.specs.MessageTable.{message as the_message};
+ghost use Rattle.store_tables.specs.Schema.{the_keys, the_indexes};
+ghost use Rattle.store_versions.specs.OldSchema.{old_copy, old_schema, oldest_schema};
+ghost use Rattle.store_versions.specs.SecondSchema.{second_copy, second_tables, IsSecondSchema};
 
-use mailtables::schema::{
-    Parents, are_all, are_indexes, are_keys, is_account, is_message, is_meta, is_notice,
-    is_outgoing, is_reply, is_script, is_table, key_of, needed,
-};
+use store_tables::schema::{Parents, are_all, are_indexes, are_keys, is_account, is_message, is_meta, is_notice, is_outgoing, is_reply, is_script, is_table, key_of, needed};
 use sqlite_schema::schema::{Index, Kind, Schema, Table};
 
 /// Whether this is the table of version 1's copies.

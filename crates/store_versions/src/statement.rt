@@ -1,6 +1,6 @@
 //! A query inside a transaction.
-ghost use Rattle.mailtables.specs.Connection.{RunsInside};
-ghost use Rattle.oldtables.specs.Inside.{Lists};
+ghost use Rattle.store_tables.specs.Connection.{RunsInside};
+ghost use Rattle.store_versions.specs.Inside.{Lists};
 
 use sqlite::{Alter, Error, Row, Transaction};
 

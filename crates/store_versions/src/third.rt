@@ -1,16 +1,16 @@
 //! Migrates a database of version 2 to version 3: the table of the copies is made again, without flags.
 ghost use Rattle.std.specs.Prelude.{◌≡◌, IfOk};
-ghost use Rattle.mailtables.specs.Connection.{RunsInside, Makes, TurnsRows, ChangesRows};
-ghost use Rattle.mailtables.specs.CopyTable.{copy_tree};
-ghost use Rattle.mailtables.specs.Rows.{added};
-ghost use Rattle.oldtables.specs.Inside.{TurnsInside, Finds};
-ghost use Rattle.oldtables.specs.Migration.{joined};
-ghost use Rattle.oldtables.specs.SecondSchema.{flagless};
-ghost use Rattle.oldtables.specs.Third.{AreSecondCopies, RemakesCopies, TurnsThird, flagged, third_cells};
+ghost use Rattle.store_tables.specs.Connection.{RunsInside, Makes, TurnsRows, ChangesRows};
+ghost use Rattle.store_tables.specs.CopyTable.{copy_tree};
+ghost use Rattle.store_tables.specs.Rows.{row_added};
+ghost use Rattle.store_versions.specs.Inside.{TurnsInside, FindsInside};
+ghost use Rattle.store_versions.specs.Migration.{rows_joined};
+ghost use Rattle.store_versions.specs.SecondSchema.{flagless};
+ghost use Rattle.store_versions.specs.Third.{AreSecondCopies, RemakesCopies, TurnsThird, flagged, third_cells};
 
 use crate::migration::{drop_copy, renew_version, text_at};
 use crate::statement::list;
-use mailtables::{add_copy, make_copies};
+use store_tables::{add_copy, make_copies};
 use sqlite::{Alter, Error, Row, Transaction};
 
 /// A copy of a message, as version 2 stores it: with the message's number.
@@ -40,7 +40,7 @@ fn second_in<'a>(row: &'a Row) -> Result<SecondCopy<'a>, Error>
 
 /// The rows of the copies, inside a transaction.
 fn find_second<S: Alter>(tx: &mut Transaction<'_, S>) -> Result<Vec<Row>, Error>
-    ensures { RunsInside S.Store (Finds AreSecondCopies) tx.old tx.new result }
+    ensures { RunsInside S.Store (FindsInside AreSecondCopies) tx.old tx.new result }
 {
     list(tx, "SELECT owner, folder, n, id FROM copy")
 }
@@ -55,14 +55,14 @@ fn remake_copies<S: Alter>(tx: &mut Transaction<'_, S>) -> Result<(), Error>
 
 /// Adds the copy to the copies, without flags, inside a transaction.
 fn recopy<S: Alter>(tx: &mut Transaction<'_, S>, copy: &SecondCopy<'_>) -> Result<(), Error>
-    ensures { ChangesRows S.Store (added copy_tree (third_cells copy.now)) tx.old tx.new result }
+    ensures { ChangesRows S.Store (row_added copy_tree (third_cells copy.now)) tx.old tx.new result }
 {
     add_copy(tx, copy.owner, copy.folder, &copy.n, &copy.id, b"")
 }
 
 /// Adds the copies in the rows in order, inside a transaction.
 fn fill_copies<S: Alter>(tx: &mut Transaction<'_, S>, rows: &[Row]) -> Result<(), Error>
-    ensures { RunsInside S.Store (TurnsInside (TurnsRows (joined copy_tree flagless rows.now))) tx.old tx.new result }
+    ensures { RunsInside S.Store (TurnsInside (TurnsRows (rows_joined copy_tree flagless rows.now))) tx.old tx.new result }
 {
     for row in rows {
         let copy = second_in(row)?;

@@ -2,8 +2,8 @@
 ghost use Rattle.std.specs.Prelude.{◌≡◌, false, OnOk, OnErr};
 ghost use Rattle.sqlite.specs.Held.{state};
 ghost use Rattle.sqlite.specs.State.{Survives, HasCleanDisk};
-ghost use Rattle.mailtables.specs.Connection.{RunsInside, Makes, IsSettled, StaysSame};
-ghost use Rattle.oldtables.specs.Upgrade.{MigratesBy, Migrates, MayMigrate, OpensOld};
+ghost use Rattle.store_tables.specs.Connection.{RunsInside, Makes, IsSettled, StaysSame};
+ghost use Rattle.store_versions.specs.Upgrade.{MigratesBy, Migrates, MayMigrate, OpensOld};
 
 use crate::migration::migrate_last;
 use crate::moving::migrate_fourth;

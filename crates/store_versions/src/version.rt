@@ -1,12 +1,12 @@
 //! The row of the version, if it is an earlier one.
 ghost use Rattle.std.specs.Prelude.{◌≡◌, false, ◌↔◌, IfOk, IsTrue};
 ghost use Rattle.sqlite.specs.Held.{state};
-ghost use Rattle.mailtables.specs.MetaTable.{version_key, meta_tree, Says};
-ghost use Rattle.mailtables.specs.Connection.{Asks, Queries, ChangesRows};
-ghost use Rattle.mailtables.specs.Rows.{removed};
-ghost use Rattle.oldtables.specs.Upgrade.{IsOlder, IsOlderSchema, version_of};
+ghost use Rattle.store_tables.specs.MetaTable.{version_key, meta_tree, HoldsVersion};
+ghost use Rattle.store_tables.specs.Connection.{AsksDatabase, Queries, ChangesRows};
+ghost use Rattle.store_tables.specs.Rows.{rows_removed};
+ghost use Rattle.store_versions.specs.Upgrade.{IsOlder, IsOlderSchema, version_of};
 
-use mailtables::{are_version, execute, find_version};
+use store_tables::{are_version, execute, find_version};
 use sqlite::{Alter, Connection, Error, Row, Transaction, params};
 
 /// The tables of an earlier version.
@@ -22,7 +22,7 @@ pub(crate) enum Older {
 
 /// Whether there is one row, and it says the version.
 fn are_older(rows: &[Row], older: Older) -> Result<bool, Error>
-    ensures { IfOk result (λ is. IsTrue is ↔ Says (version_of older) rows.now) }
+    ensures { IfOk result (λ is. IsTrue is ↔ HoldsVersion (version_of older) rows.now) }
 {
     match older {
         Older::Second => are_version(rows, &2),
@@ -33,7 +33,7 @@ fn are_older(rows: &[Row], older: Older) -> Result<bool, Error>
 
 /// Removes the rows of the version, inside a transaction.
 pub(crate) fn remove_version<S: Alter>(tx: &mut Transaction<'_, S>) -> Result<(), Error>
-    ensures { ChangesRows S.Store (removed meta_tree version_key) tx.old tx.new result }
+    ensures { ChangesRows S.Store (rows_removed meta_tree version_key) tx.old tx.new result }
 {
     execute(tx, "DELETE FROM meta WHERE item = ?1", params!["version"])
 }
@@ -44,7 +44,7 @@ pub(crate) fn has_old_version<S: Alter>(
     older: Older,
 ) -> Result<bool, Error>
     requires { conn.old.in_transaction ≡ false }
-    ensures { Queries S.Store (Asks (IsOlderSchema older) (λ is. IsTrue is ↔ IsOlder older (state S.Store conn.old).now)) conn.old conn.new result }
+    ensures { Queries S.Store (AsksDatabase (IsOlderSchema older) (λ is. IsTrue is ↔ IsOlder older (state S.Store conn.old).now)) conn.old conn.new result }
 {
     let rows = find_version(conn)?;
     are_older(&rows, older)

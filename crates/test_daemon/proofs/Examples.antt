@@ -4,17 +4,17 @@ use Rattle.std.specs.FinMap.{empty, get, get-empty}
 use Rattle.std.specs.Ordering.{nat_cmp}
 use Rattle.std.specs.BTreeMap as tree
 use Rattle.std.specs.Map.{lookup}
-use Rattle.mailstore.specs.Account.{Accounts}
-use Rattle.sessions.specs.declared.progress.Progress.TheVariants.{Done}
-use Rattle.mailengine.specs.Hosts.{Kept}
-use Rattle.mailengine.specs.World.{World, InSession, Steps, Next, Runs}
-use Rattle.mailengine.specs.declared.answer.Answer.{Answer}
-use Rattle.mailengine.specs.declared.answer.Answer.TheVariants.{Out, Ignored}
-use Rattle.mailengine.specs.declared.event.Event.{Event}
-use Rattle.mailengine.specs.declared.event.Event.TheVariants.{Step, TakeMail}
-use Rattle.sieveddaemon.specs.Desk.{View, IsWorld}
-use Rattle.sieveddaemon.proofs.EventLemmas.{none_open}
-use Rattle.daemonfakes.specs.Shelves.{IsApplied, LetsOthers, is_of_accounts}
+use Rattle.store_accounts.specs.Account.{Accounts}
+use Rattle.managesieve_sessions.specs.declared.progress.Progress.TheVariants.{Done}
+use Rattle.store_engine.specs.Hosts.{SessionMap}
+use Rattle.store_engine.specs.World.{World, InSession, StepsSession, Next, Runs}
+use Rattle.store_engine.specs.declared.answer.Answer.{Answer}
+use Rattle.store_engine.specs.declared.answer.Answer.TheVariants.{Out, Ignored}
+use Rattle.store_engine.specs.declared.event.Event.{Event}
+use Rattle.store_engine.specs.declared.event.Event.TheVariants.{Step, TakeMail}
+use Rattle.daemon_core.specs.StoreAccess.{View, IsWorld}
+use Rattle.daemon_core.proofs.EventLemmas.{none_open}
+use Rattle.test_daemon.specs.Shelves.{IsApplied, LetsOthers, is_of_accounts}
 
 -- an event of accounts, and one of a session
 mail_taken : (user folder : List ℕ) → is_of_accounts (TakeMail user folder) ≡ true
@@ -27,7 +27,7 @@ a_step s = refl
 abbrev are : View Accounts
 are = record { shows = λ held accounts. held ≡ accounts; leaves = λ held trees. ⊥ }
 
-module _ (kept : Kept) (new : kept.entries ≡ []) (a b : Accounts) where
+module _ (kept : SessionMap) (new : kept.entries ≡ []) (a b : Accounts) where
   abbrev start : World
   start = record { accounts = a; sessions = empty }
 
@@ -38,14 +38,14 @@ module _ (kept : Kept) (new : kept.entries ≡ []) (a b : Accounts) where
   ignored : IsApplied are (Step 1) Ignored a kept a kept
   ignored = λ w is.
       let none : get w.sessions 1 ≡ None = sym (is.sessions 1) ∙ ap (λ es. option_map (λ session. session.client) (lookup (tree.is_at (nat_cmp 1)) es)) new in
-      (w, inl (subst (λ o. InSession w o (Steps w 1) Ignored w) (sym none) (record { ignored = refl; stays = refl })), record { is = is; left = λ trees left. absurd left })
+      (w, inl (subst (λ o. InSession w o (StepsSession w 1) Ignored w) (sym none) (record { ignored = refl; stays = refl })), record { is = is; left = λ trees left. absurd left })
 
   never_done : IsApplied are (Step 1) (Out Done []) a kept b kept → ⊥
   never_done applied = go (applied start stands).1
     where
       go : {next : World} → Next start (Step 1) (Out Done []) next → ⊥
       go {next} (inl is) =
-          let ignores = subst (λ o. InSession start o (Steps start 1) (Out Done []) next) (get-empty nat_cmp 1) is in
+          let ignores = subst (λ o. InSession start o (StepsSession start 1) (Out Done []) next) (get-empty nat_cmp 1) is in
           let never : ⊥ = let is_ignored : Out Done [] ≡ Ignored = ignores.ignored in cc in absurd never
       go {next} (inr is) = let never : ⊥ = let refused = is.refused in cc in absurd never
 

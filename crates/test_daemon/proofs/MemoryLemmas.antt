@@ -4,25 +4,25 @@ use Rattle.sqlite_trees.specs.declared.memory.MemStore.{MemStore}
 use Rattle.sqlite.specs.Held.{Held, state}
 use Rattle.sqlite.specs.Steps.{over_memory}
 use Rattle.sqlite.proofs.Callers.{memory_is_clean}
-use Rattle.mailstore.specs.Account.{Accounts}
-use Rattle.mailstore.specs.Connection.{StaysSame}
-use Rattle.mailstore.specs.Shows.{Presents}
-use Rattle.mailstore.specs.declared.refusal.Refusal.{Refusal}
-use Rattle.sessions.specs.Acts.{Lasts}
-use Rattle.mailengine.specs.Hosts.{Row, TurnsBy, ActsBy, answer_by}
-use Rattle.mailengine.specs.World.{World, Happens, Next, MayRefuse}
-use Rattle.mailengine.specs.declared.answer.Answer.{Answer}
-use Rattle.mailengine.specs.declared.event.Event.{Event}
-use Rattle.daemonfakes.specs.Memory.{memory_view_of, view_of}
-use Rattle.daemonfakes.specs.Shelves.{IsLet}
-use Rattle.daemonfakes.specs.declared.memory.MemShelf.{MemShelf}
+use Rattle.store_accounts.specs.Account.{Accounts}
+use Rattle.store_accounts.specs.Connection.{StaysSame}
+use Rattle.store_accounts.specs.Shows.{Presents}
+use Rattle.store_accounts.specs.declared.refusal.Refusal.{Refusal}
+use Rattle.managesieve_sessions.specs.Acts.{Lasts}
+use Rattle.store_engine.specs.Hosts.{Row, TurnsBy, ActsBy, answer_by}
+use Rattle.store_engine.specs.World.{World, EventHappens, Next, MayRefuseEvent}
+use Rattle.store_engine.specs.declared.answer.Answer.{Answer}
+use Rattle.store_engine.specs.declared.event.Event.{Event}
+use Rattle.test_daemon.specs.Memory.{memory_view_of, shelf_view}
+use Rattle.test_daemon.specs.Shelves.{IsLet}
+use Rattle.test_daemon.specs.declared.memory.MemShelf.{MemShelf}
 
 abbrev with : World → Accounts → World
 with w later = record { accounts = later; sessions = w.sessions }
 
 -- an event of accounts that a call made of the store; of one that was refused nothing is left, since memory has what was committed alone
-module _ (event : Event) (By : Row) (May : Refusal → Type 0) (may : (w : World) (refusal : Refusal) → May refusal → MayRefuse w event refusal)
-    (happens : (w : World) (answer : Answer) (later : Accounts) → By w.accounts answer later → Happens w event answer (with w later)) (old new : Held MemStore) where
+module _ (event : Event) (By : Row) (May : Refusal → Type 0) (may : (w : World) (refusal : Refusal) → May refusal → MayRefuseEvent w event refusal)
+    (happens : (w : World) (answer : Answer) (later : Accounts) → By w.accounts answer later → EventHappens w event answer (with w later)) (old new : Held MemStore) where
   next_by : (w : World) (answer : Answer) (later : Accounts) → TurnsBy By May answer w.accounts later → Next w event answer (with w later)
   next_by w answer later (inl row) = inl (happens w answer later row)
   next_by w answer later (inr (refusal, is_may, is, same)) = inr (record { refusal = refusal; may = may w refusal is_may; refused = is; stays = ap (with w) same })
@@ -49,6 +49,6 @@ module _ (event : Event) (By : Row) (May : Refusal → Type 0) (may : (w : World
   lets_by told q b is acts = subst (λ x. IsLet memory_view_of event x old new) (sym is) (by_result told q q acts refl)
 
 -- on a shelf
-pub on_shelf : (event : Event) (b : Bool) (s t : MemShelf) → IsLet memory_view_of event b s.store t.store → IsLet view_of event b s t
+pub on_shelf : (event : Event) (b : Bool) (s t : MemShelf) → IsLet memory_view_of event b s.store t.store → IsLet shelf_view event b s t
 on_shelf event true s t lets = lets
 on_shelf event false s t lets = lets

@@ -1,22 +1,22 @@
 -- Events of others, and what follows them, on accounts that are kept in memory.
 use Rattle.std.proofs.Common.{◌≡◌, ℕ, inl, inr, true, List, [], ◌∷◌, ◌++◌, ◌∙◌, refl, sym, ap, subst}
-use Rattle.lmtp.specs.declared.receiver.Lookup.{Lookup}
-use Rattle.mailstore.specs.Account.{Accounts}
-use Rattle.mailengine.specs.Hosts.{Kept, HasClients}
-use Rattle.mailengine.specs.World.{World, Clients, Next}
-use Rattle.mailengine.specs.declared.answer.Answer.{Answer}
-use Rattle.mailengine.specs.declared.event.Event.{Event}
-use Rattle.mailengine.specs.declared.event.Event.TheVariants.{Deliver, AddUser, Import, TakeOut, TakeMail, Keep}
-use Rattle.sieveddaemon.specs.Desk.{View, StillShows, IsOthers, AreOthers, IsDone, IsAsked}
-use Rattle.sieveddaemon.proofs.EventLemmas.{runs_then, runs_one}
-use Rattle.mailmoves.specs.Enduring.{MayLeave, ShowsTried, none_tried}
-use Rattle.mailmoves.proofs.EnduringLemmas.{left_alone, left_then}
-use Rattle.mailmoves.specs.declared.moving.Moving.{Moving}
-use Rattle.mailmoves.specs.declared.moving.Moving.TheVariants as moving
-use Rattle.mailsinks.specs.declared.kept.KeptMail.{KeptMail}
-use Rattle.sieveddaemon.specs.Moves.{HasKept, IsMoved}
-use Rattle.sieveddaemon.proofs.MoveLemmas.{moved_then}
-use Rattle.daemonfakes.specs.Shelves.{IsApplied, IsLet, IsSought, IsMovedOn, LetsOthers, StillHas, is_of_accounts}
+use Rattle.lmtp_dialogue.specs.declared.receiver.Lookup.{Lookup}
+use Rattle.store_accounts.specs.Account.{Accounts}
+use Rattle.store_engine.specs.Hosts.{SessionMap, HasClients}
+use Rattle.store_engine.specs.World.{World, Clients, Next}
+use Rattle.store_engine.specs.declared.answer.Answer.{Answer}
+use Rattle.store_engine.specs.declared.event.Event.{Event}
+use Rattle.store_engine.specs.declared.event.Event.TheVariants.{Deliver, AddUser, Import, TakeOut, TakeMail, Keep}
+use Rattle.daemon_core.specs.StoreAccess.{View, ViewStillShows, IsOthers, AreOthers, IsEventDone, IsAccountAsked}
+use Rattle.daemon_core.proofs.EventLemmas.{runs_then, runs_one}
+use Rattle.maildir_moves.specs.Enduring.{MayLeave, ShowsTried, none_tried}
+use Rattle.maildir_moves.proofs.EnduringLemmas.{left_alone, left_then}
+use Rattle.maildir_moves.specs.declared.moving.Moving.{Moving}
+use Rattle.maildir_moves.specs.declared.moving.Moving.TheVariants as moving
+use Rattle.maildir_files.specs.declared.kept.KeptMail.{KeptMail}
+use Rattle.daemon_core.specs.Moves.{HasKept, IsMessageMoved}
+use Rattle.daemon_core.proofs.MoveLemmas.{moved_then}
+use Rattle.test_daemon.specs.Shelves.{IsApplied, IsLet, IsSought, IsMovedOn, LetsOthers, StillHas, is_of_accounts}
 
 -- no event
 pub lets_none : {S : Type 0} (view : View S) (s : S) → LetsOthers view [] s s
@@ -54,18 +54,18 @@ lets_then view others event r s t of_accounts lets let_one = λ w shown.
     )
 
 -- none more
-pub lets_still : {S : Type 0} (view : View S) (others : List Event) (r s t : S) → LetsOthers view others r s → StillShows view s t → LetsOthers view others r t
+pub lets_still : {S : Type 0} (view : View S) (others : List Event) (r s t : S) → LetsOthers view others r s → ViewStillShows view s t → LetsOthers view others r t
 lets_still view others r s t lets still = λ w shown.
     let first = lets w shown in
     let later = still first.0.accounts first.2 in
     (first.0, first.1, later.0, left_then (view.leaves r) (view.leaves s) (view.leaves t) w.accounts first.0.accounts first.0.accounts none_tried first.3 later.1)
 
-has_behind : (kept : Kept) (w between : World) → between.sessions ≡ w.sessions → HasClients kept w.sessions → HasClients kept between.sessions
+has_behind : (kept : SessionMap) (w between : World) → between.sessions ≡ w.sessions → HasClients kept w.sessions → HasClients kept between.sessions
 has_behind kept w between apart has = subst (λ c. HasClients kept c) (sym apart) has
 
 -- and then an event of the daemon's
-pub done_behind : {S : Type 0} (view : View S) (others : List Event) (event : Event) (answer : Answer) (s mid t : S) (before after : Kept) → LetsOthers view others s mid → IsApplied view event answer mid before t after
-    → IsDone view others event answer s before t after
+pub done_behind : {S : Type 0} (view : View S) (others : List Event) (event : Event) (answer : Answer) (s mid t : S) (before after : SessionMap) → LetsOthers view others s mid → IsApplied view event answer mid before t after
+    → IsEventDone view others event answer s before t after
 done_behind view others event answer s mid t before after lets applied = λ w is.
     let let_them = lets w is.shown in
     let made = applied let_them.0 (record { shown = let_them.2; sessions = has_behind before w let_them.0 let_them.1.apart is.sessions }) in (
@@ -75,7 +75,7 @@ done_behind view others event answer s mid t before after lets applied = λ w is
     )
 
 -- and then an account is looked for
-pub asked_behind : {S : Type 0} (view : View S) (others : List Event) (user : List ℕ) (lookup : Lookup) (s mid t : S) (kept : Kept) → LetsOthers view others s mid → IsSought view user lookup mid t → IsAsked view others user lookup s kept t kept
+pub asked_behind : {S : Type 0} (view : View S) (others : List Event) (user : List ℕ) (lookup : Lookup) (s mid t : S) (kept : SessionMap) → LetsOthers view others s mid → IsSought view user lookup mid t → IsAccountAsked view others user lookup s kept t kept
 asked_behind view others user lookup s mid t kept lets sought = λ w is.
     let let_them = lets w is.shown in
     let seen = sought let_them.0.accounts let_them.2 in (
@@ -88,7 +88,7 @@ asked_behind view others user lookup s mid t kept lets sought = λ w is.
     )
 
 -- and then a message moves on
-pub moved_behind : {S : Type 0} (view : View S) (others : List Event) (m : Moving) (s mid t : S) (kept : Kept) → LetsOthers view others s mid → IsMovedOn view m mid t → IsMoved view others m s kept t kept
+pub moved_behind : {S : Type 0} (view : View S) (others : List Event) (m : Moving) (s mid t : S) (kept : SessionMap) → LetsOthers view others s mid → IsMovedOn view m mid t → IsMessageMoved view others m s kept t kept
 moved_behind view others m s mid t kept lets moved = λ w is.
     let let_them = lets w is.shown in
     let it = moved let_them.0 let_them.2 in

@@ -1,20 +1,20 @@
 -- What an event makes of accounts that are kept in memory.
 use Rattle.std.specs.Prelude.{◌≡◌, ℕ, Bool, true, false, List}
-use Rattle.lmtp.specs.declared.receiver.Lookup.{Lookup}
-use Rattle.mailstore.specs.Account.{Accounts}
-use Rattle.mailengine.specs.Hosts.{Kept}
-use Rattle.mailsinks.specs.declared.kept.KeptMail.{KeptMail}
-use Rattle.mailmoves.specs.Enduring.{MayLeave, ShowsTried, none_tried}
-use Rattle.mailmoves.specs.Moving.{Moves, TriedMoving}
-use Rattle.mailmoves.specs.declared.moving.Moving.{Moving}
-use Rattle.mailengine.specs.World.{World, Next, Runs}
-use Rattle.mailengine.specs.declared.answer.Answer.{Answer}
-use Rattle.mailengine.specs.declared.event.Event.{Event}
-use Rattle.mailengine.specs.declared.event.Event.TheVariants.{Deliver, AddUser, Import, TakeOut, TakeMail, Keep}
-use Rattle.sieveddaemon.specs.Desk.{View, StillShows, IsWorld, ComesTo, AreOthers, IsFoundIn}
+use Rattle.lmtp_dialogue.specs.declared.receiver.Lookup.{Lookup}
+use Rattle.store_accounts.specs.Account.{Accounts}
+use Rattle.store_engine.specs.Hosts.{SessionMap}
+use Rattle.maildir_files.specs.declared.kept.KeptMail.{KeptMail}
+use Rattle.maildir_moves.specs.Enduring.{MayLeave, ShowsTried, none_tried}
+use Rattle.maildir_moves.specs.Moving.{MovesMessage, TriedMoving}
+use Rattle.maildir_moves.specs.declared.moving.Moving.{Moving}
+use Rattle.store_engine.specs.World.{World, Next, Runs}
+use Rattle.store_engine.specs.declared.answer.Answer.{Answer}
+use Rattle.store_engine.specs.declared.event.Event.{Event}
+use Rattle.store_engine.specs.declared.event.Event.TheVariants.{Deliver, AddUser, Import, TakeOut, TakeMail, Keep}
+use Rattle.daemon_core.specs.StoreAccess.{View, ViewStillShows, IsWorld, ComesTo, AreOthers, IsFoundIn}
 
 -- whatever accounts there were, the event with this answer leads from them to those that there are; if it was refused it was tried
-abbrev pub IsApplied : {S : Type 0} → View S → Event → Answer → S → Kept → S → Kept → Type 0
+abbrev pub IsApplied : {S : Type 0} → View S → Event → Answer → S → SessionMap → S → SessionMap → Type 0
 IsApplied view event answer s before t after =
     (w : World) → IsWorld view s before w → (next : World) × Next w event answer next × ComesTo view s w (ShowsTried event answer w) t after next
 
@@ -24,7 +24,7 @@ IsLet view event true s t =
     (w : World) → view.shows s w.accounts
     → (answer : Answer) × (later : Accounts) × Next w event answer (record { accounts = later; sessions = w.sessions })
     × view.shows t later × MayLeave (view.leaves s) w.accounts (view.leaves t) later none_tried
-IsLet view event false s t = StillShows view s t
+IsLet view event false s t = ViewStillShows view s t
 
 -- that was found of an account of that name, and whatever accounts there were are still there
 abbrev pub IsSought : {S : Type 0} → View S → List ℕ → Lookup → S → S → Type 0
@@ -36,7 +36,7 @@ IsSought view user lookup s t =
 abbrev pub IsMovedOn : {S : Type 0} → View S → Moving → S → S → Type 0
 IsMovedOn view moving s t =
     (w : World) → view.shows s w.accounts
-    → (later : Accounts) × Moves moving w.accounts later × view.shows t later × MayLeave (view.leaves s) w.accounts (view.leaves t) later (TriedMoving moving w)
+    → (later : Accounts) × MovesMessage moving w.accounts later × view.shows t later × MayLeave (view.leaves s) w.accounts (view.leaves t) later (TriedMoving moving w)
 
 -- the messages that moved on are those that did
 abbrev pub StillHas : {S : Type 0} → (S → List KeptMail → Type 0) → S → S → Type 0

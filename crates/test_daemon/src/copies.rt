@@ -1,13 +1,13 @@
 //! Copies of events and answers, for a note.
 ghost use Rattle.std.specs.Prelude.{◌≡◌, IfOk, IfSome};
-ghost use Rattle.daemonfakes.specs.Shelves as shelves;
-ghost use Rattle.mailengine.specs.Terms.{terms};
-ghost use Rattle.sieveddaemon.specs.Desk.{delivery_of};
+ghost use Rattle.test_daemon.specs.Shelves as shelves;
+ghost use Rattle.store_engine.specs.Terms.{terms};
+ghost use Rattle.daemon_core.specs.StoreAccess.{delivery_of};
 
-use mailengine::{Answer, Envelope, Event, Report};
-use mailposts::Parcel;
+use store_engine::{Answer, Envelope, Event, Report};
+use lmtp_connections::StoreDelivery;
 use octets::Octets;
-use sieveexec::When;
+use sieve_exec::When;
 use std::alloc::{AllocError, Global};
 
 /// The same event, if it is one that the daemon applies; none otherwise.
@@ -26,7 +26,7 @@ pub fn copy_event(event: &Event) -> Option<Event>
 /// The event of a message for one recipient, by a host with this default script.
 pub fn copy_delivery(
     alloc: Global,
-    parcel: &Parcel,
+    parcel: &StoreDelivery,
     when: When,
     default: &Option<Octets>,
 ) -> Result<Event, AllocError>

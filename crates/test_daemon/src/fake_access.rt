@@ -1,34 +1,34 @@
 //! The outside of the daemon, in memory.
 ghost use Rattle.std.specs.Prelude.{◌≡◌, [], ◌∷◌, ◌++◌, true, false, IsTrue, IfSome, not, None};
-ghost use Rattle.wires.specs.Told.{IsOwn, TellsIf};
-ghost use Rattle.wires.specs.declared.act.Act.TheVariants.{Noted};
-ghost use Rattle.mailengine.specs.Hosts.{Kept, IsGivenUp};
-ghost use Rattle.sieveddaemon.specs.Desk.{Carries};
-ghost use Rattle.daemonfakes.specs.Desks.{is_told, told_by, shelf_of};
-ghost use Rattle.daemonfakes.specs.Shelves.{LetsMore, LetsOthers, StillHas, is_of_accounts};
+ghost use Rattle.net_loop.specs.Told.{IsLoopAct, TellsIf};
+ghost use Rattle.net_loop.specs.declared.act.Act.TheVariants.{Noted};
+ghost use Rattle.store_engine.specs.Hosts.{SessionMap, IsGivenUp};
+ghost use Rattle.daemon_core.specs.StoreAccess.{AppliesEvent};
+ghost use Rattle.test_daemon.specs.FakeAccess.{is_told, acts_told_by, shelf_of};
+ghost use Rattle.test_daemon.specs.Shelves.{LetsMore, LetsOthers, StillHas, is_of_accounts};
 
 use crate::copies::{copy_answer, copy_delivery, copy_event, is_of_accounts};
 use crate::shelf::Shelf;
-use lmtp::Lookup;
-use mailengine::{Answer, Clients, Event};
-use mailmoves::span_behind;
-use mailposts::Parcel;
+use lmtp_dialogue::Lookup;
+use store_engine::{Answer, Clients, Event};
+use maildir_moves::span_behind;
+use lmtp_connections::StoreDelivery;
 use octets::{List, Octets};
-use sieveddaemon::desk::Desk;
-use sieveddaemon::note::Note;
-use sieveexec::When;
+use daemon_core::store_access::StoreAccess;
+use daemon_core::note::Note;
+use sieve_exec::When;
 use std::alloc::Global;
 use std::collections::VecDeque;
-use wirefakes::stage::{Stage, Staged};
-use wires::act::Act;
-use wires::outcome::{Accepted, Fault, Input, Output, Wake};
-use wires::outside::{Clock, Outside, Sockets};
+use test_sockets::stage::{FakeNetwork, HasFakeNetwork};
+use net_loop::act::Act;
+use net_loop::outcome::{Accepted, WaitError, Input, Output, Wake};
+use net_loop::outside::{Clock, Outside, Sockets};
 
 /// Sockets and a clock that follow a script, and a store that others use too: it is away when the script says so, and each
 /// time that it is available events of others may come before.
 #[derive(Drop)]
-pub struct DeskFake<S: Shelf + Drop> {
-    pub stage: Stage<Note, S>,
+pub struct FakeAccess<S: Shelf + Drop> {
+    pub stage: FakeNetwork<Note, S>,
     /// For each event that is to be applied to the store, whether it is away; once the list is used up it never is.
     pub away: VecDeque<bool>,
     /// What others do before the next event that finds the store: events of accounts.
@@ -37,11 +37,11 @@ pub struct DeskFake<S: Shelf + Drop> {
     pub waits: VecDeque<bool>,
 }
 
-impl<S: Shelf + Drop> DeskFake<S> {
+impl<S: Shelf + Drop> FakeAccess<S> {
     /// Nobody is there, and nobody else uses the store.
-    pub fn new(alloc: Global, shelf: S) -> DeskFake<S> {
-        DeskFake {
-            stage: Stage::new(alloc, shelf),
+    pub fn new(alloc: Global, shelf: S) -> FakeAccess<S> {
+        FakeAccess {
+            stage: FakeNetwork::new(alloc, shelf),
             away: VecDeque::new(alloc),
             others: VecDeque::new(alloc),
             waits: VecDeque::new(alloc),
@@ -51,7 +51,7 @@ impl<S: Shelf + Drop> DeskFake<S> {
     /// Notes what the daemon did with a connection; if there is no copy of it for the note nothing is told from now on.
     fn note_done(&mut self, id: u32, others: List<Event>, event: &Event, answer: &Answer)
         ensures kept { IsTrue (is_told self.new) → IsTrue (is_told self.old) }
-        ensures told { TellsIf is_told told_by self.old (Noted id (Note.Did others event.now answer.now)) self.new }
+        ensures told { TellsIf is_told acts_told_by self.old (Noted id (Note.Did others event.now answer.now)) self.new }
         ensures left { self.new.stage.fake.rest ≡ self.old.stage.fake.rest }
     {
         match copy_event(event) {
@@ -65,7 +65,7 @@ impl<S: Shelf + Drop> DeskFake<S> {
     /// The same, without a copy of the event.
     fn note_event(&mut self, id: u32, others: List<Event>, event: Event, answer: &Answer)
         ensures kept { IsTrue (is_told self.new) → IsTrue (is_told self.old) }
-        ensures told { TellsIf is_told told_by self.old (Noted id (Note.Did others event answer.now)) self.new }
+        ensures told { TellsIf is_told acts_told_by self.old (Noted id (Note.Did others event answer.now)) self.new }
         ensures left { self.new.stage.fake.rest ≡ self.old.stage.fake.rest }
     {
         match copy_answer(self.stage.fake.alloc, answer) {
@@ -86,7 +86,7 @@ impl<S: Shelf + Drop> DeskFake<S> {
     /// Notes what was found of an account.
     fn note_asked(&mut self, id: u32, others: List<Event>, user: &[u8], lookup: Lookup)
         ensures kept { IsTrue (is_told self.new) → IsTrue (is_told self.old) }
-        ensures told { TellsIf is_told told_by self.old (Noted id (Note.Asked others user.now lookup)) self.new }
+        ensures told { TellsIf is_told acts_told_by self.old (Noted id (Note.Asked others user.now lookup)) self.new }
         ensures left { self.new.stage.fake.rest ≡ self.old.stage.fake.rest }
     {
         match Octets::from_slice(self.stage.fake.alloc, user) {
@@ -107,7 +107,7 @@ impl<S: Shelf + Drop> DeskFake<S> {
     /// The same of an event that asks no store.
     fn note_freed(&mut self, id: u32, event: &Event, answer: &Answer)
         ensures kept { IsTrue (is_told self.new) → IsTrue (is_told self.old) }
-        ensures told { TellsIf is_told told_by self.old (Noted id (Note.Freed event.now answer.now)) self.new }
+        ensures told { TellsIf is_told acts_told_by self.old (Noted id (Note.Freed event.now answer.now)) self.new }
         ensures left { self.new.stage.fake.rest ≡ self.old.stage.fake.rest }
     {
         match copy_event(event) {
@@ -132,11 +132,11 @@ impl<S: Shelf + Drop> DeskFake<S> {
         self.away.pop_front() == Some(true)
     }
 
-    /// Applies an event to the store, as `carry` does, without a copy of it.
+    /// Applies an event to the store, as `apply_event` does, without a copy of it.
     fn bring(&mut self, id: u32, clients: &mut Clients, event: Event) -> Option<Answer>
         requires { ¬ IsGivenUp event }
         ensures kept { IsTrue (is_told self.new) → IsTrue (is_told self.old) }
-        ensures brings { Carries is_told told_by shelf_of S.view (λ _. Unit {0}) id event self.old clients.old.sessions result self.new clients.new.sessions }
+        ensures brings { AppliesEvent is_told acts_told_by shelf_of S.view (λ _. Unit {0}) id event self.old clients.old.sessions result self.new clients.new.sessions }
     {
         if self.is_away() {
             self.stage.keep(Act::Noted(id, Note::Away));
@@ -197,32 +197,32 @@ fn change_other<S: Shelf + Drop>(
     }
 }
 
-impl<S: Shelf + Drop> Outside for DeskFake<S> {
+impl<S: Shelf + Drop> Outside for FakeAccess<S> {
     type Note = Note;
 
     type Rest = S;
 
     ghost tells = { is_told };
 
-    ghost seen = { told_by };
+    ghost seen = { acts_told_by };
 
     ghost rest = { shelf_of };
 
     ghost broken = { λ _. false };
 }
 
-impl<S: Shelf + Drop> Staged for DeskFake<S> {
+impl<S: Shelf + Drop> HasFakeNetwork for FakeAccess<S> {
     type Told = Note;
 
     type Kept = S;
 
-    fn stage(&mut self) -> &mut Stage<Note, S> {
+    fn stage(&mut self) -> &mut FakeNetwork<Note, S> {
         &mut self.stage
     }
 }
 
-impl<S: Shelf + Drop> Sockets for DeskFake<S> {
-    fn wait(&mut self, within: u32, ready: &mut VecDeque<Wake>) -> Result<(), Fault> {
+impl<S: Shelf + Drop> Sockets for FakeAccess<S> {
+    fn wait(&mut self, within: u32, ready: &mut VecDeque<Wake>) -> Result<(), WaitError> {
         self.stage.wait(within, ready)
     }
 
@@ -263,8 +263,8 @@ impl<S: Shelf + Drop> Sockets for DeskFake<S> {
     }
 
     fn note(&mut self, act: Act<Note>)
-        requires { IsOwn act }
-        ensures seen { TellsIf is_told told_by self.old act self.new }
+        requires { IsLoopAct act }
+        ensures seen { TellsIf is_told acts_told_by self.old act self.new }
         ensures left { self.new.stage.fake.rest ≡ self.old.stage.fake.rest }
         ensures kept { IsTrue (is_told self.new) → IsTrue (is_told self.old) }
     {
@@ -272,7 +272,7 @@ impl<S: Shelf + Drop> Sockets for DeskFake<S> {
     }
 }
 
-impl<S: Shelf + Drop> Clock for DeskFake<S> {
+impl<S: Shelf + Drop> Clock for FakeAccess<S> {
     fn now(&mut self) -> u64 {
         self.stage.now()
     }
@@ -282,14 +282,14 @@ impl<S: Shelf + Drop> Clock for DeskFake<S> {
     }
 }
 
-impl<S: Shelf + Drop> Desk for DeskFake<S> {
+impl<S: Shelf + Drop> StoreAccess for FakeAccess<S> {
     ghost view = { S.view };
 
     ghost clean = { λ _. Unit {0} };
 
     ghost default = { λ _. None };
 
-    fn carry(&mut self, id: u32, clients: &mut Clients, event: &Event) -> Option<Answer> {
+    fn apply_event(&mut self, id: u32, clients: &mut Clients, event: &Event) -> Option<Answer> {
         if self.is_away() {
             self.stage.keep(Act::Noted(id, Note::Away));
             return None;
@@ -304,7 +304,7 @@ impl<S: Shelf + Drop> Desk for DeskFake<S> {
         self.note_freed(id, event, answer)
     }
 
-    fn look_up(&mut self, id: u32, clients: &mut Clients, user: &[u8]) -> Option<Lookup> {
+    fn find_account(&mut self, id: u32, clients: &mut Clients, user: &[u8]) -> Option<Lookup> {
         if self.is_away() {
             self.stage.keep(Act::Noted(id, Note::Away));
             return None;
@@ -316,7 +316,7 @@ impl<S: Shelf + Drop> Desk for DeskFake<S> {
     }
 
     // If memory is lacking for the event the store is as good as away.
-    fn deliver(&mut self, id: u32, clients: &mut Clients, parcel: &Parcel) -> Option<Answer> {
+    fn deliver(&mut self, id: u32, clients: &mut Clients, parcel: &StoreDelivery) -> Option<Answer> {
         let when = When::in_utc(self.stage.fake.moment / 1000);
         match copy_delivery(self.stage.fake.alloc, parcel, when, &None) {
             Ok(event) => self.bring(id, clients, event),
@@ -329,13 +329,13 @@ impl<S: Shelf + Drop> Desk for DeskFake<S> {
 
     ghost has = { S.has };
 
-    fn move_on(&mut self, clients: &mut Clients, now: u64, fresh: bool) -> Option<u64> {
+    fn move_next(&mut self, clients: &mut Clients, now: u64, fresh: bool) -> Option<u64> {
         if self.is_away() {
             self.stage.keep(Act::Worked(Note::Away));
             return None;
         }
         let others = self.let_others();
-        let moving = self.stage.fake.rest.move_on(now, fresh);
+        let moving = self.stage.fake.rest.move_next(now, fresh);
         let span = span_behind(&moving);
         self.stage.keep(Act::Worked(Note::Moved { others, moving }));
         Some(span)

@@ -2,6 +2,6 @@
 #![tactic(auto)]
 
 pub mod copies;
-pub mod desk;
+pub mod fake_access;
 pub mod memory;
 pub mod shelf;

@@ -1,26 +1,23 @@
 //! Accounts in a store in memory.
 ghost use Rattle.std.specs.Prelude.{◌≡◌};
-ghost use Rattle.mailengine.specs.declared.event.Event.TheVariants.{Deliver};
-ghost use Rattle.mailstore.specs.Cells.{contents};
-ghost use Rattle.daemonfakes.specs.Shelves.{IsLet};
-ghost use Rattle.daemonfakes.specs.Memory.{memory_view_of};
+ghost use Rattle.store_engine.specs.declared.event.Event.TheVariants.{Deliver};
+ghost use Rattle.store_accounts.specs.Cells.{borrowed_octets};
+ghost use Rattle.test_daemon.specs.Shelves.{IsLet};
+ghost use Rattle.test_daemon.specs.Memory.{memory_view_of};
 
 use crate::shelf::Shelf;
-use lmtp::Lookup;
-use mailengine::{
-    Answer, Clients, Envelope, Event, Refusal, add_user, apply, deliver, import, keep, take_mail,
-    take_out,
-};
-use mailmoves::{Moving, Route, move_next};
-use mailsinks::MemorySink;
-use mailstore::Store;
+use lmtp_dialogue::Lookup;
+use store_engine::{Answer, Clients, Envelope, Event, Refusal, add_user, apply, deliver, import, do_upkeep, take_mail, take_out};
+use maildir_moves::{Moving, Route, move_next};
+use maildir_files::MemorySink;
+use store_accounts::Store;
 use octets::Octets;
-use sieveddaemon::account::find_account;
-use sieveexec::When;
+use daemon_core::account::find_account;
+use sieve_exec::When;
 use sqlite::MemStore;
 use std::alloc::{AllocError, Global};
 
-/// A store of mailengine, in memory, and where its mail moves on to.
+/// A store of store_engine, in memory, and where its mail moves on to.
 #[derive(Drop)]
 pub struct MemShelf {
     pub store: Store<MemStore>,
@@ -29,9 +26,9 @@ pub struct MemShelf {
 }
 
 impl Shelf for MemShelf {
-    ghost use Rattle.daemonfakes.specs.Memory.{view_of};
+    ghost use Rattle.test_daemon.specs.Memory.{shelf_view};
 
-    ghost view = { view_of };
+    ghost view = { shelf_view };
 
     ghost has = { λ shelf mails. shelf.sink.messages ≡ mails };
 
@@ -87,7 +84,7 @@ impl Shelf for MemShelf {
                 take_mail(&mut self.store, user.as_slice(), folder.as_slice()).is_ok()
             }
             Event::Keep { user, upkeep } => {
-                keep(alloc, &mut self.store, user.as_slice(), upkeep).is_ok()
+                do_upkeep(alloc, &mut self.store, user.as_slice(), upkeep).is_ok()
             }
             _ => false,
         }
@@ -97,7 +94,7 @@ impl Shelf for MemShelf {
         find_account(&mut self.store, user)
     }
 
-    fn move_on(&mut self, now: u64, fresh: bool) -> Moving {
+    fn move_next(&mut self, now: u64, fresh: bool) -> Moving {
         move_next(&mut self.store, &mut self.sink, &mut self.route, now, fresh)
     }
 }
@@ -123,7 +120,7 @@ fn let_delivery(
 
 /// The text's octets, if there is one.
 fn slice_of(text: &Option<Octets>) -> Option<&[u8]>
-    ensures { contents result ≡ text.now }
+    ensures { borrowed_octets result ≡ text.now }
 {
     match text {
         Some(text) => Some(text.as_slice()),

@@ -1,15 +1,15 @@
 //! Where accounts are kept, in memory.
 ghost use Rattle.std.specs.Prelude.{◌≡◌, List, true};
-ghost use Rattle.mailposts.specs.Posts.{IsFound};
-ghost use Rattle.mailengine.specs.Hosts.{IsGivenUp};
-ghost use Rattle.mailsinks.specs.declared.kept.KeptMail.{KeptMail};
-ghost use Rattle.sieveddaemon.specs.Desk.{View};
-ghost use Rattle.sieveddaemon.specs.Moves.{HasKept};
-ghost use Rattle.daemonfakes.specs.Shelves.{IsApplied, IsLet, IsSought, IsMovedOn, StillHas, is_of_accounts};
+ghost use Rattle.lmtp_connections.specs.Connections.{IsFinding};
+ghost use Rattle.store_engine.specs.Hosts.{IsGivenUp};
+ghost use Rattle.maildir_files.specs.declared.kept.KeptMail.{KeptMail};
+ghost use Rattle.daemon_core.specs.StoreAccess.{View};
+ghost use Rattle.daemon_core.specs.Moves.{HasKept};
+ghost use Rattle.test_daemon.specs.Shelves.{IsApplied, IsLet, IsSought, IsMovedOn, StillHas, is_of_accounts};
 
-use lmtp::Lookup;
-use mailengine::{Answer, Clients, Event};
-use mailmoves::Moving;
+use lmtp_dialogue::Lookup;
+use store_engine::{Answer, Clients, Event};
+use maildir_moves::Moving;
 use std::alloc::Global;
 
 /// Accounts that events change, with the sessions beside them.
@@ -20,7 +20,7 @@ pub trait Shelf {
     /// The messages that moved on.
     ghost has: { Self → List KeptMail → Type 0 };
 
-    /// One event, as [`mailengine::apply`] applies it.
+    /// One event, as [`store_engine::apply`] applies it.
     fn apply_event(&mut self, clients: &mut Clients, event: &Event) -> Answer
         requires { ¬ IsGivenUp event.now }
         ensures applied { IsApplied view event.now result self.old clients.old.sessions self.new clients.new.sessions }
@@ -35,11 +35,11 @@ pub trait Shelf {
 
     /// Whether there is an account of that name.
     fn find_account(&mut self, user: &[u8]) -> Lookup
-        ensures found { IsFound result }
+        ensures found { IsFinding result }
         ensures sought { IsSought view user.now result self.old self.new };
 
-    /// Has the first message of a folder move on, as [`mailmoves::move_next`] does.
-    fn move_on(&mut self, now: u64, fresh: bool) -> Moving
+    /// Has the first message of a folder move on, as [`maildir_moves::move_next`] does.
+    fn move_next(&mut self, now: u64, fresh: bool) -> Moving
         ensures moves { IsMovedOn view result self.old self.new }
         ensures keeps { HasKept has result self.old self.new };
 }

@@ -11,8 +11,8 @@ mod text;
 
 pub use line::{Lines, try_lines};
 pub use message::Message;
-pub use part::{Part, add_parts};
+pub use part::{LinePart, add_parts};
 pub use row::{Answers, try_rows};
 pub use section::{Section, Sections, try_sections};
-pub use tally::Tally;
-pub use text::{decode, split_at_first, text_in, trim_end, with_ends, words_of};
+pub use tally::CaseTally;
+pub use text::{decode_cell, split_at_first, text_in, trim_end, with_ends, words_of};

@@ -1,6 +1,6 @@
 //! Sections in which a line is a case.
 use crate::section::Section;
-use crate::tally::Tally;
+use crate::tally::CaseTally;
 use std::alloc::{AllocError, Global};
 
 /// What tries the lines of a section.
@@ -9,7 +9,7 @@ pub trait Lines {
     fn try_line(
         &self,
         alloc: Global,
-        tally: &mut Tally,
+        tally: &mut CaseTally,
         number: usize,
         line: &str,
     ) -> Result<(), AllocError>;
@@ -18,7 +18,7 @@ pub trait Lines {
 /// Tries each line of a section; an empty line is no case.
 pub fn try_lines<L: Lines>(
     alloc: Global,
-    tally: &mut Tally,
+    tally: &mut CaseTally,
     lines: &L,
     section: &Section<'_>,
 ) -> Result<(), AllocError> {

@@ -4,23 +4,23 @@ use std::alloc::AllocError;
 
 /// A part of an answer.
 #[derive(Clone, Copy)]
-pub enum Part<'a> {
+pub enum LinePart<'a> {
     Text(&'a [u8]),
     /// A number, which is written in decimal.
     Number(u64),
 }
 
 /// Appends parts, one after the other.
-pub fn add_parts(out: &mut Octets, parts: &[Part<'_>]) -> Result<(), AllocError> {
+pub fn add_parts(out: &mut Octets, parts: &[LinePart<'_>]) -> Result<(), AllocError> {
     for part in parts {
         add_part(out, part)?;
     }
     Ok(())
 }
 
-fn add_part(out: &mut Octets, part: &Part<'_>) -> Result<(), AllocError> {
+fn add_part(out: &mut Octets, part: &LinePart<'_>) -> Result<(), AllocError> {
     match part {
-        Part::Text(text) => out.extend_from_slice(text),
-        Part::Number(number) => write_decimal(out, *number),
+        LinePart::Text(text) => out.extend_from_slice(text),
+        LinePart::Number(number) => write_decimal(out, *number),
     }
 }

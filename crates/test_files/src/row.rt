@@ -1,5 +1,5 @@
 //! Tables: files in which a line is a case, and its last column is what is wanted.
-use crate::tally::Tally;
+use crate::tally::CaseTally;
 use crate::text::columns;
 use octets::Octets;
 use std::alloc::{AllocError, Global};
@@ -18,7 +18,7 @@ pub trait Answers {
 /// Tries each line of a table; an empty line and one that begins with `#` are no case.
 pub fn try_rows<A: Answers>(
     alloc: Global,
-    tally: &mut Tally,
+    tally: &mut CaseTally,
     answers: &mut A,
     file: &str,
 ) -> Result<(), AllocError> {
@@ -34,7 +34,7 @@ pub fn try_rows<A: Answers>(
 
 fn try_row<A: Answers>(
     alloc: Global,
-    tally: &mut Tally,
+    tally: &mut CaseTally,
     answers: &mut A,
     number: usize,
     line: &str,
@@ -48,7 +48,7 @@ fn try_row<A: Answers>(
 
 fn try_columns<A: Answers>(
     alloc: Global,
-    tally: &mut Tally,
+    tally: &mut CaseTally,
     answers: &mut A,
     number: usize,
     given: &[Octets],

@@ -1,5 +1,5 @@
 //! Files of sections.
-use crate::tally::Tally;
+use crate::tally::CaseTally;
 use crate::text::split_at_first;
 use std::alloc::{AllocError, Global};
 
@@ -22,7 +22,7 @@ pub trait Sections<'a> {
     fn try_section(
         &mut self,
         alloc: Global,
-        tally: &mut Tally,
+        tally: &mut CaseTally,
         section: &Section<'a>,
     ) -> Result<(), AllocError>;
 }
@@ -30,7 +30,7 @@ pub trait Sections<'a> {
 /// Tries each section of a file.
 pub fn try_sections<'a, S: Sections<'a>>(
     alloc: Global,
-    tally: &mut Tally,
+    tally: &mut CaseTally,
     state: &mut S,
     file: &'a str,
 ) -> Result<(), AllocError> {
@@ -40,7 +40,7 @@ pub fn try_sections<'a, S: Sections<'a>>(
 
 fn try_each<'a, S: Sections<'a>>(
     alloc: Global,
-    tally: &mut Tally,
+    tally: &mut CaseTally,
     state: &mut S,
     sections: &[Section<'a>],
 ) -> Result<(), AllocError> {

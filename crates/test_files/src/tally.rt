@@ -2,22 +2,22 @@
 ghost use Rattle.std.specs.Prelude.{◌≡◌, ◌≢◌};
 
 use crate::section::Section;
-use crate::text::{decode, trim_end};
+use crate::text::{decode_cell, trim_end};
 use percent_encoding::{CONTROLS, percent_encode};
 use std::alloc::{AllocError, Global};
 use std::fmt::Write;
 
 /// How many cases of a file hold, and what is told of the others.
 #[derive(Drop)]
-pub struct Tally {
+pub struct CaseTally {
     held: u64,
     failed: String,
 }
 
-impl Tally {
+impl CaseTally {
     /// No case yet. Takes no memory.
-    pub fn new(alloc: Global) -> Tally {
-        Tally {
+    pub fn new(alloc: Global) -> CaseTally {
+        CaseTally {
             held: 0,
             failed: String::new(alloc),
         }
@@ -54,7 +54,7 @@ impl Tally {
         section: &Section<'_>,
         got: &[u8],
     ) -> Result<(), AllocError> {
-        let wanted = decode(alloc, section.text)?;
+        let wanted = decode_cell(alloc, section.text)?;
         self.note(section.line, trim_end(wanted.as_slice()), trim_end(got))
     }
 

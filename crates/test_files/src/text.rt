@@ -28,7 +28,7 @@ fn add_column(alloc: Global, found: &mut Texts, column: &str) -> Result<(), Allo
         "" => Ok(()),
         "-" => found.push(Octets::new(alloc)),
         _ => {
-            let octets = decode(alloc, column)?;
+            let octets = decode_cell(alloc, column)?;
             found.push(octets)
         }
     }
@@ -36,7 +36,7 @@ fn add_column(alloc: Global, found: &mut Texts, column: &str) -> Result<(), Allo
 
 /// The octets that a text of a file stands for. In the text of a repetition `%#` is the number of the turn, from 0; its
 /// first `*` ends it, so a star within it is written `%2A`.
-pub fn decode(alloc: Global, text: &str) -> Result<Octets, AllocError> {
+pub fn decode_cell(alloc: Global, text: &str) -> Result<Octets, AllocError> {
     let (front, more) = split_at_first(text, "%{");
     let mut out = Octets::new(alloc);
     add_plain(alloc, &mut out, front)?;
@@ -121,7 +121,7 @@ pub fn trim_end(text: &[u8]) -> &[u8] {
 
 /// The octets that a text of a file stands for, with each LF as CRLF if that is wanted.
 pub fn with_ends(alloc: Global, text: &str, crlf: bool) -> Result<Octets, AllocError> {
-    let octets = decode(alloc, text)?;
+    let octets = decode_cell(alloc, text)?;
     if crlf {
         with_crlf(alloc, octets.as_slice())
     } else {

@@ -1,21 +1,21 @@
 //! The entries that are the daemon's own: who has an account at the start, what others do to the store, whether it is away, and
 //! what is in it.
 use crate::others::{SALT, parse_event};
-use daemonfakes::desk::DeskFake;
-use daemonfakes::memory::MemShelf;
-use maildirs::Separator;
-use mailengine::add_user;
-use mailmoves::Route;
-use mailsinks::MemorySink;
-use mailstore::Store;
+use test_daemon::fake_access::FakeAccess;
+use test_daemon::memory::MemShelf;
+use maildir_files::Separator;
+use store_engine::add_user;
+use maildir_moves::Route;
+use maildir_files::MemorySink;
+use store_accounts::Store;
 use octets::{List, Octets, write_decimal};
-use sieveddaemon::note::Note;
+use daemon_core::note::Note;
 use sqlite::{Alter, Connection};
 use std::alloc::{AllocError, Global};
 use std::collections::VecDeque;
-use wirefakes::play::{Check, Owner};
-use wirefakes::schedule::split_word;
-use wires::act::Act;
+use test_sockets::play::{ScheduleCheck, ScheduleOwner};
+use test_sockets::schedule::split_word;
+use net_loop::act::Act;
 
 /// Looks at the accounts, and lets others change them.
 #[derive(Drop)]
@@ -36,13 +36,13 @@ pub fn new_shelf(alloc: Global) -> Result<MemShelf, AllocError> {
     }
 }
 
-impl Owner<DeskFake<MemShelf>> for Accounts {
+impl ScheduleOwner<FakeAccess<MemShelf>> for Accounts {
     fn own(
         &mut self,
-        outside: &mut DeskFake<MemShelf>,
+        outside: &mut FakeAccess<MemShelf>,
         line: usize,
         text: &[u8],
-        checks: &mut List<Check>,
+        checks: &mut List<ScheduleCheck>,
     ) -> Result<(), AllocError> {
         let (word, rest) = split_word(text);
         match word {
@@ -70,7 +70,7 @@ impl Owner<DeskFake<MemShelf>> for Accounts {
 }
 
 /// Whether the outside has told all acts so far.
-fn told_by(outside: &DeskFake<MemShelf>) -> &'static [u8] {
+fn told_by(outside: &FakeAccess<MemShelf>) -> &'static [u8] {
     if outside.stage.fake.lost {
         b"not all"
     } else {
@@ -105,9 +105,9 @@ impl Accounts {
         line: usize,
         wanted: &[u8],
         got: &[u8],
-        checks: &mut List<Check>,
+        checks: &mut List<ScheduleCheck>,
     ) -> Result<(), AllocError> {
-        checks.push(Check {
+        checks.push(ScheduleCheck {
             line,
             wanted: Octets::from_slice(self.alloc, wanted)?,
             got: Octets::from_slice(self.alloc, got)?,
@@ -117,10 +117,10 @@ impl Accounts {
     /// A question, whose last word is the answer that is wanted.
     fn ask(
         &self,
-        outside: &mut DeskFake<MemShelf>,
+        outside: &mut FakeAccess<MemShelf>,
         line: usize,
         text: &[u8],
-        checks: &mut List<Check>,
+        checks: &mut List<ScheduleCheck>,
     ) -> Result<(), AllocError> {
         let (word, rest) = split_word(text);
         let mut got = Octets::new(self.alloc);
@@ -164,7 +164,7 @@ fn count_in<S: Alter>(store: &mut Store<S>, word: &[u8], user: &[u8]) -> Option<
 }
 
 /// The messages that moved on so far: `USER/FOLDER/NUMBER` of each, in their order.
-fn names_of(alloc: Global, outside: &DeskFake<MemShelf>) -> Result<Octets, AllocError> {
+fn names_of(alloc: Global, outside: &FakeAccess<MemShelf>) -> Result<Octets, AllocError> {
     let mut names = Octets::new(alloc);
     for mail in outside.stage.fake.rest.sink.messages() {
         if !names.is_empty() {

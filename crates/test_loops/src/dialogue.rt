@@ -1,7 +1,7 @@
-//! Dialogues of LMTP: what a client is answered, by `lmtp` alone, whose questions the address of a recipient answers.
-use casefiles::Answers;
-use lmtp::reply::{Outcome, Reply};
-use lmtp::{Delivery, Lookup, Next, Receiver, Stage, Trouble};
+//! Dialogues of LMTP: what a client is answered, by `lmtp_dialogue` alone, whose questions the address of a recipient answers.
+use test_files::Answers;
+use lmtp_dialogue::reply::{DeliveryOutcome, LmtpReply};
+use lmtp_dialogue::{Delivery, Lookup, Next, Receiver, LmtpStage, TextFault};
 use octets::Octets;
 use std::alloc::{AllocError, Global};
 
@@ -66,14 +66,14 @@ fn lines_up_to(state: &[u8]) -> &'static [u8] {
     }
 }
 
-fn name_of(stage: Stage) -> &'static [u8] {
+fn name_of(stage: LmtpStage) -> &'static [u8] {
     match stage {
-        Stage::Greeted => b"greeted",
-        Stage::Ready => b"ready",
-        Stage::Opened => b"opened",
-        Stage::Asking => b"asking",
-        Stage::Sending => b"sending",
-        Stage::Over => b"over",
+        LmtpStage::Greeted => b"greeted",
+        LmtpStage::Ready => b"ready",
+        LmtpStage::Opened => b"opened",
+        LmtpStage::Asking => b"asking",
+        LmtpStage::Sending => b"sending",
+        LmtpStage::Over => b"over",
     }
 }
 
@@ -142,26 +142,26 @@ fn lookup_of(address: &[u8]) -> Lookup {
 }
 
 /// What becomes of a message, by the first word of its recipient's address and whether its text is kept.
-fn outcome_of(delivery: Delivery<'_>) -> Outcome<'static> {
+fn outcome_of(delivery: Delivery<'_>) -> DeliveryOutcome<'static> {
     match delivery.text {
         Ok(_) => outcome_for(front(delivery.recipient)),
-        Err(Trouble::TooLarge) => Outcome::Refused(Reply::MessageTooLarge),
-        Err(Trouble::Memory) => Outcome::Refused(Reply::NoRoom),
+        Err(TextFault::TooLarge) => DeliveryOutcome::Refused(LmtpReply::MessageTooLarge),
+        Err(TextFault::Memory) => DeliveryOutcome::Refused(LmtpReply::NoRoom),
     }
 }
 
-fn outcome_for(word: &[u8]) -> Outcome<'static> {
+fn outcome_for(word: &[u8]) -> DeliveryOutcome<'static> {
     match word {
-        b"gone" => Outcome::Refused(Reply::NoSuchUser),
-        b"closed" => Outcome::Refused(Reply::AccountClosed),
-        b"from" => Outcome::Refused(Reply::BadSender),
-        b"bad" => Outcome::Refused(Reply::BadRecipient),
-        b"loop" => Outcome::Refused(Reply::MailLoop),
-        b"crowded" => Outcome::Refused(Reply::NoRoom),
-        b"late" => Outcome::Refused(Reply::StoreAway),
-        b"faulty" => Outcome::Refused(Reply::LocalFault),
-        b"lines" => Outcome::Delivered(b"file A\r\n550 B"),
-        _ => Outcome::Delivered(b"file INBOX"),
+        b"gone" => DeliveryOutcome::Refused(LmtpReply::NoSuchUser),
+        b"closed" => DeliveryOutcome::Refused(LmtpReply::AccountClosed),
+        b"from" => DeliveryOutcome::Refused(LmtpReply::BadSender),
+        b"bad" => DeliveryOutcome::Refused(LmtpReply::BadRecipient),
+        b"loop" => DeliveryOutcome::Refused(LmtpReply::MailLoop),
+        b"crowded" => DeliveryOutcome::Refused(LmtpReply::NoRoom),
+        b"late" => DeliveryOutcome::Refused(LmtpReply::StoreAway),
+        b"faulty" => DeliveryOutcome::Refused(LmtpReply::LocalFault),
+        b"lines" => DeliveryOutcome::Delivered(b"file A\r\n550 B"),
+        _ => DeliveryOutcome::Delivered(b"file INBOX"),
     }
 }
 

@@ -11,21 +11,21 @@ mod others;
 mod total;
 
 use accounts::{Accounts, new_shelf};
-use casefiles::{Tally, try_rows};
-use daemonfakes::desk::DeskFake;
+use test_files::{CaseTally, try_rows};
+use test_daemon::fake_access::FakeAccess;
 use dialogue::Dialogues;
-use lmtp::Names;
+use lmtp_dialogue::Names;
 use octets::{List, Octets};
-use sieveddaemon::mail::MailDaemon;
+use daemon_core::mail::MailDaemon;
 use std::alloc::{AllocError, Global};
 use std::process::ExitCode;
 use std::{fs, io};
 use total::Totals;
-use wirefakes::echo::Echo;
-use wirefakes::play::{Check, Player};
-use wirefakes::schedule::{Flaw, Schedule};
-use wirefakes::stage::Stage;
-use wires::service::Service;
+use test_sockets::echo::Echo;
+use test_sockets::play::{ScheduleCheck, Player};
+use test_sockets::schedule::{Flaw, Schedule};
+use test_sockets::stage::FakeNetwork;
+use net_loop::service::Service;
 
 /// Those of the echo, in the order in which they are played.
 const ECHOES: [&str; 20] = [
@@ -123,7 +123,7 @@ impl Counts {
 
 fn try_dialogues(rt: &HostRuntime, counts: &mut Counts) -> io::Result<()> {
     let text = fs::read_to_string(rt, DIALOGUES)?;
-    let mut tally = Tally::new(rt.alloc());
+    let mut tally = CaseTally::new(rt.alloc());
     try_rows(rt.alloc(), &mut tally, &mut Dialogues, text.as_str())?;
     counts.note(tell(rt, DIALOGUES, &tally)?);
     Ok(())
@@ -152,13 +152,13 @@ fn status(failed: u32) -> ExitCode {
 /// Plays a file, and says whether all of it holds.
 fn try_file(rt: &HostRuntime, server: Server, file: &str) -> io::Result<bool> {
     let text = fs::read_to_string(rt, file)?;
-    let mut tally = Tally::new(rt.alloc());
+    let mut tally = CaseTally::new(rt.alloc());
     try_text(rt.alloc(), server, &mut tally, text.as_str())?;
     tell(rt, file, &tally)
 }
 
 /// Tells how many entries of a file hold, and which don't; and says whether all hold.
-fn tell(rt: &HostRuntime, file: &str, tally: &Tally) -> io::Result<bool> {
+fn tell(rt: &HostRuntime, file: &str, tally: &CaseTally) -> io::Result<bool> {
     for line in tally.failures().lines() {
         eprintln!(rt; "{file}:{line}")?;
     }
@@ -170,7 +170,7 @@ fn tell(rt: &HostRuntime, file: &str, tally: &Tally) -> io::Result<bool> {
 fn try_text(
     alloc: Global,
     server: Server,
-    tally: &mut Tally,
+    tally: &mut CaseTally,
     text: &str,
 ) -> Result<(), AllocError> {
     let mut before: usize = 0;
@@ -187,7 +187,7 @@ fn try_text(
 fn try_part(
     alloc: Global,
     server: Server,
-    tally: &mut Tally,
+    tally: &mut CaseTally,
     before: usize,
     text: &str,
 ) -> Result<(), AllocError> {
@@ -198,7 +198,7 @@ fn try_part(
     }
 }
 
-fn note_checks(tally: &mut Tally, before: usize, checks: &List<Check>) -> Result<(), AllocError> {
+fn note_checks(tally: &mut CaseTally, before: usize, checks: &List<ScheduleCheck>) -> Result<(), AllocError> {
     for check in checks.as_slice() {
         let line = before.saturating_add(check.line);
         tally.note(line, check.wanted.as_slice(), check.got.as_slice())?;
@@ -207,7 +207,7 @@ fn note_checks(tally: &mut Tally, before: usize, checks: &List<Check>) -> Result
 }
 
 /// Plays a schedule, and returns all that was wanted and what came.
-fn play(alloc: Global, server: Server, schedule: &Schedule) -> Result<List<Check>, AllocError> {
+fn play(alloc: Global, server: Server, schedule: &Schedule) -> Result<List<ScheduleCheck>, AllocError> {
     match server {
         Server::Echo => play_echo(alloc, schedule),
         Server::Daemon => play_daemon(alloc, schedule, false, MEMORY),
@@ -217,10 +217,10 @@ fn play(alloc: Global, server: Server, schedule: &Schedule) -> Result<List<Check
     }
 }
 
-fn play_echo(alloc: Global, schedule: &Schedule) -> Result<List<Check>, AllocError> {
+fn play_echo(alloc: Global, schedule: &Schedule) -> Result<List<ScheduleCheck>, AllocError> {
     let mut player = Player {
         alloc,
-        outside: Stage::new(alloc, 0),
+        outside: FakeNetwork::new(alloc, 0),
         machine: Echo::new(alloc),
         service: Service::new(alloc),
         owner: Totals { alloc },
@@ -235,12 +235,12 @@ fn play_daemon(
     schedule: &Schedule,
     moves: bool,
     memory: u32,
-) -> Result<List<Check>, AllocError> {
+) -> Result<List<ScheduleCheck>, AllocError> {
     let shelf = new_shelf(alloc)?;
     let host = Octets::from_slice(alloc, b"localhost")?;
     let mut player = Player {
         alloc,
-        outside: DeskFake::new(alloc, shelf),
+        outside: FakeAccess::new(alloc, shelf),
         machine: MailDaemon::new(alloc, Names::Local, host, moves, memory),
         service: Service::new(alloc),
         owner: Accounts { alloc },

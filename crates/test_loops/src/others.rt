@@ -1,8 +1,8 @@
 //! What other processes do to the daemon's store, as an entry names it.
-use mailengine::{Envelope, Event, Upkeep, When};
+use store_engine::{Envelope, Event, Upkeep, When};
 use octets::{Octets, parse_decimal};
 use std::alloc::{AllocError, Global};
-use wirefakes::schedule::{parse_text, split_word};
+use test_sockets::schedule::{parse_text, split_word};
 
 /// The salt of every account.
 pub const SALT: [u8; 16] = *b"0123456789abcdef";

@@ -1,11 +1,11 @@
 //! The entries that are the echo's own: `total N`, what the total is, and `ticks N`, how often the machine worked.
 use octets::{List, Octets, write_decimal};
 use std::alloc::{AllocError, Global};
-use wirefakes::desk::Note;
-use wirefakes::play::{Check, Owner};
-use wirefakes::schedule::split_word;
-use wirefakes::stage::Stage;
-use wires::act::Act;
+use test_sockets::echo_outside::EchoNote;
+use test_sockets::play::{ScheduleCheck, ScheduleOwner};
+use test_sockets::schedule::split_word;
+use test_sockets::stage::FakeNetwork;
+use net_loop::act::Act;
 
 /// Looks at the total.
 #[derive(Drop)]
@@ -13,13 +13,13 @@ pub struct Totals {
     pub alloc: Global,
 }
 
-impl Owner<Stage<Note, u64>> for Totals {
+impl ScheduleOwner<FakeNetwork<EchoNote, u64>> for Totals {
     fn own(
         &mut self,
-        outside: &mut Stage<Note, u64>,
+        outside: &mut FakeNetwork<EchoNote, u64>,
         line: usize,
         text: &[u8],
-        checks: &mut List<Check>,
+        checks: &mut List<ScheduleCheck>,
     ) -> Result<(), AllocError> {
         let (word, wanted) = split_word(text);
         let mut got = Octets::new(self.alloc);
@@ -28,7 +28,7 @@ impl Owner<Stage<Note, u64>> for Totals {
             b"ticks" => write_decimal(&mut got, count_ticks(outside.fake.acts.as_slice()))?,
             _ => got.extend_from_slice(b"no such entry")?,
         }
-        checks.push(Check {
+        checks.push(ScheduleCheck {
             line,
             wanted: Octets::from_slice(self.alloc, wanted)?,
             got,
@@ -37,7 +37,7 @@ impl Owner<Stage<Note, u64>> for Totals {
 }
 
 /// How often the machine did work of its own.
-fn count_ticks(acts: &[Act<Note>]) -> u64 {
+fn count_ticks(acts: &[Act<EchoNote>]) -> u64 {
     let mut count: u64 = 0;
     for act in acts {
         if let Act::Worked(_) = act {

@@ -1,6 +1,6 @@
 //! What changes the accounts, as events over a store.
 use crate::base::{COPIES_FOURTH, COPIES_LAST, CURRENT, SECOND};
-use mailengine::{Envelope, Event, When};
+use store_engine::{Envelope, Event, When};
 use octets::Octets;
 use std::alloc::{AllocError, Global};
 
@@ -39,7 +39,7 @@ const SESSION: u32 = 1;
 
 /// One change of a store.
 #[derive(Clone, Copy)]
-pub enum Act {
+pub enum CutAct {
     /// PUTSCRIPT in place of the active script.
     PutScript,
     /// DELETESCRIPT.
@@ -57,39 +57,39 @@ pub enum Act {
     OpenFourth,
 }
 
-pub const ACTS: [Act; 9] = [
-    Act::PutScript,
-    Act::DeleteScript,
-    Act::AddUser,
-    Act::TakeOut,
-    Act::TakeMail,
-    Act::Deliver,
-    Act::OpenSecond,
-    Act::OpenLast,
-    Act::OpenFourth,
+pub const ACTS: [CutAct; 9] = [
+    CutAct::PutScript,
+    CutAct::DeleteScript,
+    CutAct::AddUser,
+    CutAct::TakeOut,
+    CutAct::TakeMail,
+    CutAct::Deliver,
+    CutAct::OpenSecond,
+    CutAct::OpenLast,
+    CutAct::OpenFourth,
 ];
 
-impl Act {
+impl CutAct {
     pub fn name(self) -> &'static str {
         match self {
-            Act::PutScript => "PUTSCRIPT",
-            Act::DeleteScript => "DELETESCRIPT",
-            Act::AddUser => "add_user",
-            Act::TakeOut => "take_out",
-            Act::TakeMail => "take_mail",
-            Act::Deliver => "deliver",
-            Act::OpenSecond => "open, version 2",
-            Act::OpenLast => "open, copies last",
-            Act::OpenFourth => "open, copies fourth",
+            CutAct::PutScript => "PUTSCRIPT",
+            CutAct::DeleteScript => "DELETESCRIPT",
+            CutAct::AddUser => "add_user",
+            CutAct::TakeOut => "take_out",
+            CutAct::TakeMail => "take_mail",
+            CutAct::Deliver => "deliver",
+            CutAct::OpenSecond => "open, version 2",
+            CutAct::OpenLast => "open, copies last",
+            CutAct::OpenFourth => "open, copies fourth",
         }
     }
 
     /// The statements that make the store.
     pub fn base(self) -> &'static [&'static str] {
         match self {
-            Act::OpenSecond => &SECOND,
-            Act::OpenLast => &COPIES_LAST,
-            Act::OpenFourth => &COPIES_FOURTH,
+            CutAct::OpenSecond => &SECOND,
+            CutAct::OpenLast => &COPIES_LAST,
+            CutAct::OpenFourth => &COPIES_FOURTH,
             _ => &CURRENT,
         }
     }
@@ -97,7 +97,7 @@ impl Act {
     /// What happens in the store before: two scripts, one of them active, and mail. A store of an older version is as it was made.
     pub fn earlier(self, alloc: Global) -> Result<Vec<Event>, AllocError> {
         match self {
-            Act::OpenSecond | Act::OpenLast | Act::OpenFourth => Ok(Vec::new(alloc)),
+            CutAct::OpenSecond | CutAct::OpenLast | CutAct::OpenFourth => Ok(Vec::new(alloc)),
             _ => earlier(alloc),
         }
     }
@@ -106,13 +106,13 @@ impl Act {
     pub fn events(self, alloc: Global) -> Result<Vec<Event>, AllocError> {
         let mut events = Vec::new(alloc);
         match self {
-            Act::PutScript => add_commands(alloc, &mut events, AGAIN, 1)?,
-            Act::DeleteScript => add_commands(alloc, &mut events, DELETION, 1)?,
-            Act::AddUser => events.push(addition(alloc)?)?,
-            Act::TakeOut => events.push(row_taken(alloc)?)?,
-            Act::TakeMail => events.push(mail_taken(alloc)?)?,
-            Act::Deliver => events.push(delivery(alloc, MAIL)?)?,
-            Act::OpenSecond | Act::OpenLast | Act::OpenFourth => {}
+            CutAct::PutScript => add_commands(alloc, &mut events, AGAIN, 1)?,
+            CutAct::DeleteScript => add_commands(alloc, &mut events, DELETION, 1)?,
+            CutAct::AddUser => events.push(addition(alloc)?)?,
+            CutAct::TakeOut => events.push(row_taken(alloc)?)?,
+            CutAct::TakeMail => events.push(mail_taken(alloc)?)?,
+            CutAct::Deliver => events.push(delivery(alloc, MAIL)?)?,
+            CutAct::OpenSecond | CutAct::OpenLast | CutAct::OpenFourth => {}
         }
         Ok(events)
     }

@@ -9,7 +9,7 @@ mod rows;
 mod sweep;
 mod visit;
 
-use act::{ACTS, Act};
+use act::{ACTS, CutAct};
 use std::io;
 use std::process::ExitCode;
 use sweep::sweep;
@@ -25,7 +25,7 @@ fn main(rt: HostRuntime) -> io::Result<ExitCode> {
 }
 
 /// Tells what comes of the stops in an act, and says whether that is right.
-fn try_act(rt: &HostRuntime, act: Act) -> io::Result<bool> {
+fn try_act(rt: &HostRuntime, act: CutAct) -> io::Result<bool> {
     let counts = sweep(rt.alloc(), act)?;
     let (name, stops, opened) = (act.name(), counts.stops, counts.opened);
     let (before, after, answered, neither) = (

@@ -1,6 +1,6 @@
 //! What a store has, as a text: the rows of its tables.
-use casefiles::Part::{Number, Text};
-use casefiles::add_parts;
+use test_files::LinePart::{Number, Text};
+use test_files::add_parts;
 use octets::Octets;
 use sqlite::{Alter, Connection, Row};
 use sqlite_value::value::ValueRef;
@@ -22,7 +22,7 @@ pub const ALL: [&str; 8] = [
 pub const VERSION: [&str; 1] = ["SELECT value FROM meta"];
 
 /// The rows that queries give, in their order; none if one fails.
-pub fn found<S: Alter>(
+pub fn find_rows<S: Alter>(
     alloc: Global,
     conn: &mut Connection<S>,
     queries: &[&str],

@@ -1,8 +1,8 @@
 //! Stops at each call of the log's file and of the database's, and what is found then.
-use crate::act::Act;
+use crate::act::CutAct;
 use crate::image::Image;
 use crate::visit::{Errand, open_files};
-use mailengine::Event;
+use store_engine::Event;
 use octets::Octets;
 use std::alloc::{AllocError, Global};
 
@@ -11,7 +11,7 @@ const MOST: u64 = 10_000;
 
 /// What was found.
 #[derive(Clone, Copy)]
-pub struct Counts {
+pub struct SweepCounts {
     pub stops: u64,
     /// How many states were opened: all that was written, what was synced, and two that are torn, if they aren't those of
     /// the stop before.
@@ -23,9 +23,9 @@ pub struct Counts {
     pub neither: u64,
 }
 
-impl Counts {
+impl SweepCounts {
     /// Counts one state more.
-    fn with(self, found: Found, is_answered: bool) -> Counts {
+    fn with(self, found: Found, is_answered: bool) -> SweepCounts {
         let mut counts = self;
         counts.opened = self.opened.saturating_add(1);
         match found {
@@ -82,9 +82,9 @@ impl Stop {
 }
 
 /// Stops an act at each call, of one file and then of the other, until it is answered.
-pub fn sweep(alloc: Global, act: Act) -> Result<Counts, AllocError> {
+pub fn sweep(alloc: Global, act: CutAct) -> Result<SweepCounts, AllocError> {
     let trial = trial_of(alloc, act)?;
-    let mut counts = Counts {
+    let mut counts = SweepCounts {
         stops: 0,
         opened: 0,
         before: 0,
@@ -102,8 +102,8 @@ fn sweep_file(
     alloc: Global,
     trial: &Trial,
     counted: Counted,
-    counts: Counts,
-) -> Result<Counts, AllocError> {
+    counts: SweepCounts,
+) -> Result<SweepCounts, AllocError> {
     let mut counts = counts;
     let mut last = stop_at(alloc, &trial.base, &trial.events, counted, 0)?;
     counts.stops = counts.stops.saturating_add(1);
@@ -127,8 +127,8 @@ fn with_stop(
     alloc: Global,
     trial: &Trial,
     stop: &Stop,
-    counts: Counts,
-) -> Result<Counts, AllocError> {
+    counts: SweepCounts,
+) -> Result<SweepCounts, AllocError> {
     let even = Image::torn(alloc, &stop.synced, &stop.seen, false)?;
     let odd = Image::torn(alloc, &stop.synced, &stop.seen, true)?;
     let mut counts = counts;
@@ -149,7 +149,7 @@ fn found_in(alloc: Global, trial: &Trial, image: &Image) -> Result<Found, AllocE
 }
 
 /// A store with an account, its scripts and its mail; and what it shows before the act, and after it.
-fn trial_of(alloc: Global, act: Act) -> Result<Trial, AllocError> {
+fn trial_of(alloc: Global, act: CutAct) -> Result<Trial, AllocError> {
     let made = image_after(alloc, &Image::empty(alloc), Errand::Make(act.base()))?;
     let base = base_of(alloc, act, made)?;
     let events = act.events(alloc)?;
@@ -165,7 +165,7 @@ fn trial_of(alloc: Global, act: Act) -> Result<Trial, AllocError> {
 }
 
 /// The store after what happens before the act; as it was made if that is nothing, and not opened yet.
-fn base_of(alloc: Global, act: Act, made: Image) -> Result<Image, AllocError> {
+fn base_of(alloc: Global, act: CutAct, made: Image) -> Result<Image, AllocError> {
     let earlier = act.earlier(alloc)?;
     if earlier.is_empty() {
         return Ok(made);

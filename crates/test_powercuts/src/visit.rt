@@ -1,8 +1,8 @@
 //! A database that is opened over files, and what comes of it.
 use crate::image::CutFiles;
-use crate::rows::{ALL, VERSION, found};
-use mailengine::{Answer, Event, Progress, Ran, World, run};
-use mailstore::Store;
+use crate::rows::{ALL, VERSION, find_rows};
+use store_engine::{Answer, Event, Progress, RunAnswers, World, run};
+use store_accounts::Store;
 use octets::Octets;
 use sqlite::{Alter, Connection, Options};
 use sqlite_disk::Disk;
@@ -86,9 +86,9 @@ fn make<S: Alter>(conn: Connection<S>, texts: &[&str]) -> (Visit, Connection<S>)
 
 fn look<S: Alter>(alloc: Global, conn: Connection<S>) -> (Visit, Connection<S>) {
     let mut conn = conn;
-    let version = found(alloc, &mut conn, &VERSION);
+    let version = find_rows(alloc, &mut conn, &VERSION);
     let (opened, mut conn) = change(alloc, conn, &[]);
-    let rows = found(alloc, &mut conn, &ALL);
+    let rows = find_rows(alloc, &mut conn, &ALL);
     let shown = if opened.is_done {
         joined(version, rows)
     } else {
@@ -133,7 +133,7 @@ fn change<S: Alter>(
 }
 
 /// Whether each event was answered, and the last one not refused.
-fn is_whole(ran: &Ran) -> bool {
+fn is_whole(ran: &RunAnswers) -> bool {
     ran.whole && ran.answers.last().is_none_or(is_done)
 }
 

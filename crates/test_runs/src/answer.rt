@@ -1,9 +1,9 @@
 //! What is answered to events.
-use casefiles::Part::{Number, Text};
-use casefiles::add_parts;
-use mailengine::{Answer, Outgoing, Progress, Refusal, Report};
+use test_files::LinePart::{Number, Text};
+use test_files::add_parts;
+use store_engine::{Answer, QueuedMessage, Progress, Refusal, Report};
 use octets::Octets;
-use sievedrun::report::print_report;
+use cli_run::report::print_report;
 use std::alloc::{AllocError, Global};
 use std::format;
 
@@ -27,18 +27,18 @@ fn add_answer(alloc: Global, out: &mut Octets, answer: &Answer) -> Result<(), Al
     match answer {
         Answer::Out(progress, octets) => add_sent(out, *progress, octets.as_slice()),
         Answer::Delivered(report) => add_report(alloc, out, report),
-        Answer::Added => add_line(out, b"", b"added"),
-        Answer::Imported => add_line(out, b"", b"imported"),
+        Answer::Added => add_word_line(out, b"", b"added"),
+        Answer::Imported => add_word_line(out, b"", b"imported"),
         Answer::Taken(row) => add_row(out, row),
-        Answer::MailTaken => add_line(out, b"", b"mail taken"),
-        Answer::Changed => add_line(out, b"", b"changed"),
-        Answer::Stored => add_line(out, b"", b"stored"),
-        Answer::Invalid(_) => add_line(out, b"", b"invalid"),
-        Answer::Closed => add_line(out, b"", b"closed"),
-        Answer::Opened => add_line(out, b"", b"opened"),
-        Answer::Removed => add_line(out, b"", b"removed"),
-        Answer::NoticesTaken => add_line(out, b"", b"notices taken"),
-        Answer::Ignored => add_line(out, b"", b"ignored"),
+        Answer::MailTaken => add_word_line(out, b"", b"mail taken"),
+        Answer::Changed => add_word_line(out, b"", b"changed"),
+        Answer::Stored => add_word_line(out, b"", b"stored"),
+        Answer::Invalid(_) => add_word_line(out, b"", b"invalid"),
+        Answer::Closed => add_word_line(out, b"", b"closed"),
+        Answer::Opened => add_word_line(out, b"", b"opened"),
+        Answer::Removed => add_word_line(out, b"", b"removed"),
+        Answer::NoticesTaken => add_word_line(out, b"", b"notices taken"),
+        Answer::Ignored => add_word_line(out, b"", b"ignored"),
         Answer::Refused(refusal) => add_refusal(alloc, out, *refusal),
     }
 }
@@ -58,20 +58,20 @@ fn add_sent(out: &mut Octets, progress: Progress, octets: &[u8]) -> Result<(), A
     add_octets(out, octets)?;
     match progress {
         Progress::Done => Ok(()),
-        Progress::Need => add_line(out, b"", b"need"),
-        Progress::Close => add_line(out, b"", b"close"),
+        Progress::Need => add_word_line(out, b"", b"need"),
+        Progress::Close => add_word_line(out, b"", b"close"),
     }
 }
 
 fn add_octets(out: &mut Octets, octets: &[u8]) -> Result<(), AllocError> {
     match octets.strip_suffix(b"\r\n") {
-        Some(line) => add_line(out, b"", line),
+        Some(line) => add_word_line(out, b"", line),
         None if octets.is_empty() => Ok(()),
-        None => add_line(out, b"no line end: ", octets),
+        None => add_word_line(out, b"no line end: ", octets),
     }
 }
 
-fn add_row(out: &mut Octets, row: &Outgoing) -> Result<(), AllocError> {
+fn add_row(out: &mut Octets, row: &QueuedMessage) -> Result<(), AllocError> {
     add_parts(
         out,
         &[
@@ -87,10 +87,10 @@ fn add_row(out: &mut Octets, row: &Outgoing) -> Result<(), AllocError> {
 /// Appends why something was refused.
 pub fn add_refusal(alloc: Global, out: &mut Octets, refusal: Refusal) -> Result<(), AllocError> {
     let told = format!(in alloc; "{refusal}")?;
-    add_line(out, b"refused: ", told.as_bytes())
+    add_word_line(out, b"refused: ", told.as_bytes())
 }
 
 /// Appends a word and a text as a line.
-pub fn add_line<'a>(out: &mut Octets, word: &'a [u8], text: &'a [u8]) -> Result<(), AllocError> {
+pub fn add_word_line<'a>(out: &mut Octets, word: &'a [u8], text: &'a [u8]) -> Result<(), AllocError> {
     add_parts(out, &[Text(word), Text(text), Text(b"\n")])
 }

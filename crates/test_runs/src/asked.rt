@@ -1,31 +1,29 @@
 //! What the words of the command line ask for.
-use casefiles::words_of;
+use test_files::words_of;
 use clap::Error;
 use octets::Octets;
-use sievedwords::{
-    CommandLine, Drain, Folders, Notices, ReadError, StoreLocation, Subcommand, read, read_files,
-};
+use cli_subcommands::{RawArgs, DrainArgs, FoldersArgs, NoticesArgs, ArgsError, StoreLocation, Subcommand, read_command_line, read_files};
 use std::alloc::{AllocError, Global};
 use std::format;
 
 /// What the words ask for, with the values in them; or whether what `clap` says is an error.
 pub fn add_asked(alloc: Global, out: &mut Octets, words: &[u8]) -> Result<(), AllocError> {
-    let words = CommandLine::new(alloc, words_of(alloc, words, "F")?)?;
-    match read(alloc, &words) {
+    let words = RawArgs::new(alloc, words_of(alloc, words, "F")?)?;
+    match read_command_line(alloc, &words) {
         Ok(Subcommand::Check(_)) => add_files(alloc, out, &words),
         Ok(asked) => add(out, asked),
-        Err(ReadError::Said(error)) => add_error(alloc, out, &error),
-        Err(ReadError::Unknown) => out.extend_from_slice(b"no such word"),
-        Err(ReadError::NotText) => out.extend_from_slice(b"a word that is no text"),
+        Err(ArgsError::Said(error)) => add_error(alloc, out, &error),
+        Err(ArgsError::Unknown) => out.extend_from_slice(b"no such word"),
+        Err(ArgsError::NotText) => out.extend_from_slice(b"a word that is no text"),
     }
 }
 
 /// Appends the files that are to be checked.
-fn add_files(alloc: Global, out: &mut Octets, words: &CommandLine) -> Result<(), AllocError> {
+fn add_files(alloc: Global, out: &mut Octets, words: &RawArgs) -> Result<(), AllocError> {
     add_text(out, b"check")?;
     match read_files(alloc, words) {
         Ok(files) => add_texts(out, &files),
-        Err(ReadError::Said(error)) => add_error(alloc, out, &error),
+        Err(ArgsError::Said(error)) => add_error(alloc, out, &error),
         Err(_) => out.extend_from_slice(b"no files"),
     }
 }
@@ -166,14 +164,14 @@ fn add(out: &mut Octets, asked: Subcommand<'_>) -> Result<(), AllocError> {
     }
 }
 
-fn add_notices(out: &mut Octets, asked: Notices<'_>) -> Result<(), AllocError> {
+fn add_notices(out: &mut Octets, asked: NoticesArgs<'_>) -> Result<(), AllocError> {
     match asked.until {
         None => add_at(out, "notices", asked.location, &[asked.user]),
         Some(until) => add_at(out, "notices", asked.location, &[until, asked.user]),
     }
 }
 
-fn add_folders(out: &mut Octets, asked: Folders<'_>) -> Result<(), AllocError> {
+fn add_folders(out: &mut Octets, asked: FoldersArgs<'_>) -> Result<(), AllocError> {
     if !asked.directories && asked.separator.is_none() {
         return add_at(out, "folders", asked.location, &[asked.user]);
     }
@@ -187,7 +185,7 @@ fn add_folders(out: &mut Octets, asked: Folders<'_>) -> Result<(), AllocError> {
     )
 }
 
-fn add_drain(out: &mut Octets, asked: Drain<'_>) -> Result<(), AllocError> {
+fn add_drain(out: &mut Octets, asked: DrainArgs<'_>) -> Result<(), AllocError> {
     let most = asked.most.unwrap_or("no number");
     add_at(
         out,

@@ -1,10 +1,10 @@
 //! Calls of a store that only sessions and deliveries make in the program.
-use crate::answer::add_line;
-use casefiles::Part::{Number, Text};
-use casefiles::{add_parts, decode, split_at_first, trim_end};
-use mailengine::Refusal;
-use mailflags::Placement;
-use mailstore::{KeptReply, Outgoing, Plan, Profile, Report, Store, VacationReply, VacationReport};
+use crate::answer::add_word_line;
+use test_files::LinePart::{Number, Text};
+use test_files::{add_parts, decode_cell, split_at_first, trim_end};
+use store_engine::Refusal;
+use mail_flags::Placement;
+use store_accounts::{KeptReply, QueuedMessage, Plan, Profile, Report, Store, VacationReply, VacationReport};
 use octets::{List, Octets, Texts};
 use sqlite::MemStore;
 use std::alloc::{AllocError, Global};
@@ -23,7 +23,7 @@ pub fn commit(
     user: &[u8],
     text: &str,
 ) -> Result<(), Refusal> {
-    let message = decode(alloc, text)?;
+    let message = decode_cell(alloc, text)?;
     let plan = Plan {
         message: message.as_slice(),
         sender: b"bob@example.net",
@@ -92,12 +92,12 @@ pub fn add_profile(
 
 fn add_address(out: &mut Octets, profile: Option<&Profile>) -> Result<(), AllocError> {
     let Some(profile) = profile else {
-        return add_line(out, b"", b"none");
+        return add_word_line(out, b"", b"none");
     };
     add_parts(out, &[Text(profile.address.as_slice()), Text(b" ")])?;
     match &profile.active {
-        Some(name) => add_line(out, b"active ", name.as_slice()),
-        None => add_line(out, b"", b"none"),
+        Some(name) => add_word_line(out, b"active ", name.as_slice()),
+        None => add_word_line(out, b"", b"none"),
     }
 }
 
@@ -107,7 +107,7 @@ pub fn add_rows(store: &mut Store<MemStore>, out: &mut Octets, user: &[u8]) -> R
     Ok(add_letters(out, rows.as_slice())?)
 }
 
-fn add_letters(out: &mut Octets, rows: &[Outgoing]) -> Result<(), AllocError> {
+fn add_letters(out: &mut Octets, rows: &[QueuedMessage]) -> Result<(), AllocError> {
     for row in rows {
         add_parts(
             out,
@@ -161,10 +161,10 @@ pub fn add_moment(
     sender: &[u8],
     text: &str,
 ) -> Result<(), Refusal> {
-    let handle = decode(alloc, text)?;
+    let handle = decode_cell(alloc, text)?;
     let moment = store.last_reply(user, trim_end(handle.as_slice()), sender)?;
     Ok(match moment {
         Some(moment) => add_parts(out, &[Number(moment), Text(b"\n")])?,
-        None => add_line(out, b"", b"none")?,
+        None => add_word_line(out, b"", b"none")?,
     })
 }

@@ -1,9 +1,9 @@
 //! Streams of a client that come in pieces, and how far they are scanned.
-use casefiles::Part::{Number, Text};
-use casefiles::add_parts;
-use mailengine::{Answer, Event, World, run};
+use test_files::LinePart::{Number, Text};
+use test_files::add_parts;
+use store_engine::{Answer, Event, World, run};
 use octets::Octets;
-use sessions::{Progress, Session, Stepped};
+use managesieve_sessions::{Progress, Session, FreeStep};
 use sqlite::MemStore;
 use std::alloc::{AllocError, Global};
 
@@ -165,7 +165,7 @@ fn add_steps(
 /// Makes a step, and says whether it was made without a store.
 fn step(session: &mut Session, answer: &mut Octets) -> Result<bool, AllocError> {
     let stepped = session.step_free(answer)?;
-    Ok(matches!(stepped, Stepped::Made(Progress::Done)))
+    Ok(matches!(stepped, FreeStep::Made(Progress::Done)))
 }
 
 fn add_count(out: &mut Octets, count: u64) -> Result<(), AllocError> {

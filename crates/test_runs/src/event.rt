@@ -1,10 +1,10 @@
 //! The events that sections are.
-use accountfiles::ReadError;
+use store_text::AccountReadError;
 use base64::engine::general_purpose::STANDARD;
-use casefiles::Part::Text;
-use casefiles::{Section, add_parts, decode, split_at_first, with_ends};
-use maildates::read_zone;
-use mailengine::{Envelope, Event, Upkeep, When};
+use test_files::LinePart::Text;
+use test_files::{Section, add_parts, decode_cell, split_at_first, with_ends};
+use mail_dates::read_zone;
+use store_engine::{Envelope, Event, Upkeep, When};
 use octets::{Octets, parse_decimal};
 use std::alloc::{AllocError, Global};
 
@@ -13,7 +13,7 @@ pub const PASSWORD: &[u8] = b"secret";
 
 /// What holds of the messages that follow.
 #[derive(Clone, Copy)]
-pub struct Post<'a> {
+pub struct DeliverySettings<'a> {
     /// Their sender.
     pub from: &'a str,
     /// When they come, in seconds since 1970-01-01 UTC.
@@ -24,9 +24,9 @@ pub struct Post<'a> {
     pub default: Option<&'a str>,
 }
 
-impl<'a> Post<'a> {
+impl<'a> DeliverySettings<'a> {
     /// What holds after a section `from`, `moment`, `zone` or `default`; one `default` whose note is `none` says that there is none.
-    pub fn after(self, section: &Section<'a>) -> Post<'a> {
+    pub fn after(self, section: &Section<'a>) -> DeliverySettings<'a> {
         let text = section.text.trim_ascii_end();
         let mut next = self;
         match section.name {
@@ -37,13 +37,13 @@ impl<'a> Post<'a> {
             } else {
                 Some(section.text)
             },
-            _ => next.moment = number(text),
+            _ => next.moment = number_in_digits(text),
         }
         next
     }
 }
 
-impl Post<'_> {
+impl DeliverySettings<'_> {
     /// When a message comes, and in which zone; UTC if the file says no zone.
     fn when(&self) -> When {
         let zone = read_zone(self.zone.as_bytes()).unwrap_or(0);
@@ -53,7 +53,7 @@ impl Post<'_> {
     /// The text of the host's default script.
     fn default_text(&self, alloc: Global) -> Result<Option<Octets>, AllocError> {
         match self.default {
-            Some(text) => Ok(Some(decode(alloc, text)?)),
+            Some(text) => Ok(Some(decode_cell(alloc, text)?)),
             None => Ok(None),
         }
     }
@@ -62,7 +62,7 @@ impl Post<'_> {
 /// The event that a section is, if it is one and its note says this.
 pub fn event(
     alloc: Global,
-    post: Post<'_>,
+    post: DeliverySettings<'_>,
     section: &Section<'_>,
     note: &str,
 ) -> Result<Option<Event>, AllocError> {
@@ -88,7 +88,7 @@ fn kept_up(alloc: Global, section: &Section<'_>, note: &str) -> Result<Option<Ev
     let Some(upkeep) = upkeep(alloc, section, rest)? else {
         return Ok(None);
     };
-    let user = decode(alloc, user)?;
+    let user = decode_cell(alloc, user)?;
     Ok(Some(Event::Keep { user, upkeep }))
 }
 
@@ -103,7 +103,7 @@ fn upkeep(alloc: Global, section: &Section<'_>, rest: &str) -> Result<Option<Upk
         "remove" => Ok(Some(Upkeep::RemoveAccount { mail: false })),
         "removemail" => Ok(Some(Upkeep::RemoveAccount { mail: true })),
         "takenotices" => Ok(Some(Upkeep::TakeNotices {
-            until: number(rest),
+            until: number_in_digits(rest),
         })),
         _ => Ok(None),
     }
@@ -112,7 +112,7 @@ fn upkeep(alloc: Global, section: &Section<'_>, rest: &str) -> Result<Option<Upk
 /// Another password: the line.
 fn new_password(alloc: Global, text: &str) -> Result<Option<Upkeep>, AllocError> {
     let (line, _) = split_at_first(text, "\n");
-    let password = decode(alloc, line)?;
+    let password = decode_cell(alloc, line)?;
     Ok(Some(Upkeep::SetPassword {
         salt: *b"fedcba9876543210",
         password,
@@ -122,7 +122,7 @@ fn new_password(alloc: Global, text: &str) -> Result<Option<Upkeep>, AllocError>
 /// Another address: the line.
 fn new_address(alloc: Global, text: &str) -> Result<Option<Upkeep>, AllocError> {
     let (line, _) = split_at_first(text, "\n");
-    let address = decode(alloc, line)?;
+    let address = decode_cell(alloc, line)?;
     Ok(Some(Upkeep::SetAddress { address }))
 }
 
@@ -133,7 +133,7 @@ fn script(
     section: &Section<'_>,
     activate: bool,
 ) -> Result<Option<Upkeep>, AllocError> {
-    let name = decode(alloc, name)?;
+    let name = decode_cell(alloc, name)?;
     let text = octets_in(alloc, section)?;
     Ok(Some(Upkeep::StoreScript {
         name,
@@ -156,9 +156,9 @@ fn give(
 /// A user to be added: the address is the first line, the password the second.
 fn new_user(alloc: Global, name: &str, text: &str) -> Result<Option<Event>, AllocError> {
     let (address, password) = split_at_first(text, "\n");
-    let name = decode(alloc, name)?;
-    let address = decode(alloc, address)?;
-    let password = decode(alloc, password)?;
+    let name = decode_cell(alloc, name)?;
+    let address = decode_cell(alloc, address)?;
+    let password = decode_cell(alloc, password)?;
     Ok(Some(Event::AddUser {
         name,
         address,
@@ -170,17 +170,17 @@ fn new_user(alloc: Global, name: &str, text: &str) -> Result<Option<Event>, Allo
 /// An account that comes whole: its text.
 fn import(alloc: Global, section: &Section<'_>) -> Result<Option<Event>, AllocError> {
     let text = with_ends(alloc, section.text, false)?;
-    match accountfiles::read(alloc, text.as_slice()) {
+    match store_text::read_account_file(alloc, text.as_slice()) {
         Ok(file) => Ok(Some(Event::Import(file))),
-        Err(ReadError::NotAnAccount) => Ok(None),
-        Err(ReadError::Memory) => Err(AllocError),
+        Err(AccountReadError::NotAnAccount) => Ok(None),
+        Err(AccountReadError::Memory) => Err(AllocError),
     }
 }
 
 /// A message to be delivered to this user.
 fn delivery(
     alloc: Global,
-    post: Post<'_>,
+    post: DeliverySettings<'_>,
     section: &Section<'_>,
     user: &str,
 ) -> Result<Option<Event>, AllocError> {
@@ -197,7 +197,7 @@ fn delivery(
 }
 
 fn envelope(alloc: Global, from: &str) -> Result<Envelope, AllocError> {
-    let from = decode(alloc, from)?;
+    let from = decode_cell(alloc, from)?;
     let to = Octets::from_slice(alloc, b"alice@example.org")?;
     Ok(Envelope { from, to })
 }
@@ -208,7 +208,7 @@ fn take_out(alloc: Global, note: &str) -> Result<Option<Event>, AllocError> {
     let user = Octets::from_slice(alloc, user.as_bytes())?;
     Ok(Some(Event::TakeOut {
         user,
-        id: number(id),
+        id: number_in_digits(id),
     }))
 }
 
@@ -260,7 +260,7 @@ fn login_by(alloc: Global, text: &[u8]) -> Result<Octets, AllocError> {
 }
 
 fn session(digits: &str) -> u32 {
-    u32::try_from(number(digits)).unwrap_or(0)
+    u32::try_from(number_in_digits(digits)).unwrap_or(0)
 }
 
 /// What a note says before `xN`, and how often an event is meant: N times, otherwise once.
@@ -273,6 +273,6 @@ pub fn times_in(note: &str) -> (&str, u64) {
 }
 
 /// The number that these digits are, or 0.
-pub fn number(digits: &str) -> u64 {
+pub fn number_in_digits(digits: &str) -> u64 {
     parse_decimal(digits.as_bytes()).unwrap_or(0)
 }

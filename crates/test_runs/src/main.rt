@@ -19,7 +19,7 @@ mod stream;
 mod table;
 mod talk;
 
-use casefiles::Tally;
+use test_files::CaseTally;
 use std::process::ExitCode;
 use std::{fs, io};
 use table::{TABLES, Table};
@@ -41,13 +41,13 @@ fn try_file(rt: &HostRuntime, table: Table) -> io::Result<bool> {
 }
 
 fn try_text(rt: &HostRuntime, table: Table, text: &str) -> io::Result<bool> {
-    let mut tally = Tally::new(rt.alloc());
+    let mut tally = CaseTally::new(rt.alloc());
     table.try_all(rt.alloc(), &mut tally, text)?;
     tell(rt, table.file(), &tally)
 }
 
 /// Tells how many cases of a file hold, and which don't; and says whether all hold.
-fn tell(rt: &HostRuntime, file: &str, tally: &Tally) -> io::Result<bool> {
+fn tell(rt: &HostRuntime, file: &str, tally: &CaseTally) -> io::Result<bool> {
     for line in tally.failures().lines() {
         eprintln!(rt; "{file}:{line}")?;
     }

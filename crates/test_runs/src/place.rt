@@ -1,9 +1,9 @@
 //! Where messages and rows of queues are: the numbers of a folder, and the first place after one.
-use crate::answer::add_line;
-use casefiles::Part::{Number, Text};
-use casefiles::{add_parts, split_at_first};
-use mailengine::Refusal;
-use mailstore::{Filed, Queued, Store};
+use crate::answer::add_word_line;
+use test_files::LinePart::{Number, Text};
+use test_files::{add_parts, split_at_first};
+use store_engine::Refusal;
+use store_accounts::{CopyKey, QueueKey, Store};
 use octets::{Octets, parse_decimal};
 use sqlite::MemStore;
 use std::alloc::{AllocError, Global};
@@ -38,10 +38,10 @@ pub fn add_next_filed(
     Ok(add_filed(out, next.as_ref())?)
 }
 
-fn filed_in(alloc: Global, note: &str) -> Result<Filed, AllocError> {
+fn filed_in(alloc: Global, note: &str) -> Result<CopyKey, AllocError> {
     let (user, place) = split_at_first(note, " ");
     let (folder, number) = split_at_first(place, " ");
-    Ok(Filed {
+    Ok(CopyKey {
         user: Octets::from_slice(alloc, user.as_bytes())?,
         folder: Octets::from_slice(alloc, folder.as_bytes())?,
         number: number_in(number),
@@ -53,7 +53,7 @@ pub fn number_in(digits: &str) -> u64 {
     parse_decimal(digits.as_bytes()).unwrap_or(0)
 }
 
-fn add_filed(out: &mut Octets, filed: Option<&Filed>) -> Result<(), AllocError> {
+fn add_filed(out: &mut Octets, filed: Option<&CopyKey>) -> Result<(), AllocError> {
     match filed {
         Some(filed) => add_parts(
             out,
@@ -66,7 +66,7 @@ fn add_filed(out: &mut Octets, filed: Option<&Filed>) -> Result<(), AllocError> 
                 Text(b"\n"),
             ],
         ),
-        None => add_line(out, b"", b"none"),
+        None => add_word_line(out, b"", b"none"),
     }
 }
 
@@ -78,7 +78,7 @@ pub fn add_next_queued(
     note: &str,
 ) -> Result<(), Refusal> {
     let (user, id) = split_at_first(note, " ");
-    let start = Queued {
+    let start = QueueKey {
         user: Octets::from_slice(alloc, user.as_bytes())?,
         id: number_in(id),
     };
@@ -86,7 +86,7 @@ pub fn add_next_queued(
     Ok(add_queued(out, next.as_ref())?)
 }
 
-fn add_queued(out: &mut Octets, queued: Option<&Queued>) -> Result<(), AllocError> {
+fn add_queued(out: &mut Octets, queued: Option<&QueueKey>) -> Result<(), AllocError> {
     match queued {
         Some(queued) => add_parts(
             out,
@@ -97,6 +97,6 @@ fn add_queued(out: &mut Octets, queued: Option<&Queued>) -> Result<(), AllocErro
                 Text(b"\n"),
             ],
         ),
-        None => add_line(out, b"", b"none"),
+        None => add_word_line(out, b"", b"none"),
     }
 }

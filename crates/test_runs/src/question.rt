@@ -1,22 +1,22 @@
 //! What is asked of a store, and done to it, beside events.
-use crate::answer::{add_line, add_refusal};
+use crate::answer::{add_word_line, add_refusal};
 use crate::call::{add_moment, add_profile, add_replies, add_rows, commit, rename};
 use crate::event::PASSWORD;
 use crate::place::{add_next_filed, add_next_queued, add_numbers, number_in};
-use casefiles::Part::{Number, Text};
-use casefiles::{Section, Tally, add_parts, decode, split_at_first, trim_end};
-use mailengine::Refusal;
-use mailstore::{Folder, NumberedMessage, Store};
+use test_files::LinePart::{Number, Text};
+use test_files::{Section, CaseTally, add_parts, decode_cell, split_at_first, trim_end};
+use store_engine::Refusal;
+use store_accounts::{Folder, NumberedMessage, Store};
 use octets::{Octets, Texts};
-use reportlines::{of_notices, of_queue};
-use saslplain::digest;
+use cli_reports::{list_user_notices, list_queue};
+use sasl_plain::digest;
 use sqlite::MemStore;
 use std::alloc::{AllocError, Global};
 
 /// Asks the store what a section asks, and appends what it says.
 pub fn ask(
     alloc: Global,
-    tally: &mut Tally,
+    tally: &mut CaseTally,
     store: &mut Store<MemStore>,
     out: &mut Octets,
     section: &Section<'_>,
@@ -59,7 +59,7 @@ fn add_account(
     user: &[u8],
     address: &str,
 ) -> Result<(), Refusal> {
-    let address = decode(alloc, address)?;
+    let address = decode_cell(alloc, address)?;
     let digest = digest(b"salt", 1, PASSWORD);
     store.add_user(user, trim_end(address.as_slice()), b"salt", 1, &digest)
 }
@@ -71,7 +71,7 @@ fn put(
     name: &[u8],
     text: &str,
 ) -> Result<(), Refusal> {
-    let text = decode(alloc, text)?;
+    let text = decode_cell(alloc, text)?;
     store.put_script(user, name, text.as_slice())
 }
 
@@ -88,8 +88,8 @@ fn add_script(
 
 fn add_text(out: &mut Octets, text: Option<&Octets>) -> Result<(), AllocError> {
     match text {
-        Some(text) => add_line(out, b"text ", text.as_slice()),
-        None => add_line(out, b"", b"none"),
+        Some(text) => add_word_line(out, b"text ", text.as_slice()),
+        None => add_word_line(out, b"", b"none"),
     }
 }
 
@@ -101,7 +101,7 @@ fn add_scripts(store: &mut Store<MemStore>, out: &mut Octets, user: &[u8]) -> Re
 
 fn add_lines(out: &mut Octets, texts: &Texts) -> Result<(), AllocError> {
     for text in texts.as_slice() {
-        add_line(out, b"", text.as_slice())?;
+        add_word_line(out, b"", text.as_slice())?;
     }
     Ok(())
 }
@@ -143,7 +143,7 @@ fn add_numbered(out: &mut Octets, first: Option<&NumberedMessage>) -> Result<(),
             )?;
             add_flags(out, first.flags.as_slice())
         }
-        None => add_line(out, b"", b"none"),
+        None => add_word_line(out, b"", b"none"),
     }
 }
 
@@ -152,7 +152,7 @@ fn add_flags(out: &mut Octets, flags: &[u8]) -> Result<(), AllocError> {
     if flags.is_empty() {
         return Ok(());
     }
-    add_line(out, b"flags ", flags)
+    add_word_line(out, b"flags ", flags)
 }
 
 /// Appends a line `NAME COUNT` for each folder.
@@ -184,7 +184,7 @@ fn add_queue(
     user: &[u8],
 ) -> Result<(), Refusal> {
     let rows = store.queue_heads(user)?;
-    let listing = of_queue(alloc, rows.as_slice())?;
+    let listing = list_queue(alloc, rows.as_slice())?;
     Ok(out.extend_from_slice(listing.as_slice())?)
 }
 
@@ -196,6 +196,6 @@ fn add_notices(
     user: &[u8],
 ) -> Result<(), Refusal> {
     let notices = store.notices(user)?;
-    let listing = of_notices(alloc, notices.as_slice())?;
+    let listing = list_user_notices(alloc, notices.as_slice())?;
     Ok(out.extend_from_slice(listing.as_slice())?)
 }

@@ -1,15 +1,15 @@
 //! Runs of the program: its words, its input, and what they leave.
 use crate::stream::{NEVER, ShortWriter};
 use crate::talk;
-use casefiles::Part::{Number, Text};
-use casefiles::{Answers, add_parts, text_in, words_of};
-use keepers::{Keeper, MemoryKeeper};
-use mailsinks::{KeptMail, MailSink, MemorySink};
-use mailstore::Refusal;
+use test_files::LinePart::{Number, Text};
+use test_files::{Answers, add_parts, text_in, words_of};
+use store_lock::{Keeper, MemoryKeeper};
+use maildir_files::{KeptMail, MailSink, MemorySink};
+use store_accounts::Refusal;
 use octets::{Octets, parse_decimal, write_decimal};
-use sievedrun::drive::drive;
-use sievedrun::fault::Fault;
-use sievedwords::CommandLine;
+use cli_run::run::run_program;
+use cli_run::fault::RunFault;
+use cli_subcommands::RawArgs;
 use sqlite::{Connection, Error};
 use std::alloc::{AllocError, Global};
 use std::format;
@@ -21,32 +21,32 @@ pub const CLOCK: Option<u64> = Some(1_700_000_000);
 const RANDOM: Option<[u8; 16]> = Some(*b"0123456789abcdef");
 
 /// What a run may tell, including those that no case can bring about.
-const FAULTS: [Fault; 25] = [
-    Fault::Refused(Refusal::Memory),
-    Fault::Refused(Refusal::Store),
-    Fault::Busy,
-    Fault::Stream,
-    Fault::Refused(Refusal::NotOurs),
-    Fault::Refused(Refusal::NoUser),
-    Fault::Refused(Refusal::TooLarge),
-    Fault::Refused(Refusal::BadEnvelope),
-    Fault::Refused(Refusal::BadMoment),
-    Fault::Refused(Refusal::UserExists),
-    Fault::Refused(Refusal::BadUser),
-    Fault::Refused(Refusal::NoRow),
-    Fault::Refused(Refusal::AccountClosed),
-    Fault::Refused(Refusal::UserIsOpen),
-    Fault::Refused(Refusal::UserHasMail),
-    Fault::Refused(Refusal::BadScriptName),
-    Fault::Refused(Refusal::ScriptTooLarge),
-    Fault::Refused(Refusal::TooManyScripts),
-    Fault::Refused(Refusal::BadAccount),
-    Fault::NoMessage,
-    Fault::NoMaildir,
-    Fault::NoScript,
-    Fault::Invalid,
-    Fault::BadInput,
-    Fault::BadArgument,
+const FAULTS: [RunFault; 25] = [
+    RunFault::Refused(Refusal::Memory),
+    RunFault::Refused(Refusal::Store),
+    RunFault::Busy,
+    RunFault::Stream,
+    RunFault::Refused(Refusal::NotOurs),
+    RunFault::Refused(Refusal::NoUser),
+    RunFault::Refused(Refusal::TooLarge),
+    RunFault::Refused(Refusal::BadEnvelope),
+    RunFault::Refused(Refusal::BadMoment),
+    RunFault::Refused(Refusal::UserExists),
+    RunFault::Refused(Refusal::BadUser),
+    RunFault::Refused(Refusal::NoRow),
+    RunFault::Refused(Refusal::AccountClosed),
+    RunFault::Refused(Refusal::UserIsOpen),
+    RunFault::Refused(Refusal::UserHasMail),
+    RunFault::Refused(Refusal::BadScriptName),
+    RunFault::Refused(Refusal::ScriptTooLarge),
+    RunFault::Refused(Refusal::TooManyScripts),
+    RunFault::Refused(Refusal::BadAccount),
+    RunFault::NoMessage,
+    RunFault::NoMaildir,
+    RunFault::NoScript,
+    RunFault::Invalid,
+    RunFault::BadInput,
+    RunFault::BadArgument,
 ];
 
 /// The words of a delivery to alice.
@@ -143,7 +143,7 @@ impl Answers for MemoryRuns {
     ) -> Result<(), AllocError> {
         match given {
             [call, text] => self.add_set(alloc, out, text_in(call.as_slice()), text.as_slice()),
-            _ => answer(alloc, out, &mut self.keeper, &mut self.sink, "", given),
+            _ => answer_run(alloc, out, &mut self.keeper, &mut self.sink, "", given),
         }
     }
 }
@@ -168,7 +168,7 @@ fn add_flags(out: &mut Octets, flags: &[u8]) -> Result<(), AllocError> {
 
 /// Appends what comes of a row that any keeper can have: `run`, `full`, `write N`, `default TEXT`, `timeless` and `said` are runs of the
 /// program, `send` is a command, and `greet`, `talk`, `gone` and `deaf` are sessions.
-pub fn answer<'a, K: Keeper, T: MailSink>(
+pub fn answer_run<'a, K: Keeper, T: MailSink>(
     alloc: Global,
     out: &mut Octets,
     keeper: &mut K,
@@ -222,7 +222,7 @@ pub fn answer<'a, K: Keeper, T: MailSink>(
         }
         "told" => add_told(alloc, out, text_in(words)),
         "send" => talk::add_sent(alloc, out, keeper, path, input),
-        call => talk::answer(alloc, out, keeper, path, call, words, input),
+        call => talk::answer_talk(alloc, out, keeper, path, call, words, input),
     }
 }
 
@@ -261,11 +261,11 @@ pub fn add_run<K: Keeper, T: MailSink>(
     sink: &mut T,
     run: Run<'_>,
 ) -> Result<(), AllocError> {
-    let words = CommandLine::new(alloc, words_of(alloc, run.words, run.path)?)?;
+    let words = RawArgs::new(alloc, words_of(alloc, run.words, run.path)?)?;
     let mut left = run.input;
     let mut output = ShortWriter::new(alloc, run.writes);
     let mut errors = Vec::new(alloc);
-    let status = drive(
+    let status = run_program(
         alloc,
         &words,
         &mut left,
@@ -302,7 +302,7 @@ fn add_told(alloc: Global, out: &mut Octets, text: &str) -> Result<(), AllocErro
     out.extend_from_slice(b"no such fault")
 }
 
-fn is_told_as(alloc: Global, fault: Fault, text: &str) -> Result<bool, AllocError> {
+fn is_told_as(alloc: Global, fault: RunFault, text: &str) -> Result<bool, AllocError> {
     let told = format!(in alloc; "{fault}")?;
     Ok(told.as_str() == text)
 }

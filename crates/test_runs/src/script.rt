@@ -1,17 +1,15 @@
 //! Scripts and tests, each tried on a message with its envelope (RFC 5228).
-use casefiles::Part::Text;
-use casefiles::{
-    Lines, Section, Sections, Tally, add_parts, decode, trim_end, try_lines, try_sections,
-};
-use mailengine::attempt;
+use test_files::LinePart::Text;
+use test_files::{Lines, Section, Sections, CaseTally, add_parts, decode_cell, trim_end, try_lines, try_sections};
+use store_engine::attempt;
 use octets::Octets;
-use reportlines::{of_fault, of_outcome};
-use sievelex::ScriptError;
+use cli_reports::{report_fault, report_outcome};
+use sieve_lex::ScriptError;
 use std::alloc::{AllocError, Global};
-use textcases::Trial;
+use test_texts::Trial;
 
 /// Tries each case of the file.
-pub fn try_all(alloc: Global, tally: &mut Tally, file: &str) -> Result<(), AllocError> {
+pub fn try_script_file(alloc: Global, tally: &mut CaseTally, file: &str) -> Result<(), AllocError> {
     let mut scripts = Scripts {
         trial: Trial::empty(),
     };
@@ -28,7 +26,7 @@ impl<'a> Sections<'a> for Scripts<'a> {
     fn try_section(
         &mut self,
         alloc: Global,
-        tally: &mut Tally,
+        tally: &mut CaseTally,
         section: &Section<'a>,
     ) -> Result<(), AllocError> {
         try_section(alloc, tally, self.trial, section)?;
@@ -40,7 +38,7 @@ impl<'a> Sections<'a> for Scripts<'a> {
 /// Tries the cases of a section: `wanted` is one, and each line of `holds` and of `fails`.
 fn try_section(
     alloc: Global,
-    tally: &mut Tally,
+    tally: &mut CaseTally,
     trial: Trial<'_>,
     section: &Section<'_>,
 ) -> Result<(), AllocError> {
@@ -57,7 +55,7 @@ fn try_section(
 
 fn try_script(
     alloc: Global,
-    tally: &mut Tally,
+    tally: &mut CaseTally,
     trial: Trial<'_>,
     section: &Section<'_>,
 ) -> Result<(), AllocError> {
@@ -69,7 +67,7 @@ fn try_script(
 /// Tries a test per line, which holds if this is what a script that discards then comes to.
 fn try_tests(
     alloc: Global,
-    tally: &mut Tally,
+    tally: &mut CaseTally,
     trial: Trial<'_>,
     section: &Section<'_>,
     wanted: &'static [u8],
@@ -88,7 +86,7 @@ impl Lines for Tests<'_> {
     fn try_line(
         &self,
         alloc: Global,
-        tally: &mut Tally,
+        tally: &mut CaseTally,
         number: usize,
         line: &str,
     ) -> Result<(), AllocError> {
@@ -100,7 +98,7 @@ impl Lines for Tests<'_> {
 
 /// A script that discards if a test holds.
 fn discard_after(alloc: Global, test: &str) -> Result<Octets, AllocError> {
-    let test = decode(alloc, test)?;
+    let test = decode_cell(alloc, test)?;
     let mut script = Octets::new(alloc);
     add_parts(
         &mut script,
@@ -129,8 +127,8 @@ fn answer_on(
 ) -> Result<Octets, AllocError> {
     let envelope = trial.envelope(alloc)?;
     match attempt(alloc, script, envelope, message, trial.when()) {
-        Ok(outcome) => of_outcome(alloc, &outcome),
-        Err(ScriptError::Fault(fault)) => of_fault(alloc, fault),
+        Ok(outcome) => report_outcome(alloc, &outcome),
+        Err(ScriptError::Fault(fault)) => report_fault(alloc, fault),
         Err(ScriptError::Memory) => Err(AllocError),
     }
 }

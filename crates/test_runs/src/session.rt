@@ -1,12 +1,12 @@
 //! Conversations: lists of events and what is answered, over a store in memory.
-use crate::answer::{add_line, add_shown};
+use crate::answer::{add_word_line, add_shown};
 use crate::cut::{add_answers, add_counts};
-use crate::event::{Post, event, login, number, octets_in, times_in};
+use crate::event::{DeliverySettings, event, login, number_in_digits, octets_in, times_in};
 use crate::question::ask;
 use crate::spare::Spare;
-use casefiles::{Section, Sections, Tally, try_sections};
-use mailengine::{Event, Ran, World, run};
-use mailstore::Store;
+use test_files::{Section, Sections, CaseTally, try_sections};
+use store_engine::{Event, RunAnswers, World, run};
+use store_accounts::Store;
 use octets::Octets;
 use sqlite::{Connection, MemStore};
 use std::alloc::{AllocError, Global};
@@ -15,7 +15,7 @@ use std::alloc::{AllocError, Global};
 const FIRST_OWN: u32 = 1_000_000;
 
 /// Tries each case of the file. The accounts stay to its end.
-pub fn try_all(alloc: Global, tally: &mut Tally, file: &str) -> Result<(), AllocError> {
+pub fn try_conversations(alloc: Global, tally: &mut CaseTally, file: &str) -> Result<(), AllocError> {
     let mut talk = Talk::new(alloc)?;
     try_sections(alloc, tally, &mut talk, file)
 }
@@ -41,7 +41,7 @@ struct Talk<'a> {
     shown: Vec<bool>,
     /// The users who send commands, each over a session of its own, whose number is the user's place here.
     users: Vec<&'a str>,
-    post: Post<'a>,
+    post: DeliverySettings<'a>,
 }
 
 impl<'a> Sections<'a> for Talk<'a> {
@@ -50,7 +50,7 @@ impl<'a> Sections<'a> for Talk<'a> {
     fn try_section(
         &mut self,
         alloc: Global,
-        tally: &mut Tally,
+        tally: &mut CaseTally,
         section: &Section<'a>,
     ) -> Result<(), AllocError> {
         match section.name {
@@ -89,7 +89,7 @@ impl<'a> Talk<'a> {
             events: Vec::new(alloc),
             shown: Vec::new(alloc),
             users: Vec::new(alloc),
-            post: Post {
+            post: DeliverySettings {
                 from: "",
                 moment: 0,
                 zone: "+0000",
@@ -102,7 +102,7 @@ impl<'a> Talk<'a> {
     fn try_answer(
         &mut self,
         alloc: Global,
-        tally: &mut Tally,
+        tally: &mut CaseTally,
         section: &Section<'_>,
     ) -> Result<(), AllocError> {
         self.apply(alloc)?;
@@ -118,7 +118,7 @@ impl<'a> Talk<'a> {
         self.add_ran(alloc, &ran)
     }
 
-    fn add_ran(&mut self, alloc: Global, ran: &Ran) -> Result<(), AllocError> {
+    fn add_ran(&mut self, alloc: Global, ran: &RunAnswers) -> Result<(), AllocError> {
         add_shown(
             alloc,
             &mut self.told,
@@ -126,7 +126,7 @@ impl<'a> Talk<'a> {
             self.shown.as_slice(),
         )?;
         if !ran.whole {
-            add_line(&mut self.told, b"", b"not whole")?;
+            add_word_line(&mut self.told, b"", b"not whole")?;
         }
         self.events.clear();
         self.shown.clear();
@@ -150,7 +150,7 @@ impl<'a> Talk<'a> {
     fn add_or_ask(
         &mut self,
         alloc: Global,
-        tally: &mut Tally,
+        tally: &mut CaseTally,
         section: &Section<'_>,
     ) -> Result<(), AllocError> {
         if self.add(alloc, section)? {
@@ -228,6 +228,6 @@ impl<'a> Talk<'a> {
 /// Appends how a section's octets are scanned that come in pieces of as many as its note says.
 fn add_scan(alloc: Global, out: &mut Octets, section: &Section<'_>) -> Result<(), AllocError> {
     let stream = octets_in(alloc, section)?;
-    let most = usize::try_from(number(section.note)).unwrap_or(0);
+    let most = usize::try_from(number_in_digits(section.note)).unwrap_or(0);
     add_counts(alloc, out, stream.as_slice(), most)
 }

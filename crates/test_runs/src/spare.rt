@@ -1,6 +1,6 @@
 //! A store beside that of the world: it is made, let go and opened again, and takes the world's place.
-use crate::answer::{add_line, add_refusal};
-use mailstore::{Refusal, Store};
+use crate::answer::{add_word_line, add_refusal};
+use store_accounts::{Refusal, Store};
 use octets::Octets;
 use sqlite::{Connection, ErrorCode, MemStore};
 use std::alloc::{AllocError, Global};
@@ -35,7 +35,7 @@ impl Spare {
             }
             other => {
                 *self = other;
-                add_line(out, b"", b"none")
+                add_word_line(out, b"", b"none")
             }
         }
     }
@@ -66,7 +66,7 @@ impl Spare {
         match came {
             Ok(store) => {
                 *self = Spare::Store(store);
-                add_line(out, word, b"")
+                add_word_line(out, word, b"")
             }
             Err((refusal, conn, _)) => {
                 *self = Spare::Connection(conn);

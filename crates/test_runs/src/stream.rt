@@ -1,9 +1,9 @@
 //! Readers and writers that fail at a call.
 use crate::run::add_left;
-use casefiles::text_in;
-use mailengine::{Envelope, When};
+use test_files::text_in;
+use store_engine::{Envelope, When};
 use octets::{Octets, parse_decimal};
-use sievedrun::try_script::try_run;
+use cli_run::try_script::try_run;
 use std::alloc::{AllocError, Global};
 use std::io;
 use std::io::{ErrorKind, Read, Write};
@@ -15,7 +15,7 @@ const TWO: &[u8] = b"44\nrequire \"fileinto\";fileinto \"a\";fileinto\"b\";";
 pub const NEVER: u64 = u64::MAX;
 
 /// What a run leaves whose input, or output, fails from the call with this number on, counted from 0.
-pub fn answer(
+pub fn answer_stream(
     alloc: Global,
     out: &mut Octets,
     call: &[u8],
@@ -38,7 +38,7 @@ fn add_tried(
     fails_as: ErrorKind,
     writes: u64,
 ) -> Result<(), AllocError> {
-    let mut input = Pieces {
+    let mut input = PieceReader {
         left: TWO,
         most: 1,
         calls: reads,
@@ -67,14 +67,14 @@ fn empty_envelope(alloc: Global) -> Envelope {
 
 /// An input that gives at most this many octets at a time, and fails from one of its calls on.
 #[derive(Drop)]
-pub struct Pieces<'a> {
+pub struct PieceReader<'a> {
     pub left: &'a [u8],
     pub most: usize,
     pub calls: u64,
     pub fails_as: ErrorKind,
 }
 
-impl Read for Pieces<'_> {
+impl Read for PieceReader<'_> {
     fn read(&mut self, buf: &mut [u8]) -> io::Result<usize> {
         if self.calls == 0 {
             return Err(io::Error::from(self.fails_as));

@@ -1,10 +1,10 @@
 //! The files of cases.
 use crate::run::MemoryRuns;
 use crate::{asked, script, session, stream};
-use casefiles::{Answers, Tally, try_rows};
+use test_files::{Answers, CaseTally, try_rows};
 use octets::Octets;
 use std::alloc::{AllocError, Global};
-use textcases::TextTable;
+use test_texts::TextTable;
 
 /// A file of cases: in tables a line is a case, and its last column is what is wanted.
 #[derive(Clone, Copy)]
@@ -73,11 +73,11 @@ impl Table {
     }
 
     /// Tries each case of the file.
-    pub fn try_all(self, alloc: Global, tally: &mut Tally, file: &str) -> Result<(), AllocError> {
+    pub fn try_all(self, alloc: Global, tally: &mut CaseTally, file: &str) -> Result<(), AllocError> {
         match self {
             Table::Text(table) => table.try_all(alloc, tally, file),
-            Table::Scripts | Table::Tests => script::try_all(alloc, tally, file),
-            Table::Sessions | Table::Events => session::try_all(alloc, tally, file),
+            Table::Scripts | Table::Tests => script::try_script_file(alloc, tally, file),
+            Table::Sessions | Table::Events => session::try_conversations(alloc, tally, file),
             Table::Runs | Table::Exports | Table::Devices => {
                 try_rows(alloc, tally, &mut MemoryRuns::new(alloc)?, file)
             }
@@ -100,7 +100,7 @@ impl Answers for Rows {
     ) -> Result<(), AllocError> {
         match given {
             [words] => asked::add_asked(alloc, out, words.as_slice()),
-            [call, number] => stream::answer(alloc, out, call.as_slice(), number.as_slice()),
+            [call, number] => stream::answer_stream(alloc, out, call.as_slice(), number.as_slice()),
             _ => out.extend_from_slice(b"not that many columns"),
         }
     }

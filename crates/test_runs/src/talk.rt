@@ -1,12 +1,12 @@
 //! Sessions of ManageSieve over a keeper: what one client is told.
-use crate::stream::{NEVER, Pieces, ShortWriter};
-use casefiles::Part::Text;
-use casefiles::add_parts;
-use keepers::Keeper;
+use crate::stream::{NEVER, PieceReader, ShortWriter};
+use test_files::LinePart::Text;
+use test_files::add_parts;
+use store_lock::Keeper;
 use octets::{Octets, parse_decimal};
-use sievedrun::fault::Fault;
-use sievedrun::session::{serve_client, serve_one};
-use sievedwords::StoreLocation;
+use cli_run::fault::RunFault;
+use cli_run::session::{serve_client, serve_one};
+use cli_subcommands::StoreLocation;
 use std::alloc::{AllocError, Global};
 use std::format;
 use std::io::ErrorKind;
@@ -48,7 +48,7 @@ fn after_login(alloc: Global, command: &[u8]) -> Result<Octets, AllocError> {
 /// Appends how a session ended, and what the client was told: all of it, or what comes after the greeting; and then what was
 /// told of the store, if anything, after a `|`. The number is how many octets a read gives at most, or of the call from which
 /// on the input or the output fails.
-pub fn answer<K: Keeper>(
+pub fn answer_talk<K: Keeper>(
     alloc: Global,
     out: &mut Octets,
     keeper: &mut K,
@@ -87,8 +87,8 @@ fn location_of(path: &str) -> StoreLocation<'_> {
 }
 
 /// What gives that many octets at a time at most.
-fn pieces_of(most: usize, left: &[u8]) -> Pieces<'_> {
-    Pieces {
+fn pieces_of(most: usize, left: &[u8]) -> PieceReader<'_> {
+    PieceReader {
         left,
         most,
         calls: NEVER,
@@ -97,8 +97,8 @@ fn pieces_of(most: usize, left: &[u8]) -> Pieces<'_> {
 }
 
 /// What gives its octets one by one, and fails from a call on.
-fn pieces_until(calls: u64, left: &[u8]) -> Pieces<'_> {
-    Pieces {
+fn pieces_until(calls: u64, left: &[u8]) -> PieceReader<'_> {
+    PieceReader {
         left,
         most: 1,
         calls,
@@ -110,7 +110,7 @@ fn pieces_until(calls: u64, left: &[u8]) -> Pieces<'_> {
 fn add_told(
     alloc: Global,
     out: &mut Octets,
-    ended: Result<(), Fault>,
+    ended: Result<(), RunFault>,
     told: &[u8],
     is_greeted: bool,
 ) -> Result<(), AllocError> {
@@ -131,7 +131,7 @@ fn add_errors(out: &mut Octets, errors: &[u8]) -> Result<(), AllocError> {
 }
 
 /// Appends how the session ended.
-fn add_end(alloc: Global, out: &mut Octets, ended: Result<(), Fault>) -> Result<(), AllocError> {
+fn add_end(alloc: Global, out: &mut Octets, ended: Result<(), RunFault>) -> Result<(), AllocError> {
     match ended {
         Ok(()) => out.extend_from_slice(b"ended|"),
         Err(fault) => out.extend_from_slice(format!(in alloc; "{fault}|")?.as_bytes()),

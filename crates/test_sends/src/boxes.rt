@@ -1,7 +1,7 @@
 //! Texts that are mailboxes, or none.
-use casefiles::Answers;
+use test_files::Answers;
 use octets::Octets;
-use smtpclient::is_mailbox;
+use smtp_dialogue::is_smtp_mailbox;
 use std::alloc::{AllocError, Global};
 
 /// Answers `yes` or `no` to a text.
@@ -16,7 +16,7 @@ impl Answers for Boxes {
         given: &[Octets],
     ) -> Result<(), AllocError> {
         let holds = match given {
-            [text] => is_mailbox(text.as_slice()),
+            [text] => is_smtp_mailbox(text.as_slice()),
             _ => false,
         };
         out.extend_from_slice(if holds { b"yes" } else { b"no" })

@@ -1,9 +1,9 @@
 //! Runs over queues in memory, with a server that sends given octets.
 use crate::memory_journal::MemoryJournal;
 use crate::memory_peer::MemoryPeer;
-use crate::memory_queue::{Change, MemoryQueue};
-use casefiles::Answers;
-use mailsenders::{Client, Row, send_queue};
+use crate::memory_queue::{QueueChange, MemoryQueue};
+use test_files::Answers;
+use smtp_send::{SmtpClient, DueMessage, send_queue};
 use octets::{Octets, parse_decimal, write_decimal};
 use std::alloc::{AllocError, Global};
 
@@ -154,13 +154,13 @@ fn change_of<'a>(
     id: u64,
     kind: &[u8],
     others: &'a [Octets],
-) -> Result<(Change, &'a [Octets]), AllocError> {
+) -> Result<(QueueChange, &'a [Octets]), AllocError> {
     match others {
         [sender, target, message, rows @ ..] if kind == b"other".as_slice() => {
             let row = row_of(alloc, id, sender, target, message)?;
-            Ok((Change::Other(row), rows))
+            Ok((QueueChange::Other(row), rows))
         }
-        rows => Ok((Change::Gone(id), rows)),
+        rows => Ok((QueueChange::Gone(id), rows)),
     }
 }
 
@@ -195,16 +195,16 @@ struct Answer {
 
 impl Run<'_> {
     fn answer(self, alloc: Global) -> Result<Answer, AllocError> {
-        self.answer_with(alloc, Change::None)
+        self.answer_with(alloc, QueueChange::None)
     }
 
-    fn answer_with(self, alloc: Global, change: Change) -> Result<Answer, AllocError> {
+    fn answer_with(self, alloc: Global, change: QueueChange) -> Result<Answer, AllocError> {
         let mut queue = queue_of(alloc, self.rows, self.refusals, self.looks)?;
         queue.set_change(change);
         let mut journal = MemoryJournal::new(alloc, self.span);
         let host = Octets::from_slice(alloc, b"h")?;
         let peer = MemoryPeer::new(alloc, self.server, self.most);
-        let mut client = Client::new(alloc, peer, host);
+        let mut client = SmtpClient::new(alloc, peer, host);
         let ended = send_queue(
             alloc,
             &mut queue,
@@ -255,8 +255,8 @@ fn row_of(
     sender: &Octets,
     target: &Octets,
     message: &Octets,
-) -> Result<Row, AllocError> {
-    Ok(Row {
+) -> Result<DueMessage, AllocError> {
+    Ok(DueMessage {
         user: Octets::from_slice(alloc, b"u")?,
         id,
         sender: sender.try_clone(alloc)?,

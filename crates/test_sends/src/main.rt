@@ -11,7 +11,7 @@ mod memory_peer;
 mod memory_queue;
 
 use boxes::Boxes;
-use casefiles::{Answers, Tally, try_rows};
+use test_files::{Answers, CaseTally, try_rows};
 use letters::{Changes, Holdings, Letters, Refusals};
 use std::process::ExitCode;
 use std::{fs, io};
@@ -29,7 +29,7 @@ fn main(rt: HostRuntime) -> io::Result<ExitCode> {
 // Tries the rows of a file. Returns whether one of them doesn't hold.
 fn try_file<A: Answers>(rt: &HostRuntime, name: &str, answers: &mut A) -> io::Result<bool> {
     let file = fs::read_to_string(rt, name)?;
-    let mut tally = Tally::new(rt.alloc());
+    let mut tally = CaseTally::new(rt.alloc());
     try_rows(rt.alloc(), &mut tally, answers, file.as_str())?;
     println!(rt; "{name}: {} hold", tally.count())?;
     for line in tally.failures().lines() {

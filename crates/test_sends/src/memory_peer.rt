@@ -1,7 +1,7 @@
 //! A connection in memory.
 ghost use Rattle.std.specs.Prelude.{◌≡◌, ◌≤◌, length};
 
-use mailsenders::{Lost, Patience, Peer};
+use smtp_send::{Lost, Patience, SmtpPeer};
 use octets::Octets;
 use std::alloc::Global;
 
@@ -49,7 +49,7 @@ impl<'a> MemoryPeer<'a> {
     }
 }
 
-impl<'a> Peer for MemoryPeer<'a> {
+impl<'a> SmtpPeer for MemoryPeer<'a> {
     ghost passed = { λ peer sent came. ⊥ };
 
     fn connect(&mut self) -> Result<(), Lost> {

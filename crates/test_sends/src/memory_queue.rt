@@ -1,5 +1,5 @@
 //! Queues in memory.
-use mailsenders::{Queue, Row, TakenOut, Unavailable};
+use smtp_send::{SendQueue, DueMessage, TakenOut, QueueUnavailable};
 use octets::{List, Octets};
 use std::alloc::{AllocError, Global};
 
@@ -8,20 +8,20 @@ const MAX_HAD: u64 = 1_000;
 
 /// What another makes of the row with a number, once the store is given back after it was found.
 #[derive(Drop)]
-pub enum Change {
+pub enum QueueChange {
     /// Nothing.
     None,
     /// It is taken out.
     Gone(u64),
     /// It is taken out, and this one has its number.
-    Other(Row),
+    Other(DueMessage),
 }
 
 /// Rows of queues, in their order.
 #[derive(Drop)]
 pub struct MemoryQueue {
     alloc: Global,
-    rows: List<Row>,
+    rows: List<DueMessage>,
     /// Which are taken out, in the order of the rows.
     gone: Vec<bool>,
     /// How many more times a row that is to be taken out is refused.
@@ -32,7 +32,7 @@ pub struct MemoryQueue {
     since: Option<u64>,
     /// How many looks come before the one at which somebody waits; none if nobody does.
     looks: Option<u64>,
-    change: Change,
+    change: QueueChange,
     /// The number of the row that was found last.
     found: u64,
     trace: Octets,
@@ -50,19 +50,19 @@ impl MemoryQueue {
             is_had: false,
             since: None,
             looks,
-            change: Change::None,
+            change: QueueChange::None,
             found: 0,
             trace: Octets::new(alloc),
         }
     }
 
     /// What another makes of a row.
-    pub fn set_change(&mut self, change: Change) {
+    pub fn set_change(&mut self, change: QueueChange) {
         self.change = change;
     }
 
     /// Adds a row after the others.
-    pub fn push(&mut self, row: Row) -> Result<(), AllocError> {
+    pub fn push(&mut self, row: DueMessage) -> Result<(), AllocError> {
         self.rows.push(row)?;
         self.gone.push(false)?;
         Ok(())
@@ -93,9 +93,9 @@ impl MemoryQueue {
 
     // What another makes of the row that was found last.
     fn make_change(&mut self) {
-        match std::mem::replace(&mut self.change, Change::None) {
-            Change::Gone(id) if id == self.found => self.drop_row(id),
-            Change::Other(row) if row.id == self.found => {
+        match std::mem::replace(&mut self.change, QueueChange::None) {
+            QueueChange::Gone(id) if id == self.found => self.drop_row(id),
+            QueueChange::Other(row) if row.id == self.found => {
                 self.drop_row(row.id);
                 let _ = self.push(row);
             }
@@ -112,7 +112,7 @@ impl MemoryQueue {
     }
 
     // Takes out what has the number of a row, if it is that row.
-    fn remove(&mut self, sent: &Row) -> TakenOut {
+    fn remove(&mut self, sent: &DueMessage) -> TakenOut {
         let mut taken = TakenOut::Gone;
         for (row, gone) in self.rows.as_slice().iter().zip(self.gone.iter_mut()) {
             if !*gone && row.user == sent.user && row.id == sent.id {
@@ -147,7 +147,7 @@ impl MemoryQueue {
         looks == Some(0)
     }
 
-    fn find(&self, user: &[u8], id: u64) -> Result<Option<Row>, AllocError> {
+    fn find(&self, user: &[u8], id: u64) -> Result<Option<DueMessage>, AllocError> {
         for (row, gone) in self.rows.as_slice().iter().zip(self.gone.as_slice()) {
             if !*gone && comes_after(row, user, id) {
                 return Ok(Some(copy_of(self.alloc, row)?));
@@ -168,10 +168,10 @@ impl MemoryQueue {
     }
 }
 
-impl Queue for MemoryQueue {
+impl SendQueue for MemoryQueue {
     ghost shows = { λ queue rows. ⊥ };
 
-    fn next(&mut self, user: &[u8], id: u64) -> Result<Option<Row>, Unavailable> {
+    fn next(&mut self, user: &[u8], id: u64) -> Result<Option<DueMessage>, QueueUnavailable> {
         self.take();
         match self.find(user, id) {
             Ok(Some(row)) => {
@@ -183,17 +183,17 @@ impl Queue for MemoryQueue {
                 self.note(b".", None);
                 Ok(None)
             }
-            Err(_) => Err(Unavailable::Memory),
+            Err(_) => Err(QueueUnavailable::Memory),
         }
     }
 
-    fn take_out(&mut self, row: &Row) -> Result<TakenOut, Unavailable> {
+    fn take_out(&mut self, row: &DueMessage) -> Result<TakenOut, QueueUnavailable> {
         self.take();
         if let Some(left) = self.refusals.checked_sub(1) {
             self.refusals = left;
             self.note(b"!", None);
             self.hand_back();
-            return Err(Unavailable::Store);
+            return Err(QueueUnavailable::Store);
         }
         let taken = self.remove(row);
         let mark = match taken {
@@ -228,17 +228,17 @@ impl Queue for MemoryQueue {
 }
 
 // Whether a row has the sender, the target and the message of another one.
-fn has_octets(row: &Row, other: &Row) -> bool {
+fn has_octets(row: &DueMessage, other: &DueMessage) -> bool {
     row.sender == other.sender && row.target == other.target && row.message == other.message
 }
 
 // Whether a row comes after a place.
-fn comes_after(row: &Row, user: &[u8], id: u64) -> bool {
+fn comes_after(row: &DueMessage, user: &[u8], id: u64) -> bool {
     row.user.as_slice() > user || (row.user.as_slice() == user && row.id > id)
 }
 
-fn copy_of(alloc: Global, row: &Row) -> Result<Row, AllocError> {
-    Ok(Row {
+fn copy_of(alloc: Global, row: &DueMessage) -> Result<DueMessage, AllocError> {
+    Ok(DueMessage {
         user: row.user.try_clone(alloc)?,
         id: row.id,
         sender: row.sender.try_clone(alloc)?,
@@ -248,8 +248,8 @@ fn copy_of(alloc: Global, row: &Row) -> Result<Row, AllocError> {
 }
 
 // The row that somebody else adds after this many others.
-fn row_of_other(alloc: Global, count: usize) -> Result<Row, AllocError> {
-    Ok(Row {
+fn row_of_other(alloc: Global, count: usize) -> Result<DueMessage, AllocError> {
+    Ok(DueMessage {
         user: Octets::from_slice(alloc, b"u")?,
         id: u64::try_from(count).unwrap_or(0).saturating_add(1),
         sender: Octets::new(alloc),

@@ -2,25 +2,25 @@
 use Rattle.std.specs.Prelude.{◌≡◌, ℕ, ◌+◌, ◌%◌, ◌^◌, ◌==◌, ◌&&◌, ◌||◌, nat_le, nat_lt, not, if◌then◌else◌, List, [], ◌∷◌, Option, Some, None}
 use Rattle.std.specs.BTreeMap as tree
 use Rattle.std.specs.Ordering.{nat_cmp}
-use Rattle.wires.specs.declared.machine.Claim.{Claim}
-use Rattle.wires.specs.declared.machine.Want.{Want}
-use Rattle.wires.specs.declared.machine.Want.TheVariants as want
-use Rattle.wires.specs.Rules.{Rules}
-use Rattle.wirefakes.specs.declared.desk.Note.{Note}
-use Rattle.wirefakes.specs.declared.desk.Note.TheVariants.{Answered, Added, Ticked}
-use Rattle.wirefakes.specs.declared.echo.Guest.{Guest}
-use Rattle.wirefakes.specs.declared.echo.Echo.{Echo}
+use Rattle.net_loop.specs.declared.machine.Claim.{Claim}
+use Rattle.net_loop.specs.declared.machine.Want.{Want}
+use Rattle.net_loop.specs.declared.machine.Want.TheVariants as want
+use Rattle.net_loop.specs.Rules.{Rules}
+use Rattle.test_sockets.specs.declared.echo_outside.EchoNote.{EchoNote}
+use Rattle.test_sockets.specs.declared.echo_outside.EchoNote.TheVariants.{Answered, Added, Ticked}
+use Rattle.test_sockets.specs.declared.echo.Guest.{Guest}
+use Rattle.test_sockets.specs.declared.echo.Echo.{Echo}
 
 abbrev pub guest_of : Echo → ℕ → Option Guest
 guest_of m id = tree.get nat_cmp m.guests id
 
-abbrev pub want_by : Option Guest → Want
-want_by (Some g) = g.want
-want_by None = want.Done
+abbrev pub echo_want_by : Option Guest → Want
+echo_want_by (Some g) = g.want
+echo_want_by None = want.Done
 
-abbrev pub deadline_by : Option Guest → ℕ
-deadline_by (Some g) = g.deadline
-deadline_by None = 0
+abbrev pub echo_deadline_by : Option Guest → ℕ
+echo_deadline_by (Some g) = g.deadline
+echo_deadline_by None = 0
 
 -- of the third kind one that hasn't said a line makes room, and of the fourth one that came a second ago; the first that came before others
 abbrev pub claim_of : ℕ → Guest → Option Claim
@@ -29,35 +29,35 @@ claim_of now g =
     else if g.kind == 3 || ((g.kind == 4) && nat_le ((g.came + 1000) % 2 ^ 64) now) then Some (record { rank = 0; moment = g.came })
     else None
 
-abbrev pub claim_by : ℕ → Option Guest → Option Claim
-claim_by now (Some g) = claim_of now g
-claim_by now None = None
+abbrev pub echo_claim_by : ℕ → Option Guest → Option Claim
+echo_claim_by now (Some g) = claim_of now g
+echo_claim_by now None = None
 
 -- what a step or its own work makes of the total
-abbrev pub Totals : Note → ℕ → ℕ → Type 0
+abbrev pub Totals : EchoNote → ℕ → ℕ → Type 0
 Totals Answered total later = later ≡ total
 Totals (Added count) total later = later ≡ (total + count) % 2 ^ 64
 Totals Ticked total later = later ≡ total
 
 -- `hi`, `end`, and CRLF
-abbrev pub greeting : List ℕ
-greeting = 104 ∷ 105 ∷ 13 ∷ 10 ∷ []
+abbrev pub echo_greeting : List ℕ
+echo_greeting = 104 ∷ 105 ∷ 13 ∷ 10 ∷ []
 
-abbrev pub farewell : List ℕ
-farewell = 101 ∷ 110 ∷ 100 ∷ 13 ∷ 10 ∷ []
+abbrev pub echo_farewell : List ℕ
+echo_farewell = 101 ∷ 110 ∷ 100 ∷ 13 ∷ 10 ∷ []
 
-abbrev pub echo_rules : Rules Echo Note ℕ
+abbrev pub echo_rules : Rules Echo EchoNote ℕ
 echo_rules = record {
   limit = λ kind. if kind == 1 then 64 else 2;
-  claim = λ m now id. claim_by now (guest_of m id);
-  wants = λ m id. want_by (guest_of m id);
+  claim = λ m now id. echo_claim_by now (guest_of m id);
+  wants = λ m id. echo_want_by (guest_of m id);
   has_work = λ m now. not (nat_lt now m.due);
   patience = λ m. 1000;
-  deadline = λ m id. deadline_by (guest_of m id);
-  opens = λ m now kind id said n. (said ≡ greeting) × (n.due ≡ m.due);
+  deadline = λ m id. echo_deadline_by (guest_of m id);
+  opens = λ m now kind id said n. (said ≡ echo_greeting) × (n.due ≡ m.due);
   gives = λ m now id piece said n. (said ≡ []) × (n.due ≡ m.due);
   steps = λ m r now id note said n q. Totals note r q × (n.due ≡ m.due);
-  lates = λ m now id said n. (said ≡ farewell) × (n.due ≡ m.due);
+  lates = λ m now id said n. (said ≡ echo_farewell) × (n.due ≡ m.due);
   works = λ m r now note n q. (note ≡ Ticked) × (q ≡ r) × (n.due ≡ (now + 1000) % 2 ^ 64);
   lacks = λ m id n. n.due ≡ m.due;
   closes = λ m now id n. (guest_of n id ≡ None) × (n.due ≡ m.due);

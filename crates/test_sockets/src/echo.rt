@@ -1,13 +1,13 @@
 //! A machine that says back each line.
 ghost use Rattle.std.specs.Prelude.{◌≡◌, ◌<◌, ◌==◌, ◌&&◌, [], length, IfSome, find, option_map, if◌then◌else◌, not, None, Some};
 ghost use Rattle.std.specs.BTreeMap as tree;
-ghost use Rattle.wirefakes.specs.EchoRules.{echo_rules, claim_by, want_by, deadline_by, guest_of};
+ghost use Rattle.test_sockets.specs.EchoRules.{echo_rules, echo_claim_by, echo_want_by, echo_deadline_by, guest_of};
 
-use crate::desk::Desk;
+use crate::echo_outside::EchoOutside;
 use octets::{Octets, Pending, parse_decimal, write_decimal};
 use std::alloc::{AllocError, Global};
 use std::collections::BTreeMap;
-use wires::machine::{Claim, Machine, Want};
+use net_loop::machine::{Claim, Machine, Want};
 
 /// No line is longer.
 const MAX_LINE: usize = 100;
@@ -87,7 +87,7 @@ impl Guest {
 
     /// Of the third kind one that hasn't said a line makes room, and of the fourth one that came a second ago.
     fn claim(&self, now: u64) -> Option<Claim>
-        ensures { result ≡ claim_by now (Some self.now) }
+        ensures { result ≡ echo_claim_by now (Some self.now) }
     {
         if self.known {
             return None;
@@ -197,7 +197,7 @@ fn say_total(out: &mut Octets, total: u64) -> Result<(), AllocError> {
     out.extend_from_slice(b"\r\n")
 }
 
-impl<O: Desk> Machine<O> for Echo {
+impl<O: EchoOutside> Machine<O> for Echo {
     ghost rules = { echo_rules };
 
     fn limit(&self, kind: u32) -> usize {

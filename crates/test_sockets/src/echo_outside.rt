@@ -1,16 +1,16 @@
 //! What the echo acts on: a total.
 ghost use Rattle.std.specs.Prelude.{◌≡◌, ◌+◌, ◌%◌, ◌^◌, IsTrue};
-ghost use Rattle.wires.specs.Told.{TellsIf, LeavesIf};
-ghost use Rattle.wires.specs.declared.act.Act.TheVariants.{Noted, Worked};
-ghost use Rattle.wirefakes.specs.declared.desk.Note.TheVariants.{Answered, Added, Ticked};
+ghost use Rattle.net_loop.specs.Told.{TellsIf, LeavesIf};
+ghost use Rattle.net_loop.specs.declared.act.Act.TheVariants.{Noted, Worked};
+ghost use Rattle.test_sockets.specs.declared.echo_outside.EchoNote.TheVariants.{Answered, Added, Ticked};
 
-use crate::stage::Stage;
-use wires::act::Act;
-use wires::outside::Outside;
+use crate::stage::FakeNetwork;
+use net_loop::act::Act;
+use net_loop::outside::Outside;
 
 /// What the echo notes.
 #[derive(Clone, Copy, Debug, PartialEq, Eq)]
-pub enum Note {
+pub enum EchoNote {
     /// It did nothing but answer.
     Answered,
     /// It added this much to the total.
@@ -20,7 +20,7 @@ pub enum Note {
 }
 
 /// A total, beside sockets and a clock.
-pub trait Desk: Outside<Note = Note, Rest = u64> {
+pub trait EchoOutside: Outside<Note = EchoNote, Rest = u64> {
     /// Adds to the total, which begins anew after 2^64 - 1, and returns it.
     fn add(&mut self, id: u32, count: u64) -> u64
         ensures told { TellsIf Self.tells Self.seen self.old (Noted id (Added count)) self.new }
@@ -41,19 +41,19 @@ pub trait Desk: Outside<Note = Note, Rest = u64> {
         ensures kept { IsTrue (Self.tells self.new) → IsTrue (Self.tells self.old) };
 }
 
-impl Desk for Stage<Note, u64> {
+impl EchoOutside for FakeNetwork<EchoNote, u64> {
     fn add(&mut self, id: u32, count: u64) -> u64 {
         let total = self.fake.rest.wrapping_add(count);
         self.fake.rest = total;
-        self.keep(Act::Noted(id, Note::Added(count)));
+        self.keep(Act::Noted(id, EchoNote::Added(count)));
         total
     }
 
     fn answered(&mut self, id: u32) {
-        self.keep(Act::Noted(id, Note::Answered));
+        self.keep(Act::Noted(id, EchoNote::Answered));
     }
 
     fn ticked(&mut self) {
-        self.keep(Act::Worked(Note::Ticked));
+        self.keep(Act::Worked(EchoNote::Ticked));
     }
 }

@@ -1,15 +1,15 @@
 //! The outside, in memory.
 ghost use Rattle.std.specs.Prelude.{◌≡◌, ◌<◌, ◌≤◌, [], ◌∷◌, ◌++◌, length, false, not, IsTrue, IfOk};
-ghost use Rattle.wires.specs.declared.act.Act.TheVariants.{Woke};
-ghost use Rattle.wires.specs.Told.{IsOwn, AfterRead, AfterDiscard, AfterWrite, ReadFits, DiscardFits, WriteFits};
+ghost use Rattle.net_loop.specs.declared.act.Act.TheVariants.{Woke};
+ghost use Rattle.net_loop.specs.Told.{IsLoopAct, AfterRead, AfterDiscard, AfterWrite, ReadFits, DiscardFits, WriteFits};
 
-use crate::script::{Reading, Script};
+use crate::script::{Reading, SocketScript};
 use octets::{List, Octets};
 use std::alloc::{AllocError, Global};
 use std::collections::VecDeque;
-use wires::act::Act;
-use wires::outcome::{Accepted, Fault, Input, Output, Wake};
-use wires::outside::{Clock, Outside, Sockets};
+use net_loop::act::Act;
+use net_loop::outcome::{Accepted, WaitError, Input, Output, Wake};
+use net_loop::outside::{Clock, Outside, Sockets};
 
 /// No more octets are dropped at once.
 const MAX_DISCARD: usize = 4096;
@@ -21,7 +21,7 @@ const MAX_DISCARD: usize = 4096;
 #[derive(Drop)]
 pub struct Fake<N: Drop, R: Drop> {
     pub alloc: Global,
-    pub script: Script,
+    pub script: SocketScript,
     /// What the clock showed last.
     pub moment: u64,
     pub acts: Vec<Act<N>>,
@@ -33,7 +33,7 @@ pub struct Fake<N: Drop, R: Drop> {
 
 impl<N: Drop, R: Drop> Fake<N, R> {
     /// Nothing has happened yet.
-    pub fn new(alloc: Global, script: Script, rest: R) -> Fake<N, R>
+    pub fn new(alloc: Global, script: SocketScript, rest: R) -> Fake<N, R>
         ensures acts { result.acts.items ≡ [] }
         ensures rest { result.rest ≡ rest }
         ensures tells { IsTrue (not result.lost) }
@@ -217,7 +217,7 @@ impl<N: Drop, R: Drop> Outside for Fake<N, R> {
 }
 
 impl<N: Drop, R: Drop> Sockets for Fake<N, R> {
-    fn wait(&mut self, within: u32, ready: &mut VecDeque<Wake>) -> Result<(), Fault> {
+    fn wait(&mut self, within: u32, ready: &mut VecDeque<Wake>) -> Result<(), WaitError> {
         let wakes = self.script.next_wakes(self.alloc);
         self.answer_wait(within, wakes.as_slice(), ready);
         Ok(())
@@ -269,7 +269,7 @@ impl<N: Drop, R: Drop> Sockets for Fake<N, R> {
     }
 
     fn note(&mut self, act: Act<N>)
-        requires { IsOwn act }
+        requires { IsLoopAct act }
         ensures seen { IsTrue (not self.new.lost) → self.new.acts.items ≡ self.old.acts.items ++ act ∷ [] }
         ensures left { self.new.rest ≡ self.old.rest }
         ensures kept { IsTrue (not self.new.lost) → IsTrue (not self.old.lost) }

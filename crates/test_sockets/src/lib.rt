@@ -1,7 +1,7 @@
 //! All that is outside of the loop, in memory: it follows a script, and tells all acts.
 #![tactic(auto)]
 
-pub mod desk;
+pub mod echo_outside;
 pub mod echo;
 pub mod fake;
 pub mod peer;

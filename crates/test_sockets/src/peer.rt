@@ -19,7 +19,7 @@ pub enum Side {
 
 /// A client, as it is at the other end.
 #[derive(Drop)]
-pub struct Peer {
+pub struct FakePeer {
     pub name: Octets,
     /// Of which listener it is.
     pub kind: u32,
@@ -39,10 +39,10 @@ pub struct Peer {
     pub closed: bool,
 }
 
-impl Peer {
+impl FakePeer {
     /// One that knocks.
-    pub fn new(alloc: Global, name: Octets, kind: u32) -> Peer {
-        Peer {
+    pub fn new(alloc: Global, name: Octets, kind: u32) -> FakePeer {
+        FakePeer {
             name,
             kind,
             id: None,

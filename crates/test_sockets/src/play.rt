@@ -1,18 +1,18 @@
 //! Plays a schedule on a machine.
-use crate::peer::{Peer, Side};
-use crate::schedule::{Deed, Entry, Schedule};
-use crate::stage::Staged;
+use crate::peer::{FakePeer, Side};
+use crate::schedule::{PeerAct, Entry, Schedule};
+use crate::stage::HasFakeNetwork;
 use octets::{List, Octets, Pending};
 use std::alloc::{AllocError, Global};
-use wires::machine::Machine;
-use wires::service::{Service, act};
+use net_loop::machine::Machine;
+use net_loop::service::{Service, act};
 
 /// How many acts may follow until all is done that can be done.
 const MAX_ACTS: u32 = 10_000_000;
 
 /// What was wanted at a line of a schedule, and what came.
 #[derive(Drop)]
-pub struct Check {
+pub struct ScheduleCheck {
     /// The number of the line, counted from 1; 0 at the end.
     pub line: usize,
     pub wanted: Octets,
@@ -20,14 +20,14 @@ pub struct Check {
 }
 
 /// Handles the entries of a schedule that are the machine's own.
-pub trait Owner<O> {
+pub trait ScheduleOwner<O> {
     /// One such entry; `checks` gets what it wants and what came.
     fn own(
         &mut self,
         outside: &mut O,
         line: usize,
         text: &[u8],
-        checks: &mut List<Check>,
+        checks: &mut List<ScheduleCheck>,
     ) -> Result<(), AllocError>;
 }
 
@@ -40,10 +40,10 @@ pub struct Player<O: Drop, M: Drop, W: Drop> {
     pub service: Service,
     pub owner: W,
     /// All that was wanted so far, and what came.
-    pub checks: List<Check>,
+    pub checks: List<ScheduleCheck>,
 }
 
-impl<O: Staged + Drop, M: Machine<O> + Drop, W: Owner<O> + Drop> Player<O, M, W> {
+impl<O: HasFakeNetwork + Drop, M: Machine<O> + Drop, W: ScheduleOwner<O> + Drop> Player<O, M, W> {
     /// Plays all entries, one after the other.
     ///
     /// # Errors
@@ -83,7 +83,7 @@ impl<O: Staged + Drop, M: Machine<O> + Drop, W: Owner<O> + Drop> Player<O, M, W>
     }
 
     fn check(&mut self, line: usize, wanted: &[u8], got: &[u8]) -> Result<(), AllocError> {
-        let check = Check {
+        let check = ScheduleCheck {
             line,
             wanted: Octets::from_slice(self.alloc, wanted)?,
             got: Octets::from_slice(self.alloc, got)?,
@@ -91,13 +91,13 @@ impl<O: Staged + Drop, M: Machine<O> + Drop, W: Owner<O> + Drop> Player<O, M, W>
         self.checks.push(check)
     }
 
-    fn play_deed(&mut self, line: usize, name: &[u8], deed: &Deed) -> Result<(), AllocError> {
+    fn play_deed(&mut self, line: usize, name: &[u8], deed: &PeerAct) -> Result<(), AllocError> {
         match deed {
-            Deed::Comes(kind) => {
+            PeerAct::Comes(kind) => {
                 let name = Octets::from_slice(self.alloc, name)?;
                 self.outside.stage().come(name, *kind)
             }
-            Deed::Has(_) | Deed::IsOpen | Deed::IsShut | Deed::IsClosed => {
+            PeerAct::Has(_) | PeerAct::IsOpen | PeerAct::IsShut | PeerAct::IsClosed => {
                 self.settle(line)?;
                 self.look(line, name, deed)
             }
@@ -106,7 +106,7 @@ impl<O: Staged + Drop, M: Machine<O> + Drop, W: Owner<O> + Drop> Player<O, M, W>
     }
 
     /// A client does something.
-    fn act_as(&mut self, line: usize, name: &[u8], deed: &Deed) -> Result<(), AllocError> {
+    fn act_as(&mut self, line: usize, name: &[u8], deed: &PeerAct) -> Result<(), AllocError> {
         let stage = self.outside.stage();
         stage.idle = 0;
         match find_peer(&mut stage.peers, name) {
@@ -116,12 +116,12 @@ impl<O: Staged + Drop, M: Machine<O> + Drop, W: Owner<O> + Drop> Player<O, M, W>
     }
 
     /// What a client got.
-    fn look(&mut self, line: usize, name: &[u8], deed: &Deed) -> Result<(), AllocError> {
+    fn look(&mut self, line: usize, name: &[u8], deed: &PeerAct) -> Result<(), AllocError> {
         let alloc = self.alloc;
         match find_peer(&mut self.outside.stage().peers, name) {
             Some(peer) => {
                 let (wanted, got) = seen_by(alloc, peer, deed)?;
-                self.checks.push(Check { line, wanted, got })
+                self.checks.push(ScheduleCheck { line, wanted, got })
             }
             None => self.check(line, b"a client that came", name),
         }
@@ -131,7 +131,7 @@ impl<O: Staged + Drop, M: Machine<O> + Drop, W: Owner<O> + Drop> Player<O, M, W>
     fn check_rest(&mut self) -> Result<(), AllocError> {
         let stage = self.outside.stage();
         for peer in stage.peers.as_slice() {
-            let check = Check {
+            let check = ScheduleCheck {
                 line: 0,
                 wanted: Octets::new(self.alloc),
                 got: peer.sent.try_clone(self.alloc)?,
@@ -142,28 +142,28 @@ impl<O: Staged + Drop, M: Machine<O> + Drop, W: Owner<O> + Drop> Player<O, M, W>
     }
 }
 
-fn find_peer<'a>(peers: &'a mut Vec<Peer>, name: &[u8]) -> Option<&'a mut Peer> {
+fn find_peer<'a>(peers: &'a mut Vec<FakePeer>, name: &[u8]) -> Option<&'a mut FakePeer> {
     let at = peers.iter().position(|peer| peer.name.as_slice() == name)?;
     peers.get_mut(at)
 }
 
-fn act_by(alloc: Global, peer: &mut Peer, deed: &Deed) -> Result<(), AllocError> {
+fn act_by(alloc: Global, peer: &mut FakePeer, deed: &PeerAct) -> Result<(), AllocError> {
     peer.news = true;
     match deed {
-        Deed::Says(text) => return say(alloc, peer, text.as_slice()),
-        Deed::Goes => {
+        PeerAct::Says(text) => return say(alloc, peer, text.as_slice()),
+        PeerAct::Goes => {
             peer.side = Side::Over;
         }
-        Deed::Fails => {
+        PeerAct::Fails => {
             peer.side = Side::Failed;
         }
-        Deed::TakesNothing => {
+        PeerAct::TakesNothing => {
             peer.room = Some(0);
         }
-        Deed::Takes(count) => {
+        PeerAct::Takes(count) => {
             peer.room = Some(peer.room.unwrap_or(0).saturating_add(*count));
         }
-        Deed::TakesAll => {
+        PeerAct::TakesAll => {
             peer.room = None;
         }
         _ => {}
@@ -171,7 +171,7 @@ fn act_by(alloc: Global, peer: &mut Peer, deed: &Deed) -> Result<(), AllocError>
     Ok(())
 }
 
-fn say(alloc: Global, peer: &mut Peer, text: &[u8]) -> Result<(), AllocError> {
+fn say(alloc: Global, peer: &mut FakePeer, text: &[u8]) -> Result<(), AllocError> {
     if text.is_empty() {
         return Ok(());
     }
@@ -183,9 +183,9 @@ fn say(alloc: Global, peer: &mut Peer, text: &[u8]) -> Result<(), AllocError> {
 }
 
 /// What an entry wants, and what came.
-fn seen_by(alloc: Global, peer: &mut Peer, deed: &Deed) -> Result<(Octets, Octets), AllocError> {
+fn seen_by(alloc: Global, peer: &mut FakePeer, deed: &PeerAct) -> Result<(Octets, Octets), AllocError> {
     match deed {
-        Deed::Has(text) => {
+        PeerAct::Has(text) => {
             let got = peer.sent.try_clone(alloc)?;
             peer.sent = Octets::new(alloc);
             Ok((text.try_clone(alloc)?, got))
@@ -197,7 +197,7 @@ fn seen_by(alloc: Global, peer: &mut Peer, deed: &Deed) -> Result<(Octets, Octet
     }
 }
 
-fn state_of(peer: &Peer) -> &'static [u8] {
+fn state_of(peer: &FakePeer) -> &'static [u8] {
     if peer.closed {
         b"closed"
     } else if peer.shut {
@@ -207,10 +207,10 @@ fn state_of(peer: &Peer) -> &'static [u8] {
     }
 }
 
-fn state_wanted(deed: &Deed) -> &'static [u8] {
+fn state_wanted(deed: &PeerAct) -> &'static [u8] {
     match deed {
-        Deed::IsClosed => b"closed",
-        Deed::IsShut => b"shut",
+        PeerAct::IsClosed => b"closed",
+        PeerAct::IsShut => b"shut",
         _ => b"open",
     }
 }

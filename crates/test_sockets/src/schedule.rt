@@ -7,7 +7,7 @@ use std::alloc::{AllocError, Global};
 #[derive(Drop)]
 pub enum Entry {
     /// What a client does, or must have got.
-    Of(Octets, Deed),
+    Of(Octets, PeerAct),
     /// The clock shows this moment, in milliseconds.
     Clock(u64),
     /// The server does all that it can do by now.
@@ -18,7 +18,7 @@ pub enum Entry {
 
 /// What a client does, or must have got.
 #[derive(Drop)]
-pub enum Deed {
+pub enum PeerAct {
     /// It connects, through the listener of that kind.
     Comes(u32),
     /// It sends these octets, in one piece.
@@ -134,21 +134,21 @@ fn parse_deed_of(alloc: Global, name: &[u8], rest: &[u8]) -> Result<Option<Entry
     }
 }
 
-fn parse_deed(alloc: Global, verb: &[u8], what: &[u8]) -> Result<Option<Deed>, AllocError> {
+fn parse_deed(alloc: Global, verb: &[u8], what: &[u8]) -> Result<Option<PeerAct>, AllocError> {
     match verb {
         b"says" => Ok(match parse_text(alloc, what)? {
-            Some(text) => Some(Deed::Says(text)),
+            Some(text) => Some(PeerAct::Says(text)),
             None => None,
         }),
         b"has" => Ok(match parse_text(alloc, what)? {
-            Some(text) => Some(Deed::Has(text)),
+            Some(text) => Some(PeerAct::Has(text)),
             None => None,
         }),
         b"comes" => Ok(parse_kind(what)),
         b"takes" => Ok(parse_taking(what)),
         b"is" => Ok(parse_state(what)),
         b"goes" => Ok(if what.is_empty() {
-            Some(Deed::Goes)
+            Some(PeerAct::Goes)
         } else {
             None
         }),
@@ -156,30 +156,30 @@ fn parse_deed(alloc: Global, verb: &[u8], what: &[u8]) -> Result<Option<Deed>, A
     }
 }
 
-fn parse_kind(what: &[u8]) -> Option<Deed> {
+fn parse_kind(what: &[u8]) -> Option<PeerAct> {
     match u32::try_from(parse_decimal(what)?) {
-        Ok(kind) => Some(Deed::Comes(kind)),
+        Ok(kind) => Some(PeerAct::Comes(kind)),
         Err(_) => None,
     }
 }
 
-fn parse_taking(what: &[u8]) -> Option<Deed> {
+fn parse_taking(what: &[u8]) -> Option<PeerAct> {
     match what {
-        b"nothing" => Some(Deed::TakesNothing),
-        b"all" => Some(Deed::TakesAll),
+        b"nothing" => Some(PeerAct::TakesNothing),
+        b"all" => Some(PeerAct::TakesAll),
         _ => match usize::try_from(parse_decimal(what)?) {
-            Ok(count) => Some(Deed::Takes(count)),
+            Ok(count) => Some(PeerAct::Takes(count)),
             Err(_) => None,
         },
     }
 }
 
-fn parse_state(what: &[u8]) -> Option<Deed> {
+fn parse_state(what: &[u8]) -> Option<PeerAct> {
     match what {
-        b"lost" => Some(Deed::Fails),
-        b"open" => Some(Deed::IsOpen),
-        b"shut" => Some(Deed::IsShut),
-        b"closed" => Some(Deed::IsClosed),
+        b"lost" => Some(PeerAct::Fails),
+        b"open" => Some(PeerAct::IsOpen),
+        b"shut" => Some(PeerAct::IsShut),
+        b"closed" => Some(PeerAct::IsClosed),
         _ => None,
     }
 }

@@ -4,7 +4,7 @@ ghost use Rattle.std.specs.Prelude.{◌≤◌};
 use octets::Octets;
 use std::alloc::Global;
 use std::collections::VecDeque;
-use wires::outcome::Wake;
+use net_loop::outcome::Wake;
 
 /// What a read of a connection comes to.
 #[derive(Drop)]
@@ -20,7 +20,7 @@ pub enum Reading {
 /// What is to happen, each in its order. A read or a write of another connection than the first of its list finds nothing, or
 /// takes all; so does each once a list is used up.
 #[derive(Drop)]
-pub struct Script {
+pub struct SocketScript {
     /// What each wait tells.
     pub wakes: VecDeque<Vec<Wake>>,
     /// The kinds of the connections that come.
@@ -33,10 +33,10 @@ pub struct Script {
     pub moments: VecDeque<u64>,
 }
 
-impl Script {
+impl SocketScript {
     /// Nothing happens. Takes no memory.
-    pub fn new(alloc: Global) -> Script {
-        Script {
+    pub fn new(alloc: Global) -> SocketScript {
+        SocketScript {
             wakes: VecDeque::new(alloc),
             comers: VecDeque::new(alloc),
             readings: VecDeque::new(alloc),

@@ -1,28 +1,28 @@
 //! The outside that a schedule is played on.
 ghost use Rattle.std.specs.Prelude.{◌≡◌, ◌≤◌, ◌∷◌, ◌++◌, [], length, false, not, IsTrue};
-ghost use Rattle.wires.specs.Told.{IsOwn};
+ghost use Rattle.net_loop.specs.Told.{IsLoopAct};
 
 use crate::fake::Fake;
-use crate::peer::{Peer, Side};
-use crate::script::{Reading, Script};
+use crate::peer::{FakePeer, Side};
+use crate::script::{Reading, SocketScript};
 use octets::Octets;
 use std::alloc::{AllocError, Global};
 use std::collections::VecDeque;
 use std::mem::replace;
-use wires::act::Act;
-use wires::outcome::{Accepted, Fault, Input, Output, Wake};
-use wires::outside::{Clock, Outside, Sockets};
+use net_loop::act::Act;
+use net_loop::outcome::{Accepted, WaitError, Input, Output, Wake};
+use net_loop::outside::{Clock, Outside, Sockets};
 
 /// No more octets are dropped at once.
 const MAX_DISCARD: usize = 4096;
 
 /// Clients, and all acts for which it has room. A wait tells once of each who has something new, as the system does.
 #[derive(Drop)]
-pub struct Stage<N: Drop, R: Drop> {
+pub struct FakeNetwork<N: Drop, R: Drop> {
     /// Keeps the acts, the moment and the rest.
     pub fake: Fake<N, R>,
     /// All who came, in their order.
-    pub peers: Vec<Peer>,
+    pub peers: Vec<FakePeer>,
     /// The kinds of listeners of which a wait is to tell.
     pub knocks: Vec<u32>,
     /// Those of which one is to tell once the clock goes on: there was no place.
@@ -32,31 +32,31 @@ pub struct Stage<N: Drop, R: Drop> {
 }
 
 /// An outside that has its sockets and its clock from a stage.
-pub trait Staged: Sockets + Clock {
+pub trait HasFakeNetwork: Sockets + Clock {
     /// What the stage keeps of a machine's notes, and beside sockets and clock.
     type Told: Drop;
 
     type Kept: Drop;
 
     /// The stage.
-    fn stage(&mut self) -> &mut Stage<Self::Told, Self::Kept>;
+    fn stage(&mut self) -> &mut FakeNetwork<Self::Told, Self::Kept>;
 }
 
-impl<N: Drop, R: Drop> Staged for Stage<N, R> {
+impl<N: Drop, R: Drop> HasFakeNetwork for FakeNetwork<N, R> {
     type Told = N;
 
     type Kept = R;
 
-    fn stage(&mut self) -> &mut Stage<N, R> {
+    fn stage(&mut self) -> &mut FakeNetwork<N, R> {
         self
     }
 }
 
-impl<N: Drop, R: Drop> Stage<N, R> {
+impl<N: Drop, R: Drop> FakeNetwork<N, R> {
     /// Nobody is there.
-    pub fn new(alloc: Global, rest: R) -> Stage<N, R> {
-        Stage {
-            fake: Fake::new(alloc, Script::new(alloc), rest),
+    pub fn new(alloc: Global, rest: R) -> FakeNetwork<N, R> {
+        FakeNetwork {
+            fake: Fake::new(alloc, SocketScript::new(alloc), rest),
             peers: Vec::new(alloc),
             knocks: Vec::new(alloc),
             crowded: Vec::new(alloc),
@@ -82,7 +82,7 @@ impl<N: Drop, R: Drop> Stage<N, R> {
     /// A client knocks.
     pub fn come(&mut self, name: Octets, kind: u32) -> Result<(), AllocError> {
         self.idle = 0;
-        self.peers.push(Peer::new(self.fake.alloc, name, kind))?;
+        self.peers.push(FakePeer::new(self.fake.alloc, name, kind))?;
         self.knock(kind)
     }
 
@@ -124,7 +124,7 @@ impl<N: Drop, R: Drop> Stage<N, R> {
 fn tell_news(
     alloc: Global,
     knocks: &mut Vec<u32>,
-    peers: &mut Vec<Peer>,
+    peers: &mut Vec<FakePeer>,
 ) -> Result<Vec<Wake>, AllocError> {
     let mut wakes = Vec::new(alloc);
     for peer in peers.iter_mut() {
@@ -138,14 +138,14 @@ fn tell_news(
 }
 
 /// A listener is told of if somebody knocks there now.
-fn tell_knock(wakes: &mut Vec<Wake>, kind: u32, peers: &Vec<Peer>) -> Result<(), AllocError> {
+fn tell_knock(wakes: &mut Vec<Wake>, kind: u32, peers: &Vec<FakePeer>) -> Result<(), AllocError> {
     if anyone_knocks(peers, kind) {
         wakes.push(Wake::Knock(kind))?;
     }
     Ok(())
 }
 
-fn tell_of(wakes: &mut Vec<Wake>, peer: &mut Peer) -> Result<(), AllocError> {
+fn tell_of(wakes: &mut Vec<Wake>, peer: &mut FakePeer) -> Result<(), AllocError> {
     let Some(id) = peer.id else {
         return Ok(());
     };
@@ -157,7 +157,7 @@ fn tell_of(wakes: &mut Vec<Wake>, peer: &mut Peer) -> Result<(), AllocError> {
 }
 
 /// The first that knocks there is accepted, under this number.
-fn admit(peers: &mut Vec<Peer>, kind: u32, id: u32) -> bool {
+fn admit(peers: &mut Vec<FakePeer>, kind: u32, id: u32) -> bool {
     for peer in peers.iter_mut() {
         if peer.knocks_at(kind) {
             peer.id = Some(id);
@@ -171,7 +171,7 @@ fn admit(peers: &mut Vec<Peer>, kind: u32, id: u32) -> bool {
 /// What a read comes to.
 fn read_of(
     alloc: Global,
-    peers: &mut Vec<Peer>,
+    peers: &mut Vec<FakePeer>,
     id: u32,
     most: usize,
 ) -> Result<Option<Reading>, AllocError> {
@@ -184,7 +184,7 @@ fn read_of(
 }
 
 /// How many of these octets are taken; 0 counts as a failure if the connection failed.
-fn take_of(peers: &mut Vec<Peer>, id: u32, octets: &[u8]) -> Result<usize, AllocError>
+fn take_of(peers: &mut Vec<FakePeer>, id: u32, octets: &[u8]) -> Result<usize, AllocError>
     ensures { (count : _) → result ≡ Ok count → count ≤ length octets.now }
 {
     for peer in peers.iter_mut() {
@@ -195,7 +195,7 @@ fn take_of(peers: &mut Vec<Peer>, id: u32, octets: &[u8]) -> Result<usize, Alloc
     Ok(0)
 }
 
-fn has_failed(peers: &Vec<Peer>, id: u32) -> bool {
+fn has_failed(peers: &Vec<FakePeer>, id: u32) -> bool {
     for peer in peers {
         if peer.is_at(id) {
             return peer.side == Side::Failed;
@@ -204,7 +204,7 @@ fn has_failed(peers: &Vec<Peer>, id: u32) -> bool {
     false
 }
 
-fn shut_at(peers: &mut Vec<Peer>, id: u32) {
+fn shut_at(peers: &mut Vec<FakePeer>, id: u32) {
     for peer in peers.iter_mut() {
         if peer.is_at(id) {
             peer.shut = true;
@@ -212,7 +212,7 @@ fn shut_at(peers: &mut Vec<Peer>, id: u32) {
     }
 }
 
-fn close_at(peers: &mut Vec<Peer>, id: u32) {
+fn close_at(peers: &mut Vec<FakePeer>, id: u32) {
     for peer in peers.iter_mut() {
         if peer.is_at(id) {
             peer.shut = true;
@@ -221,7 +221,7 @@ fn close_at(peers: &mut Vec<Peer>, id: u32) {
     }
 }
 
-fn again_at(peers: &mut Vec<Peer>, id: u32) {
+fn again_at(peers: &mut Vec<FakePeer>, id: u32) {
     for peer in peers.iter_mut() {
         if peer.is_at(id) {
             peer.news = peer.has_more();
@@ -229,7 +229,7 @@ fn again_at(peers: &mut Vec<Peer>, id: u32) {
     }
 }
 
-fn anyone_knocks(peers: &Vec<Peer>, kind: u32) -> bool {
+fn anyone_knocks(peers: &Vec<FakePeer>, kind: u32) -> bool {
     for peer in peers {
         if peer.knocks_at(kind) {
             return true;
@@ -238,7 +238,7 @@ fn anyone_knocks(peers: &Vec<Peer>, kind: u32) -> bool {
     false
 }
 
-impl<N: Drop, R: Drop> Outside for Stage<N, R> {
+impl<N: Drop, R: Drop> Outside for FakeNetwork<N, R> {
     type Note = N;
 
     type Rest = R;
@@ -252,8 +252,8 @@ impl<N: Drop, R: Drop> Outside for Stage<N, R> {
     ghost broken = { λ _. false };
 }
 
-impl<N: Drop, R: Drop> Sockets for Stage<N, R> {
-    fn wait(&mut self, within: u32, ready: &mut VecDeque<Wake>) -> Result<(), Fault> {
+impl<N: Drop, R: Drop> Sockets for FakeNetwork<N, R> {
+    fn wait(&mut self, within: u32, ready: &mut VecDeque<Wake>) -> Result<(), WaitError> {
         match tell_news(self.fake.alloc, &mut self.knocks, &mut self.peers) {
             Ok(wakes) => {
                 self.idle = if wakes.is_empty() {
@@ -347,7 +347,7 @@ impl<N: Drop, R: Drop> Sockets for Stage<N, R> {
     }
 
     fn note(&mut self, act: Act<N>)
-        requires { IsOwn act }
+        requires { IsLoopAct act }
         ensures seen { IsTrue (not self.new.fake.lost) → self.new.fake.acts.items ≡ self.old.fake.acts.items ++ act ∷ [] }
         ensures left { self.new.fake.rest ≡ self.old.fake.rest }
         ensures kept { IsTrue (not self.new.fake.lost) → IsTrue (not self.old.fake.lost) }
@@ -356,7 +356,7 @@ impl<N: Drop, R: Drop> Sockets for Stage<N, R> {
     }
 }
 
-impl<N: Drop, R: Drop> Clock for Stage<N, R> {
+impl<N: Drop, R: Drop> Clock for FakeNetwork<N, R> {
     fn now(&mut self) -> u64 {
         self.fake.now()
     }

@@ -1,14 +1,14 @@
 //! Texts of accounts.
-use accountfiles::{AccountFile, Head, LetterKind, Part, ReadError, Writer, read};
+use store_text::{AccountFile, AccountHead, LetterKind, Part, AccountReadError, Writer, read_account_file};
 use octets::{Octets, write_decimal};
 use std::alloc::{AllocError, Global};
 
 /// What the text says, one part after the other; none if it is that of no account.
 pub fn add_account(alloc: Global, out: &mut Octets, text: &[u8]) -> Result<(), AllocError> {
-    match read(alloc, text) {
+    match read_account_file(alloc, text) {
         Ok(file) => add_file(alloc, out, text, &file),
-        Err(ReadError::NotAnAccount) => out.extend_from_slice(b"none"),
-        Err(ReadError::Memory) => Err(AllocError),
+        Err(AccountReadError::NotAnAccount) => out.extend_from_slice(b"none"),
+        Err(AccountReadError::Memory) => Err(AllocError),
     }
 }
 
@@ -45,7 +45,7 @@ fn written(alloc: Global, file: &AccountFile) -> Result<Octets, AllocError> {
     Ok(text)
 }
 
-fn add_head(out: &mut Octets, head: &Head) -> Result<(), AllocError> {
+fn add_head(out: &mut Octets, head: &AccountHead) -> Result<(), AllocError> {
     out.extend_from_slice(b"account")?;
     add_text(out, head.owner.name.as_slice())?;
     add_text(out, head.owner.address.as_slice())?;

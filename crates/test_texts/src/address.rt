@@ -1,7 +1,7 @@
 //! Mail addresses (RFC 5322, 3.4).
-use addrparts::{Addr, addresses, bare_address, sieve_address, spell};
-use casefiles::Part::Text;
-use casefiles::add_parts;
+use mail_address::{Addr, addresses, bare_address, sieve_address, spell_address};
+use test_files::LinePart::Text;
+use test_files::add_parts;
 use octets::Octets;
 use std::alloc::{AllocError, Global};
 
@@ -40,14 +40,14 @@ pub fn add_bare(alloc: Global, out: &mut Octets, text: &[u8]) -> Result<(), Allo
 }
 
 /// The text that names an address.
-pub fn add_spelling(
+pub fn add_address_spelling(
     alloc: Global,
     out: &mut Octets,
     local: &[u8],
     domain: &[u8],
 ) -> Result<(), AllocError> {
     let address = address_of(alloc, local, domain)?;
-    let text = spell(alloc, &address)?;
+    let text = spell_address(alloc, &address)?;
     out.extend_from_slice(text.as_slice())
 }
 

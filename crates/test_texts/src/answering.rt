@@ -1,18 +1,18 @@
 //! What a script asks to be answered.
 use crate::decision::try_decisions;
 use crate::response::Response;
-use addrparts::Addr;
-use casefiles::{Section, Tally, try_lines, with_ends};
+use mail_address::Addr;
+use test_files::{Section, CaseTally, try_lines, with_ends};
 use octets::{Octets, parse_decimal};
-use sieveexec::Mail;
-use sievesyntax::VacArgs;
+use sieve_exec::Mail;
+use sieve_syntax::VacationArgs;
 use std::alloc::{AllocError, Global};
-use vacreply::{AddressedMail, MAX_MOMENT, handle_key, has_short_texts, reply_bytes};
+use sieve_vacation::{AddressedMail, MAX_MOMENT, handle_key, has_short_texts, reply_bytes};
 
 /// What a script asks to be answered, and the address of its user.
 #[derive(Clone, Copy)]
 pub struct Answering<'a> {
-    pub args: &'a VacArgs,
+    pub args: &'a VacationArgs,
     pub own: &'a Addr,
 }
 
@@ -22,7 +22,7 @@ impl Answering<'_> {
     pub fn try_section(
         &self,
         alloc: Global,
-        tally: &mut Tally,
+        tally: &mut CaseTally,
         section: &Section<'_>,
         mail: &Mail<'_>,
         moment: &str,
@@ -40,7 +40,7 @@ impl Answering<'_> {
     fn try_key(
         &self,
         alloc: Global,
-        tally: &mut Tally,
+        tally: &mut CaseTally,
         section: &Section<'_>,
     ) -> Result<(), AllocError> {
         let key = self.key(alloc)?;
@@ -66,7 +66,7 @@ impl Answering<'_> {
     fn try_decisions(
         &self,
         alloc: Global,
-        tally: &mut Tally,
+        tally: &mut CaseTally,
         section: &Section<'_>,
         mail: &Mail<'_>,
     ) -> Result<(), AllocError> {
@@ -78,7 +78,7 @@ impl Answering<'_> {
 /// Tries a response, whose line ends are CRLF, or a line of it, line by line.
 fn try_reply(
     alloc: Global,
-    tally: &mut Tally,
+    tally: &mut CaseTally,
     section: &Section<'_>,
     reply: &[u8],
 ) -> Result<(), AllocError> {

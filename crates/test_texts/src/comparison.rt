@@ -1,8 +1,8 @@
 //! Texts compared by both comparators (RFC 4790, 9.2 and 9.3).
-use casefiles::Part::Text;
-use casefiles::add_parts;
-use collation::{AsciiCasemap, Octet, contains, is};
-use globmatch::matches;
+use test_files::LinePart::Text;
+use test_files::add_parts;
+use sieve_match::{AsciiCasemap, Octet, contains, is};
+use sieve_match::matches;
 use octets::Octets;
 use std::alloc::AllocError;
 

@@ -1,8 +1,8 @@
 //! Dates in a response (RFC 5322, 3.3).
-use casefiles::{Lines, Tally, split_at_first};
+use test_files::{Lines, CaseTally, split_at_first};
 use octets::{Octets, parse_decimal};
 use std::alloc::{AllocError, Global};
-use vacreply::{MAX_MOMENT, write_date};
+use sieve_vacation::{MAX_MOMENT, write_date};
 
 /// Dates: a line has a moment and its text.
 #[derive(Drop)]
@@ -12,7 +12,7 @@ impl Lines for Dates {
     fn try_line(
         &self,
         alloc: Global,
-        tally: &mut Tally,
+        tally: &mut CaseTally,
         number: usize,
         line: &str,
     ) -> Result<(), AllocError> {

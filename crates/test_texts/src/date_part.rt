@@ -1,8 +1,8 @@
 //! The parts of dates (RFC 5260, section 4).
 ghost use Rattle.std.specs.Prelude.{IfSome};
-ghost use Rattle.maildates.specs.DateTimes.{IsDateTime};
+ghost use Rattle.mail_dates.specs.DateTimes.{IsDateTime};
 
-use maildates::{DatePart, DateTime, read_date, read_zone, write_part};
+use mail_dates::{DatePart, DateTime, read_date, read_zone, write_part};
 use octets::{Octets, parse_decimal};
 use std::alloc::AllocError;
 

@@ -1,14 +1,14 @@
 //! Whether a response is sent.
 use crate::answering::Answering;
-use casefiles::{Section, Tally, split_at_first};
+use test_files::{Section, CaseTally, split_at_first};
 use octets::{Octets, parse_decimal, write_decimal};
 use std::alloc::{AllocError, Global};
-use vacreply::{AddressedMail, Decision, decide};
+use sieve_vacation::{AddressedMail, ReplyDecision, decide_reply};
 
 /// Tries one decision per line: the moment kept or `-`, this moment, and the reason's number or `send`.
 pub fn try_decisions(
     alloc: Global,
-    tally: &mut Tally,
+    tally: &mut CaseTally,
     section: &Section<'_>,
     answering: Answering<'_>,
     mail: &AddressedMail<'_, '_>,
@@ -25,7 +25,7 @@ pub fn try_decisions(
 
 fn try_decision(
     alloc: Global,
-    tally: &mut Tally,
+    tally: &mut CaseTally,
     number: usize,
     line: &str,
     answering: Answering<'_>,
@@ -50,12 +50,12 @@ fn add_decided(
     };
     let last = parse_decimal(last.as_bytes());
     let Answering { args, own } = answering;
-    add(out, decide(args, mail, own, last, moment))
+    add(out, decide_reply(args, mail, own, last, moment))
 }
 
-fn add(out: &mut Octets, decision: Decision) -> Result<(), AllocError> {
+fn add(out: &mut Octets, decision: ReplyDecision) -> Result<(), AllocError> {
     match decision {
-        Decision::Send => out.extend_from_slice(b"send"),
-        Decision::Quiet(reason) => write_decimal(out, u64::from(reason.number())),
+        ReplyDecision::Send => out.extend_from_slice(b"send"),
+        ReplyDecision::Quiet(reason) => write_decimal(out, u64::from(reason.number())),
     }
 }

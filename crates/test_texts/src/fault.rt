@@ -1,9 +1,9 @@
 //! Scripts and their first fault.
 use crate::trial::Trial;
-use deliverplan::outcome_on;
+use sieve_plan::evaluate_script;
 use octets::Octets;
-use sieveexec::Mail;
-use sievelex::ScriptError;
+use sieve_exec::Mail;
+use sieve_lex::ScriptError;
 use std::alloc::{AllocError, Global};
 
 /// The first fault of a script, or `valid`.
@@ -13,7 +13,7 @@ pub fn add_fault(alloc: Global, out: &mut Octets, script: &[u8]) -> Result<(), A
 }
 
 fn add(alloc: Global, out: &mut Octets, script: &[u8], mail: &Mail<'_>) -> Result<(), AllocError> {
-    match outcome_on(alloc, script, mail) {
+    match evaluate_script(alloc, script, mail) {
         Ok(_) => out.extend_from_slice(b"valid"),
         Err(error) => add_error(alloc, out, &error),
     }

@@ -1,6 +1,6 @@
 //! The flags of a message (RFC 5232).
-use casefiles::text_in;
-use mailflags::Flags;
+use test_files::text_in;
+use mail_flags::Flags;
 use octets::Octets;
 use std::alloc::{AllocError, Global};
 

@@ -1,12 +1,12 @@
 //! The heads of messages (RFC 5322, 2.2).
-use casefiles::Part::{Number, Text};
-use casefiles::{Message, Section, Sections, Tally, add_parts, try_sections};
-use mailhead::{Field, Head};
+use test_files::LinePart::{Number, Text};
+use test_files::{Message, Section, Sections, CaseTally, add_parts, try_sections};
+use mail_head::{Field, Head};
 use octets::Octets;
 use std::alloc::{AllocError, Global};
 
 /// Tries each case of the file. `message` is a message as it is, `mail` one whose line ends are CRLF.
-pub fn try_all(alloc: Global, tally: &mut Tally, file: &str) -> Result<(), AllocError> {
+pub fn try_heads(alloc: Global, tally: &mut CaseTally, file: &str) -> Result<(), AllocError> {
     let mut heads = Heads {
         message: Message::empty(),
     };
@@ -23,7 +23,7 @@ impl<'a> Sections<'a> for Heads<'a> {
     fn try_section(
         &mut self,
         alloc: Global,
-        tally: &mut Tally,
+        tally: &mut CaseTally,
         section: &Section<'a>,
     ) -> Result<(), AllocError> {
         try_section(alloc, tally, self.message, section)?;
@@ -35,7 +35,7 @@ impl<'a> Sections<'a> for Heads<'a> {
 /// Tries the case that a section is, if it is one.
 fn try_section(
     alloc: Global,
-    tally: &mut Tally,
+    tally: &mut CaseTally,
     message: Message<'_>,
     section: &Section<'_>,
 ) -> Result<(), AllocError> {

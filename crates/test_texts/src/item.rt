@@ -1,7 +1,7 @@
 //! What comes first in the octets of a ManageSieve client (RFC 5804).
-use casefiles::Part::{Number, Text};
-use casefiles::add_parts;
-use msproto::{Command, Item, Reach, Scan, extent, first};
+use test_files::LinePart::{Number, Text};
+use test_files::add_parts;
+use managesieve_protocol::{ClientCommand, ClientItem, ItemExtent, Scan, extent, first};
 use octets::Octets;
 use std::alloc::{AllocError, Global};
 
@@ -19,7 +19,7 @@ pub fn add_first(
 
 fn add_if_agreed(
     out: &mut Octets,
-    item: &Item,
+    item: &ClientItem,
     octets: &[u8],
     pending: bool,
 ) -> Result<(), AllocError> {
@@ -30,17 +30,17 @@ fn add_if_agreed(
 }
 
 /// How far an item goes.
-fn reach_of(item: &Item) -> Reach {
+fn reach_of(item: &ClientItem) -> ItemExtent {
     match item {
-        Item::Need => Reach::Need,
-        Item::TooBig => Reach::TooBig,
-        Item::Bad(used) => Reach::Bad(*used),
-        Item::Command(_, used) => Reach::Command(*used),
+        ClientItem::Need => ItemExtent::Need,
+        ClientItem::TooBig => ItemExtent::TooBig,
+        ClientItem::Bad(used) => ItemExtent::Bad(*used),
+        ClientItem::Command(_, used) => ItemExtent::Command(*used),
     }
 }
 
 /// What says that the first item goes another way than this, if something does.
-fn other_reach(reach: Reach, octets: &[u8], pending: bool) -> Option<&'static [u8]> {
+fn other_reach(reach: ItemExtent, octets: &[u8], pending: bool) -> Option<&'static [u8]> {
     if extent(octets, pending) != reach {
         return Some(b"extent says another");
     }
@@ -50,10 +50,10 @@ fn other_reach(reach: Reach, octets: &[u8], pending: bool) -> Option<&'static [u
     None
 }
 
-fn octet_by_octet(octets: &[u8], pending: bool) -> Reach {
+fn octet_by_octet(octets: &[u8], pending: bool) -> ItemExtent {
     let mut scan = Scan::new(pending);
     for octet in octets {
-        let Reach::Need = scan.state() else {
+        let ItemExtent::Need = scan.state() else {
             break;
         };
         scan.turn(*octet);
@@ -61,7 +61,7 @@ fn octet_by_octet(octets: &[u8], pending: bool) -> Reach {
     scan.state()
 }
 
-fn in_two_pieces(octets: &[u8], pending: bool) -> Reach {
+fn in_two_pieces(octets: &[u8], pending: bool) -> ItemExtent {
     let (front, rest) = octets.split_at(octets.len() / 2);
     let mut scan = Scan::new(pending);
     if scan.feed(front) == front.len() {
@@ -70,29 +70,29 @@ fn in_two_pieces(octets: &[u8], pending: bool) -> Reach {
     scan.state()
 }
 
-fn add_item(out: &mut Octets, item: &Item) -> Result<(), AllocError> {
+fn add_item(out: &mut Octets, item: &ClientItem) -> Result<(), AllocError> {
     match item {
-        Item::Need => out.extend_from_slice(b"need more"),
-        Item::TooBig => out.extend_from_slice(b"too big"),
-        Item::Bad(used) => add_parts(out, &[Number(*used as u64), Text(b" bad")]),
-        Item::Command(command, used) => {
+        ClientItem::Need => out.extend_from_slice(b"need more"),
+        ClientItem::TooBig => out.extend_from_slice(b"too big"),
+        ClientItem::Bad(used) => add_parts(out, &[Number(*used as u64), Text(b" bad")]),
+        ClientItem::Command(command, used) => {
             add_parts(out, &[Number(*used as u64), Text(b" ")])?;
             add(out, command)
         }
     }
 }
 
-fn add(out: &mut Octets, command: &Command) -> Result<(), AllocError> {
+fn add(out: &mut Octets, command: &ClientCommand) -> Result<(), AllocError> {
     match command {
-        Command::Capability => out.extend_from_slice(b"capability"),
-        Command::Noop(tag) => add_some(out, b"noop", tag.as_ref()),
-        Command::Logout => out.extend_from_slice(b"logout"),
-        Command::Authenticate {
+        ClientCommand::Capability => out.extend_from_slice(b"capability"),
+        ClientCommand::Noop(tag) => add_some(out, b"noop", tag.as_ref()),
+        ClientCommand::Logout => out.extend_from_slice(b"logout"),
+        ClientCommand::Authenticate {
             mechanism,
             response,
         } => add_login(out, mechanism, response.as_ref()),
-        Command::Unauthenticate => out.extend_from_slice(b"unauthenticate"),
-        Command::HaveSpace { name, size } => add_parts(
+        ClientCommand::Unauthenticate => out.extend_from_slice(b"unauthenticate"),
+        ClientCommand::HaveSpace { name, size } => add_parts(
             out,
             &[
                 Text(b"space|"),
@@ -101,14 +101,14 @@ fn add(out: &mut Octets, command: &Command) -> Result<(), AllocError> {
                 Number(*size as u64),
             ],
         ),
-        Command::PutScript { name, script } => add_two(out, b"put", name, script),
-        Command::CheckScript(script) => add_one(out, b"check", script),
-        Command::ListScripts => out.extend_from_slice(b"list"),
-        Command::SetActive(name) => add_one(out, b"active", name),
-        Command::GetScript(name) => add_one(out, b"get", name),
-        Command::DeleteScript(name) => add_one(out, b"delete", name),
-        Command::RenameScript { old, new } => add_two(out, b"rename", old, new),
-        Command::Response(value) => add_one(out, b"response", value),
+        ClientCommand::PutScript { name, script } => add_two(out, b"put", name, script),
+        ClientCommand::CheckScript(script) => add_one(out, b"check", script),
+        ClientCommand::ListScripts => out.extend_from_slice(b"list"),
+        ClientCommand::SetActive(name) => add_one(out, b"active", name),
+        ClientCommand::GetScript(name) => add_one(out, b"get", name),
+        ClientCommand::DeleteScript(name) => add_one(out, b"delete", name),
+        ClientCommand::RenameScript { old, new } => add_two(out, b"rename", old, new),
+        ClientCommand::Response(value) => add_one(out, b"response", value),
     }
 }
 

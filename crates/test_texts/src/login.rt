@@ -1,15 +1,15 @@
 //! Logins by PLAIN, and kept passwords (RFC 4616).
-use crate::line::add_pair;
-use casefiles::text_in;
+use crate::line::add_text_pair;
+use test_files::text_in;
 use octets::{Octets, parse_decimal};
-use saslplain::{Login, Record, accepts, digest, plain};
+use sasl_plain::{Login, PasswordHash, accepts, digest, plain};
 use std::alloc::{AllocError, Global};
 
 /// What comes of a row that has other columns than its call takes.
 const NOT_THAT_MANY: &[u8] = b"not that many columns";
 
 /// What a call makes of its columns.
-pub fn answer(alloc: Global, out: &mut Octets, given: &[Octets]) -> Result<(), AllocError> {
+pub fn answer_login(alloc: Global, out: &mut Octets, given: &[Octets]) -> Result<(), AllocError> {
     let Some((call, given)) = given.split_first() else {
         return Ok(());
     };
@@ -32,7 +32,7 @@ fn add_plain(alloc: Global, out: &mut Octets, given: &[Octets]) -> Result<(), Al
 }
 
 fn add_login(out: &mut Octets, login: &Login) -> Result<(), AllocError> {
-    add_pair(out, (login.user.as_slice(), login.password.as_slice()))
+    add_text_pair(out, (login.user.as_slice(), login.password.as_slice()))
 }
 
 fn add_digest(out: &mut Octets, given: &[Octets]) -> Result<(), AllocError> {
@@ -56,10 +56,10 @@ fn record_of(
     salt: &Octets,
     rounds: &Octets,
     kept: &Octets,
-) -> Result<Record, AllocError> {
+) -> Result<PasswordHash, AllocError> {
     let salt = salt.try_clone(alloc)?;
     let digest = kept.try_clone(alloc)?;
-    Ok(Record {
+    Ok(PasswordHash {
         salt,
         rounds: rounds_of(rounds),
         digest,

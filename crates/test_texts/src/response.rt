@@ -1,5 +1,5 @@
 //! Responses of `vacation`, line by line.
-use casefiles::{Lines, Tally, decode};
+use test_files::{Lines, CaseTally, decode_cell};
 use std::alloc::{AllocError, Global};
 
 /// A response, and whether each line that is tried is in it.
@@ -13,11 +13,11 @@ impl Lines for Response<'_> {
     fn try_line(
         &self,
         alloc: Global,
-        tally: &mut Tally,
+        tally: &mut CaseTally,
         number: usize,
         line: &str,
     ) -> Result<(), AllocError> {
-        let line = decode(alloc, line)?;
+        let line = decode_cell(alloc, line)?;
         let line = line.as_slice();
         let got = if has_line(self.text, line) == self.has {
             line

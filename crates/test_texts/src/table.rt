@@ -1,9 +1,6 @@
 //! The files of cases whose answers need no store.
-use crate::{
-    account_file, address, ascii, comparison, date_part, fault, flag, head, item, line, login,
-    reply, token, vacation, word,
-};
-use casefiles::{Answers, Tally, try_rows};
+use crate::{account_file, address, ascii, comparison, date_part, fault, flag, head, item, line, login, reply, token, vacation, word};
+use test_files::{Answers, CaseTally, try_rows};
 use octets::Octets;
 use std::alloc::{AllocError, Global};
 
@@ -60,10 +57,10 @@ impl TextTable {
     }
 
     /// Tries each case of the file.
-    pub fn try_all(self, alloc: Global, tally: &mut Tally, file: &str) -> Result<(), AllocError> {
+    pub fn try_all(self, alloc: Global, tally: &mut CaseTally, file: &str) -> Result<(), AllocError> {
         match self {
-            TextTable::Heads => head::try_all(alloc, tally, file),
-            TextTable::Vacations => vacation::try_all(alloc, tally, file),
+            TextTable::Heads => head::try_heads(alloc, tally, file),
+            TextTable::Vacations => vacation::try_vacations(alloc, tally, file),
             _ => try_rows(alloc, tally, &mut Rows(self), file),
         }
     }
@@ -90,9 +87,9 @@ impl TextTable {
         other: &[u8],
     ) -> Result<(), AllocError> {
         match self {
-            TextTable::Ascii => ascii::answer(alloc, out, text, other),
-            TextTable::Lines => line::answer(alloc, out, text, other),
-            TextTable::Spellings => address::add_spelling(alloc, out, text, other),
+            TextTable::Ascii => ascii::answer_ascii(alloc, out, text, other),
+            TextTable::Lines => line::answer_about_line(alloc, out, text, other),
+            TextTable::Spellings => address::add_address_spelling(alloc, out, text, other),
             TextTable::Comparisons => comparison::add_comparison(out, text, other),
             TextTable::Globs => comparison::add_matches(out, text, other),
             TextTable::Items => item::add_first(alloc, out, text, other),
@@ -114,8 +111,8 @@ impl Answers for Rows {
     ) -> Result<(), AllocError> {
         let table = self.0;
         match (table, given) {
-            (TextTable::Replies, _) => reply::add_spelling(alloc, out, given),
-            (TextTable::Logins, _) => login::answer(alloc, out, given),
+            (TextTable::Replies, _) => reply::add_reply_spelling(alloc, out, given),
+            (TextTable::Logins, _) => login::answer_login(alloc, out, given),
             (TextTable::Flags, _) => flag::add_flags(alloc, out, given),
             (TextTable::Dates, [text, zone, part]) => date_part::add_part(
                 out,

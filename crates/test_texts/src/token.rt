@@ -1,8 +1,8 @@
 //! The tokens of a script (RFC 5228, 8.1).
-use casefiles::Part::{Number, Text};
-use casefiles::add_parts;
+use test_files::LinePart::{Number, Text};
+use test_files::add_parts;
 use octets::Octets;
-use sievelex::{Content, Mark, Said, ScriptError, Token, tokens};
+use sieve_lex::{Content, Mark, Said, ScriptError, Token, tokens};
 use std::alloc::{AllocError, Global};
 use std::format;
 

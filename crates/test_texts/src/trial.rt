@@ -1,8 +1,8 @@
 //! Scripts, each with a message and its envelope, as files have them.
-use casefiles::{Message, Section, decode};
-use maildates::read_zone;
+use test_files::{Message, Section, decode_cell};
+use mail_dates::read_zone;
 use octets::Octets;
-use sieveexec::{Envelope, Mail, When};
+use sieve_exec::{Envelope, Mail, When};
 use std::alloc::{AllocError, Global};
 
 /// What is in force, as the file has it: each text stays until another section has its name.
@@ -47,7 +47,7 @@ impl<'a> Trial<'a> {
 
     /// The octets of the script.
     pub fn script(&self, alloc: Global) -> Result<Octets, AllocError> {
-        decode(alloc, self.script)
+        decode_cell(alloc, self.script)
     }
 
     /// The octets of the message.
@@ -57,8 +57,8 @@ impl<'a> Trial<'a> {
 
     /// The envelope of the message.
     pub fn envelope(&self, alloc: Global) -> Result<Envelope, AllocError> {
-        let from = decode(alloc, self.from.trim_ascii_end())?;
-        let to = decode(alloc, self.to.trim_ascii_end())?;
+        let from = decode_cell(alloc, self.from.trim_ascii_end())?;
+        let to = decode_cell(alloc, self.to.trim_ascii_end())?;
         Ok(Envelope { from, to })
     }
 

@@ -2,12 +2,12 @@
 use crate::answering::Answering;
 use crate::date::Dates;
 use crate::trial::Trial;
-use addrparts::{Addr, bare_address};
-use casefiles::{Section, Sections, Tally, decode, try_lines, try_sections};
-use deliverplan::outcome_on;
-use sieveexec::{Mail, Outcome};
-use sievelex::ScriptError;
-use sievesyntax::VacArgs;
+use mail_address::{Addr, bare_address};
+use test_files::{Section, Sections, CaseTally, decode_cell, try_lines, try_sections};
+use sieve_plan::evaluate_script;
+use sieve_exec::{Mail, Outcome};
+use sieve_lex::ScriptError;
+use sieve_syntax::VacationArgs;
 use std::alloc::{AllocError, Global};
 
 /// What is in force, as the file has it: each text stays until another section has its name.
@@ -21,7 +21,7 @@ struct Absence<'a> {
 }
 
 /// Tries each case of the file.
-pub fn try_all(alloc: Global, tally: &mut Tally, file: &str) -> Result<(), AllocError> {
+pub fn try_vacations(alloc: Global, tally: &mut CaseTally, file: &str) -> Result<(), AllocError> {
     let mut absence = Absence {
         trial: Trial::empty(),
         own: "",
@@ -34,7 +34,7 @@ impl<'a> Sections<'a> for Absence<'a> {
     fn try_section(
         &mut self,
         alloc: Global,
-        tally: &mut Tally,
+        tally: &mut CaseTally,
         section: &Section<'a>,
     ) -> Result<(), AllocError> {
         self.try_cases(alloc, tally, section)?;
@@ -59,7 +59,7 @@ impl<'a> Absence<'a> {
     fn try_cases(
         &self,
         alloc: Global,
-        tally: &mut Tally,
+        tally: &mut CaseTally,
         section: &Section<'_>,
     ) -> Result<(), AllocError> {
         match section.name {
@@ -78,7 +78,7 @@ impl<'a> Absence<'a> {
     fn try_answer(
         &self,
         alloc: Global,
-        tally: &mut Tally,
+        tally: &mut CaseTally,
         section: &Section<'_>,
     ) -> Result<(), AllocError> {
         let message = self.trial.message(alloc)?;
@@ -88,7 +88,7 @@ impl<'a> Absence<'a> {
     fn try_message(
         &self,
         alloc: Global,
-        tally: &mut Tally,
+        tally: &mut CaseTally,
         section: &Section<'_>,
         message: &[u8],
     ) -> Result<(), AllocError> {
@@ -99,7 +99,7 @@ impl<'a> Absence<'a> {
     fn try_mail(
         &self,
         alloc: Global,
-        tally: &mut Tally,
+        tally: &mut CaseTally,
         section: &Section<'_>,
         mail: &Mail<'_>,
     ) -> Result<(), AllocError> {
@@ -110,9 +110,9 @@ impl<'a> Absence<'a> {
     }
 
     /// What the script asks to be answered, if it does.
-    fn run_on(&self, alloc: Global, mail: &Mail<'_>) -> Result<Option<VacArgs>, AllocError> {
+    fn run_on(&self, alloc: Global, mail: &Mail<'_>) -> Result<Option<VacationArgs>, AllocError> {
         let script = self.trial.script(alloc)?;
-        match outcome_on(alloc, script.as_slice(), mail) {
+        match evaluate_script(alloc, script.as_slice(), mail) {
             Ok(Outcome::Done { reply, .. }) => Ok(reply),
             Ok(Outcome::Failed(_)) | Err(ScriptError::Fault(_)) => Ok(None),
             Err(ScriptError::Memory) => Err(AllocError),
@@ -122,10 +122,10 @@ impl<'a> Absence<'a> {
     fn try_asked(
         &self,
         alloc: Global,
-        tally: &mut Tally,
+        tally: &mut CaseTally,
         section: &Section<'_>,
         mail: &Mail<'_>,
-        args: &VacArgs,
+        args: &VacationArgs,
     ) -> Result<(), AllocError> {
         match self.own(alloc)? {
             Some(own) => {
@@ -137,7 +137,7 @@ impl<'a> Absence<'a> {
     }
 
     fn own(&self, alloc: Global) -> Result<Option<Addr>, AllocError> {
-        let own = decode(alloc, self.own)?;
+        let own = decode_cell(alloc, self.own)?;
         bare_address(alloc, own.as_slice())
     }
 }

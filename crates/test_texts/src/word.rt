@@ -1,5 +1,5 @@
 //! Encoded words (RFC 2047).
-use encwords::{decoded, header_text};
+use mail_words::{decoded, header_text};
 use octets::Octets;
 use std::alloc::{AllocError, Global};
 use std::str;

@@ -1,27 +1,27 @@
 //! `address`: another address of an account.
-ghost use Rattle.sievedwords.specs.Asks.{IsSetAddress};
+ghost use Rattle.cli_subcommands.specs.Asks.{IsAddressArgs};
 
-use crate::argument::Argument;
+use crate::argument::CliArgument;
 use crate::given::Given;
 use crate::location::StoreLocation;
-use crate::row::Row;
+use crate::subcommand_row::SubcommandRow;
 
-pub static ADDRESS: Row = Row {
+pub static ADDRESS: SubcommandRow = SubcommandRow {
     name: "address",
     about: "Sets an account's mail address",
     more: "Reads nothing. Prints `changed NAME`.
 Status 0: changed. 64: wrong words. 65: such an address is not allowed. 67: no such user. 75: try again later.",
     arguments: &[
-        Argument::Db,
-        Argument::Wait,
-        Argument::Name,
-        Argument::Address,
+        CliArgument::Db,
+        CliArgument::Wait,
+        CliArgument::Name,
+        CliArgument::Address,
     ],
 };
 
 /// The account that gets another address.
 #[derive(Clone, Copy)]
-pub struct SetAddress<'a> {
+pub struct AddressArgs<'a> {
     pub location: StoreLocation<'a>,
     /// The account's name.
     pub user: &'a str,
@@ -29,14 +29,14 @@ pub struct SetAddress<'a> {
     pub address: &'a str,
 }
 
-impl<'a> SetAddress<'a> {
-    pub fn read(given: &Given<'a, '_>) -> SetAddress<'a>
-        ensures { IsSetAddress given.now.line.now given.now.matches.now result }
+impl<'a> AddressArgs<'a> {
+    pub fn read(given: &Given<'a, '_>) -> AddressArgs<'a>
+        ensures { IsAddressArgs given.now.line.now given.now.matches.now result }
     {
-        SetAddress {
+        AddressArgs {
             location: given.location(),
-            user: given.text(Argument::Name),
-            address: given.text(Argument::Address),
+            user: given.text(CliArgument::Name),
+            address: given.text(CliArgument::Address),
         }
     }
 }

@@ -1,29 +1,29 @@
 //! `adduser`: a new account.
-ghost use Rattle.sievedwords.specs.Asks.{IsAddUser};
+ghost use Rattle.cli_subcommands.specs.Asks.{IsAddUserArgs};
 
-use crate::argument::Argument;
+use crate::argument::CliArgument;
 use crate::given::Given;
 use crate::location::StoreLocation;
-use crate::row::Row;
+use crate::subcommand_row::SubcommandRow;
 
-pub static ADDUSER: Row = Row {
+pub static ADDUSER: SubcommandRow = SubcommandRow {
     name: "adduser",
     about: "Adds an account",
     more: "Reads the password, up to the first line end. Prints `added NAME`.
 An account of the name that is closed is opened anew, with what it remembers of senders.
 Status 0: added. 64: wrong words or salt. 65: such a user is not allowed, or there already. 75: try again later.",
     arguments: &[
-        Argument::Db,
-        Argument::Wait,
-        Argument::Salt,
-        Argument::Name,
-        Argument::Address,
+        CliArgument::Db,
+        CliArgument::Wait,
+        CliArgument::Salt,
+        CliArgument::Name,
+        CliArgument::Address,
     ],
 };
 
 /// The account that is to be added.
 #[derive(Clone, Copy)]
-pub struct AddUser<'a> {
+pub struct AddUserArgs<'a> {
     pub location: StoreLocation<'a>,
     /// The salt in hexadecimal digits; the system's random octets are the salt if it is left out.
     pub salt: Option<&'a str>,
@@ -33,15 +33,15 @@ pub struct AddUser<'a> {
     pub address: &'a str,
 }
 
-impl<'a> AddUser<'a> {
-    pub fn read(given: &Given<'a, '_>) -> AddUser<'a>
-        ensures { IsAddUser given.now.line.now given.now.matches.now result }
+impl<'a> AddUserArgs<'a> {
+    pub fn read(given: &Given<'a, '_>) -> AddUserArgs<'a>
+        ensures { IsAddUserArgs given.now.line.now given.now.matches.now result }
     {
-        AddUser {
+        AddUserArgs {
             location: given.location(),
-            salt: given.value(Argument::Salt),
-            name: given.text(Argument::Name),
-            address: given.text(Argument::Address),
+            salt: given.value(CliArgument::Salt),
+            name: given.text(CliArgument::Name),
+            address: given.text(CliArgument::Address),
         }
     }
 }

@@ -1,11 +1,11 @@
 //! `daemon`: many clients at once, until the process is ended.
-ghost use Rattle.sievedwords.specs.Asks.{IsDaemon};
+ghost use Rattle.cli_subcommands.specs.Asks.{IsDaemonArgs};
 
-use crate::argument::Argument;
+use crate::argument::CliArgument;
 use crate::given::Given;
-use crate::row::Row;
+use crate::subcommand_row::SubcommandRow;
 
-pub static DAEMON: Row = Row {
+pub static DAEMON: SubcommandRow = SubcommandRow {
     name: "daemon",
     about: "Serves many clients of ManageSieve and of LMTP at once, and moves mail into Maildirs",
     more: "At least one of --managesieve, --lmtp and --mail. Ports are of the loopback address; a PATH of digits alone is a port.
@@ -14,24 +14,24 @@ Prints `listening on 127.0.0.1:P`, `listening on PATH` or `listening on -` for e
 --memory: of what isn't answered and of mail that comes in; from 1 to 65536. A client without room is told BYE, mail 452.
 Status 0: all is right (--check). 64: wrong words or numbers, or no socket at PATH. 65: no store, no DIR. 75: can't listen, another daemon, or try again later.",
     arguments: &[
-        Argument::Db,
-        Argument::Managesieve,
-        Argument::Lmtp,
-        Argument::Names,
-        Argument::Mail,
-        Argument::Separator,
-        Argument::Zone,
-        Argument::Default,
-        Argument::Host,
-        Argument::Memory,
-        Argument::Quiet,
-        Argument::Check,
+        CliArgument::Db,
+        CliArgument::Managesieve,
+        CliArgument::Lmtp,
+        CliArgument::Names,
+        CliArgument::Mail,
+        CliArgument::Separator,
+        CliArgument::Zone,
+        CliArgument::Default,
+        CliArgument::Host,
+        CliArgument::Memory,
+        CliArgument::Quiet,
+        CliArgument::Check,
     ],
 };
 
 /// Which store clients are to be served from, and where.
 #[derive(Clone, Copy)]
-pub struct Daemon<'a> {
+pub struct DaemonArgs<'a> {
     /// The path of the database's file.
     pub path: &'a str,
     /// The port for ManageSieve, in decimal.
@@ -58,23 +58,23 @@ pub struct Daemon<'a> {
     pub check: bool,
 }
 
-impl<'a> Daemon<'a> {
-    pub fn read(given: &Given<'a, '_>) -> Daemon<'a>
-        ensures { IsDaemon given.now.line.now given.now.matches.now result }
+impl<'a> DaemonArgs<'a> {
+    pub fn read(given: &Given<'a, '_>) -> DaemonArgs<'a>
+        ensures { IsDaemonArgs given.now.line.now given.now.matches.now result }
     {
-        Daemon {
-            path: given.text(Argument::Db),
-            managesieve: given.value(Argument::Managesieve),
-            lmtp: given.value(Argument::Lmtp),
-            names: given.value(Argument::Names),
-            mail: given.value(Argument::Mail),
-            separator: given.value(Argument::Separator),
-            zone: given.value(Argument::Zone),
-            default: given.value(Argument::Default),
-            host: given.value(Argument::Host),
-            memory: given.value(Argument::Memory),
-            quiet: given.flag(Argument::Quiet),
-            check: given.flag(Argument::Check),
+        DaemonArgs {
+            path: given.text(CliArgument::Db),
+            managesieve: given.value(CliArgument::Managesieve),
+            lmtp: given.value(CliArgument::Lmtp),
+            names: given.value(CliArgument::Names),
+            mail: given.value(CliArgument::Mail),
+            separator: given.value(CliArgument::Separator),
+            zone: given.value(CliArgument::Zone),
+            default: given.value(CliArgument::Default),
+            host: given.value(CliArgument::Host),
+            memory: given.value(CliArgument::Memory),
+            quiet: given.flag(CliArgument::Quiet),
+            check: given.flag(CliArgument::Check),
         }
     }
 }

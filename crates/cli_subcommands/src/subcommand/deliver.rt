@@ -1,31 +1,31 @@
 //! `deliver`: a message for a user.
-ghost use Rattle.sievedwords.specs.Asks.{IsDeliver};
+ghost use Rattle.cli_subcommands.specs.Asks.{IsDeliverArgs};
 
-use crate::argument::Argument;
+use crate::argument::CliArgument;
 use crate::given::Given;
 use crate::location::StoreLocation;
-use crate::row::Row;
+use crate::subcommand_row::SubcommandRow;
 
-pub static DELIVER: Row = Row {
+pub static DELIVER: SubcommandRow = SubcommandRow {
     name: "deliver",
     about: "Delivers a message to a user by the active script",
     more: "Reads the message. Prints `file NAME`, `send ADDRESS`, `vacation sent`, `vacation quiet N`, `notice TEXT`, or `discard`.
 Status 0: delivered, and on the disk. 64: wrong words or values. 65: refused for good. 67: no such user. 75: try again later.",
     arguments: &[
-        Argument::Db,
-        Argument::Wait,
-        Argument::From,
-        Argument::To,
-        Argument::At,
-        Argument::Zone,
-        Argument::Default,
-        Argument::User,
+        CliArgument::Db,
+        CliArgument::Wait,
+        CliArgument::From,
+        CliArgument::To,
+        CliArgument::At,
+        CliArgument::Zone,
+        CliArgument::Default,
+        CliArgument::User,
     ],
 };
 
 /// The envelope, moment and user of a message that is to be delivered. An address of the envelope that was left out is empty.
 #[derive(Clone, Copy)]
-pub struct Deliver<'a> {
+pub struct DeliverArgs<'a> {
     pub location: StoreLocation<'a>,
     /// The envelope's sender.
     pub from: &'a [u8],
@@ -41,18 +41,18 @@ pub struct Deliver<'a> {
     pub user: &'a str,
 }
 
-impl<'a> Deliver<'a> {
-    pub fn read(given: &Given<'a, '_>) -> Deliver<'a>
-        ensures { IsDeliver given.now.line.now given.now.matches.now result }
+impl<'a> DeliverArgs<'a> {
+    pub fn read(given: &Given<'a, '_>) -> DeliverArgs<'a>
+        ensures { IsDeliverArgs given.now.line.now given.now.matches.now result }
     {
-        Deliver {
+        DeliverArgs {
             location: given.location(),
-            from: given.address(Argument::From),
-            to: given.address(Argument::To),
-            at: given.value(Argument::At),
-            zone: given.value(Argument::Zone),
-            default: given.value(Argument::Default),
-            user: given.text(Argument::User),
+            from: given.address(CliArgument::From),
+            to: given.address(CliArgument::To),
+            at: given.value(CliArgument::At),
+            zone: given.value(CliArgument::Zone),
+            default: given.value(CliArgument::Default),
+            user: given.text(CliArgument::User),
         }
     }
 }

@@ -1,22 +1,22 @@
 //! `done`: a message left the queue.
-ghost use Rattle.sievedwords.specs.Asks.{IsDone};
+ghost use Rattle.cli_subcommands.specs.Asks.{IsDoneArgs};
 
-use crate::argument::Argument;
+use crate::argument::CliArgument;
 use crate::given::Given;
 use crate::location::StoreLocation;
-use crate::row::Row;
+use crate::subcommand_row::SubcommandRow;
 
-pub static DONE: Row = Row {
+pub static DONE: SubcommandRow = SubcommandRow {
     name: "done",
     about: "Takes a message that went out off the queue",
     more: "Reads nothing. Prints `taken ID`.
 Status 0: taken, and on the disk. 64: wrong words or number. 65: no such row or store. 67: no such user. 75: try again later.",
-    arguments: &[Argument::Db, Argument::Wait, Argument::User, Argument::Id],
+    arguments: &[CliArgument::Db, CliArgument::Wait, CliArgument::User, CliArgument::Id],
 };
 
 /// The message that was sent.
 #[derive(Clone, Copy)]
-pub struct Done<'a> {
+pub struct DoneArgs<'a> {
     pub location: StoreLocation<'a>,
     /// The account's name.
     pub user: &'a str,
@@ -24,14 +24,14 @@ pub struct Done<'a> {
     pub id: &'a str,
 }
 
-impl<'a> Done<'a> {
-    pub fn read(given: &Given<'a, '_>) -> Done<'a>
-        ensures { IsDone given.now.line.now given.now.matches.now result }
+impl<'a> DoneArgs<'a> {
+    pub fn read(given: &Given<'a, '_>) -> DoneArgs<'a>
+        ensures { IsDoneArgs given.now.line.now given.now.matches.now result }
     {
-        Done {
+        DoneArgs {
             location: given.location(),
-            user: given.text(Argument::User),
-            id: given.text(Argument::Id),
+            user: given.text(CliArgument::User),
+            id: given.text(CliArgument::Id),
         }
     }
 }

@@ -1,12 +1,12 @@
 //! `export`: an account as a text.
-ghost use Rattle.sievedwords.specs.Asks.{IsExport};
+ghost use Rattle.cli_subcommands.specs.Asks.{IsExportArgs};
 
-use crate::argument::Argument;
+use crate::argument::CliArgument;
 use crate::given::Given;
 use crate::location::StoreLocation;
-use crate::row::Row;
+use crate::subcommand_row::SubcommandRow;
 
-pub static EXPORT: Row = Row {
+pub static EXPORT: SubcommandRow = SubcommandRow {
     name: "export",
     about: "Prints an account as a text that `import` reads",
     more: "Reads nothing. Prints all that an open account has: address, password record, scripts, moments of replies, messages, queue, notices.
@@ -14,16 +14,16 @@ A text that broke off ends without its sum, and `import` refuses it.
 --and-close: closes the account once the text is written; `open` opens it again.
 Status 0: printed. 64: wrong words. 65: no such store. 67: no such user. 75: try again later; the account isn't closed.",
     arguments: &[
-        Argument::Db,
-        Argument::Wait,
-        Argument::AndClose,
-        Argument::User,
+        CliArgument::Db,
+        CliArgument::Wait,
+        CliArgument::AndClose,
+        CliArgument::User,
     ],
 };
 
 /// Whose account is to be printed.
 #[derive(Clone, Copy)]
-pub struct Export<'a> {
+pub struct ExportArgs<'a> {
     pub location: StoreLocation<'a>,
     /// Whether the account is closed after the text is written.
     pub and_close: bool,
@@ -31,14 +31,14 @@ pub struct Export<'a> {
     pub user: &'a str,
 }
 
-impl<'a> Export<'a> {
-    pub fn read(given: &Given<'a, '_>) -> Export<'a>
-        ensures { IsExport given.now.line.now given.now.matches.now result }
+impl<'a> ExportArgs<'a> {
+    pub fn read(given: &Given<'a, '_>) -> ExportArgs<'a>
+        ensures { IsExportArgs given.now.line.now given.now.matches.now result }
     {
-        Export {
+        ExportArgs {
             location: given.location(),
-            and_close: given.flag(Argument::AndClose),
-            user: given.text(Argument::User),
+            and_close: given.flag(CliArgument::AndClose),
+            user: given.text(CliArgument::User),
         }
     }
 }

@@ -1,28 +1,28 @@
 //! `folders`: a user's folders.
-ghost use Rattle.sievedwords.specs.Asks.{IsFolders};
+ghost use Rattle.cli_subcommands.specs.Asks.{IsFoldersArgs};
 
-use crate::argument::Argument;
+use crate::argument::CliArgument;
 use crate::given::Given;
 use crate::location::StoreLocation;
-use crate::row::Row;
+use crate::subcommand_row::SubcommandRow;
 
-pub static FOLDERS: Row = Row {
+pub static FOLDERS: SubcommandRow = SubcommandRow {
     name: "folders",
     about: "Lists a user's folders",
     more: "Reads nothing. Prints `NAME COUNT` for each, in the order of their octets; with --maildir `DIRECTORY COUNT NAME`.
 Status 0: listed. 64: wrong words or separator. 65: no such store. 67: no such user. 75: try again later.",
     arguments: &[
-        Argument::Db,
-        Argument::Wait,
-        Argument::Directories,
-        Argument::Separator,
-        Argument::User,
+        CliArgument::Db,
+        CliArgument::Wait,
+        CliArgument::Directories,
+        CliArgument::Separator,
+        CliArgument::User,
     ],
 };
 
 /// Whose folders are to be listed, and how.
 #[derive(Clone, Copy)]
-pub struct Folders<'a> {
+pub struct FoldersArgs<'a> {
     pub location: StoreLocation<'a>,
     /// The account's name.
     pub user: &'a str,
@@ -32,15 +32,15 @@ pub struct Folders<'a> {
     pub separator: Option<&'a str>,
 }
 
-impl<'a> Folders<'a> {
-    pub fn read(given: &Given<'a, '_>) -> Folders<'a>
-        ensures { IsFolders given.now.line.now given.now.matches.now result }
+impl<'a> FoldersArgs<'a> {
+    pub fn read(given: &Given<'a, '_>) -> FoldersArgs<'a>
+        ensures { IsFoldersArgs given.now.line.now given.now.matches.now result }
     {
-        Folders {
+        FoldersArgs {
             location: given.location(),
-            user: given.text(Argument::User),
-            directories: given.flag(Argument::Directories),
-            separator: given.value(Argument::Separator),
+            user: given.text(CliArgument::User),
+            directories: given.flag(CliArgument::Directories),
+            separator: given.value(CliArgument::Separator),
         }
     }
 }

@@ -1,30 +1,30 @@
 //! `import`: an account, from its text.
-ghost use Rattle.sievedwords.specs.Asks.{IsImport};
+ghost use Rattle.cli_subcommands.specs.Asks.{IsImportArgs};
 
-use crate::argument::Argument;
+use crate::argument::CliArgument;
 use crate::given::Given;
 use crate::location::StoreLocation;
-use crate::row::Row;
+use crate::subcommand_row::SubcommandRow;
 
-pub static IMPORT: Row = Row {
+pub static IMPORT: SubcommandRow = SubcommandRow {
     name: "import",
     about: "Adds the account of a text that `export` printed",
     more: "Reads the text. Prints `imported NAME`. A closed account of the name without mail is replaced; of that the moments of replies stay.
 Status 0: added. 64: wrong words. 65: not the whole text of an account, the user exists, or has mail. 75: try again later.",
-    arguments: &[Argument::Db, Argument::Wait],
+    arguments: &[CliArgument::Db, CliArgument::Wait],
 };
 
 /// The store that the account is added to.
 #[derive(Clone, Copy)]
-pub struct Import<'a> {
+pub struct ImportArgs<'a> {
     pub location: StoreLocation<'a>,
 }
 
-impl<'a> Import<'a> {
-    pub fn read(given: &Given<'a, '_>) -> Import<'a>
-        ensures { IsImport given.now.line.now given.now.matches.now result }
+impl<'a> ImportArgs<'a> {
+    pub fn read(given: &Given<'a, '_>) -> ImportArgs<'a>
+        ensures { IsImportArgs given.now.line.now given.now.matches.now result }
     {
-        Import {
+        ImportArgs {
             location: given.location(),
         }
     }

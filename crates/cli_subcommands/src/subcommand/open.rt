@@ -1,34 +1,34 @@
 //! `open`: a closed account is opened.
-ghost use Rattle.sievedwords.specs.Asks.{IsOpen};
+ghost use Rattle.cli_subcommands.specs.Asks.{IsOpenArgs};
 
-use crate::argument::Argument;
+use crate::argument::CliArgument;
 use crate::given::Given;
 use crate::location::StoreLocation;
-use crate::row::Row;
+use crate::subcommand_row::SubcommandRow;
 
-pub static OPEN: Row = Row {
+pub static OPEN: SubcommandRow = SubcommandRow {
     name: "open",
     about: "Opens an account that is closed",
     more: "Reads nothing. Prints `opened NAME`. The account is as it was when it was closed.
 Status 0: opened. 64: wrong words. 65: the user is open. 67: no such user. 75: try again later.",
-    arguments: &[Argument::Db, Argument::Wait, Argument::Name],
+    arguments: &[CliArgument::Db, CliArgument::Wait, CliArgument::Name],
 };
 
 /// The account that is to be opened.
 #[derive(Clone, Copy)]
-pub struct Open<'a> {
+pub struct OpenArgs<'a> {
     pub location: StoreLocation<'a>,
     /// The account's name.
     pub user: &'a str,
 }
 
-impl<'a> Open<'a> {
-    pub fn read(given: &Given<'a, '_>) -> Open<'a>
-        ensures { IsOpen given.now.line.now given.now.matches.now result }
+impl<'a> OpenArgs<'a> {
+    pub fn read(given: &Given<'a, '_>) -> OpenArgs<'a>
+        ensures { IsOpenArgs given.now.line.now given.now.matches.now result }
     {
-        Open {
+        OpenArgs {
             location: given.location(),
-            user: given.text(Argument::Name),
+            user: given.text(CliArgument::Name),
         }
     }
 }

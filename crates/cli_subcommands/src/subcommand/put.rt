@@ -1,29 +1,29 @@
 //! `put`: a script of a user.
-ghost use Rattle.sievedwords.specs.Asks.{IsPut};
+ghost use Rattle.cli_subcommands.specs.Asks.{IsPutArgs};
 
-use crate::argument::Argument;
+use crate::argument::CliArgument;
 use crate::given::Given;
 use crate::location::StoreLocation;
-use crate::row::Row;
+use crate::subcommand_row::SubcommandRow;
 
-pub static PUT: Row = Row {
+pub static PUT: SubcommandRow = SubcommandRow {
     name: "put",
     about: "Stores a script of a user",
     more: "Reads the script, which takes the place of one of the name. Prints `stored SCRIPT`; or `line N: ..` of a script that isn't valid.
 Status 0: stored. 64: wrong words. 65: not valid, or such a name, size or number of scripts is not allowed. 67: no such user.
 75: try again later.",
     arguments: &[
-        Argument::Db,
-        Argument::Wait,
-        Argument::Activate,
-        Argument::User,
-        Argument::Script,
+        CliArgument::Db,
+        CliArgument::Wait,
+        CliArgument::Activate,
+        CliArgument::User,
+        CliArgument::Script,
     ],
 };
 
 /// The script that is to be stored.
 #[derive(Clone, Copy)]
-pub struct Put<'a> {
+pub struct PutArgs<'a> {
     pub location: StoreLocation<'a>,
     /// Whether the script becomes the active one.
     pub activate: bool,
@@ -33,15 +33,15 @@ pub struct Put<'a> {
     pub script: &'a str,
 }
 
-impl<'a> Put<'a> {
-    pub fn read(given: &Given<'a, '_>) -> Put<'a>
-        ensures { IsPut given.now.line.now given.now.matches.now result }
+impl<'a> PutArgs<'a> {
+    pub fn read(given: &Given<'a, '_>) -> PutArgs<'a>
+        ensures { IsPutArgs given.now.line.now given.now.matches.now result }
     {
-        Put {
+        PutArgs {
             location: given.location(),
-            activate: given.flag(Argument::Activate),
-            user: given.text(Argument::User),
-            script: given.text(Argument::Script),
+            activate: given.flag(CliArgument::Activate),
+            user: given.text(CliArgument::User),
+            script: given.text(CliArgument::Script),
         }
     }
 }

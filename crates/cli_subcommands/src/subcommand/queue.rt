@@ -1,28 +1,28 @@
 //! `queue`: a user's messages on their way out, or one of them.
-ghost use Rattle.sievedwords.specs.Asks.{IsQueue};
+ghost use Rattle.cli_subcommands.specs.Asks.{IsQueueArgs};
 
-use crate::argument::Argument;
+use crate::argument::CliArgument;
 use crate::given::Given;
 use crate::location::StoreLocation;
-use crate::row::Row;
+use crate::subcommand_row::SubcommandRow;
 
-pub static QUEUE: Row = Row {
+pub static QUEUE: SubcommandRow = SubcommandRow {
     name: "queue",
     about: "Lists a user's messages on their way out, or shows one",
     more: "Reads nothing. Prints `ID KIND <SENDER> <TARGET> OCTETS` for each, or with ID the message as it goes out.
 In an address an octet up to 32, 127, <, > or \\ is \\ and two hexadecimal digits, so that a line has five words.
 Status 0: listed or shown. 64: wrong words or number. 65: no such row or store. 67: no such user. 75: try again later.",
     arguments: &[
-        Argument::Db,
-        Argument::Wait,
-        Argument::User,
-        Argument::AnyId,
+        CliArgument::Db,
+        CliArgument::Wait,
+        CliArgument::User,
+        CliArgument::AnyId,
     ],
 };
 
 /// Whose queue is to be listed, or what of it is to be shown.
 #[derive(Clone, Copy)]
-pub struct Queue<'a> {
+pub struct QueueArgs<'a> {
     pub location: StoreLocation<'a>,
     /// The account's name.
     pub user: &'a str,
@@ -30,14 +30,14 @@ pub struct Queue<'a> {
     pub id: Option<&'a str>,
 }
 
-impl<'a> Queue<'a> {
-    pub fn read(given: &Given<'a, '_>) -> Queue<'a>
-        ensures { IsQueue given.now.line.now given.now.matches.now result }
+impl<'a> QueueArgs<'a> {
+    pub fn read(given: &Given<'a, '_>) -> QueueArgs<'a>
+        ensures { IsQueueArgs given.now.line.now given.now.matches.now result }
     {
-        Queue {
+        QueueArgs {
             location: given.location(),
-            user: given.text(Argument::User),
-            id: given.value(Argument::AnyId),
+            user: given.text(CliArgument::User),
+            id: given.value(CliArgument::AnyId),
         }
     }
 }

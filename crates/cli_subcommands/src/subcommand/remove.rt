@@ -1,27 +1,27 @@
 //! `remove`: an account is removed.
-ghost use Rattle.sievedwords.specs.Asks.{IsRemove};
+ghost use Rattle.cli_subcommands.specs.Asks.{IsRemoveArgs};
 
-use crate::argument::Argument;
+use crate::argument::CliArgument;
 use crate::given::Given;
 use crate::location::StoreLocation;
-use crate::row::Row;
+use crate::subcommand_row::SubcommandRow;
 
-pub static REMOVE: Row = Row {
+pub static REMOVE: SubcommandRow = SubcommandRow {
     name: "remove",
     about: "Removes an account",
     more: "Reads nothing. Prints `removed NAME`. What stays is when senders were answered, so that a new account of the name answers nobody twice.
 Status 0: removed. 64: wrong words. 65: the user has mail. 67: no such user. 75: try again later.",
     arguments: &[
-        Argument::Db,
-        Argument::Wait,
-        Argument::WithMail,
-        Argument::Name,
+        CliArgument::Db,
+        CliArgument::Wait,
+        CliArgument::WithMail,
+        CliArgument::Name,
     ],
 };
 
 /// The account that is to be removed.
 #[derive(Clone, Copy)]
-pub struct Remove<'a> {
+pub struct RemoveArgs<'a> {
     pub location: StoreLocation<'a>,
     /// Whether its messages are removed too.
     pub mail: bool,
@@ -29,14 +29,14 @@ pub struct Remove<'a> {
     pub user: &'a str,
 }
 
-impl<'a> Remove<'a> {
-    pub fn read(given: &Given<'a, '_>) -> Remove<'a>
-        ensures { IsRemove given.now.line.now given.now.matches.now result }
+impl<'a> RemoveArgs<'a> {
+    pub fn read(given: &Given<'a, '_>) -> RemoveArgs<'a>
+        ensures { IsRemoveArgs given.now.line.now given.now.matches.now result }
     {
-        Remove {
+        RemoveArgs {
             location: given.location(),
-            mail: given.flag(Argument::WithMail),
-            user: given.text(Argument::Name),
+            mail: given.flag(CliArgument::WithMail),
+            user: given.text(CliArgument::Name),
         }
     }
 }

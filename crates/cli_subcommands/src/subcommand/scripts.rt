@@ -1,28 +1,28 @@
 //! `scripts`: a user's scripts.
-ghost use Rattle.sievedwords.specs.Asks.{IsScripts};
+ghost use Rattle.cli_subcommands.specs.Asks.{IsScriptsArgs};
 
-use crate::argument::Argument;
+use crate::argument::CliArgument;
 use crate::given::Given;
 use crate::location::StoreLocation;
-use crate::row::Row;
+use crate::subcommand_row::SubcommandRow;
 
-pub static SCRIPTS: Row = Row {
+pub static SCRIPTS: SubcommandRow = SubcommandRow {
     name: "scripts",
     about: "Lists a user's scripts, or prints one",
     more: "Reads nothing. Prints for each what LISTSCRIPTS does: its name as ManageSieve spells it, and ` ACTIVE` behind the active one's.
 With SCRIPT prints the octets of that script.
 Status 0: listed or printed. 64: wrong words. 65: no such script or store. 67: no such user. 75: try again later.",
     arguments: &[
-        Argument::Db,
-        Argument::Wait,
-        Argument::User,
-        Argument::AnyScript,
+        CliArgument::Db,
+        CliArgument::Wait,
+        CliArgument::User,
+        CliArgument::AnyScript,
     ],
 };
 
 /// Whose scripts are to be listed, or which one is to be printed.
 #[derive(Clone, Copy)]
-pub struct Scripts<'a> {
+pub struct ScriptsArgs<'a> {
     pub location: StoreLocation<'a>,
     /// The account's name.
     pub user: &'a str,
@@ -30,14 +30,14 @@ pub struct Scripts<'a> {
     pub script: Option<&'a str>,
 }
 
-impl<'a> Scripts<'a> {
-    pub fn read(given: &Given<'a, '_>) -> Scripts<'a>
-        ensures { IsScripts given.now.line.now given.now.matches.now result }
+impl<'a> ScriptsArgs<'a> {
+    pub fn read(given: &Given<'a, '_>) -> ScriptsArgs<'a>
+        ensures { IsScriptsArgs given.now.line.now given.now.matches.now result }
     {
-        Scripts {
+        ScriptsArgs {
             location: given.location(),
-            user: given.text(Argument::User),
-            script: given.value(Argument::AnyScript),
+            user: given.text(CliArgument::User),
+            script: given.value(CliArgument::AnyScript),
         }
     }
 }

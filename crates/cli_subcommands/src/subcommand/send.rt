@@ -1,27 +1,27 @@
 //! `send`: hands the rows of all queues to a mail server.
-ghost use Rattle.sievedwords.specs.Asks.{IsSend};
+ghost use Rattle.cli_subcommands.specs.Asks.{IsSendArgs};
 
-use crate::argument::Argument;
+use crate::argument::CliArgument;
 use crate::given::Given;
-use crate::row::Row;
+use crate::subcommand_row::SubcommandRow;
 
-pub static SEND: Row = Row {
+pub static SEND: SubcommandRow = SubcommandRow {
     name: "send",
     about: "Hands the queues of all users to a mail server by SMTP",
     more: "Prints `sent USER ID` or `waits USER ID: CAUSE` for each row that was tried, and `sent N, wait M`. A row leaves its queue once the server has taken it.
 Status 0: done, whatever waits. 64: wrong words or values. 65: no store. 75: no server, another `send` on this store, or try again later.",
     arguments: &[
-        Argument::Db,
-        Argument::Smtp,
-        Argument::HostName,
-        Argument::MostRows,
-        Argument::SendEightBit,
+        CliArgument::Db,
+        CliArgument::Smtp,
+        CliArgument::HostName,
+        CliArgument::MostRows,
+        CliArgument::SendEightBit,
     ],
 };
 
 /// Which store's queues are to be sent, and where.
 #[derive(Clone, Copy)]
-pub struct Send<'a> {
+pub struct SendArgs<'a> {
     /// The path of the database's file.
     pub path: &'a str,
     /// The mail server: an address and a port, or the path of a socket.
@@ -34,16 +34,16 @@ pub struct Send<'a> {
     pub send_8bit: bool,
 }
 
-impl<'a> Send<'a> {
-    pub fn read(given: &Given<'a, '_>) -> Send<'a>
-        ensures { IsSend given.now.line.now given.now.matches.now result }
+impl<'a> SendArgs<'a> {
+    pub fn read(given: &Given<'a, '_>) -> SendArgs<'a>
+        ensures { IsSendArgs given.now.line.now given.now.matches.now result }
     {
-        Send {
-            path: given.text(Argument::Db),
-            smtp: given.text(Argument::Smtp),
-            host: given.value(Argument::HostName),
-            most: given.value(Argument::MostRows),
-            send_8bit: given.flag(Argument::SendEightBit),
+        SendArgs {
+            path: given.text(CliArgument::Db),
+            smtp: given.text(CliArgument::Smtp),
+            host: given.value(CliArgument::HostName),
+            most: given.value(CliArgument::MostRows),
+            send_8bit: given.flag(CliArgument::SendEightBit),
         }
     }
 }

@@ -1,27 +1,27 @@
 //! `serve`: clients of ManageSieve on the loopback address, one after the other.
-ghost use Rattle.sievedwords.specs.Asks.{IsServe};
+ghost use Rattle.cli_subcommands.specs.Asks.{IsServeArgs};
 
-use crate::argument::Argument;
+use crate::argument::CliArgument;
 use crate::given::Given;
 use crate::location::StoreLocation;
-use crate::row::Row;
+use crate::subcommand_row::SubcommandRow;
 
-pub static SERVE: Row = Row {
+pub static SERVE: SubcommandRow = SubcommandRow {
     name: "serve",
     about: "Serves ManageSieve on the loopback address, one client after the other",
     more: "Prints `listening on 127.0.0.1:P` once it listens.
 Status 0: as many sessions as asked for have ended. 64: wrong words or numbers. 75: can't listen, or try again later.",
     arguments: &[
-        Argument::Db,
-        Argument::Wait,
-        Argument::Port,
-        Argument::Sessions,
+        CliArgument::Db,
+        CliArgument::Wait,
+        CliArgument::Port,
+        CliArgument::Sessions,
     ],
 };
 
 /// Where clients are to be served.
 #[derive(Clone, Copy)]
-pub struct Serve<'a> {
+pub struct ServeArgs<'a> {
     pub location: StoreLocation<'a>,
     /// The port, in decimal.
     pub port: &'a str,
@@ -29,14 +29,14 @@ pub struct Serve<'a> {
     pub sessions: Option<&'a str>,
 }
 
-impl<'a> Serve<'a> {
-    pub fn read(given: &Given<'a, '_>) -> Serve<'a>
-        ensures { IsServe given.now.line.now given.now.matches.now result }
+impl<'a> ServeArgs<'a> {
+    pub fn read(given: &Given<'a, '_>) -> ServeArgs<'a>
+        ensures { IsServeArgs given.now.line.now given.now.matches.now result }
     {
-        Serve {
+        ServeArgs {
             location: given.location(),
-            port: given.text(Argument::Port),
-            sessions: given.value(Argument::Sessions),
+            port: given.text(CliArgument::Port),
+            sessions: given.value(CliArgument::Sessions),
         }
     }
 }

@@ -1,30 +1,30 @@
 //! `session`: one client of ManageSieve, over standard input and output.
-ghost use Rattle.sievedwords.specs.Asks.{IsSession};
+ghost use Rattle.cli_subcommands.specs.Asks.{IsSessionArgs};
 
-use crate::argument::Argument;
+use crate::argument::CliArgument;
 use crate::given::Given;
 use crate::location::StoreLocation;
-use crate::row::Row;
+use crate::subcommand_row::SubcommandRow;
 
-pub static SESSION: Row = Row {
+pub static SESSION: SubcommandRow = SubcommandRow {
     name: "session",
     about: "Serves one ManageSieve client over standard input and output",
     more: "For inetd, a systemd socket with Accept=yes, or ssh.
 Status 0: the session has ended. 64: wrong words. 75: memory, input or output failed.",
-    arguments: &[Argument::Db, Argument::Wait],
+    arguments: &[CliArgument::Db, CliArgument::Wait],
 };
 
 /// The store that a client is to be served from.
 #[derive(Clone, Copy)]
-pub struct Session<'a> {
+pub struct SessionArgs<'a> {
     pub location: StoreLocation<'a>,
 }
 
-impl<'a> Session<'a> {
-    pub fn read(given: &Given<'a, '_>) -> Session<'a>
-        ensures { IsSession given.now.line.now given.now.matches.now result }
+impl<'a> SessionArgs<'a> {
+    pub fn read(given: &Given<'a, '_>) -> SessionArgs<'a>
+        ensures { IsSessionArgs given.now.line.now given.now.matches.now result }
     {
-        Session {
+        SessionArgs {
             location: given.location(),
         }
     }

@@ -1,28 +1,28 @@
 //! `show`: a message of a folder.
-ghost use Rattle.sievedwords.specs.Asks.{IsShow};
+ghost use Rattle.cli_subcommands.specs.Asks.{IsShowArgs};
 
-use crate::argument::Argument;
+use crate::argument::CliArgument;
 use crate::given::Given;
 use crate::location::StoreLocation;
-use crate::row::Row;
+use crate::subcommand_row::SubcommandRow;
 
-pub static SHOW: Row = Row {
+pub static SHOW: SubcommandRow = SubcommandRow {
     name: "show",
     about: "Shows a message of a folder",
     more: "Reads nothing. Prints the message as it was received.
 Status 0: shown. 64: wrong words or number. 65: no such message or store. 67: no such user. 75: try again later.",
     arguments: &[
-        Argument::Db,
-        Argument::Wait,
-        Argument::User,
-        Argument::Folder,
-        Argument::Number,
+        CliArgument::Db,
+        CliArgument::Wait,
+        CliArgument::User,
+        CliArgument::Folder,
+        CliArgument::Number,
     ],
 };
 
 /// The message that is to be shown.
 #[derive(Clone, Copy)]
-pub struct Show<'a> {
+pub struct ShowArgs<'a> {
     pub location: StoreLocation<'a>,
     /// The account's name.
     pub user: &'a str,
@@ -32,15 +32,15 @@ pub struct Show<'a> {
     pub number: &'a str,
 }
 
-impl<'a> Show<'a> {
-    pub fn read(given: &Given<'a, '_>) -> Show<'a>
-        ensures { IsShow given.now.line.now given.now.matches.now result }
+impl<'a> ShowArgs<'a> {
+    pub fn read(given: &Given<'a, '_>) -> ShowArgs<'a>
+        ensures { IsShowArgs given.now.line.now given.now.matches.now result }
     {
-        Show {
+        ShowArgs {
             location: given.location(),
-            user: given.text(Argument::User),
-            folder: given.text(Argument::Folder),
-            number: given.text(Argument::Number),
+            user: given.text(CliArgument::User),
+            folder: given.text(CliArgument::Folder),
+            number: given.text(CliArgument::Number),
         }
     }
 }

@@ -1,27 +1,27 @@
 //! `try`: what a script does with a message.
-ghost use Rattle.sievedwords.specs.Asks.{IsTry};
+ghost use Rattle.cli_subcommands.specs.Asks.{IsTryArgs};
 
-use crate::argument::Argument;
+use crate::argument::CliArgument;
 use crate::given::Given;
-use crate::row::Row;
+use crate::subcommand_row::SubcommandRow;
 
-pub static TRY: Row = Row {
+pub static TRY: SubcommandRow = SubcommandRow {
     name: "try",
     about: "Says what a script does with a message, and stores nothing",
     more: "Reads a line with the script's length in decimal, the script, and the message.
 Prints `file NAME`, `send ADDRESS`, `vacation wanted`, or `discard`; `failed: TEXT` of a run that fails; or `line N: ..` of a script that isn't valid.
 Status 0: said. 64: wrong words. 65: not valid, or no such input. 75: memory, input or output failed.",
     arguments: &[
-        Argument::From,
-        Argument::AnyTo,
-        Argument::At,
-        Argument::Zone,
+        CliArgument::From,
+        CliArgument::AnyTo,
+        CliArgument::At,
+        CliArgument::Zone,
     ],
 };
 
 /// The envelope of the message that a script is tried on, and the moment. An address that was left out is empty.
 #[derive(Clone, Copy)]
-pub struct Try<'a> {
+pub struct TryArgs<'a> {
     /// The envelope's sender.
     pub from: &'a [u8],
     /// The envelope's recipient.
@@ -32,15 +32,15 @@ pub struct Try<'a> {
     pub zone: Option<&'a str>,
 }
 
-impl<'a> Try<'a> {
-    pub fn read(given: &Given<'a, '_>) -> Try<'a>
-        ensures { IsTry given.now.line.now given.now.matches.now result }
+impl<'a> TryArgs<'a> {
+    pub fn read(given: &Given<'a, '_>) -> TryArgs<'a>
+        ensures { IsTryArgs given.now.line.now given.now.matches.now result }
     {
-        Try {
-            from: given.address(Argument::From),
-            to: given.address(Argument::AnyTo),
-            at: given.value(Argument::At),
-            zone: given.value(Argument::Zone),
+        TryArgs {
+            from: given.address(CliArgument::From),
+            to: given.address(CliArgument::AnyTo),
+            at: given.value(CliArgument::At),
+            zone: given.value(CliArgument::Zone),
         }
     }
 }

@@ -1,7 +1,7 @@
 use Rattle.std.proofs.Common.{sym, subst, ◌↔◌, IsTrue, Bool}
-use Rattle.collation.specs.Comparators.{ContainsBy}
-use Rattle.collation.proofs.Standing.{ContainsBy-found}
-use Rattle.collation.proofs.contains.Goals as goal
+use Rattle.sieve_match.specs.Comparators.{ContainsBy}
+use Rattle.sieve_match.proofs.Standing.{ContainsBy-found}
+use Rattle.sieve_match.proofs.contains.Goals as goal
 
 pub returns : goal.returns
 returns g c =

@@ -1,7 +1,7 @@
 use Rattle.std.proofs.Common.{refl, ◌≡◌, ℕ, ◌-◌, length, arith}
 use Rattle.std.proofs.lemmas.Bool.{false≢true}
-use Rattle.collation.proofs.Standing.{EqualBy-from, SameFrom-more, SameFrom-of}
-use Rattle.collation.proofs.is.Goals as goal
+use Rattle.sieve_match.proofs.Standing.{EqualBy-from, SameFrom-more, SameFrom-of}
+use Rattle.sieve_match.proofs.is.Goals as goal
 
 pub returns-then-not-same_run : goal.returns-then-not-same_run
 returns-then-not-same_run g c = (

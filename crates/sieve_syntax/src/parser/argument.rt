@@ -1,17 +1,17 @@
 //! Arguments, as the grammar alone has them (RFC 5228, 8.2).
 ghost use Rattle.std.specs.Prelude.{◌≡◌, ℕ, List, [], ◌∷◌, ◌++◌, Result, Ok, Some, None, MatchBool, MatchOption, IfOk, true, false};
-ghost use Rattle.sievelex.specs.declared.token.Mark.TheVariants as K;
-ghost use Rattle.sievelex.specs.Encoded.{decoded};
-ghost use Rattle.sievesyntax.specs.Lexemes.{Lexemes, text, mark};
-ghost use Rattle.sievesyntax.specs.Parsing.{IfFault, Parses, ParsesMore, StandsAlone, StandsNowhere, Closed};
-ghost use Rattle.sievesyntax.specs.Chains.{Chain};
+ghost use Rattle.sieve_lex.specs.declared.token.Mark.TheVariants as K;
+ghost use Rattle.sieve_lex.specs.Encoded.{decoded};
+ghost use Rattle.sieve_syntax.specs.Lexemes.{Lexemes, text, mark};
+ghost use Rattle.sieve_syntax.specs.Parsing.{IfParseFault, Parses, ParsesMore, StandsAlone, StandsNowhere, Closed};
+ghost use Rattle.sieve_syntax.specs.Chains.{Chain};
 
-use crate::error::ReadError;
+use crate::error::ParseError;
 use crate::parser::lexeme::Lexeme;
 use crate::parser::reader::Reader;
 use crate::table::tag::Tag;
 use octets::{List, Octets};
-use sievelex::{FaultKind, Mark, Said, decode};
+use sieve_lex::{FaultKind, Mark, Said, decode};
 use std::alloc::Global;
 
 /// Room for this many strings is reserved when a list begins: most lists have no more, and the room is freed with the argument.
@@ -30,13 +30,13 @@ pub enum Argument<'a> {
     Strings(List<Said<'a>>),
 }
 
-ghost use Rattle.sievesyntax.specs.Arguments.{IsOther, AreStrings, IsArgument, IsEnd, AreArguments};
+ghost use Rattle.sieve_syntax.specs.Arguments.{IsOther, AreStrings, IsArgument, IsArgumentsEnd, AreArguments};
 
 /// Reads all the arguments that come next. Their room is the reader's, which gets it back by [`Reader::keep_room`].
 pub(crate) fn read_arguments<'a>(
     alloc: Global,
     reader: &mut Reader<'a>,
-) -> Result<Vec<Argument<'a>>, ReadError>
+) -> Result<Vec<Argument<'a>>, ParseError>
     ensures { Parses (λ v. v.items) AreArguments reader.old reader.new result }
 {
     let mut arguments = reader.take_room(alloc);
@@ -50,11 +50,11 @@ pub(crate) fn read_arguments<'a>(
 fn read_argument<'a>(
     alloc: Global,
     reader: &mut Reader<'a>,
-) -> Result<Option<Argument<'a>>, ReadError>
-    ensures found { IfOk result (λ o. MatchOption o (IsEnd reader.old × (reader.new ≡ reader.old)) (λ a. IsArgument a reader.old reader.new)) }
+) -> Result<Option<Argument<'a>>, ParseError>
+    ensures found { IfOk result (λ o. MatchOption o (IsArgumentsEnd reader.old × (reader.new ≡ reader.old)) (λ a. IsArgument a reader.old reader.new)) }
     ensures only { IfOk result (λ o. MatchOption o (Unit {0}) (λ a. StandsAlone IsArgument a reader.old reader.new)) }
-    ensures begun { IfFault result (IsEnd reader.old → ⊥) }
-    ensures fault { IfFault result (StandsNowhere IsArgument reader.old) }
+    ensures begun { IfParseFault result (IsArgumentsEnd reader.old → ⊥) }
+    ensures fault { IfParseFault result (StandsNowhere IsArgument reader.old) }
 {
     if !begins_argument(reader) {
         return Ok(None);
@@ -78,7 +78,7 @@ fn read_argument<'a>(
 
 /// Whether an argument begins here.
 fn begins_argument(reader: &Reader<'_>) -> bool
-    ensures { MatchBool result (IsEnd reader.now → ⊥) (IsEnd reader.now) }
+    ensures { MatchBool result (IsArgumentsEnd reader.now → ⊥) (IsArgumentsEnd reader.now) }
 {
     match reader.first() {
         None | Some(Lexeme::Keyword(_)) => false,
@@ -88,7 +88,7 @@ fn begins_argument(reader: &Reader<'_>) -> bool
 }
 
 /// Reads the strings of a list, after its open bracket.
-fn read_strings<'a>(alloc: Global, reader: &mut Reader<'a>) -> Result<List<Said<'a>>, ReadError>
+fn read_strings<'a>(alloc: Global, reader: &mut Reader<'a>) -> Result<List<Said<'a>>, ParseError>
     ensures { Parses (λ strings. strings) AreStrings reader.old reader.new result }
 {
     let mut strings = List::from_vec(Vec::with_capacity(alloc, LIST_ROOM)?);
@@ -101,7 +101,7 @@ fn read_others<'a>(
     alloc: Global,
     reader: &mut Reader<'a>,
     strings: List<Said<'a>>,
-) -> Result<List<Said<'a>>, ReadError>
+) -> Result<List<Said<'a>>, ParseError>
     ensures { ParsesMore (λ all. all) (Closed K.CloseBracket (Chain IsOther)) strings.entry reader.old reader.new result }
 {
     let mut strings = strings;
@@ -112,44 +112,44 @@ fn read_others<'a>(
 }
 
 /// Reads a separator: whether it is a comma, or this closing mark.
-pub(crate) fn read_separator(reader: &mut Reader<'_>, close: Mark) -> Result<bool, ReadError>
+pub(crate) fn read_separator(reader: &mut Reader<'_>, close: Mark) -> Result<bool, ParseError>
     ensures comma { result ≡ Ok true → reader.old ≡ mark K.Comma ∷ reader.new }
     ensures closed { result ≡ Ok false → reader.old ≡ mark close ∷ reader.new }
-    ensures no_comma { IfFault result ((to : Lexemes) → reader.old ≡ mark K.Comma ∷ to → ⊥) }
-    ensures no_close { IfFault result ((to : Lexemes) → reader.old ≡ mark close ∷ to → ⊥) }
+    ensures no_comma { IfParseFault result ((to : Lexemes) → reader.old ≡ mark K.Comma ∷ to → ⊥) }
+    ensures no_close { IfParseFault result ((to : Lexemes) → reader.old ≡ mark close ∷ to → ⊥) }
 {
     let Some(lexeme) = reader.next() else {
-        return Err(ReadError::Fault(FaultKind::Unexpected));
+        return Err(ParseError::Fault(FaultKind::Unexpected));
     };
     match lexeme {
         Lexeme::Mark(mark) if mark == Mark::Comma => Ok(true),
         Lexeme::Mark(mark) if mark == close => Ok(false),
-        _ => Err(ReadError::Fault(FaultKind::Unexpected)),
+        _ => Err(ParseError::Fault(FaultKind::Unexpected)),
     }
 }
 
 /// Reads a string without brackets.
-fn read_text<'a>(alloc: Global, reader: &mut Reader<'a>) -> Result<Said<'a>, ReadError>
+fn read_text<'a>(alloc: Global, reader: &mut Reader<'a>) -> Result<Said<'a>, ParseError>
     ensures found { IfOk result (λ string. reader.old ≡ text string ∷ reader.new) }
-    ensures fault { IfFault result ((string : List ℕ) (to : Lexemes) → reader.old ≡ text string ∷ to → ⊥) }
+    ensures fault { IfParseFault result ((string : List ℕ) (to : Lexemes) → reader.old ≡ text string ∷ to → ⊥) }
 {
     let Some(lexeme) = reader.next() else {
-        return Err(ReadError::Fault(FaultKind::Unexpected));
+        return Err(ParseError::Fault(FaultKind::Unexpected));
     };
     match lexeme {
         Lexeme::Text(string) => Ok(Said::in_text(string)),
         Lexeme::Encoded(written) => Ok(Said::apart(read_encoded(alloc, written)?)),
-        _ => Err(ReadError::Fault(FaultKind::Unexpected)),
+        _ => Err(ParseError::Fault(FaultKind::Unexpected)),
     }
 }
 
 /// Decodes a string (RFC 5228, 2.4.2.4).
-fn read_encoded(alloc: Global, written: &[u8]) -> Result<Octets, ReadError>
+fn read_encoded(alloc: Global, written: &[u8]) -> Result<Octets, ParseError>
     ensures found { IfOk result (λ string. decoded written.now ≡ Some string) }
-    ensures fault { IfFault result (decoded written.now ≡ None) }
+    ensures fault { IfParseFault result (decoded written.now ≡ None) }
 {
     match decode(alloc, written)? {
         Some(string) => Ok(string),
-        None => Err(ReadError::Fault(FaultKind::BadCharacter)),
+        None => Err(ParseError::Fault(FaultKind::BadCharacter)),
     }
 }

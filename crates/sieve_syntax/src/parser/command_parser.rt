@@ -1,14 +1,14 @@
 //! Commands and blocks, by recursive descent: one pass, and no deeper than blocks may be nested.
 ghost use Rattle.std.specs.Prelude.{◌≡◌, ◌↔◌, ◌++◌, ◌∷◌, [], ℕ, List, IfOk, IsTrue, MatchBool, map};
-ghost use Rattle.sievesyntax.specs.declared.table.keyword.Keyword.TheVariants as W;
-ghost use Rattle.sievesyntax.specs.Lexemes.{Lexemes, keyword};
-ghost use Rattle.sievesyntax.specs.Parsing.{Parses, ParsesMore};
-ghost use Rattle.sievesyntax.specs.Tree.{TestTree, CommandTree, Commands};
-ghost use Rattle.sievesyntax.specs.View.{branch_view, command_view, commands_view};
-ghost use Rattle.sievesyntax.specs.Grammar.{IsPastBranches};
-ghost use Rattle.sievesyntax.specs.Steps.{TakesCommand, TakesAfter, TakesBlock, TakesBranch, TakesElsifs, TakesElse, IsPastElsif, IsPastElse, TakesAll, IsStop};
+ghost use Rattle.sieve_syntax.specs.declared.table.keyword.Keyword.TheVariants as W;
+ghost use Rattle.sieve_syntax.specs.Lexemes.{Lexemes, keyword};
+ghost use Rattle.sieve_syntax.specs.Parsing.{Parses, ParsesMore};
+ghost use Rattle.sieve_syntax.specs.Tree.{TestTree, CommandTree, Commands};
+ghost use Rattle.sieve_syntax.specs.View.{branch_view, command_view, commands_view};
+ghost use Rattle.sieve_syntax.specs.Grammar.{IsPastBranches};
+ghost use Rattle.sieve_syntax.specs.Steps.{TakesCommand, TakesAfter, TakesBlock, TakesBranch, TakesElsifs, TakesElse, IsPastElsif, IsPastElse, TakesAll, IsStop};
 
-use crate::error::ReadError;
+use crate::error::ParseError;
 use crate::parser::argument::read_arguments;
 use crate::parser::lexeme::Lexeme;
 use crate::parser::reader::Reader;
@@ -18,7 +18,7 @@ use crate::table::command::plain_command;
 use crate::table::keyword::Keyword;
 use crate::tree::command::{Branch, Command};
 use crate::tree::test::Test;
-use sievelex::{FaultKind, Mark};
+use sieve_lex::{FaultKind, Mark};
 use std::alloc::{AllocError, Global};
 
 /// At most this many test lists may enclose a test: it bounds the stack of the check.
@@ -35,7 +35,7 @@ pub(crate) fn read_commands(
     granted: Capabilities,
     room: usize,
     commands: Vec<Command>,
-) -> Result<Vec<Command>, ReadError>
+) -> Result<Vec<Command>, ParseError>
     ensures { ParsesMore (λ all. map command_view all.items) (TakesAll granted room) (map command_view commands.items) reader.old reader.new result }
 {
     let mut commands = commands;
@@ -52,7 +52,7 @@ fn read_command(
     reader: &mut Reader<'_>,
     granted: Capabilities,
     room: usize,
-) -> Result<Command, ReadError>
+) -> Result<Command, ParseError>
     ensures { Parses command_view (TakesCommand granted room) reader.old reader.new result }
 {
     let name = reader.read_keyword()?;
@@ -69,7 +69,7 @@ fn read_if(
     reader: &mut Reader<'_>,
     granted: Capabilities,
     room: usize,
-) -> Result<Command, ReadError>
+) -> Result<Command, ParseError>
     ensures { Parses command_view (TakesAfter granted room W.If) reader.old reader.new result }
 {
     let first = read_branch(alloc, reader, granted, room)?;
@@ -86,7 +86,7 @@ fn read_branch(
     reader: &mut Reader<'_>,
     granted: Capabilities,
     room: usize,
-) -> Result<Branch, ReadError>
+) -> Result<Branch, ParseError>
     ensures { Parses branch_view (TakesBranch granted room) reader.old reader.new result }
 {
     let test = read_test(alloc, reader, granted, MAX_LISTS, MAX_NOTS)?;
@@ -102,7 +102,7 @@ fn read_elsifs(
     granted: Capabilities,
     room: usize,
     branches: Vec<Branch>,
-) -> Result<Vec<Branch>, ReadError>
+) -> Result<Vec<Branch>, ParseError>
     ensures { ParsesMore (λ all. map branch_view all.items) (TakesElsifs granted room) (map branch_view branches.items) reader.old reader.new result }
 {
     let mut branches = branches;
@@ -120,7 +120,7 @@ fn read_else(
     granted: Capabilities,
     room: usize,
     branches: Vec<Branch>,
-) -> Result<Vec<Branch>, ReadError>
+) -> Result<Vec<Branch>, ParseError>
     requires { IsPastElsif reader.old }
     ensures { ParsesMore (λ all. map branch_view all.items) (TakesElse granted room) (map branch_view branches.items) reader.old reader.new result }
 {
@@ -142,12 +142,12 @@ fn read_block(
     reader: &mut Reader<'_>,
     granted: Capabilities,
     room: usize,
-) -> Result<Vec<Command>, ReadError>
+) -> Result<Vec<Command>, ParseError>
     ensures { Parses (λ v. commands_view v.items) (TakesBlock granted room) reader.old reader.new result }
 {
     reader.read_mark(Mark::OpenBrace)?;
     if room == 0 {
-        return Err(ReadError::Fault(FaultKind::TooDeep));
+        return Err(ParseError::Fault(FaultKind::TooDeep));
     }
     let none = no_commands(alloc, reader)?;
     let block = read_commands(alloc, reader, granted, room - 1, none)?;
@@ -173,7 +173,7 @@ fn read_statement(
     granted: Capabilities,
     room: usize,
     name: Keyword,
-) -> Result<Command, ReadError>
+) -> Result<Command, ParseError>
     requires { name ≡ W.If → ⊥ }
     ensures { Parses command_view (TakesAfter granted room name) reader.old reader.new result }
 {

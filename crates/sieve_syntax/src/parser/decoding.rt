@@ -1,13 +1,13 @@
 //! Which strings of a script are decoded (RFC 5228, 2.4.2.4).
 ghost use Rattle.std.specs.Prelude.{◌≡◌};
-ghost use Rattle.sievelex.specs.Contents.{content_of};
-ghost use Rattle.sievesyntax.specs.Lexemes.{lexeme_of, lexeme_view};
-ghost use Rattle.sievesyntax.specs.Decoding.{decoding_after, seen};
-ghost use Rattle.sievesyntax.specs.declared.parser.decoding.Decoding.TheVariants.{Open};
+ghost use Rattle.sieve_lex.specs.Contents.{content_view};
+ghost use Rattle.sieve_syntax.specs.Lexemes.{lexeme_of, lexeme_view};
+ghost use Rattle.sieve_syntax.specs.Decoding.{decoding_after, lexeme_as_read};
+ghost use Rattle.sieve_syntax.specs.declared.parser.decoding.Decoding.TheVariants.{Open};
 
 use crate::parser::lexeme::{Lexeme, lexeme_of};
 use crate::table::keyword::{Keyword, keyword_named};
-use sievelex::{ContentRef, Mark};
+use sieve_lex::{ContentRef, Mark};
 
 /// How the strings that come next are read.
 #[derive(Clone, Copy)]
@@ -25,7 +25,7 @@ pub(crate) enum Decoding {
 impl Decoding {
     /// How the strings after this token are read. Time is linear in the length of a name; takes no memory.
     pub(crate) fn after(self, content: ContentRef<'_>) -> Decoding
-        ensures { result ≡ decoding_after self (lexeme_of (content_of content.entry)) }
+        ensures { result ≡ decoding_after self (lexeme_of (content_view content.entry)) }
     {
         match self {
             Decoding::Open => after_open(content),
@@ -41,7 +41,7 @@ impl Decoding {
 
 /// How the strings after this token are read, if only requires precede it.
 fn after_open(content: ContentRef<'_>) -> Decoding
-    ensures { result ≡ decoding_after Open (lexeme_of (content_of content.entry)) }
+    ensures { result ≡ decoding_after Open (lexeme_of (content_view content.entry)) }
 {
     match content {
         ContentRef::Identifier(name) => match keyword_named(name) {
@@ -56,7 +56,7 @@ fn after_open(content: ContentRef<'_>) -> Decoding
 /// What this token is read as. Time is linear in the length of a name; takes no memory.
 #[inline(always)]
 pub(crate) fn seen_of<'a>(content: ContentRef<'a>, decoding: Decoding) -> Lexeme<'a>
-    ensures { lexeme_view result ≡ seen decoding (lexeme_of (content_of content.entry)) }
+    ensures { lexeme_view result ≡ lexeme_as_read decoding (lexeme_of (content_view content.entry)) }
 {
     match (decoding, content) {
         (Decoding::On, ContentRef::Text(written)) => Lexeme::Encoded(written),

@@ -1,11 +1,11 @@
 //! What the grammar sees of a token: keywords instead of names.
 ghost use Rattle.std.specs.Prelude.{◌≡◌};
-ghost use Rattle.sievelex.specs.Contents.{content_of};
-ghost use Rattle.sievesyntax.specs.Lexemes.{lexeme_of, lexeme_view};
+ghost use Rattle.sieve_lex.specs.Contents.{content_view};
+ghost use Rattle.sieve_syntax.specs.Lexemes.{lexeme_of, lexeme_view};
 
 use crate::table::keyword::{Keyword, keyword_named};
 use crate::table::tag::{Tag, tag_named};
-use sievelex::{ContentRef, Mark};
+use sieve_lex::{ContentRef, Mark};
 
 /// What the grammar sees of a token, borrowing the octets that it says.
 #[derive(Clone, Copy)]
@@ -22,7 +22,7 @@ pub enum Lexeme<'a> {
 /// What the grammar sees of this token. Time is linear in the length of a name; takes no memory.
 #[inline(always)]
 pub(crate) fn lexeme_of<'a>(content: ContentRef<'a>) -> Lexeme<'a>
-    ensures { lexeme_view result ≡ lexeme_of (content_of content.entry) }
+    ensures { lexeme_view result ≡ lexeme_of (content_view content.entry) }
 {
     match content {
         ContentRef::Identifier(name) => Lexeme::Keyword(keyword_named(name)),

@@ -1,17 +1,17 @@
 //! The tokens that are still to be read.
 ghost use Rattle.std.specs.Prelude.{◌≡◌, List, [], ◌∷◌, length, MatchOption, IfOk, OnOk};
-ghost use Rattle.sievesyntax.specs.declared.table.keyword.Keyword.{Keyword};
-ghost use Rattle.sievelex.specs.Contents.{contents};
-ghost use Rattle.sievesyntax.specs.Decoding.{as_read};
-ghost use Rattle.sievesyntax.specs.Lexemes.{IsFirst, Lexemes, keyword, mark, lexemes_of, lexeme_view};
-ghost use Rattle.sievesyntax.specs.Parsing.{IfFault};
+ghost use Rattle.sieve_syntax.specs.declared.table.keyword.Keyword.{Keyword};
+ghost use Rattle.sieve_lex.specs.Contents.{contents};
+ghost use Rattle.sieve_syntax.specs.Decoding.{as_read};
+ghost use Rattle.sieve_syntax.specs.Lexemes.{IsFirstLexeme, Lexemes, keyword, mark, lexemes_of, lexeme_view};
+ghost use Rattle.sieve_syntax.specs.Parsing.{IfParseFault};
 
-use crate::error::ReadError;
+use crate::error::ParseError;
 use crate::parser::argument::Argument;
 use crate::parser::decoding::{Decoding, seen_of};
 use crate::parser::lexeme::Lexeme;
 use crate::table::keyword::Keyword;
-use sievelex::{Cursor, FaultKind, Mark, Packed};
+use sieve_lex::{Cursor, FaultKind, Mark, Packed};
 use std::alloc::Global;
 use std::marker::Model;
 use std::mem;
@@ -31,12 +31,12 @@ pub struct Reader<'a> {
 
 impl<'a> Model for Reader<'a> {
     ghost use Rattle.std.specs.Prelude.{List};
-    ghost use Rattle.sievesyntax.specs.Decoding.{seen_from};
-    ghost use Rattle.sievesyntax.specs.Lexemes.{Lexeme, lexemes_of, with_first};
+    ghost use Rattle.sieve_syntax.specs.Decoding.{lexemes_as_read};
+    ghost use Rattle.sieve_syntax.specs.Lexemes.{Lexeme, lexemes_of, with_first};
 
     ghost Value = { List Lexeme };
 
-    ghost view = { λ r. with_first r.first (seen_from r.decoding (lexemes_of r.rest)) };
+    ghost view = { λ r. with_first r.first (lexemes_as_read r.decoding (lexemes_of r.rest)) };
 }
 
 impl<'a> Reader<'a> {
@@ -73,7 +73,7 @@ impl<'a> Reader<'a> {
 
     /// The next lexeme; `None` at the end. Constant time.
     pub(crate) fn first(&self) -> Option<Lexeme<'a>>
-        ensures { IsFirst result self.now }
+        ensures { IsFirstLexeme result self.now }
     {
         self.first
     }
@@ -112,35 +112,35 @@ impl<'a> Reader<'a> {
     }
 
     /// Reads this mark.
-    pub(crate) fn read_mark(&mut self, wanted: Mark) -> Result<(), ReadError>
+    pub(crate) fn read_mark(&mut self, wanted: Mark) -> Result<(), ParseError>
         ensures found { OnOk result (self.old ≡ mark wanted ∷ self.new) }
-        ensures fault { IfFault result ((to : Lexemes) → self.old ≡ mark wanted ∷ to → ⊥) }
+        ensures fault { IfParseFault result ((to : Lexemes) → self.old ≡ mark wanted ∷ to → ⊥) }
     {
         match self.next() {
             Some(Lexeme::Mark(mark)) if mark == wanted => Ok(()),
-            _ => Err(ReadError::Fault(FaultKind::Unexpected)),
+            _ => Err(ParseError::Fault(FaultKind::Unexpected)),
         }
     }
 
     /// Reads an identifier.
-    pub(crate) fn read_keyword(&mut self) -> Result<Keyword, ReadError>
+    pub(crate) fn read_keyword(&mut self) -> Result<Keyword, ParseError>
         ensures found { IfOk result (λ name. self.old ≡ keyword name ∷ self.new) }
-        ensures fault { IfFault result ((name : Keyword) (to : Lexemes) → self.old ≡ keyword name ∷ to → ⊥) }
+        ensures fault { IfParseFault result ((name : Keyword) (to : Lexemes) → self.old ≡ keyword name ∷ to → ⊥) }
     {
         match self.next() {
             Some(Lexeme::Keyword(name)) => Ok(name),
-            _ => Err(ReadError::Fault(FaultKind::Unexpected)),
+            _ => Err(ParseError::Fault(FaultKind::Unexpected)),
         }
     }
 
     /// Reads the end: a fault if anything is left.
-    pub(crate) fn read_end(&mut self) -> Result<(), ReadError>
+    pub(crate) fn read_end(&mut self) -> Result<(), ParseError>
         ensures found { OnOk result (self.old ≡ []) }
-        ensures fault { IfFault result (self.old ≡ [] → ⊥) }
+        ensures fault { IfParseFault result (self.old ≡ [] → ⊥) }
     {
         match self.next() {
             None => Ok(()),
-            Some(_) => Err(ReadError::Fault(FaultKind::Unexpected)),
+            Some(_) => Err(ParseError::Fault(FaultKind::Unexpected)),
         }
     }
 }

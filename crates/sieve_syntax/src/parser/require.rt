@@ -1,15 +1,15 @@
 //! The requires at the beginning of a script, and a whole script (RFC 5228, 3.2).
 ghost use Rattle.std.specs.Prelude.{◌≡◌, ℕ, List, ◌∷◌, IfOk, MatchBool, map};
-ghost use Rattle.sievesyntax.specs.declared.table.keyword.Keyword.TheVariants as W;
-ghost use Rattle.sievesyntax.specs.Lexemes.{Lexemes, keyword};
-ghost use Rattle.sievesyntax.specs.Parsing.{IfFault, Parses, StandsNowhere};
-ghost use Rattle.sievesyntax.specs.Tree.{CommandTree, Commands, require};
-ghost use Rattle.sievesyntax.specs.View.{command_view, commands_view};
-ghost use Rattle.sievesyntax.specs.Valid.{granted_by, IsValid};
-ghost use Rattle.sievesyntax.specs.Grammar.{IsStatement, ReadsScript};
-ghost use Rattle.sievesyntax.specs.Steps.{TakesRequires, ReadsRequires, ReadsRequiresAlone, IsPastRequires, all_names};
+ghost use Rattle.sieve_syntax.specs.declared.table.keyword.Keyword.TheVariants as W;
+ghost use Rattle.sieve_syntax.specs.Lexemes.{Lexemes, keyword};
+ghost use Rattle.sieve_syntax.specs.Parsing.{IfParseFault, Parses, StandsNowhere};
+ghost use Rattle.sieve_syntax.specs.Tree.{CommandTree, Commands, require};
+ghost use Rattle.sieve_syntax.specs.View.{command_view, commands_view};
+ghost use Rattle.sieve_syntax.specs.Valid.{granted_by, IsValid};
+ghost use Rattle.sieve_syntax.specs.Grammar.{IsStatement, ReadsScript};
+ghost use Rattle.sieve_syntax.specs.Steps.{TakesRequires, ReadsRequires, ReadsRequiresAlone, IsPastRequires, all_names};
 
-use crate::error::ReadError;
+use crate::error::ParseError;
 use crate::parser::argument::read_arguments;
 use crate::parser::command_parser::read_commands;
 use crate::parser::lexeme::Lexeme;
@@ -19,17 +19,17 @@ use crate::table::keyword::Keyword;
 use crate::table::positional::read_list;
 use crate::tree::command::Command;
 use octets::Texts;
-use sievelex::Mark;
+use sieve_lex::Mark;
 use std::alloc::Global;
 
 /// How deep blocks may be nested: it bounds the stack of the check.
 const MAX_BLOCKS: usize = 32;
 
 /// Reads the commands of a whole script.
-pub(crate) fn read_script(alloc: Global, reader: &mut Reader<'_>) -> Result<Vec<Command>, ReadError>
+pub(crate) fn read_script(alloc: Global, reader: &mut Reader<'_>) -> Result<Vec<Command>, ParseError>
     ensures found { IfOk result (λ all. ReadsScript (commands_view all.items) reader.old × IsValid (commands_view all.items)) }
     ensures only { IfOk result (λ all. (tree : Commands) → ReadsScript tree reader.old → IsValid tree → tree ≡ commands_view all.items) }
-    ensures fault { IfFault result ((tree : Commands) → ReadsScript tree reader.old → IsValid tree → ⊥) }
+    ensures fault { IfParseFault result ((tree : Commands) → ReadsScript tree reader.old → IsValid tree → ⊥) }
 {
     let (opening, granted) = read_requires(alloc, reader)?;
     let commands = read_commands(alloc, reader, granted, MAX_BLOCKS, opening)?;
@@ -41,10 +41,10 @@ pub(crate) fn read_script(alloc: Global, reader: &mut Reader<'_>) -> Result<Vec<
 fn read_requires(
     alloc: Global,
     reader: &mut Reader<'_>,
-) -> Result<(Vec<Command>, Capabilities), ReadError>
+) -> Result<(Vec<Command>, Capabilities), ParseError>
     ensures found { IfOk result (λ r. ReadsRequires (map command_view r.0.items) r.1 reader.old reader.new) }
     ensures only { IfOk result (λ r. ReadsRequiresAlone (map command_view r.0.items) r.1 reader.old reader.new) }
-    ensures fault { IfFault result (StandsNowhere TakesRequires reader.old) }
+    ensures fault { IfParseFault result (StandsNowhere TakesRequires reader.old) }
 {
     let mut found = Vec::new(alloc);
     let mut granted = Capabilities {
@@ -79,7 +79,7 @@ fn take_require(reader: &mut Reader<'_>) -> bool
 }
 
 /// Reads the names of a `require`, after its word.
-fn read_names(alloc: Global, reader: &mut Reader<'_>) -> Result<Texts, ReadError>
+fn read_names(alloc: Global, reader: &mut Reader<'_>) -> Result<Texts, ParseError>
     ensures { Parses (λ names. names) (λ names from to. IsStatement (require names) W.Require from to) reader.old reader.new result }
 {
     let args = read_arguments(alloc, reader)?;

@@ -1,22 +1,22 @@
 //! Tests, by recursive descent: no deeper than test lists and `not`s may enclose them.
 ghost use Rattle.std.specs.Prelude.{◌≡◌, ◌++◌, ◌∷◌, ℕ, List, IfOk, map};
-ghost use Rattle.sievelex.specs.declared.token.Mark.TheVariants as K;
-ghost use Rattle.sievesyntax.specs.declared.table.keyword.Keyword.TheVariants as W;
-ghost use Rattle.sievesyntax.specs.Chains.{Chain};
-ghost use Rattle.sievesyntax.specs.Lexemes.{Lexemes, mark};
-ghost use Rattle.sievesyntax.specs.Parsing.{Parses, ParsesMore};
-ghost use Rattle.sievesyntax.specs.Tree.{TestTree};
-ghost use Rattle.sievesyntax.specs.View.{test_view, tests_view};
-ghost use Rattle.sievesyntax.specs.Steps.{TakesTest, AsksAfter, TakesMoreTests, TakesTests};
+ghost use Rattle.sieve_lex.specs.declared.token.Mark.TheVariants as K;
+ghost use Rattle.sieve_syntax.specs.declared.table.keyword.Keyword.TheVariants as W;
+ghost use Rattle.sieve_syntax.specs.Chains.{Chain};
+ghost use Rattle.sieve_syntax.specs.Lexemes.{Lexemes, mark};
+ghost use Rattle.sieve_syntax.specs.Parsing.{Parses, ParsesMore};
+ghost use Rattle.sieve_syntax.specs.Tree.{TestTree};
+ghost use Rattle.sieve_syntax.specs.View.{test_view, tests_view};
+ghost use Rattle.sieve_syntax.specs.Steps.{TakesTest, AsksAfter, TakesMoreTests, TakesTests};
 
-use crate::error::ReadError;
+use crate::error::ParseError;
 use crate::parser::argument::{read_arguments, read_separator};
 use crate::parser::reader::Reader;
 use crate::table::capability::Capabilities;
 use crate::table::keyword::Keyword;
 use crate::table::test::plain_test;
 use crate::tree::test::Test;
-use sievelex::{FaultKind, Mark};
+use sieve_lex::{FaultKind, Mark};
 use std::alloc::Global;
 
 /// Reads a test that is permitted here: that many test lists and that many `not`s may enclose the tests within it.
@@ -27,7 +27,7 @@ pub(crate) fn read_test(
     granted: Capabilities,
     lists: usize,
     nots: usize,
-) -> Result<Test, ReadError>
+) -> Result<Test, ParseError>
     ensures { Parses test_view (TakesTest granted lists nots) reader.old reader.new result }
 {
     let name = reader.read_keyword()?;
@@ -47,11 +47,11 @@ fn read_not(
     granted: Capabilities,
     lists: usize,
     nots: usize,
-) -> Result<Test, ReadError>
+) -> Result<Test, ParseError>
     ensures { Parses test_view (AsksAfter granted lists nots W.Not) reader.old reader.new result }
 {
     if nots == 0 {
-        return Err(ReadError::Fault(FaultKind::TooDeep));
+        return Err(ParseError::Fault(FaultKind::TooDeep));
     }
     let inner = read_test(alloc, reader, granted, lists, nots - 1)?;
     Ok(Test::Not(Box::new(alloc, inner)?))
@@ -65,12 +65,12 @@ fn read_tests(
     granted: Capabilities,
     lists: usize,
     nots: usize,
-) -> Result<Vec<Test>, ReadError>
+) -> Result<Vec<Test>, ParseError>
     ensures { Parses (λ v. tests_view v.items) (TakesTests granted lists nots) reader.old reader.new result }
 {
     reader.read_mark(Mark::OpenParen)?;
     if lists == 0 {
-        return Err(ReadError::Fault(FaultKind::TooDeep));
+        return Err(ParseError::Fault(FaultKind::TooDeep));
     }
     let first = read_test(alloc, reader, granted, lists - 1, nots)?;
     let one = vec![in alloc; first]?;
@@ -86,7 +86,7 @@ fn read_more_tests(
     lists: usize,
     nots: usize,
     tests: Vec<Test>,
-) -> Result<Vec<Test>, ReadError>
+) -> Result<Vec<Test>, ParseError>
     ensures { ParsesMore (λ all. map test_view all.items) (TakesMoreTests granted lists nots) (map test_view tests.items) reader.old reader.new result }
 {
     let mut tests = tests;
@@ -104,7 +104,7 @@ fn read_plain(
     lists: usize,
     nots: usize,
     name: Keyword,
-) -> Result<Test, ReadError>
+) -> Result<Test, ParseError>
     requires no_not { name ≡ W.Not → ⊥ }
     requires no_allof { name ≡ W.AllOf → ⊥ }
     requires no_anyof { name ≡ W.AnyOf → ⊥ }

@@ -1,14 +1,14 @@
 //! Capabilities, and what `require` grants (RFC 5228, 3.2).
 ghost use Rattle.std.specs.Prelude.{◌≡◌, ◌↔◌, ◌||◌, IfOk, OnOk, IsTrue, All};
 ghost use Rattle.std.specs.List.{list_any};
-ghost use Rattle.sievesyntax.specs.Parsing.{IfFault};
-ghost use Rattle.sievesyntax.specs.Valid.{IsCapability, Permits, is_named};
-ghost use Rattle.sievesyntax.specs.Valid as spec;
-ghost use Rattle.sievesyntax.specs.Steps.{granted_too};
+ghost use Rattle.sieve_syntax.specs.Parsing.{IfParseFault};
+ghost use Rattle.sieve_syntax.specs.Valid.{IsCapability, Permits, is_capability_named};
+ghost use Rattle.sieve_syntax.specs.Valid as spec;
+ghost use Rattle.sieve_syntax.specs.Steps.{granted_too};
 
-use crate::error::ReadError;
+use crate::error::ParseError;
 use octets::Octets;
-use sievelex::FaultKind;
+use sieve_lex::FaultKind;
 
 /// What a script may use besides the base language.
 #[derive(Clone, Copy)]
@@ -39,32 +39,32 @@ pub struct Capabilities {
 
 impl Capabilities {
     /// Whether `vacation` may be used: `vacation-seconds` implies it (RFC 6131, 2).
-    pub(crate) fn may_answer(&self) -> bool
-        ensures { result ≡ spec.may_answer self.now }
+    pub(crate) fn may_use_vacation(&self) -> bool
+        ensures { result ≡ spec.may_use_vacation self.now }
     {
         self.vacation || self.seconds
     }
 }
 
 /// Returns a fault if something is used that isn't granted.
-pub(crate) fn require(is_granted: bool, is_used: bool) -> Result<(), ReadError>
+pub(crate) fn require(is_granted: bool, is_used: bool) -> Result<(), ParseError>
     ensures granted { OnOk result (Permits is_granted is_used) }
-    ensures fault { IfFault result (Permits is_granted is_used → ⊥) }
+    ensures fault { IfParseFault result (Permits is_granted is_used → ⊥) }
 {
     if is_used && !is_granted {
-        return Err(ReadError::Fault(FaultKind::NotRequired));
+        return Err(ParseError::Fault(FaultKind::NotRequired));
     }
     Ok(())
 }
 
 /// Grants these capabilities besides those that are granted.
-pub(crate) fn grant(granted: Capabilities, names: &[Octets]) -> Result<Capabilities, ReadError>
+pub(crate) fn grant(granted: Capabilities, names: &[Octets]) -> Result<Capabilities, ParseError>
     ensures known { OnOk result (All IsCapability names.now) }
     ensures made { IfOk result (λ more. more ≡ granted_too granted names.now) }
-    ensures fault { IfFault result (All IsCapability names.now → ⊥) }
+    ensures fault { IfParseFault result (All IsCapability names.now → ⊥) }
 {
     if !all_known(names) {
-        return Err(ReadError::Fault(FaultKind::UnknownCapability));
+        return Err(ParseError::Fault(FaultKind::UnknownCapability));
     }
     Ok(Capabilities {
         fileinto: also(granted.fileinto, names, b"fileinto"),
@@ -83,14 +83,14 @@ pub(crate) fn grant(granted: Capabilities, names: &[Octets]) -> Result<Capabilit
 
 /// Whether a capability was granted before, or is now.
 fn also(granted: bool, names: &[Octets], capability: &[u8]) -> bool
-    ensures { result ≡ (granted || list_any (is_named capability.now) names.now) }
+    ensures { result ≡ (granted || list_any (is_capability_named capability.now) names.now) }
 {
     granted || is_there(names, capability)
 }
 
 /// Capabilities are compared by octets (RFC 5228, 6.1).
 fn is_there(names: &[Octets], capability: &[u8]) -> bool
-    ensures { result ≡ list_any (is_named capability.now) names.now }
+    ensures { result ≡ list_any (is_capability_named capability.now) names.now }
 {
     names.iter().any(|name| name.as_slice() == capability)
 }

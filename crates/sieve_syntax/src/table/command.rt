@@ -1,14 +1,14 @@
 //! The table of commands without a block: what may follow each name (RFC 5228, 3 and 4; RFC 5230; RFC 5232).
 ghost use Rattle.std.specs.Prelude.{◌≡◌, ◌↔◌, true, IsTrue, IfOk};
-ghost use Rattle.sievesyntax.specs.Parsing.{IfFault, FindsFit};
-ghost use Rattle.sievesyntax.specs.Tree.{CommandTree};
-ghost use Rattle.sievesyntax.specs.View.{command_view};
-ghost use Rattle.sievesyntax.specs.Table.{IsPlainCommand, IsList, IsKeep, IsFileInto, IsRedirect};
-ghost use Rattle.sievesyntax.specs.Vacations.{IsVacation};
-ghost use Rattle.sievesyntax.specs.Valid.{IsMailbox, MayAct, MayStand};
-ghost use Rattle.sievesyntax.specs.declared.tree.action.Action.TheVariants as D;
+ghost use Rattle.sieve_syntax.specs.Parsing.{IfParseFault, FindsFit};
+ghost use Rattle.sieve_syntax.specs.Tree.{CommandTree};
+ghost use Rattle.sieve_syntax.specs.View.{command_view};
+ghost use Rattle.sieve_syntax.specs.Table.{IsPlainCommand, IsList, IsKeep, IsFileInto, IsRedirect};
+ghost use Rattle.sieve_syntax.specs.Vacations.{IsVacation};
+ghost use Rattle.sieve_syntax.specs.Valid.{IsMailboxName, MayAct, MayStand};
+ghost use Rattle.sieve_syntax.specs.declared.tree.action.Action.TheVariants as D;
 
-use crate::error::ReadError;
+use crate::error::ParseError;
 use crate::parser::argument::Argument;
 use crate::table::capability::{Capabilities, require};
 use crate::table::file_into::read_file_into;
@@ -23,7 +23,7 @@ use crate::tree::action::{Action, FileInto, Redirect};
 use crate::tree::command::Command;
 use crate::tree::vacation::Vacation;
 use octets::Texts;
-use sievelex::FaultKind;
+use sieve_lex::FaultKind;
 use std::alloc::Global;
 
 /// The most octets of a mailbox's name.
@@ -35,10 +35,10 @@ pub(crate) fn plain_command(
     keyword: Keyword,
     args: &[Argument<'_>],
     granted: Capabilities,
-) -> Result<Command, ReadError>
+) -> Result<Command, ParseError>
     ensures found { IfOk result (λ c. IsPlainCommand keyword args.now (command_view c) × MayStand granted (command_view c)) }
     ensures only { IfOk result (λ c. (other : CommandTree) → IsPlainCommand keyword args.now other → other ≡ command_view c) }
-    ensures fault { IfFault result ((other : CommandTree) → IsPlainCommand keyword args.now other → MayStand granted other → ⊥) }
+    ensures fault { IfParseFault result ((other : CommandTree) → IsPlainCommand keyword args.now other → MayStand granted other → ⊥) }
 {
     match keyword {
         // Syntax: stop (RFC 5228, 3.3)
@@ -88,10 +88,10 @@ pub(crate) fn plain_command(
             let texts = permitted_flags(alloc, args, granted)?;
             Ok(Command::Act(Action::RemoveFlag(texts)))
         }
-        Keyword::Require => Err(ReadError::Fault(FaultKind::LateRequire)),
-        Keyword::Elsif => Err(ReadError::Fault(FaultKind::StrayElse)),
-        Keyword::Else => Err(ReadError::Fault(FaultKind::StrayElse)),
-        _ => Err(ReadError::Fault(FaultKind::UnknownCommand)),
+        Keyword::Require => Err(ParseError::Fault(FaultKind::LateRequire)),
+        Keyword::Elsif => Err(ParseError::Fault(FaultKind::StrayElse)),
+        Keyword::Else => Err(ParseError::Fault(FaultKind::StrayElse)),
+        _ => Err(ParseError::Fault(FaultKind::UnknownCommand)),
     }
 }
 
@@ -100,7 +100,7 @@ fn permitted_keep(
     alloc: Global,
     args: &[Argument<'_>],
     granted: Capabilities,
-) -> Result<Option<Texts>, ReadError>
+) -> Result<Option<Texts>, ParseError>
     ensures { FindsFit (IsKeep args.now) (λ given. MayAct granted (D.Keep given)) result }
 {
     let given = read_keep(alloc, args)?;
@@ -113,7 +113,7 @@ fn permitted_flags(
     alloc: Global,
     args: &[Argument<'_>],
     granted: Capabilities,
-) -> Result<Texts, ReadError>
+) -> Result<Texts, ParseError>
     ensures { FindsFit (IsList args.now) (λ texts. granted.flags ≡ true) result }
 {
     require(granted.flags, true)?;
@@ -126,7 +126,7 @@ fn permitted_filing(
     alloc: Global,
     args: &[Argument<'_>],
     granted: Capabilities,
-) -> Result<FileInto, ReadError>
+) -> Result<FileInto, ParseError>
     ensures { FindsFit (IsFileInto args.now) (λ filing. MayAct granted (D.FileInto filing)) result }
 {
     require(granted.fileinto, true)?;
@@ -135,7 +135,7 @@ fn permitted_filing(
     require(granted.mailbox, filing.create)?;
     require(granted.flags, filing.flags.is_some())?;
     if !is_mailbox(filing.mailbox.as_slice()) {
-        return Err(ReadError::Fault(FaultKind::BadMailbox));
+        return Err(ParseError::Fault(FaultKind::BadMailbox));
     }
     Ok(filing)
 }
@@ -145,7 +145,7 @@ fn permitted_redirect(
     alloc: Global,
     args: &[Argument<'_>],
     granted: Capabilities,
-) -> Result<Redirect, ReadError>
+) -> Result<Redirect, ParseError>
     ensures { FindsFit (IsRedirect args.now) (λ redirect. MayAct granted (D.Redirect redirect)) result }
 {
     let redirect = read_redirect(alloc, args)?;
@@ -158,10 +158,10 @@ fn permitted_vacation(
     alloc: Global,
     args: &[Argument<'_>],
     granted: Capabilities,
-) -> Result<Vacation, ReadError>
+) -> Result<Vacation, ParseError>
     ensures { FindsFit (IsVacation args.now) (λ vacation. MayAct granted (D.Vacation vacation)) result }
 {
-    require(granted.may_answer(), true)?;
+    require(granted.may_use_vacation(), true)?;
     let vacation = read_vacation(alloc, args)?;
     require(granted.seconds, vacation.seconds.is_some())?;
     check_reason(&vacation)?;
@@ -170,7 +170,7 @@ fn permitted_vacation(
 
 /// Whether a text is the name of a mailbox: 1 to 255 octets of UTF-8, none below 32 and none 127. Linear; takes no memory.
 pub fn is_mailbox(name: &[u8]) -> bool
-    ensures { IsTrue result ↔ IsMailbox name.now }
+    ensures { IsTrue result ↔ IsMailboxName name.now }
 {
     !name.is_empty()
         && name.len() <= MAX_MAILBOX

@@ -1,6 +1,6 @@
 //! The names of commands and tests (RFC 5228, 2.4, 2.9 and 5).
 ghost use Rattle.std.specs.Prelude.{◌≡◌};
-ghost use Rattle.sievesyntax.specs.Lexemes.{same_name, keyword_of};
+ghost use Rattle.sieve_syntax.specs.Lexemes.{same_name, sieve_keyword_of};
 
 /// The name of a command or of a test.
 #[derive(Clone, Copy)]
@@ -46,7 +46,7 @@ pub(crate) fn is_name(name: &[u8], keyword: &[u8]) -> bool
 
 /// The command or the test with this name.
 pub(crate) fn keyword_named(name: &[u8]) -> Keyword
-    ensures { result ≡ keyword_of name.now }
+    ensures { result ≡ sieve_keyword_of name.now }
 {
     if is_name(name, b"require") {
         Keyword::Require

@@ -1,80 +1,80 @@
 //! Positional arguments.
 ghost use Rattle.std.specs.Prelude.{◌≡◌, ℕ, List, [], IfOk, OnOk, Some, None};
-ghost use Rattle.sievesyntax.specs.Parsing.{IfFault, Finds};
-ghost use Rattle.sievesyntax.specs.Positional.{one_number, one_text, one_list, two_lists, string_of, text_and_list, two_texts_and_list};
-ghost use Rattle.sievesyntax.specs.Table.{IsList};
+ghost use Rattle.sieve_syntax.specs.Parsing.{IfParseFault, FindsValue};
+ghost use Rattle.sieve_syntax.specs.Positional.{one_number, one_text, one_list, two_lists, string_of, text_and_list, two_texts_and_list};
+ghost use Rattle.sieve_syntax.specs.Table.{IsList};
 
-use crate::error::ReadError;
+use crate::error::ParseError;
 use crate::parser::argument::Argument;
 use crate::table::tag_group::split_tags;
 use crate::table::tagged::strings;
 use octets::{Octets, Texts};
-use sievelex::FaultKind;
+use sieve_lex::FaultKind;
 use std::alloc::Global;
 
 /// No arguments at all.
-pub(crate) fn no_arguments(args: &[Argument<'_>]) -> Result<(), ReadError>
+pub(crate) fn no_arguments(args: &[Argument<'_>]) -> Result<(), ParseError>
     ensures found { OnOk result (args.now ≡ []) }
-    ensures fault { IfFault result (args.now ≡ [] → ⊥) }
+    ensures fault { IfParseFault result (args.now ≡ [] → ⊥) }
 {
     match args.first() {
         None => Ok(()),
-        Some(Argument::Tag(_)) => Err(ReadError::Fault(FaultKind::UnknownTag)),
-        Some(_) => Err(ReadError::Fault(FaultKind::ExtraArgument)),
+        Some(Argument::Tag(_)) => Err(ParseError::Fault(FaultKind::UnknownTag)),
+        Some(_) => Err(ParseError::Fault(FaultKind::ExtraArgument)),
     }
 }
 
 /// One number.
-pub(crate) fn number(args: &[Argument<'_>]) -> Result<u64, ReadError>
+pub(crate) fn number(args: &[Argument<'_>]) -> Result<u64, ParseError>
     ensures found { IfOk result (λ n. one_number args.now ≡ Some n) }
-    ensures fault { IfFault result (one_number args.now ≡ None) }
+    ensures fault { IfParseFault result (one_number args.now ≡ None) }
 {
     match args {
         [value] => match value {
             Argument::Number(number) => Ok(*number),
-            _ => Err(ReadError::Fault(FaultKind::WrongArgument)),
+            _ => Err(ParseError::Fault(FaultKind::WrongArgument)),
         },
-        _ => Err(ReadError::Fault(count_fault(args, 1))),
+        _ => Err(ParseError::Fault(count_fault(args, 1))),
     }
 }
 
 /// One string without brackets.
-pub(crate) fn text(alloc: Global, args: &[Argument<'_>]) -> Result<Octets, ReadError>
+pub(crate) fn text(alloc: Global, args: &[Argument<'_>]) -> Result<Octets, ParseError>
     ensures found { IfOk result (λ s. one_text args.now ≡ Some s) }
-    ensures fault { IfFault result (one_text args.now ≡ None) }
+    ensures fault { IfParseFault result (one_text args.now ≡ None) }
 {
     match args {
         [value] => match value {
             Argument::Text(string) => Ok(string.to_octets(alloc)?),
-            _ => Err(ReadError::Fault(FaultKind::WrongArgument)),
+            _ => Err(ParseError::Fault(FaultKind::WrongArgument)),
         },
-        _ => Err(ReadError::Fault(count_fault(args, 1))),
+        _ => Err(ParseError::Fault(count_fault(args, 1))),
     }
 }
 
 /// One list of strings.
-pub(crate) fn list(alloc: Global, args: &[Argument<'_>]) -> Result<Texts, ReadError>
+pub(crate) fn list(alloc: Global, args: &[Argument<'_>]) -> Result<Texts, ParseError>
     ensures found { IfOk result (λ xs. one_list args.now ≡ Some xs) }
-    ensures fault { IfFault result (one_list args.now ≡ None) }
+    ensures fault { IfParseFault result (one_list args.now ≡ None) }
 {
     match args {
         [value] => Ok(strings(alloc, value)?),
-        _ => Err(ReadError::Fault(count_fault(args, 1))),
+        _ => Err(ParseError::Fault(count_fault(args, 1))),
     }
 }
 
 /// Reads the names of `require`, the fields of `exists`, or the flags of `setflag`.
-pub(crate) fn read_list(alloc: Global, args: &[Argument<'_>]) -> Result<Texts, ReadError>
-    ensures { Finds (IsList args.now) result }
+pub(crate) fn read_list(alloc: Global, args: &[Argument<'_>]) -> Result<Texts, ParseError>
+    ensures { FindsValue (IsList args.now) result }
 {
     let (_tag_values, positional) = split_tags(alloc, args, &[])?;
     list(alloc, positional)
 }
 
 /// Two lists of strings.
-pub(crate) fn lists(alloc: Global, args: &[Argument<'_>]) -> Result<(Texts, Texts), ReadError>
+pub(crate) fn lists(alloc: Global, args: &[Argument<'_>]) -> Result<(Texts, Texts), ParseError>
     ensures found { IfOk result (λ both. two_lists args.now ≡ Some (both.0, both.1)) }
-    ensures fault { IfFault result (two_lists args.now ≡ None) }
+    ensures fault { IfParseFault result (two_lists args.now ≡ None) }
 {
     match args {
         [first, second] => {
@@ -82,7 +82,7 @@ pub(crate) fn lists(alloc: Global, args: &[Argument<'_>]) -> Result<(Texts, Text
             let two = strings(alloc, second)?;
             Ok((one, two))
         }
-        _ => Err(ReadError::Fault(count_fault(args, 2))),
+        _ => Err(ParseError::Fault(count_fault(args, 2))),
     }
 }
 
@@ -90,9 +90,9 @@ pub(crate) fn lists(alloc: Global, args: &[Argument<'_>]) -> Result<(Texts, Text
 pub(crate) fn text_and_list(
     alloc: Global,
     args: &[Argument<'_>],
-) -> Result<(Octets, Texts), ReadError>
+) -> Result<(Octets, Texts), ParseError>
     ensures found { IfOk result (λ both. text_and_list args.now ≡ Some (both.0, both.1)) }
-    ensures fault { IfFault result (text_and_list args.now ≡ None) }
+    ensures fault { IfParseFault result (text_and_list args.now ≡ None) }
 {
     match args {
         [first, second] => {
@@ -100,7 +100,7 @@ pub(crate) fn text_and_list(
             let keys = strings(alloc, second)?;
             Ok((text, keys))
         }
-        _ => Err(ReadError::Fault(count_fault(args, 2))),
+        _ => Err(ParseError::Fault(count_fault(args, 2))),
     }
 }
 
@@ -108,9 +108,9 @@ pub(crate) fn text_and_list(
 pub(crate) fn two_texts_and_list(
     alloc: Global,
     args: &[Argument<'_>],
-) -> Result<(Octets, Octets, Texts), ReadError>
+) -> Result<(Octets, Octets, Texts), ParseError>
     ensures found { IfOk result (λ all. two_texts_and_list args.now ≡ Some (all.0, (all.1, all.2))) }
-    ensures fault { IfFault result (two_texts_and_list args.now ≡ None) }
+    ensures fault { IfParseFault result (two_texts_and_list args.now ≡ None) }
 {
     match args {
         [first, second, third] => {
@@ -119,18 +119,18 @@ pub(crate) fn two_texts_and_list(
             let keys = strings(alloc, third)?;
             Ok((one, two, keys))
         }
-        _ => Err(ReadError::Fault(count_fault(args, 3))),
+        _ => Err(ParseError::Fault(count_fault(args, 3))),
     }
 }
 
 /// The string of an argument without brackets.
-fn text_in(alloc: Global, value: &Argument<'_>) -> Result<Octets, ReadError>
+fn text_in(alloc: Global, value: &Argument<'_>) -> Result<Octets, ParseError>
     ensures found { IfOk result (λ s. string_of value.now ≡ Some s) }
-    ensures fault { IfFault result (string_of value.now ≡ None) }
+    ensures fault { IfParseFault result (string_of value.now ≡ None) }
 {
     match value {
         Argument::Text(string) => Ok(string.to_octets(alloc)?),
-        _ => Err(ReadError::Fault(FaultKind::WrongArgument)),
+        _ => Err(ParseError::Fault(FaultKind::WrongArgument)),
     }
 }
 

@@ -1,36 +1,36 @@
 //! The reason of a `vacation` (RFC 5230, 4.4).
 ghost use Rattle.std.specs.Prelude.{◌≡◌, false, OnOk, option_map};
 ghost use Rattle.std.specs.List.{list_all};
-ghost use Rattle.sievesyntax.specs.Parsing.{IfFault};
-ghost use Rattle.sievesyntax.specs.Reasons as spec;
-ghost use Rattle.mailhead.specs.Fields as fields;
+ghost use Rattle.sieve_syntax.specs.Parsing.{IfParseFault};
+ghost use Rattle.sieve_syntax.specs.Reasons as spec;
+ghost use Rattle.mail_head.specs.Fields as fields;
 
-use crate::error::ReadError;
+use crate::error::ParseError;
 use crate::table::keyword::is_name;
 use crate::table::utf8::is_utf8;
-use crate::tree::vacation::VacArgs;
-use mailhead::{after_empty_line, first_line, logical_line, read_field, without_end};
-use sievelex::FaultKind;
+use crate::tree::vacation::VacationArgs;
+use mail_head::{after_empty_line, first_line, logical_line, read_field, without_end};
+use sieve_lex::FaultKind;
 
 /// The most octets of a line, without its line end (RFC 5322, 2.1.1).
 const MAX_LINE: usize = 998;
 
 /// Checks whether a reason is permitted.
-pub(crate) fn check_reason(args: &VacArgs) -> Result<(), ReadError>
+pub(crate) fn check_reason(args: &VacationArgs) -> Result<(), ParseError>
     ensures found { OnOk result (spec.IsReason args.now) }
-    ensures fault { IfFault result (spec.IsReason args.now → ⊥) }
+    ensures fault { IfParseFault result (spec.IsReason args.now → ⊥) }
 {
     if !is_utf8(args.reason.as_slice()) {
-        return Err(ReadError::Fault(FaultKind::NotUtf8));
+        return Err(ParseError::Fault(FaultKind::NotUtf8));
     }
     if !has_whole_lines(args.reason.as_slice()) {
-        return Err(ReadError::Fault(FaultKind::BadByte));
+        return Err(ParseError::Fault(FaultKind::BadByte));
     }
     if !is_narrow_text(args.reason.as_slice()) {
-        return Err(ReadError::Fault(FaultKind::LongReasonLine));
+        return Err(ParseError::Fault(FaultKind::LongReasonLine));
     }
     if args.mime && !is_entity(args.reason.as_slice()) {
-        return Err(ReadError::Fault(FaultKind::BadMime));
+        return Err(ParseError::Fault(FaultKind::BadMime));
     }
     Ok(())
 }

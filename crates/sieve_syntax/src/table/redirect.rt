@@ -1,25 +1,25 @@
 //! The addresses that a script names (RFC 5228, 2.4.2.3), and the arguments of `redirect`.
 ghost use Rattle.std.specs.Prelude.{◌≡◌, ℕ, List, Some, IfOk, IfSome};
-ghost use Rattle.addrparts.specs.declared.address.Addr.{Addr};
-ghost use Rattle.sievesyntax.specs.Parsing.{IfFault, Finds};
-ghost use Rattle.sievesyntax.specs.Table.{IsRedirect, SaysRedirect};
-ghost use Rattle.sievesyntax.specs.Vacations.{IsNamedAs};
+ghost use Rattle.mail_address.specs.declared.address.Addr.{Addr};
+ghost use Rattle.sieve_syntax.specs.Parsing.{IfParseFault, FindsValue};
+ghost use Rattle.sieve_syntax.specs.Table.{IsRedirect, SaysRedirect};
+ghost use Rattle.sieve_syntax.specs.Vacations.{IsNamedAs};
 
-use crate::error::ReadError;
+use crate::error::ParseError;
 use crate::parser::argument::Argument;
 use crate::table::positional::text;
 use crate::table::tag_group::{TagGroup, TagValue, split_tags};
 use crate::table::tag_values::given_copy;
 use crate::table::utf8::is_utf8;
 use crate::tree::action::Redirect;
-use addrparts::{Addr, sieve_address};
+use mail_address::{Addr, sieve_address};
 use octets::Octets;
-use sievelex::FaultKind;
+use sieve_lex::FaultKind;
 use std::alloc::{AllocError, Global};
 
 /// Reads the arguments of `redirect`.
-pub(crate) fn read_redirect(alloc: Global, args: &[Argument<'_>]) -> Result<Redirect, ReadError>
-    ensures { Finds (IsRedirect args.now) result }
+pub(crate) fn read_redirect(alloc: Global, args: &[Argument<'_>]) -> Result<Redirect, ParseError>
+    ensures { FindsValue (IsRedirect args.now) result }
 {
     let (tag_values, positional) = split_tags(alloc, args, &[TagGroup::Copy])?;
     redirect_from(alloc, tag_values.as_slice(), positional)
@@ -29,8 +29,8 @@ fn redirect_from(
     alloc: Global,
     tag_values: &[TagValue],
     positional: &[Argument<'_>],
-) -> Result<Redirect, ReadError>
-    ensures { Finds (SaysRedirect tag_values.now positional.now) result }
+) -> Result<Redirect, ParseError>
+    ensures { FindsValue (SaysRedirect tag_values.now positional.now) result }
 {
     let text = text(alloc, positional)?;
     let (_display, target) = outbound(alloc, text.as_slice())?;
@@ -41,13 +41,13 @@ fn redirect_from(
 }
 
 /// The display name and the address that a text names; a fault if it names none.
-pub(crate) fn outbound(alloc: Global, text: &[u8]) -> Result<(Octets, Addr), ReadError>
+pub(crate) fn outbound(alloc: Global, text: &[u8]) -> Result<(Octets, Addr), ParseError>
     ensures found { IfOk result (λ r. IsNamedAs text.now r.0 r.1) }
-    ensures fault { IfFault result ((display : List ℕ) (address : Addr) → IsNamedAs text.now display address → ⊥) }
+    ensures fault { IfParseFault result ((display : List ℕ) (address : Addr) → IsNamedAs text.now display address → ⊥) }
 {
     match named_address(alloc, text)? {
         Some(found) => Ok(found),
-        None => Err(ReadError::Fault(FaultKind::BadAddress)),
+        None => Err(ParseError::Fault(FaultKind::BadAddress)),
     }
 }
 

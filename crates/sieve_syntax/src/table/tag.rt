@@ -1,6 +1,6 @@
 //! The names of tags (RFC 5228, 2.6.2).
 ghost use Rattle.std.specs.Prelude.{◌≡◌};
-ghost use Rattle.sievesyntax.specs.Lexemes.{tag_of};
+ghost use Rattle.sieve_syntax.specs.Lexemes.{tag_of};
 
 use crate::table::keyword::is_name;
 

@@ -1,17 +1,17 @@
 //! Tagged arguments, in any order (RFC 5228, 2.6.2).
 ghost use Rattle.std.specs.Prelude.{map, IsTrue, ◌↔◌, ◌≡◌, ◌<◌, ◌≤◌, List, [], ◌∷◌, length, drop, MatchOption, IfOk, IfSome};
 ghost use Rattle.std.specs.List.{Contains};
-ghost use Rattle.sievesyntax.specs.declared.parser.argument.Argument.TheVariants as A;
-ghost use Rattle.sievesyntax.specs.Parsing.{IfFault};
-ghost use Rattle.sievesyntax.specs.Tags.{IsTagValue, group_of, IsAllowed, IsPlain, IsSplit, IsSplitAlone, HasNoTag};
+ghost use Rattle.sieve_syntax.specs.declared.parser.argument.Argument.TheVariants as A;
+ghost use Rattle.sieve_syntax.specs.Parsing.{IfParseFault};
+ghost use Rattle.sieve_syntax.specs.Tags.{IsTagValue, group_of, IsAllowed, BeginsUntagged, IsSplit, IsSplitAlone, HasNoTag};
 
-use crate::error::ReadError;
+use crate::error::ParseError;
 use crate::parser::argument::Argument;
 use crate::table::tag::Tag;
 use crate::table::tagged::{collation_at, number_at, relation_at, text_at, texts_at, zone_at};
 use crate::tree::checks::{AddressPart, Bound, Collation, Matching};
 use octets::{Octets, Texts};
-use sievelex::FaultKind;
+use sieve_lex::FaultKind;
 use std::alloc::Global;
 
 /// What a tag with its value says.
@@ -100,10 +100,10 @@ pub(crate) fn split_tags<'a, 't>(
     alloc: Global,
     args: &'a [Argument<'t>],
     allowed: &[TagGroup],
-) -> Result<(Vec<TagValue>, &'a [Argument<'t>]), ReadError>
+) -> Result<(Vec<TagValue>, &'a [Argument<'t>]), ParseError>
     ensures found { IfOk result (λ r. IsSplit allowed.now args.now r.0.items r.1.now) }
     ensures only { IfOk result (λ r. IsSplitAlone allowed.now args.now r.0.items r.1.now) }
-    ensures fault { IfFault result ((tag_values : List TagValue) (positional : List Argument) → IsSplit allowed.now args.now tag_values positional → ⊥) }
+    ensures fault { IfParseFault result ((tag_values : List TagValue) (positional : List Argument) → IsSplit allowed.now args.now tag_values positional → ⊥) }
 {
     let mut tag_values = Vec::new(alloc);
     let mut at = 0;
@@ -125,12 +125,12 @@ fn next_tag(
     args: &[Argument<'_>],
     allowed: &[TagGroup],
     taken: &[TagValue],
-) -> Result<Option<(TagValue, usize)>, ReadError>
-    ensures found { IfOk result (λ o. MatchOption o (IsPlain args.now) (λ r. IsAllowed allowed.now r.0 args.now (drop r.1 args.now))) }
+) -> Result<Option<(TagValue, usize)>, ParseError>
+    ensures found { IfOk result (λ o. MatchOption o (BeginsUntagged args.now) (λ r. IsAllowed allowed.now r.0 args.now (drop r.1 args.now))) }
     ensures width { IfOk result (λ o. IfSome o (λ r. (0 < r.1) × (r.1 ≤ length args.now))) }
     ensures free { IfOk result (λ o. MatchOption o (Unit {0}) (λ r. Contains (map group_of taken.now) (group_of r.0) → ⊥)) }
-    ensures begun { IfFault result (IsPlain args.now → ⊥) }
-    ensures fault { IfFault result (HasNoTag allowed.now (map group_of taken.now) args.now) }
+    ensures begun { IfParseFault result (BeginsUntagged args.now → ⊥) }
+    ensures fault { IfParseFault result (HasNoTag allowed.now (map group_of taken.now) args.now) }
 {
     let Some((first, rest)) = args.split_first() else {
         return Ok(None);
@@ -140,10 +140,10 @@ fn next_tag(
     };
     let (tag_value, after) = tag_value_at(alloc, *tag, rest)?;
     if !allowed.contains(&tag_value.group()) {
-        return Err(ReadError::Fault(FaultKind::UnknownTag));
+        return Err(ParseError::Fault(FaultKind::UnknownTag));
     }
     if is_settled(taken, tag_value.group()) {
-        return Err(ReadError::Fault(FaultKind::DoubleTag));
+        return Err(ParseError::Fault(FaultKind::DoubleTag));
     }
     Ok(Some((tag_value, args.len() - after.len())))
 }
@@ -165,9 +165,9 @@ fn tag_value_at<'a, 't>(
     alloc: Global,
     tag: Tag,
     args: &'a [Argument<'t>],
-) -> Result<(TagValue, &'a [Argument<'t>]), ReadError>
+) -> Result<(TagValue, &'a [Argument<'t>]), ParseError>
     ensures found { IfOk result (λ r. IsTagValue r.0 (A.Tag tag ∷ args.now) r.1.now) }
-    ensures fault { IfFault result ((s : TagValue) (to : List Argument) → IsTagValue s (A.Tag tag ∷ args.now) to → ⊥) }
+    ensures fault { IfParseFault result ((s : TagValue) (to : List Argument) → IsTagValue s (A.Tag tag ∷ args.now) to → ⊥) }
 {
     match tag {
         Tag::Over => Ok((TagValue::Bound(Bound::Over), args)),
@@ -228,6 +228,6 @@ fn tag_value_at<'a, 't>(
             let (texts, rest) = texts_at(alloc, args)?;
             Ok((TagValue::Flags(texts), rest))
         }
-        Tag::Other => Err(ReadError::Fault(FaultKind::UnknownTag)),
+        Tag::Other => Err(ParseError::Fault(FaultKind::UnknownTag)),
     }
 }

@@ -1,6 +1,6 @@
 //! What the tags of a command or a test say: the value that is given, or its default.
 ghost use Rattle.std.specs.Prelude.{◌≡◌, IfOk};
-ghost use Rattle.sievesyntax.specs.TagValues.{bound_in, comparator_in, matching_in, part_in, days_in, seconds_in, subject_in, mime_in, handle_in, copy_in, create_in, zone_in, flags_in};
+ghost use Rattle.sieve_syntax.specs.TagValues.{bound_in, comparator_in, matching_in, part_in, days_in, seconds_in, subject_in, mime_in, handle_in, copy_in, create_in, zone_in, flags_in};
 
 use crate::table::tag_group::TagValue;
 use crate::tree::checks::{AddressPart, Bound, Collation, DateZone, Matching};

@@ -1,45 +1,45 @@
 //! The values after tags (RFC 5228, 2.6.2).
 ghost use Rattle.std.specs.Prelude.{◌≡◌, ℕ, ℤ, List, ◌∷◌, IfOk, Some, None};
-ghost use Rattle.maildates.specs.Zones.{IsOffset};
-ghost use Rattle.sievesyntax.specs.declared.parser.argument.Argument.{Argument};
-ghost use Rattle.sievesyntax.specs.declared.parser.argument.Argument.TheVariants as A;
-ghost use Rattle.sievesyntax.specs.declared.tree.checks.Collation.{Collation};
-ghost use Rattle.sievesyntax.specs.declared.tree.checks.Relation.{Relation};
-ghost use Rattle.sievesyntax.specs.Parsing.{IfFault};
-ghost use Rattle.sievesyntax.specs.Tags.{name_of, relation_name, strings_of};
+ghost use Rattle.mail_dates.specs.Zones.{IsOffset};
+ghost use Rattle.sieve_syntax.specs.declared.parser.argument.Argument.{Argument};
+ghost use Rattle.sieve_syntax.specs.declared.parser.argument.Argument.TheVariants as A;
+ghost use Rattle.sieve_syntax.specs.declared.tree.checks.Collation.{Collation};
+ghost use Rattle.sieve_syntax.specs.declared.tree.checks.Relation.{Relation};
+ghost use Rattle.sieve_syntax.specs.Parsing.{IfParseFault};
+ghost use Rattle.sieve_syntax.specs.Tags.{collation_name, relation_name, strings_of};
 
-use crate::error::ReadError;
+use crate::error::ParseError;
 use crate::parser::argument::Argument;
 use crate::tree::checks::{Collation, Relation};
-use maildates::read_zone;
+use mail_dates::read_zone;
 use octets::{Octets, Texts};
-use sievelex::{FaultKind, Said};
+use sieve_lex::{FaultKind, Said};
 use std::alloc::{AllocError, Global};
 
 /// The first argument, and what follows it.
 fn value_at<'a, 't>(
     args: &'a [Argument<'t>],
-) -> Result<(&'a Argument<'t>, &'a [Argument<'t>]), ReadError>
+) -> Result<(&'a Argument<'t>, &'a [Argument<'t>]), ParseError>
     ensures found { IfOk result (λ r. args.now ≡ r.0.now ∷ r.1.now) }
-    ensures fault { IfFault result ((a : Argument) (to : List Argument) → args.now ≡ a ∷ to → ⊥) }
+    ensures fault { IfParseFault result ((a : Argument) (to : List Argument) → args.now ≡ a ∷ to → ⊥) }
 {
     match args.split_first() {
         Some((value, rest)) => Ok((value, rest)),
-        None => Err(ReadError::Fault(FaultKind::MissingArgument)),
+        None => Err(ParseError::Fault(FaultKind::MissingArgument)),
     }
 }
 
 /// A number.
 pub(crate) fn number_at<'a, 't>(
     args: &'a [Argument<'t>],
-) -> Result<(u64, &'a [Argument<'t>]), ReadError>
+) -> Result<(u64, &'a [Argument<'t>]), ParseError>
     ensures found { IfOk result (λ r. args.now ≡ A.Number r.0 ∷ r.1.now) }
-    ensures fault { IfFault result ((n : ℕ) (to : List Argument) → args.now ≡ A.Number n ∷ to → ⊥) }
+    ensures fault { IfParseFault result ((n : ℕ) (to : List Argument) → args.now ≡ A.Number n ∷ to → ⊥) }
 {
     let (value, rest) = value_at(args)?;
     match value {
         Argument::Number(number) => Ok((*number, rest)),
-        _ => Err(ReadError::Fault(FaultKind::WrongArgument)),
+        _ => Err(ParseError::Fault(FaultKind::WrongArgument)),
     }
 }
 
@@ -47,14 +47,14 @@ pub(crate) fn number_at<'a, 't>(
 pub(crate) fn text_at<'a, 't>(
     alloc: Global,
     args: &'a [Argument<'t>],
-) -> Result<(Octets, &'a [Argument<'t>]), ReadError>
+) -> Result<(Octets, &'a [Argument<'t>]), ParseError>
     ensures found { IfOk result (λ r. args.now ≡ A.Text r.0 ∷ r.1.now) }
-    ensures fault { IfFault result ((s : List ℕ) (to : List Argument) → args.now ≡ A.Text s ∷ to → ⊥) }
+    ensures fault { IfParseFault result ((s : List ℕ) (to : List Argument) → args.now ≡ A.Text s ∷ to → ⊥) }
 {
     let (value, rest) = value_at(args)?;
     match value {
         Argument::Text(string) => Ok((string.to_octets(alloc)?, rest)),
-        _ => Err(ReadError::Fault(FaultKind::WrongArgument)),
+        _ => Err(ParseError::Fault(FaultKind::WrongArgument)),
     }
 }
 
@@ -62,9 +62,9 @@ pub(crate) fn text_at<'a, 't>(
 pub(crate) fn texts_at<'a, 't>(
     alloc: Global,
     args: &'a [Argument<'t>],
-) -> Result<(Texts, &'a [Argument<'t>]), ReadError>
+) -> Result<(Texts, &'a [Argument<'t>]), ParseError>
     ensures found { IfOk result (λ r. (a : Argument) × ((args.now ≡ a ∷ r.1.now) × (strings_of a ≡ Some r.0))) }
-    ensures fault { IfFault result ((a : Argument) (xs : List (List ℕ)) (to : List Argument) → args.now ≡ a ∷ to → strings_of a ≡ Some xs → ⊥) }
+    ensures fault { IfParseFault result ((a : Argument) (xs : List (List ℕ)) (to : List Argument) → args.now ≡ a ∷ to → strings_of a ≡ Some xs → ⊥) }
 {
     let (value, rest) = value_at(args)?;
     Ok((strings(alloc, value)?, rest))
@@ -73,20 +73,20 @@ pub(crate) fn texts_at<'a, 't>(
 /// The comparator with this name, compared by octets.
 pub(crate) fn collation_at<'a, 't>(
     args: &'a [Argument<'t>],
-) -> Result<(Collation, &'a [Argument<'t>]), ReadError>
-    ensures found { IfOk result (λ r. args.now ≡ A.Text (name_of r.0) ∷ r.1.now) }
-    ensures fault { IfFault result ((c : Collation) (to : List Argument) → args.now ≡ A.Text (name_of c) ∷ to → ⊥) }
+) -> Result<(Collation, &'a [Argument<'t>]), ParseError>
+    ensures found { IfOk result (λ r. args.now ≡ A.Text (collation_name r.0) ∷ r.1.now) }
+    ensures fault { IfParseFault result ((c : Collation) (to : List Argument) → args.now ≡ A.Text (collation_name c) ∷ to → ⊥) }
 {
     let (value, rest) = value_at(args)?;
     match value {
         Argument::Text(name) => Ok((collation_named(name.as_slice())?, rest)),
-        _ => Err(ReadError::Fault(FaultKind::WrongArgument)),
+        _ => Err(ParseError::Fault(FaultKind::WrongArgument)),
     }
 }
 
-fn collation_named(name: &[u8]) -> Result<Collation, ReadError>
-    ensures found { IfOk result (λ c. name.now ≡ name_of c) }
-    ensures fault { IfFault result ((c : Collation) → name.now ≡ name_of c → ⊥) }
+fn collation_named(name: &[u8]) -> Result<Collation, ParseError>
+    ensures found { IfOk result (λ c. name.now ≡ collation_name c) }
+    ensures fault { IfParseFault result ((c : Collation) → name.now ≡ collation_name c → ⊥) }
 {
     if name == b"i;octet".as_slice() {
         Ok(Collation::Octet)
@@ -95,27 +95,27 @@ fn collation_named(name: &[u8]) -> Result<Collation, ReadError>
     } else if name == b"i;ascii-numeric".as_slice() {
         Ok(Collation::AsciiNumeric)
     } else {
-        Err(ReadError::Fault(FaultKind::NotRequired))
+        Err(ParseError::Fault(FaultKind::NotRequired))
     }
 }
 
 /// The relation with this name, compared by octets.
 pub(crate) fn relation_at<'a, 't>(
     args: &'a [Argument<'t>],
-) -> Result<(Relation, &'a [Argument<'t>]), ReadError>
+) -> Result<(Relation, &'a [Argument<'t>]), ParseError>
     ensures found { IfOk result (λ r. args.now ≡ A.Text (relation_name r.0) ∷ r.1.now) }
-    ensures fault { IfFault result ((relation : Relation) (to : List Argument) → args.now ≡ A.Text (relation_name relation) ∷ to → ⊥) }
+    ensures fault { IfParseFault result ((relation : Relation) (to : List Argument) → args.now ≡ A.Text (relation_name relation) ∷ to → ⊥) }
 {
     let (value, rest) = value_at(args)?;
     match value {
         Argument::Text(name) => Ok((relation_named(name.as_slice())?, rest)),
-        _ => Err(ReadError::Fault(FaultKind::WrongArgument)),
+        _ => Err(ParseError::Fault(FaultKind::WrongArgument)),
     }
 }
 
-fn relation_named(name: &[u8]) -> Result<Relation, ReadError>
+fn relation_named(name: &[u8]) -> Result<Relation, ParseError>
     ensures found { IfOk result (λ relation. name.now ≡ relation_name relation) }
-    ensures fault { IfFault result ((relation : Relation) → name.now ≡ relation_name relation → ⊥) }
+    ensures fault { IfParseFault result ((relation : Relation) → name.now ≡ relation_name relation → ⊥) }
 {
     if name == b"gt".as_slice() {
         Ok(Relation::Greater)
@@ -130,38 +130,38 @@ fn relation_named(name: &[u8]) -> Result<Relation, ReadError>
     } else if name == b"ne".as_slice() {
         Ok(Relation::NotEqual)
     } else {
-        Err(ReadError::Fault(FaultKind::WrongArgument))
+        Err(ParseError::Fault(FaultKind::WrongArgument))
     }
 }
 
 /// A zone (RFC 5260, 4.1), in minutes east of UTC.
 pub(crate) fn zone_at<'a, 't>(
     args: &'a [Argument<'t>],
-) -> Result<(i16, &'a [Argument<'t>]), ReadError>
+) -> Result<(i16, &'a [Argument<'t>]), ParseError>
     ensures found { IfOk result (λ r. (s : List ℕ) × ((args.now ≡ A.Text s ∷ r.1.now) × IsOffset s r.0)) }
-    ensures fault { IfFault result ((s : List ℕ) (zone : ℤ) (to : List Argument) → args.now ≡ A.Text s ∷ to → IsOffset s zone → ⊥) }
+    ensures fault { IfParseFault result ((s : List ℕ) (zone : ℤ) (to : List Argument) → args.now ≡ A.Text s ∷ to → IsOffset s zone → ⊥) }
 {
     let (value, rest) = value_at(args)?;
     match value {
         Argument::Text(text) => Ok((offset_in(text.as_slice())?, rest)),
-        _ => Err(ReadError::Fault(FaultKind::WrongArgument)),
+        _ => Err(ParseError::Fault(FaultKind::WrongArgument)),
     }
 }
 
-fn offset_in(text: &[u8]) -> Result<i16, ReadError>
+fn offset_in(text: &[u8]) -> Result<i16, ParseError>
     ensures found { IfOk result (λ zone. IsOffset text.now zone) }
-    ensures fault { IfFault result ((zone : ℤ) → IsOffset text.now zone → ⊥) }
+    ensures fault { IfParseFault result ((zone : ℤ) → IsOffset text.now zone → ⊥) }
 {
     match read_zone(text) {
         Some(zone) => Ok(zone),
-        None => Err(ReadError::Fault(FaultKind::WrongArgument)),
+        None => Err(ParseError::Fault(FaultKind::WrongArgument)),
     }
 }
 
 /// The strings of an argument: a string stands for the list that has only it (RFC 5228, 2.4.2.1).
-pub(crate) fn strings(alloc: Global, value: &Argument<'_>) -> Result<Texts, ReadError>
+pub(crate) fn strings(alloc: Global, value: &Argument<'_>) -> Result<Texts, ParseError>
     ensures found { IfOk result (λ xs. strings_of value.now ≡ Some xs) }
-    ensures fault { IfFault result (strings_of value.now ≡ None) }
+    ensures fault { IfParseFault result (strings_of value.now ≡ None) }
 {
     match value {
         Argument::Text(string) => {
@@ -170,7 +170,7 @@ pub(crate) fn strings(alloc: Global, value: &Argument<'_>) -> Result<Texts, Read
             Ok(strings)
         }
         Argument::Strings(strings) => Ok(copies(alloc, strings.as_slice())?),
-        _ => Err(ReadError::Fault(FaultKind::WrongArgument)),
+        _ => Err(ParseError::Fault(FaultKind::WrongArgument)),
     }
 }
 

@@ -1,27 +1,22 @@
 //! The table of tests without a test in them: what may follow each name (RFC 5228, 5).
 ghost use Rattle.std.specs.Prelude.{◌≡◌, IfOk, OnOk};
-ghost use Rattle.sievesyntax.specs.Parsing.{IfFault, FindsFit};
-ghost use Rattle.sievesyntax.specs.declared.tree.checks.Check.TheVariants as C;
-ghost use Rattle.sievesyntax.specs.Tree.{TestTree};
-ghost use Rattle.sievesyntax.specs.View.{test_view};
-ghost use Rattle.sievesyntax.specs.Table.{IsPlainTest, IsList, IsHeader, IsAddress, IsEnvelope, IsDate, IsCurrentDate, IsHasFlag};
-ghost use Rattle.sievesyntax.specs.Valid.{MayCheck, MayMatch, MayTest};
+ghost use Rattle.sieve_syntax.specs.Parsing.{IfParseFault, FindsFit};
+ghost use Rattle.sieve_syntax.specs.declared.tree.checks.MailCheck.TheVariants as C;
+ghost use Rattle.sieve_syntax.specs.Tree.{TestTree};
+ghost use Rattle.sieve_syntax.specs.View.{test_view};
+ghost use Rattle.sieve_syntax.specs.Table.{IsPlainTest, IsList, IsHeaderTest, IsAddressTest, IsEnvelopeTest, IsDateTest, IsCurrentDateTest, IsHasFlagTest};
+ghost use Rattle.sieve_syntax.specs.Valid.{MayCheck, MayMatch, MayTest};
 
-use crate::error::ReadError;
+use crate::error::ParseError;
 use crate::parser::argument::Argument;
 use crate::table::capability::{Capabilities, require};
 use crate::table::keyword::Keyword;
 use crate::table::positional::{no_arguments, read_list};
-use crate::table::test_arguments::{
-    read_address, read_current_date, read_date_test, read_envelope, read_has_flag, read_header,
-    read_size,
-};
-use crate::tree::checks::{
-    Address, Check, Collation, CurrentDate, DateTest, EnvelopeTest, HasFlag, Header, Matching,
-};
+use crate::table::test_arguments::{read_address, read_current_date, read_date_test, read_envelope, read_has_flag, read_header, read_size};
+use crate::tree::checks::{Address, MailCheck, Collation, CurrentDate, DateTest, EnvelopeTest, HasFlag, Header, Matching};
 use crate::tree::test::Test;
 use octets::Texts;
-use sievelex::FaultKind;
+use sieve_lex::FaultKind;
 use std::alloc::Global;
 
 /// The test of this word and these arguments, if it is permitted.
@@ -30,10 +25,10 @@ pub(crate) fn plain_test(
     keyword: Keyword,
     args: &[Argument<'_>],
     granted: Capabilities,
-) -> Result<Test, ReadError>
+) -> Result<Test, ParseError>
     ensures found { IfOk result (λ t. IsPlainTest keyword args.now (test_view t) × MayTest granted (test_view t)) }
     ensures only { IfOk result (λ t. (other : TestTree) → IsPlainTest keyword args.now other → other ≡ test_view t) }
-    ensures fault { IfFault result ((other : TestTree) → IsPlainTest keyword args.now other → MayTest granted other → ⊥) }
+    ensures fault { IfParseFault result ((other : TestTree) → IsPlainTest keyword args.now other → MayTest granted other → ⊥) }
 {
     match keyword {
         // Syntax: true (RFC 5228, 5.10)
@@ -47,49 +42,49 @@ pub(crate) fn plain_test(
             Ok(Test::False)
         }
         // Syntax: size <":over" / ":under"> <limit: number> (RFC 5228, 5.9)
-        Keyword::Size => Ok(Test::Check(Check::Size(read_size(alloc, args)?))),
+        Keyword::Size => Ok(Test::Check(MailCheck::Size(read_size(alloc, args)?))),
         // Syntax: exists <header-names: string-list> (RFC 5228, 5.5)
-        Keyword::Exists => Ok(Test::Check(Check::Exists(read_list(alloc, args)?))),
+        Keyword::Exists => Ok(Test::Check(MailCheck::Exists(read_list(alloc, args)?))),
         // Syntax: header [COMPARATOR] [MATCH-TYPE] <header-names: string-list> <key-list: string-list> (RFC 5228, 5.7)
         Keyword::Header => {
             let header = permitted_header(alloc, args, granted)?;
-            Ok(Test::Check(Check::Header(header)))
+            Ok(Test::Check(MailCheck::Header(header)))
         }
         // Syntax: address [COMPARATOR] [ADDRESS-PART] [MATCH-TYPE] <header-list: string-list> <key-list: string-list>; `:user` and `:detail`
         // require `subaddress` (RFC 5228, 5.1; RFC 5233)
         Keyword::Address => {
             let address = permitted_address(alloc, args, granted)?;
-            Ok(Test::Check(Check::Address(address)))
+            Ok(Test::Check(MailCheck::Address(address)))
         }
         // Syntax: envelope [COMPARATOR] [ADDRESS-PART] [MATCH-TYPE] <envelope-part: string-list> <key-list: string-list>;
         // requires `envelope`, and `:user` and `:detail` require `subaddress` (RFC 5228, 5.4; RFC 5233)
         Keyword::Envelope => {
             let envelope = permitted_envelope(alloc, args, granted)?;
-            Ok(Test::Check(Check::Envelope(envelope)))
+            Ok(Test::Check(MailCheck::Envelope(envelope)))
         }
         // Syntax: mailboxexists <mailbox-names: string-list>; requires `mailbox` (RFC 5490, 3.1)
         Keyword::MailboxExists => {
             let names = permitted_names(alloc, args, granted)?;
-            Ok(Test::Check(Check::MailboxExists(names)))
+            Ok(Test::Check(MailCheck::MailboxExists(names)))
         }
         // Syntax: date [<":zone" <time-zone: string>> / ":originalzone"] [COMPARATOR] [MATCH-TYPE] <header-name: string>
         // <date-part: string> <key-list: string-list>; requires `date` (RFC 5260, 4)
         Keyword::Date => {
             let date = permitted_date(alloc, args, granted)?;
-            Ok(Test::Check(Check::Date(date)))
+            Ok(Test::Check(MailCheck::Date(date)))
         }
         // Syntax: currentdate [":zone" <time-zone: string>] [COMPARATOR] [MATCH-TYPE] <date-part: string> <key-list: string-list>;
         // requires `date` (RFC 5260, 5)
         Keyword::CurrentDate => {
             let current = permitted_current(alloc, args, granted)?;
-            Ok(Test::Check(Check::CurrentDate(current)))
+            Ok(Test::Check(MailCheck::CurrentDate(current)))
         }
         // Syntax: hasflag [MATCH-TYPE] [COMPARATOR] <list-of-flags: string-list>; requires `imap4flags` (RFC 5232, 4)
         Keyword::HasFlag => {
             let flag = permitted_has_flag(alloc, args, granted)?;
-            Ok(Test::Check(Check::HasFlag(flag)))
+            Ok(Test::Check(MailCheck::HasFlag(flag)))
         }
-        _ => Err(ReadError::Fault(FaultKind::UnknownTest)),
+        _ => Err(ParseError::Fault(FaultKind::UnknownTest)),
     }
 }
 
@@ -99,14 +94,14 @@ fn require_match(
     granted: Capabilities,
     comparator: Collation,
     matching: Matching,
-) -> Result<(), ReadError>
+) -> Result<(), ParseError>
     ensures granted { OnOk result (MayMatch granted comparator matching) }
-    ensures fault { IfFault result (MayMatch granted comparator matching → ⊥) }
+    ensures fault { IfParseFault result (MayMatch granted comparator matching → ⊥) }
 {
     require(granted.relational, matching.is_relational())?;
     require(granted.numeric, comparator.is_numeric())?;
     if comparator.is_numeric() && matching.seeks_part() {
-        return Err(ReadError::Fault(FaultKind::WrongArgument));
+        return Err(ParseError::Fault(FaultKind::WrongArgument));
     }
     Ok(())
 }
@@ -116,8 +111,8 @@ fn permitted_header(
     alloc: Global,
     args: &[Argument<'_>],
     granted: Capabilities,
-) -> Result<Header, ReadError>
-    ensures { FindsFit (IsHeader args.now) (λ header. MayCheck granted (C.Header header)) result }
+) -> Result<Header, ParseError>
+    ensures { FindsFit (IsHeaderTest args.now) (λ header. MayCheck granted (C.Header header)) result }
 {
     let header = read_header(alloc, args)?;
     require_match(granted, header.comparator, header.matching)?;
@@ -129,8 +124,8 @@ fn permitted_address(
     alloc: Global,
     args: &[Argument<'_>],
     granted: Capabilities,
-) -> Result<Address, ReadError>
-    ensures { FindsFit (IsAddress args.now) (λ address. MayCheck granted (C.Address address)) result }
+) -> Result<Address, ParseError>
+    ensures { FindsFit (IsAddressTest args.now) (λ address. MayCheck granted (C.Address address)) result }
 {
     let address = read_address(alloc, args)?;
     require(granted.subaddress, address.part.is_subaddress())?;
@@ -143,8 +138,8 @@ fn permitted_envelope(
     alloc: Global,
     args: &[Argument<'_>],
     granted: Capabilities,
-) -> Result<EnvelopeTest, ReadError>
-    ensures { FindsFit (IsEnvelope args.now) (λ envelope. MayCheck granted (C.Envelope envelope)) result }
+) -> Result<EnvelopeTest, ParseError>
+    ensures { FindsFit (IsEnvelopeTest args.now) (λ envelope. MayCheck granted (C.Envelope envelope)) result }
 {
     require(granted.envelope, true)?;
     let envelope = read_envelope(alloc, args)?;
@@ -158,7 +153,7 @@ fn permitted_names(
     alloc: Global,
     args: &[Argument<'_>],
     granted: Capabilities,
-) -> Result<Texts, ReadError>
+) -> Result<Texts, ParseError>
     ensures { FindsFit (IsList args.now) (λ names. MayCheck granted (C.MailboxExists names)) result }
 {
     require(granted.mailbox, true)?;
@@ -171,8 +166,8 @@ fn permitted_date(
     alloc: Global,
     args: &[Argument<'_>],
     granted: Capabilities,
-) -> Result<DateTest, ReadError>
-    ensures { FindsFit (IsDate args.now) (λ date. MayCheck granted (C.Date date)) result }
+) -> Result<DateTest, ParseError>
+    ensures { FindsFit (IsDateTest args.now) (λ date. MayCheck granted (C.Date date)) result }
 {
     require(granted.date, true)?;
     let date = read_date_test(alloc, args)?;
@@ -185,8 +180,8 @@ fn permitted_current(
     alloc: Global,
     args: &[Argument<'_>],
     granted: Capabilities,
-) -> Result<CurrentDate, ReadError>
-    ensures { FindsFit (IsCurrentDate args.now) (λ current. MayCheck granted (C.CurrentDate current)) result }
+) -> Result<CurrentDate, ParseError>
+    ensures { FindsFit (IsCurrentDateTest args.now) (λ current. MayCheck granted (C.CurrentDate current)) result }
 {
     require(granted.date, true)?;
     let current = read_current_date(alloc, args)?;
@@ -199,8 +194,8 @@ fn permitted_has_flag(
     alloc: Global,
     args: &[Argument<'_>],
     granted: Capabilities,
-) -> Result<HasFlag, ReadError>
-    ensures { FindsFit (IsHasFlag args.now) (λ flag. MayCheck granted (C.HasFlag flag)) result }
+) -> Result<HasFlag, ParseError>
+    ensures { FindsFit (IsHasFlagTest args.now) (λ flag. MayCheck granted (C.HasFlag flag)) result }
 {
     require(granted.flags, true)?;
     let flag = read_has_flag(alloc, args)?;

@@ -1,27 +1,25 @@
 //! The arguments of `vacation` (RFC 5230, 4).
 ghost use Rattle.std.specs.Prelude.{◌≡◌, ℕ, List, Option, IfOk, OnOk, option_copied};
-ghost use Rattle.sievesyntax.specs.declared.tree.vacation.VacArgs.{VacArgs};
-ghost use Rattle.sievesyntax.specs.declared.tree.vacation.ReplyFrom.{ReplyFrom};
-ghost use Rattle.sievesyntax.specs.Parsing.{Finds, IfFault};
-ghost use Rattle.sievesyntax.specs.TagValues.{subject_in, from_in, addresses_in, handle_in};
-ghost use Rattle.sievesyntax.specs.Vacations.{IsReplyFrom, IsGivenFrom, AreNamed, AddsNamed, SaysVacation, IsVacation};
+ghost use Rattle.sieve_syntax.specs.declared.tree.vacation.VacationArgs.{VacationArgs};
+ghost use Rattle.sieve_syntax.specs.declared.tree.vacation.ReplyFrom.{ReplyFrom};
+ghost use Rattle.sieve_syntax.specs.Parsing.{FindsValue, IfParseFault};
+ghost use Rattle.sieve_syntax.specs.TagValues.{subject_in, from_in, addresses_in, handle_in};
+ghost use Rattle.sieve_syntax.specs.Vacations.{IsReplyFrom, IsGivenFrom, AreNamed, AddsNamed, SaysVacation, IsVacation};
 
-use crate::error::ReadError;
+use crate::error::ParseError;
 use crate::parser::argument::Argument;
 use crate::table::positional::text;
 use crate::table::redirect::{named_address, outbound};
 use crate::table::tag_group::{TagGroup, TagValue, split_tags};
-use crate::table::tag_values::{
-    given_days, given_handle, given_mime, given_seconds, given_subject,
-};
-use crate::tree::vacation::{ReplyFrom, VacArgs};
-use addrparts::Addr;
+use crate::table::tag_values::{given_days, given_handle, given_mime, given_seconds, given_subject};
+use crate::tree::vacation::{ReplyFrom, VacationArgs};
+use mail_address::Addr;
 use octets::{List, Octets};
 use std::alloc::{AllocError, Global};
 
 /// Reads the arguments of `vacation`.
-pub(crate) fn read_vacation(alloc: Global, args: &[Argument<'_>]) -> Result<VacArgs, ReadError>
-    ensures { Finds (IsVacation args.now) result }
+pub(crate) fn read_vacation(alloc: Global, args: &[Argument<'_>]) -> Result<VacationArgs, ParseError>
+    ensures { FindsValue (IsVacation args.now) result }
 {
     let allowed = &[
         TagGroup::Period,
@@ -39,14 +37,14 @@ fn vacation_from(
     alloc: Global,
     tag_values: &[TagValue],
     positional: &[Argument<'_>],
-) -> Result<VacArgs, ReadError>
-    ensures { Finds (SaysVacation tag_values.now positional.now) result }
+) -> Result<VacationArgs, ParseError>
+    ensures { FindsValue (SaysVacation tag_values.now positional.now) result }
 {
     let reason = text(alloc, positional)?;
     let addresses = given_addresses(alloc, tag_values)?;
     let from = given_from(alloc, tag_values)?;
     let (subject, handle) = given_texts(alloc, tag_values)?;
-    Ok(VacArgs {
+    Ok(VacationArgs {
         days: given_days(tag_values),
         seconds: given_seconds(tag_values),
         subject,
@@ -72,9 +70,9 @@ fn given_texts(
 }
 
 /// The value of `:from`, if one is given.
-fn given_from(alloc: Global, tag_values: &[TagValue]) -> Result<Option<ReplyFrom>, ReadError>
+fn given_from(alloc: Global, tag_values: &[TagValue]) -> Result<Option<ReplyFrom>, ParseError>
     ensures found { IfOk result (λ from. IsGivenFrom (from_in tag_values.now) from) }
-    ensures fault { IfFault result ((from : Option ReplyFrom) → IsGivenFrom (from_in tag_values.now) from → ⊥) }
+    ensures fault { IfParseFault result ((from : Option ReplyFrom) → IsGivenFrom (from_in tag_values.now) from → ⊥) }
 {
     match from_text(tag_values) {
         Some(text) => Ok(Some(reply_from(alloc, text)?)),
@@ -94,9 +92,9 @@ fn from_text(tag_values: &[TagValue]) -> Option<&Octets>
     None
 }
 
-fn reply_from(alloc: Global, text: &Octets) -> Result<ReplyFrom, ReadError>
+fn reply_from(alloc: Global, text: &Octets) -> Result<ReplyFrom, ParseError>
     ensures found { IfOk result (λ from. IsReplyFrom text.now from) }
-    ensures fault { IfFault result ((from : ReplyFrom) → IsReplyFrom text.now from → ⊥) }
+    ensures fault { IfParseFault result ((from : ReplyFrom) → IsReplyFrom text.now from → ⊥) }
 {
     let (display, address) = outbound(alloc, text.as_slice())?;
     Ok(ReplyFrom {

@@ -1,6 +1,6 @@
 //! What a script does with the message (RFC 5228, 4).
 use crate::tree::vacation::Vacation;
-use addrparts::Addr;
+use mail_address::Addr;
 use octets::{Octets, Texts};
 
 /// What a script does with the message (RFC 5228, 4; RFC 5230), and with the flags that its copies get (RFC 5232).

@@ -1,13 +1,13 @@
 //! The tests that look at a message, its envelope, or the flags that are set (RFC 5228, 5).
 ghost use Rattle.std.specs.Prelude.{◌≡◌};
-ghost use Rattle.sievesyntax.specs.Valid.{is_subaddress, is_relational, is_numeric, seeks_part};
+ghost use Rattle.sieve_syntax.specs.Valid.{is_subaddress, is_relational, is_numeric, seeks_part};
 
-use maildates::DatePart;
+use mail_dates::DatePart;
 use octets::{Octets, Texts};
 
 /// A test that looks at the message, its envelope, or the flags that are set.
 #[derive(Drop)]
-pub enum Check {
+pub enum MailCheck {
     /// `size` (RFC 5228, 5.9).
     Size(Size),
     /// `exists`, with the names of the fields that all have to be there (RFC 5228, 5.5).

@@ -1,5 +1,5 @@
 //! Tests (RFC 5228, 5).
-use crate::tree::checks::Check;
+use crate::tree::checks::MailCheck;
 
 /// A test (RFC 5228, 5).
 #[cycle(tests)]
@@ -10,7 +10,7 @@ pub enum Test {
     /// `false` (RFC 5228, 5.6).
     False,
     /// A test that looks at the message or its envelope.
-    Check(Check),
+    Check(MailCheck),
     /// `not`: holds if this test doesn't (RFC 5228, 5.8).
     Not(Box<Test>),
     /// `allof`: holds if each of these tests does (RFC 5228, 5.2).

@@ -1,7 +1,7 @@
 //! What `vacation` says (RFC 5230).
 ghost use Rattle.std.specs.Prelude.{◌≡◌, IfOk};
 
-use addrparts::Addr;
+use mail_address::Addr;
 use octets::{List, Octets};
 use std::alloc::{AllocError, Global};
 use std::marker::Model;
@@ -10,20 +10,20 @@ use std::marker::Model;
 /// see the arguments.
 #[derive(Drop)]
 pub struct Vacation {
-    args: Box<VacArgs>,
+    args: Box<VacationArgs>,
 }
 
 impl Model for Vacation {
-    ghost use Rattle.sievesyntax.specs.declared.tree.vacation.VacArgs.{VacArgs};
+    ghost use Rattle.sieve_syntax.specs.declared.tree.vacation.VacationArgs.{VacationArgs};
 
-    ghost Value = { VacArgs };
+    ghost Value = { VacationArgs };
 
     ghost view = { λ reply. reply.args.value };
 }
 
 impl Vacation {
     /// Boxes these arguments, without a copy; if there is no memory they are dropped.
-    pub(crate) fn new(alloc: Global, args: VacArgs) -> Result<Vacation, AllocError>
+    pub(crate) fn new(alloc: Global, args: VacationArgs) -> Result<Vacation, AllocError>
         ensures { IfOk result (λ reply. reply ≡ args) }
     {
         Ok(Vacation {
@@ -32,7 +32,7 @@ impl Vacation {
     }
 
     /// The arguments.
-    pub fn args(&self) -> &VacArgs
+    pub fn args(&self) -> &VacationArgs
         ensures { result.now ≡ self.now }
     {
         &self.args
@@ -41,7 +41,7 @@ impl Vacation {
 
 /// The arguments of `vacation`, as they were written (RFC 5230, 4). A tag that isn't given is `None`.
 #[derive(Drop)]
-pub struct VacArgs {
+pub struct VacationArgs {
     /// `:days`: for how many days the same sender gets no second answer, in any range (RFC 5230, 4.1).
     pub days: Option<u64>,
     /// `:seconds`: for how many seconds, instead of `:days`, in any range (RFC 6131).

@@ -1,11 +1,11 @@
 -- An octet that is escaped is two digits.
 use Rattle.std.proofs.Common.{◌≡◌, ◌++◌, ◌/◌, ◌%◌, ℕ, List, [], ◌∷◌, OnOk, cond, slice_index, true, rules, sym, ap, ◌∙◌, subst}
 use Rattle.hex.specs.Hex.{encode_lower, encode_with, lower_digits}
-use Rattle.reportlines.specs.Addresses.{is_escaped as is_escaped_of, shown_octet}
-use Rattle.reportlines.proofs.address.add_octet.Goals as goal
+use Rattle.cli_reports.specs.Addresses.{is_escaped as is_escaped_of, address_octet}
+use Rattle.cli_reports.proofs.address.add_octet.Goals as goal
 
 digits_of : (octet high low : ℕ) → is_escaped_of octet ≡ true → high ≡ slice_index lower_digits (octet / 16) → low ≡ slice_index lower_digits (octet % 16)
-    → 92 ∷ high ∷ low ∷ [] ≡ shown_octet octet
+    → 92 ∷ high ∷ low ∷ [] ≡ address_octet octet
 unfolding encode_with
 digits_of octet high low escaped first second =
     ap (λ (x : ℕ). 92 ∷ x ∷ low ∷ []) first

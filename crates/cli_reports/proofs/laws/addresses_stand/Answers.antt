@@ -1,6 +1,6 @@
 -- Each octet that is shown may stand.
-use Rattle.reportlines.proofs.Telling.{address_stands}
-use Rattle.reportlines.proofs.laws.addresses_stand.Goals as goal
+use Rattle.cli_reports.proofs.Telling.{address_stands}
+use Rattle.cli_reports.proofs.laws.addresses_stand.Goals as goal
 
 pub returns : goal.returns
 returns c = address_stands

@@ -1,6 +1,6 @@
 -- A line is cut at its marks, a listing at its line ends.
-use Rattle.reportlines.proofs.Telling.{line_told, listing_told}
-use Rattle.reportlines.proofs.laws.queue_is_told.Goals as goal
+use Rattle.cli_reports.proofs.Telling.{line_told, listing_told}
+use Rattle.cli_reports.proofs.laws.queue_is_told.Goals as goal
 
 pub returns-clause-line : goal.returns-clause-line
 returns-clause-line c = line_told

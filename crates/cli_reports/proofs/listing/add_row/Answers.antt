@@ -1,9 +1,9 @@
 -- The texts that were appended in turn are the line.
 use Rattle.std.proofs.Common.{◌≡◌, ℕ, List, [], ◌∷◌, ◌++◌, codes, append_assoc, decimal, rules}
 use Rattle.std.proofs.lemmas.Result.{on_ok_weaker}
-use Rattle.reportlines.specs.Listings.{kind_word}
-use Rattle.reportlines.specs.Addresses.{shown_address}
-use Rattle.reportlines.proofs.listing.add_row.Goals as goal
+use Rattle.cli_reports.specs.Listings.{kind_word}
+use Rattle.cli_reports.specs.Addresses.{shown_address}
+use Rattle.cli_reports.proofs.listing.add_row.Goals as goal
 
 line_written : (old id a b kind c d sender e f target g h count i new : List ℕ)
     → a ≡ old ++ id → b ≡ a ++ codes " " → c ≡ b ++ kind → d ≡ c ++ codes " <" → e ≡ d ++ sender → f ≡ e ++ codes "> <" → g ≡ f ++ target → h ≡ g ++ codes "> " → i ≡ h ++ count → new ≡ i ++ 10 ∷ []

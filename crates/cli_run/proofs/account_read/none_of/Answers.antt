@@ -1,9 +1,9 @@
 -- The account was entered, and nothing else read.
 use Rattle.std.proofs.Common.{◌≡◌, None, refl, rules}
 use Rattle.sqlite.specs.Held.{state}
-use Rattle.mailstore.specs.AccountRows.{profile_of}
-use Rattle.sievedrun.proofs.WordLemmas.{reads_so, reads_not}
-use Rattle.sievedrun.proofs.account_read.none_of.Goals as goal
+use Rattle.store_accounts.specs.AccountRows.{profile_of}
+use Rattle.cli_run.proofs.WordLemmas.{reads_so, reads_not}
+use Rattle.cli_run.proofs.account_read.none_of.Goals as goal
 
 pub returns-in_err-enter : goal.returns-in_err-enter
 returns-in_err-enter g c =

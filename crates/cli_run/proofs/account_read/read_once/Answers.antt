@@ -1,9 +1,9 @@
 -- The store was taken, read and handed back.
 use Rattle.std.proofs.Common.{Ok, refl, rules}
 use Rattle.sqlite.specs.Held.{state}
-use Rattle.sievedrun.specs.Serving.{HasDenied}
-use Rattle.sievedrun.proofs.WordLemmas.{find_denied, read_turned, found_ok, found_none}
-use Rattle.sievedrun.proofs.account_read.read_once.Goals as goal
+use Rattle.cli_run.specs.Serving.{HasDenied}
+use Rattle.cli_run.proofs.WordLemmas.{find_denied, read_turned, found_ok, found_none}
+use Rattle.cli_run.proofs.account_read.read_once.Goals as goal
 
 pub returns-in_err-store-clause-found : goal.returns-in_err-store-clause-found
 returns-in_err-store-clause-found g c tells =

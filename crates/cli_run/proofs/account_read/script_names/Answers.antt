@@ -2,15 +2,15 @@
 use Rattle.std.proofs.Common.{◌≡◌, ℕ, List, Err, OnOk, IfErr, sym, ap, rules}
 use Rattle.std.specs.FinMap.{keys}
 use Rattle.sqlite.specs.Held.{state}
-use Rattle.mailstore.specs.Account.{Account}
-use Rattle.mailstore.specs.AccountRows.{profile_of}
-use Rattle.mailstore.specs.Refusals.{IsTransient}
-use Rattle.mailstore.specs.declared.profile.Profile.{Profile}
-use Rattle.mailstore.proofs.EnterLemmas.{enters_both, enters_failed}
-use Rattle.mailstore.proofs.KeepLemmas.{reads_refused}
-use Rattle.sessions.specs.Decisions.{AreScripts}
-use Rattle.sievedrun.specs.declared.account_read.ScriptNames.{ScriptNames}
-use Rattle.sievedrun.proofs.account_read.script_names.Goals as goal
+use Rattle.store_accounts.specs.Account.{Account}
+use Rattle.store_accounts.specs.AccountRows.{profile_of}
+use Rattle.store_accounts.specs.Refusals.{IsTransient}
+use Rattle.store_accounts.specs.declared.profile.Profile.{Profile}
+use Rattle.store_accounts.proofs.EnterLemmas.{enters_both, enters_failed}
+use Rattle.store_accounts.proofs.KeepLemmas.{reads_refused}
+use Rattle.managesieve_sessions.specs.Decisions.{AreScripts}
+use Rattle.cli_run.specs.declared.account_read.ScriptNames.{ScriptNames}
+use Rattle.cli_run.proofs.account_read.script_names.Goals as goal
 
 abbrev Known : Profile → Account → Type 0
 Known profile account = profile ≡ profile_of account

@@ -1,11 +1,11 @@
 -- A write of the line on the fault failed.
 use Rattle.std.proofs.Common.{◌≡◌, ◌≤◌, Some, Err, length, inr, subst, sym, rules}
 use Rattle.std.specs.Option.{option_copied}
-use Rattle.sessions.specs.Limits.{script_limit}
-use Rattle.sessions.specs.Scripts.{IsVerdict}
-use Rattle.sievedrun.specs.Checks.{PrintsFinding, fault_in_file}
-use Rattle.sievedrun.specs.Faults.{IsPrinted}
-use Rattle.sievedrun.proofs.check.print_finding.Goals as goal
+use Rattle.managesieve_sessions.specs.Limits.{script_limit}
+use Rattle.managesieve_sessions.specs.Scripts.{IsVerdict}
+use Rattle.cli_run.specs.Checks.{PrintsFinding, fault_in_file}
+use Rattle.cli_run.specs.Faults.{IsPrinted}
+use Rattle.cli_run.proofs.check.print_finding.Goals as goal
 
 pub returns-in_err-write_all : goal.returns-in_err-write_all
 returns-in_err-write_all g c =

@@ -1,24 +1,24 @@
 -- A fault is told as any other, but that a file is too large.
 use Rattle.std.proofs.Common.{◌++◌, codes, Some, subst, sym, rules}
-use Rattle.reportlines.specs.Reports.{with_end}
+use Rattle.cli_reports.specs.Reports.{ended_line}
 use Rattle.std.specs.Option.{option_copied}
-use Rattle.sievedrun.specs.Checks.{told_in}
-use Rattle.sievedrun.specs.Streams.{IsWritten}
-use Rattle.sievedrun.proofs.CheckLemmas.{told_otherwise}
-use Rattle.sievedrun.proofs.StreamLemmas.{written}
-use Rattle.sievedrun.proofs.check.refuse_in.Goals as goal
+use Rattle.cli_run.specs.Checks.{check_fault_line}
+use Rattle.cli_run.specs.Streams.{IsWritten}
+use Rattle.cli_run.proofs.CheckLemmas.{told_otherwise}
+use Rattle.cli_run.proofs.StreamLemmas.{written}
+use Rattle.cli_run.proofs.check.refuse_in.Goals as goal
 
 pub returns-in_default-clause-line : goal.returns-in_default-clause-line
 returns-in_default-clause-line g c =
-    subst (λ f. IsWritten (g.E.Write.contents c.args.errors.now) (g.E.Write.contents c.refuse.new.errors) (told_in (option_copied f) c.args.fault)) (sym c.in_default.is) c.refuse.ensures.line
+    subst (λ f. IsWritten (g.E.Write.contents c.args.errors.now) (g.E.Write.contents c.refuse.new.errors) (check_fault_line (option_copied f) c.args.fault)) (sym c.in_default.is) c.refuse.ensures.line
 
 pub returns-then-is_too_large-clause-line : goal.returns-then-is_too_large-clause-line
 returns-then-is_too_large-clause-line g c =
     let old = g.E.Write.contents c.args.errors.now in
     let new = g.E.Write.contents c.write_line.new.output in
-    subst (λ f. IsWritten old new (told_in (option_copied f) c.args.fault)) (sym c.in-Some.is)
-    (subst (λ f. IsWritten old new (told_in (Some c.in-Some.file.now) f)) (sym (c.is_too_large.ensures.yes c.if-is_too_large.true))
-    (subst (λ t. IsWritten old new (with_end (t ++ codes ": script too large"))) c.as_bytes.ensures.value (written old new _ c.write_line.result c.write_line.ensures)))
+    subst (λ f. IsWritten old new (check_fault_line (option_copied f) c.args.fault)) (sym c.in-Some.is)
+    (subst (λ f. IsWritten old new (check_fault_line (Some c.in-Some.file.now) f)) (sym (c.is_too_large.ensures.yes c.if-is_too_large.true))
+    (subst (λ t. IsWritten old new (ended_line (t ++ codes ": script too large"))) c.as_bytes.ensures.value (written old new _ c.write_line.result c.write_line.ensures)))
 
 pub returns-clause-line : goal.returns-clause-line
 returns-clause-line g c =

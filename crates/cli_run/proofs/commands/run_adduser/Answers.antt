@@ -1,27 +1,27 @@
 -- The event's password is the first line of what was read, and the line is printed after it was made.
 use Rattle.std.proofs.Common.{Ok, Err, ◌≡◌, ◌++◌, codes, ap, ◌∙◌, inl, inr, rules}
 use Rattle.std.specs.Option.{option_copied}
-use Rattle.mailengine.specs.declared.answer.Answer.TheVariants.{Added}
-use Rattle.mailengine.specs.declared.event.Event.TheVariants.{AddUser}
-use Rattle.reportlines.specs.Reports.{with_end}
-use Rattle.sievedrun.specs.Promise.{first_line}
-use Rattle.sievedrun.specs.Serving.{HasDenied}
-use Rattle.sievedrun.specs.Values.{HasNoSalt}
-use Rattle.sievedrun.specs.Words.{Adds, DeniedAtEnd, SaltFailed}
-use Rattle.sievedrun.proofs.WordLemmas.{event_hindered, event_unmade, event_made, put_at_end, wrong, broken, unread}
-use Rattle.sievedrun.proofs.commands.run_adduser.Goals as goal
+use Rattle.store_engine.specs.declared.answer.Answer.TheVariants.{Added}
+use Rattle.store_engine.specs.declared.event.Event.TheVariants.{AddUser}
+use Rattle.cli_reports.specs.Reports.{ended_line}
+use Rattle.cli_run.specs.Promise.{first_line}
+use Rattle.cli_run.specs.Serving.{HasDenied}
+use Rattle.cli_run.specs.Values.{HasNoSalt}
+use Rattle.cli_run.specs.Subcommands.{IsAddUserEvent, DeniedAtEnd, SaltFailed}
+use Rattle.cli_run.proofs.WordLemmas.{event_hindered, event_unmade, event_made, put_at_end, wrong, broken, unread}
+use Rattle.cli_run.proofs.commands.run_adduser.Goals as goal
 
 pub returns-in_err-salt-clause-does : goal.returns-in_err-salt-clause-does
 returns-in_err-salt-clause-does g c tells =
     let user = c.args.asked in
-    event_hindered (SaltFailed (option_copied user.salt) c.args.random) (HasNoSalt (option_copied user.salt)) (DeniedAtEnd (HasDenied g.K.Keeper.refuses g.K.Keeper.will_wait c.args.asked.location) (g.R.Read.remaining c.args.input.now)) (Adds (option_copied user.salt) c.args.random user.name.now user.address.now (g.R.Read.remaining c.args.input.now)) (g.W.Write.contents c.args.output.now)
+    event_hindered (SaltFailed (option_copied user.salt) c.args.random) (HasNoSalt (option_copied user.salt)) (DeniedAtEnd (HasDenied g.K.Keeper.refuses g.K.Keeper.will_wait c.args.asked.location) (g.R.Read.remaining c.args.input.now)) (IsAddUserEvent (option_copied user.salt) c.args.random user.name.now user.address.now (g.R.Read.remaining c.args.input.now)) (g.W.Write.contents c.args.output.now)
     (g.K.Keeper.holds c.args.keeper.now) c.in_err-salt.field-0.0 c.from_residual.result (search rules) (elim c.in_err-salt.ensures.fault [ inl bad ↦ wrong (SaltFailed (option_copied user.salt) c.args.random) (HasNoSalt (option_copied user.salt)) (DeniedAtEnd (HasDenied g.K.Keeper.refuses g.K.Keeper.will_wait c.args.asked.location) (g.R.Read.remaining c.args.input.now)) _ bad.0 bad.1 | inr none ↦ broken (SaltFailed (option_copied user.salt) c.args.random) (HasNoSalt (option_copied user.salt)) (DeniedAtEnd (HasDenied g.K.Keeper.refuses g.K.Keeper.will_wait c.args.asked.location) (g.R.Read.remaining c.args.input.now)) _ none.0 (inr (none.1, none.2)) ])
 
 pub returns-in_err-octets-clause-does : goal.returns-in_err-octets-clause-does
 returns-in_err-octets-clause-does g c tells =
     let user = c.args.asked in
     let fault = c.in_err-octets.field-0.0 in
-    event_hindered (SaltFailed (option_copied user.salt) c.args.random) (HasNoSalt (option_copied user.salt)) (DeniedAtEnd (HasDenied g.K.Keeper.refuses g.K.Keeper.will_wait c.args.asked.location) (g.R.Read.remaining c.read_all.new.input)) (Adds (option_copied user.salt) c.args.random user.name.now user.address.now (g.R.Read.remaining c.args.input.now)) (g.W.Write.contents c.args.output.now)
+    event_hindered (SaltFailed (option_copied user.salt) c.args.random) (HasNoSalt (option_copied user.salt)) (DeniedAtEnd (HasDenied g.K.Keeper.refuses g.K.Keeper.will_wait c.args.asked.location) (g.R.Read.remaining c.read_all.new.input)) (IsAddUserEvent (option_copied user.salt) c.args.random user.name.now user.address.now (g.R.Read.remaining c.args.input.now)) (g.W.Write.contents c.args.output.now)
     (g.K.Keeper.holds c.args.keeper.now) fault c.from_residual-in_err-octets.result (search rules) (unread (SaltFailed (option_copied user.salt) c.args.random) (HasNoSalt (option_copied user.salt)) (DeniedAtEnd (HasDenied g.K.Keeper.refuses g.K.Keeper.will_wait c.args.asked.location) (g.R.Read.remaining c.read_all.new.input)) fault c.in_err-octets.ensures.err (λ is. inl (c.in_err-octets.ensures.failed is)))
 
 pub returns-in_err-add-clause-does : goal.returns-in_err-add-clause-does
@@ -30,14 +30,14 @@ returns-in_err-add-clause-does g c tells =
     let given = g.R.Read.remaining c.args.input.now in
     let octets = c.in_ok-octets.octets.items in
     let salt = c.in_ok-salt.salt in
-    let password = c.first_line-password.result.now in
+    let password = c.first_input_line-password.result.now in
     let event = AddUser c.as_bytes.result.now c.as_bytes-2.result.now salt password in
     let name : c.as_bytes.result.now ≡ user.name.now = search rules in
     let address : c.as_bytes-2.result.now ≡ user.address.now = search rules in
     let line : password ≡ first_line octets = search rules in
     let same : event ≡ AddUser user.name.now user.address.now salt (first_line octets) =
     ap (λ n. AddUser n c.as_bytes-2.result.now salt password) name ∙ (ap (λ a. AddUser user.name.now a salt password) address ∙ ap (AddUser user.name.now user.address.now salt) line) in
-    event_unmade (SaltFailed (option_copied user.salt) c.args.random) (HasNoSalt (option_copied user.salt)) (DeniedAtEnd (HasDenied g.K.Keeper.refuses g.K.Keeper.will_wait c.args.asked.location) (g.R.Read.remaining c.read_all.new.input)) (Adds (option_copied user.salt) c.args.random user.name.now user.address.now given) {X = Unit {0}} event
+    event_unmade (SaltFailed (option_copied user.salt) c.args.random) (HasNoSalt (option_copied user.salt)) (DeniedAtEnd (HasDenied g.K.Keeper.refuses g.K.Keeper.will_wait c.args.asked.location) (g.R.Read.remaining c.read_all.new.input)) (IsAddUserEvent (option_copied user.salt) c.args.random user.name.now user.address.now given) {X = Unit {0}} event
     (record { octets = octets; read = c.in_ok-octets.ensures.ok; salt = salt; salted = c.in_ok-salt.ensures.ok; same = same }) (λ done. Added) (g.K.Keeper.holds c.args.keeper.now) (g.K.Keeper.holds c.add.new.keeper)
     (g.W.Write.contents c.args.output.now) c.in_ok-salt.ensures.right c.in_err-add.field-0.0 c.from_residual-in_err-add.result (search rules) (put_at_end {X = Unit {0}} (HasDenied g.K.Keeper.refuses g.K.Keeper.will_wait c.args.asked.location) (g.R.Read.remaining c.read_all.new.input) c.in_ok-octets.ensures.end event (λ done. Added) (Err c.in_err-add.field-0.0) (g.K.Keeper.holds c.args.keeper.now) (g.K.Keeper.holds c.add.new.keeper) (c.in_err-add.ensures.puts tells))
 
@@ -49,7 +49,7 @@ returns-clause-does g c tells =
     let new = g.W.Write.contents c.write_line.new.output in
     let octets = c.in_ok-octets.octets.items in
     let salt = c.in_ok-salt.salt in
-    let password = c.first_line-password.result.now in
+    let password = c.first_input_line-password.result.now in
     let event = AddUser c.as_bytes.result.now c.as_bytes-2.result.now salt password in
     let name : c.as_bytes.result.now ≡ user.name.now = search rules in
     let address : c.as_bytes-2.result.now ≡ user.address.now = search rules in
@@ -57,6 +57,6 @@ returns-clause-does g c tells =
     let same : event ≡ AddUser user.name.now user.address.now salt (first_line octets) =
     ap (λ n. AddUser n c.as_bytes-2.result.now salt password) name ∙ (ap (λ a. AddUser user.name.now a salt password) address ∙ ap (AddUser user.name.now user.address.now salt) line) in
     let told : c.as_bytes-3.result.now ≡ c.as_bytes.result.now = search rules in
-    event_made (SaltFailed (option_copied user.salt) c.args.random) (HasNoSalt (option_copied user.salt)) (DeniedAtEnd (HasDenied g.K.Keeper.refuses g.K.Keeper.will_wait c.args.asked.location) (g.R.Read.remaining c.read_all.new.input)) (Adds (option_copied user.salt) c.args.random user.name.now user.address.now given) {X = Unit {0}} event
+    event_made (SaltFailed (option_copied user.salt) c.args.random) (HasNoSalt (option_copied user.salt)) (DeniedAtEnd (HasDenied g.K.Keeper.refuses g.K.Keeper.will_wait c.args.asked.location) (g.R.Read.remaining c.read_all.new.input)) (IsAddUserEvent (option_copied user.salt) c.args.random user.name.now user.address.now given) {X = Unit {0}} event
     (record { octets = octets; read = c.in_ok-octets.ensures.ok; salt = salt; salted = c.in_ok-salt.ensures.ok; same = same }) (λ done. Added) (g.K.Keeper.holds c.args.keeper.now) (g.K.Keeper.holds c.add.new.keeper)
-    tt (with_end (codes "added " ++ c.as_bytes-3.result.now)) (ap (λ n. with_end (codes "added " ++ n)) told) (put_at_end {X = Unit {0}} (HasDenied g.K.Keeper.refuses g.K.Keeper.will_wait c.args.asked.location) (g.R.Read.remaining c.read_all.new.input) c.in_ok-octets.ensures.end event (λ done. Added) (Ok tt) (g.K.Keeper.holds c.args.keeper.now) (g.K.Keeper.holds c.add.new.keeper) (c.in_ok-add.ensures.puts tells)) old new c.write_line.result c.write_line.ensures
+    tt (ended_line (codes "added " ++ c.as_bytes-3.result.now)) (ap (λ n. ended_line (codes "added " ++ n)) told) (put_at_end {X = Unit {0}} (HasDenied g.K.Keeper.refuses g.K.Keeper.will_wait c.args.asked.location) (g.R.Read.remaining c.read_all.new.input) c.in_ok-octets.ensures.end event (λ done. Added) (Ok tt) (g.K.Keeper.holds c.args.keeper.now) (g.K.Keeper.holds c.add.new.keeper) (c.in_ok-add.ensures.puts tells)) old new c.write_line.result c.write_line.ensures

@@ -1,9 +1,9 @@
 -- A new store was made, and is kept, where it was closed and where it wasn't.
 use Rattle.std.proofs.Common.{rules}
 use Rattle.sqlite.specs.Held.{state}
-use Rattle.sievedrun.specs.Serving.{HasDenied}
-use Rattle.sievedrun.proofs.WordLemmas.{init_denied, init_made}
-use Rattle.sievedrun.proofs.commands.run_init.Goals as goal
+use Rattle.cli_run.specs.Serving.{HasDenied}
+use Rattle.cli_run.proofs.WordLemmas.{init_denied, init_made}
+use Rattle.cli_run.proofs.commands.run_init.Goals as goal
 
 pub returns-in_err-store-clause-does : goal.returns-in_err-store-clause-does
 returns-in_err-store-clause-does g c tells =

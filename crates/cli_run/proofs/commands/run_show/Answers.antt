@@ -1,13 +1,13 @@
 -- The message was read in a store that was taken and handed back, and then printed.
 use Rattle.std.proofs.Common.{◌≡◌, ℕ, List, Option, None, Some, Result, Ok, refl, sym, subst, rules}
-use Rattle.sievedrun.specs.Draining.{TurnsTables}
-use Rattle.sievedrun.specs.Serving.{HasDenied}
-use Rattle.sievedrun.specs.Values.{IsNoNumber}
-use Rattle.sievedrun.specs.Words.{FindsIn, HasMessage, ShowsMessage, LacksMessage}
-use Rattle.sievedrun.specs.declared.fault.Fault.{Fault}
-use Rattle.sievedrun.specs.declared.fault.Fault.TheVariants.{NoMessage}
-use Rattle.sievedrun.proofs.WordLemmas.{read_hindered, read_refused, read_lacks, read_shown, wrong}
-use Rattle.sievedrun.proofs.commands.run_show.Goals as goal
+use Rattle.cli_run.specs.Draining.{TurnsTables}
+use Rattle.cli_run.specs.Serving.{HasDenied}
+use Rattle.cli_run.specs.Values.{IsNoNumber}
+use Rattle.cli_run.specs.Subcommands.{FindsIn, HasMessage, ShowsMessage, LacksMessage}
+use Rattle.cli_run.specs.declared.fault.RunFault.{RunFault}
+use Rattle.cli_run.specs.declared.fault.RunFault.TheVariants.{NoMessage}
+use Rattle.cli_run.proofs.WordLemmas.{read_hindered, read_refused, read_lacks, read_shown, wrong}
+use Rattle.cli_run.proofs.commands.run_show.Goals as goal
 
 pub returns-in_err-number-clause-does : goal.returns-in_err-number-clause-does
 returns-in_err-number-clause-does g c tells =
@@ -26,7 +26,7 @@ pub returns-in_default-clause-does : goal.returns-in_default-clause-does
 returns-in_default-clause-does g c tells =
     let digits = c.args.asked.number.now in
     let number = c.in_ok-number.number in
-    let Found = λ (r : Result (Option (List ℕ)) Fault). TurnsTables (λ accounts later. (later ≡ accounts) × FindsIn (HasDenied g.K.Keeper.refuses g.K.Keeper.will_wait c.args.asked.location) c.args.asked.user.now (λ message a. HasMessage c.args.asked.folder.now number a message) r accounts)
+    let Found = λ (r : Result (Option (List ℕ)) RunFault). TurnsTables (λ accounts later. (later ≡ accounts) × FindsIn (HasDenied g.K.Keeper.refuses g.K.Keeper.will_wait c.args.asked.location) c.args.asked.user.now (λ message a. HasMessage c.args.asked.folder.now number a message) r accounts)
     (g.K.Keeper.holds c.args.keeper.now) (g.K.Keeper.holds c.read_once.new.keeper) in
     let found = subst (λ o. Found (Ok o)) c.in_default.is (c.in_ok-message.ensures.found tells) in
     read_lacks (IsNoNumber digits) (HasDenied g.K.Keeper.refuses g.K.Keeper.will_wait c.args.asked.location) c.args.asked.user.now (ShowsMessage c.args.asked.folder.now digits) (LacksMessage c.args.asked.folder.now digits)
@@ -39,7 +39,7 @@ returns-clause-does g c tells =
     let number = c.in_ok-number.number in
     let message = c.in-Some.message in
     let text : c.as_slice.result.now ≡ message = search rules in
-    let Found = λ (r : Result (Option (List ℕ)) Fault). TurnsTables (λ accounts later. (later ≡ accounts) × FindsIn (HasDenied g.K.Keeper.refuses g.K.Keeper.will_wait c.args.asked.location) c.args.asked.user.now (λ message a. HasMessage c.args.asked.folder.now number a message) r accounts)
+    let Found = λ (r : Result (Option (List ℕ)) RunFault). TurnsTables (λ accounts later. (later ≡ accounts) × FindsIn (HasDenied g.K.Keeper.refuses g.K.Keeper.will_wait c.args.asked.location) c.args.asked.user.now (λ message a. HasMessage c.args.asked.folder.now number a message) r accounts)
     (g.K.Keeper.holds c.args.keeper.now) (g.K.Keeper.holds c.read_once.new.keeper) in
     let found = subst (λ o. Found (Ok o)) c.in-Some.is (c.in_ok-message.ensures.found tells) in
     read_shown (IsNoNumber digits) (HasDenied g.K.Keeper.refuses g.K.Keeper.will_wait c.args.asked.location) c.args.asked.user.now (ShowsMessage c.args.asked.folder.now digits) (LacksMessage c.args.asked.folder.now digits)

@@ -1,13 +1,13 @@
 -- The account was looked for, and then messages were moved.
 use Rattle.std.proofs.Common.{◌≡◌, ◌⊎◌, Ok, Err, IfErr, inl, inr, ap, subst, sym, refl, rules}
 use Rattle.sqlite.specs.Held.{state}
-use Rattle.sievedrun.specs.Draining.{Drains, HasRefused, IsUnkept}
-use Rattle.sievedrun.specs.declared.fault.Fault.TheVariants.{Refused}
-use Rattle.sievedrun.specs.Faults.{no_user, IsSudden}
-use Rattle.sievedrun.proofs.LeaveLemmas.{grown_none}
-use Rattle.sievedrun.proofs.MoveLemmas.{not_entered, drained_then}
-use Rattle.sievedrun.proofs.WordLemmas.{sudden_statuses, sudden_refusal, sudden_or}
-use Rattle.sievedrun.proofs.drain.drain.Goals as goal
+use Rattle.cli_run.specs.Draining.{Drains, HasRefused, IsUnkept}
+use Rattle.cli_run.specs.declared.fault.RunFault.TheVariants.{Refused}
+use Rattle.cli_run.specs.Faults.{no_user, IsSudden}
+use Rattle.cli_run.proofs.LeaveLemmas.{grown_none}
+use Rattle.cli_run.proofs.MoveLemmas.{not_entered, drained_then}
+use Rattle.cli_run.proofs.WordLemmas.{sudden_statuses, sudden_refusal, sudden_or}
+use Rattle.cli_run.proofs.drain.drain.Goals as goal
 
 pub returns-in_err-enter-clause-fault : goal.returns-in_err-enter-clause-fault
 returns-in_err-enter-clause-fault g c =

@@ -1,10 +1,10 @@
 -- The store was taken, drained and handed back.
 use Rattle.std.proofs.Common.{refl, rules}
 use Rattle.sqlite.specs.Held.{state}
-use Rattle.sievedrun.specs.Draining.{HasRefused}
-use Rattle.sievedrun.specs.Serving.{HasDenied}
-use Rattle.sievedrun.proofs.DrainLemmas.{drained_turned, drained_denied}
-use Rattle.sievedrun.proofs.drain.drain_store.Goals as goal
+use Rattle.cli_run.specs.Draining.{HasRefused}
+use Rattle.cli_run.specs.Serving.{HasDenied}
+use Rattle.cli_run.proofs.DrainLemmas.{drained_turned, drained_denied}
+use Rattle.cli_run.proofs.drain.drain_store.Goals as goal
 
 pub returns-in_err-store-clause-moves : goal.returns-in_err-store-clause-moves
 returns-in_err-store-clause-moves g c tells =

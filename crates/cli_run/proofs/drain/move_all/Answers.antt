@@ -1,9 +1,9 @@
 -- Each turn moves one message more, or is the last.
 use Rattle.std.proofs.Common.{◌≡◌, true, false, is_ok, Ok, Err, arith, ◌∙◌, ap, subst, sym, rules}
 use Rattle.sqlite.specs.Held.{state}
-use Rattle.sievedrun.specs.Draining.{GrowsBy, AnyMoved, MovesMail}
-use Rattle.sievedrun.proofs.MoveLemmas.{none_moved, one_more, no_more, stops, most_moved}
-use Rattle.sievedrun.proofs.drain.move_all.Goals as goal
+use Rattle.cli_run.specs.Draining.{GrowsBy, AnyMoved, MovesMail}
+use Rattle.cli_run.proofs.MoveLemmas.{none_moved, one_more, no_more, stops, most_moved}
+use Rattle.cli_run.proofs.drain.move_all.Goals as goal
 
 pub loop-moved-init : goal.loop-moved-init
 loop-moved-init g c = record {

@@ -1,8 +1,8 @@
 -- As many messages moved as there were turns.
 use Rattle.std.proofs.Common.{ℕ, List, true}
 use Rattle.sqlite.specs.Held.{state}
-use Rattle.sievedrun.specs.Draining.{GrowsBy, Moved, MovesMail}
-use Rattle.sievedrun.proofs.drain.move_all.Given as goal
+use Rattle.cli_run.specs.Draining.{GrowsBy, Moved, MovesMail}
+use Rattle.cli_run.proofs.drain.move_all.Given as goal
 
 abbrev pub invariant-loop-moved : goal.invariant-loop-moved
 invariant-loop-moved g l =

@@ -1,14 +1,14 @@
 -- The message was read, kept and taken, as far as that went.
 use Rattle.std.proofs.Common.{[], ◌∷◌, ◌++◌, ◌∙◌, ap, subst}
-use Rattle.mailsinks.specs.Kept.{kept_mail, MayKeep}
+use Rattle.maildir_files.specs.Kept.{kept_mail, MayKeep}
 use Rattle.sqlite.specs.Held.{state}
-use Rattle.mailengine.proofs.MailTakingLemmas.{mail_written}
-use Rattle.sievedrun.specs.declared.fault.Fault.TheVariants.{Refused}
-use Rattle.sievedrun.specs.Draining.{HasRefused, IsUnkept}
-use Rattle.sievedrun.proofs.LeaveLemmas.{grown_none}
-use Rattle.sievedrun.proofs.MoveLemmas.{not_read, none_read, not_kept, moved_one, not_taken}
-use Rattle.sievedrun.proofs.WordLemmas.{failure_sudden, sudden_refusal, sudden_wider}
-use Rattle.sievedrun.proofs.drain.move_first.Goals as goal
+use Rattle.store_engine.proofs.MailTakingLemmas.{mail_written}
+use Rattle.cli_run.specs.declared.fault.RunFault.TheVariants.{Refused}
+use Rattle.cli_run.specs.Draining.{HasRefused, IsUnkept}
+use Rattle.cli_run.proofs.LeaveLemmas.{grown_none}
+use Rattle.cli_run.proofs.MoveLemmas.{not_read, none_read, not_kept, moved_one, not_taken}
+use Rattle.cli_run.proofs.WordLemmas.{failure_sudden, sudden_refusal, sudden_wider}
+use Rattle.cli_run.proofs.drain.move_first.Goals as goal
 
 pub returns-in-Err-clause-moves : goal.returns-in-Err-clause-moves
 returns-in-Err-clause-moves g c =

@@ -1,12 +1,12 @@
 -- The sink was opened, the store drained, and the line written, as far as that went.
 use Rattle.std.proofs.Common.{◌≡◌, option_copied, Err, refl, inl, subst, sym, rules}
-use Rattle.sievedrun.specs.Draining.{HasDrained, HasRefused, IsUnkept}
-use Rattle.sievedrun.specs.Faults.{sink_fault}
-use Rattle.sievedrun.specs.Serving.{HasDenied}
-use Rattle.sievedrun.specs.Values.{HasNoNumber}
-use Rattle.sievedrun.proofs.DrainLemmas.{word_refused, word_broke_off, word_printed, sunk_cause}
-use Rattle.sievedrun.proofs.WordLemmas.{wrong}
-use Rattle.sievedrun.proofs.drain.run_drain.Goals as goal
+use Rattle.cli_run.specs.Draining.{HasDrained, HasRefused, IsUnkept}
+use Rattle.cli_run.specs.Faults.{sink_fault}
+use Rattle.cli_run.specs.Serving.{HasDenied}
+use Rattle.cli_run.specs.Values.{HasNoNumber}
+use Rattle.cli_run.proofs.DrainLemmas.{word_refused, word_broke_off, word_printed, sunk_cause}
+use Rattle.cli_run.proofs.WordLemmas.{wrong}
+use Rattle.cli_run.proofs.drain.run_drain.Goals as goal
 
 pub returns-in_err-most-clause-drains : goal.returns-in_err-most-clause-drains
 returns-in_err-most-clause-drains g c tells =

@@ -1,12 +1,12 @@
 -- The account was listed, and its text put, as far as that went.
 use Rattle.std.proofs.Common.{◌≡◌, ◌++◌, ◌∙◌, List, ℕ, length, Ok, Err, OnOk, refl, subst, rules}
 use Rattle.std.specs.List.{flat_map}
-use Rattle.accountfiles.specs.Text.{body_of, head_text, part_line, sum_line}
-use Rattle.accountfiles.specs.Writing.{HasWritten}
+use Rattle.store_text.specs.Text.{account_body, head_text, part_line, sum_line}
+use Rattle.store_text.specs.Writing.{HasWritten}
 use Rattle.sqlite.specs.Held.{state}
-use Rattle.sievedrun.specs.Faults.{IsPrinted, IsPut}
-use Rattle.sievedrun.proofs.ExportLemmas.{text_printed, text_stopped, text_uncut, text_unended, text_unread}
-use Rattle.sievedrun.proofs.export.print_text.Goals as goal
+use Rattle.cli_run.specs.Faults.{IsPrinted, IsTextPut}
+use Rattle.cli_run.proofs.ExportLemmas.{text_printed, text_stopped, text_uncut, text_unended, text_unread}
+use Rattle.cli_run.proofs.export.print_text.Goals as goal
 
 pub returns-in_err-contents : goal.returns-in_err-contents
 returns-in_err-contents g c =
@@ -21,7 +21,7 @@ returns-in_err-put g c =
     let fault = c.in_err-put.field-0.0 in
     let text : c.as_slice.result.now ≡ c.in_ok-writer.head = search rules in
     text_uncut c.args.user.now (state g.S.Store c.args.store.now) (state g.S.Store c.list_contents.new.store) c.list_contents.result c.list_contents.ensures.reads c.in_ok-contents.contents c.in_ok-contents.was c.in_ok-contents.ensures.named
-    old new fault (subst (IsPut (Err fault) old new) (text ∙ c.in_ok-writer.ensures.0) c.in_err-put.ensures) c.from_residual-in_err-put.result (search rules)
+    old new fault (subst (IsTextPut (Err fault) old new) (text ∙ c.in_ok-writer.ensures.0) c.in_err-put.ensures) c.from_residual-in_err-put.result (search rules)
 
 pub returns-in_err-put_parts : goal.returns-in_err-put_parts
 returns-in_err-put_parts g c =
@@ -31,7 +31,7 @@ returns-in_err-put_parts g c =
     let text : c.as_slice.result.now ≡ c.in_ok-writer.head = search rules in
     text_stopped c.args.user.now (state g.S.Store c.args.store.now) (state g.S.Store c.list_contents.new.store) c.list_contents.result c.list_contents.ensures.reads contents c.in_ok-contents.was c.in_ok-contents.ensures.named
     (state g.S.Store c.put_parts.new.store) (length contents.places) c.in_ok-writer.writer c.put_parts.new.writer o0 o1 (g.W.Write.contents c.put_parts.new.output)
-    (subst (IsPut (Ok tt) o0 o1) (text ∙ c.in_ok-writer.ensures.0) c.in_ok-put.ensures) c.put_parts.result c.put_parts.ensures c.in_err-put_parts.field-0.0 c.in_err-put_parts.was c.from_residual-in_err-put_parts.result (search rules)
+    (subst (IsTextPut (Ok tt) o0 o1) (text ∙ c.in_ok-writer.ensures.0) c.in_ok-put.ensures) c.put_parts.result c.put_parts.ensures c.in_err-put_parts.field-0.0 c.in_err-put_parts.was c.from_residual-in_err-put_parts.result (search rules)
 
 pub returns-in_err-end : goal.returns-in_err-end
 returns-in_err-end g c =
@@ -41,7 +41,7 @@ returns-in_err-end g c =
     let text : c.as_slice.result.now ≡ c.in_ok-writer.head = search rules in
     text_unended c.args.user.now (state g.S.Store c.args.store.now) (state g.S.Store c.list_contents.new.store) c.list_contents.result c.list_contents.ensures.reads contents c.in_ok-contents.was c.in_ok-contents.ensures.named
     (state g.S.Store c.put_parts.new.store) (length contents.places) c.in_ok-writer.writer c.put_parts.new.writer o0 o1 (g.W.Write.contents c.put_parts.new.output)
-    (subst (IsPut (Ok tt) o0 o1) (text ∙ c.in_ok-writer.ensures.0) c.in_ok-put.ensures) c.put_parts.result c.put_parts.ensures c.in_ok-put_parts.was c.from_residual-in_err-end.result (search rules)
+    (subst (IsTextPut (Ok tt) o0 o1) (text ∙ c.in_ok-writer.ensures.0) c.in_ok-put.ensures) c.put_parts.result c.put_parts.ensures c.in_ok-put_parts.was c.from_residual-in_err-end.result (search rules)
 
 pub returns : goal.returns
 returns g c =
@@ -56,7 +56,7 @@ returns g c =
     let text : c.as_slice.result.now ≡ c.in_ok-writer.head = search rules in
     let last : c.as_slice-2.result.now ≡ c.in_ok-end.end = search rules in
     let hashed = subst (λ o. OnOk o ((front : List ℕ) → HasWritten w1 front → HasWritten w2 (front ++ flat_map part_line parts))) c.in_ok-put_parts.was c.put_parts.ensures.hashed in
-    let sum = c.in_ok-end.ensures (body_of contents.head parts) (hashed (head_text contents.head) (subst (HasWritten w1) c.in_ok-writer.ensures.0 c.in_ok-writer.ensures.1)) in
+    let sum = c.in_ok-end.ensures (account_body contents.head parts) (hashed (head_text contents.head) (subst (HasWritten w1) c.in_ok-writer.ensures.0 c.in_ok-writer.ensures.1)) in
     text_printed c.args.user.now (state g.S.Store c.args.store.now) (state g.S.Store c.list_contents.new.store) c.list_contents.result c.list_contents.ensures.reads contents c.in_ok-contents.was c.in_ok-contents.ensures.named
-    (state g.S.Store c.put_parts.new.store) (length contents.places) w1 w2 o0 o1 o2 (subst (IsPut (Ok tt) o0 o1) (text ∙ c.in_ok-writer.ensures.0) c.in_ok-put.ensures) c.put_parts.result c.put_parts.ensures c.in_ok-put_parts.was refl
+    (state g.S.Store c.put_parts.new.store) (length contents.places) w1 w2 o0 o1 o2 (subst (IsTextPut (Ok tt) o0 o1) (text ∙ c.in_ok-writer.ensures.0) c.in_ok-put.ensures) c.put_parts.result c.put_parts.ensures c.in_ok-put_parts.was refl
     o3 c.write_all.result (subst (IsPrinted c.write_all.result o2 o3) (last ∙ sum) c.write_all.ensures)

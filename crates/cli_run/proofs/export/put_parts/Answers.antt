@@ -1,9 +1,9 @@
 -- One part after another.
 use Rattle.std.proofs.Common.{◌≡◌, ◌+◌, length, Ok, Err, subst, arith, rules}
 use Rattle.sqlite.specs.Held.{state}
-use Rattle.sievedrun.specs.Exports.{PutsParts}
-use Rattle.sievedrun.proofs.PartLemmas.{no_parts, parts_stopped, parts_then}
-use Rattle.sievedrun.proofs.export.put_parts.Goals as goal
+use Rattle.cli_run.specs.Exports.{PutsParts}
+use Rattle.cli_run.proofs.PartLemmas.{no_parts, parts_stopped, parts_then}
+use Rattle.cli_run.proofs.export.put_parts.Goals as goal
 
 pub loop-at-init : goal.loop-at-init
 loop-at-init g c = no_parts c.args.contents.now c.args.writer.now (g.W.Write.contents c.args.output.now) (state g.S.Store c.args.store.now) c.requires.live

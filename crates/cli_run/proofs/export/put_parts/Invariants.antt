@@ -1,8 +1,8 @@
 -- The parts so far were read and put.
 use Rattle.std.proofs.Common.{Ok}
 use Rattle.sqlite.specs.Held.{state}
-use Rattle.sievedrun.specs.Exports.{PutsParts}
-use Rattle.sievedrun.proofs.export.put_parts.Given as goal
+use Rattle.cli_run.specs.Exports.{PutsParts}
+use Rattle.cli_run.proofs.export.put_parts.Given as goal
 
 abbrev pub invariant-loop-at : goal.invariant-loop-at
 invariant-loop-at g l =

@@ -1,11 +1,11 @@
 -- The store was taken, the text of the account printed, and the store handed back.
 use Rattle.std.proofs.Common.{◌≡◌, subst, rules}
 use Rattle.sqlite.specs.Held.{state}
-use Rattle.sievedrun.specs.Serving.{HasDenied}
-use Rattle.sievedrun.specs.Words.{Exports, TurnsStore}
-use Rattle.sievedrun.proofs.ExportLemmas.{export_denied, export_done}
-use Rattle.sievedrun.proofs.TakeLemmas.{store_turned}
-use Rattle.sievedrun.proofs.export.run_export.Goals as goal
+use Rattle.cli_run.specs.Serving.{HasDenied}
+use Rattle.cli_run.specs.Subcommands.{Exports, TurnsStore}
+use Rattle.cli_run.proofs.ExportLemmas.{export_denied, export_done}
+use Rattle.cli_run.proofs.TakeLemmas.{store_turned}
+use Rattle.cli_run.proofs.export.run_export.Goals as goal
 
 pub returns-in_err-store-clause-does : goal.returns-in_err-store-clause-does
 returns-in_err-store-clause-does g c tells =

@@ -1,10 +1,10 @@
 -- One line, or nothing.
 use Rattle.std.proofs.Common.{subst, sym, Some}
 use Rattle.std.specs.Option.{option_copied}
-use Rattle.sievedrun.specs.Faults.{cause_line}
-use Rattle.sievedrun.specs.Streams.{IsWritten}
-use Rattle.sievedrun.proofs.StreamLemmas.{written}
-use Rattle.sievedrun.proofs.trouble.tell_cause.Goals as goal
+use Rattle.cli_run.specs.Faults.{cause_line}
+use Rattle.cli_run.specs.Streams.{IsWritten}
+use Rattle.cli_run.proofs.StreamLemmas.{written}
+use Rattle.cli_run.proofs.fault_with_cause.tell_cause.Goals as goal
 
 pub returns-in-Some : goal.returns-in-Some
 returns-in-Some g c =

@@ -1,7 +1,7 @@
 use Rattle.std.proofs.Common.{length, arith, ap, sym, ◌∙◌, take, drop, length-append}
 use Rattle.std.proofs.Math.Seq.{take-append_seam, drop-append_seam}
-use Rattle.sievedrun.proofs.FramingLemmas.{counts_only}
-use Rattle.sievedrun.proofs.framing.split.Goals as goal
+use Rattle.cli_run.proofs.FramingLemmas.{counts_only}
+use Rattle.cli_run.proofs.framing.split.Goals as goal
 
 pub returns-in_err-count-clause-none : goal.returns-in_err-count-clause-none
 returns-in_err-count-clause-none c = rw c.from_residual.ensures (λ script message framed. c.in_err-count.ensures _ _ framed)

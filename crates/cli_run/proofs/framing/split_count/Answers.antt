@@ -2,8 +2,8 @@ use Rattle.std.proofs.Common.{◌≡◌, ◌∷◌, length, get_or, drop, ap, sy
 use Rattle.std.proofs.lemmas.List.Sums.{prefix_len-le-length}
 use Rattle.octets.specs.Ascii.{is_digit}
 use Rattle.octets.specs.Decimal.{Writes}
-use Rattle.sievedrun.proofs.FramingLemmas.{cut, counts_small}
-use Rattle.sievedrun.proofs.framing.split_count.Goals as goal
+use Rattle.cli_run.proofs.FramingLemmas.{cut, counts_small}
+use Rattle.cli_run.proofs.framing.split_count.Goals as goal
 
 pub returns-then-len-gt-MAX_DIGITS : goal.returns-then-len-gt-MAX_DIGITS
 returns-then-len-gt-MAX_DIGITS c number rest counts =

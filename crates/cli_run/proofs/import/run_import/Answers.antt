@@ -1,14 +1,14 @@
 -- The account was read, put to the machine, and the line is printed after that.
 use Rattle.std.proofs.Common.{◌≡◌, ◌++◌, Ok, Err, codes, ap, rules}
-use Rattle.mailengine.specs.declared.answer.Answer.TheVariants.{Imported}
-use Rattle.mailengine.specs.declared.event.Event.TheVariants.{Import}
-use Rattle.reportlines.specs.Reports.{with_end}
-use Rattle.sievedrun.specs.Serving.{HasDenied}
-use Rattle.sievedrun.specs.Streams.{InputFailed}
-use Rattle.sievedrun.specs.Words.{Brings, DeniedAtEnd}
-use Rattle.sievedrun.proofs.ImportLemmas.{import_as_event, import_unread}
-use Rattle.sievedrun.proofs.WordLemmas.{event_made, event_unmade, put_at_end}
-use Rattle.sievedrun.proofs.import.run_import.Goals as goal
+use Rattle.store_engine.specs.declared.answer.Answer.TheVariants.{Imported}
+use Rattle.store_engine.specs.declared.event.Event.TheVariants.{Import}
+use Rattle.cli_reports.specs.Reports.{ended_line}
+use Rattle.cli_run.specs.Serving.{HasDenied}
+use Rattle.cli_run.specs.Streams.{InputFailed}
+use Rattle.cli_run.specs.Subcommands.{IsImportEvent, DeniedAtEnd}
+use Rattle.cli_run.proofs.ImportLemmas.{import_as_event, import_unread}
+use Rattle.cli_run.proofs.WordLemmas.{event_made, event_unmade, put_at_end}
+use Rattle.cli_run.proofs.import.run_import.Goals as goal
 
 pub returns-in_err-file-clause-does : goal.returns-in_err-file-clause-does
 returns-in_err-file-clause-does g c tells =
@@ -27,7 +27,7 @@ returns-in_err-add_file-clause-does g c tells =
     let fault = c.in_err-add_file.field-0.0 in
     let event = Import c.in_ok-file.file in
     import_as_event (DeniedAtEnd Kept left) given out out held new c.from_residual-in_err-add_file.result
-    (event_unmade InputFailed ⊥ (DeniedAtEnd Kept left) (Brings given) {X = Unit {0}} event c.in_ok-file.ensures.read (λ done. Imported) held new out (λ no. no) fault c.from_residual-in_err-add_file.result (search rules)
+    (event_unmade InputFailed ⊥ (DeniedAtEnd Kept left) (IsImportEvent given) {X = Unit {0}} event c.in_ok-file.ensures.read (λ done. Imported) held new out (λ no. no) fault c.from_residual-in_err-add_file.result (search rules)
     (put_at_end {X = Unit {0}} Kept left c.in_ok-file.ensures.end event (λ done. Imported) (Err fault) held new (c.in_err-add_file.ensures.puts tells)))
 
 pub returns-clause-does : goal.returns-clause-does
@@ -42,6 +42,6 @@ returns-clause-does g c tells =
     let file = c.in_ok-file.file in
     let told : c.as_slice.result.now ≡ file.head.owner.name = search rules in
     import_as_event (DeniedAtEnd Kept left) given old out held new c.write_line.result
-    (event_made InputFailed ⊥ (DeniedAtEnd Kept left) (Brings given) {X = Unit {0}} (Import file) c.in_ok-file.ensures.read (λ done. Imported) held new tt (with_end (codes "imported " ++ c.as_slice.result.now))
-    (ap (λ n. with_end (codes "imported " ++ n)) told)
+    (event_made InputFailed ⊥ (DeniedAtEnd Kept left) (IsImportEvent given) {X = Unit {0}} (Import file) c.in_ok-file.ensures.read (λ done. Imported) held new tt (ended_line (codes "imported " ++ c.as_slice.result.now))
+    (ap (λ n. ended_line (codes "imported " ++ n)) told)
     (put_at_end {X = Unit {0}} Kept left c.in_ok-file.ensures.end (Import file) (λ done. Imported) (Ok tt) held new (c.in_ok-add_file.ensures.puts tells)) old out c.write_line.result c.write_line.ensures)

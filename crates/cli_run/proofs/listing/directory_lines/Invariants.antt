@@ -1,8 +1,8 @@
 -- The text so far and the lines that are left are all the lines.
 use Rattle.std.proofs.Common.{◌≡◌, ◌++◌, drop, map}
-use Rattle.mailstore.specs.Tally.{count_of}
-use Rattle.sievedrun.specs.Words.{directory_line, folder_listing}
-use Rattle.sievedrun.proofs.listing.directory_lines.Given as goal
+use Rattle.store_accounts.specs.Tally.{folder_count}
+use Rattle.cli_run.specs.Subcommands.{directory_line, folder_listing}
+use Rattle.cli_run.proofs.listing.directory_lines.Given as goal
 
 abbrev pub invariant-loop-folder : goal.invariant-loop-folder
-invariant-loop-folder l = l.text ++ folder_listing (directory_line l.separator) (map count_of (drop l.folder-index l.folders)) ≡ folder_listing (directory_line l.separator) (map count_of l.folders)
+invariant-loop-folder l = l.text ++ folder_listing (directory_line l.separator) (map folder_count (drop l.folder-index l.folders)) ≡ folder_listing (directory_line l.separator) (map folder_count l.folders)

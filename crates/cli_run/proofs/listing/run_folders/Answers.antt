@@ -1,11 +1,11 @@
 -- What separates the levels is read before anything else; what is listed is what was asked for.
 use Rattle.std.proofs.Common.{false, subst, sym, rules}
 use Rattle.std.specs.Option.{option_copied}
-use Rattle.sievedrun.specs.Serving.{HasDenied}
-use Rattle.sievedrun.specs.Values.{HasNoSeparator}
-use Rattle.sievedrun.specs.Words.{DoesFolders, ListsFolders, ListsDirectories, LacksNothing, directory_line}
-use Rattle.sievedrun.proofs.WordLemmas.{read_hindered, read_told, wrong}
-use Rattle.sievedrun.proofs.listing.run_folders.Goals as goal
+use Rattle.cli_run.specs.Serving.{HasDenied}
+use Rattle.cli_run.specs.Values.{HasNoSeparator}
+use Rattle.cli_run.specs.Subcommands.{DoesFolders, ListsFolders, ListsDirectories, LacksNothing, directory_line}
+use Rattle.cli_run.proofs.WordLemmas.{read_hindered, read_told, wrong}
+use Rattle.cli_run.proofs.listing.run_folders.Goals as goal
 
 pub returns-in_err-separator-clause-does : goal.returns-in_err-separator-clause-does
 returns-in_err-separator-clause-does g c tells =

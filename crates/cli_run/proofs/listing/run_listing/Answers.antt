@@ -1,10 +1,10 @@
 -- What is listed was read in a store that was taken and handed back, and then printed.
 use Rattle.std.proofs.Common.{◌≡◌, sym, subst, rules}
-use Rattle.sievedrun.specs.Faults.{memory}
-use Rattle.sievedrun.specs.Serving.{HasDenied}
-use Rattle.sievedrun.specs.Words.{LacksNothing}
-use Rattle.sievedrun.proofs.WordLemmas.{read_refused, read_failed, read_shown, no_memory}
-use Rattle.sievedrun.proofs.listing.run_listing.Goals as goal
+use Rattle.cli_run.specs.Faults.{memory}
+use Rattle.cli_run.specs.Serving.{HasDenied}
+use Rattle.cli_run.specs.Subcommands.{LacksNothing}
+use Rattle.cli_run.proofs.WordLemmas.{read_refused, read_failed, read_shown, no_memory}
+use Rattle.cli_run.proofs.listing.run_listing.Goals as goal
 
 pub returns-in_err-found-clause-does : goal.returns-in_err-found-clause-does
 returns-in_err-found-clause-does g c tells =

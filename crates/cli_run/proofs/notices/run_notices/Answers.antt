@@ -1,9 +1,9 @@
 -- All are listed where no moment is given.
 use Rattle.std.proofs.Common.{subst, sym}
 use Rattle.std.specs.Option.{option_copied}
-use Rattle.sievedrun.specs.Serving.{HasDenied}
-use Rattle.sievedrun.specs.Words.{DoesNotices}
-use Rattle.sievedrun.proofs.notices.run_notices.Goals as goal
+use Rattle.cli_run.specs.Serving.{HasDenied}
+use Rattle.cli_run.specs.Subcommands.{DoesNotices}
+use Rattle.cli_run.proofs.notices.run_notices.Goals as goal
 
 pub returns-in-None-clause-does : goal.returns-in-None-clause-does
 returns-in-None-clause-does g c tells =

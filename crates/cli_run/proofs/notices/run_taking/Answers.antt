@@ -1,12 +1,12 @@
 -- The store was taken, its notices printed and taken, and the store was handed back.
 use Rattle.std.proofs.Common.{◌≡◌, subst, refl, rules}
 use Rattle.sqlite.specs.Held.{state}
-use Rattle.sievedrun.specs.Serving.{HasDenied}
-use Rattle.sievedrun.specs.Values.{IsNoUntil}
-use Rattle.sievedrun.specs.Words.{TakesListed, TurnsStore}
-use Rattle.sievedrun.proofs.TakeLemmas.{store_turned, taking_done, taking_hindered}
-use Rattle.sievedrun.proofs.WordLemmas.{denied, wrong}
-use Rattle.sievedrun.proofs.notices.run_taking.Goals as goal
+use Rattle.cli_run.specs.Serving.{HasDenied}
+use Rattle.cli_run.specs.Values.{IsNoUntil}
+use Rattle.cli_run.specs.Subcommands.{TakesListed, TurnsStore}
+use Rattle.cli_run.proofs.TakeLemmas.{store_turned, taking_done, taking_hindered}
+use Rattle.cli_run.proofs.WordLemmas.{denied, wrong}
+use Rattle.cli_run.proofs.notices.run_taking.Goals as goal
 
 pub returns-in_err-until-clause-does : goal.returns-in_err-until-clause-does
 returns-in_err-until-clause-does g c tells =

@@ -1,14 +1,14 @@
 -- The store was taken, the event was put to the machine, and the store was handed back.
 use Rattle.std.proofs.Common.{◌≡◌, Err, subst, sym, rules}
 use Rattle.sqlite.specs.Held.{state}
-use Rattle.mailengine.specs.declared.answer.Answer.TheVariants.{Taken}
-use Rattle.mailengine.specs.declared.event.Event.TheVariants.{TakeOut}
-use Rattle.sievedrun.specs.Draining.{TurnsTables}
-use Rattle.sievedrun.specs.Serving.{HasDenied}
-use Rattle.sievedrun.specs.Words.{Puts}
-use Rattle.sievedrun.specs.declared.fault.Fault.TheVariants.{Refused}
-use Rattle.sievedrun.proofs.WordLemmas.{carried_turned, put_denied, taking_made, taking_refused}
-use Rattle.sievedrun.proofs.queue.dequeue.Goals as goal
+use Rattle.store_engine.specs.declared.answer.Answer.TheVariants.{Taken}
+use Rattle.store_engine.specs.declared.event.Event.TheVariants.{TakeOut}
+use Rattle.cli_run.specs.Draining.{TurnsTables}
+use Rattle.cli_run.specs.Serving.{HasDenied}
+use Rattle.cli_run.specs.Subcommands.{Puts}
+use Rattle.cli_run.specs.declared.fault.RunFault.TheVariants.{Refused}
+use Rattle.cli_run.proofs.WordLemmas.{carried_turned, put_denied, taking_made, taking_refused}
+use Rattle.cli_run.proofs.queue.dequeue.Goals as goal
 
 pub returns-in_err-store-clause-puts : goal.returns-in_err-store-clause-puts
 returns-in_err-store-clause-puts g c tells =

@@ -1,9 +1,9 @@
 -- All are listed where no number is given.
 use Rattle.std.proofs.Common.{subst, sym}
 use Rattle.std.specs.Option.{option_copied}
-use Rattle.sievedrun.specs.Serving.{HasDenied}
-use Rattle.sievedrun.specs.Words.{DoesQueue}
-use Rattle.sievedrun.proofs.queue.run_queue.Goals as goal
+use Rattle.cli_run.specs.Serving.{HasDenied}
+use Rattle.cli_run.specs.Subcommands.{DoesQueue}
+use Rattle.cli_run.proofs.queue.run_queue.Goals as goal
 
 pub returns-in-None-clause-does : goal.returns-in-None-clause-does
 returns-in-None-clause-does g c tells =

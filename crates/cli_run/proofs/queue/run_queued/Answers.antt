@@ -1,16 +1,16 @@
 -- The message was read in a store that was taken and handed back, and then printed.
 use Rattle.std.proofs.Common.{◌≡◌, Option, None, Some, Result, Ok, refl, sym, subst, rules}
-use Rattle.mailstore.specs.Account.{row_with}
-use Rattle.mailstore.specs.declared.refusal.Refusal.TheVariants.{NoRow}
-use Rattle.sievedrun.specs.Serving.{HasDenied}
-use Rattle.sievedrun.specs.Values.{IsNoNumber}
-use Rattle.sievedrun.specs.Draining.{TurnsTables}
-use Rattle.sievedrun.specs.Words.{FindsIn, ShowsOutgoing, LacksOutgoing}
-use Rattle.mailstore.specs.declared.queue.Outgoing.{Outgoing}
-use Rattle.sievedrun.specs.declared.fault.Fault.{Fault}
-use Rattle.sievedrun.specs.declared.fault.Fault.TheVariants.{Refused}
-use Rattle.sievedrun.proofs.WordLemmas.{read_hindered, read_refused, read_lacks, read_shown, wrong}
-use Rattle.sievedrun.proofs.queue.run_queued.Goals as goal
+use Rattle.store_accounts.specs.Account.{row_with}
+use Rattle.store_accounts.specs.declared.refusal.Refusal.TheVariants.{NoRow}
+use Rattle.cli_run.specs.Serving.{HasDenied}
+use Rattle.cli_run.specs.Values.{IsNoNumber}
+use Rattle.cli_run.specs.Draining.{TurnsTables}
+use Rattle.cli_run.specs.Subcommands.{FindsIn, ShowsOutgoing, LacksOutgoing}
+use Rattle.store_accounts.specs.declared.queue.QueuedMessage.{QueuedMessage}
+use Rattle.cli_run.specs.declared.fault.RunFault.{RunFault}
+use Rattle.cli_run.specs.declared.fault.RunFault.TheVariants.{Refused}
+use Rattle.cli_run.proofs.WordLemmas.{read_hindered, read_refused, read_lacks, read_shown, wrong}
+use Rattle.cli_run.proofs.queue.run_queued.Goals as goal
 
 pub returns-in_err-id-clause-does : goal.returns-in_err-id-clause-does
 returns-in_err-id-clause-does g c tells =
@@ -29,7 +29,7 @@ pub returns-in_default-clause-does : goal.returns-in_default-clause-does
 returns-in_default-clause-does g c tells =
     let digits = c.args.id.now in
     let id = c.in_ok-id.id in
-    let Found = λ (r : Result (Option Outgoing) Fault). TurnsTables (λ accounts later. (later ≡ accounts) × FindsIn (HasDenied g.K.Keeper.refuses g.K.Keeper.will_wait c.args.location) c.args.user.now (λ row a. row ≡ row_with id a.queue) r accounts)
+    let Found = λ (r : Result (Option QueuedMessage) RunFault). TurnsTables (λ accounts later. (later ≡ accounts) × FindsIn (HasDenied g.K.Keeper.refuses g.K.Keeper.will_wait c.args.location) c.args.user.now (λ row a. row ≡ row_with id a.queue) r accounts)
     (g.K.Keeper.holds c.args.keeper.now) (g.K.Keeper.holds c.read_once.new.keeper) in
     let found = subst (λ o. Found (Ok o)) c.in_default.is (c.in_ok-row.ensures.found tells) in
     read_lacks (IsNoNumber digits) (HasDenied g.K.Keeper.refuses g.K.Keeper.will_wait c.args.location) c.args.user.now (ShowsOutgoing digits) (LacksOutgoing digits)
@@ -42,7 +42,7 @@ returns-clause-does g c tells =
     let id = c.in_ok-id.id in
     let row = c.in-Some.row in
     let text : c.as_slice.result.now ≡ row.message = search rules in
-    let Found = λ (r : Result (Option Outgoing) Fault). TurnsTables (λ accounts later. (later ≡ accounts) × FindsIn (HasDenied g.K.Keeper.refuses g.K.Keeper.will_wait c.args.location) c.args.user.now (λ row a. row ≡ row_with id a.queue) r accounts)
+    let Found = λ (r : Result (Option QueuedMessage) RunFault). TurnsTables (λ accounts later. (later ≡ accounts) × FindsIn (HasDenied g.K.Keeper.refuses g.K.Keeper.will_wait c.args.location) c.args.user.now (λ row a. row ≡ row_with id a.queue) r accounts)
     (g.K.Keeper.holds c.args.keeper.now) (g.K.Keeper.holds c.read_once.new.keeper) in
     let found = subst (λ o. Found (Ok o)) c.in-Some.is (c.in_ok-row.ensures.found tells) in
     read_shown (IsNoNumber digits) (HasDenied g.K.Keeper.refuses g.K.Keeper.will_wait c.args.location) c.args.user.now (ShowsOutgoing digits) (LacksOutgoing digits)

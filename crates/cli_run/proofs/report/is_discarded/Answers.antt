@@ -1,7 +1,7 @@
 -- A folder or an address is a line.
 use Rattle.std.proofs.Common.{◌≡◌, false, rules}
-use Rattle.sievedrun.proofs.ReportLemmas.{none_filed, none_sent}
-use Rattle.sievedrun.proofs.report.is_discarded.Goals as goal
+use Rattle.cli_run.proofs.ReportLemmas.{none_filed, none_sent}
+use Rattle.cli_run.proofs.report.is_discarded.Goals as goal
 
 pub returns-then-not-is_empty-clause-no : goal.returns-then-not-is_empty-clause-no
 returns-then-not-is_empty-clause-no c is none =

@@ -1,9 +1,9 @@
 -- The lines were written and flushed.
 use Rattle.std.proofs.Common.{subst, sym, rules}
-use Rattle.sievedrun.specs.Faults.{IsPrinted}
-use Rattle.sievedrun.proofs.ReportLemmas.{told_lines, told_none}
-use Rattle.sievedrun.proofs.StreamLemmas.{flushed_then, printed_cut_whole}
-use Rattle.sievedrun.proofs.report.print_report.Goals as goal
+use Rattle.cli_run.specs.Faults.{IsPrinted}
+use Rattle.cli_run.proofs.ReportLemmas.{told_lines, told_none}
+use Rattle.cli_run.proofs.StreamLemmas.{flushed_then, printed_cut_whole}
+use Rattle.cli_run.proofs.report.print_report.Goals as goal
 
 pub returns-then-is_discarded : goal.returns-then-is_discarded
 returns-then-is_discarded g c =

@@ -1,192 +1,192 @@
 -- Each word does its own work.
 use Rattle.std.proofs.Common.{Result, Ok, Err, OnOk, refl, subst, sym}
-use Rattle.sievedrun.specs.declared.fault.Fault.{Fault}
-use Rattle.sievedrun.specs.Draining.{HasRefused}
-use Rattle.sievedrun.specs.Serving.{HasDenied, HasGiven}
-use Rattle.sievedrun.specs.Words.{Does, Reaches}
-use Rattle.mailstore.specs.Cells.{contents}
-use Rattle.sievedrun.proofs.drive.act.Goals as goal
+use Rattle.cli_run.specs.declared.fault.RunFault.{RunFault}
+use Rattle.cli_run.specs.Draining.{HasRefused}
+use Rattle.cli_run.specs.Serving.{HasDenied, HasGiven}
+use Rattle.cli_run.specs.Subcommands.{DoesSubcommand, ReachesStore}
+use Rattle.store_accounts.specs.Cells.{borrowed_octets}
+use Rattle.cli_run.proofs.run.act.Goals as goal
 
-both : (P Q : Type 0) (r : Result (Unit {0}) Fault) → OnOk r P → OnOk r Q → OnOk r (P × Q)
+both : (P Q : Type 0) (r : Result (Unit {0}) RunFault) → OnOk r P → OnOk r Q → OnOk r (P × Q)
 both P Q (Ok done) p q = (p, q)
 both P Q (Err fault) p q = tt
 
 pub returns-in-Init-clause-does : goal.returns-in-Init-clause-does
 returns-in-Init-clause-does g c tells =
     let kept = g.T.MailSink.kept c.args.sink.now in
-    subst (λ asked. Does (HasDenied g.K.Keeper.refuses g.K.Keeper.will_wait) (HasRefused g.T.MailSink.refuses) c.args.clock c.args.random (contents c.args.default) (g.R.Read.remaining c.args.input.now) (g.R.Read.remaining c.args.input.now) g.T.MailSink.tells kept kept (g.W.Write.contents c.args.output.now) (g.W.Write.contents c.run_init.new.output) asked c.run_init.result
+    subst (λ asked. DoesSubcommand (HasDenied g.K.Keeper.refuses g.K.Keeper.will_wait) (HasRefused g.T.MailSink.refuses) c.args.clock c.args.random (borrowed_octets c.args.default) (g.R.Read.remaining c.args.input.now) (g.R.Read.remaining c.args.input.now) g.T.MailSink.tells kept kept (g.W.Write.contents c.args.output.now) (g.W.Write.contents c.run_init.new.output) asked c.run_init.result
     (g.K.Keeper.holds c.args.keeper.now) (g.K.Keeper.holds c.run_init.new.keeper)) (sym c.in-Init.is) (((λ told. refl), refl), c.run_init.ensures.does tells)
 
 pub returns-in-Init-clause-reaches : goal.returns-in-Init-clause-reaches
 returns-in-Init-clause-reaches g c =
-    subst (λ asked. OnOk c.run_init.result (Reaches (HasGiven g.K.Keeper.gives g.K.Keeper.will_wait) (g.T.MailSink.is_at c.args.sink.now) asked)) (sym c.in-Init.is) (c.run_init.ensures.given)
+    subst (λ asked. OnOk c.run_init.result (ReachesStore (HasGiven g.K.Keeper.gives g.K.Keeper.will_wait) (g.T.MailSink.is_at c.args.sink.now) asked)) (sym c.in-Init.is) (c.run_init.ensures.given)
 
 pub returns-in-AddUser-clause-does : goal.returns-in-AddUser-clause-does
 returns-in-AddUser-clause-does g c tells =
     let kept = g.T.MailSink.kept c.args.sink.now in
-    subst (λ asked. Does (HasDenied g.K.Keeper.refuses g.K.Keeper.will_wait) (HasRefused g.T.MailSink.refuses) c.args.clock c.args.random (contents c.args.default) (g.R.Read.remaining c.args.input.now) (g.R.Read.remaining c.run_adduser.new.input) g.T.MailSink.tells kept kept (g.W.Write.contents c.args.output.now) (g.W.Write.contents c.run_adduser.new.output) asked c.run_adduser.result
+    subst (λ asked. DoesSubcommand (HasDenied g.K.Keeper.refuses g.K.Keeper.will_wait) (HasRefused g.T.MailSink.refuses) c.args.clock c.args.random (borrowed_octets c.args.default) (g.R.Read.remaining c.args.input.now) (g.R.Read.remaining c.run_adduser.new.input) g.T.MailSink.tells kept kept (g.W.Write.contents c.args.output.now) (g.W.Write.contents c.run_adduser.new.output) asked c.run_adduser.result
     (g.K.Keeper.holds c.args.keeper.now) (g.K.Keeper.holds c.run_adduser.new.keeper)) (sym c.in-AddUser.is) ((λ told. refl), c.run_adduser.ensures.does tells)
 
 pub returns-in-AddUser-clause-reaches : goal.returns-in-AddUser-clause-reaches
 returns-in-AddUser-clause-reaches g c =
-    subst (λ asked. OnOk c.run_adduser.result (Reaches (HasGiven g.K.Keeper.gives g.K.Keeper.will_wait) (g.T.MailSink.is_at c.args.sink.now) asked)) (sym c.in-AddUser.is) (c.run_adduser.ensures.given)
+    subst (λ asked. OnOk c.run_adduser.result (ReachesStore (HasGiven g.K.Keeper.gives g.K.Keeper.will_wait) (g.T.MailSink.is_at c.args.sink.now) asked)) (sym c.in-AddUser.is) (c.run_adduser.ensures.given)
 
 pub returns-in-Users-clause-does : goal.returns-in-Users-clause-does
 returns-in-Users-clause-does g c tells =
     let kept = g.T.MailSink.kept c.args.sink.now in
-    subst (λ asked. Does (HasDenied g.K.Keeper.refuses g.K.Keeper.will_wait) (HasRefused g.T.MailSink.refuses) c.args.clock c.args.random (contents c.args.default) (g.R.Read.remaining c.args.input.now) (g.R.Read.remaining c.args.input.now) g.T.MailSink.tells kept kept (g.W.Write.contents c.args.output.now) (g.W.Write.contents c.run_users.new.output) asked c.run_users.result
+    subst (λ asked. DoesSubcommand (HasDenied g.K.Keeper.refuses g.K.Keeper.will_wait) (HasRefused g.T.MailSink.refuses) c.args.clock c.args.random (borrowed_octets c.args.default) (g.R.Read.remaining c.args.input.now) (g.R.Read.remaining c.args.input.now) g.T.MailSink.tells kept kept (g.W.Write.contents c.args.output.now) (g.W.Write.contents c.run_users.new.output) asked c.run_users.result
     (g.K.Keeper.holds c.args.keeper.now) (g.K.Keeper.holds c.run_users.new.keeper)) (sym c.in-Users.is) (((λ told. refl), refl), c.run_users.ensures.does tells)
 
 pub returns-in-Users-clause-reaches : goal.returns-in-Users-clause-reaches
 returns-in-Users-clause-reaches g c =
-    subst (λ asked. OnOk c.run_users.result (Reaches (HasGiven g.K.Keeper.gives g.K.Keeper.will_wait) (g.T.MailSink.is_at c.args.sink.now) asked)) (sym c.in-Users.is) (c.run_users.ensures.given)
+    subst (λ asked. OnOk c.run_users.result (ReachesStore (HasGiven g.K.Keeper.gives g.K.Keeper.will_wait) (g.T.MailSink.is_at c.args.sink.now) asked)) (sym c.in-Users.is) (c.run_users.ensures.given)
 
 pub returns-in-Passwd-clause-does : goal.returns-in-Passwd-clause-does
 returns-in-Passwd-clause-does g c tells =
     let kept = g.T.MailSink.kept c.args.sink.now in
-    subst (λ asked. Does (HasDenied g.K.Keeper.refuses g.K.Keeper.will_wait) (HasRefused g.T.MailSink.refuses) c.args.clock c.args.random (contents c.args.default) (g.R.Read.remaining c.args.input.now) (g.R.Read.remaining c.run_passwd.new.input) g.T.MailSink.tells kept kept (g.W.Write.contents c.args.output.now) (g.W.Write.contents c.run_passwd.new.output) asked c.run_passwd.result
+    subst (λ asked. DoesSubcommand (HasDenied g.K.Keeper.refuses g.K.Keeper.will_wait) (HasRefused g.T.MailSink.refuses) c.args.clock c.args.random (borrowed_octets c.args.default) (g.R.Read.remaining c.args.input.now) (g.R.Read.remaining c.run_passwd.new.input) g.T.MailSink.tells kept kept (g.W.Write.contents c.args.output.now) (g.W.Write.contents c.run_passwd.new.output) asked c.run_passwd.result
     (g.K.Keeper.holds c.args.keeper.now) (g.K.Keeper.holds c.run_passwd.new.keeper)) (sym c.in-Passwd.is) ((λ told. refl), c.run_passwd.ensures.does tells)
 
 pub returns-in-Passwd-clause-reaches : goal.returns-in-Passwd-clause-reaches
 returns-in-Passwd-clause-reaches g c =
-    subst (λ asked. OnOk c.run_passwd.result (Reaches (HasGiven g.K.Keeper.gives g.K.Keeper.will_wait) (g.T.MailSink.is_at c.args.sink.now) asked)) (sym c.in-Passwd.is) (c.run_passwd.ensures.given)
+    subst (λ asked. OnOk c.run_passwd.result (ReachesStore (HasGiven g.K.Keeper.gives g.K.Keeper.will_wait) (g.T.MailSink.is_at c.args.sink.now) asked)) (sym c.in-Passwd.is) (c.run_passwd.ensures.given)
 
 pub returns-in-Address-clause-does : goal.returns-in-Address-clause-does
 returns-in-Address-clause-does g c tells =
     let kept = g.T.MailSink.kept c.args.sink.now in
-    subst (λ asked. Does (HasDenied g.K.Keeper.refuses g.K.Keeper.will_wait) (HasRefused g.T.MailSink.refuses) c.args.clock c.args.random (contents c.args.default) (g.R.Read.remaining c.args.input.now) (g.R.Read.remaining c.args.input.now) g.T.MailSink.tells kept kept (g.W.Write.contents c.args.output.now) (g.W.Write.contents c.run_address.new.output) asked c.run_address.result
+    subst (λ asked. DoesSubcommand (HasDenied g.K.Keeper.refuses g.K.Keeper.will_wait) (HasRefused g.T.MailSink.refuses) c.args.clock c.args.random (borrowed_octets c.args.default) (g.R.Read.remaining c.args.input.now) (g.R.Read.remaining c.args.input.now) g.T.MailSink.tells kept kept (g.W.Write.contents c.args.output.now) (g.W.Write.contents c.run_address.new.output) asked c.run_address.result
     (g.K.Keeper.holds c.args.keeper.now) (g.K.Keeper.holds c.run_address.new.keeper)) (sym c.in-Address.is) (((λ told. refl), refl), c.run_address.ensures.does tells)
 
 pub returns-in-Address-clause-reaches : goal.returns-in-Address-clause-reaches
 returns-in-Address-clause-reaches g c =
-    subst (λ asked. OnOk c.run_address.result (Reaches (HasGiven g.K.Keeper.gives g.K.Keeper.will_wait) (g.T.MailSink.is_at c.args.sink.now) asked)) (sym c.in-Address.is) (c.run_address.ensures.given)
+    subst (λ asked. OnOk c.run_address.result (ReachesStore (HasGiven g.K.Keeper.gives g.K.Keeper.will_wait) (g.T.MailSink.is_at c.args.sink.now) asked)) (sym c.in-Address.is) (c.run_address.ensures.given)
 
 pub returns-in-Scripts-clause-does : goal.returns-in-Scripts-clause-does
 returns-in-Scripts-clause-does g c tells =
     let kept = g.T.MailSink.kept c.args.sink.now in
-    subst (λ asked. Does (HasDenied g.K.Keeper.refuses g.K.Keeper.will_wait) (HasRefused g.T.MailSink.refuses) c.args.clock c.args.random (contents c.args.default) (g.R.Read.remaining c.args.input.now) (g.R.Read.remaining c.args.input.now) g.T.MailSink.tells kept kept (g.W.Write.contents c.args.output.now) (g.W.Write.contents c.run_scripts.new.output) asked c.run_scripts.result
+    subst (λ asked. DoesSubcommand (HasDenied g.K.Keeper.refuses g.K.Keeper.will_wait) (HasRefused g.T.MailSink.refuses) c.args.clock c.args.random (borrowed_octets c.args.default) (g.R.Read.remaining c.args.input.now) (g.R.Read.remaining c.args.input.now) g.T.MailSink.tells kept kept (g.W.Write.contents c.args.output.now) (g.W.Write.contents c.run_scripts.new.output) asked c.run_scripts.result
     (g.K.Keeper.holds c.args.keeper.now) (g.K.Keeper.holds c.run_scripts.new.keeper)) (sym c.in-Scripts.is) (((λ told. refl), refl), c.run_scripts.ensures.does tells)
 
 pub returns-in-Scripts-clause-reaches : goal.returns-in-Scripts-clause-reaches
 returns-in-Scripts-clause-reaches g c =
-    subst (λ asked. OnOk c.run_scripts.result (Reaches (HasGiven g.K.Keeper.gives g.K.Keeper.will_wait) (g.T.MailSink.is_at c.args.sink.now) asked)) (sym c.in-Scripts.is) (c.run_scripts.ensures.given)
+    subst (λ asked. OnOk c.run_scripts.result (ReachesStore (HasGiven g.K.Keeper.gives g.K.Keeper.will_wait) (g.T.MailSink.is_at c.args.sink.now) asked)) (sym c.in-Scripts.is) (c.run_scripts.ensures.given)
 
 pub returns-in-Put-clause-does : goal.returns-in-Put-clause-does
 returns-in-Put-clause-does g c tells =
     let kept = g.T.MailSink.kept c.args.sink.now in
-    subst (λ asked. Does (HasDenied g.K.Keeper.refuses g.K.Keeper.will_wait) (HasRefused g.T.MailSink.refuses) c.args.clock c.args.random (contents c.args.default) (g.R.Read.remaining c.args.input.now) (g.R.Read.remaining c.run_put.new.input) g.T.MailSink.tells kept kept (g.W.Write.contents c.args.output.now) (g.W.Write.contents c.run_put.new.output) asked c.run_put.result
+    subst (λ asked. DoesSubcommand (HasDenied g.K.Keeper.refuses g.K.Keeper.will_wait) (HasRefused g.T.MailSink.refuses) c.args.clock c.args.random (borrowed_octets c.args.default) (g.R.Read.remaining c.args.input.now) (g.R.Read.remaining c.run_put.new.input) g.T.MailSink.tells kept kept (g.W.Write.contents c.args.output.now) (g.W.Write.contents c.run_put.new.output) asked c.run_put.result
     (g.K.Keeper.holds c.args.keeper.now) (g.K.Keeper.holds c.run_put.new.keeper)) (sym c.in-Put.is) ((λ told. refl), c.run_put.ensures.does tells)
 
 pub returns-in-Put-clause-reaches : goal.returns-in-Put-clause-reaches
 returns-in-Put-clause-reaches g c =
-    subst (λ asked. OnOk c.run_put.result (Reaches (HasGiven g.K.Keeper.gives g.K.Keeper.will_wait) (g.T.MailSink.is_at c.args.sink.now) asked)) (sym c.in-Put.is) (c.run_put.ensures.given)
+    subst (λ asked. OnOk c.run_put.result (ReachesStore (HasGiven g.K.Keeper.gives g.K.Keeper.will_wait) (g.T.MailSink.is_at c.args.sink.now) asked)) (sym c.in-Put.is) (c.run_put.ensures.given)
 
 pub returns-in-Open-clause-does : goal.returns-in-Open-clause-does
 returns-in-Open-clause-does g c tells =
     let kept = g.T.MailSink.kept c.args.sink.now in
-    subst (λ asked. Does (HasDenied g.K.Keeper.refuses g.K.Keeper.will_wait) (HasRefused g.T.MailSink.refuses) c.args.clock c.args.random (contents c.args.default) (g.R.Read.remaining c.args.input.now) (g.R.Read.remaining c.args.input.now) g.T.MailSink.tells kept kept (g.W.Write.contents c.args.output.now) (g.W.Write.contents c.run_open.new.output) asked c.run_open.result
+    subst (λ asked. DoesSubcommand (HasDenied g.K.Keeper.refuses g.K.Keeper.will_wait) (HasRefused g.T.MailSink.refuses) c.args.clock c.args.random (borrowed_octets c.args.default) (g.R.Read.remaining c.args.input.now) (g.R.Read.remaining c.args.input.now) g.T.MailSink.tells kept kept (g.W.Write.contents c.args.output.now) (g.W.Write.contents c.run_open.new.output) asked c.run_open.result
     (g.K.Keeper.holds c.args.keeper.now) (g.K.Keeper.holds c.run_open.new.keeper)) (sym c.in-Open.is) (((λ told. refl), refl), c.run_open.ensures.does tells)
 
 pub returns-in-Open-clause-reaches : goal.returns-in-Open-clause-reaches
 returns-in-Open-clause-reaches g c =
-    subst (λ asked. OnOk c.run_open.result (Reaches (HasGiven g.K.Keeper.gives g.K.Keeper.will_wait) (g.T.MailSink.is_at c.args.sink.now) asked)) (sym c.in-Open.is) (c.run_open.ensures.given)
+    subst (λ asked. OnOk c.run_open.result (ReachesStore (HasGiven g.K.Keeper.gives g.K.Keeper.will_wait) (g.T.MailSink.is_at c.args.sink.now) asked)) (sym c.in-Open.is) (c.run_open.ensures.given)
 
 pub returns-in-Remove-clause-does : goal.returns-in-Remove-clause-does
 returns-in-Remove-clause-does g c tells =
     let kept = g.T.MailSink.kept c.args.sink.now in
-    subst (λ asked. Does (HasDenied g.K.Keeper.refuses g.K.Keeper.will_wait) (HasRefused g.T.MailSink.refuses) c.args.clock c.args.random (contents c.args.default) (g.R.Read.remaining c.args.input.now) (g.R.Read.remaining c.args.input.now) g.T.MailSink.tells kept kept (g.W.Write.contents c.args.output.now) (g.W.Write.contents c.run_remove.new.output) asked c.run_remove.result
+    subst (λ asked. DoesSubcommand (HasDenied g.K.Keeper.refuses g.K.Keeper.will_wait) (HasRefused g.T.MailSink.refuses) c.args.clock c.args.random (borrowed_octets c.args.default) (g.R.Read.remaining c.args.input.now) (g.R.Read.remaining c.args.input.now) g.T.MailSink.tells kept kept (g.W.Write.contents c.args.output.now) (g.W.Write.contents c.run_remove.new.output) asked c.run_remove.result
     (g.K.Keeper.holds c.args.keeper.now) (g.K.Keeper.holds c.run_remove.new.keeper)) (sym c.in-Remove.is) (((λ told. refl), refl), c.run_remove.ensures.does tells)
 
 pub returns-in-Remove-clause-reaches : goal.returns-in-Remove-clause-reaches
 returns-in-Remove-clause-reaches g c =
-    subst (λ asked. OnOk c.run_remove.result (Reaches (HasGiven g.K.Keeper.gives g.K.Keeper.will_wait) (g.T.MailSink.is_at c.args.sink.now) asked)) (sym c.in-Remove.is) (c.run_remove.ensures.given)
+    subst (λ asked. OnOk c.run_remove.result (ReachesStore (HasGiven g.K.Keeper.gives g.K.Keeper.will_wait) (g.T.MailSink.is_at c.args.sink.now) asked)) (sym c.in-Remove.is) (c.run_remove.ensures.given)
 
 pub returns-in-Export-clause-does : goal.returns-in-Export-clause-does
 returns-in-Export-clause-does g c tells =
     let kept = g.T.MailSink.kept c.args.sink.now in
-    subst (λ asked. Does (HasDenied g.K.Keeper.refuses g.K.Keeper.will_wait) (HasRefused g.T.MailSink.refuses) c.args.clock c.args.random (contents c.args.default) (g.R.Read.remaining c.args.input.now) (g.R.Read.remaining c.args.input.now) g.T.MailSink.tells kept kept (g.W.Write.contents c.args.output.now) (g.W.Write.contents c.run_export.new.output) asked c.run_export.result
+    subst (λ asked. DoesSubcommand (HasDenied g.K.Keeper.refuses g.K.Keeper.will_wait) (HasRefused g.T.MailSink.refuses) c.args.clock c.args.random (borrowed_octets c.args.default) (g.R.Read.remaining c.args.input.now) (g.R.Read.remaining c.args.input.now) g.T.MailSink.tells kept kept (g.W.Write.contents c.args.output.now) (g.W.Write.contents c.run_export.new.output) asked c.run_export.result
     (g.K.Keeper.holds c.args.keeper.now) (g.K.Keeper.holds c.run_export.new.keeper)) (sym c.in-Export.is) (((λ told. refl), refl), c.run_export.ensures.does tells)
 
 pub returns-in-Export-clause-reaches : goal.returns-in-Export-clause-reaches
 returns-in-Export-clause-reaches g c =
-    subst (λ asked. OnOk c.run_export.result (Reaches (HasGiven g.K.Keeper.gives g.K.Keeper.will_wait) (g.T.MailSink.is_at c.args.sink.now) asked)) (sym c.in-Export.is) (c.run_export.ensures.given)
+    subst (λ asked. OnOk c.run_export.result (ReachesStore (HasGiven g.K.Keeper.gives g.K.Keeper.will_wait) (g.T.MailSink.is_at c.args.sink.now) asked)) (sym c.in-Export.is) (c.run_export.ensures.given)
 
 pub returns-in-Import-clause-does : goal.returns-in-Import-clause-does
 returns-in-Import-clause-does g c tells =
     let kept = g.T.MailSink.kept c.args.sink.now in
-    subst (λ asked. Does (HasDenied g.K.Keeper.refuses g.K.Keeper.will_wait) (HasRefused g.T.MailSink.refuses) c.args.clock c.args.random (contents c.args.default) (g.R.Read.remaining c.args.input.now) (g.R.Read.remaining c.run_import.new.input) g.T.MailSink.tells kept kept (g.W.Write.contents c.args.output.now) (g.W.Write.contents c.run_import.new.output) asked c.run_import.result
+    subst (λ asked. DoesSubcommand (HasDenied g.K.Keeper.refuses g.K.Keeper.will_wait) (HasRefused g.T.MailSink.refuses) c.args.clock c.args.random (borrowed_octets c.args.default) (g.R.Read.remaining c.args.input.now) (g.R.Read.remaining c.run_import.new.input) g.T.MailSink.tells kept kept (g.W.Write.contents c.args.output.now) (g.W.Write.contents c.run_import.new.output) asked c.run_import.result
     (g.K.Keeper.holds c.args.keeper.now) (g.K.Keeper.holds c.run_import.new.keeper)) (sym c.in-Import.is) ((λ told. refl), c.run_import.ensures.does tells)
 
 pub returns-in-Import-clause-reaches : goal.returns-in-Import-clause-reaches
 returns-in-Import-clause-reaches g c =
-    subst (λ asked. OnOk c.run_import.result (Reaches (HasGiven g.K.Keeper.gives g.K.Keeper.will_wait) (g.T.MailSink.is_at c.args.sink.now) asked)) (sym c.in-Import.is) (c.run_import.ensures.given)
+    subst (λ asked. OnOk c.run_import.result (ReachesStore (HasGiven g.K.Keeper.gives g.K.Keeper.will_wait) (g.T.MailSink.is_at c.args.sink.now) asked)) (sym c.in-Import.is) (c.run_import.ensures.given)
 
 pub returns-in-Deliver-clause-does : goal.returns-in-Deliver-clause-does
 returns-in-Deliver-clause-does g c tells =
     let kept = g.T.MailSink.kept c.args.sink.now in
-    subst (λ asked. Does (HasDenied g.K.Keeper.refuses g.K.Keeper.will_wait) (HasRefused g.T.MailSink.refuses) c.args.clock c.args.random (contents c.args.default) (g.R.Read.remaining c.args.input.now) (g.R.Read.remaining c.run_deliver.new.input) g.T.MailSink.tells kept kept (g.W.Write.contents c.args.output.now) (g.W.Write.contents c.run_deliver.new.output) asked c.run_deliver.result
+    subst (λ asked. DoesSubcommand (HasDenied g.K.Keeper.refuses g.K.Keeper.will_wait) (HasRefused g.T.MailSink.refuses) c.args.clock c.args.random (borrowed_octets c.args.default) (g.R.Read.remaining c.args.input.now) (g.R.Read.remaining c.run_deliver.new.input) g.T.MailSink.tells kept kept (g.W.Write.contents c.args.output.now) (g.W.Write.contents c.run_deliver.new.output) asked c.run_deliver.result
     (g.K.Keeper.holds c.args.keeper.now) (g.K.Keeper.holds c.run_deliver.new.keeper)) (sym c.in-Deliver.is) ((λ told. refl), c.run_deliver.ensures.does tells)
 
 pub returns-in-Deliver-clause-reaches : goal.returns-in-Deliver-clause-reaches
 returns-in-Deliver-clause-reaches g c =
-    subst (λ asked. OnOk c.run_deliver.result (Reaches (HasGiven g.K.Keeper.gives g.K.Keeper.will_wait) (g.T.MailSink.is_at c.args.sink.now) asked)) (sym c.in-Deliver.is) (c.run_deliver.ensures.given)
+    subst (λ asked. OnOk c.run_deliver.result (ReachesStore (HasGiven g.K.Keeper.gives g.K.Keeper.will_wait) (g.T.MailSink.is_at c.args.sink.now) asked)) (sym c.in-Deliver.is) (c.run_deliver.ensures.given)
 
 pub returns-in-Folders-clause-does : goal.returns-in-Folders-clause-does
 returns-in-Folders-clause-does g c tells =
     let kept = g.T.MailSink.kept c.args.sink.now in
-    subst (λ asked. Does (HasDenied g.K.Keeper.refuses g.K.Keeper.will_wait) (HasRefused g.T.MailSink.refuses) c.args.clock c.args.random (contents c.args.default) (g.R.Read.remaining c.args.input.now) (g.R.Read.remaining c.args.input.now) g.T.MailSink.tells kept kept (g.W.Write.contents c.args.output.now) (g.W.Write.contents c.run_folders.new.output) asked c.run_folders.result
+    subst (λ asked. DoesSubcommand (HasDenied g.K.Keeper.refuses g.K.Keeper.will_wait) (HasRefused g.T.MailSink.refuses) c.args.clock c.args.random (borrowed_octets c.args.default) (g.R.Read.remaining c.args.input.now) (g.R.Read.remaining c.args.input.now) g.T.MailSink.tells kept kept (g.W.Write.contents c.args.output.now) (g.W.Write.contents c.run_folders.new.output) asked c.run_folders.result
     (g.K.Keeper.holds c.args.keeper.now) (g.K.Keeper.holds c.run_folders.new.keeper)) (sym c.in-Folders.is) (((λ told. refl), refl), c.run_folders.ensures.does tells)
 
 pub returns-in-Folders-clause-reaches : goal.returns-in-Folders-clause-reaches
 returns-in-Folders-clause-reaches g c =
-    subst (λ asked. OnOk c.run_folders.result (Reaches (HasGiven g.K.Keeper.gives g.K.Keeper.will_wait) (g.T.MailSink.is_at c.args.sink.now) asked)) (sym c.in-Folders.is) (c.run_folders.ensures.given)
+    subst (λ asked. OnOk c.run_folders.result (ReachesStore (HasGiven g.K.Keeper.gives g.K.Keeper.will_wait) (g.T.MailSink.is_at c.args.sink.now) asked)) (sym c.in-Folders.is) (c.run_folders.ensures.given)
 
 pub returns-in-Show-clause-does : goal.returns-in-Show-clause-does
 returns-in-Show-clause-does g c tells =
     let kept = g.T.MailSink.kept c.args.sink.now in
-    subst (λ asked. Does (HasDenied g.K.Keeper.refuses g.K.Keeper.will_wait) (HasRefused g.T.MailSink.refuses) c.args.clock c.args.random (contents c.args.default) (g.R.Read.remaining c.args.input.now) (g.R.Read.remaining c.args.input.now) g.T.MailSink.tells kept kept (g.W.Write.contents c.args.output.now) (g.W.Write.contents c.run_show.new.output) asked c.run_show.result
+    subst (λ asked. DoesSubcommand (HasDenied g.K.Keeper.refuses g.K.Keeper.will_wait) (HasRefused g.T.MailSink.refuses) c.args.clock c.args.random (borrowed_octets c.args.default) (g.R.Read.remaining c.args.input.now) (g.R.Read.remaining c.args.input.now) g.T.MailSink.tells kept kept (g.W.Write.contents c.args.output.now) (g.W.Write.contents c.run_show.new.output) asked c.run_show.result
     (g.K.Keeper.holds c.args.keeper.now) (g.K.Keeper.holds c.run_show.new.keeper)) (sym c.in-Show.is) (((λ told. refl), refl), c.run_show.ensures.does tells)
 
 pub returns-in-Show-clause-reaches : goal.returns-in-Show-clause-reaches
 returns-in-Show-clause-reaches g c =
-    subst (λ asked. OnOk c.run_show.result (Reaches (HasGiven g.K.Keeper.gives g.K.Keeper.will_wait) (g.T.MailSink.is_at c.args.sink.now) asked)) (sym c.in-Show.is) (c.run_show.ensures.given)
+    subst (λ asked. OnOk c.run_show.result (ReachesStore (HasGiven g.K.Keeper.gives g.K.Keeper.will_wait) (g.T.MailSink.is_at c.args.sink.now) asked)) (sym c.in-Show.is) (c.run_show.ensures.given)
 
 pub returns-in-Queue-clause-does : goal.returns-in-Queue-clause-does
 returns-in-Queue-clause-does g c tells =
     let kept = g.T.MailSink.kept c.args.sink.now in
-    subst (λ asked. Does (HasDenied g.K.Keeper.refuses g.K.Keeper.will_wait) (HasRefused g.T.MailSink.refuses) c.args.clock c.args.random (contents c.args.default) (g.R.Read.remaining c.args.input.now) (g.R.Read.remaining c.args.input.now) g.T.MailSink.tells kept kept (g.W.Write.contents c.args.output.now) (g.W.Write.contents c.run_queue.new.output) asked c.run_queue.result
+    subst (λ asked. DoesSubcommand (HasDenied g.K.Keeper.refuses g.K.Keeper.will_wait) (HasRefused g.T.MailSink.refuses) c.args.clock c.args.random (borrowed_octets c.args.default) (g.R.Read.remaining c.args.input.now) (g.R.Read.remaining c.args.input.now) g.T.MailSink.tells kept kept (g.W.Write.contents c.args.output.now) (g.W.Write.contents c.run_queue.new.output) asked c.run_queue.result
     (g.K.Keeper.holds c.args.keeper.now) (g.K.Keeper.holds c.run_queue.new.keeper)) (sym c.in-Queue.is) (((λ told. refl), refl), c.run_queue.ensures.does tells)
 
 pub returns-in-Queue-clause-reaches : goal.returns-in-Queue-clause-reaches
 returns-in-Queue-clause-reaches g c =
-    subst (λ asked. OnOk c.run_queue.result (Reaches (HasGiven g.K.Keeper.gives g.K.Keeper.will_wait) (g.T.MailSink.is_at c.args.sink.now) asked)) (sym c.in-Queue.is) (c.run_queue.ensures.given)
+    subst (λ asked. OnOk c.run_queue.result (ReachesStore (HasGiven g.K.Keeper.gives g.K.Keeper.will_wait) (g.T.MailSink.is_at c.args.sink.now) asked)) (sym c.in-Queue.is) (c.run_queue.ensures.given)
 
 pub returns-in-Done-clause-does : goal.returns-in-Done-clause-does
 returns-in-Done-clause-does g c tells =
     let kept = g.T.MailSink.kept c.args.sink.now in
-    subst (λ asked. Does (HasDenied g.K.Keeper.refuses g.K.Keeper.will_wait) (HasRefused g.T.MailSink.refuses) c.args.clock c.args.random (contents c.args.default) (g.R.Read.remaining c.args.input.now) (g.R.Read.remaining c.args.input.now) g.T.MailSink.tells kept kept (g.W.Write.contents c.args.output.now) (g.W.Write.contents c.run_done.new.output) asked c.run_done.result
+    subst (λ asked. DoesSubcommand (HasDenied g.K.Keeper.refuses g.K.Keeper.will_wait) (HasRefused g.T.MailSink.refuses) c.args.clock c.args.random (borrowed_octets c.args.default) (g.R.Read.remaining c.args.input.now) (g.R.Read.remaining c.args.input.now) g.T.MailSink.tells kept kept (g.W.Write.contents c.args.output.now) (g.W.Write.contents c.run_done.new.output) asked c.run_done.result
     (g.K.Keeper.holds c.args.keeper.now) (g.K.Keeper.holds c.run_done.new.keeper)) (sym c.in-Done.is) (((λ told. refl), refl), c.run_done.ensures.does tells)
 
 pub returns-in-Done-clause-reaches : goal.returns-in-Done-clause-reaches
 returns-in-Done-clause-reaches g c =
-    subst (λ asked. OnOk c.run_done.result (Reaches (HasGiven g.K.Keeper.gives g.K.Keeper.will_wait) (g.T.MailSink.is_at c.args.sink.now) asked)) (sym c.in-Done.is) (c.run_done.ensures.given)
+    subst (λ asked. OnOk c.run_done.result (ReachesStore (HasGiven g.K.Keeper.gives g.K.Keeper.will_wait) (g.T.MailSink.is_at c.args.sink.now) asked)) (sym c.in-Done.is) (c.run_done.ensures.given)
 
 pub returns-in-Notices-clause-does : goal.returns-in-Notices-clause-does
 returns-in-Notices-clause-does g c tells =
     let kept = g.T.MailSink.kept c.args.sink.now in
-    subst (λ asked. Does (HasDenied g.K.Keeper.refuses g.K.Keeper.will_wait) (HasRefused g.T.MailSink.refuses) c.args.clock c.args.random (contents c.args.default) (g.R.Read.remaining c.args.input.now) (g.R.Read.remaining c.args.input.now) g.T.MailSink.tells kept kept (g.W.Write.contents c.args.output.now) (g.W.Write.contents c.run_notices.new.output) asked c.run_notices.result
+    subst (λ asked. DoesSubcommand (HasDenied g.K.Keeper.refuses g.K.Keeper.will_wait) (HasRefused g.T.MailSink.refuses) c.args.clock c.args.random (borrowed_octets c.args.default) (g.R.Read.remaining c.args.input.now) (g.R.Read.remaining c.args.input.now) g.T.MailSink.tells kept kept (g.W.Write.contents c.args.output.now) (g.W.Write.contents c.run_notices.new.output) asked c.run_notices.result
     (g.K.Keeper.holds c.args.keeper.now) (g.K.Keeper.holds c.run_notices.new.keeper)) (sym c.in-Notices.is) (((λ told. refl), refl), c.run_notices.ensures.does tells)
 
 pub returns-in-Notices-clause-reaches : goal.returns-in-Notices-clause-reaches
 returns-in-Notices-clause-reaches g c =
-    subst (λ asked. OnOk c.run_notices.result (Reaches (HasGiven g.K.Keeper.gives g.K.Keeper.will_wait) (g.T.MailSink.is_at c.args.sink.now) asked)) (sym c.in-Notices.is) (c.run_notices.ensures.given)
+    subst (λ asked. OnOk c.run_notices.result (ReachesStore (HasGiven g.K.Keeper.gives g.K.Keeper.will_wait) (g.T.MailSink.is_at c.args.sink.now) asked)) (sym c.in-Notices.is) (c.run_notices.ensures.given)
 
 pub returns-in-Drain-clause-does : goal.returns-in-Drain-clause-does
 returns-in-Drain-clause-does g c tells =
     let kept = g.T.MailSink.kept c.args.sink.now in
-    subst (λ asked. Does (HasDenied g.K.Keeper.refuses g.K.Keeper.will_wait) (HasRefused g.T.MailSink.refuses) c.args.clock c.args.random (contents c.args.default) (g.R.Read.remaining c.args.input.now) (g.R.Read.remaining c.args.input.now) g.T.MailSink.tells kept (g.T.MailSink.kept c.run_drain.new.sink) (g.W.Write.contents c.args.output.now) (g.W.Write.contents c.run_drain.new.output) asked c.run_drain.result
+    subst (λ asked. DoesSubcommand (HasDenied g.K.Keeper.refuses g.K.Keeper.will_wait) (HasRefused g.T.MailSink.refuses) c.args.clock c.args.random (borrowed_octets c.args.default) (g.R.Read.remaining c.args.input.now) (g.R.Read.remaining c.args.input.now) g.T.MailSink.tells kept (g.T.MailSink.kept c.run_drain.new.sink) (g.W.Write.contents c.args.output.now) (g.W.Write.contents c.run_drain.new.output) asked c.run_drain.result
     (g.K.Keeper.holds c.args.keeper.now) (g.K.Keeper.holds c.run_drain.new.keeper)) (sym c.in-Drain.is) (refl, c.run_drain.ensures.drains tells)
 
 pub returns-in-Drain-clause-reaches : goal.returns-in-Drain-clause-reaches
 returns-in-Drain-clause-reaches g c =
-    subst (λ asked. OnOk c.run_drain.result (Reaches (HasGiven g.K.Keeper.gives g.K.Keeper.will_wait) (g.T.MailSink.is_at c.run_drain.new.sink) asked)) (sym c.in-Drain.is) (both _ _ c.run_drain.result c.run_drain.ensures.given c.run_drain.ensures.placed)
+    subst (λ asked. OnOk c.run_drain.result (ReachesStore (HasGiven g.K.Keeper.gives g.K.Keeper.will_wait) (g.T.MailSink.is_at c.run_drain.new.sink) asked)) (sym c.in-Drain.is) (both _ _ c.run_drain.result c.run_drain.ensures.given c.run_drain.ensures.placed)

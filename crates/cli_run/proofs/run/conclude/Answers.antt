@@ -1,10 +1,10 @@
 -- Why the store couldn't be closed is told first, and then the fault, each with what is known of it.
 use Rattle.std.proofs.Common.{◌≡◌, Ok, Err, sym, subst, rules}
-use Rattle.sievedrun.specs.Faults.{cause_of, store_failed, text_said, told_of, troubles, AreTold}
-use Rattle.sievedrun.specs.declared.fault.Fault.TheVariants.{Invalid}
-use Rattle.sievedrun.specs.Streams.{IsWritten}
-use Rattle.sievedrun.proofs.RunLemmas.{told_done, told_failed, told_fault}
-use Rattle.sievedrun.proofs.drive.conclude.Goals as goal
+use Rattle.cli_run.specs.Faults.{cause_of, store_failed, text_said, run_fault_lines, troubles, AreTold}
+use Rattle.cli_run.specs.declared.fault.RunFault.TheVariants.{Invalid}
+use Rattle.cli_run.specs.Streams.{IsWritten}
+use Rattle.cli_run.proofs.RunLemmas.{told_done, told_failed, told_fault}
+use Rattle.cli_run.proofs.run.conclude.Goals as goal
 
 pub returns-in-Ok-clause-told : goal.returns-in-Ok-clause-told
 returns-in-Ok-clause-told g c =
@@ -23,7 +23,7 @@ returns-then-is_store_failure-clause-told g c =
     let cause = cause_of (g.K.Keeper.said c.take_close_error-unclosed.new.self) (text_said (g.T.MailSink.said c.args.sink.now)) in
     let failed : c.in-Err.fault ≡ store_failed = c.is_store_failure.ensures.failed c.if-is_store_failure.true in
     subst (λ done. AreTold old new cause (troubles unclosed done)) (sym c.in-Err.is)
-    (subst (λ fault. AreTold old new cause (troubles unclosed (Err fault))) (sym failed) (told_failed cause old new new unclosed (subst (λ fault. IsWritten old new (told_of cause fault)) failed c.tell_fault.ensures.line)))
+    (subst (λ fault. AreTold old new cause (troubles unclosed (Err fault))) (sym failed) (told_failed cause old new new unclosed (subst (λ fault. IsWritten old new (run_fault_lines cause fault)) failed c.tell_fault.ensures.line)))
 
 pub returns-else-is_store_failure-clause-told : goal.returns-else-is_store_failure-clause-told
 returns-else-is_store_failure-clause-told g c =

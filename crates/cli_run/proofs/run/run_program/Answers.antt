@@ -1,15 +1,15 @@
 -- A run tries a script, does what a word does, or tells what is wrong with the words; its status is that of how it ended.
 use Rattle.std.proofs.Common.{Ok, Err, refl, sym, ◌∙◌, subst}
-use Rattle.sievedwords.specs.Asks.{WasRead}
-use Rattle.sievedwords.specs.declared.subcommand.Subcommand.TheVariants.{Try}
-use Rattle.sievedrun.specs.Draining.{HasRefused}
-use Rattle.sievedrun.specs.Faults.{cause_of, text_said}
-use Rattle.sievedrun.specs.Serving.{HasDenied, HasGiven}
-use Rattle.sievedrun.specs.Words.{Does}
-use Rattle.sievedrun.proofs.RunLemmas.{ran}
-use Rattle.sievedrun.proofs.StatusLemmas.{done_so}
-use Rattle.mailstore.specs.Cells.{contents}
-use Rattle.sievedrun.proofs.drive.drive.Goals as goal
+use Rattle.cli_subcommands.specs.Asks.{WasRead}
+use Rattle.cli_subcommands.specs.declared.subcommand.Subcommand.TheVariants.{Try}
+use Rattle.cli_run.specs.Draining.{HasRefused}
+use Rattle.cli_run.specs.Faults.{cause_of, text_said}
+use Rattle.cli_run.specs.Serving.{HasDenied, HasGiven}
+use Rattle.cli_run.specs.Subcommands.{DoesSubcommand}
+use Rattle.cli_run.proofs.RunLemmas.{ran}
+use Rattle.cli_run.proofs.StatusLemmas.{done_so}
+use Rattle.store_accounts.specs.Cells.{borrowed_octets}
+use Rattle.cli_run.proofs.run.run_program.Goals as goal
 
 pub returns-in_default : goal.returns-in_default
 returns-in_default g c =
@@ -28,14 +28,14 @@ returns-in_default g c =
       back = λ h. told.kept ∙ c.act-done.ensures.back h;
       runs = λ tells. (
         Ok asked,
-        subst (WasRead c.args.words.now) c.in-Ok.is c.read.ensures,
-        ran Denied (HasRefused g.T.MailSink.refuses) (HasGiven g.K.Keeper.gives g.K.Keeper.will_wait) (g.T.MailSink.is_at c.act-done.new.sink) (cause_of (g.K.Keeper.said c.conclude.new.keeper) (text_said (g.T.MailSink.said c.act-done.new.sink))) c.args.clock c.args.random (contents c.args.default) given (g.R.Read.remaining c.act-done.new.input) g.T.MailSink.tells had has out_old out_new (g.E.Write.contents c.args.errors.now) (g.E.Write.contents c.conclude.new.errors) c.conclude.result held
+        subst (WasRead c.args.words.now) c.in-Ok.is c.read_command_line.ensures,
+        ran Denied (HasRefused g.T.MailSink.refuses) (HasGiven g.K.Keeper.gives g.K.Keeper.will_wait) (g.T.MailSink.is_at c.act-done.new.sink) (cause_of (g.K.Keeper.said c.conclude.new.keeper) (text_said (g.T.MailSink.said c.act-done.new.sink))) c.args.clock c.args.random (borrowed_octets c.args.default) given (g.R.Read.remaining c.act-done.new.input) g.T.MailSink.tells had has out_old out_new (g.E.Write.contents c.args.errors.now) (g.E.Write.contents c.conclude.new.errors) c.conclude.result held
             (g.K.Keeper.holds c.conclude.new.keeper) asked c.in_default.not-Try (record {
               ending = c.act-done.result;
               ended = told.status;
               unclosed = g.K.Keeper.unclosed c.act-done.new.keeper;
               told = told.told;
-              did = subst (Does Denied (HasRefused g.T.MailSink.refuses) c.args.clock c.args.random (contents c.args.default) given (g.R.Read.remaining c.act-done.new.input) g.T.MailSink.tells had has out_old out_new asked c.act-done.result held) (sym (told.same tells)) (c.act-done.ensures.does tells);
+              did = subst (DoesSubcommand Denied (HasRefused g.T.MailSink.refuses) c.args.clock c.args.random (borrowed_octets c.args.default) given (g.R.Read.remaining c.act-done.new.input) g.T.MailSink.tells had has out_old out_new asked c.act-done.result held) (sym (told.same tells)) (c.act-done.ensures.does tells);
               reached = c.act-done.ensures.reaches;
             }),
       );
@@ -45,10 +45,10 @@ returns-in_default g c =
 pub returns-in-Try-clause-runs : goal.returns-in-Try-clause-runs
 returns-in-Try-clause-runs g c tells =
     let line = c.args.words.now in
-    let read = subst (WasRead line) c.in-Ok.is c.read.ensures in
+    let read = subst (WasRead line) c.in-Ok.is c.read_command_line.ensures in
     (Ok (Try c.in-Try.asked), subst (λ asked. WasRead line (Ok asked)) c.in-Try.is read, (c.try_script.ensures.runs, ((λ told. refl), refl)))
 
 pub returns-in-Err-clause-runs : goal.returns-in-Err-clause-runs
 returns-in-Err-clause-runs g c tells =
-    let read = subst (WasRead c.args.words.now) c.in-Err.is c.read.ensures in
+    let read = subst (WasRead c.args.words.now) c.in-Err.is c.read_command_line.ensures in
     (Err c.in-Err.error, read, (c.tell_unread.ensures, ((λ told. refl), refl), refl))

@@ -1,12 +1,12 @@
 -- The script was tried with the envelope, or there was no memory for one; or a value of the words is none; or the clock has no moment.
 use Rattle.std.proofs.Common.{◌≡◌, Err, inl, inr, refl, ap, ◌∙◌, subst}
-use Rattle.sievedrun.specs.Faults.{memory, status_of, line_of}
-use Rattle.sievedrun.specs.Streams.{IsWritten}
-use Rattle.sievedrun.specs.TryScript.{Runs, TriesNothing}
-use Rattle.sievedrun.specs.declared.fault.Fault.{Fault}
-use Rattle.sievedrun.specs.declared.fault.Fault.TheVariants.{BadArgument, Stream}
-use Rattle.sievedrun.proofs.WordLemmas.{kept_same}
-use Rattle.sievedrun.proofs.drive.try_script.Goals as goal
+use Rattle.cli_run.specs.Faults.{memory, status_of, run_fault_line}
+use Rattle.cli_run.specs.Streams.{IsWritten}
+use Rattle.cli_run.specs.TryScript.{RunsTry, TriesNothing}
+use Rattle.cli_run.specs.declared.fault.RunFault.{RunFault}
+use Rattle.cli_run.specs.declared.fault.RunFault.TheVariants.{BadArgument, Stream}
+use Rattle.cli_run.proofs.WordLemmas.{kept_same}
+use Rattle.cli_run.proofs.run.try_script.Goals as goal
 
 pub returns-in-Err-clause-runs : goal.returns-in-Err-clause-runs
 returns-in-Err-clause-runs g c =
@@ -15,15 +15,15 @@ returns-in-Err-clause-runs g c =
       | inr late ↦ inr (inr (late.1, late.2, nothing Stream late.0))
     ]
   where
-    nothing : (fault : Fault) → c.in-Err.fault ≡ fault → TriesNothing fault (g.W.Write.contents c.args.output.now) (g.W.Write.contents c.args.output.now) (g.E.Write.contents c.args.errors.now) (g.E.Write.contents c.refuse.new.errors) c.refuse.result
-    nothing fault is = (c.refuse.ensures.status ∙ ap status_of is, refl, subst (λ (told : Fault). IsWritten (g.E.Write.contents c.args.errors.now) (g.E.Write.contents c.refuse.new.errors) (line_of told)) is c.refuse.ensures.line)
+    nothing : (fault : RunFault) → c.in-Err.fault ≡ fault → TriesNothing fault (g.W.Write.contents c.args.output.now) (g.W.Write.contents c.args.output.now) (g.E.Write.contents c.args.errors.now) (g.E.Write.contents c.refuse.new.errors) c.refuse.result
+    nothing fault is = (c.refuse.ensures.status ∙ ap status_of is, refl, subst (λ (told : RunFault). IsWritten (g.E.Write.contents c.args.errors.now) (g.E.Write.contents c.refuse.new.errors) (run_fault_line told)) is c.refuse.ensures.line)
 
 pub returns-in-Ok-envelope_of-clause-runs : goal.returns-in-Ok-envelope_of-clause-runs
 returns-in-Ok-envelope_of-clause-runs g c =
     inl (
       c.in-Ok.when,
       c.in-Ok.ensures.ok,
-      subst (λ envelope. Runs envelope c.in-Ok.when (g.R.Read.remaining c.args.input.now) (g.W.Write.contents c.args.output.now) (g.W.Write.contents c.try_run.new.output) (g.E.Write.contents c.args.errors.now) (g.E.Write.contents c.try_run.new.errors) c.try_run.result)
+      subst (λ envelope. RunsTry envelope c.in-Ok.when (g.R.Read.remaining c.args.input.now) (g.W.Write.contents c.args.output.now) (g.W.Write.contents c.try_run.new.output) (g.E.Write.contents c.args.errors.now) (g.E.Write.contents c.try_run.new.errors) c.try_run.result)
           c.in-Ok-envelope_of.ensures c.try_run.ensures.runs,
     )
 

@@ -1,21 +1,21 @@
 -- All was read, the script was put to the machine, and what came of that is told.
 use Rattle.std.proofs.Common.{◌≡◌, Err, ap, ◌∙◌, subst, sym, rules}
-use Rattle.mailengine.specs.declared.answer.Answer.TheVariants.{Stored}
-use Rattle.mailengine.specs.declared.event.Event.TheVariants.{Keep}
-use Rattle.mailengine.specs.declared.upkeep.Upkeep.TheVariants.{StoreScript}
-use Rattle.sievedrun.specs.Faults.{memory}
-use Rattle.sievedrun.specs.Serving.{HasDenied}
-use Rattle.sievedrun.specs.Streams.{InputFailed, ReadsAll}
-use Rattle.sievedrun.specs.Words.{Offered, DeniedAtEnd, TellsVerdict}
-use Rattle.sievedrun.proofs.PutLemmas.{put_as_event, put_told}
-use Rattle.sievedrun.proofs.WordLemmas.{event_hindered, event_unmade, put_at_end, no_memory, unread}
-use Rattle.sievedrun.proofs.scripts.run_put.Goals as goal
+use Rattle.store_engine.specs.declared.answer.Answer.TheVariants.{Stored}
+use Rattle.store_engine.specs.declared.event.Event.TheVariants.{Keep}
+use Rattle.store_engine.specs.declared.upkeep.Upkeep.TheVariants.{StoreScript}
+use Rattle.cli_run.specs.Faults.{memory}
+use Rattle.cli_run.specs.Serving.{HasDenied}
+use Rattle.cli_run.specs.Streams.{InputFailed, ReadsAll}
+use Rattle.cli_run.specs.Subcommands.{IsPutEvent, DeniedAtEnd, TellsVerdict}
+use Rattle.cli_run.proofs.PutLemmas.{put_as_event, put_told}
+use Rattle.cli_run.proofs.WordLemmas.{event_hindered, event_unmade, put_at_end, no_memory, unread}
+use Rattle.cli_run.proofs.scripts.run_put.Goals as goal
 
 pub returns-in_err-octets-clause-does : goal.returns-in_err-octets-clause-does
 returns-in_err-octets-clause-does g c tells =
     let asked = c.args.asked in
     let Denied = DeniedAtEnd (HasDenied g.K.Keeper.refuses g.K.Keeper.will_wait asked.location) (g.R.Read.remaining c.read_all.new.input) in
-    let Own = Offered asked.user.now asked.script.now asked.activate (g.R.Read.remaining c.args.input.now) in
+    let Own = IsPutEvent asked.user.now asked.script.now asked.activate (g.R.Read.remaining c.args.input.now) in
     let out = g.W.Write.contents c.args.output.now in
     let held = g.K.Keeper.holds c.args.keeper.now in
     let fault = c.in_err-octets.field-0.0 in
@@ -26,7 +26,7 @@ pub returns-in_err-name-clause-does : goal.returns-in_err-name-clause-does
 returns-in_err-name-clause-does g c tells =
     let asked = c.args.asked in
     let Denied = DeniedAtEnd (HasDenied g.K.Keeper.refuses g.K.Keeper.will_wait asked.location) (g.R.Read.remaining c.read_all.new.input) in
-    let Own = Offered asked.user.now asked.script.now asked.activate (g.R.Read.remaining c.args.input.now) in
+    let Own = IsPutEvent asked.user.now asked.script.now asked.activate (g.R.Read.remaining c.args.input.now) in
     let out = g.W.Write.contents c.args.output.now in
     let held = g.K.Keeper.holds c.args.keeper.now in
     put_as_event Denied Own out out held held c.from_residual-in_err-name.result
@@ -38,7 +38,7 @@ returns-in_err-verdict-clause-does g c tells =
     let Kept = HasDenied g.K.Keeper.refuses g.K.Keeper.will_wait asked.location in
     let left = g.R.Read.remaining c.read_all.new.input in
     let given = g.R.Read.remaining c.args.input.now in
-    let Own = Offered asked.user.now asked.script.now asked.activate given in
+    let Own = IsPutEvent asked.user.now asked.script.now asked.activate given in
     let out = g.W.Write.contents c.args.output.now in
     let held = g.K.Keeper.holds c.args.keeper.now in
     let new = g.K.Keeper.holds c.store_script.new.keeper in
@@ -61,7 +61,7 @@ returns-clause-does g c tells =
     let Kept = HasDenied g.K.Keeper.refuses g.K.Keeper.will_wait asked.location in
     let left = g.R.Read.remaining c.read_all.new.input in
     let given = g.R.Read.remaining c.args.input.now in
-    let Own = Offered asked.user.now asked.script.now asked.activate given in
+    let Own = IsPutEvent asked.user.now asked.script.now asked.activate given in
     let old = g.W.Write.contents c.args.output.now in
     let out = g.W.Write.contents c.tell_verdict.new.output in
     let held = g.K.Keeper.holds c.args.keeper.now in

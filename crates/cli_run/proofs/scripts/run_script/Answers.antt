@@ -1,13 +1,13 @@
 -- The script was read in a store that was taken and handed back, and then printed.
 use Rattle.std.proofs.Common.{◌≡◌, ℕ, List, Option, None, Some, Result, Ok, refl, sym, ◌∙◌, ap, subst, rules}
 use Rattle.std.specs.FinMap.{get}
-use Rattle.sievedrun.specs.Serving.{HasDenied}
-use Rattle.sievedrun.specs.Draining.{TurnsTables}
-use Rattle.sievedrun.specs.Words.{FindsIn, ShowsScript, LacksScript}
-use Rattle.sievedrun.specs.declared.fault.Fault.{Fault}
-use Rattle.sievedrun.specs.declared.fault.Fault.TheVariants.{NoScript}
-use Rattle.sievedrun.proofs.WordLemmas.{read_refused, read_lacks, read_shown}
-use Rattle.sievedrun.proofs.scripts.run_script.Goals as goal
+use Rattle.cli_run.specs.Serving.{HasDenied}
+use Rattle.cli_run.specs.Draining.{TurnsTables}
+use Rattle.cli_run.specs.Subcommands.{FindsIn, ShowsScript, LacksScript}
+use Rattle.cli_run.specs.declared.fault.RunFault.{RunFault}
+use Rattle.cli_run.specs.declared.fault.RunFault.TheVariants.{NoScript}
+use Rattle.cli_run.proofs.WordLemmas.{read_refused, read_lacks, read_shown}
+use Rattle.cli_run.proofs.scripts.run_script.Goals as goal
 
 pub returns-in_err-text-clause-does : goal.returns-in_err-text-clause-does
 returns-in_err-text-clause-does g c tells =
@@ -19,7 +19,7 @@ returns-in_err-text-clause-does g c tells =
 pub returns-in_default-clause-does : goal.returns-in_default-clause-does
 returns-in_default-clause-does g c tells =
     let name = c.args.name.now in
-    let Found = λ (r : Result (Option (List ℕ)) Fault). TurnsTables (λ accounts later. (later ≡ accounts) × FindsIn (HasDenied g.K.Keeper.refuses g.K.Keeper.will_wait c.args.location) c.args.user.now (λ text a. text ≡ get a.scripts name) r accounts)
+    let Found = λ (r : Result (Option (List ℕ)) RunFault). TurnsTables (λ accounts later. (later ≡ accounts) × FindsIn (HasDenied g.K.Keeper.refuses g.K.Keeper.will_wait c.args.location) c.args.user.now (λ text a. text ≡ get a.scripts name) r accounts)
     (g.K.Keeper.holds c.args.keeper.now) (g.K.Keeper.holds c.read_once.new.keeper) in
     let found = subst (λ o. Found (Ok o)) c.in_default.is (c.in_ok-text.ensures.found tells) in
     read_lacks ⊥ (HasDenied g.K.Keeper.refuses g.K.Keeper.will_wait c.args.location) c.args.user.now (ShowsScript name) (LacksScript name)
@@ -31,7 +31,7 @@ returns-clause-does g c tells =
     let name = c.args.name.now in
     let text = c.in-Some.text in
     let same : c.as_slice.result.now ≡ text = search rules in
-    let Found = λ (r : Result (Option (List ℕ)) Fault). TurnsTables (λ accounts later. (later ≡ accounts) × FindsIn (HasDenied g.K.Keeper.refuses g.K.Keeper.will_wait c.args.location) c.args.user.now (λ text a. text ≡ get a.scripts name) r accounts)
+    let Found = λ (r : Result (Option (List ℕ)) RunFault). TurnsTables (λ accounts later. (later ≡ accounts) × FindsIn (HasDenied g.K.Keeper.refuses g.K.Keeper.will_wait c.args.location) c.args.user.now (λ text a. text ≡ get a.scripts name) r accounts)
     (g.K.Keeper.holds c.args.keeper.now) (g.K.Keeper.holds c.read_once.new.keeper) in
     let found = subst (λ o. Found (Ok o)) c.in-Some.is (c.in_ok-text.ensures.found tells) in
     read_shown ⊥ (HasDenied g.K.Keeper.refuses g.K.Keeper.will_wait c.args.location) c.args.user.now (ShowsScript name) (LacksScript name)

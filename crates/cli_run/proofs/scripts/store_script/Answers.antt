@@ -1,12 +1,12 @@
 -- The store was taken, the script was put to the machine, and the store was handed back.
 use Rattle.std.proofs.Common.{rules}
 use Rattle.sqlite.specs.Held.{state}
-use Rattle.mailengine.specs.Hosts.{answer_of}
-use Rattle.mailengine.specs.declared.upkeep.Upkeep.TheVariants.{StoreScript}
-use Rattle.sievedrun.specs.Serving.{HasDenied}
-use Rattle.sievedrun.proofs.PutLemmas.{script_denied, stored_put}
-use Rattle.sievedrun.proofs.WordLemmas.{carried_turned}
-use Rattle.sievedrun.proofs.scripts.store_script.Goals as goal
+use Rattle.store_engine.specs.Hosts.{answer_of}
+use Rattle.store_engine.specs.declared.upkeep.Upkeep.TheVariants.{StoreScript}
+use Rattle.cli_run.specs.Serving.{HasDenied}
+use Rattle.cli_run.proofs.PutLemmas.{script_denied, stored_put}
+use Rattle.cli_run.proofs.WordLemmas.{carried_turned}
+use Rattle.cli_run.proofs.scripts.store_script.Goals as goal
 
 pub returns-in_err-store-clause-puts : goal.returns-in_err-store-clause-puts
 returns-in_err-store-clause-puts g c tells =
@@ -16,10 +16,10 @@ returns-in_err-store-clause-puts g c tells =
 pub returns-clause-puts : goal.returns-clause-puts
 returns-clause-puts g c tells =
     let got = c.in_ok-store.ensures.taken tells in
-    let sure = g.met.K.Keeper.sure c.keep-kept.new.store tells in
+    let sure = g.met.K.Keeper.sure c.do_upkeep-kept.new.store tells in
     let Denied = HasDenied g.K.Keeper.refuses g.K.Keeper.will_wait c.args.location in
-    carried_turned (g.K.Keeper.holds c.args.keeper.now) (g.K.Keeper.holds c.hand_back.new.self) (state g.K.S.Store c.in_ok-store.store) (state g.K.S.Store c.keep-kept.new.store) got.0 got.2 sure.0 sure.1
+    carried_turned (g.K.Keeper.holds c.args.keeper.now) (g.K.Keeper.holds c.hand_back.new.self) (state g.K.S.Store c.in_ok-store.store) (state g.K.S.Store c.do_upkeep-kept.new.store) got.0 got.2 sure.0 sure.1
     (c.hand_back.ensures.held tells) _
     (λ clean accounts shown.
-    let turned = c.keep-kept.ensures.carries clean accounts shown in
-    (turned.0, stored_put Denied c.args.user.now c.args.name c.args.text c.args.activate (answer_of c.keep-kept.result) c.stored_by.result c.stored_by.ensures accounts turned.0 turned.1, turned.2))
+    let turned = c.do_upkeep-kept.ensures.carries clean accounts shown in
+    (turned.0, stored_put Denied c.args.user.now c.args.name c.args.text c.args.activate (answer_of c.do_upkeep-kept.result) c.stored_by.result c.stored_by.ensures accounts turned.0 turned.1, turned.2))

@@ -1,19 +1,19 @@
 -- Rounds before, and the one of what comes first.
 use Rattle.std.proofs.Common.{◌≡◌, None, Err, false, true, refl, rules, sym, subst, arith}
-use Rattle.sessions.specs.Clients.{is_ready}
-use Rattle.sievedrun.specs.Serving.{HasNoted, Stops, StoodReady, WasOut, WritesAll}
-use Rattle.sievedrun.specs.Streams.{turns_end}
-use Rattle.sievedrun.specs.Streams.InTurn.{none_yet}
-use Rattle.sievedrun.proofs.StreamLemmas.{one_turn, turns_as}
-use Rattle.sievedrun.proofs.ServingLemmas.{closed_as, interrupted_on, interrupted_so, kept_same, kept_then, noted_still, stops_as, writes_as, writes_none, writes_on}
-use Rattle.sievedrun.proofs.session.answer_all.Goals as goal
+use Rattle.managesieve_sessions.specs.Clients.{is_ready}
+use Rattle.cli_run.specs.Serving.{HasNoted, StopsServing, StoodReady, WasOut, WritesAll}
+use Rattle.cli_run.specs.Streams.{turns_end}
+use Rattle.cli_run.specs.Streams.InTurn.{none_yet}
+use Rattle.cli_run.proofs.StreamLemmas.{one_turn, turns_as}
+use Rattle.cli_run.proofs.ServingLemmas.{closed_as, interrupted_on, interrupted_so, kept_same, kept_then, noted_still, stops_as, writes_as, writes_none, writes_on}
+use Rattle.cli_run.proofs.session.answer_all.Goals as goal
 
 pub loop-init : goal.loop-init
 loop-init g c = record {
   back = λ h. h;
   turns = none_yet;
   kept = kept_same c.args.trouble.now;
-  written = λ tells idle accounts shown. writes_none (Stops g.K.Keeper.refuses g.K.Keeper.will_wait c.args.location (HasNoted c.args.trouble.now)) (WasOut g.K.Keeper.gives g.K.Keeper.will_wait g.K.Keeper.closes c.args.location (HasNoted c.args.trouble.now)) accounts c.args.session.now.client (g.W.Write.contents c.args.output.now) (g.K.Keeper.holds c.args.keeper.now) shown;
+  written = λ tells idle accounts shown. writes_none (StopsServing g.K.Keeper.refuses g.K.Keeper.will_wait c.args.location (HasNoted c.args.trouble.now)) (WasOut g.K.Keeper.gives g.K.Keeper.will_wait g.K.Keeper.closes c.args.location (HasNoted c.args.trouble.now)) accounts c.args.session.now.client (g.W.Write.contents c.args.output.now) (g.K.Keeper.holds c.args.keeper.now) shown;
   none = λ tells h. h;
 }
 
@@ -22,8 +22,8 @@ loop-preserved g c =
     let was = c.loop.invariant in
     let had = WasOut g.K.Keeper.gives g.K.Keeper.will_wait g.K.Keeper.closes c.args.location (HasNoted c.loop.trouble) in
     let given = WasOut g.K.Keeper.gives g.K.Keeper.will_wait g.K.Keeper.closes c.args.location (HasNoted c.answer_some.new.trouble) in
-    let before = Stops g.K.Keeper.refuses g.K.Keeper.will_wait c.args.location (HasNoted c.loop.trouble) in
-    let stop = Stops g.K.Keeper.refuses g.K.Keeper.will_wait c.args.location (HasNoted c.answer_some.new.trouble) in
+    let before = StopsServing g.K.Keeper.refuses g.K.Keeper.will_wait c.args.location (HasNoted c.loop.trouble) in
+    let stop = StopsServing g.K.Keeper.refuses g.K.Keeper.will_wait c.args.location (HasNoted c.answer_some.new.trouble) in
     let now = c.in_ok-answer_some.ensures in
     let ready : is_ready c.loop.session.client ≡ true = search rules in
     record {
@@ -45,8 +45,8 @@ pub returns-in_err-answer_some-clause-answers : goal.returns-in_err-answer_some-
 returns-in_err-answer_some-clause-answers g c tells idle accounts shown =
     let had = WasOut g.K.Keeper.gives g.K.Keeper.will_wait g.K.Keeper.closes c.args.location (HasNoted c.loop.trouble) in
     let given = WasOut g.K.Keeper.gives g.K.Keeper.will_wait g.K.Keeper.closes c.args.location (HasNoted c.answer_some.new.trouble) in
-    let before = Stops g.K.Keeper.refuses g.K.Keeper.will_wait c.args.location (HasNoted c.loop.trouble) in
-    let stop = Stops g.K.Keeper.refuses g.K.Keeper.will_wait c.args.location (HasNoted c.answer_some.new.trouble) in
+    let before = StopsServing g.K.Keeper.refuses g.K.Keeper.will_wait c.args.location (HasNoted c.loop.trouble) in
+    let stop = StopsServing g.K.Keeper.refuses g.K.Keeper.will_wait c.args.location (HasNoted c.answer_some.new.trouble) in
     let is : c.from_residual.result ≡ Err c.in_err-answer_some.field-0.0 = search rules in
     subst (WritesAll stop given accounts c.args.session.now.client (g.W.Write.contents c.args.output.now) (g.W.Write.contents c.answer_some.new.output) c.answer_some.new.session.client (g.K.Keeper.holds c.answer_some.new.keeper)) (sym is)
     (interrupted_on stop given accounts c.args.session.now.client c.loop.session.client (g.W.Write.contents c.args.output.now) (g.W.Write.contents c.loop.output) (g.W.Write.contents c.answer_some.new.output)
@@ -54,7 +54,7 @@ returns-in_err-answer_some-clause-answers g c tells idle accounts shown =
 
 pub returns-clause-answers : goal.returns-clause-answers
 returns-clause-answers g c tells idle accounts shown =
-    interrupted_so (Stops g.K.Keeper.refuses g.K.Keeper.will_wait c.args.location (HasNoted c.loop.trouble)) (WasOut g.K.Keeper.gives g.K.Keeper.will_wait g.K.Keeper.closes c.args.location (HasNoted c.loop.trouble)) accounts c.args.session.now.client c.loop.session.client (g.W.Write.contents c.args.output.now) (g.W.Write.contents c.loop.output) (g.K.Keeper.holds c.loop.keeper) (c.loop.invariant.written tells idle accounts shown)
+    interrupted_so (StopsServing g.K.Keeper.refuses g.K.Keeper.will_wait c.args.location (HasNoted c.loop.trouble)) (WasOut g.K.Keeper.gives g.K.Keeper.will_wait g.K.Keeper.closes c.args.location (HasNoted c.loop.trouble)) accounts c.args.session.now.client c.loop.session.client (g.W.Write.contents c.args.output.now) (g.W.Write.contents c.loop.output) (g.K.Keeper.holds c.loop.keeper) (c.loop.invariant.written tells idle accounts shown)
 
 pub returns-clause-fault : goal.returns-clause-fault
 returns-clause-fault g c =

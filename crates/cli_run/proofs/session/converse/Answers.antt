@@ -2,20 +2,20 @@
 use Rattle.std.proofs.Common.{◌≡◌, ◌≤◌, ℕ, [], Option, Ok, Err, ◌+◌, IfSome, refl, unwrap_or, length, take, drop, sym, ap, subst, inl, inr, true, false, rules, arith}
 use Rattle.std.proofs.lemmas.List.{length-take}
 use Rattle.std.specs.Io.KnownBytes.{Consumes}
-use Rattle.sessions.specs.Clients.{client_given}
-use Rattle.sievedrun.specs.Faults.{memory}
-use Rattle.sievedrun.specs.Serving.{Converses, HasNoted, IsTold, Stops, Unstopped, WasOut}
-use Rattle.sievedrun.specs.Streams.{GoesOn, reads_end}
-use Rattle.sievedrun.specs.Streams.InTurn.{none_yet}
-use Rattle.sievedrun.proofs.StreamLemmas.{one_turn, turns_as}
-use Rattle.sievedrun.proofs.ServingLemmas.{broken_on, broken_served, closed_as, interrupted_as, never_stops, served_as, served_at_end, served_on, stops_as, told_now, told_on, told_one, told_still, writes_as}
-use Rattle.sievedrun.proofs.session.converse.Goals as goal
+use Rattle.managesieve_sessions.specs.Clients.{client_given}
+use Rattle.cli_run.specs.Faults.{memory}
+use Rattle.cli_run.specs.Serving.{Converses, HasNoted, IsTold, StopsServing, Unstopped, WasOut}
+use Rattle.cli_run.specs.Streams.{ReadGoesOn, reads_end}
+use Rattle.cli_run.specs.Streams.InTurn.{none_yet}
+use Rattle.cli_run.proofs.StreamLemmas.{one_turn, turns_as}
+use Rattle.cli_run.proofs.ServingLemmas.{broken_on, broken_served, closed_as, interrupted_as, never_stops, served_as, served_at_end, served_on, stops_as, told_now, told_on, told_one, told_still, writes_as}
+use Rattle.cli_run.proofs.session.converse.Goals as goal
 
 pub returns-in_err-len-clause-serves : goal.returns-in_err-len-clause-serves
 returns-in_err-len-clause-serves g c tells idle accounts first_in first_out first =
     let is : c.from_residual.result ≡ Err c.in_err-len.field-0.0 = search rules in
-    subst (Converses (Stops g.K.Keeper.refuses g.K.Keeper.will_wait c.args.location (IsTold (g.E.Write.contents c.args.errors.now) (g.E.Write.contents c.loop.errors))) (WasOut g.K.Keeper.gives g.K.Keeper.will_wait g.K.Keeper.closes c.args.location (IsTold (g.E.Write.contents c.args.errors.now) (g.E.Write.contents c.loop.errors))) accounts first_in (g.R.Read.remaining c.read_at.new.input) first_out (g.W.Write.contents c.loop.output) (g.K.Keeper.holds c.loop.keeper)) (sym is)
-    (broken_served (Stops g.K.Keeper.refuses g.K.Keeper.will_wait c.args.location (IsTold (g.E.Write.contents c.args.errors.now) (g.E.Write.contents c.loop.errors))) (WasOut g.K.Keeper.gives g.K.Keeper.will_wait g.K.Keeper.closes c.args.location (IsTold (g.E.Write.contents c.args.errors.now) (g.E.Write.contents c.loop.errors))) accounts first_in (g.R.Read.remaining c.loop.input) first_out (g.W.Write.contents c.loop.output) c.loop.session.client (g.K.Keeper.holds c.loop.keeper) (c.loop.invariant.served tells idle accounts first_in first_out first))
+    subst (Converses (StopsServing g.K.Keeper.refuses g.K.Keeper.will_wait c.args.location (IsTold (g.E.Write.contents c.args.errors.now) (g.E.Write.contents c.loop.errors))) (WasOut g.K.Keeper.gives g.K.Keeper.will_wait g.K.Keeper.closes c.args.location (IsTold (g.E.Write.contents c.args.errors.now) (g.E.Write.contents c.loop.errors))) accounts first_in (g.R.Read.remaining c.read_at.new.input) first_out (g.W.Write.contents c.loop.output) (g.K.Keeper.holds c.loop.keeper)) (sym is)
+    (broken_served (StopsServing g.K.Keeper.refuses g.K.Keeper.will_wait c.args.location (IsTold (g.E.Write.contents c.args.errors.now) (g.E.Write.contents c.loop.errors))) (WasOut g.K.Keeper.gives g.K.Keeper.will_wait g.K.Keeper.closes c.args.location (IsTold (g.E.Write.contents c.args.errors.now) (g.E.Write.contents c.loop.errors))) accounts first_in (g.R.Read.remaining c.loop.input) first_out (g.W.Write.contents c.loop.output) c.loop.session.client (g.K.Keeper.holds c.loop.keeper) (c.loop.invariant.served tells idle accounts first_in first_out first))
 
 pub returns-in_default-clause-serves : goal.returns-in_default-clause-serves
 returns-in_default-clause-serves g c tells idle accounts first_in first_out first =
@@ -23,7 +23,7 @@ returns-in_default-clause-serves g c tells idle accounts first_in first_out firs
     let nothing : Consumes (g.R.Read.remaining c.loop.input) (g.R.Read.remaining c.read_at.new.input) [] = subst (λ n. Consumes (g.R.Read.remaining c.loop.input) (g.R.Read.remaining c.read_at.new.input) (take n (drop 0 c.read_at.new.room))) none c.in_ok-len.ensures.read in
     record {
       client = c.loop.session.client;
-      served = served_at_end (Stops g.K.Keeper.refuses g.K.Keeper.will_wait c.args.location (IsTold (g.E.Write.contents c.args.errors.now) (g.E.Write.contents c.loop.errors))) (WasOut g.K.Keeper.gives g.K.Keeper.will_wait g.K.Keeper.closes c.args.location (IsTold (g.E.Write.contents c.args.errors.now) (g.E.Write.contents c.loop.errors))) accounts first_in (g.R.Read.remaining c.loop.input) (g.R.Read.remaining c.read_at.new.input) first_out (g.W.Write.contents c.loop.output) c.loop.session.client (g.K.Keeper.holds c.loop.keeper)
+      served = served_at_end (StopsServing g.K.Keeper.refuses g.K.Keeper.will_wait c.args.location (IsTold (g.E.Write.contents c.args.errors.now) (g.E.Write.contents c.loop.errors))) (WasOut g.K.Keeper.gives g.K.Keeper.will_wait g.K.Keeper.closes c.args.location (IsTold (g.E.Write.contents c.args.errors.now) (g.E.Write.contents c.loop.errors))) accounts first_in (g.R.Read.remaining c.loop.input) (g.R.Read.remaining c.read_at.new.input) first_out (g.W.Write.contents c.loop.output) c.loop.session.client (g.K.Keeper.holds c.loop.keeper)
           (c.loop.invariant.served tells idle accounts first_in first_out first) nothing;
       over = inr (c.in_ok-len.ensures.end (ap (λ (o : Option ℕ). Ok o) c.in_default.is));
     }
@@ -31,17 +31,17 @@ returns-in_default-clause-serves g c tells idle accounts first_in first_out firs
 pub returns-in_err-give-clause-serves : goal.returns-in_err-give-clause-serves
 returns-in_err-give-clause-serves g c tells idle accounts first_in first_out first =
     let is : c.from_residual-in_err-give.result ≡ Err memory = search rules in
-    subst (Converses (Stops g.K.Keeper.refuses g.K.Keeper.will_wait c.args.location (IsTold (g.E.Write.contents c.args.errors.now) (g.E.Write.contents c.loop.errors))) (WasOut g.K.Keeper.gives g.K.Keeper.will_wait g.K.Keeper.closes c.args.location (IsTold (g.E.Write.contents c.args.errors.now) (g.E.Write.contents c.loop.errors))) accounts first_in (g.R.Read.remaining c.read_at.new.input) first_out (g.W.Write.contents c.loop.output) (g.K.Keeper.holds c.loop.keeper)) (sym is)
-    (broken_served (Stops g.K.Keeper.refuses g.K.Keeper.will_wait c.args.location (IsTold (g.E.Write.contents c.args.errors.now) (g.E.Write.contents c.loop.errors))) (WasOut g.K.Keeper.gives g.K.Keeper.will_wait g.K.Keeper.closes c.args.location (IsTold (g.E.Write.contents c.args.errors.now) (g.E.Write.contents c.loop.errors))) accounts first_in (g.R.Read.remaining c.loop.input) first_out (g.W.Write.contents c.loop.output) c.loop.session.client (g.K.Keeper.holds c.loop.keeper) (c.loop.invariant.served tells idle accounts first_in first_out first))
+    subst (Converses (StopsServing g.K.Keeper.refuses g.K.Keeper.will_wait c.args.location (IsTold (g.E.Write.contents c.args.errors.now) (g.E.Write.contents c.loop.errors))) (WasOut g.K.Keeper.gives g.K.Keeper.will_wait g.K.Keeper.closes c.args.location (IsTold (g.E.Write.contents c.args.errors.now) (g.E.Write.contents c.loop.errors))) accounts first_in (g.R.Read.remaining c.read_at.new.input) first_out (g.W.Write.contents c.loop.output) (g.K.Keeper.holds c.loop.keeper)) (sym is)
+    (broken_served (StopsServing g.K.Keeper.refuses g.K.Keeper.will_wait c.args.location (IsTold (g.E.Write.contents c.args.errors.now) (g.E.Write.contents c.loop.errors))) (WasOut g.K.Keeper.gives g.K.Keeper.will_wait g.K.Keeper.closes c.args.location (IsTold (g.E.Write.contents c.args.errors.now) (g.E.Write.contents c.loop.errors))) accounts first_in (g.R.Read.remaining c.loop.input) first_out (g.W.Write.contents c.loop.output) c.loop.session.client (g.K.Keeper.holds c.loop.keeper) (c.loop.invariant.served tells idle accounts first_in first_out first))
 
 pub returns-in_err-answered-clause-serves : goal.returns-in_err-answered-clause-serves
 returns-in_err-answered-clause-serves g c tells idle accounts first_in first_out first =
     let had = WasOut g.K.Keeper.gives g.K.Keeper.will_wait g.K.Keeper.closes c.args.location (IsTold (g.E.Write.contents c.args.errors.now) (g.E.Write.contents c.loop.errors)) in
     let out = WasOut g.K.Keeper.gives g.K.Keeper.will_wait g.K.Keeper.closes c.args.location (HasNoted c.answer_all-answered.new.trouble) in
     let given = WasOut g.K.Keeper.gives g.K.Keeper.will_wait g.K.Keeper.closes c.args.location (IsTold (g.E.Write.contents c.args.errors.now) (g.E.Write.contents c.tell.new.errors)) in
-    let before = Stops g.K.Keeper.refuses g.K.Keeper.will_wait c.args.location (IsTold (g.E.Write.contents c.args.errors.now) (g.E.Write.contents c.loop.errors)) in
-    let stop = Stops g.K.Keeper.refuses g.K.Keeper.will_wait c.args.location (IsTold (g.E.Write.contents c.args.errors.now) (g.E.Write.contents c.tell.new.errors)) in
-    let noted = Stops g.K.Keeper.refuses g.K.Keeper.will_wait c.args.location (HasNoted c.answer_all-answered.new.trouble) in
+    let before = StopsServing g.K.Keeper.refuses g.K.Keeper.will_wait c.args.location (IsTold (g.E.Write.contents c.args.errors.now) (g.E.Write.contents c.loop.errors)) in
+    let stop = StopsServing g.K.Keeper.refuses g.K.Keeper.will_wait c.args.location (IsTold (g.E.Write.contents c.args.errors.now) (g.E.Write.contents c.tell.new.errors)) in
+    let noted = StopsServing g.K.Keeper.refuses g.K.Keeper.will_wait c.args.location (HasNoted c.answer_all-answered.new.trouble) in
     let still = stops_as g.K.Keeper.refuses g.K.Keeper.will_wait c.args.location _ _ (told_still (g.E.Write.contents c.args.errors.now) (g.E.Write.contents c.loop.errors) (g.E.Write.contents c.tell.new.errors) c.loop.trouble c.answer_all-answered.new.trouble c.tell.new.self c.in_err-answered.ensures.kept c.tell.ensures.once c.tell.ensures.none c.tell.ensures.tells c.tell.ensures.same c.tell.ensures.told c.tell.ensures.untold c.loop.invariant.told) in
     let still_out = closed_as g.K.Keeper.gives g.K.Keeper.will_wait g.K.Keeper.closes c.args.location _ _ (told_still (g.E.Write.contents c.args.errors.now) (g.E.Write.contents c.loop.errors) (g.E.Write.contents c.tell.new.errors) c.loop.trouble c.answer_all-answered.new.trouble c.tell.new.self c.in_err-answered.ensures.kept c.tell.ensures.once c.tell.ensures.none c.tell.ensures.tells c.tell.ensures.same c.tell.ensures.told c.tell.ensures.untold c.loop.invariant.told) in
     let now_told = stops_as g.K.Keeper.refuses g.K.Keeper.will_wait c.args.location _ _ (told_now (g.E.Write.contents c.args.errors.now) (g.E.Write.contents c.loop.errors) (g.E.Write.contents c.tell.new.errors) c.loop.trouble c.answer_all-answered.new.trouble c.tell.new.self c.in_err-answered.ensures.kept c.tell.ensures.once c.tell.ensures.none c.tell.ensures.tells c.tell.ensures.same c.tell.ensures.told c.tell.ensures.untold c.loop.invariant.told) in
@@ -64,9 +64,9 @@ returns-then-is_over-clause-serves g c tells idle accounts first_in first_out fi
     let had = WasOut g.K.Keeper.gives g.K.Keeper.will_wait g.K.Keeper.closes c.args.location (IsTold (g.E.Write.contents c.args.errors.now) (g.E.Write.contents c.loop.errors)) in
     let out = WasOut g.K.Keeper.gives g.K.Keeper.will_wait g.K.Keeper.closes c.args.location (HasNoted c.answer_all-answered.new.trouble) in
     let given = WasOut g.K.Keeper.gives g.K.Keeper.will_wait g.K.Keeper.closes c.args.location (IsTold (g.E.Write.contents c.args.errors.now) (g.E.Write.contents c.tell.new.errors)) in
-    let before = Stops g.K.Keeper.refuses g.K.Keeper.will_wait c.args.location (IsTold (g.E.Write.contents c.args.errors.now) (g.E.Write.contents c.loop.errors)) in
-    let stop = Stops g.K.Keeper.refuses g.K.Keeper.will_wait c.args.location (IsTold (g.E.Write.contents c.args.errors.now) (g.E.Write.contents c.tell.new.errors)) in
-    let noted = Stops g.K.Keeper.refuses g.K.Keeper.will_wait c.args.location (HasNoted c.answer_all-answered.new.trouble) in
+    let before = StopsServing g.K.Keeper.refuses g.K.Keeper.will_wait c.args.location (IsTold (g.E.Write.contents c.args.errors.now) (g.E.Write.contents c.loop.errors)) in
+    let stop = StopsServing g.K.Keeper.refuses g.K.Keeper.will_wait c.args.location (IsTold (g.E.Write.contents c.args.errors.now) (g.E.Write.contents c.tell.new.errors)) in
+    let noted = StopsServing g.K.Keeper.refuses g.K.Keeper.will_wait c.args.location (HasNoted c.answer_all-answered.new.trouble) in
     let still = stops_as g.K.Keeper.refuses g.K.Keeper.will_wait c.args.location _ _ (told_still (g.E.Write.contents c.args.errors.now) (g.E.Write.contents c.loop.errors) (g.E.Write.contents c.tell.new.errors) c.loop.trouble c.answer_all-answered.new.trouble c.tell.new.self c.in_ok-answered.ensures.kept c.tell.ensures.once c.tell.ensures.none c.tell.ensures.tells c.tell.ensures.same c.tell.ensures.told c.tell.ensures.untold c.loop.invariant.told) in
     let still_out = closed_as g.K.Keeper.gives g.K.Keeper.will_wait g.K.Keeper.closes c.args.location _ _ (told_still (g.E.Write.contents c.args.errors.now) (g.E.Write.contents c.loop.errors) (g.E.Write.contents c.tell.new.errors) c.loop.trouble c.answer_all-answered.new.trouble c.tell.new.self c.in_ok-answered.ensures.kept c.tell.ensures.once c.tell.ensures.none c.tell.ensures.tells c.tell.ensures.same c.tell.ensures.told c.tell.ensures.untold c.loop.invariant.told) in
     let now_told = stops_as g.K.Keeper.refuses g.K.Keeper.will_wait c.args.location _ _ (told_now (g.E.Write.contents c.args.errors.now) (g.E.Write.contents c.loop.errors) (g.E.Write.contents c.tell.new.errors) c.loop.trouble c.answer_all-answered.new.trouble c.tell.new.self c.in_ok-answered.ensures.kept c.tell.ensures.once c.tell.ensures.none c.tell.ensures.tells c.tell.ensures.same c.tell.ensures.told c.tell.ensures.untold c.loop.invariant.told) in
@@ -92,9 +92,9 @@ loop-preserved g c =
     let had = WasOut g.K.Keeper.gives g.K.Keeper.will_wait g.K.Keeper.closes c.args.location (IsTold (g.E.Write.contents c.args.errors.now) (g.E.Write.contents c.loop.errors)) in
     let out = WasOut g.K.Keeper.gives g.K.Keeper.will_wait g.K.Keeper.closes c.args.location (HasNoted c.answer_all-answered.new.trouble) in
     let given = WasOut g.K.Keeper.gives g.K.Keeper.will_wait g.K.Keeper.closes c.args.location (IsTold (g.E.Write.contents c.args.errors.now) (g.E.Write.contents c.tell.new.errors)) in
-    let before = Stops g.K.Keeper.refuses g.K.Keeper.will_wait c.args.location (IsTold (g.E.Write.contents c.args.errors.now) (g.E.Write.contents c.loop.errors)) in
-    let stop = Stops g.K.Keeper.refuses g.K.Keeper.will_wait c.args.location (IsTold (g.E.Write.contents c.args.errors.now) (g.E.Write.contents c.tell.new.errors)) in
-    let noted = Stops g.K.Keeper.refuses g.K.Keeper.will_wait c.args.location (HasNoted c.answer_all-answered.new.trouble) in
+    let before = StopsServing g.K.Keeper.refuses g.K.Keeper.will_wait c.args.location (IsTold (g.E.Write.contents c.args.errors.now) (g.E.Write.contents c.loop.errors)) in
+    let stop = StopsServing g.K.Keeper.refuses g.K.Keeper.will_wait c.args.location (IsTold (g.E.Write.contents c.args.errors.now) (g.E.Write.contents c.tell.new.errors)) in
+    let noted = StopsServing g.K.Keeper.refuses g.K.Keeper.will_wait c.args.location (HasNoted c.answer_all-answered.new.trouble) in
     let still = stops_as g.K.Keeper.refuses g.K.Keeper.will_wait c.args.location _ _ (told_still (g.E.Write.contents c.args.errors.now) (g.E.Write.contents c.loop.errors) (g.E.Write.contents c.tell.new.errors) c.loop.trouble c.answer_all-answered.new.trouble c.tell.new.self c.in_ok-answered.ensures.kept c.tell.ensures.once c.tell.ensures.none c.tell.ensures.tells c.tell.ensures.same c.tell.ensures.told c.tell.ensures.untold c.loop.invariant.told) in
     let still_out = closed_as g.K.Keeper.gives g.K.Keeper.will_wait g.K.Keeper.closes c.args.location _ _ (told_still (g.E.Write.contents c.args.errors.now) (g.E.Write.contents c.loop.errors) (g.E.Write.contents c.tell.new.errors) c.loop.trouble c.answer_all-answered.new.trouble c.tell.new.self c.in_ok-answered.ensures.kept c.tell.ensures.once c.tell.ensures.none c.tell.ensures.tells c.tell.ensures.same c.tell.ensures.told c.tell.ensures.untold c.loop.invariant.told) in
     let now_told = stops_as g.K.Keeper.refuses g.K.Keeper.will_wait c.args.location _ _ (told_now (g.E.Write.contents c.args.errors.now) (g.E.Write.contents c.loop.errors) (g.E.Write.contents c.tell.new.errors) c.loop.trouble c.answer_all-answered.new.trouble c.tell.new.self c.in_ok-answered.ensures.kept c.tell.ensures.once c.tell.ensures.none c.tell.ensures.tells c.tell.ensures.same c.tell.ensures.told c.tell.ensures.untold c.loop.invariant.told) in
@@ -109,7 +109,7 @@ loop-preserved g c =
     let was = c.loop.invariant in
     let now = c.in_ok-answered.ensures in
     let live : c.answer_all-answered.new.session.client.closed ≡ false = search rules in
-    let goes : GoesOn g.R.Read.remaining c.loop.input c.read_at.new.input = subst (λ o. IfSome o (λ count. GoesOn g.R.Read.remaining c.loop.input c.read_at.new.input)) c.in-Some.is c.in_ok-len.ensures.goes in
+    let goes : ReadGoesOn g.R.Read.remaining c.loop.input c.read_at.new.input = subst (λ o. IfSome o (λ count. ReadGoesOn g.R.Read.remaining c.loop.input c.read_at.new.input)) c.in-Some.is c.in_ok-len.ensures.goes in
     record {
       reads = one_turn _ _ c.loop.counter c.loop.input c.read_at.new.input was.reads goes;
       live = live;
@@ -123,7 +123,7 @@ loop-preserved g c =
 
 pub returns-clause-serves : goal.returns-clause-serves
 returns-clause-serves g c tells idle accounts first_in first_out first =
-    broken_served (Stops g.K.Keeper.refuses g.K.Keeper.will_wait c.args.location (IsTold (g.E.Write.contents c.args.errors.now) (g.E.Write.contents c.loop.errors))) (WasOut g.K.Keeper.gives g.K.Keeper.will_wait g.K.Keeper.closes c.args.location (IsTold (g.E.Write.contents c.args.errors.now) (g.E.Write.contents c.loop.errors))) accounts first_in (g.R.Read.remaining c.loop.input) first_out (g.W.Write.contents c.loop.output) c.loop.session.client (g.K.Keeper.holds c.loop.keeper) (c.loop.invariant.served tells idle accounts first_in first_out first)
+    broken_served (StopsServing g.K.Keeper.refuses g.K.Keeper.will_wait c.args.location (IsTold (g.E.Write.contents c.args.errors.now) (g.E.Write.contents c.loop.errors))) (WasOut g.K.Keeper.gives g.K.Keeper.will_wait g.K.Keeper.closes c.args.location (IsTold (g.E.Write.contents c.args.errors.now) (g.E.Write.contents c.loop.errors))) accounts first_in (g.R.Read.remaining c.loop.input) first_out (g.W.Write.contents c.loop.output) c.loop.session.client (g.K.Keeper.holds c.loop.keeper) (c.loop.invariant.served tells idle accounts first_in first_out first)
 
 pub returns-clause-fault : goal.returns-clause-fault
 returns-clause-fault g c =
@@ -137,7 +137,7 @@ loop-init g c = record {
   live = c.requires;
   back = λ h. h;
   served = λ tells idle accounts first_in first_out first.
-      let stop = Stops g.K.Keeper.refuses g.K.Keeper.will_wait c.args.location (IsTold (g.E.Write.contents c.args.errors.now) (g.E.Write.contents c.args.errors.now)) in
+      let stop = StopsServing g.K.Keeper.refuses g.K.Keeper.will_wait c.args.location (IsTold (g.E.Write.contents c.args.errors.now) (g.E.Write.contents c.args.errors.now)) in
       served_as Unstopped stop ⊥ (WasOut g.K.Keeper.gives g.K.Keeper.will_wait g.K.Keeper.closes c.args.location (IsTold (g.E.Write.contents c.args.errors.now) (g.E.Write.contents c.args.errors.now))) (never_stops stop) (λ never. absurd never) accounts first_in (g.R.Read.remaining c.args.input.now) first_out (g.W.Write.contents c.args.output.now) c.args.session.now.client (g.K.Keeper.holds c.args.keeper.now) first;
   told = inl (c.none-trouble.ensures.untold, c.none-trouble.ensures.none, refl);
   none = λ tells h. h;
@@ -153,7 +153,7 @@ returns-then-is_over-clause-reads g c =
     let old = c.loop.input in
     let new = c.read_at.new.input in
     let shut : c.answer_all-answered.new.session.client.closed ≡ true = search rules in
-    let goes : GoesOn g.R.Read.remaining old new = subst (λ o. IfSome o (λ count. GoesOn g.R.Read.remaining old new)) c.in-Some.is c.in_ok-len.ensures.goes in
+    let goes : ReadGoesOn g.R.Read.remaining old new = subst (λ o. IfSome o (λ count. ReadGoesOn g.R.Read.remaining old new)) c.in-Some.is c.in_ok-len.ensures.goes in
     inr (shut, (c.loop.counter + 1, one_turn _ _ c.loop.counter old new c.loop.invariant.reads goes))
 
 pub returns-in_err-len-clause-told : goal.returns-in_err-len-clause-told

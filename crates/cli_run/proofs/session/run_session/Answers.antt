@@ -1,7 +1,7 @@
 -- A session that ended has status 0, which is that of no fault; of one that broke off it is told why, after its trouble.
 use Rattle.std.proofs.Common.{Ok, Err, refl, arith}
-use Rattle.sievedrun.proofs.StatusLemmas.{status_some}
-use Rattle.sievedrun.proofs.session.run_session.Goals as goal
+use Rattle.cli_run.proofs.StatusLemmas.{status_some}
+use Rattle.cli_run.proofs.session.run_session.Goals as goal
 
 pub returns-in-Err-clause-reads : goal.returns-in-Err-clause-reads
 returns-in-Err-clause-reads g c is = absurd (omega (arith, status_some c.in-Err.fault, c.refuse.ensures.status, is))

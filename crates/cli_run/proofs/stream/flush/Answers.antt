@@ -1,8 +1,8 @@
 -- It was flushed, or that failed.
 use Rattle.std.proofs.Common.{refl}
-use Rattle.sievedrun.specs.Streams.{flush_failed, was_flushed}
-use Rattle.sievedrun.proofs.StreamLemmas.{kept_appends}
-use Rattle.sievedrun.proofs.stream.flush.Goals as goal
+use Rattle.cli_run.specs.Streams.{flush_failed, was_flushed}
+use Rattle.cli_run.proofs.StreamLemmas.{kept_appends}
+use Rattle.cli_run.proofs.stream.flush.Goals as goal
 
 pub returns-in-Ok : goal.returns-in-Ok
 returns-in-Ok g c = (kept_appends _ _ c.flush.ensures.bytes, was_flushed _)

@@ -1,10 +1,10 @@
 -- A front is written so far, and then more of it, or no more.
 use Rattle.std.proofs.Common.{◌≡◌, ◌+◌, drop, ap, ◌∙◌, refl, arith}
 use Rattle.std.proofs.lemmas.List.{drop-drop}
-use Rattle.sievedrun.proofs.StreamLemmas.{nothing_written, one_turn, text_on, turns_as}
-use Rattle.sievedrun.specs.Streams.{Takes, turns_end}
-use Rattle.sievedrun.specs.Streams.InTurn.{none_yet}
-use Rattle.sievedrun.proofs.stream.put.Goals as goal
+use Rattle.cli_run.proofs.StreamLemmas.{nothing_written, one_turn, text_on, turns_as}
+use Rattle.cli_run.specs.Streams.{WriteTakes, turns_end}
+use Rattle.cli_run.specs.Streams.InTurn.{none_yet}
+use Rattle.cli_run.proofs.stream.put.Goals as goal
 
 pub loop-init : goal.loop-init
 loop-init g c = record { written = (0, refl, nothing_written (g.W.Write.contents c.args.output.now)); writes = none_yet }
@@ -22,4 +22,4 @@ pub returns : goal.returns
 returns g c =
     let contents = g.W.Write.contents in
     let all : c.loop.counter ≡ 18446744073709551615 = omega arith in
-    (refl, ((c.loop.invariant.written.0, c.loop.invariant.written.2), turns_end (contents c.loop.output) (Takes contents) c.args.output.now c.loop.output (turns_as _ _ _ _ _ all c.loop.invariant.writes)))
+    (refl, ((c.loop.invariant.written.0, c.loop.invariant.written.2), turns_end (contents c.loop.output) (WriteTakes contents) c.args.output.now c.loop.output (turns_as _ _ _ _ _ all c.loop.invariant.writes)))

@@ -1,14 +1,14 @@
 -- Three texts in turn.
 use Rattle.std.proofs.Common.{[], ◌∷◌, ◌++◌, Ok, Err, append_assoc, sym, subst, rules}
-use Rattle.sievedrun.specs.Faults.{IsPut}
-use Rattle.sievedrun.proofs.StreamLemmas.{put_then, put_cut}
-use Rattle.sievedrun.proofs.stream.put_line.Goals as goal
+use Rattle.cli_run.specs.Faults.{IsTextPut}
+use Rattle.cli_run.proofs.StreamLemmas.{put_then, put_cut}
+use Rattle.cli_run.proofs.stream.put_line.Goals as goal
 
 pub returns-in_err-put : goal.returns-in_err-put
 returns-in_err-put g c =
     let old = g.W.Write.contents c.args.output.now in
     let new = g.W.Write.contents c.put.new.output in
-    subst (IsPut c.from_residual.result old new) (sym (append_assoc c.args.word.now c.args.what.now (10 ∷ []))) (put_cut old new c.args.word.now (c.args.what.now ++ 10 ∷ []) c.in_err-put.field-0.0 c.from_residual.result (search rules) c.in_err-put.ensures)
+    subst (IsTextPut c.from_residual.result old new) (sym (append_assoc c.args.word.now c.args.what.now (10 ∷ []))) (put_cut old new c.args.word.now (c.args.what.now ++ 10 ∷ []) c.in_err-put.field-0.0 c.from_residual.result (search rules) c.in_err-put.ensures)
 
 pub returns-in_err-put-2 : goal.returns-in_err-put-2
 returns-in_err-put-2 g c =

@@ -2,10 +2,10 @@
 use Rattle.std.proofs.Common.{◌≡◌, ◌+◌, ◌≤◌, length, take, drop, unwrap_or, ap, subst, ◌∙◌, IfSome, rules, arith}
 use Rattle.std.proofs.lemmas.List.{with_items_is, places}
 use Rattle.std.specs.Io.KnownBytes.{Consumes}
-use Rattle.sievedrun.specs.Streams.{GoesOn, reads_end}
-use Rattle.sievedrun.specs.Streams.InTurn.{none_yet}
-use Rattle.sievedrun.proofs.StreamLemmas.{filled_on, nothing_read, one_turn, turns_as}
-use Rattle.sievedrun.proofs.stream.read_all.Goals as goal
+use Rattle.cli_run.specs.Streams.{ReadGoesOn, reads_end}
+use Rattle.cli_run.specs.Streams.InTurn.{none_yet}
+use Rattle.cli_run.proofs.StreamLemmas.{filled_on, nothing_read, one_turn, turns_as}
+use Rattle.cli_run.proofs.stream.read_all.Goals as goal
 
 pub loop-init : goal.loop-init
 loop-init g c = record { filled = omega arith; read = nothing_read (g.R.Read.remaining c.args.input.now); reads = none_yet }
@@ -19,7 +19,7 @@ loop-preserved g c =
     let old = c.loop.input in
     let new = c.read_at.new.input in
     let came : unwrap_or c.in_ok-more.field-0 0 ≡ more = ap (λ o. unwrap_or o 0) c.in-Some.is in
-    let goes : GoesOn g.R.Read.remaining old new = subst (λ o. IfSome o (λ count. GoesOn g.R.Read.remaining old new)) c.in-Some.is read.goes in
+    let goes : ReadGoesOn g.R.Read.remaining old new = subst (λ o. IfSome o (λ count. ReadGoesOn g.R.Read.remaining old new)) c.in-Some.is read.goes in
     let whole : length room ≡ c.make_room.new.octets.len = search (rules, places) in
     let fits : filled + more ≤ length room = subst (λ n. filled + n ≤ length room) came read.fits in
     let front = read.front ∙ ap (take filled) c.as_mut_slice.ensures.value ∙ c.make_room.ensures.front in

@@ -1,9 +1,9 @@
 -- The read told the end, was interrupted, or failed.
 use Rattle.std.proofs.Common.{[], inr, subst, take, rules}
 use Rattle.std.specs.Io.KnownBytes.{Consumes, IsAtEnd}
-use Rattle.sievedrun.specs.Streams.{read_failed, tells_end, was_interrupted}
-use Rattle.sievedrun.proofs.StreamLemmas.{failed_so}
-use Rattle.sievedrun.proofs.stream.read_at.Goals as goal
+use Rattle.cli_run.specs.Streams.{read_failed, tells_end, was_interrupted}
+use Rattle.cli_run.proofs.StreamLemmas.{failed_so}
+use Rattle.cli_run.proofs.stream.read_at.Goals as goal
 
 pub returns-in-Ok-eq0-clause-tells : goal.returns-in-Ok-eq0-clause-tells
 returns-in-Ok-eq0-clause-tells g c is =

@@ -1,7 +1,7 @@
 -- It was written and flushed.
 use Rattle.std.proofs.Common.{rules}
-use Rattle.sievedrun.proofs.StreamLemmas.{flushed_then, printed_cut_whole}
-use Rattle.sievedrun.proofs.stream.write_all.Goals as goal
+use Rattle.cli_run.proofs.StreamLemmas.{flushed_then, printed_cut_whole}
+use Rattle.cli_run.proofs.stream.write_all.Goals as goal
 
 pub returns-in_err-put : goal.returns-in_err-put
 returns-in_err-put g c = printed_cut_whole _ _ _ c.in_err-put.field-0.0 c.from_residual.result (search rules) c.in_err-put.ensures

@@ -1,8 +1,8 @@
 -- The write failed, was interrupted, or took nothing.
 use Rattle.std.proofs.Common.{inr}
-use Rattle.sievedrun.specs.Streams.{took_nothing, was_interrupted, write_failed}
-use Rattle.sievedrun.proofs.StreamLemmas.{failed_so}
-use Rattle.sievedrun.proofs.stream.write_some.Goals as goal
+use Rattle.cli_run.specs.Streams.{took_nothing, was_interrupted, write_failed}
+use Rattle.cli_run.proofs.StreamLemmas.{failed_so}
+use Rattle.cli_run.proofs.stream.write_some.Goals as goal
 
 pub returns-in_ok-allow_retry-in-Err-clause-takes : goal.returns-in_ok-allow_retry-in-Err-clause-takes
 returns-in_ok-allow_retry-in-Err-clause-takes g c = inr (was_interrupted _ _ c.in-Err.error c.in_ok-allow_retry-in-Err.ensures.retried)

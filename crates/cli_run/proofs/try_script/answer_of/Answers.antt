@@ -1,11 +1,11 @@
 -- What is answered of what is kept is answered of what came.
 use Rattle.std.proofs.Common.{◌≡◌, List, ℕ, Err, IfErr, subst, sym, rules}
 use Rattle.std.proofs.lemmas.Result.{IfErr-weaker, IfOk-weaker}
-use Rattle.sievedrun.specs.Faults.{IsUnanswered}
-use Rattle.sievedrun.specs.Fronts.{KeepsFront}
-use Rattle.sievedrun.specs.TryScript.{Answers, HasNoAnswer, IsNoInput, OfInput}
-use Rattle.sievedrun.proofs.FrontLemmas.{not_read, of_input, unanswered}
-use Rattle.sievedrun.proofs.try_script.answer_of.Goals as goal
+use Rattle.cli_run.specs.Faults.{IsUnanswered}
+use Rattle.cli_run.specs.KeptInputs.{KeepsInput}
+use Rattle.cli_run.specs.TryScript.{AnswersInput, HasNoAnswer, IsNoInput, OfInput}
+use Rattle.cli_run.proofs.FrontLemmas.{not_read, of_input, unanswered}
+use Rattle.cli_run.proofs.try_script.answer_of.Goals as goal
 
 pub returns-in_err-front-clause-none : goal.returns-in_err-front-clause-none
 returns-in_err-front-clause-none g c =
@@ -19,9 +19,9 @@ returns-clause-answer g c =
     let front = c.in_ok-front.front in
     let given = g.R.Read.remaining c.args.input.now in
     IfOk-weaker c.answer_to.result
-    (λ answer. (came : List ℕ) → KeepsFront came front.octets.items front.count → Answers c.args.envelope c.args.when came answer)
-    (λ answer. OfInput given (λ came. Answers c.args.envelope c.args.when came answer))
-    (λ answer so. of_input given (λ came. KeepsFront came front.octets.items front.count) (λ came. Answers c.args.envelope c.args.when came answer) so c.in_ok-front.ensures.ok)
+    (λ answer. (came : List ℕ) → KeepsInput came front.octets.items front.count → AnswersInput c.args.envelope c.args.when came answer)
+    (λ answer. OfInput given (λ came. AnswersInput c.args.envelope c.args.when came answer))
+    (λ answer so. of_input given (λ came. KeepsInput came front.octets.items front.count) (λ came. AnswersInput c.args.envelope c.args.when came answer) so c.in_ok-front.ensures.ok)
     c.answer_to.ensures.answer
 
 pub returns-clause-none : goal.returns-clause-none
@@ -29,7 +29,7 @@ returns-clause-none g c =
     let front = c.in_ok-front.front in
     let given = g.R.Read.remaining c.args.input.now in
     IfErr-weaker c.answer_to.result
-    (λ fault. (came : List ℕ) → KeepsFront came front.octets.items front.count → IsUnanswered (IsNoInput came) fault)
+    (λ fault. (came : List ℕ) → KeepsInput came front.octets.items front.count → IsUnanswered (IsNoInput came) fault)
     (HasNoAnswer given)
     (λ fault so. unanswered given front.octets.items front.count c.in_ok-front.ensures.ok fault so)
     c.answer_to.ensures.none

@@ -1,7 +1,7 @@
 -- Without an answer nothing is written.
 use Rattle.std.proofs.Common.{rules}
-use Rattle.sievedrun.proofs.FrontLemmas.{leaves_nothing}
-use Rattle.sievedrun.proofs.try_script.print_answer.Goals as goal
+use Rattle.cli_run.proofs.FrontLemmas.{leaves_nothing}
+use Rattle.cli_run.proofs.try_script.print_answer.Goals as goal
 
 pub returns-in_err-answer-clause-leaves : goal.returns-in_err-answer-clause-leaves
 returns-in_err-answer-clause-leaves g c =

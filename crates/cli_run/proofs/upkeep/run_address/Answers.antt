@@ -1,19 +1,19 @@
 -- The account is kept up so, and the line is printed after that.
 use Rattle.std.proofs.Common.{◌≡◌, ◌++◌, codes, ap, ◌∙◌, rules}
-use Rattle.mailengine.specs.declared.answer.Answer.TheVariants.{Changed}
-use Rattle.mailengine.specs.declared.event.Event.TheVariants.{Keep}
-use Rattle.mailengine.specs.declared.upkeep.Upkeep.TheVariants.{SetAddress}
-use Rattle.reportlines.specs.Reports.{with_end}
-use Rattle.sievedrun.specs.Faults.{memory}
-use Rattle.sievedrun.specs.Serving.{HasDenied}
-use Rattle.sievedrun.specs.Words.{IsKeeping}
-use Rattle.sievedrun.proofs.WordLemmas.{event_hindered, event_unmade, event_made, no_memory}
-use Rattle.sievedrun.proofs.upkeep.run_address.Goals as goal
+use Rattle.store_engine.specs.declared.answer.Answer.TheVariants.{Changed}
+use Rattle.store_engine.specs.declared.event.Event.TheVariants.{Keep}
+use Rattle.store_engine.specs.declared.upkeep.Upkeep.TheVariants.{SetAddress}
+use Rattle.cli_reports.specs.Reports.{ended_line}
+use Rattle.cli_run.specs.Faults.{memory}
+use Rattle.cli_run.specs.Serving.{HasDenied}
+use Rattle.cli_run.specs.Subcommands.{IsUpkeepEvent}
+use Rattle.cli_run.proofs.WordLemmas.{event_hindered, event_unmade, event_made, no_memory}
+use Rattle.cli_run.proofs.upkeep.run_address.Goals as goal
 
 pub returns-in_err-address-clause-does : goal.returns-in_err-address-clause-does
 returns-in_err-address-clause-does g c tells =
     let user = c.args.asked in
-    event_hindered ⊥ ⊥ (HasDenied g.K.Keeper.refuses g.K.Keeper.will_wait c.args.asked.location) (IsKeeping user.user.now (SetAddress user.address.now)) (g.W.Write.contents c.args.output.now)
+    event_hindered ⊥ ⊥ (HasDenied g.K.Keeper.refuses g.K.Keeper.will_wait c.args.asked.location) (IsUpkeepEvent user.user.now (SetAddress user.address.now)) (g.W.Write.contents c.args.output.now)
     (g.K.Keeper.holds c.args.keeper.now) memory c.from_residual.result (search rules) (no_memory ⊥ ⊥ (HasDenied g.K.Keeper.refuses g.K.Keeper.will_wait c.args.asked.location))
 
 pub returns-in_err-keep_up-clause-does : goal.returns-in_err-keep_up-clause-does
@@ -24,7 +24,7 @@ returns-in_err-keep_up-clause-does g c tells =
     let name : c.as_bytes-2.result.now ≡ user.user.now = search rules in
     let text : c.in_ok-address.address ≡ user.address.now = search rules in
     let same : event ≡ Keep user.user.now (SetAddress user.address.now) = ap (λ n. Keep n act) name ∙ ap (λ a. Keep user.user.now (SetAddress a)) text in
-    event_unmade ⊥ ⊥ (HasDenied g.K.Keeper.refuses g.K.Keeper.will_wait c.args.asked.location) (IsKeeping user.user.now (SetAddress user.address.now)) {X = Unit {0}} event same (λ done. Changed) (g.K.Keeper.holds c.args.keeper.now) (g.K.Keeper.holds c.keep_up.new.keeper)
+    event_unmade ⊥ ⊥ (HasDenied g.K.Keeper.refuses g.K.Keeper.will_wait c.args.asked.location) (IsUpkeepEvent user.user.now (SetAddress user.address.now)) {X = Unit {0}} event same (λ done. Changed) (g.K.Keeper.holds c.args.keeper.now) (g.K.Keeper.holds c.keep_up.new.keeper)
     (g.W.Write.contents c.args.output.now) (λ no. no) c.in_err-keep_up.field-0.0 c.from_residual-in_err-keep_up.result (search rules) (c.in_err-keep_up.ensures.puts tells)
 
 pub returns-clause-does : goal.returns-clause-does
@@ -36,5 +36,5 @@ returns-clause-does g c tells =
     let text : c.in_ok-address.address ≡ user.address.now = search rules in
     let same : event ≡ Keep user.user.now (SetAddress user.address.now) = ap (λ n. Keep n act) name ∙ ap (λ a. Keep user.user.now (SetAddress a)) text in
     let told : c.as_bytes-3.result.now ≡ c.as_bytes-2.result.now = search rules in
-    event_made ⊥ ⊥ (HasDenied g.K.Keeper.refuses g.K.Keeper.will_wait c.args.asked.location) (IsKeeping user.user.now (SetAddress user.address.now)) {X = Unit {0}} event same (λ done. Changed) (g.K.Keeper.holds c.args.keeper.now) (g.K.Keeper.holds c.keep_up.new.keeper)
-    tt (with_end (codes "changed " ++ c.as_bytes-3.result.now)) (ap (λ n. with_end (codes "changed " ++ n)) told) (c.in_ok-keep_up.ensures.puts tells) (g.W.Write.contents c.args.output.now) (g.W.Write.contents c.write_line.new.output) c.write_line.result c.write_line.ensures
+    event_made ⊥ ⊥ (HasDenied g.K.Keeper.refuses g.K.Keeper.will_wait c.args.asked.location) (IsUpkeepEvent user.user.now (SetAddress user.address.now)) {X = Unit {0}} event same (λ done. Changed) (g.K.Keeper.holds c.args.keeper.now) (g.K.Keeper.holds c.keep_up.new.keeper)
+    tt (ended_line (codes "changed " ++ c.as_bytes-3.result.now)) (ap (λ n. ended_line (codes "changed " ++ n)) told) (c.in_ok-keep_up.ensures.puts tells) (g.W.Write.contents c.args.output.now) (g.W.Write.contents c.write_line.new.output) c.write_line.result c.write_line.ensures

@@ -1,10 +1,10 @@
 -- The account was read, its line added, and the next name read, as far as that went.
 use Rattle.std.proofs.Common.{◌≡◌, ◌++◌, OnOk, rules}
 use Rattle.sqlite.specs.Held.{state}
-use Rattle.mailstore.proofs.WalkLemmas.{over_failed, profile_over}
-use Rattle.sievedrun.specs.Words.{AddsUser, found_line}
-use Rattle.sievedrun.proofs.UserLemmas.{Answered, user_added}
-use Rattle.sievedrun.proofs.users.add_user.Goals as goal
+use Rattle.store_accounts.proofs.WalkLemmas.{over_failed, profile_over}
+use Rattle.cli_run.specs.Subcommands.{AddsUser, found_line}
+use Rattle.cli_run.proofs.UserLemmas.{Answered, user_added}
+use Rattle.cli_run.proofs.users.add_user.Goals as goal
 
 pub returns-in_err-found-clause-adds : goal.returns-in_err-found-clause-adds
 returns-in_err-found-clause-adds g c =

@@ -1,9 +1,9 @@
 -- The store was taken, its accounts read one after the other, and handed back.
 use Rattle.std.proofs.Common.{Ok, refl, rules}
 use Rattle.sqlite.specs.Held.{state}
-use Rattle.sievedrun.specs.Serving.{HasDenied}
-use Rattle.sievedrun.proofs.UserLemmas.{over_turned, listing_denied, listing_failed, listing_had}
-use Rattle.sievedrun.proofs.users.list_users.Goals as goal
+use Rattle.cli_run.specs.Serving.{HasDenied}
+use Rattle.cli_run.proofs.UserLemmas.{over_turned, listing_denied, listing_failed, listing_had}
+use Rattle.cli_run.proofs.users.list_users.Goals as goal
 
 pub returns-in_err-store-clause-found : goal.returns-in_err-store-clause-found
 returns-in_err-store-clause-found g c tells =

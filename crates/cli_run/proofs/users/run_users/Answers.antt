@@ -1,9 +1,9 @@
 -- The users were read in a store that was taken and handed back, and then printed.
 use Rattle.std.proofs.Common.{◌≡◌, Ok, subst, sym, rules}
-use Rattle.sievedrun.specs.Faults.{IsPrinted}
-use Rattle.sievedrun.specs.Serving.{HasDenied}
-use Rattle.sievedrun.proofs.UserLemmas.{users_refused, users_shown}
-use Rattle.sievedrun.proofs.users.run_users.Goals as goal
+use Rattle.cli_run.specs.Faults.{IsPrinted}
+use Rattle.cli_run.specs.Serving.{HasDenied}
+use Rattle.cli_run.proofs.UserLemmas.{users_refused, users_shown}
+use Rattle.cli_run.proofs.users.run_users.Goals as goal
 
 pub returns-in_err-text-clause-does : goal.returns-in_err-text-clause-does
 returns-in_err-text-clause-does g c tells =

@@ -1,11 +1,11 @@
 -- One user more, until none is left.
 use Rattle.std.proofs.Common.{◌≡◌, [], Err, OnOk, subst, rules}
 use Rattle.sqlite.specs.Held.{state}
-use Rattle.mailstore.specs.Users.{FindsOver}
-use Rattle.mailstore.specs.declared.refusal.Refusal.TheVariants.{Store}
-use Rattle.sievedrun.specs.Words.{AddsUser}
-use Rattle.sievedrun.proofs.UserLemmas.{Listed, had, listed_all, listed_failed, listed_first, listed_more, listed_stopped}
-use Rattle.sievedrun.proofs.users.user_lines.Goals as goal
+use Rattle.store_accounts.specs.Users.{FindsOver}
+use Rattle.store_accounts.specs.declared.refusal.Refusal.TheVariants.{Store}
+use Rattle.cli_run.specs.Subcommands.{AddsUser}
+use Rattle.cli_run.proofs.UserLemmas.{Listed, had, listed_all, listed_failed, listed_first, listed_more, listed_stopped}
+use Rattle.cli_run.proofs.users.user_lines.Goals as goal
 
 pub returns-in_err-next-clause-lists : goal.returns-in_err-next-clause-lists
 returns-in_err-next-clause-lists g c =

@@ -1,8 +1,8 @@
 -- The moment and the zone are those of the words, and what is none is told.
 use Rattle.std.proofs.Common.{ℤ, inl, inr, sym, subst, arith, FitsSigned, w16}
 use Rattle.std.proofs.lemmas.Int.{ints, to_z-of_z}
-use Rattle.hostzones.specs.HostZones.{IsOffsetAt}
-use Rattle.sievedrun.proofs.values.when_of.Goals as goal
+use Rattle.mail_dates.specs.HostZones.{IsOffsetAt}
+use Rattle.cli_run.proofs.values.when_of.Goals as goal
 
 pub returns-clause-ok : goal.returns-clause-ok
 returns-clause-ok c =

@@ -1,6 +1,6 @@
 use Rattle.std.proofs.Common.{◌≡◌}
-use Rattle.sieveddaemon.proofs.RoomLemmas.{less_silent}
-use Rattle.sieveddaemon.proofs.room.less_silent.Given as goal
+use Rattle.daemon_core.proofs.RoomLemmas.{less_silent}
+use Rattle.daemon_core.proofs.eviction.less_silent.Given as goal
 
 -- what the entries that are left make of what is left so far is what all make of the most
 abbrev pub invariant-loop-post : goal.invariant-loop-post

@@ -1,13 +1,13 @@
-use Rattle.wires.specs.Life.{acts_of}
-use Rattle.wires.specs.Moves.{at}
-use Rattle.sieveddaemon.proofs.HeadlineLemmas.{headline}
-use Rattle.sieveddaemon.proofs.life.serve.Goals as goal
+use Rattle.net_loop.specs.Life.{acts_of}
+use Rattle.net_loop.specs.Moves.{at}
+use Rattle.daemon_core.proofs.HeadlineLemmas.{headline}
+use Rattle.daemon_core.proofs.life.serve_clients.Goals as goal
 
 pub returns-clause-headline : goal.returns-clause-headline
 returns-clause-headline g c tells new fresh start shown settled =
     let lives = c.serve.ensures.lives tells in (
       acts_of lives.moves,
       lives.grows,
-      headline g.O.Desk.view (at g.O.Outside.seen g.O.Outside.rest c.args.outside.now c.args.daemon.now c.args.service.now) fresh new start shown settled lives.moves
+      headline g.O.StoreAccess.view (at g.O.Outside.seen g.O.Outside.rest c.args.outside.now c.args.daemon.now c.args.service.now) fresh new start shown settled lives.moves
           (at g.O.Outside.seen g.O.Outside.rest c.serve.new.outside c.serve.new.machine c.serve.new.service) lives.passes,
     )

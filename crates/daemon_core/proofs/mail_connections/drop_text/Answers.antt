@@ -1,8 +1,8 @@
 use Rattle.std.proofs.Common.{◌≡◌, Some, refl, rules}
 use Rattle.std.specs.Ordering.{nat_cmp}
 use Rattle.std.specs.BTreeMap as tree
-use Rattle.sieveddaemon.specs.MailRules.{post_at}
-use Rattle.sieveddaemon.proofs.mail_open.drop_text.Goals as goal
+use Rattle.daemon_core.specs.MailRules.{post_at}
+use Rattle.daemon_core.proofs.mail_connections.drop_text.Goals as goal
 
 pub returns-clause-drops : goal.returns-clause-drops
 returns-clause-drops c = λ _.

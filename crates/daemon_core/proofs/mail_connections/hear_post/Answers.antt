@@ -1,11 +1,11 @@
 use Rattle.std.proofs.Common.{◌≡◌, None, option_map, length, ap, refl, rules}
 use Rattle.std.specs.Ordering.{nat_cmp}
 use Rattle.std.specs.BTreeMap as tree
-use Rattle.sessions.specs.Counts.{SessionView}
-use Rattle.sieveddaemon.specs.MailRules.{Fits}
-use Rattle.sieveddaemon.proofs.BoundLemmas.{kept_posts, takes_behind, lacks_behind}
-use Rattle.sieveddaemon.proofs.EventLemmas.{ok_then, err_then}
-use Rattle.sieveddaemon.proofs.mail_open.hear_post.Goals as goal
+use Rattle.managesieve_sessions.specs.Counts.{SessionView}
+use Rattle.daemon_core.specs.MailRules.{Fits}
+use Rattle.daemon_core.proofs.BoundLemmas.{kept_posts, takes_behind, lacks_behind}
+use Rattle.daemon_core.proofs.EventLemmas.{ok_then, err_then}
+use Rattle.daemon_core.proofs.mail_connections.hear_post.Goals as goal
 
 pub returns-clause-ok : goal.returns-clause-ok
 returns-clause-ok c =

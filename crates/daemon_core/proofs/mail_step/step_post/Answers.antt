@@ -1,19 +1,19 @@
 use Rattle.std.proofs.Common.{◌≡◌, Some, inl, refl, subst, rules}
 use Rattle.std.specs.Ordering.{nat_cmp}
 use Rattle.std.specs.BTreeMap as tree
-use Rattle.sieveddaemon.specs.Bounds.{room}
-use Rattle.sieveddaemon.specs.Deeds.{DoesOne}
-use Rattle.sieveddaemon.specs.MailRules.{post_at}
-use Rattle.sieveddaemon.proofs.mail_step.step_post.Goals as goal
+use Rattle.daemon_core.specs.Bounds.{octet_room}
+use Rattle.daemon_core.specs.LmtpSteps.{DoesOne}
+use Rattle.daemon_core.specs.MailRules.{post_at}
+use Rattle.daemon_core.proofs.mail_step.step_post.Goals as goal
 
 pub returns-in-Ok-clause-ok : goal.returns-in-Ok-clause-ok
 returns-in-Ok-clause-ok g c = λ tell.
     let one = c.in-Ok.ensures.ok tell in
     let was : post_at c.args.mail.now c.args.id ≡ Some c.in-Some.post.now = search rules in
     let put : tree.Updates nat_cmp c.args.mail.now.posts (c.get_mut.follows.lender c.do_next.new.post) c.args.id (Some c.do_next.new.post) = search rules in
-    let does : DoesOne g.O.Desk.view (room c.args.mail.now) c.args.mail.now.daemon (g.O.Outside.rest c.args.outside.now) c.in-Some.post.now c.args.now one.0 c.do_next.new.out c.do_next.new.daemon
+    let does : DoesOne g.O.StoreAccess.view (octet_room c.args.mail.now) c.args.mail.now.daemon (g.O.Outside.rest c.args.outside.now) c.in-Some.post.now c.args.now one.0 c.do_next.new.out c.do_next.new.daemon
     (g.O.Outside.rest c.do_next.new.outside) c.do_next.new.post =
-    subst (λ n. DoesOne g.O.Desk.view n c.args.mail.now.daemon (g.O.Outside.rest c.args.outside.now) c.in-Some.post.now c.args.now one.0 c.do_next.new.out c.do_next.new.daemon (g.O.Outside.rest c.do_next.new.outside) c.do_next.new.post)
+    subst (λ n. DoesOne g.O.StoreAccess.view n c.args.mail.now.daemon (g.O.Outside.rest c.args.outside.now) c.in-Some.post.now c.args.now one.0 c.do_next.new.out c.do_next.new.daemon (g.O.Outside.rest c.do_next.new.outside) c.do_next.new.post)
     c.room-spare.ensures one.2 in
     record {
       note = one.0;

@@ -1,6 +1,6 @@
 use Rattle.std.proofs.Common.{◌≡◌, Some, arith, rules}
-use Rattle.sieveddaemon.specs.MailRules.{post_at}
-use Rattle.sieveddaemon.proofs.bound.is_own.Goals as goal
+use Rattle.daemon_core.specs.MailRules.{post_at}
+use Rattle.daemon_core.proofs.memory_room.is_own.Goals as goal
 
 pub returns-in-Some-clause-has : goal.returns-in-Some-clause-has
 returns-in-Some-clause-has c = λ yes.

@@ -1,7 +1,7 @@
 use Rattle.std.proofs.Common.{◌≡◌}
-use Rattle.sieveddaemon.specs.MailRules.{least_from, patience_for}
-use Rattle.sieveddaemon.proofs.patience.patience_for.Given as goal
+use Rattle.daemon_core.specs.MailRules.{least_lmtp_patience, patience_for}
+use Rattle.daemon_core.proofs.poll_wait.patience_for.Given as goal
 
 -- what the entries that are left make of the least so far is what all make of the first
 abbrev pub invariant-loop-post : goal.invariant-loop-post
-invariant-loop-post l = least_from l.span l.post-iterator ≡ patience_for l.daemon
+invariant-loop-post l = least_lmtp_patience l.span l.post-iterator ≡ patience_for l.daemon

@@ -1,7 +1,7 @@
 use Rattle.std.proofs.Common.{◌≡◌, take}
 use Rattle.std.specs.List.{flat_map}
-use Rattle.sieveddaemon.specs.Deeds.{joined_octet}
-use Rattle.sieveddaemon.proofs.report.one_line.Given as goal
+use Rattle.daemon_core.specs.LmtpSteps.{joined_octet}
+use Rattle.daemon_core.proofs.report.one_line.Given as goal
 
 -- those so far are joined
 abbrev pub invariant-loop-octet : goal.invariant-loop-octet

@@ -1,12 +1,12 @@
 use Rattle.std.proofs.Common.{◌≡◌, ◌∙◌, sym, refl, rules, true, false, Some, None}
 use Rattle.std.specs.Ordering.{nat_cmp}
 use Rattle.std.specs.BTreeMap as tree
-use Rattle.mailengine.specs.Hosts.{IsSessionEvent}
-use Rattle.mailengine.specs.declared.event.Event.TheVariants.{Open}
-use Rattle.sieveddaemon.specs.Places.{is_out, new_place}
-use Rattle.sieveddaemon.specs.declared.daemon.Daemon.{Daemon}
-use Rattle.sieveddaemon.proofs.EventLemmas.{open_keeps, keeps_same, err_any, known_twice, greeted, went_well}
-use Rattle.sieveddaemon.proofs.session.enter.Goals as goal
+use Rattle.store_engine.specs.Hosts.{IsSessionEvent}
+use Rattle.store_engine.specs.declared.event.Event.TheVariants.{Open}
+use Rattle.daemon_core.specs.ClientStates.{is_out, new_place}
+use Rattle.daemon_core.specs.declared.daemon.Daemon.{Daemon}
+use Rattle.daemon_core.proofs.EventLemmas.{open_keeps, keeps_same, err_any, known_twice, greeted, went_well}
+use Rattle.daemon_core.proofs.session.enter.Goals as goal
 
 pub returns-then-not-is_out-clause-err : goal.returns-then-not-is_out-clause-err
 returns-then-not-is_out-clause-err c =

@@ -1,10 +1,10 @@
 use Rattle.std.proofs.Common.{◌≡◌, ◌==◌, ap, refl, subst, rules, true, false, Some, option_map, is_some, length}
 use Rattle.std.specs.Ordering.{nat_cmp}
 use Rattle.std.specs.BTreeMap as tree
-use Rattle.sessions.specs.Counts.{SessionView}
-use Rattle.sieveddaemon.specs.Places.{is_out, begun}
-use Rattle.sieveddaemon.proofs.EventLemmas.{give_keeps, keeps_same, err_any, some_there}
-use Rattle.sieveddaemon.proofs.session.hear.Goals as goal
+use Rattle.managesieve_sessions.specs.Counts.{SessionView}
+use Rattle.daemon_core.specs.ClientStates.{is_out, begun}
+use Rattle.daemon_core.proofs.EventLemmas.{give_keeps, keeps_same, err_any, some_there}
+use Rattle.daemon_core.proofs.session.hear.Goals as goal
 
 pub returns-then-not-is_out-clause-err : goal.returns-then-not-is_out-clause-err
 returns-then-not-is_out-clause-err c =

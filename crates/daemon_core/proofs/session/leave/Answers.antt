@@ -1,9 +1,9 @@
 use Rattle.std.proofs.Common.{subst}
-use Rattle.mailengine.specs.declared.clients.Clients.{Clients}
-use Rattle.mailengine.specs.declared.event.Event.TheVariants.{Close}
-use Rattle.sieveddaemon.proofs.EventLemmas.{closed}
-use Rattle.mailengine.specs.Hosts.{IsSessionEvent}
-use Rattle.sieveddaemon.proofs.session.leave.Goals as goal
+use Rattle.store_engine.specs.declared.clients.Clients.{Clients}
+use Rattle.store_engine.specs.declared.event.Event.TheVariants.{Close}
+use Rattle.daemon_core.proofs.EventLemmas.{closed}
+use Rattle.store_engine.specs.Hosts.{IsSessionEvent}
+use Rattle.daemon_core.proofs.session.leave.Goals as goal
 
 pub returns : goal.returns
 returns c =

@@ -1,14 +1,14 @@
 use Rattle.std.proofs.Common.{Some, refl, subst}
 use Rattle.std.specs.Ordering.{nat_cmp}
 use Rattle.std.specs.BTreeMap as tree
-use Rattle.sieveddaemon.specs.Places.{renewed}
-use Rattle.sieveddaemon.proofs.step.renew.Goals as goal
+use Rattle.daemon_core.specs.ClientStates.{state_renewed}
+use Rattle.daemon_core.proofs.step.renew.Goals as goal
 
 pub returns-clause-renews : goal.returns-clause-renews
 returns-clause-renews c = record {
   clients = refl;
   holding = refl;
   place = λ before was.
-      (subst (λ b. tree.Updates nat_cmp c.args.daemon.now.places c.replace_waits.new.places c.args.id (Some (renewed c.args.now before c.args.waits c.args.answered b)))
+      (subst (λ b. tree.Updates nat_cmp c.args.daemon.now.places c.replace_waits.new.places c.args.id (Some (state_renewed c.args.now before c.args.waits c.args.answered b)))
       c.is_user-user.ensures (c.replace_waits.ensures.changed before was)).0;
 }

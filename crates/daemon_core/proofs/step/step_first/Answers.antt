@@ -1,16 +1,16 @@
 use Rattle.std.proofs.Common.{◌≡◌, rules, true, false}
-use Rattle.mailengine.specs.Hosts.{IsSessionEvent, AsksStore, KeepsClients}
-use Rattle.mailengine.specs.declared.event.Event.TheVariants.{Step}
-use Rattle.sieveddaemon.specs.Places.{is_out}
-use Rattle.sieveddaemon.proofs.EventLemmas.{step_keeps, keeps_same, err_any, ok_then}
-use Rattle.sieveddaemon.proofs.StepLemmas.{freed, steps_free, behind, asks_after}
-use Rattle.sieveddaemon.proofs.step.step_first.Goals as goal
+use Rattle.store_engine.specs.Hosts.{IsSessionEvent, EventAsksStore, KeepsClients}
+use Rattle.store_engine.specs.declared.event.Event.TheVariants.{Step}
+use Rattle.daemon_core.specs.ClientStates.{is_out}
+use Rattle.daemon_core.proofs.EventLemmas.{step_keeps, keeps_same, err_any, ok_then}
+use Rattle.daemon_core.proofs.StepLemmas.{freed, steps_free, behind, asks_after}
+use Rattle.daemon_core.proofs.step.step_first.Goals as goal
 
 pub returns-in-Ok-None-clause-ok : goal.returns-in-Ok-None-clause-ok
 returns-in-Ok-None-clause-ok g c =
     let keeps : KeepsClients c.args.daemon.now.clients.sessions c.apply_free.new.clients.sessions = search rules in
-    ok_then c.bring.result c.bring.ensures.ok (behind g.O.Outside.tells g.O.Outside.seen g.O.Outside.rest g.O.Desk.view g.O.Desk.clean g.met.O.Desk.sure c.args.outside.now c.bring.new.outside c.args.daemon.now c.bring.new.daemon c.apply_free.new.clients
-    c.args.now c.args.id c.bring.new.out keeps)
+    ok_then c.apply_step.result c.apply_step.ensures.ok (behind g.O.Outside.tells g.O.Outside.seen g.O.Outside.rest g.O.StoreAccess.view g.O.StoreAccess.clean g.met.O.StoreAccess.sure c.args.outside.now c.apply_step.new.outside c.args.daemon.now c.apply_step.new.daemon c.apply_free.new.clients
+    c.args.now c.args.id c.apply_step.new.out keeps)
 
 pub returns-then-not-is_out-clause-lacks : goal.returns-then-not-is_out-clause-lacks
 returns-then-not-is_out-clause-lacks g c =
@@ -26,12 +26,12 @@ pub returns-in-Ok-Some-clause-ok : goal.returns-in-Ok-Some-clause-ok
 returns-in-Ok-Some-clause-ok g c =
     let out : is_out c.in-Ok-Some.answer ≡ true = search rules in
     let made : IsSessionEvent (Step c.args.id) c.in-Ok-Some.answer c.args.daemon.now.clients.sessions c.apply_free.new.clients.sessions = search rules in
-    freed g.O.Outside.tells g.O.Outside.seen g.O.Outside.rest g.O.Desk.view g.O.Desk.clean g.met.O.Desk.sure c.args.outside.now c.tell_freed.new.self c.args.daemon.now c.settle.new.daemon c.apply_free.new.clients c.args.now c.args.id c.settle.new.out
+    freed g.O.Outside.tells g.O.Outside.seen g.O.Outside.rest g.O.StoreAccess.view g.O.StoreAccess.clean g.met.O.StoreAccess.sure c.args.outside.now c.tell_freed.new.self c.args.daemon.now c.settle.new.daemon c.apply_free.new.clients c.args.now c.args.id c.settle.new.out
     (Step c.args.id) c.in-Ok-Some.answer (steps_free c.args.daemon.now c.args.now c.args.id c.in-Ok-Some.answer out c.requires.may) c.requires.may.0 c.requires.may.1 made c.tell_freed.ensures.told c.tell_freed.ensures.shown
     c.settle.ensures.renews c.settle.ensures.said
 
-pub bring-requires-clause-asks : goal.bring-requires-clause-asks
-bring-requires-clause-asks g c =
+pub apply_step-requires-clause-asks : goal.apply_step-requires-clause-asks
+apply_step-requires-clause-asks g c =
     let keeps : KeepsClients c.args.daemon.now.clients.sessions c.apply_free.new.clients.sessions = search rules in
-    let asks : AsksStore (Step c.args.id) c.args.daemon.now.clients.sessions = search rules in
+    let asks : EventAsksStore (Step c.args.id) c.args.daemon.now.clients.sessions = search rules in
     asks_after c.args.id c.args.daemon.now.clients.sessions c.apply_free.new.clients.sessions keeps asks

@@ -1,7 +1,7 @@
 use Rattle.std.proofs.Common.{◌≡◌, ℕ, ◌+◌, ◌<◌, take}
 use Rattle.std.specs.Prelude.{sum}
-use Rattle.loglines.specs.Times.{up_to}
-use Rattle.loglines.proofs.times.slot_at.Given as goal
+use Rattle.daemon_log.specs.Times.{up_to}
+use Rattle.daemon_log.proofs.times.slot_at.Given as goal
 
 -- what is left is wanted of the slots from this one on, and those before have fewer
 abbrev pub invariant-loop-slot : goal.invariant-loop-slot

@@ -1,6 +1,6 @@
 use Rattle.std.proofs.Common.{ℕ, ◌<◌}
-use Rattle.loglines.specs.Times.{bound_of}
-use Rattle.loglines.proofs.times.slot_of.Given as goal
+use Rattle.daemon_log.specs.Times.{bound_of}
+use Rattle.daemon_log.proofs.times.slot_of.Given as goal
 
 -- it is longer than the slots before hold
 abbrev pub invariant-loop-slot : goal.invariant-loop-slot

@@ -1,6 +1,6 @@
 use Rattle.std.proofs.Common.{◌≡◌, ◌++◌, length}
-use Rattle.loglines.specs.Values.{escaped}
-use Rattle.loglines.proofs.value.add_escaped.Given as goal
+use Rattle.daemon_log.specs.Values.{escaped}
+use Rattle.daemon_log.proofs.value.add_escaped.Given as goal
 
 abbrev pub invariant-loop-octet : goal.invariant-loop-octet
 invariant-loop-octet l = l.line ++ escaped l.rest ≡ l.fn.line ++ escaped l.value

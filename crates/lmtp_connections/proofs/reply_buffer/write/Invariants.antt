@@ -1,5 +1,5 @@
 use Rattle.std.proofs.Common.{◌≡◌, ◌+◌, ◌++◌, take}
-use Rattle.mailposts.proofs.room.write.Given as goal
+use Rattle.lmtp_connections.proofs.reply_buffer.write.Given as goal
 
 -- what was written so far, and the room that is left
 abbrev pub invariant-loop-octet : goal.invariant-loop-octet

@@ -1,7 +1,7 @@
 use Rattle.std.proofs.Common.{arith}
-use Rattle.lmtp.specs.Arguments.{from_word, TakesSender}
-use Rattle.lmtp.proofs.ArgumentLemmas.{no_addressed, not_taken}
-use Rattle.lmtp.proofs.argument.read_mail.Goals as goal
+use Rattle.lmtp_dialogue.specs.Arguments.{from_word, TakesSender}
+use Rattle.lmtp_dialogue.proofs.ArgumentLemmas.{no_addressed, not_taken}
+use Rattle.lmtp_dialogue.proofs.argument.read_mail.Goals as goal
 
 pub returns-in_default-read_path : goal.returns-in_default-read_path
 returns-in_default-read_path c = (

@@ -1,6 +1,6 @@
 use Rattle.std.proofs.Common.{Some, None, inl, inr}
-use Rattle.lmtp.proofs.ParameterLemmas.{no_size}
-use Rattle.lmtp.proofs.argument.read_parameter.Goals as goal
+use Rattle.lmtp_dialogue.proofs.ParameterLemmas.{no_size}
+use Rattle.lmtp_dialogue.proofs.argument.read_parameter.Goals as goal
 
 pub returns-in-None-clause-none : goal.returns-in-None-clause-none
 returns-in-None-clause-none c = no_size c.args.text.now c.in-Some.digits.now c.in-Some.ensures.found c.in-None.ensures.none

@@ -1,6 +1,6 @@
 use Rattle.std.proofs.Common.{refl}
-use Rattle.lmtp.proofs.ParameterLemmas.{step_at, at_end, no_space, no_parameter_at, empty_by, some_by}
-use Rattle.lmtp.proofs.argument.read_parameters.Goals as goal
+use Rattle.lmtp_dialogue.proofs.ParameterLemmas.{step_at, at_end, no_space, no_parameter_at, empty_by, some_by}
+use Rattle.lmtp_dialogue.proofs.argument.read_parameters.Goals as goal
 
 pub returns-in_default : goal.returns-in_default
 returns-in_default c = (refl, no_space c.args.rest.now c.loop-left.left.now c.loop-left.size c.loop-left.invariant (some_by c.loop-left.left.now c.loop-left-test.ensures) c.in_default.ensures.none)

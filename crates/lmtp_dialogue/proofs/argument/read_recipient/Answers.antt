@@ -1,6 +1,6 @@
-use Rattle.lmtp.specs.Arguments.{to_word, TakesRecipient}
-use Rattle.lmtp.proofs.ArgumentLemmas.{no_addressed, not_taken}
-use Rattle.lmtp.proofs.argument.read_recipient.Goals as goal
+use Rattle.lmtp_dialogue.specs.Arguments.{to_word, TakesRecipient}
+use Rattle.lmtp_dialogue.proofs.ArgumentLemmas.{no_addressed, not_taken}
+use Rattle.lmtp_dialogue.proofs.argument.read_recipient.Goals as goal
 
 pub returns-in_default-read_path : goal.returns-in_default-read_path
 returns-in_default-read_path c = (

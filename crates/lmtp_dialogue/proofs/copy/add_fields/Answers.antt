@@ -1,5 +1,5 @@
-use Rattle.lmtp.proofs.CopyLemmas.{five}
-use Rattle.lmtp.proofs.copy.add_fields.Goals as goal
+use Rattle.lmtp_dialogue.proofs.CopyLemmas.{five}
+use Rattle.lmtp_dialogue.proofs.copy.add_fields.Goals as goal
 
 pub returns : goal.returns
 returns c =

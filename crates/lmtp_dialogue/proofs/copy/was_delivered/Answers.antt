@@ -1,8 +1,8 @@
 use Rattle.std.proofs.Common.{ap, arith}
 use Rattle.std.specs.List.{list_any}
-use Rattle.lmtp.specs.Copies.{tells_delivery}
-use Rattle.lmtp.proofs.CopyLemmas.{any_here, any_later, any_none}
-use Rattle.lmtp.proofs.copy.was_delivered.Goals as goal
+use Rattle.lmtp_dialogue.specs.Copies.{tells_delivery}
+use Rattle.lmtp_dialogue.proofs.CopyLemmas.{any_here, any_later, any_none}
+use Rattle.lmtp_dialogue.proofs.copy.was_delivered.Goals as goal
 
 pub loop-field-init : goal.loop-field-init
 loop-field-init c = ap (list_any (tells_delivery c.args.recipient.now)) c.fields-field-items.ensures

@@ -1,6 +1,6 @@
 use Rattle.std.proofs.Common.{sym, ◌∙◌}
-use Rattle.lmtp.proofs.CopyLemmas.{no_path, no_line, path_more, shorter}
-use Rattle.lmtp.proofs.copy.without_paths.Goals as goal
+use Rattle.lmtp_dialogue.proofs.CopyLemmas.{no_path, no_line, path_more, shorter}
+use Rattle.lmtp_dialogue.proofs.copy.without_paths.Goals as goal
 
 pub loop-line-preserved : goal.loop-line-preserved
 loop-line-preserved c = λ rest leaves.

@@ -1,6 +1,6 @@
 use Rattle.std.proofs.Common.{List, ℕ, length}
-use Rattle.lmtp.specs.Copies.{LeavesPaths}
-use Rattle.lmtp.proofs.copy.without_paths.Given as goal
+use Rattle.lmtp_dialogue.specs.Copies.{LeavesPaths}
+use Rattle.lmtp_dialogue.proofs.copy.without_paths.Given as goal
 
 abbrev pub invariant-loop-line : goal.invariant-loop-line
 invariant-loop-line l = (rest : List ℕ) → LeavesPaths l.left rest → LeavesPaths l.fn.text rest

@@ -1,5 +1,5 @@
-use Rattle.lmtp.proofs.LineLemmas.{lines_stand}
-use Rattle.lmtp.proofs.laws.lines_stand.Goals as goal
+use Rattle.lmtp_dialogue.proofs.LineLemmas.{lines_stand}
+use Rattle.lmtp_dialogue.proofs.laws.lines_stand.Goals as goal
 
 pub returns : goal.returns
 returns c = lines_stand

@@ -1,8 +1,8 @@
 use Rattle.std.proofs.Common.{◌≡◌, take, subst, arith}
 use Rattle.std.proofs.lemmas.List.{take_all}
-use Rattle.lmtp.specs.Lines.{HasNoLineEnd}
-use Rattle.lmtp.proofs.LineLemmas.{line_in, line_fits, no_end_in}
-use Rattle.lmtp.proofs.line.first_line.Goals as goal
+use Rattle.lmtp_dialogue.specs.Lines.{HasNoLineEnd}
+use Rattle.lmtp_dialogue.proofs.LineLemmas.{line_in, line_fits, no_end_in}
+use Rattle.lmtp_dialogue.proofs.line.find_line.Goals as goal
 
 pub returns-in-Some : goal.returns-in-Some
 returns-in-Some c =

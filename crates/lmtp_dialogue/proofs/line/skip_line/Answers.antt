@@ -1,6 +1,6 @@
 use Rattle.std.proofs.Common.{inl, inr, arith}
-use Rattle.lmtp.proofs.LineLemmas.{line_at, no_end_in}
-use Rattle.lmtp.proofs.line.skip_line.Goals as goal
+use Rattle.lmtp_dialogue.proofs.LineLemmas.{line_at, no_end_in}
+use Rattle.lmtp_dialogue.proofs.line.skip_line.Goals as goal
 
 pub returns-in-Some-clause-skips : goal.returns-in-Some-clause-skips
 returns-in-Some-clause-skips c =

@@ -1,6 +1,6 @@
 use Rattle.std.proofs.Common.{arith}
-use Rattle.lmtp.proofs.NameLemmas.{local_begin, local_step, found_within, parts_at_end, parts_from}
-use Rattle.lmtp.proofs.name.local_length.Goals as goal
+use Rattle.lmtp_dialogue.proofs.NameLemmas.{local_begin, local_step, found_within, parts_at_end, parts_from}
+use Rattle.lmtp_dialogue.proofs.name.local_length.Goals as goal
 
 pub loop-at-init : goal.loop-at-init
 loop-at-init c = local_begin c.args.address.now

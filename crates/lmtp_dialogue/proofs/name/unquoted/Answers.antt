@@ -1,6 +1,6 @@
 use Rattle.std.proofs.Common.{arith}
-use Rattle.lmtp.proofs.NameLemmas.{unquoted_step, unquoted_end}
-use Rattle.lmtp.proofs.name.unquoted.Goals as goal
+use Rattle.lmtp_dialogue.proofs.NameLemmas.{unquoted_step, unquoted_end}
+use Rattle.lmtp_dialogue.proofs.name.unquoted.Goals as goal
 
 pub loop-octet-preserved : goal.loop-octet-preserved
 loop-octet-preserved c =

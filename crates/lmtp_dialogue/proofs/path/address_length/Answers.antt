@@ -1,6 +1,6 @@
 use Rattle.std.proofs.Common.{refl, arith}
-use Rattle.lmtp.proofs.PathLemmas.{step, found, none_at_end, none_from}
-use Rattle.lmtp.proofs.path.address_length.Goals as goal
+use Rattle.lmtp_dialogue.proofs.PathLemmas.{step, found, none_at_end, none_from}
+use Rattle.lmtp_dialogue.proofs.path.address_length.Goals as goal
 
 pub loop-at-preserved : goal.loop-at-preserved
 loop-at-preserved c =

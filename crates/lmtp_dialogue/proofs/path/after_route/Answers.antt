@@ -1,7 +1,7 @@
 use Rattle.std.proofs.Common.{ap, sym, drop, ◌∙◌}
 use Rattle.std.proofs.lemmas.List.{take_rest}
-use Rattle.lmtp.proofs.RouteLemmas.{no_colon, another_route, follows_hops}
-use Rattle.lmtp.proofs.path.after_route.Goals as goal
+use Rattle.lmtp_dialogue.proofs.RouteLemmas.{no_colon, another_route, follows_hops}
+use Rattle.lmtp_dialogue.proofs.path.after_route.Goals as goal
 
 pub returns-in_default-strip-clause-none : goal.returns-in_default-strip-clause-none
 returns-in_default-strip-clause-none c =

@@ -1,5 +1,5 @@
-use Rattle.lmtp.proofs.RouteLemmas.{no_route, no_address}
-use Rattle.lmtp.proofs.path.read_path.Goals as goal
+use Rattle.lmtp_dialogue.proofs.RouteLemmas.{no_route, no_address}
+use Rattle.lmtp_dialogue.proofs.path.read_path.Goals as goal
 
 pub returns-in_default-after_route-clause-none : goal.returns-in_default-after_route-clause-none
 returns-in_default-after_route-clause-none c = no_route c.args.text.now c.in-Some.inner.now c.in-Some.ensures.found c.in_default-after_route.ensures.none

@@ -1,5 +1,5 @@
-use Rattle.lmtp.proofs.CommandLemmas.{command_at, no_command_at}
-use Rattle.lmtp.proofs.verb.read_line.Goals as goal
+use Rattle.lmtp_dialogue.proofs.CommandLemmas.{command_at, no_command_at}
+use Rattle.lmtp_dialogue.proofs.verb.read_line.Goals as goal
 
 pub returns-in-Some-clause-found : goal.returns-in-Some-clause-found
 returns-in-Some-clause-found c =

@@ -1,7 +1,7 @@
 use Rattle.std.proofs.Common.{arith}
 use Rattle.std.proofs.lemmas.Grind.{common_steps}
-use Rattle.addrparts.proofs.Spells.{spelling-law, spelling-alone}
-use Rattle.addrparts.proofs.address.spell.Goals as goal
+use Rattle.mail_address.proofs.Spells.{spelling-law, spelling-alone}
+use Rattle.mail_address.proofs.address.spell_address.Goals as goal
 
 pub returns-clause-spelled : goal.returns-clause-spelled
 returns-clause-spelled c = grind (arith, common_steps)

@@ -1,5 +1,5 @@
-use Rattle.addrparts.proofs.Outbounds.{bare-named, bare-found, bare-outbound}
-use Rattle.addrparts.proofs.laws.address_without_display.Goals as goal
+use Rattle.mail_address.proofs.Outbounds.{bare-named, bare-found, bare-outbound}
+use Rattle.mail_address.proofs.laws.address_without_display.Goals as goal
 
 pub returns-clause-bare : goal.returns-clause-bare
 returns-clause-bare c = λ text address. (bare-named text address, bare-found text address)

@@ -1,5 +1,5 @@
-use Rattle.addrparts.proofs.Lists.{addrs-are, addrs-only}
-use Rattle.addrparts.proofs.laws.addresses_of_a_value.Goals as goal
+use Rattle.mail_address.proofs.Lists.{addrs-are, addrs-only}
+use Rattle.mail_address.proofs.laws.addresses_of_a_value.Goals as goal
 
 pub returns-clause-found : goal.returns-clause-found
 returns-clause-found c = addrs-are

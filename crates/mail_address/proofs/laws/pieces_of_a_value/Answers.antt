@@ -1,6 +1,6 @@
 use Rattle.std.proofs.Common.{sym}
-use Rattle.addrparts.proofs.Cuts.{cut-all, cut-only}
-use Rattle.addrparts.proofs.laws.pieces_of_a_value.Goals as goal
+use Rattle.mail_address.proofs.Cuts.{cut-all, cut-only}
+use Rattle.mail_address.proofs.laws.pieces_of_a_value.Goals as goal
 
 pub returns-clause-found : goal.returns-clause-found
 returns-clause-found c = cut-all

@@ -1,9 +1,9 @@
 use Rattle.std.proofs.Common.{sym, ◌∙◌, subst, rules}
-use Rattle.addrparts.specs.Parts.{AreAddresses}
-use Rattle.addrparts.specs.Reading.{addrs}
-use Rattle.addrparts.proofs.Lists.{addrs-are, addrs-only}
-use Rattle.addrparts.proofs.Spells.{addresses-domain}
-use Rattle.addrparts.proofs.list.addresses.Goals as goal
+use Rattle.mail_address.specs.Parts.{AreAddresses}
+use Rattle.mail_address.specs.Reading.{addrs}
+use Rattle.mail_address.proofs.Lists.{addrs-are, addrs-only}
+use Rattle.mail_address.proofs.Spells.{addresses-domain}
+use Rattle.mail_address.proofs.list.addresses.Goals as goal
 
 pub returns-clause-read : goal.returns-clause-read
 unfolding addrs

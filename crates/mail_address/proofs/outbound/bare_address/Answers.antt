@@ -1,8 +1,8 @@
 use Rattle.std.proofs.Common.{rules}
-use Rattle.addrparts.specs.Reading.{bare}
-use Rattle.addrparts.proofs.Outbounds.{result-bare, result-bare_only}
-use Rattle.addrparts.proofs.Spells.{result-bare_domain}
-use Rattle.addrparts.proofs.outbound.bare_address.Goals as goal
+use Rattle.mail_address.specs.Reading.{bare}
+use Rattle.mail_address.proofs.Outbounds.{result-bare, result-bare_only}
+use Rattle.mail_address.proofs.Spells.{result-bare_domain}
+use Rattle.mail_address.proofs.outbound.bare_address.Goals as goal
 
 pub returns-then-not-is_fit-clause-read : goal.returns-then-not-is_fit-clause-read
 unfolding bare

@@ -1,8 +1,8 @@
 use Rattle.std.proofs.Common.{rules}
-use Rattle.addrparts.specs.Reading.{outbound}
-use Rattle.addrparts.proofs.Outbounds.{result-named, result-only}
-use Rattle.addrparts.proofs.Spells.{result-domain}
-use Rattle.addrparts.proofs.outbound.sieve_address.Goals as goal
+use Rattle.mail_address.specs.Reading.{outbound}
+use Rattle.mail_address.proofs.Outbounds.{result-named, result-only}
+use Rattle.mail_address.proofs.Spells.{result-domain}
+use Rattle.mail_address.proofs.outbound.sieve_address.Goals as goal
 
 pub returns-else-is_fit-clause-read : goal.returns-else-is_fit-clause-read
 unfolding outbound

@@ -2,7 +2,7 @@ use Rattle.std.proofs.Common.{◌++◌, take, drop, length, ap, sym, ◌∙◌}
 use Rattle.std.proofs.Math.Seq.{take-add, take-append_seam}
 use Rattle.std.proofs.lemmas.Bool.Decides.{Decides-eqb}
 use Rattle.std.proofs.lemmas.Slice.Eq.{starts_is}
-use Rattle.addrparts.proofs.pieces.goes_on.Goals as goal
+use Rattle.mail_address.proofs.pieces.goes_on.Goals as goal
 
 pub returns-clause-joined : goal.returns-clause-joined
 returns-clause-joined c = λ yes'.

@@ -1,7 +1,7 @@
 use Rattle.std.proofs.Common.{add-one, sym, ◌∙◌, arith}
-use Rattle.addrparts.proofs.Scanning.{pair_step, backslash_step, opening_step, closing_step, other_step}
-use Rattle.addrparts.proofs.scanner.comment_len.Goals as goal
-use Rattle.addrparts.proofs.scanner.comment_len.Goals.{then-escaped, else-escaped+then-octet-eq92, else-escaped+else-octet-eq92+then-octet-eq40, else-escaped+else-octet-eq92+else-octet-eq40+then-octet-eq41+else-depth-eq0, else-escaped+else-octet-eq92+else-octet-eq40+else-octet-eq41}
+use Rattle.mail_address.proofs.Scanning.{pair_step, backslash_step, opening_step, closing_step, other_step}
+use Rattle.mail_address.proofs.scanner.comment_len.Goals as goal
+use Rattle.mail_address.proofs.scanner.comment_len.Goals.{then-escaped, else-escaped+then-octet-eq92, else-escaped+else-octet-eq92+then-octet-eq40, else-escaped+else-octet-eq92+else-octet-eq40+then-octet-eq41+else-depth-eq0, else-escaped+else-octet-eq92+else-octet-eq40+else-octet-eq41}
 
 pub loop-i-preserved : goal.loop-i-preserved
 loop-i-preserved c =

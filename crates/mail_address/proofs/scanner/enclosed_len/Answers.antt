@@ -1,7 +1,7 @@
 use Rattle.std.proofs.Common.{sym, ◌∙◌}
-use Rattle.addrparts.proofs.Scanning.{pair_passed, backslash_passed, other_passed}
-use Rattle.addrparts.proofs.scanner.enclosed_len.Goals as goal
-use Rattle.addrparts.proofs.scanner.enclosed_len.Goals.{then-escaped, else-escaped+else-octet-close+then-octet-eq92, else-escaped+else-octet-close+else-octet-eq92}
+use Rattle.mail_address.proofs.Scanning.{pair_passed, backslash_passed, other_passed}
+use Rattle.mail_address.proofs.scanner.enclosed_len.Goals as goal
+use Rattle.mail_address.proofs.scanner.enclosed_len.Goals.{then-escaped, else-escaped+else-octet-close+then-octet-eq92, else-escaped+else-octet-close+else-octet-eq92}
 
 pub loop-i-preserved : goal.loop-i-preserved
 loop-i-preserved c =

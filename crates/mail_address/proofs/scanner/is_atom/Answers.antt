@@ -2,9 +2,9 @@
 use Rattle.std.proofs.Common.{◌≡◌, ℕ, zero, suc, ◌<◌, Bool, true, false, ◌&&◌, not, nat_eq, get_or, List, refl, arith, inl, inr}
 use Rattle.std.specs.Bool.{beq}
 use Rattle.std.proofs.lemmas.Bool.{cases_eq}
-use Rattle.addrparts.specs.declared.scanner.TheConstants.{ATOM_OCTETS}
-use Rattle.addrparts.specs.Pieces.{is_atom}
-use Rattle.addrparts.proofs.scanner.is_atom.Goals as goal
+use Rattle.mail_address.specs.declared.scanner.TheConstants.{ATOM_OCTETS}
+use Rattle.mail_address.specs.Pieces.{is_atom_octet}
+use Rattle.mail_address.proofs.scanner.is_atom.Goals as goal
 
 -- the two tests agree below n
 agree_below : (ℕ → Bool) → (ℕ → Bool) → ℕ → Bool
@@ -25,8 +25,8 @@ agree_at f g (suc n) h octet lt =
     elim (cases_eq octet n) [ inl same ↦ rw same both.0 | inr other ↦ agree_at f g n both.1 octet (omega arith) ]
 
 from_table : (table : List ℕ) (octet : ℕ) → octet < 256
-    → agree_below (λ k. not (nat_eq (get_or table k 0) 44)) is_atom 256 ≡ true
-    → not (nat_eq (get_or table octet 0) 44) ≡ is_atom octet
+    → agree_below (λ k. not (nat_eq (get_or table k 0) 44)) is_atom_octet 256 ≡ true
+    → not (nat_eq (get_or table octet 0) 44) ≡ is_atom_octet octet
 from_table table octet lt h = agree_at _ _ 256 h octet lt
 
 pub returns : goal.returns

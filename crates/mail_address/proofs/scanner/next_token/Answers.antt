@@ -1,5 +1,5 @@
-use Rattle.addrparts.proofs.Fronts.{next-at, pieces-nil}
-use Rattle.addrparts.proofs.scanner.next_token.Goals as goal
+use Rattle.mail_address.proofs.Fronts.{next-at, pieces-nil}
+use Rattle.mail_address.proofs.scanner.next_token.Goals as goal
 
 pub returns : goal.returns
 returns c =

@@ -1,8 +1,8 @@
 use Rattle.std.proofs.Common.{arith, w16, FitsSigned}
 use Rattle.std.proofs.lemmas.Int.{to_z-of_z}
 use Rattle.jiff_core.proofs.SignedLemmas.{signed_arith}
-use Rattle.maildates.proofs.ClockLemmas.{clock_past, clock_before, clock_made}
-use Rattle.maildates.proofs.date_time.at_minute.Goals as goal
+use Rattle.mail_dates.proofs.ClockLemmas.{clock_past, clock_before, clock_made}
+use Rattle.mail_dates.proofs.date_time.at_minute.Goals as goal
 
 pub returns-then-days-gt-LAST_DAY : goal.returns-then-days-gt-LAST_DAY
 returns-then-days-gt-LAST_DAY c date is = clock_past c.args.minutes c.args.second c.args.zone date c.if-days-gt-LAST_DAY.true is

@@ -1,8 +1,8 @@
 use Rattle.std.proofs.Common.{◌≡◌, arith, w16, w64, FitsSigned, ◌∙◌, ℤ, pos, ◌+ℤ◌, ◌-ℤ◌}
 use Rattle.std.proofs.lemmas.Int.{to_z-of_z, to_z_pos}
 use Rattle.jiff_core.proofs.SignedLemmas.{signed_arith}
-use Rattle.maildates.proofs.ClockLemmas.{nonnegative}
-use Rattle.maildates.proofs.date_time.moved.Goals as goal
+use Rattle.mail_dates.proofs.ClockLemmas.{nonnegative}
+use Rattle.mail_dates.proofs.date_time.moved.Goals as goal
 
 pub returns : goal.returns
 returns c =

@@ -1,6 +1,6 @@
 use Rattle.std.proofs.Common.{arith}
-use Rattle.maildates.proofs.WordLemmas.{number_some, number_past, number_none}
-use Rattle.maildates.proofs.digits.number_in.Goals as goal
+use Rattle.mail_dates.proofs.WordLemmas.{number_some, number_past, number_none}
+use Rattle.mail_dates.proofs.digits.number_in.Goals as goal
 
 pub returns-in_err-number-clause-is : goal.returns-in_err-number-clause-is
 returns-in_err-number-clause-is c = rw c.from_residual.ensures (number_none c.args.limit c.args.word.now (omega arith) c.in_err-number.ensures)

@@ -1,5 +1,5 @@
-use Rattle.maildates.proofs.MomentLaws.{one_moment, one_same}
-use Rattle.maildates.proofs.laws.date_of_a_moment.Goals as goal
+use Rattle.mail_dates.proofs.MomentLaws.{one_moment, one_same}
+use Rattle.mail_dates.proofs.laws.date_of_a_moment.Goals as goal
 
 pub returns-clause-moment : goal.returns-clause-moment
 returns-clause-moment c = one_moment

@@ -1,5 +1,5 @@
-use Rattle.maildates.proofs.ZoneLaws.{numeric_is, numeric_again}
-use Rattle.maildates.proofs.laws.zone_of_a_text.Goals as goal
+use Rattle.mail_dates.proofs.ZoneLaws.{numeric_is, numeric_again}
+use Rattle.mail_dates.proofs.laws.zone_of_a_text.Goals as goal
 
 pub returns : goal.returns
 returns c text zone = (numeric_is text zone, numeric_again text zone)

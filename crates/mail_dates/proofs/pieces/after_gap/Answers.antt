@@ -1,8 +1,8 @@
 use Rattle.std.proofs.Common.{◌≡◌, ◌==◌, ◌&&◌, not, false, Some, get_or, ap, sym, ◌∙◌, arith}
-use Rattle.maildates.specs.Gaps.{opens_gap}
-use Rattle.maildates.proofs.GapLaws.{gap_stop, loop_kept, loop_done, loop_lost, stops_at, stays_open, stays_inside, rest_of}
-use Rattle.maildates.proofs.pieces.after_gap.Goals as goal
-use Rattle.maildates.proofs.pieces.after_gap.Goals.{else-depth-eq0-via-then-depth-eq0+else-not-opens_gap, else-depth-eq0-via-else-depth-eq0}
+use Rattle.mail_dates.specs.Gaps.{opens_gap}
+use Rattle.mail_dates.proofs.GapLaws.{gap_stop, loop_kept, loop_done, loop_lost, stops_at, stays_open, stays_inside, rest_of}
+use Rattle.mail_dates.proofs.pieces.after_gap.Goals as goal
+use Rattle.mail_dates.proofs.pieces.after_gap.Goals.{else-depth-eq0-via-then-depth-eq0+else-not-opens_gap, else-depth-eq0-via-else-depth-eq0}
 
 pub returns-then-not-opens_gap : goal.returns-then-not-opens_gap
 returns-then-not-opens_gap c =

@@ -1,8 +1,8 @@
 use Rattle.std.proofs.Common.{sym, ◌∙◌}
 use Rattle.std.proofs.lemmas.Bool.{false≢true}
-use Rattle.maildates.proofs.ReadingLaws.{parts_is, year_fits, text_of, text_valid, only_text, no_text}
-use Rattle.maildates.proofs.reading.read_date.Goals as goal
-use Rattle.maildates.proofs.reading.read_date.Goals.{else-is_over-via-then-is_over+else-is_civil, else-is_over-via-else-is_over}
+use Rattle.mail_dates.proofs.ReadingLaws.{parts_is, year_fits, text_of, text_valid, only_text, no_text}
+use Rattle.mail_dates.proofs.reading.read_date.Goals as goal
+use Rattle.mail_dates.proofs.reading.read_date.Goals.{else-is_over-via-then-is_over+else-is_civil, else-is_over-via-else-is_over}
 
 pub returns-in_err-date-clause-exact : goal.returns-in_err-date-clause-exact
 returns-in_err-date-clause-exact c = rw c.from_residual.ensures (λ date is. no_text c.args.text.now date c.in_err-date.ensures is)

@@ -2,8 +2,8 @@ use Rattle.std.proofs.Common.{◌≡◌, ℕ, List, [], ◌∷◌, ◌++◌, app
 use Rattle.std.proofs.lemmas.Int.{to_z-of_z}
 use Rattle.jiff_core.proofs.SignedLemmas.{signed_arith}
 use Rattle.std.proofs.lemmas.Result.{on_ok_weaker}
-use Rattle.maildates.specs.Parts.{mail_day, time_text, zone_text}
-use Rattle.maildates.proofs.writing.write_mail.Goals as goal
+use Rattle.mail_dates.specs.Parts.{mail_day, time_text, zone_text}
+use Rattle.mail_dates.proofs.writing.write_mail.Goals as goal
 
 -- five texts, appended in turn
 glue : (old x a b y c d z new : List ℕ) → a ≡ old ++ x → b ≡ a ++ 32 ∷ [] → c ≡ b ++ y → d ≡ c ++ 32 ∷ [] → new ≡ d ++ z → new ≡ old ++ (x ++ (32 ∷ (y ++ (32 ∷ z))))

@@ -1,8 +1,8 @@
 use Rattle.std.proofs.Common.{◌≡◌, ◌∷◌, [], ◌∙◌, ◌+◌, sym, ap, subst, take, MatchOption}
 use Rattle.octets.specs.Ascii.{is_blank}
-use Rattle.mailflags.specs.Flags.{between_blanks}
-use Rattle.mailflags.proofs.TextLemmas.{cut_there, uncut, rest_whole}
-use Rattle.mailflags.proofs.flags.cut_at_blank.Goals as goal
+use Rattle.mail_flags.specs.Flags.{between_blanks}
+use Rattle.mail_flags.proofs.TextLemmas.{cut_there, uncut, rest_whole}
+use Rattle.mail_flags.proofs.flags.cut_at_blank.Goals as goal
 
 pub returns-in_err-at-clause-cut : goal.returns-in_err-at-clause-cut
 returns-in_err-at-clause-cut c =

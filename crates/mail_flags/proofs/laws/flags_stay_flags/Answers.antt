@@ -1,5 +1,5 @@
-use Rattle.mailflags.proofs.FlagLemmas.{no_flags, added_flags, removed_flags}
-use Rattle.mailflags.proofs.laws.flags_stay_flags.Goals as goal
+use Rattle.mail_flags.proofs.FlagLemmas.{no_flags, added_flags, removed_flags}
+use Rattle.mail_flags.proofs.laws.flags_stay_flags.Goals as goal
 
 pub returns-clause-none : goal.returns-clause-none
 returns-clause-none c = no_flags

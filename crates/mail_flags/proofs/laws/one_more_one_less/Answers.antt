@@ -1,5 +1,5 @@
-use Rattle.mailflags.proofs.FlagLemmas.{more_there, less_gone, less_others}
-use Rattle.mailflags.proofs.laws.one_more_one_less.Goals as goal
+use Rattle.mail_flags.proofs.FlagLemmas.{more_there, less_gone, less_others}
+use Rattle.mail_flags.proofs.laws.one_more_one_less.Goals as goal
 
 pub returns-clause-there : goal.returns-clause-there
 returns-clause-there c = more_there

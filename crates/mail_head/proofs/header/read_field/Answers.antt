@@ -2,12 +2,12 @@ use Rattle.std.proofs.Common.{◌≡◌, ◌≢◌, ℕ, List, ◌∷◌, length
 use Rattle.std.proofs.lemmas.List.{nil_from_length}
 use Rattle.std.proofs.lemmas.Bool.{eqb-true, eq-eqb, false≢true}
 use Rattle.std.specs.List.{prefix_len}
-use Rattle.mailhead.specs.Fields.{is_name, after_name, after_blanks}
-use Rattle.mailhead.proofs.HeaderLemmas.{field_nameless, field_ended, field_other, field_there, same_texts}
-use Rattle.mailhead.proofs.header.read_field.Goals as goal
+use Rattle.mail_head.specs.Fields.{is_name, after_field_name, after_blanks}
+use Rattle.mail_head.proofs.HeaderLemmas.{field_nameless, field_ended, field_other, field_there, same_texts}
+use Rattle.mail_head.proofs.header.read_field.Goals as goal
 
 -- what is left after the name and the blanks
-left : (line after text : List ℕ) (n : ℕ) → n ≡ prefix_len is_name line → after ≡ drop n line → text ≡ after_blanks after → after_blanks (after_name line) ≡ text
+left : (line after text : List ℕ) (n : ℕ) → n ≡ prefix_len is_name line → after ≡ drop n line → text ≡ after_blanks after → after_blanks (after_field_name line) ≡ text
 left line after text n named cut read = sym (read ∙ ap after_blanks (cut ∙ ap (λ k. drop k line) named))
 
 pub returns-then-is_empty : goal.returns-then-is_empty
@@ -37,6 +37,6 @@ returns c =
     let there : prefix_len is_name c.args.line.now ≢ 0 = λ zero.
     let size : length c.split_at.result.0.now ≡ 0 = omega (arith, zero, c.split_at.ensures.front_len, c.name_len.ensures.value) in
     false≢true (sym c.if-is_empty.false ∙ (c.is_empty.ensures ∙ eq-eqb (length c.split_at.result.0.now) 0 size)) in
-    let colon : after_blanks (after_name c.args.line.now) ≡ 58 ∷ c.in_ok-colon.value.now = after ∙ (first ∙ ap (λ b. b ∷ c.in_ok-colon.value.now) c.if-colon-ne58.false) in
+    let colon : after_blanks (after_field_name c.args.line.now) ≡ 58 ∷ c.in_ok-colon.value.now = after ∙ (first ∙ ap (λ b. b ∷ c.in_ok-colon.value.now) c.if-colon-ne58.false) in
     let name = c.split_at.ensures.front ∙ ap (λ n. take n c.args.line.now) c.name_len.ensures.value in
     same_texts _ _ _ _ name c.without_end.ensures ∙ sym (field_there c.args.line.now c.in_ok-colon.value.now there colon)

@@ -1,5 +1,5 @@
-use Rattle.mailhead.proofs.EndLaws.{end_found, end_only}
-use Rattle.mailhead.proofs.laws.end_of_a_line.Goals as goal
+use Rattle.mail_head.proofs.EndLaws.{end_found, end_only}
+use Rattle.mail_head.proofs.laws.end_of_a_line.Goals as goal
 
 pub returns-clause-found : goal.returns-clause-found
 returns-clause-found c = end_found

@@ -1,5 +1,5 @@
-use Rattle.mailhead.proofs.CutLemmas.{lines_found, lines_only}
-use Rattle.mailhead.proofs.laws.lines_of_a_text.Goals as goal
+use Rattle.mail_head.proofs.CutLemmas.{lines_found, lines_only}
+use Rattle.mail_head.proofs.laws.lines_of_a_text.Goals as goal
 
 pub returns-clause-found : goal.returns-clause-found
 returns-clause-found c = lines_found

@@ -1,5 +1,5 @@
-use Rattle.mailhead.proofs.LineLemmas.{cut_at, cut_none}
-use Rattle.mailhead.proofs.line.first_line.Goals as goal
+use Rattle.mail_head.proofs.LineLemmas.{cut_at, cut_none}
+use Rattle.mail_head.proofs.line.first_line.Goals as goal
 
 pub returns-in-Some : goal.returns-in-Some
 returns-in-Some c = rw (c.split_at.ensures.front, c.split_at.ensures.back) (cut_at c.args.text.now c.in-Some.at c.in-Some.ensures)

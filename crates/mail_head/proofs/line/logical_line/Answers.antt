@@ -1,6 +1,6 @@
 use Rattle.std.proofs.Common.{sym, ◌∙◌}
-use Rattle.mailhead.proofs.FoldLemmas.{folded_more}
-use Rattle.mailhead.proofs.line.logical_line.Goals as goal
+use Rattle.mail_head.proofs.FoldLemmas.{folded_more}
+use Rattle.mail_head.proofs.line.logical_line.Goals as goal
 
 pub loop-after-preserved : goal.loop-after-preserved
 loop-after-preserved c =

@@ -1,6 +1,6 @@
 use Rattle.std.proofs.Common.{length}
-use Rattle.mailhead.proofs.FoldLemmas.{IsFolded}
-use Rattle.mailhead.proofs.line.logical_line.Given as goal
+use Rattle.mail_head.proofs.FoldLemmas.{IsFolded}
+use Rattle.mail_head.proofs.line.logical_line.Given as goal
 
 abbrev pub invariant-loop-after : goal.invariant-loop-after
 invariant-loop-after l = IsFolded l.text l.after

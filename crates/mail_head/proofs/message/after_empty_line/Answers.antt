@@ -1,8 +1,8 @@
 use Rattle.std.proofs.Common.{sym, ap, ◌∙◌}
-use Rattle.mailhead.specs.Cuts.{after_empty}
-use Rattle.mailhead.specs.Lines.{lines_of}
-use Rattle.mailhead.proofs.MessageLemmas.{after_empty-feed, after_empty-return}
-use Rattle.mailhead.proofs.message.after_empty_line.Goals as goal
+use Rattle.mail_head.specs.Cuts.{after_empty}
+use Rattle.mail_head.specs.Lines.{lines_of}
+use Rattle.mail_head.proofs.MessageLemmas.{after_empty-feed, after_empty-return}
+use Rattle.mail_head.proofs.message.after_empty_line.Goals as goal
 
 pub returns-in-10 : goal.returns-in-10
 returns-in-10 c =

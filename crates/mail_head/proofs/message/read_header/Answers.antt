@@ -1,6 +1,6 @@
 use Rattle.std.proofs.Common.{sym}
-use Rattle.mailhead.proofs.MessageLemmas.{read_some, read_none}
-use Rattle.mailhead.proofs.message.read_header.Goals as goal
+use Rattle.mail_head.proofs.MessageLemmas.{read_some, read_none}
+use Rattle.mail_head.proofs.message.read_header.Goals as goal
 
 pub loop-rest-preserved-in_ok-push : goal.loop-rest-preserved-in_ok-push
 loop-rest-preserved-in_ok-push c =

@@ -1,6 +1,6 @@
 use Rattle.std.proofs.Common.{length}
-use Rattle.mailhead.proofs.MessageLemmas.{IsRead}
-use Rattle.mailhead.proofs.message.read_header.Given as goal
+use Rattle.mail_head.proofs.MessageLemmas.{IsRead}
+use Rattle.mail_head.proofs.message.read_header.Given as goal
 
 abbrev pub invariant-loop-rest : goal.invariant-loop-rest
 invariant-loop-rest l = IsRead l.message l.fields.items l.rest

@@ -1,7 +1,7 @@
 -- So far no line is empty.
 use Rattle.std.proofs.Common.{◌≡◌, length}
-use Rattle.mailfronts.specs.Fronts.{has_empty_line}
-use Rattle.mailfronts.proofs.header.has_empty_line.Given as goal
+use Rattle.mail_head.specs.Prefixes.{has_empty_line}
+use Rattle.mail_head.proofs.prefix.has_empty_line.Given as goal
 
 abbrev pub invariant-loop-rest : goal.invariant-loop-rest
 invariant-loop-rest l = has_empty_line l.rest ≡ has_empty_line l.text

@@ -1,5 +1,5 @@
-use Rattle.mailfronts.proofs.FrontLemmas.{fields_in_front}
-use Rattle.mailfronts.proofs.laws.fields_of_a_front.Goals as goal
+use Rattle.mail_head.proofs.FrontLemmas.{fields_in_front}
+use Rattle.mail_head.proofs.prefix_laws.fields_of_a_front.Goals as goal
 
 pub returns : goal.returns
 returns c = fields_in_front

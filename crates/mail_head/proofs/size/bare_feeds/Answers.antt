@@ -1,6 +1,6 @@
 use Rattle.std.proofs.Common.{refl, arith}
-use Rattle.mailhead.proofs.SizeLemmas.{block_step, left_small}
-use Rattle.mailhead.proofs.size.bare_feeds.Goals as goal
+use Rattle.mail_head.proofs.SizeLemmas.{block_step, left_small}
+use Rattle.mail_head.proofs.size.bare_feeds.Goals as goal
 
 pub overflow_add-bare : goal.overflow_add-bare
 overflow_add-bare c =

@@ -1,6 +1,6 @@
 use Rattle.std.proofs.Common.{◌≡◌, ◌+◌, length}
-use Rattle.mailhead.specs.Sizes.{bare_after, bare_in}
-use Rattle.mailhead.proofs.size.bare_feeds.Given as goal
+use Rattle.mail_head.specs.Sizes.{bare_after, bare_in}
+use Rattle.mail_head.proofs.size.bare_feeds.Given as goal
 
 abbrev pub invariant-loop-rest : goal.invariant-loop-rest
 invariant-loop-rest l = l.bare + bare_in l.rest ≡ bare_after 0 l.message

@@ -1,7 +1,7 @@
 use Rattle.std.proofs.Common.{refl, arith}
-use Rattle.mailhead.proofs.SizeLemmas.{block_step}
-use Rattle.mailfronts.proofs.SizeLemmas.{left_small}
-use Rattle.mailfronts.proofs.size.bare_feeds.Goals as goal
+use Rattle.mail_head.proofs.SizeLemmas.{block_step}
+use Rattle.mail_head.proofs.CountLemmas.{left_small}
+use Rattle.mail_head.proofs.size_count.bare_feeds.Goals as goal
 
 pub overflow_add-bare : goal.overflow_add-bare
 overflow_add-bare c =

@@ -1,5 +1,5 @@
-use Rattle.mailhead.proofs.SizeLemmas.{IsCounted}
-use Rattle.mailfronts.proofs.size.bare_in_block.Given as goal
+use Rattle.mail_head.proofs.SizeLemmas.{IsCounted}
+use Rattle.mail_head.proofs.size_count.bare_in_block.Given as goal
 
 abbrev pub invariant-loop-i : goal.invariant-loop-i
 invariant-loop-i l = IsCounted l.block l.i l.bare

@@ -1,7 +1,7 @@
 use Rattle.std.proofs.Common.{codes, sym, ap, ◌∙◌}
 use Rattle.std.specs.Str.{str_eq_ignore_ascii_case}
-use Rattle.encwords.proofs.TestLemmas.{differ, unnamed}
-use Rattle.encwords.proofs.charset.charset_named.Goals as goal
+use Rattle.mail_words.proofs.TestLemmas.{differ, unnamed}
+use Rattle.mail_words.proofs.charset.charset_named.Goals as goal
 
 pub returns-else-eq_ignore_ascii_case-3 : goal.returns-else-eq_ignore_ascii_case-3
 returns-else-eq_ignore_ascii_case-3 c =

@@ -1,6 +1,6 @@
 use Rattle.std.proofs.Common.{◌≡◌, ◌++◌, drop}
 use Rattle.std.specs.Prelude.{string_bytes, encode_utf8_all}
-use Rattle.encwords.proofs.charset.latin1.Given as goal
+use Rattle.mail_words.proofs.charset.latin1.Given as goal
 
 abbrev pub invariant-loop-octet : goal.invariant-loop-octet
 invariant-loop-octet l = string_bytes l.text ++ encode_utf8_all (drop l.octet-index l.octets) ≡ encode_utf8_all l.octets

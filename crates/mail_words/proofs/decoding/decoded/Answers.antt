@@ -1,7 +1,7 @@
 use Rattle.std.proofs.Common.{◌∙◌}
 use Rattle.std.specs.Option.{option_map}
-use Rattle.encwords.proofs.RunLemmas.{read_front, is_some-map, filled, shorter}
-use Rattle.encwords.proofs.decoding.decoded.Goals as goal
+use Rattle.mail_words.proofs.RunLemmas.{read_front, is_some-map, filled, shorter}
+use Rattle.mail_words.proofs.decoding.decoded.Goals as goal
 
 pub loop-rest-preserved-in_ok-extend_from_slice-2 : goal.loop-rest-preserved-in_ok-extend_from_slice-2
 loop-rest-preserved-in_ok-extend_from_slice-2 c =

@@ -1,5 +1,5 @@
-use Rattle.encwords.proofs.PieceLemmas.{piece_cut}
-use Rattle.encwords.proofs.encoding.next_piece.Goals as goal
+use Rattle.mail_words.proofs.PieceLemmas.{piece_cut}
+use Rattle.mail_words.proofs.encoding.next_piece.Goals as goal
 
 pub returns : goal.returns
 returns c =

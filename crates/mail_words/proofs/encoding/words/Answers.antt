@@ -1,8 +1,8 @@
 use Rattle.std.proofs.Common.{ap, subst, sym}
 use Rattle.std.specs.Prelude.{string_bytes}
-use Rattle.encwords.specs.Headers.{IsWorded}
-use Rattle.encwords.proofs.PieceLemmas.{written_more, written_all, after_valid, emptied}
-use Rattle.encwords.proofs.encoding.words.Goals as goal
+use Rattle.mail_words.specs.Headers.{IsWorded}
+use Rattle.mail_words.proofs.PieceLemmas.{written_more, written_all, after_valid, emptied}
+use Rattle.mail_words.proofs.encoding.words.Goals as goal
 
 pub loop-rest-preserved : goal.loop-rest-preserved
 loop-rest-preserved c = (

@@ -2,8 +2,8 @@ use Rattle.std.proofs.Common.{length}
 use Rattle.std.specs.Prelude.{string_bytes}
 use denote.Text.{Utf8}
 use denote.Shadow.{shadow}
-use Rattle.encwords.proofs.PieceLemmas.{IsWritten}
-use Rattle.encwords.proofs.encoding.words.Given as goal
+use Rattle.mail_words.proofs.PieceLemmas.{IsWritten}
+use Rattle.mail_words.proofs.encoding.words.Given as goal
 
 abbrev pub invariant-loop-rest : goal.invariant-loop-rest
 invariant-loop-rest l = shadow (Utf8 l.rest) × IsWritten l.text l.rest (string_bytes l.value)

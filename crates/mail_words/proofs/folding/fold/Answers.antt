@@ -1,6 +1,6 @@
 use Rattle.std.proofs.Common.{ℕ, ◌∙◌, ap, [], ◌∷◌, List, cond, ◌==◌, ◌||◌, length}
-use Rattle.encwords.proofs.FoldingLemmas.{fold_step}
-use Rattle.encwords.proofs.folding.fold.Goals as goal
+use Rattle.mail_words.proofs.FoldingLemmas.{fold_step}
+use Rattle.mail_words.proofs.folding.fold.Goals as goal
 
 pub loop-rest-preserved : goal.loop-rest-preserved
 loop-rest-preserved c =

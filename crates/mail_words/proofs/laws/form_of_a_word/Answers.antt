@@ -1,5 +1,5 @@
-use Rattle.encwords.proofs.WordLaws.{word_again, word_says, word_only}
-use Rattle.encwords.proofs.laws.form_of_a_word.Goals as goal
+use Rattle.mail_words.proofs.WordLaws.{word_again, word_says, word_only}
+use Rattle.mail_words.proofs.laws.form_of_a_word.Goals as goal
 
 pub returns-clause-form : goal.returns-clause-form
 returns-clause-form c = λ run said. (word_says run said, word_again run said)

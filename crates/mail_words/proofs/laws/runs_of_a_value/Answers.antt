@@ -1,5 +1,5 @@
-use Rattle.encwords.proofs.RunLaws.{runs_found, runs_only}
-use Rattle.encwords.proofs.laws.runs_of_a_value.Goals as goal
+use Rattle.mail_words.proofs.RunLaws.{runs_found, runs_only}
+use Rattle.mail_words.proofs.laws.runs_of_a_value.Goals as goal
 
 pub returns-clause-found : goal.returns-clause-found
 returns-clause-found c = runs_found

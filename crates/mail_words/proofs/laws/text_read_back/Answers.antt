@@ -1,6 +1,6 @@
-use Rattle.encwords.proofs.AlphabetLemmas.{standard_alphabet}
-use Rattle.encwords.proofs.ReadBackLemmas.{read_back}
-use Rattle.encwords.proofs.laws.text_read_back.Goals as goal
+use Rattle.mail_words.proofs.AlphabetLemmas.{standard_alphabet}
+use Rattle.mail_words.proofs.ReadBackLemmas.{read_back}
+use Rattle.mail_words.proofs.laws.text_read_back.Goals as goal
 
 pub returns-clause-alphabet : goal.returns-clause-alphabet
 returns-clause-alphabet c = standard_alphabet

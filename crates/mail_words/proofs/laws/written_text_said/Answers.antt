@@ -1,5 +1,5 @@
-use Rattle.encwords.proofs.WrittenLaws.{written_said, one_written}
-use Rattle.encwords.proofs.laws.written_text_said.Goals as goal
+use Rattle.mail_words.proofs.WrittenLaws.{written_said, one_written}
+use Rattle.mail_words.proofs.laws.written_text_said.Goals as goal
 
 pub returns-clause-said : goal.returns-clause-said
 returns-clause-said c = written_said

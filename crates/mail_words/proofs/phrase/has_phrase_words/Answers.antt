@@ -1,7 +1,7 @@
 use Rattle.std.proofs.Common.{◌∙◌}
-use Rattle.encwords.proofs.RunLemmas.{filled, shorter}
-use Rattle.encwords.proofs.WrittenLaws.{phrase_passed, phrase_failed}
-use Rattle.encwords.proofs.phrase.has_phrase_words.Goals as goal
+use Rattle.mail_words.proofs.RunLemmas.{filled, shorter}
+use Rattle.mail_words.proofs.WrittenLaws.{phrase_passed, phrase_failed}
+use Rattle.mail_words.proofs.phrase.has_phrase_words.Goals as goal
 
 pub returns-then-not-is_phrase_run : goal.returns-then-not-is_phrase_run
 returns-then-not-is_phrase_run c =

@@ -1,7 +1,7 @@
 use Rattle.std.proofs.Common.{None, Some, sym, ap, ◌∙◌, refl}
-use Rattle.encwords.proofs.QuotedLemmas.{onto, step_left, read_one, read_none}
-use Rattle.encwords.proofs.quoted.from_quoted.Goals as goal
-use Rattle.encwords.proofs.quoted.from_quoted.Goals.{in-Some-read+in_ok-push, in_default-read}
+use Rattle.mail_words.proofs.QuotedLemmas.{onto, step_left, read_one, read_none}
+use Rattle.mail_words.proofs.quoted.from_quoted.Goals as goal
+use Rattle.mail_words.proofs.quoted.from_quoted.Goals.{in-Some-read+in_ok-push, in_default-read}
 
 pub returns-in_default : goal.returns-in_default
 returns-in_default c =

@@ -1,7 +1,7 @@
 use Rattle.std.proofs.Common.{◌∷◌, ap, ◌∙◌}
-use Rattle.encwords.specs.Quoted.{quoted_from}
-use Rattle.encwords.proofs.QuotedLemmas.{plain_step}
-use Rattle.encwords.proofs.quoted.step.Goals as goal
+use Rattle.mail_words.specs.Quoted.{quoted_from}
+use Rattle.mail_words.proofs.QuotedLemmas.{plain_step}
+use Rattle.mail_words.proofs.quoted.step.Goals as goal
 
 pub returns-else-octet-eq95-clause-reads : goal.returns-else-octet-eq95-clause-reads
 returns-else-octet-eq95-clause-reads c = λ rest.

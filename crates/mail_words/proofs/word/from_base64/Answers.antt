@@ -5,7 +5,7 @@ use Rattle.base64.specs.GeneralPurpose.{decoded_of, IsDecodeFailure}
 use Rattle.base64.specs.declared.decode.DecodeError.{DecodeError}
 use Rattle.base64.specs.declared.decode.DecodeAllocError.{DecodeAllocError}
 use Rattle.base64.specs.declared.decode.DecodeAllocError.TheVariants.{DecodeError as Failed}
-use Rattle.encwords.proofs.word.from_base64.Goals as goal
+use Rattle.mail_words.proofs.word.from_base64.Goals as goal
 
 -- a text that fails to decode stands for nothing
 failed : (text : List ℕ) (error : DecodeAllocError) (fault : DecodeError) → error ≡ Failed fault → IsDecodeFailure standard text error → None ≡ decoded_of standard text

@@ -1,6 +1,6 @@
 use Rattle.std.proofs.Common.{sym, ◌∙◌}
-use Rattle.encwords.proofs.PartLemmas.{parts_other}
-use Rattle.encwords.proofs.word.parts.Goals as goal
+use Rattle.mail_words.proofs.PartLemmas.{parts_other}
+use Rattle.mail_words.proofs.word.parts.Goals as goal
 
 pub returns-else-are_equals_signs : goal.returns-else-are_equals_signs
 returns-else-are_equals_signs c =

@@ -1,8 +1,8 @@
 use Rattle.std.proofs.Common.{◌∙◌, refl}
-use Rattle.encwords.specs.Written.{is_written_run}
-use Rattle.encwords.proofs.RunLemmas.{filled, shorter}
-use Rattle.encwords.proofs.WrittenLaws.{runs_passed, runs_failed}
-use Rattle.encwords.proofs.written.are_written_runs.Goals as goal
+use Rattle.mail_words.specs.Written.{is_written_run}
+use Rattle.mail_words.proofs.RunLemmas.{filled, shorter}
+use Rattle.mail_words.proofs.WrittenLaws.{runs_passed, runs_failed}
+use Rattle.mail_words.proofs.written.are_written_runs.Goals as goal
 
 pub returns-then-not-branch : goal.returns-then-not-branch
 returns-then-not-branch c =

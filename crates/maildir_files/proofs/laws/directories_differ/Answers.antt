@@ -1,5 +1,5 @@
-use Rattle.maildirs.proofs.SharingLemmas.{shared}
-use Rattle.maildirs.proofs.laws.directories_differ.Goals as goal
+use Rattle.maildir_files.proofs.SharingLemmas.{shared}
+use Rattle.maildir_files.proofs.laws.directories_differ.Goals as goal
 
 pub returns : goal.returns
 returns c = shared

@@ -1,5 +1,5 @@
-use Rattle.maildirs.proofs.InsideLemmas.{directory_inside, length-digest}
-use Rattle.maildirs.proofs.laws.directories_inside.Goals as goal
+use Rattle.maildir_files.proofs.InsideLemmas.{directory_inside, length-digest}
+use Rattle.maildir_files.proofs.laws.directories_inside.Goals as goal
 
 pub returns-clause-inside : goal.returns-clause-inside
 returns-clause-inside c = directory_inside

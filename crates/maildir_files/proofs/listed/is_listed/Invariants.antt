@@ -1,6 +1,6 @@
 use Rattle.std.proofs.Common.{◌≡◌, length}
-use Rattle.maildirs.specs.Listed.{is_listed}
-use Rattle.maildirs.proofs.listed.is_listed.Given as goal
+use Rattle.maildir_files.specs.Listed.{is_listed}
+use Rattle.maildir_files.proofs.listed.is_listed.Given as goal
 
 abbrev pub invariant-loop-octet : goal.invariant-loop-octet
 invariant-loop-octet l = is_listed l.name ≡ is_listed l.rest

@@ -1,7 +1,7 @@
 use Rattle.std.proofs.Common.{◌≡◌, ◌==◌, ◌++◌, false, length, string_bytes, sym, ◌∙◌, ap}
 use Rattle.base64.specs.GeneralPurpose.{encode_of}
-use Rattle.maildirs.proofs.RunLemmas.{nothing_begun, nothing_written, run_written}
-use Rattle.maildirs.proofs.spelling.push_run.Goals as goal
+use Rattle.maildir_files.proofs.RunLemmas.{nothing_begun, nothing_written, run_written}
+use Rattle.maildir_files.proofs.spelling.push_run.Goals as goal
 
 pub returns-then-is_empty-clause-empty : goal.returns-then-is_empty-clause-empty
 returns-then-is_empty-clause-empty c = nothing_begun _ (ap (λ l. length l == 0) (sym c.as_slice-octets.ensures.value) ∙ sym c.is_empty.ensures ∙ c.if-is_empty.true)

@@ -1,13 +1,13 @@
 -- The message was read, kept and taken, as far as that went.
 use Rattle.std.proofs.Common.{refl, sym, ap}
 use Rattle.sqlite.specs.Held.{state}
-use Rattle.mailtables.proofs.WriteLemmas.{clean_before}
-use Rattle.mailengine.proofs.MailTakingLemmas.{mail_written}
-use Rattle.mailengine.specs.Hosts.{answer_by}
-use Rattle.mailengine.specs.declared.answer.Answer.TheVariants.{MailTaken, Refused}
-use Rattle.mailmoves.specs.declared.moving.Why.TheVariants as why
-use Rattle.mailmoves.proofs.MoveLemmas.{still_first, took_first}
-use Rattle.mailmoves.proofs.moving.move_first.Goals as goal
+use Rattle.store_tables.proofs.WriteLemmas.{clean_before}
+use Rattle.store_engine.proofs.MailTakingLemmas.{mail_written}
+use Rattle.store_engine.specs.Hosts.{answer_by}
+use Rattle.store_engine.specs.declared.answer.Answer.TheVariants.{MailTaken, Refused}
+use Rattle.maildir_moves.specs.declared.moving.StayReason.TheVariants as why
+use Rattle.maildir_moves.proofs.MoveLemmas.{still_first, took_first}
+use Rattle.maildir_moves.proofs.moving.move_first_mail.Goals as goal
 
 pub returns-in-Err-clause-moves : goal.returns-in-Err-clause-moves
 returns-in-Err-clause-moves g c =

@@ -1,8 +1,8 @@
 use Rattle.sqlite.specs.Held.{state}
-use Rattle.mailstore.specs.declared.refusal.Refusal.TheVariants.{Memory}
-use Rattle.mailmoves.specs.declared.moving.Moving.TheVariants as moving
-use Rattle.mailmoves.proofs.MoveLemmas.{still_on}
-use Rattle.mailmoves.proofs.route.move_in.Goals as goal
+use Rattle.store_accounts.specs.declared.refusal.Refusal.TheVariants.{Memory}
+use Rattle.maildir_moves.specs.declared.moving.Moving.TheVariants as moving
+use Rattle.maildir_moves.proofs.MoveLemmas.{still_on}
+use Rattle.maildir_moves.proofs.route.move_next_of_folder.Goals as goal
 
 pub returns-in-Err-clause-moves : goal.returns-in-Err-clause-moves
 returns-in-Err-clause-moves g c = still_on c.stay.result (state g.S.Store c.args.store.now) c.stay.ensures.still

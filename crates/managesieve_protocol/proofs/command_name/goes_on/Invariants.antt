@@ -1,6 +1,6 @@
 use Rattle.std.proofs.Common.{◌≡◌, [], ◌∷◌, ◌++◌, length}
-use Rattle.msproto.specs.Machine.{begins}
-use Rattle.msproto.proofs.verb.goes_on.Given as goal
+use Rattle.managesieve_protocol.specs.Machine.{begins}
+use Rattle.managesieve_protocol.proofs.command_name.goes_on.Given as goal
 
 abbrev pub invariant-loop-next : goal.invariant-loop-next
 invariant-loop-next l = begins (l.unread ++ l.letter ∷ []) l.wanted ≡ begins (l.letters ++ l.letter ∷ []) l.word

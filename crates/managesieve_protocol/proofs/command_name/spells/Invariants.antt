@@ -1,7 +1,7 @@
 use Rattle.std.proofs.Common.{◌≡◌, map, length}
 use Rattle.std.specs.Char.{to_ascii_uppercase}
-use Rattle.msproto.specs.Machine.{same_word}
-use Rattle.msproto.proofs.verb.spells.Given as goal
+use Rattle.managesieve_protocol.specs.Machine.{same_word}
+use Rattle.managesieve_protocol.proofs.command_name.spells.Given as goal
 
 abbrev pub invariant-loop-letter : goal.invariant-loop-letter
 invariant-loop-letter l = same_word l.wanted (map to_ascii_uppercase l.unread) ≡ same_word l.word (map to_ascii_uppercase l.name)

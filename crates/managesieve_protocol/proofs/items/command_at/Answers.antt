@@ -1,5 +1,5 @@
-use Rattle.msproto.proofs.Unique.{read_item, read_lacks}
-use Rattle.msproto.proofs.items.command_at.Goals as goal
+use Rattle.managesieve_protocol.proofs.Unique.{read_item, read_lacks}
+use Rattle.managesieve_protocol.proofs.items.command_at.Goals as goal
 
 pub returns-clause-value : goal.returns-clause-value
 returns-clause-value c = read_item c.args.pending c.args.buffer.now c.args.used c.command.result c.requires c.command.ensures.value

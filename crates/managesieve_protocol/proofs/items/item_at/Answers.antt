@@ -1,13 +1,13 @@
 use Rattle.std.proofs.Common.{◌≡◌, subst}
 use Rattle.std.specs.Prelude.{IfOk}
-use Rattle.msproto.specs.declared.items.Reach.{Reach}
-use Rattle.msproto.specs.Values.{item_at}
-use Rattle.msproto.proofs.Unique.{reach_is, if_gives}
-use Rattle.msproto.proofs.items.item_at.Goals as goal
+use Rattle.managesieve_protocol.specs.declared.items.ItemExtent.{ItemExtent}
+use Rattle.managesieve_protocol.specs.Values.{item_at}
+use Rattle.managesieve_protocol.proofs.Unique.{reach_is, if_gives}
+use Rattle.managesieve_protocol.proofs.items.item_at.Goals as goal
 
 pub returns-clause-value : goal.returns-clause-value
 returns-clause-value c =
-    subst (λ (r : Reach). IfOk c.read_at.result (λ item. item ≡ item_at c.args.pending c.args.buffer.now r))
+    subst (λ (r : ItemExtent). IfOk c.read_at.result (λ item. item ≡ item_at c.args.pending c.args.buffer.now r))
     (reach_is c.args.pending c.args.reach c.args.buffer.now c.requires) c.read_at.ensures.value
 
 pub returns-clause-item : goal.returns-clause-item

@@ -1,5 +1,5 @@
-use Rattle.msproto.proofs.Unique as unique
-use Rattle.msproto.proofs.items.one_reach.Goals as goal
+use Rattle.managesieve_protocol.proofs.Unique as unique
+use Rattle.managesieve_protocol.proofs.items.one_reach.Goals as goal
 
 pub returns : goal.returns
 returns c = unique.one_reach

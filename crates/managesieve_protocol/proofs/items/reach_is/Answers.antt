@@ -1,5 +1,5 @@
-use Rattle.msproto.proofs.Scans as scans
-use Rattle.msproto.proofs.items.reach_is.Goals as goal
+use Rattle.managesieve_protocol.proofs.Scans as scans
+use Rattle.managesieve_protocol.proofs.items.reach_is.Goals as goal
 
 pub returns : goal.returns
 returns c = scans.reaches

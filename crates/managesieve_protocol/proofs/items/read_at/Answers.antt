@@ -1,7 +1,7 @@
 use Rattle.std.proofs.Common.{sym, ap, ◌∙◌}
-use Rattle.msproto.specs.Values.{item_at}
-use Rattle.msproto.proofs.Unique.{reach_is}
-use Rattle.msproto.proofs.items.read_at.Goals as goal
+use Rattle.managesieve_protocol.specs.Values.{item_at}
+use Rattle.managesieve_protocol.proofs.Unique.{reach_is}
+use Rattle.managesieve_protocol.proofs.items.read_at.Goals as goal
 
 pub returns-in_ok-command-in-Command-clause-value : goal.returns-in_ok-command-in-Command-clause-value
 returns-in_ok-command-in-Command-clause-value c =

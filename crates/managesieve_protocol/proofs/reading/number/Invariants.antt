@@ -1,9 +1,9 @@
 use Rattle.std.proofs.Common.{◌≡◌, length}
-use Rattle.msproto.specs.Values as v
-use Rattle.msproto.proofs.reading.number.Given as goal
+use Rattle.managesieve_protocol.specs.Values as v
+use Rattle.managesieve_protocol.proofs.reading.number.Given as goal
 
 abbrev pub invariant-loop-octet : goal.invariant-loop-octet
-invariant-loop-octet l = v.number_in l.number l.rest ≡ v.number_in 0 l.text
+invariant-loop-octet l = v.digits_in l.number l.rest ≡ v.digits_in 0 l.text
 
 abbrev pub decreases-loop-octet : goal.decreases-loop-octet
 decreases-loop-octet l = length l.rest

@@ -1,6 +1,6 @@
 use Rattle.std.proofs.Common.{◌≡◌, ◌≤◌, length}
-use Rattle.msproto.specs.Replies as s
-use Rattle.msproto.proofs.spelling.fits_quotes.Given as goal
+use Rattle.managesieve_protocol.specs.Replies as s
+use Rattle.managesieve_protocol.proofs.spelling.fits_quotes.Given as goal
 
 abbrev pub invariant-loop-octet : goal.invariant-loop-octet
 invariant-loop-octet l = record { small : l.count ≤ 1024; same : s.fits_quotes l.count l.rest ≡ s.fits_quotes 0 l.text }

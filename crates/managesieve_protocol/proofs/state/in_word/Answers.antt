@@ -1,7 +1,7 @@
 use Rattle.std.proofs.Common.{ap, ◌∙◌}
-use Rattle.msproto.specs.Machine as m
-use Rattle.msproto.proofs.Verbs.{in_word_more, in_word_end, in_word_dies}
-use Rattle.msproto.proofs.state.in_word.Goals as goal
+use Rattle.managesieve_protocol.specs.Machine as m
+use Rattle.managesieve_protocol.proofs.Verbs.{in_word_more, in_word_end, in_word_dies}
+use Rattle.managesieve_protocol.proofs.state.in_word.Goals as goal
 
 pub returns-in-Some : goal.returns-in-Some
 returns-in-Some c =

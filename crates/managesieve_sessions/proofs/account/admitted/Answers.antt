@@ -1,6 +1,6 @@
 use Rattle.std.proofs.Common.{◌≡◌, ℕ, List, Option, IfOk, subst}
-use Rattle.sessions.proofs.LoginLemmas.{admitted_is}
-use Rattle.sessions.proofs.account.admitted.Goals as goal
+use Rattle.managesieve_sessions.proofs.LoginLemmas.{admitted_is}
+use Rattle.managesieve_sessions.proofs.account.admitted.Goals as goal
 
 pub returns-clause-reads : goal.returns-clause-reads
 returns-clause-reads g c = record {

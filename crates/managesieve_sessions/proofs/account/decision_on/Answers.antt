@@ -1,13 +1,13 @@
 use Rattle.std.proofs.Common.{◌≡◌, ℕ, List, Option, Ok, sym, ap, ◌∙◌}
 use Rattle.std.specs.FinMap.{get}
 use Rattle.sqlite.specs.Held.{state}
-use Rattle.mailstore.specs.Account.{Account}
-use Rattle.mailstore.proofs.KeepLemmas.{reads_answer}
-use Rattle.sessions.specs.declared.account.KeptScripts.{KeptScripts}
-use Rattle.sessions.specs.Decisions.{AreScripts, Decides}
-use Rattle.sessions.specs.Sorts.{of_script}
-use Rattle.sessions.proofs.OrderLemmas.{got, decides_named}
-use Rattle.sessions.proofs.account.decision_on.Goals as goal
+use Rattle.store_accounts.specs.Account.{Account}
+use Rattle.store_accounts.proofs.KeepLemmas.{reads_answer}
+use Rattle.managesieve_sessions.specs.declared.account.KeptScripts.{KeptScripts}
+use Rattle.managesieve_sessions.specs.Decisions.{AreScripts, Decides}
+use Rattle.managesieve_sessions.specs.CommandClasses.{of_script}
+use Rattle.managesieve_sessions.proofs.OrderLemmas.{got, decides_named}
+use Rattle.managesieve_sessions.proofs.account.decision_on.Goals as goal
 
 pub returns-in-Get : goal.returns-in-Get
 returns-in-Get g c =

@@ -1,11 +1,11 @@
 use Rattle.std.proofs.Common.{◌≡◌, Err, OnOk, rules}
 use Rattle.sqlite.specs.Held.{state}
-use Rattle.mailstore.specs.declared.refusal.Refusal.TheVariants.{NoUser}
-use Rattle.sessions.specs.Orders.{ObeyedTo, MayObey}
-use Rattle.sessions.specs.Sorts.{of_script}
-use Rattle.sessions.proofs.ActLemmas.{never_ok, glanced, acts_read}
-use Rattle.sessions.proofs.OrderLemmas.{refused_obeys, obeys_away, obeys_quietly, obeys_made, obeys_undone}
-use Rattle.sessions.proofs.account.execute.Goals as goal
+use Rattle.store_accounts.specs.declared.refusal.Refusal.TheVariants.{NoUser}
+use Rattle.managesieve_sessions.specs.Orders.{ObeyedTo, MayObey}
+use Rattle.managesieve_sessions.specs.CommandClasses.{of_script}
+use Rattle.managesieve_sessions.proofs.ActLemmas.{never_ok, glanced, acts_read}
+use Rattle.managesieve_sessions.proofs.OrderLemmas.{refused_obeys, obeys_away, obeys_quietly, obeys_made, obeys_undone}
+use Rattle.managesieve_sessions.proofs.account.execute.Goals as goal
 
 pub returns-in_err-turn_away-clause-acts : goal.returns-in_err-turn_away-clause-acts
 returns-in_err-turn_away-clause-acts g c =

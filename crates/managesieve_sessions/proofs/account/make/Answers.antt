@@ -1,10 +1,10 @@
 use Rattle.std.proofs.Common.{sym, ap, ◌∙◌, subst}
 use Rattle.sqlite.specs.Held.{state}
-use Rattle.mailstore.specs.Account.{Account, activates}
-use Rattle.mailstore.specs.Promises.{WritesAccount}
-use Rattle.sessions.specs.Decisions.{change_made}
-use Rattle.sessions.proofs.OrderLemmas.{value_is, written}
-use Rattle.sessions.proofs.account.make.Goals as goal
+use Rattle.store_accounts.specs.Account.{Account, activates}
+use Rattle.store_accounts.specs.Promises.{WritesAccount}
+use Rattle.managesieve_sessions.specs.Decisions.{change_made}
+use Rattle.managesieve_sessions.proofs.OrderLemmas.{value_is, written}
+use Rattle.managesieve_sessions.proofs.account.make.Goals as goal
 
 pub returns-in-Put : goal.returns-in-Put
 returns-in-Put g c =

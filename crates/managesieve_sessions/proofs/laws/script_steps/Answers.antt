@@ -1,5 +1,5 @@
-use Rattle.sessions.proofs.LawLemmas as lemmas
-use Rattle.sessions.proofs.laws.script_steps.Goals as goal
+use Rattle.managesieve_sessions.proofs.LawLemmas as lemmas
+use Rattle.managesieve_sessions.proofs.laws.script_steps.Goals as goal
 
 pub returns : goal.returns
 returns c = lemmas.script_step

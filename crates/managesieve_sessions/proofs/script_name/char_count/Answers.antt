@@ -1,6 +1,6 @@
 use Rattle.std.proofs.Common.{rules}
 use Rattle.std.proofs.lemmas.Str.{chars_from_encodes}
-use Rattle.sessions.proofs.script_name.char_count.Goals as goal
+use Rattle.managesieve_sessions.proofs.script_name.char_count.Goals as goal
 
 pub returns : goal.returns
 returns c = search (rules, chars_from_encodes)

@@ -1,8 +1,8 @@
 use Rattle.std.proofs.Common.{ℕ, List, sym, ap, ◌∙◌}
-use Rattle.msproto.specs.declared.commands.Command.TheVariants.{HaveSpace, PutScript, RenameScript}
-use Rattle.sessions.specs.Sorts.{of_named}
-use Rattle.sessions.proofs.ScriptLemmas.{decided_by, two_texts}
-use Rattle.sessions.proofs.scripts.decide.Goals as goal
+use Rattle.managesieve_protocol.specs.declared.commands.ClientCommand.TheVariants.{HaveSpace, PutScript, RenameScript}
+use Rattle.managesieve_sessions.specs.CommandClasses.{of_named}
+use Rattle.managesieve_sessions.proofs.ScriptLemmas.{decided_by, two_texts}
+use Rattle.managesieve_sessions.proofs.scripts.decide_script_command.Goals as goal
 
 pub returns-in-HaveSpace : goal.returns-in-HaveSpace
 returns-in-HaveSpace c =

@@ -1,6 +1,6 @@
 use Rattle.std.proofs.Common.{refl, sym, ◌∙◌, inl, inr}
-use Rattle.sessions.proofs.ScriptLemmas.{decided, active_is, active_not}
-use Rattle.sessions.proofs.scripts.delete_script.Goals as goal
+use Rattle.managesieve_sessions.proofs.ScriptLemmas.{decided, active_is, active_not}
+use Rattle.managesieve_sessions.proofs.scripts.delete_script.Goals as goal
 
 pub returns-then-not-has_script : goal.returns-then-not-has_script
 returns-then-not-has_script c =

@@ -1,8 +1,8 @@
 use Rattle.std.proofs.Common.{IfOk, sym, subst}
-use Rattle.sievesyntax.specs.View.{script_tree}
-use Rattle.sessions.specs.Scripts.{IsVerdict}
-use Rattle.sessions.proofs.scripts.fault_in.Goals as goal
-use Rattle.sessions.proofs.scripts.fault_in.Goals.{in-Ok, in-Err-Fault, in-Err-Memory}
+use Rattle.sieve_syntax.specs.View.{script_tree}
+use Rattle.managesieve_sessions.specs.Scripts.{IsVerdict}
+use Rattle.managesieve_sessions.proofs.scripts.fault_in.Goals as goal
+use Rattle.managesieve_sessions.proofs.scripts.fault_in.Goals.{in-Ok, in-Err-Fault, in-Err-Memory}
 
 pub returns : goal.returns
 returns c =

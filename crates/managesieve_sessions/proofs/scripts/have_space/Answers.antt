@@ -1,6 +1,6 @@
 use Rattle.std.proofs.Common.{refl, inl, inr, arith}
-use Rattle.sessions.proofs.ScriptLemmas.{decided}
-use Rattle.sessions.proofs.scripts.have_space.Goals as goal
+use Rattle.managesieve_sessions.proofs.ScriptLemmas.{decided}
+use Rattle.managesieve_sessions.proofs.scripts.have_space.Goals as goal
 
 pub returns-then-not-has_room : goal.returns-then-not-has_room
 returns-then-not-has_room c =

@@ -1,7 +1,7 @@
 use Rattle.std.proofs.Common.{◌≡◌}
-use Rattle.sessions.specs.Replies.{value_of}
-use Rattle.sessions.specs.Scripts.{script_lines}
-use Rattle.sessions.proofs.scripts.lines_of.Given as goal
+use Rattle.managesieve_sessions.specs.Replies.{borrowed_text}
+use Rattle.managesieve_sessions.specs.Scripts.{script_lines}
+use Rattle.managesieve_sessions.proofs.scripts.lines_of.Given as goal
 
 abbrev pub invariant-loop-name : goal.invariant-loop-name
-invariant-loop-name l = l.lines ≡ script_lines (value_of l.active) l.yielded
+invariant-loop-name l = l.lines ≡ script_lines (borrowed_text l.active) l.yielded

@@ -1,6 +1,6 @@
 use Rattle.std.proofs.Common.{refl, inl, inr}
-use Rattle.sessions.proofs.ScriptLemmas.{decided}
-use Rattle.sessions.proofs.scripts.put_script.Goals as goal
+use Rattle.managesieve_sessions.proofs.ScriptLemmas.{decided}
+use Rattle.managesieve_sessions.proofs.scripts.put_script.Goals as goal
 
 pub returns-then-not-has_room : goal.returns-then-not-has_room
 returns-then-not-has_room c =

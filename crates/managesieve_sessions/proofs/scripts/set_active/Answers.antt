@@ -1,7 +1,7 @@
 use Rattle.std.proofs.Common.{ℕ, List, Option, refl, sym, ap, ◌∙◌, inl, inr}
-use Rattle.mailstore.specs.Account.{activates}
-use Rattle.sessions.proofs.ScriptLemmas.{decided, cannot_activate, active_name_some}
-use Rattle.sessions.proofs.scripts.set_active.Goals as goal
+use Rattle.store_accounts.specs.Account.{activates}
+use Rattle.managesieve_sessions.proofs.ScriptLemmas.{decided, cannot_activate, active_name_some}
+use Rattle.managesieve_sessions.proofs.scripts.set_active.Goals as goal
 
 pub returns-then-not-has_script : goal.returns-then-not-has_script
 returns-then-not-has_script c =

@@ -1,6 +1,6 @@
 use Rattle.std.proofs.Common.{◌≡◌, None}
-use Rattle.wires.specs.Room.{claim_in, best_from}
-use Rattle.wires.proofs.accept.find_room.Given as goal
+use Rattle.net_loop.specs.Room.{claim_in, best_from}
+use Rattle.net_loop.proofs.accept.find_room.Given as goal
 
 -- what the entries that are left make of the best so far is what all make of none
 abbrev pub invariant-clients : goal.invariant-clients

@@ -1,5 +1,5 @@
-use Rattle.wires.proofs.QueueLemmas as queue
-use Rattle.wires.proofs.laws.none_forgotten.Goals as goal
+use Rattle.net_loop.proofs.QueueLemmas as queue
+use Rattle.net_loop.proofs.laws.none_forgotten.Goals as goal
 
 pub returns : goal.returns
 returns g c = queue.none_forgotten g.M.Machine.rules

@@ -1,6 +1,6 @@
-use Rattle.wires.specs.Moves.{at}
-use Rattle.wires.proofs.LifeLemmas.{one_longer, then_one}
-use Rattle.wires.proofs.life.serve.Goals as goal
+use Rattle.net_loop.specs.Moves.{at}
+use Rattle.net_loop.proofs.LifeLemmas.{one_longer, then_one}
+use Rattle.net_loop.proofs.life.serve.Goals as goal
 
 pub loop-round-preserved : goal.loop-round-preserved
 loop-round-preserved g c = (

@@ -1,6 +1,6 @@
 use Rattle.std.proofs.Common.{IsTrue}
-use Rattle.wires.specs.Life.{AddsIf, LivesIf}
-use Rattle.wires.proofs.life.serve.Given as goal
+use Rattle.net_loop.specs.Life.{AddsIf, LivesIf}
+use Rattle.net_loop.proofs.life.serve.Given as goal
 
 abbrev pub invariant-loop-round : goal.invariant-loop-round
 invariant-loop-round g l =

@@ -1,5 +1,5 @@
 use Rattle.std.proofs.Common.{◌≡◌, ℕ, Bool, true, false, List, [], ◌∷◌, ◌++◌, refl}
-use Rattle.wires.proofs.schedule.is_all_sent.Goals as goal
+use Rattle.net_loop.proofs.schedule.is_all_sent.Goals as goal
 
 none_before : (unsent behind : List ℕ) → unsent ++ behind ≡ [] → unsent ≡ []
 none_before [] behind is = refl

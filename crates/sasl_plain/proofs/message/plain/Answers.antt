@@ -1,8 +1,8 @@
 use Rattle.std.proofs.Common.{◌≡◌, ℕ, List, subst}
 use Rattle.std.specs.Prelude.{IfOk}
-use Rattle.saslplain.specs.Parts.{login_in, login_shown}
-use Rattle.saslplain.proofs.Logins.{strict, if_found}
-use Rattle.saslplain.proofs.message.plain.Goals as goal
+use Rattle.sasl_plain.specs.Parts.{login_in, login_shown}
+use Rattle.sasl_plain.proofs.Logins.{strict, if_found}
+use Rattle.sasl_plain.proofs.message.plain.Goals as goal
 
 pub returns-in-Ok-clause-found : goal.returns-in-Ok-clause-found
 returns-in-Ok-clause-found c =

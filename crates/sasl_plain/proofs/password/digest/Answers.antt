@@ -1,7 +1,7 @@
 use Rattle.std.proofs.Common.{ℕ, List, ◌++◌, sym, ap, ◌∙◌}
 use Rattle.sha2.specs.Sha256.{sha256}
-use Rattle.saslplain.proofs.Rounds.{digest_of-zero, digest_of-more}
-use Rattle.saslplain.proofs.password.digest.Goals as goal
+use Rattle.sasl_plain.proofs.Rounds.{digest_of-zero, digest_of-more}
+use Rattle.sasl_plain.proofs.password.digest.Goals as goal
 
 pub loop-init : goal.loop-init
 loop-init c = c.hashed-digest.ensures ∙ digest_of-zero c.args.salt.now c.args.password.now

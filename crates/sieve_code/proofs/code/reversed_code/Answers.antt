@@ -3,10 +3,10 @@ use Rattle.std.proofs.lemmas.Iterator.{YieldsList-from_map_by}
 use Rattle.std.proofs.lemmas.Iterator.Adapters.{YieldsList-from_rev_slice}
 use Rattle.std.proofs.lemmas.Iterator.Consumers.{map_from_collect, YieldsList-at}
 use Rattle.std.proofs.lemmas.Simd.{map-map}
-use Rattle.sievecode.specs.Instructions.{instr_view}
-use Rattle.sievecode.specs.Layout.{forward}
-use Rattle.sievecode.proofs.LayoutLemmas.{length-seen}
-use Rattle.sievecode.proofs.code.turned.Goals as goal
+use Rattle.sieve_code.specs.Instructions.{instr_view}
+use Rattle.sieve_code.specs.Layout.{forward}
+use Rattle.sieve_code.proofs.LayoutLemmas.{length-seen}
+use Rattle.sieve_code.proofs.code.reversed_code.Goals as goal
 
 pub returns : goal.returns
 returns c =

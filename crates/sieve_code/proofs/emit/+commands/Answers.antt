@@ -1,13 +1,13 @@
 use Rattle.std.proofs.Common.{◌≡◌, length, sym, ap, ◌∙◌}
-use Rattle.sievesyntax.specs.View.{commands_view, branches_view}
-use Rattle.sievecode.specs.Instructions.{seen}
-use Rattle.sievecode.specs.Layout.{branches_code, commands_code}
-use Rattle.sievecode.proofs.LayoutLemmas.{commands_last, branches_last, branch_written, length-seen}
-use Rattle.sievecode.proofs.emit.+commands.Goals as goal
+use Rattle.sieve_syntax.specs.View.{commands_view, branches_view}
+use Rattle.sieve_code.specs.Instructions.{instructions_of}
+use Rattle.sieve_code.specs.Layout.{branches_code, commands_code}
+use Rattle.sieve_code.proofs.LayoutLemmas.{commands_last, branches_last, branch_written, length-seen}
+use Rattle.sieve_code.proofs.emit.+commands.Goals as goal
 
 pub emit_commands-loop-command-preserved : goal.emit_commands-loop-command-preserved
 emit_commands-loop-command-preserved t c =
-    let rows = seen c.loop-command.rows.items in
+    let rows = instructions_of c.loop-command.rows.items in
     let left = c.next.new.self.iter.rest.now in
     ap (commands_code (commands_view left)) c.in_ok-emit_command.ensures
     ∙ sym (commands_last left c.in-Some.command.now rows)
@@ -16,7 +16,7 @@ emit_commands-loop-command-preserved t c =
 
 pub emit_branches-loop-branch-preserved : goal.emit_branches-loop-branch-preserved
 emit_branches-loop-branch-preserved t c =
-    let rows = seen c.loop-branch.rows.items in
+    let rows = instructions_of c.loop-branch.rows.items in
     let left = c.next.new.self.iter.rest.now in
     let branch = c.in-Some.branch.now in
     let end = c.len-end.result in

@@ -1,7 +1,7 @@
 -- The sizes of the addresses so far, which have no more octets than may be.
 use Rattle.std.proofs.Common.{◌≡◌, ◌≤◌, take}
-use Rattle.sieveexec.specs.Work.{sizes_of_addresses}
-use Rattle.sieveexec.proofs.address.address_sizes.Given as goal
+use Rattle.sieve_exec.specs.Work.{sizes_of_addresses}
+use Rattle.sieve_exec.proofs.address.address_sizes.Given as goal
 
 abbrev pub invariant-loop-one : goal.invariant-loop-one
 invariant-loop-one l = record {

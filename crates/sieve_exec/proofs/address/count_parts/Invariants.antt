@@ -1,8 +1,8 @@
 -- The addresses so far that have the part are counted.
 use Rattle.std.proofs.Common.{◌≡◌, ◌≤◌, take}
 use Rattle.std.specs.Prelude.{count_by}
-use Rattle.sieveexec.specs.Counts.{has_part}
-use Rattle.sieveexec.proofs.address.count_parts.Given as goal
+use Rattle.sieve_exec.specs.Counts.{has_part}
+use Rattle.sieve_exec.proofs.address.count_parts.Given as goal
 
 abbrev pub invariant-loop-one : goal.invariant-loop-one
 invariant-loop-one l = record {

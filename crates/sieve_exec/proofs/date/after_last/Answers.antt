@@ -1,6 +1,6 @@
 use Rattle.std.proofs.Common.{◌∙◌, List, ℕ, Some, ap, sym}
-use Rattle.sieveexec.proofs.DateLemmas.{behind_found, behind_nowhere}
-use Rattle.sieveexec.proofs.date.behind_last.Goals as goal
+use Rattle.sieve_exec.proofs.DateLemmas.{behind_found, behind_nowhere}
+use Rattle.sieve_exec.proofs.date.after_last.Goals as goal
 
 pub returns-in_err-at : goal.returns-in_err-at
 returns-in_err-at c = rw c.from_residual.ensures (behind_nowhere c.args.text.now c.in_err-at.ensures)

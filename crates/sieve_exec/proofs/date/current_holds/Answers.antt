@@ -1,13 +1,13 @@
 use Rattle.std.proofs.Common.{◌≡◌, ◌∙◌, Bool, IfOk, w16, FitsSigned, arith, sym, ap, subst}
 use Rattle.std.specs.Prelude.{unwrap_or}
 use Rattle.std.proofs.lemmas.Int.{to_z-of_z, ints}
-use Rattle.maildates.specs.declared.date_time.DateTime.{DateTime}
-use Rattle.maildates.specs.DateTimes.{IsMoment}
-use Rattle.sieveexec.specs.Counts.{is_count}
-use Rattle.sieveexec.specs.Truth.{date_matches}
-use Rattle.sieveexec.proofs.DateLemmas.{moment_found, moment_nowhere, moment_as}
-use Rattle.sieveexec.proofs.TruthLemmas.{each_asked, other_asked}
-use Rattle.sieveexec.proofs.date.current_holds.Goals as goal
+use Rattle.mail_dates.specs.declared.date_time.DateTime.{DateTime}
+use Rattle.mail_dates.specs.DateTimes.{IsMoment}
+use Rattle.sieve_exec.specs.Counts.{is_count}
+use Rattle.sieve_exec.specs.Truth.{date_matches}
+use Rattle.sieve_exec.proofs.DateLemmas.{moment_found, moment_nowhere, moment_as}
+use Rattle.sieve_exec.proofs.TruthLemmas.{each_asked, other_asked}
+use Rattle.sieve_exec.proofs.date.current_holds.Goals as goal
 
 pub returns-in-Some : goal.returns-in-Some
 returns-in-Some c =

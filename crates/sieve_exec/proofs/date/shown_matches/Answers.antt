@@ -1,8 +1,8 @@
 use Rattle.std.proofs.Common.{◌≡◌, Bool, IfOk, subst}
-use Rattle.maildates.specs.declared.date_time.DateTime.{DateTime}
-use Rattle.sieveexec.specs.Truth.{date_matches}
-use Rattle.sieveexec.proofs.DateLemmas.{shown_found, shown_nowhere}
-use Rattle.sieveexec.proofs.date.shown_matches.Goals as goal
+use Rattle.mail_dates.specs.declared.date_time.DateTime.{DateTime}
+use Rattle.sieve_exec.specs.Truth.{date_matches}
+use Rattle.sieve_exec.proofs.DateLemmas.{shown_found, shown_nowhere}
+use Rattle.sieve_exec.proofs.date.shown_matches.Goals as goal
 
 pub returns-in-Some : goal.returns-in-Some
 returns-in-Some c =

@@ -1,7 +1,7 @@
 use Rattle.std.proofs.Common.{◌∙◌}
 use Rattle.std.proofs.Math.Seq.{drop-length}
-use Rattle.sieveexec.proofs.PartLemmas.{cuts_only, cuts_found, cuts_nowhere}
-use Rattle.sieveexec.proofs.envelope.domain_in.Goals as goal
+use Rattle.sieve_exec.proofs.PartLemmas.{cuts_only, cuts_found, cuts_nowhere}
+use Rattle.sieve_exec.proofs.envelope.domain_in.Goals as goal
 
 pub returns-in-Some : goal.returns-in-Some
 returns-in-Some c =

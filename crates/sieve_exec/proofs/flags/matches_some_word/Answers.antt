@@ -1,10 +1,10 @@
 use Rattle.std.proofs.Common.{◌∙◌, sym, rules}
 use Rattle.std.proofs.lemmas.Iterator.{YieldsList-from_slice}
 use Rattle.std.proofs.lemmas.Iterator.Search.{any_from_yields_List}
-use Rattle.sieveexec.specs.FlagKeys.{words_of}
-use Rattle.sieveexec.specs.Matches.{matches_some, matches_key}
-use Rattle.sieveexec.proofs.WordLemmas.{any_joined}
-use Rattle.sieveexec.proofs.flags.matches_some_word.Goals as goal
+use Rattle.sieve_exec.specs.FlagKeys.{words_of}
+use Rattle.sieve_exec.specs.Matches.{matches_some, matches_key}
+use Rattle.sieve_exec.proofs.WordLemmas.{any_joined}
+use Rattle.sieve_exec.proofs.flags.matches_some_word.Goals as goal
 
 pub returns : goal.returns
 returns c =

@@ -2,11 +2,11 @@ use Rattle.std.proofs.Common.{◌&&◌, ◌∙◌, sym, rules}
 use Rattle.std.proofs.lemmas.Iterator.Search.{any_from_yields_List}
 use Rattle.std.proofs.lemmas.Iterator.Splits.{YieldsList-from_slice_split}
 use Rattle.octets.specs.Ascii.{is_blank}
-use Rattle.mailflags.specs.Flags.{between_blanks}
-use Rattle.sieveexec.specs.Counts.{is_some_of}
-use Rattle.sieveexec.specs.Matches.{matches_key}
-use Rattle.sieveexec.proofs.WordLemmas.{any_kept}
-use Rattle.sieveexec.proofs.flags.matches_words.Goals as goal
+use Rattle.mail_flags.specs.Flags.{between_blanks}
+use Rattle.sieve_exec.specs.Counts.{is_some_of}
+use Rattle.sieve_exec.specs.Matches.{matches_key}
+use Rattle.sieve_exec.proofs.WordLemmas.{any_kept}
+use Rattle.sieve_exec.proofs.flags.matches_words.Goals as goal
 
 pub returns : goal.returns
 returns c =

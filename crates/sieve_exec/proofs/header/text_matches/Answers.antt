@@ -1,7 +1,7 @@
 use Rattle.std.proofs.Common.{sym, ◌∙◌}
-use Rattle.sieveexec.specs.Matches.{matches_key}
-use Rattle.sieveexec.proofs.KeyLemmas.{swapped}
-use Rattle.sieveexec.proofs.header.text_matches.Goals as goal
+use Rattle.sieve_exec.specs.Matches.{matches_key}
+use Rattle.sieve_exec.proofs.KeyLemmas.{swapped}
+use Rattle.sieve_exec.proofs.header.text_matches.Goals as goal
 
 pub returns-then-not-is_empty : goal.returns-then-not-is_empty
 returns-then-not-is_empty c =

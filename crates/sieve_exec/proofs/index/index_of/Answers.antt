@@ -3,10 +3,10 @@ use Rattle.std.proofs.lemmas.Bool.{cases_Bool}
 use Rattle.std.proofs.lemmas.Map.Text.{is_eq-slice_cmp}
 use Rattle.std.proofs.lemmas.Slice.Eq.{bytes_eq-Decides}
 use Rattle.std.specs.Str.{bytes_eq}
-use Rattle.mailhead.specs.Fields.{texts_of}
-use Rattle.sieveexec.specs.Indexes.{raws_keyed}
-use Rattle.sieveexec.proofs.IndexLemmas.{raws_more}
-use Rattle.sieveexec.proofs.index.index_of.Goals as goal
+use Rattle.mail_head.specs.Fields.{field_texts_of}
+use Rattle.sieve_exec.specs.Indexes.{raws_keyed}
+use Rattle.sieve_exec.proofs.IndexLemmas.{raws_more}
+use Rattle.sieve_exec.proofs.index.index_of.Goals as goal
 
 pub loop-field-preserved : goal.loop-field-preserved
 loop-field-preserved c = λ key.
@@ -17,5 +17,5 @@ loop-field-preserved c = λ key.
     let before = c.loop-field.invariant key in
     ⊎_elim
     (λ yes. let equal : name ≡ key = (bytes_eq-Decides name key).0 yes in grind (arith, more, same, before, equal, yes))
-    (λ no. let none = append-nil (raws_keyed (texts_of (take c.loop-field.field-index c.args.fields.now)) key) in grind (arith, more, same, before, none, no))
+    (λ no. let none = append-nil (raws_keyed (field_texts_of (take c.loop-field.field-index c.args.fields.now)) key) in grind (arith, more, same, before, none, no))
     (cases_Bool (bytes_eq name key))

@@ -1,5 +1,5 @@
-use Rattle.sieveexec.proofs.NameLemmas.{names_nothing}
-use Rattle.sieveexec.proofs.laws.invalid_names.Goals as goal
+use Rattle.sieve_exec.proofs.NameLemmas.{names_nothing}
+use Rattle.sieve_exec.proofs.laws.invalid_names.Goals as goal
 
 pub returns : goal.returns
 returns c = names_nothing

@@ -1,5 +1,5 @@
-use Rattle.sieveexec.proofs.PartLemmas.{cuts_of, cuts_only}
-use Rattle.sieveexec.proofs.laws.parts_of_an_address.Goals as goal
+use Rattle.sieve_exec.proofs.PartLemmas.{cuts_of, cuts_only}
+use Rattle.sieve_exec.proofs.laws.parts_of_an_address.Goals as goal
 
 pub returns : goal.returns
 returns c = record { found = cuts_of; only = cuts_only }

@@ -1,5 +1,5 @@
-use Rattle.sieveexec.proofs.TruthLemmas.{truth_decides}
-use Rattle.sieveexec.proofs.laws.truth_of_a_check.Goals as goal
+use Rattle.sieve_exec.proofs.TruthLemmas.{truth_decides}
+use Rattle.sieve_exec.proofs.laws.truth_of_a_check.Goals as goal
 
 pub returns : goal.returns
 returns c mail so_far = truth_decides mail so_far.flags

@@ -1,5 +1,5 @@
-use Rattle.sieveexec.proofs.UnflaggedLemmas.{same_without}
-use Rattle.sieveexec.proofs.laws.truth_without_flags.Goals as goal
+use Rattle.sieve_exec.proofs.UnflaggedLemmas.{same_without}
+use Rattle.sieve_exec.proofs.laws.truth_without_flags.Goals as goal
 
 pub returns : goal.returns
 returns c = same_without

@@ -1,12 +1,12 @@
 use Rattle.std.proofs.Common.{◌<◌, false, Some, length, sym, ap, subst, ◌∙◌, arith}
-use Rattle.sievesyntax.specs.RunState.{at_first}
-use Rattle.sievesyntax.specs.Work.{max_work}
-use Rattle.sievecode.specs.Jumps.{jumps_from}
-use Rattle.sieveexec.specs.Truth.{truth_at}
-use Rattle.sieveexec.specs.Work.{work_at}
-use Rattle.sieveexec.specs.Runs.{run_state_of}
-use Rattle.sieveexec.proofs.MachineLemmas.{Gives, gives_first, machine_turn, machine_fails, at_end, after_all, over_is, over_so}
-use Rattle.sieveexec.proofs.machine.run.Goals as goal
+use Rattle.sieve_syntax.specs.RunState.{at_first}
+use Rattle.sieve_syntax.specs.Work.{max_work}
+use Rattle.sieve_code.specs.Jumps.{jumps_from}
+use Rattle.sieve_exec.specs.Truth.{truth_at}
+use Rattle.sieve_exec.specs.Work.{work_at}
+use Rattle.sieve_exec.specs.Runs.{run_state_of}
+use Rattle.sieve_exec.proofs.MachineLemmas.{Gives, gives_first, machine_turn, machine_fails, at_end, after_all, over_is, over_so}
+use Rattle.sieve_exec.proofs.machine.run_code.Goals as goal
 
 pub loop-place-init : goal.loop-place-init
 loop-place-init c =

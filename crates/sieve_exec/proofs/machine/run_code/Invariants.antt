@@ -1,12 +1,12 @@
 -- What is left to run gives what the whole code gives, behind the work that was taken.
 use Rattle.std.proofs.Common.{◌≡◌, ◌-◌, false, length}
-use Rattle.sievesyntax.specs.RunState.{at_first}
-use Rattle.sievecode.specs.Jumps.{jumps_from}
-use Rattle.sieveexec.specs.Truth.{truth_at}
-use Rattle.sieveexec.specs.Work.{work_at}
-use Rattle.sieveexec.specs.Runs.{run_state_of}
-use Rattle.sieveexec.proofs.MachineLemmas.{Gives}
-use Rattle.sieveexec.proofs.machine.run.Given as goal
+use Rattle.sieve_syntax.specs.RunState.{at_first}
+use Rattle.sieve_code.specs.Jumps.{jumps_from}
+use Rattle.sieve_exec.specs.Truth.{truth_at}
+use Rattle.sieve_exec.specs.Work.{work_at}
+use Rattle.sieve_exec.specs.Runs.{run_state_of}
+use Rattle.sieve_exec.proofs.MachineLemmas.{Gives}
+use Rattle.sieve_exec.proofs.machine.run_code.Given as goal
 
 abbrev pub invariant-loop-place : goal.invariant-loop-place
 invariant-loop-place l = record {

@@ -1,6 +1,6 @@
 use Rattle.std.proofs.Common.{◌∙◌, sym}
-use Rattle.sieveexec.proofs.MailboxLemmas.{filed_at, filed_behind}
-use Rattle.sieveexec.proofs.mailboxes.file.Goals as goal
+use Rattle.sieve_exec.proofs.MailboxLemmas.{filed_at, filed_behind}
+use Rattle.sieve_exec.proofs.mailboxes.file.Goals as goal
 
 pub returns-in-Some : goal.returns-in-Some
 returns-in-Some c =

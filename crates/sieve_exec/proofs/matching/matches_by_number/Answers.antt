@@ -1,9 +1,9 @@
 use Rattle.std.proofs.Common.{◌∙◌}
 use Rattle.std.proofs.lemmas.Bool.Decides.{same_from_decides}
-use Rattle.sievesyntax.specs.declared.tree.checks.Matching.TheVariants.{Is, Value, Count}
-use Rattle.sieveexec.proofs.MatchLemmas.{number_decides}
-use Rattle.sieveexec.proofs.OrderLemmas.{number_relates}
-use Rattle.sieveexec.proofs.matching.matches_by_number.Goals as goal
+use Rattle.sieve_syntax.specs.declared.tree.checks.Matching.TheVariants.{Is, Value, Count}
+use Rattle.sieve_exec.proofs.MatchLemmas.{number_decides}
+use Rattle.sieve_exec.proofs.OrderLemmas.{number_relates}
+use Rattle.sieve_exec.proofs.matching.matches_by_number.Goals as goal
 
 pub returns-in-Is : goal.returns-in-Is
 returns-in-Is c = rw c.in-Is.is (same_from_decides _ _ c.are_equal_numbers.ensures (number_decides Is c.args.key.now c.args.value.now))

@@ -1,4 +1,4 @@
-use Rattle.sieveexec.proofs.matching.matches_key.Goals as goal
+use Rattle.sieve_exec.proofs.matching.matches_key.Goals as goal
 
 pub returns-in-Octet : goal.returns-in-Octet
 returns-in-Octet c = rw c.in-Octet.is c.matches_by_image.ensures

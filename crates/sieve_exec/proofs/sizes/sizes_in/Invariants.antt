@@ -1,7 +1,7 @@
 -- The sizes of the texts so far, which have no more octets than may be.
 use Rattle.std.proofs.Common.{◌≡◌, ◌≤◌, take}
-use Rattle.sieveexec.specs.Work.{sizes_of}
-use Rattle.sieveexec.proofs.sizes.sizes_in.Given as goal
+use Rattle.sieve_exec.specs.Work.{sizes_of}
+use Rattle.sieve_exec.proofs.sizes.sizes_in.Given as goal
 
 abbrev pub invariant-loop-text : goal.invariant-loop-text
 invariant-loop-text l = record {

@@ -1,8 +1,8 @@
 use Rattle.std.proofs.Common.{◌≡◌, ◌+◌, ◌-◌, subst, arith}
 use Rattle.std.specs.Prelude.{sum_by}
-use Rattle.sieveexec.specs.Work.{IsLeft, texts_size, tried_work}
-use Rattle.sieveexec.proofs.WorkLemmas.{left_then}
-use Rattle.sieveexec.proofs.work.spend_flags.Goals as goal
+use Rattle.sieve_exec.specs.Work.{IsLeft, texts_size, tried_work}
+use Rattle.sieve_exec.proofs.WorkLemmas.{left_then}
+use Rattle.sieve_exec.proofs.work.spend_flags.Goals as goal
 
 pub returns : goal.returns
 returns c =

@@ -1,8 +1,8 @@
 use Rattle.std.proofs.Common.{sym, ap, ◌∙◌, arith}
 use Rattle.std.proofs.lemmas.List.{length-drop}
-use Rattle.sievelex.specs.Encoded.{sequence_at}
-use Rattle.sievelex.proofs.EncodedLemmas.{plain_at, other_at, sequence_here, without_dollar}
-use Rattle.sievelex.proofs.encoded.decode.Goals as goal
+use Rattle.sieve_lex.specs.Encoded.{sequence_at}
+use Rattle.sieve_lex.proofs.EncodedLemmas.{plain_at, other_at, sequence_here, without_dollar}
+use Rattle.sieve_lex.proofs.encoded.decode.Goals as goal
 
 pub returns-in_default : goal.returns-in_default
 returns-in_default c = rw c.in_ok-from_slice.ensures (sym (without_dollar c.args.text.now c.in_default.ensures))

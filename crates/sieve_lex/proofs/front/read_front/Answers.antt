@@ -1,6 +1,6 @@
 use Rattle.std.proofs.Common.{sym, ◌∙◌, refl}
-use Rattle.sievelex.proofs.Marks.{mark_found, other_none}
-use Rattle.sievelex.proofs.front.read_front.Goals as goal
+use Rattle.sieve_lex.proofs.Marks.{mark_found, other_none}
+use Rattle.sieve_lex.proofs.front.read_front.Goals as goal
 
 pub returns-in-Mark-clause-found : goal.returns-in-Mark-clause-found
 returns-in-Mark-clause-found c = mark_found _ _ _ _ c.in-Some.ensures.cases.0 (sym c.class_of.ensures ∙ c.in-Mark.is)

@@ -1,9 +1,9 @@
 use Rattle.std.proofs.Common.{◌≡◌, true, arith}
 use Rattle.std.proofs.lemmas.List.Sums.{prefix_len-le-length}
-use Rattle.sievelex.specs.Class.{is_name_octet}
-use Rattle.sievelex.proofs.Named.{identifier_found}
-use Rattle.sievelex.proofs.Several.{word_found}
-use Rattle.sievelex.proofs.front.read_identifier.Goals as goal
+use Rattle.sieve_lex.specs.Class.{is_name_octet}
+use Rattle.sieve_lex.proofs.Named.{identifier_found}
+use Rattle.sieve_lex.proofs.Several.{word_found}
+use Rattle.sieve_lex.proofs.front.read_identifier.Goals as goal
 
 pub split_at-requires : goal.split_at-requires
 split_at-requires c = omega (arith, prefix_len-le-length is_name_octet c.args.octets.now)

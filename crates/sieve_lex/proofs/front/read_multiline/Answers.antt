@@ -1,14 +1,14 @@
 use Rattle.std.proofs.Common.{◌≡◌, None, ap, sym, refl}
 use Rattle.std.proofs.lemmas.Result.{err_from_is_err_and}
-use Rattle.sievelex.specs.declared.front.Front.{Front}
-use Rattle.sievelex.specs.declared.multiline.Stage.TheVariants.{Opening}
-use Rattle.sievelex.specs.Front.{IsFront}
-use Rattle.sievelex.specs.Body.{body_from}
-use Rattle.sievelex.proofs.FaultLemmas.{fault_on}
-use Rattle.sievelex.specs.declared.token.Content.TheVariants.{Text}
-use Rattle.sievelex.proofs.Best.{found_at}
-use Rattle.sievelex.proofs.Several.{several_found, several_none, word_five}
-use Rattle.sievelex.proofs.front.read_multiline.Goals as goal
+use Rattle.sieve_lex.specs.declared.front.Front.{Front}
+use Rattle.sieve_lex.specs.declared.multiline.BodyState.TheVariants.{Opening}
+use Rattle.sieve_lex.specs.Front.{IsFront}
+use Rattle.sieve_lex.specs.Body.{body_from}
+use Rattle.sieve_lex.proofs.FaultLemmas.{fault_on}
+use Rattle.sieve_lex.specs.declared.token.Content.TheVariants.{Text}
+use Rattle.sieve_lex.proofs.Best.{found_at}
+use Rattle.sieve_lex.proofs.Several.{several_found, several_none, word_five}
+use Rattle.sieve_lex.proofs.front.read_multiline.Goals as goal
 
 pub split_at-requires : goal.split_at-requires
 split_at-requires c = word_five _ c.requires

@@ -1,8 +1,8 @@
 use Rattle.std.proofs.Common.{arith}
 use Rattle.std.proofs.lemmas.List.Sums.{prefix_len-le-length}
 use Rattle.octets.specs.Ascii.{is_digit}
-use Rattle.sievelex.proofs.Numbered.{number_found, number_none}
-use Rattle.sievelex.proofs.front.read_number.Goals as goal
+use Rattle.sieve_lex.proofs.Numbered.{number_found, number_none}
+use Rattle.sieve_lex.proofs.front.read_number.Goals as goal
 
 pub split_at-requires : goal.split_at-requires
 split_at-requires c = omega (arith, prefix_len-le-length is_digit c.args.octets.now)

@@ -1,12 +1,12 @@
 use Rattle.std.proofs.Common.{◌≡◌, None, ◌∷◌}
 use Rattle.std.proofs.lemmas.Result.{err_from_is_err_and}
-use Rattle.sievelex.specs.declared.front.Front.{Front}
-use Rattle.sievelex.specs.declared.quoted.Mode.TheVariants.{Inside}
-use Rattle.sievelex.specs.Front.{IsFront}
-use Rattle.sievelex.specs.Inside.{string_from}
-use Rattle.sievelex.proofs.FaultLemmas.{fault_on}
-use Rattle.sievelex.proofs.Strings.{string_found, no_string}
-use Rattle.sievelex.proofs.front.read_string.Goals as goal
+use Rattle.sieve_lex.specs.declared.front.Front.{Front}
+use Rattle.sieve_lex.specs.declared.quoted.Mode.TheVariants.{Inside}
+use Rattle.sieve_lex.specs.Front.{IsFront}
+use Rattle.sieve_lex.specs.Inside.{string_from}
+use Rattle.sieve_lex.proofs.FaultLemmas.{fault_on}
+use Rattle.sieve_lex.proofs.Strings.{string_found, no_string}
+use Rattle.sieve_lex.proofs.front.read_string.Goals as goal
 
 pub returns-in_err-value-clause-found : goal.returns-in_err-value-clause-found
 returns-in_err-value-clause-found c =

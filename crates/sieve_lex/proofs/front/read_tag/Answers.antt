@@ -1,8 +1,8 @@
 use Rattle.std.proofs.Common.{◌∙◌, sym, arith}
 use Rattle.std.proofs.lemmas.List.Sums.{prefix_len-le-length}
-use Rattle.sievelex.specs.Class.{is_name_octet}
-use Rattle.sievelex.proofs.Named.{tag_found, tag_none}
-use Rattle.sievelex.proofs.front.read_tag.Goals as goal
+use Rattle.sieve_lex.specs.Class.{is_name_octet}
+use Rattle.sieve_lex.proofs.Named.{tag_found, tag_none}
+use Rattle.sieve_lex.proofs.front.read_tag.Goals as goal
 
 pub returns-then-not-begins_name-clause-found : goal.returns-then-not-begins_name-clause-found
 returns-then-not-begins_name-clause-found c = λ g t. tag_none _ (sym c.begins_name.ensures ∙ c.if-not-begins_name.true) _ _ _ t.shape

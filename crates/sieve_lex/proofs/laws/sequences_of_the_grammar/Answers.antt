@@ -1,5 +1,5 @@
-use Rattle.sievelex.proofs.SequenceLemmas.{sequence_read, sequence_found}
-use Rattle.sievelex.proofs.laws.sequences_of_the_grammar.Goals as goal
+use Rattle.sieve_lex.proofs.SequenceLemmas.{sequence_read, sequence_found}
+use Rattle.sieve_lex.proofs.laws.sequences_of_the_grammar.Goals as goal
 
 pub returns : goal.returns
 returns c = record { read = λ coding s rest words is. sequence_read coding s rest words is; only = sequence_found }

@@ -1,8 +1,8 @@
 use Rattle.std.proofs.Common.{◌+◌, arith}
 use Rattle.std.proofs.lemmas.List.Sums.{fold_more}
 use Rattle.octets.specs.Decimal.{with_digit}
-use Rattle.sievelex.proofs.Digits.{number_of-front}
-use Rattle.sievelex.proofs.number.decimal.Goals as goal
+use Rattle.sieve_lex.proofs.Digits.{number_of-front}
+use Rattle.sieve_lex.proofs.number.decimal.Goals as goal
 
 pub returns-then-value-digit : goal.returns-then-value-digit
 returns-then-value-digit c =

@@ -1,7 +1,7 @@
 use Rattle.std.proofs.Common.{◌≡◌, ◌+◌, ◌-◌, ◌≤◌, length, take}
-use Rattle.sievelex.specs.Text.{line_ends}
-use Rattle.sievelex.proofs.Indexed.{IsCounted}
-use Rattle.sievelex.proofs.packed.line_of.Given as goal
+use Rattle.sieve_lex.specs.Text.{line_ends}
+use Rattle.sieve_lex.proofs.Indexed.{IsCounted}
+use Rattle.sieve_lex.proofs.packed.line_of.Given as goal
 
 abbrev pub invariant-tokens : goal.invariant-tokens
 invariant-tokens l = record {

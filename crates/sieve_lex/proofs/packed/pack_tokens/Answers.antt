@@ -1,19 +1,19 @@
 use Rattle.std.proofs.Common.{◌≡◌, List, [], ◌∷◌, ◌++◌, Some, ap, sym, ◌∙◌, subst}
 use Rattle.std.proofs.lemmas.List.{map-append}
-use Rattle.sievelex.specs.declared.token.Token.{Token}
-use Rattle.sievelex.specs.Spelling.{IsNext, placed}
-use Rattle.sievelex.specs.declared.token.Content.{Content}
-use Rattle.sievelex.specs.Contents.{contents_of, HoldsContents}
-use Rattle.sievelex.proofs.Next.{next_further}
-use Rattle.sievelex.proofs.Scanned.{IsFront, front_more, front_ends, front_only}
-use Rattle.sievelex.proofs.Packing.{holds_contents}
-use Rattle.sievelex.proofs.packed.pack_tokens.Goals as goal
+use Rattle.sieve_lex.specs.declared.token.Token.{Token}
+use Rattle.sieve_lex.specs.Spelling.{IsNextToken, placed}
+use Rattle.sieve_lex.specs.declared.token.Content.{Content}
+use Rattle.sieve_lex.specs.Contents.{contents_of, HoldsContents}
+use Rattle.sieve_lex.proofs.Next.{next_further}
+use Rattle.sieve_lex.proofs.Scanned.{IsFront, front_more, front_ends, front_only}
+use Rattle.sieve_lex.proofs.Packing.{holds_contents}
+use Rattle.sieve_lex.proofs.packed.pack_tokens.Goals as goal
 
 pub tokens-preserved : goal.tokens-preserved
 tokens-preserved c =
     let t : Token = placed c.args.text.now c.in-Some.piece in
-    let here : IsNext c.args.text.now c.tokens.at t = rw c.in-Some.is at c.in_ok-piece.ensures.found in
-    let one : (u : Token) → IsNext c.args.text.now c.tokens.at u → Some t ≡ Some u = rw c.in-Some.is at c.in_ok-piece.ensures.only in
+    let here : IsNextToken c.args.text.now c.tokens.at t = rw c.in-Some.is at c.in_ok-piece.ensures.found in
+    let one : (u : Token) → IsNextToken c.args.text.now c.tokens.at u → Some t ≡ Some u = rw c.in-Some.is at c.in_ok-piece.ensures.only in
     let front : (so_far : List Token) × (IsFront c.args.text.now so_far c.tokens.at × HoldsContents c.tokens.packed (contents_of so_far)) = c.tokens.invariant.front in
     let P : List Content → Type 0 = λ x. HoldsContents c.append.new.packed x in
     record {
@@ -35,5 +35,5 @@ returns-clause-found c =
 pub returns-clause-only : goal.returns-clause-only
 returns-clause-only c = λ us s.
     let front : (so_far : List Token) × (IsFront c.args.text.now so_far c.tokens.at × HoldsContents c.tokens.packed (contents_of so_far)) = c.tokens.invariant.front in
-    let none : (u : Token) → IsNext c.args.text.now c.tokens.at u → ⊥ = rw c.in_default.is at c.in_ok-piece.ensures.only in
+    let none : (u : Token) → IsNextToken c.args.text.now c.tokens.at u → ⊥ = rw c.in_default.is at c.in_ok-piece.ensures.only in
     ap contents_of (front_only _ c.tokens.at _ front.1.0 none us s) ∙ sym (holds_contents _ _ front.1.1)

@@ -1,8 +1,8 @@
 use Rattle.std.proofs.Common.{◌-◌, ◌≤◌, List, length}
-use Rattle.sievelex.specs.declared.token.Token.{Token}
-use Rattle.sievelex.specs.Contents.{contents_of, HoldsContents}
-use Rattle.sievelex.proofs.Scanned.{IsFront}
-use Rattle.sievelex.proofs.packed.pack_tokens.Given as goal
+use Rattle.sieve_lex.specs.declared.token.Token.{Token}
+use Rattle.sieve_lex.specs.Contents.{contents_of, HoldsContents}
+use Rattle.sieve_lex.proofs.Scanned.{IsFront}
+use Rattle.sieve_lex.proofs.packed.pack_tokens.Given as goal
 
 abbrev pub invariant-tokens : goal.invariant-tokens
 invariant-tokens l = record {

@@ -1,9 +1,9 @@
 use Rattle.std.proofs.Common.{◌≡◌, ◌+◌, ◌≤◌, Some, take, ap, ◌∙◌}
-use Rattle.sievelex.specs.declared.token.Token.{Token}
-use Rattle.sievelex.specs.Spelling.{IsNext, placed}
-use Rattle.sievelex.specs.Text.{line_ends}
-use Rattle.sievelex.proofs.Next.{gap_line, lined, next_placed}
-use Rattle.sievelex.proofs.scanner.next.Goals as goal
+use Rattle.sieve_lex.specs.declared.token.Token.{Token}
+use Rattle.sieve_lex.specs.Spelling.{IsNextToken, placed}
+use Rattle.sieve_lex.specs.Text.{line_ends}
+use Rattle.sieve_lex.proofs.Next.{gap_line, lined, next_placed}
+use Rattle.sieve_lex.proofs.scanner.next.Goals as goal
 
 pub returns-clause-found : goal.returns-clause-found
 returns-clause-found c =
@@ -17,7 +17,7 @@ pub returns-clause-only : goal.returns-clause-only
 returns-clause-only c = λ t h.
     let p = c.in-Some.piece in
     let order : c.args.at ≤ p.start = (rw c.in-Some.is at c.in_ok-piece.ensures.further).0 in
-    let only : (u : Token) → IsNext c.args.text.now c.args.at u → Some (placed c.args.text.now p) ≡ Some u = rw c.in-Some.is at c.in_ok-piece.ensures.only in
+    let only : (u : Token) → IsNextToken c.args.text.now c.args.at u → Some (placed c.args.text.now p) ≡ Some u = rw c.in-Some.is at c.in_ok-piece.ensures.only in
     let le : c.args.line + c.line_feeds.result ≡ 1 + line_ends (take p.start c.args.text.now) =
     gap_line _ _ _ c.args.at p.start _ _ order c.split_at.ensures.back c.split_at-2.ensures.front c.requires.on_line c.line_feeds.ensures in
     ap (λ n. Some (record { content = p.content; start = p.start; end = p.end; line = n })) le ∙ only t h

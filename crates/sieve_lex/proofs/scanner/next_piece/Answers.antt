@@ -1,12 +1,12 @@
 use Rattle.std.proofs.Common.{◌+◌, List, refl, sym, ◌∙◌, arith}
 use Rattle.std.proofs.lemmas.Bool.{eqb-true, eqb-false}
-use Rattle.sievelex.specs.declared.front.Front.{Front}
-use Rattle.sievelex.specs.declared.token.Token.{Token}
-use Rattle.sievelex.specs.Front.{IsFront}
-use Rattle.sievelex.specs.Spelling.{SpellsFrom, IsNext, placed}
-use Rattle.sievelex.proofs.FaultLemmas.{fault_on, fault_again}
-use Rattle.sievelex.proofs.Next.{ahead_is, next_found, next_only, next_further, next_empty, tail_no_next, next_none, open_none}
-use Rattle.sievelex.proofs.scanner.next_piece.Goals as goal
+use Rattle.sieve_lex.specs.declared.front.Front.{Front}
+use Rattle.sieve_lex.specs.declared.token.Token.{Token}
+use Rattle.sieve_lex.specs.Front.{IsFront}
+use Rattle.sieve_lex.specs.Spelling.{SpellsFrom, IsNextToken, placed}
+use Rattle.sieve_lex.proofs.FaultLemmas.{fault_on, fault_again}
+use Rattle.sieve_lex.proofs.Next.{ahead_is, next_found, next_only, next_further, next_empty, tail_no_next, next_none, open_none}
+use Rattle.sieve_lex.proofs.scanner.next_piece.Goals as goal
 
 pub returns-in-Err-clause-fault : goal.returns-in-Err-clause-fault
 returns-in-Err-clause-fault c = open_none c.args.text.now c.split_at.result.1.now c.args.at c.split_at.ensures.back c.in-Err.ensures.1
@@ -35,7 +35,7 @@ returns-in-Ok-read_front-clause-only c =
 
 pub returns-in-Ok-read_front-clause-further : goal.returns-in-Ok-read_front-clause-further
 returns-in-Ok-read_front-clause-further c =
-    let here : IsNext c.args.text.now c.args.at (placed c.args.text.now record { content = c.in-Ok-read_front.front.content; start = c.args.at + c.in-Ok.white; end = c.args.at + c.in-Ok.white + c.in-Ok-read_front.front.len }) =
+    let here : IsNextToken c.args.text.now c.args.at (placed c.args.text.now record { content = c.in-Ok-read_front.front.content; start = c.args.at + c.in-Ok.white; end = c.args.at + c.in-Ok.white + c.in-Ok-read_front.front.len }) =
     next_found _ _ _ _ _ c.in-Ok-read_front.front (ahead_is _ _ _ _ _ c.requires c.split_at.ensures.back c.in-Ok.ensures c.split_at-2.ensures.back)
     (eqb-false _ 0 (sym c.is_empty.ensures ∙ c.if-is_empty.false))
     refl c.in-Ok-read_front.ensures.found.0 in

@@ -1,12 +1,12 @@
 use Rattle.std.proofs.Common.{sym, ◌∙◌}
-use Rattle.sievelex.specs.Spelling.{IsNext}
-use Rattle.sievelex.proofs.Next.{next_further}
-use Rattle.sievelex.proofs.Scanned.{front_more, front_ends, front_only}
-use Rattle.sievelex.proofs.scanner.read_tokens.Goals as goal
+use Rattle.sieve_lex.specs.Spelling.{IsNextToken}
+use Rattle.sieve_lex.proofs.Next.{next_further}
+use Rattle.sieve_lex.proofs.Scanned.{front_more, front_ends, front_only}
+use Rattle.sieve_lex.proofs.scanner.read_tokens.Goals as goal
 
 pub loop-tokens-preserved : goal.loop-tokens-preserved
 loop-tokens-preserved c =
-    let here : IsNext c.args.text.now c.loop-tokens.at c.in-Some.token = rw c.in-Some.is at c.in_ok-token.ensures.found in
+    let here : IsNextToken c.args.text.now c.loop-tokens.at c.in-Some.token = rw c.in-Some.is at c.in_ok-token.ensures.found in
     record {
       inside = (next_further _ _ c.in-Some.token here).1;
       on_line = c.end_line-line.ensures;

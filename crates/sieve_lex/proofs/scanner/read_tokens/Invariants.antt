@@ -1,7 +1,7 @@
 use Rattle.std.proofs.Common.{◌≡◌, ◌+◌, ◌-◌, ◌≤◌, length, take}
-use Rattle.sievelex.specs.Text.{line_ends}
-use Rattle.sievelex.proofs.Scanned.{IsFront}
-use Rattle.sievelex.proofs.scanner.read_tokens.Given as goal
+use Rattle.sieve_lex.specs.Text.{line_ends}
+use Rattle.sieve_lex.proofs.Scanned.{IsFront}
+use Rattle.sieve_lex.proofs.scanner.read_tokens.Given as goal
 
 abbrev pub invariant-loop-tokens : goal.invariant-loop-tokens
 invariant-loop-tokens l = record {

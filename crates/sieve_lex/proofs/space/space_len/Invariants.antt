@@ -1,7 +1,7 @@
 use Rattle.std.proofs.Common.{◌≡◌, ◌≤◌, ◌-◌, length, drop}
-use Rattle.sievelex.specs.Skip.{space_from}
-use Rattle.sievelex.specs.declared.space.Place.TheVariants.{Between}
-use Rattle.sievelex.proofs.space.space_len.Given as goal
+use Rattle.sieve_lex.specs.Skip.{space_from}
+use Rattle.sieve_lex.specs.declared.space.SpaceState.TheVariants.{Between}
+use Rattle.sieve_lex.proofs.space.space_len.Given as goal
 
 abbrev pub invariant-loop-at : goal.invariant-loop-at
 invariant-loop-at l = record {

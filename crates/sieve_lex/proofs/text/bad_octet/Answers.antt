@@ -3,8 +3,8 @@ use Rattle.std.proofs.lemmas.Grind.{common_steps}
 use Rattle.std.proofs.Math.ListN.{get_or-eq_default}
 use Rattle.std.proofs.lemmas.List.{length-drop}
 use Rattle.std.proofs.lemmas.Bool.{cases_lt}
-use Rattle.sievelex.proofs.OctetLemmas.{no_nul_more, no_lone_cr_more}
-use Rattle.sievelex.proofs.text.bad_octet.Goals as goal
+use Rattle.sieve_lex.proofs.OctetLemmas.{no_nul_more, no_lone_cr_more}
+use Rattle.sieve_lex.proofs.text.bad_octet.Goals as goal
 
 pub returns-in_default : goal.returns-in_default
 returns-in_default c =

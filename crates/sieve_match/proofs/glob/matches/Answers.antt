@@ -1,12 +1,12 @@
 use Rattle.std.proofs.Common.{refl, ◌≡◌, ℕ, ◌+◌, ◌-◌, ◌<◌, ◌≤◌, ◌↔◌, List, [], ◌∷◌, length, drop, sym, ap, subst, ◌∙◌, arith}
 use Rattle.std.proofs.lemmas.Bool.{false≢true, leb-true, eqb-true, eq-eqb}
-use Rattle.globmatch.specs.Glob.{items, Glob}
-use Rattle.globmatch.specs.Segments.{StandAt}
-use Rattle.globmatch.specs.declared.pattern.Item.{Item}
-use Rattle.globmatch.specs.declared.pattern.Item.TheVariants.{Star}
-use Rattle.globmatch.proofs.Patterns.{items-past}
-use Rattle.globmatch.proofs.Steps.{Glob-nil, Glob-parts, head_serves, first_serves, none_serves, last_serves, last_fits}
-use Rattle.globmatch.proofs.matches.Goals as goal
+use Rattle.sieve_match.specs.Glob.{items, Glob}
+use Rattle.sieve_match.specs.Segments.{ItemsStandAt}
+use Rattle.sieve_match.specs.declared.pattern.GlobItem.{GlobItem}
+use Rattle.sieve_match.specs.declared.pattern.GlobItem.TheVariants.{Star}
+use Rattle.sieve_match.proofs.Patterns.{items-past}
+use Rattle.sieve_match.proofs.Steps.{Glob-nil, Glob-parts, head_serves, first_serves, none_serves, last_serves, last_fits}
+use Rattle.sieve_match.proofs.glob.matches.Goals as goal
 
 -- the items that a segment was read from, in its own words
 own_items : (p q : List ℕ) (n m : ℕ) → q ≡ p → m ≡ n → items (drop n p) ≡ items (drop m q)
@@ -23,7 +23,7 @@ returns-then-not-stands_at g c =
     let v : List ℕ = c.args.value.now in
     let s = c.read-head.result in
     let read = c.read-head.ensures in
-    let is : List Item = items (drop s.from s.pattern.now) in
+    let is : List GlobItem = items (drop s.from s.pattern.now) in
     let own : items p ≡ is = own_items p s.pattern.now 0 s.from read.pattern read.from in (
       λ no. absurd (false≢true no),
       λ h.
@@ -39,10 +39,10 @@ loop-end-init g c =
     let s = c.read-head.result in
     let read = c.read-head.ensures in
     let segment = read.segment in
-    let is : List Item = items (drop s.from s.pattern.now) in
+    let is : List GlobItem = items (drop s.from s.pattern.now) in
     let own : items p ≡ is = own_items p s.pattern.now 0 s.from read.pattern read.from in
     let left : items (drop s.end p) ≡ drop s.count is = own_items p s.pattern.now s.end s.end read.pattern refl ∙ segment.rest in
-    let stands : StandAt f is s.count v 0 = c.if-not-stands_at.ensures.0 refl in
+    let stands : ItemsStandAt f is s.count v 0 = c.if-not-stands_at.ensures.0 refl in
     let long : length s.pattern.now ≡ length p = ap length read.pattern in
     record {
       pattern = omega (arith, segment.end);
@@ -64,7 +64,7 @@ returns-then-part-value g c =
     let s = c.read-part.result in
     let read = c.read-part.ensures in
     let segment = read.segment in
-    let is : List Item = items (drop s.from s.pattern.now) in
+    let is : List GlobItem = items (drop s.from s.pattern.now) in
     let own : items (drop (end + 1) p) ≡ is = own_items p s.pattern.now (end + 1) s.from read.pattern read.from in
     let here : Glob f (items p) v ↔ Glob f (Star ∷ is) (drop i v) =
     subst (λ l. Glob f (items p) v ↔ Glob f l (drop i v)) (old.star c.loop-end-test.true ∙ ap (λ l. Star ∷ l) own) old.same in
@@ -88,7 +88,7 @@ returns-else-part-value g c =
     let s = c.read-part.result in
     let read = c.read-part.ensures in
     let segment = read.segment in
-    let is : List Item = items (drop s.from s.pattern.now) in
+    let is : List GlobItem = items (drop s.from s.pattern.now) in
     let own : items (drop (end + 1) p) ≡ is = own_items p s.pattern.now (end + 1) s.from read.pattern read.from in
     let here : Glob f (items p) v ↔ Glob f (Star ∷ is) (drop i v) =
     subst (λ l. Glob f (items p) v ↔ Glob f l (drop i v)) (old.star c.loop-end-test.true ∙ ap (λ l. Star ∷ l) own) old.same in
@@ -107,7 +107,7 @@ returns-in-None g c =
     let old = c.loop-end.invariant in
     let s = c.read-part.result in
     let read = c.read-part.ensures in
-    let is : List Item = items (drop s.from s.pattern.now) in
+    let is : List GlobItem = items (drop s.from s.pattern.now) in
     let own : items (drop (end + 1) p) ≡ is = own_items p s.pattern.now (end + 1) s.from read.pattern read.from in
     let here : Glob f (items p) v ↔ Glob f (Star ∷ is) (drop i v) =
     subst (λ l. Glob f (items p) v ↔ Glob f l (drop i v)) (old.star c.loop-end-test.true ∙ ap (λ l. Star ∷ l) own) old.same in (
@@ -127,7 +127,7 @@ loop-end-preserved g c =
     let s = c.read-part.result in
     let read = c.read-part.ensures in
     let segment = read.segment in
-    let is : List Item = items (drop s.from s.pattern.now) in
+    let is : List GlobItem = items (drop s.from s.pattern.now) in
     let own : items (drop (end + 1) p) ≡ is = own_items p s.pattern.now (end + 1) s.from read.pattern read.from in
     let here : Glob f (items p) v ↔ Glob f (Star ∷ is) (drop i v) =
     subst (λ l. Glob f (items p) v ↔ Glob f l (drop i v)) (old.star c.loop-end-test.true ∙ ap (λ l. Star ∷ l) own) old.same in

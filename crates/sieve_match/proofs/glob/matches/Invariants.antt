@@ -1,7 +1,7 @@
 use Rattle.std.proofs.Common.{◌≡◌, ◌↔◌, ◌+◌, ◌-◌, ◌<◌, ◌≤◌, ◌∷◌, length, drop}
-use Rattle.globmatch.specs.Glob.{items, Glob}
-use Rattle.globmatch.specs.declared.pattern.Item.TheVariants.{Star}
-use Rattle.globmatch.proofs.matches.Given as goal
+use Rattle.sieve_match.specs.Glob.{items, Glob}
+use Rattle.sieve_match.specs.declared.pattern.GlobItem.TheVariants.{Star}
+use Rattle.sieve_match.proofs.glob.matches.Given as goal
 
 abbrev pub invariant-loop-end : goal.invariant-loop-end
 invariant-loop-end g l = record {

@@ -1,5 +1,5 @@
-use Rattle.collation.proofs.NumberLemmas.{by_length, by_digits}
-use Rattle.collation.proofs.numeric.compare_digits.Goals as goal
+use Rattle.sieve_match.proofs.NumberLemmas.{by_length, by_digits}
+use Rattle.sieve_match.proofs.numeric.compare_digits.Goals as goal
 
 pub returns-then-one-other : goal.returns-then-one-other
 returns-then-one-other c = by_length c.args.one.now c.args.other.now c.requires.one c.requires.other c.cmp.result c.if-one-other.true c.cmp.ensures

@@ -1,6 +1,6 @@
 use Rattle.octets.specs.Decimal.{number_of}
-use Rattle.collation.proofs.NumberLemmas.{told_numbers, below_infinite}
-use Rattle.collation.proofs.numeric.compare_numbers.Goals as goal
+use Rattle.sieve_match.proofs.NumberLemmas.{told_numbers, below_infinite}
+use Rattle.sieve_match.proofs.numeric.compare_numbers.Goals as goal
 
 pub returns-in-Some-plain_digits : goal.returns-in-Some-plain_digits
 returns-in-Some-plain_digits c =

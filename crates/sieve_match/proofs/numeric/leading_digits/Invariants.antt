@@ -1,7 +1,7 @@
 -- The digits so far are those at the front, before the digits at the front of what follows.
 use Rattle.std.proofs.Common.{◌≡◌, ◌-◌, ◌≤◌, ◌++◌, length, take, drop}
-use Rattle.collation.specs.Numbers.{digits_of}
-use Rattle.collation.proofs.numeric.leading_digits.Given as goal
+use Rattle.sieve_match.specs.Numbers.{digits_of}
+use Rattle.sieve_match.proofs.numeric.leading_digits.Given as goal
 
 abbrev pub invariant-loop-end : goal.invariant-loop-end
 invariant-loop-end l = record {

@@ -3,7 +3,7 @@ use Rattle.std.proofs.Common.{◌≡◌, ◌-◌, ◌≤◌, length, drop}
 use Rattle.std.specs.List.{AllPass}
 use Rattle.octets.specs.Ascii.{is_digit}
 use Rattle.octets.specs.Decimal.{number_of}
-use Rattle.collation.proofs.numeric.without_zeros.Given as goal
+use Rattle.sieve_match.proofs.numeric.without_zeros.Given as goal
 
 abbrev pub invariant-loop-start : goal.invariant-loop-start
 invariant-loop-start l = record {

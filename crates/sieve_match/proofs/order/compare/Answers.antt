@@ -1,7 +1,7 @@
 use Rattle.std.proofs.Common.{◌≡◌, ℕ, get_or, ◌∙◌, ap, arith}
 use Rattle.std.specs.Ordering.{nat_cmp}
-use Rattle.collation.proofs.SortingLemmas.{ended, differing}
-use Rattle.collation.proofs.order.compare.Goals as goal
+use Rattle.sieve_match.proofs.SortingLemmas.{ended, differing}
+use Rattle.sieve_match.proofs.order.compare.Goals as goal
 
 pub returns-then-place-shorter : goal.returns-then-place-shorter
 returns-then-place-shorter g c =

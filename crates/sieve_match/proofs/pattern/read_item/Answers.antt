@@ -1,9 +1,9 @@
 use Rattle.std.proofs.Common.{◌+◌, ◌∷◌, drop, sym, ap, ◌∙◌}
-use Rattle.globmatch.specs.Glob.{items}
-use Rattle.globmatch.specs.declared.pattern.Item.{Item}
-use Rattle.globmatch.proofs.Patterns.{items-quoted, items-unquoted}
-use Rattle.globmatch.proofs.pattern.read_item.Goals as goal
-use Rattle.globmatch.proofs.pattern.read_item.Goals.{else-octet-eq-QUOTE-via-then-octet-eq-QUOTE+else-place-pattern, else-octet-eq-QUOTE-via-else-octet-eq-QUOTE}
+use Rattle.sieve_match.specs.Glob.{items}
+use Rattle.sieve_match.specs.declared.pattern.GlobItem.{GlobItem}
+use Rattle.sieve_match.proofs.Patterns.{items-quoted, items-unquoted}
+use Rattle.sieve_match.proofs.pattern.read_item.Goals as goal
+use Rattle.sieve_match.proofs.pattern.read_item.Goals.{else-octet-eq-QUOTE-via-then-octet-eq-QUOTE+else-place-pattern, else-octet-eq-QUOTE-via-else-octet-eq-QUOTE}
 
 pub returns-then-place-pattern-clause-item : goal.returns-then-place-pattern-clause-item
 returns-then-place-pattern-clause-item c =
@@ -16,4 +16,4 @@ returns-clause-item c =
       | else-octet-eq-QUOTE-via-then-octet-eq-QUOTE+else-place-pattern w ↦ w.if-place-pattern.false
       | else-octet-eq-QUOTE-via-else-octet-eq-QUOTE w ↦ absurd (w.if-octet-eq-QUOTE.false quote)
     ])
-    ∙ ap (λ (i : Item). i ∷ items (drop (c.args.place + 1) c.args.pattern.now)) (sym c.unquoted.ensures)
+    ∙ ap (λ (i : GlobItem). i ∷ items (drop (c.args.place + 1) c.args.pattern.now)) (sym c.unquoted.ensures)

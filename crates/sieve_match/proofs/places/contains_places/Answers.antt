@@ -1,8 +1,8 @@
 use Rattle.std.proofs.Common.{sym, subst, slice_index, length, ◌↔◌, IsTrue, Bool}
-use Rattle.collation.specs.Comparators.{ContainsBy}
-use Rattle.collation.specs.Search.{fits_key}
-use Rattle.collation.proofs.Standing.{ContainsBy-found, stands_by_places}
-use Rattle.collation.proofs.places.contains_places.Goals as goal
+use Rattle.sieve_match.specs.Comparators.{ContainsBy}
+use Rattle.sieve_match.specs.Search.{fits_key}
+use Rattle.sieve_match.proofs.Standing.{ContainsBy-found, stands_by_places}
+use Rattle.sieve_match.proofs.places.contains_places.Goals as goal
 
 pub returns : goal.returns
 returns c image key are =

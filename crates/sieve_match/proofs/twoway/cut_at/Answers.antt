@@ -1,8 +1,8 @@
 use Rattle.std.proofs.Common.{refl, ◌-◌, max, ap, ◌∙◌, sym, ℕ, ◌+◌}
 use Rattle.std.proofs.lemmas.Bool.{false≢true}
-use Rattle.collation.specs.Search.{image_at}
-use Rattle.collation.proofs.Cuts.{IsCut-whole, IsCut-periodic}
-use Rattle.collation.proofs.twoway.cut_at.Goals as goal
+use Rattle.sieve_match.specs.Search.{image_at}
+use Rattle.sieve_match.proofs.Cuts.{IsCut-whole, IsCut-periodic}
+use Rattle.sieve_match.proofs.twoway.cut_at.Goals as goal
 
 pub returns-then-not-repeats_before-clause-cut : goal.returns-then-not-repeats_before-clause-cut
 returns-then-not-repeats_before-clause-cut g c =

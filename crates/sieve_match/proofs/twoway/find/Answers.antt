@@ -1,8 +1,8 @@
 use Rattle.std.proofs.Common.{◌≡◌, ℕ, ◌+◌, ◌<◌, ◌≤◌, length, List, Option, Some, None, sym, ap, subst, ◌∙◌, arith}
 use Rattle.memchr.specs.Find.{Nowhere, IsFirst}
 use Rattle.memchr.proofs.lemmas.FindLemmas.{Nowhere-then}
-use Rattle.collation.specs.Search.{image_in, HasImage, StandsAt}
-use Rattle.collation.proofs.twoway.find.Goals as goal
+use Rattle.sieve_match.specs.Search.{image_in, HasImage, StandsAt}
+use Rattle.sieve_match.proofs.twoway.find.Goals as goal
 
 -- the first place from one on is the first from an earlier one on, where there is none between the two
 first_from : {P : ℕ → Type 0} (from mid end : ℕ) (r : Option ℕ) → from ≤ mid → Nowhere P from mid → IsFirst P mid end r → IsFirst P from end r

@@ -1,9 +1,9 @@
 use Rattle.std.proofs.Common.{arith}
-use Rattle.collation.specs.Search.{Precedes}
-use Rattle.collation.specs.declared.twoway.Order.TheVariants.{Rising, Falling}
+use Rattle.sieve_match.specs.Search.{Precedes}
+use Rattle.sieve_match.specs.declared.twoway.Order.TheVariants.{Rising, Falling}
 use Rattle.memchr.proofs.lemmas.CriticalLemmas.{IsCutPlace-of}
-use Rattle.collation.proofs.Orders.{Precedes-trans, Precedes-irrefl, Precedes-opposed}
-use Rattle.collation.proofs.twoway.find_critical_cut.Goals as goal
+use Rattle.sieve_match.proofs.Orders.{Precedes-trans, Precedes-irrefl, Precedes-opposed}
+use Rattle.sieve_match.proofs.twoway.find_critical_cut.Goals as goal
 
 pub cut_at-requires-clause-place : goal.cut_at-requires-clause-place
 cut_at-requires-clause-place g c =

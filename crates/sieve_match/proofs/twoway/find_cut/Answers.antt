@@ -2,10 +2,10 @@ use Rattle.std.proofs.Common.{◌≡◌, ℕ, ◌+◌, ◌<◌, ◌≤◌, ◌�
 use Rattle.std.proofs.lemmas.Bool.{cases_lt}
 use Rattle.memchr.proofs.lemmas.FindLemmas.{Nowhere-then}
 use Rattle.memchr.proofs.lemmas.SearchLemmas.{Nowhere-right, Nowhere-left, Nowhere-end}
-use Rattle.collation.specs.Search.{image_at, image_in}
-use Rattle.collation.specs.declared.spelling.Spot.{Spot}
-use Rattle.collation.proofs.twoway.find_cut.Goals as goal
-use Rattle.collation.proofs.twoway.find_cut.Goals.{then-known-cut, else-known-cut}
+use Rattle.sieve_match.specs.Search.{image_at, image_in}
+use Rattle.sieve_match.specs.declared.spelling.KeyCursor.{KeyCursor}
+use Rattle.sieve_match.proofs.twoway.find_cut.Goals as goal
+use Rattle.sieve_match.proofs.twoway.find_cut.Goals.{then-known-cut, else-known-cut}
 
 -- what is known of the key at one place is known at an equal one
 moved : (x h : ℕ → ℕ) (known pos next : ℕ) → (0 < known → next ≡ pos) → ((k : ℕ) → k < known → x k ≡ h (pos + k))
@@ -36,8 +36,8 @@ loop-pos-preserved-then-right-m g c =
     let critical : ℕ = c.args.cut.critical.index in
     let start : ℕ = c.if-known-cut.start.index in
     let starts : ((start ≡ known) × (critical < known)) ⊎ (start ≡ critical) = elim c.if-known-cut.branch [
-      | then-known-cut w ↦ inl (ap (λ (s : Spot). s.index) w.start-is, omega arith)
-      | else-known-cut w ↦ inr (ap (λ (s : Spot). s.index) w.start-is)
+      | then-known-cut w ↦ inl (ap (λ (s : KeyCursor). s.index) w.start-is, omega arith)
+      | else-known-cut w ↦ inr (ap (λ (s : KeyCursor). s.index) w.start-is)
     ] in
     let ends = c.matched_to-right.ensures in
     let low = ends.low in
@@ -74,8 +74,8 @@ loop-pos-preserved g c =
     let critical : ℕ = c.args.cut.critical.index in
     let start : ℕ = c.if-known-cut.start.index in
     let starts : ((start ≡ known) × (critical < known)) ⊎ (start ≡ critical) = elim c.if-known-cut.branch [
-      | then-known-cut w ↦ inl (ap (λ (s : Spot). s.index) w.start-is, omega arith)
-      | else-known-cut w ↦ inr (ap (λ (s : Spot). s.index) w.start-is)
+      | then-known-cut w ↦ inl (ap (λ (s : KeyCursor). s.index) w.start-is, omega arith)
+      | else-known-cut w ↦ inr (ap (λ (s : KeyCursor). s.index) w.start-is)
     ] in
     let size = c.len-m.ensures in
     let stop : ℕ = c.matched_to-right.result.index in
@@ -122,8 +122,8 @@ returns-then-left-cut g c =
     let critical : ℕ = c.args.cut.critical.index in
     let start : ℕ = c.if-known-cut.start.index in
     let starts : ((start ≡ known) × (critical < known)) ⊎ (start ≡ critical) = elim c.if-known-cut.branch [
-      | then-known-cut w ↦ inl (ap (λ (s : Spot). s.index) w.start-is, omega arith)
-      | else-known-cut w ↦ inr (ap (λ (s : Spot). s.index) w.start-is)
+      | then-known-cut w ↦ inl (ap (λ (s : KeyCursor). s.index) w.start-is, omega arith)
+      | else-known-cut w ↦ inr (ap (λ (s : KeyCursor). s.index) w.start-is)
     ] in
     let size = c.len-m.ensures in
     let below = c.requires.cut.below in

@@ -1,7 +1,7 @@
 use Rattle.std.proofs.Common.{◌-◌, ◌≡◌, ℕ, ◌+◌, ◌<◌, ◌≤◌, length}
 use Rattle.memchr.specs.Find.{Nowhere}
-use Rattle.collation.specs.Search.{image_at, image_in, StandsAt}
-use Rattle.collation.proofs.twoway.find_cut.Given as goal
+use Rattle.sieve_match.specs.Search.{image_at, image_in, StandsAt}
+use Rattle.sieve_match.proofs.twoway.find_cut.Given as goal
 
 abbrev pub invariant-loop-pos : goal.invariant-loop-pos
 invariant-loop-pos g l = record {

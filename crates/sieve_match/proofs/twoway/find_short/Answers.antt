@@ -1,7 +1,7 @@
 use Rattle.std.proofs.Common.{ℕ}
-use Rattle.collation.specs.Search.{fits_key}
-use Rattle.collation.proofs.Standing.{stands_by_places}
-use Rattle.collation.proofs.twoway.find_short.Goals as goal
+use Rattle.sieve_match.specs.Search.{fits_key}
+use Rattle.sieve_match.proofs.Standing.{stands_by_places}
+use Rattle.sieve_match.proofs.twoway.find_short.Goals as goal
 
 pub returns : goal.returns
 returns g c =

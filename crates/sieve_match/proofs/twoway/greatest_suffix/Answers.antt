@@ -1,9 +1,9 @@
 use Rattle.std.proofs.Common.{refl, ◌≡◌, ℕ, ◌+◌, ◌-◌, ◌<◌, sym, ap, subst, ◌∙◌, arith}
 use Rattle.memchr.proofs.lemmas.SuffixLemmas.{IsScan-accept, IsScan-skip, IsScan-push, IsScan-block, IsScan-end}
-use Rattle.collation.specs.Search.{image_at, Precedes}
-use Rattle.collation.proofs.Orders.{Precedes-trans, Precedes-irrefl}
-use Rattle.collation.proofs.Cuts.{IsScan-same}
-use Rattle.collation.proofs.twoway.greatest_suffix.Goals as goal
+use Rattle.sieve_match.specs.Search.{image_at, Precedes}
+use Rattle.sieve_match.proofs.Orders.{Precedes-trans, Precedes-irrefl}
+use Rattle.sieve_match.proofs.Cuts.{IsScan-same}
+use Rattle.sieve_match.proofs.twoway.greatest_suffix.Goals as goal
 
 pub loop-other-preserved-in-Less : goal.loop-other-preserved-in-Less
 loop-other-preserved-in-Less g c =

@@ -1,7 +1,7 @@
 use Rattle.std.proofs.Common.{◌-◌, ◌*◌, ◌≡◌, ◌+◌, ◌≤◌}
 use Rattle.memchr.proofs.lemmas.SuffixLemmas.{IsScan}
-use Rattle.collation.specs.Search.{image_at, Precedes}
-use Rattle.collation.proofs.twoway.greatest_suffix.Given as goal
+use Rattle.sieve_match.specs.Search.{image_at, Precedes}
+use Rattle.sieve_match.proofs.twoway.greatest_suffix.Given as goal
 
 abbrev pub invariant-loop-other : goal.invariant-loop-other
 invariant-loop-other g l = record {

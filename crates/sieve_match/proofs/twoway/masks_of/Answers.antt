@@ -1,7 +1,7 @@
 use Rattle.std.proofs.Common.{◌≡◌, ◌==◌, ℕ, refl, subst, sym, arith}
-use Rattle.collation.specs.Places.{AreMasks}
-use Rattle.collation.specs.Search.{fits_key}
-use Rattle.collation.proofs.twoway.masks_of.Goals as goal
+use Rattle.sieve_match.specs.Places.{AreMasks}
+use Rattle.sieve_match.specs.Search.{fits_key}
+use Rattle.sieve_match.proofs.twoway.masks_of.Goals as goal
 
 pub loop-spot-init : goal.loop-spot-init
 loop-spot-init g c =

@@ -1,8 +1,8 @@
 -- The places so far are those of the key's octets so far.
 use Rattle.std.proofs.Common.{◌-◌, ◌≤◌}
-use Rattle.collation.specs.Places.{AreMasks}
-use Rattle.collation.specs.Search.{fits_key}
-use Rattle.collation.proofs.twoway.masks_of.Given as goal
+use Rattle.sieve_match.specs.Places.{AreMasks}
+use Rattle.sieve_match.specs.Search.{fits_key}
+use Rattle.sieve_match.proofs.twoway.masks_of.Given as goal
 
 abbrev pub invariant-loop-spot : goal.invariant-loop-spot
 invariant-loop-spot g l = record {

@@ -1,6 +1,6 @@
 use Rattle.std.proofs.Common.{◌-◌, ◌≡◌, ℕ, ◌+◌, ◌<◌, ◌≤◌}
-use Rattle.collation.specs.Search.{image_at, image_in}
-use Rattle.collation.proofs.twoway.matched_to.Given as goal
+use Rattle.sieve_match.specs.Search.{image_at, image_in}
+use Rattle.sieve_match.proofs.twoway.matched_to.Given as goal
 
 abbrev pub invariant-loop-spot : goal.invariant-loop-spot
 invariant-loop-spot g l = record {

@@ -1,6 +1,6 @@
 use Rattle.std.proofs.Common.{◌-◌, ◌≡◌, ℕ, ◌+◌, ◌<◌, ◌≤◌}
-use Rattle.collation.specs.Search.{image_at}
-use Rattle.collation.proofs.twoway.repeats_before.Given as goal
+use Rattle.sieve_match.specs.Search.{image_at}
+use Rattle.sieve_match.proofs.twoway.repeats_before.Given as goal
 
 abbrev pub invariant-loop-front : goal.invariant-loop-front
 invariant-loop-front g l = record {

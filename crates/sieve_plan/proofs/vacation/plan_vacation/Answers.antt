@@ -1,10 +1,10 @@
 use Rattle.std.proofs.Common.{◌≡◌, Some, option_copied, ap, ◌∙◌}
 use Rattle.std.proofs.lemmas.Result.{IfOk-weaker}
-use Rattle.mailstore.specs.declared.report.VacationReport.TheVariants as V
-use Rattle.deliverplan.specs.Plans.{SendsReply, IsVacationPlan, unsent_plan}
-use Rattle.deliverplan.specs.Views.{moment_under}
-use Rattle.deliverplan.proofs.VacationLemmas.{sending, staying_quiet}
-use Rattle.deliverplan.proofs.vacation.plan_vacation.Goals as goal
+use Rattle.store_accounts.specs.declared.report.VacationReport.TheVariants as V
+use Rattle.sieve_plan.specs.Plans.{SendsReply, IsVacationPlan, unsent_plan}
+use Rattle.sieve_plan.specs.Views.{moment_under}
+use Rattle.sieve_plan.proofs.VacationLemmas.{sending, staying_quiet}
+use Rattle.sieve_plan.proofs.vacation.plan_vacation.Goals as goal
 
 pub returns-in-Send : goal.returns-in-Send
 returns-in-Send c =

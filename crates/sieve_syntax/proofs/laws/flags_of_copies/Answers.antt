@@ -1,5 +1,5 @@
-use Rattle.sievesyntax.proofs.OutcomeLemmas.{flags_named}
-use Rattle.sievesyntax.proofs.laws.flags_of_copies.Goals as goal
+use Rattle.sieve_syntax.proofs.OutcomeLemmas.{flags_named}
+use Rattle.sieve_syntax.proofs.laws.flags_of_copies.Goals as goal
 
 pub returns : goal.returns
 returns c = flags_named

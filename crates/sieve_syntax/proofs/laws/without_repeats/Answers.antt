@@ -1,5 +1,5 @@
-use Rattle.sievesyntax.proofs.OutcomeLemmas.{named_once}
-use Rattle.sievesyntax.proofs.laws.without_repeats.Goals as goal
+use Rattle.sieve_syntax.proofs.OutcomeLemmas.{named_once}
+use Rattle.sieve_syntax.proofs.laws.without_repeats.Goals as goal
 
 pub returns : goal.returns
 returns c = named_once

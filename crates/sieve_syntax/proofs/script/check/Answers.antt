@@ -1,9 +1,9 @@
-use Rattle.sievelex.specs.Contents.{contents}
-use Rattle.sievesyntax.specs.Tree.{Commands}
-use Rattle.sievesyntax.specs.Means.{Means}
-use Rattle.sievesyntax.specs.View.{script_tree}
-use Rattle.sievesyntax.proofs.MeansLemmas.{packed_means, means_packed, fault_any}
-use Rattle.sievesyntax.proofs.script.check.Goals as goal
+use Rattle.sieve_lex.specs.Contents.{contents}
+use Rattle.sieve_syntax.specs.Tree.{Commands}
+use Rattle.sieve_syntax.specs.Means.{Means}
+use Rattle.sieve_syntax.specs.View.{script_tree}
+use Rattle.sieve_syntax.proofs.MeansLemmas.{packed_means, means_packed, fault_any}
+use Rattle.sieve_syntax.proofs.script.check.Goals as goal
 
 pub returns-in-Ok-clause-found : goal.returns-in-Ok-clause-found
 returns-in-Ok-clause-found c = packed_means c.args.text.now (contents c.in_ok-tokens.tokens) (script_tree c.in-Ok.script) c.in_ok-tokens.ensures.found c.in-Ok.ensures.found

@@ -3,8 +3,8 @@ use Rattle.std.proofs.lemmas.Int.{to_z_pos}
 use Rattle.jiff.proofs.SpanFacts.{signed_arith, date_add-days, can_add-days}
 use Rattle.jiff_core.specs.Calendar.{IsEpochDay}
 use Rattle.jiff_core.specs.Date.{epoch_day}
-use Rattle.vacreply.proofs.DayLemmas.{first_day}
-use Rattle.vacreply.proofs.date.civil_day.Goals as goal
+use Rattle.sieve_vacation.proofs.DayLemmas.{first_day}
+use Rattle.sieve_vacation.proofs.date.civil_day.Goals as goal
 
 pub add-requires : goal.add-requires
 add-requires c =

@@ -1,6 +1,6 @@
 use Rattle.std.proofs.lemmas.Result.{on_ok_weaker}
-use Rattle.vacreply.proofs.DayLemmas.{date_written}
-use Rattle.vacreply.proofs.date.write_date.Goals as goal
+use Rattle.sieve_vacation.proofs.DayLemmas.{date_written}
+use Rattle.sieve_vacation.proofs.date.write_date.Goals as goal
 
 pub returns : goal.returns
 returns c =

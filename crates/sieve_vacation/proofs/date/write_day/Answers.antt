@@ -3,8 +3,8 @@ use Rattle.std.proofs.lemmas.Int.{to_z-of_z}
 use Rattle.jiff_core.specs.declared.civil.date.Date.{Date}
 use Rattle.jiff_core.proofs.SignedLemmas.{signed_arith}
 use Rattle.std.proofs.lemmas.Result.{on_ok_weaker}
-use Rattle.vacreply.proofs.DayLemmas.{day_written}
-use Rattle.vacreply.proofs.date.write_day.Goals as goal
+use Rattle.sieve_vacation.proofs.DayLemmas.{day_written}
+use Rattle.sieve_vacation.proofs.date.write_day.Goals as goal
 
 pub returns : goal.returns
 returns c =

@@ -1,8 +1,8 @@
 use Rattle.std.proofs.Common.{sym, ◌∙◌}
-use Rattle.mailhead.specs.Heads.{unfold_of}
-use Rattle.vacreply.specs.Cases.{refuses_answer}
-use Rattle.vacreply.proofs.WordLaws.{first_passes, others_pass, none_passes}
-use Rattle.vacreply.proofs.fields.is_suppressing.Goals as goal
+use Rattle.mail_head.specs.Heads.{unfold_of}
+use Rattle.sieve_vacation.specs.Cases.{refuses_answer}
+use Rattle.sieve_vacation.proofs.WordLaws.{first_passes, others_pass, none_passes}
+use Rattle.sieve_vacation.proofs.fields.is_suppressing.Goals as goal
 
 pub returns-in_default : goal.returns-in_default
 returns-in_default c =

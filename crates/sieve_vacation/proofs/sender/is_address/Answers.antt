@@ -1,8 +1,8 @@
 use Rattle.std.proofs.Common.{arith}
 use Rattle.std.proofs.lemmas.Bool.Decides.{nat_tests}
-use Rattle.vacreply.proofs.AddressLemmas.{address_is}
-use Rattle.vacreply.proofs.sender.is_address.Goals as goal
-use Rattle.vacreply.proofs.sender.is_address.Goals.{then-not-is_same-via-then-not-is_same, then-not-is_same-via-else-not-is_same+then-at-ne64}
+use Rattle.sieve_vacation.proofs.AddressLemmas.{address_is}
+use Rattle.sieve_vacation.proofs.sender.is_address.Goals as goal
+use Rattle.sieve_vacation.proofs.sender.is_address.Goals.{then-not-is_same-via-then-not-is_same, then-not-is_same-via-else-not-is_same+then-at-ne64}
 
 pub returns-then-not-is_same : goal.returns-then-not-is_same
 returns-then-not-is_same c =

@@ -4,8 +4,8 @@ use Rattle.std.proofs.lemmas.Iterator.Consumers.{YieldsList-turn, YieldsList-end
 use Rattle.std.proofs.lemmas.List.{length_push}
 use Rattle.std.specs.Prelude.{string_bytes}
 use Rattle.std.specs.Str.{chars}
-use Rattle.vacreply.proofs.SubjectLemmas.{short_at, short_more, short_cut, short_whole}
-use Rattle.vacreply.proofs.subject.shortened.Goals as goal
+use Rattle.sieve_vacation.proofs.SubjectLemmas.{short_at, short_more, short_cut, short_whole}
+use Rattle.sieve_vacation.proofs.subject.shortened.Goals as goal
 
 pub returns-then-count-eq-MAX_SUBJECT : goal.returns-then-count-eq-MAX_SUBJECT
 returns-then-count-eq-MAX_SUBJECT c =

@@ -1,7 +1,7 @@
 use Rattle.std.proofs.Common.{◌≡◌, ◌≤◌, length, take}
 use Rattle.std.specs.Prelude.{string_bytes, encode_utf8_all}
 use Rattle.std.specs.Str.{chars}
-use Rattle.vacreply.proofs.subject.shortened.Given as goal
+use Rattle.sieve_vacation.proofs.subject.shortened.Given as goal
 
 abbrev pub invariant-loop-character : goal.invariant-loop-character
 invariant-loop-character l =

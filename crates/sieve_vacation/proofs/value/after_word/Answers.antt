@@ -1,7 +1,7 @@
 use Rattle.std.proofs.Common.{◌∙◌, sym, ap, drop}
-use Rattle.vacreply.specs.Folds.{after_word}
-use Rattle.vacreply.proofs.WordLaws.{none_after}
-use Rattle.vacreply.proofs.value.after_word.Goals as goal
+use Rattle.sieve_vacation.specs.Folds.{after_word}
+use Rattle.sieve_vacation.proofs.WordLaws.{none_after}
+use Rattle.sieve_vacation.proofs.value.after_word.Goals as goal
 
 pub returns-in_default : goal.returns-in_default
 returns-in_default c =

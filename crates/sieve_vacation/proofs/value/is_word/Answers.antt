@@ -1,8 +1,8 @@
 use Rattle.std.proofs.Common.{◌∙◌, ap}
-use Rattle.mailhead.specs.Heads.{unfold_of}
-use Rattle.vacreply.specs.Folds.{after_word}
-use Rattle.vacreply.proofs.WordLaws.{word_is, word_isnt}
-use Rattle.vacreply.proofs.value.is_word.Goals as goal
+use Rattle.mail_head.specs.Heads.{unfold_of}
+use Rattle.sieve_vacation.specs.Folds.{after_word}
+use Rattle.sieve_vacation.proofs.WordLaws.{word_is, word_isnt}
+use Rattle.sieve_vacation.proofs.value.is_word.Goals as goal
 
 pub returns-in_default : goal.returns-in_default
 returns-in_default c =

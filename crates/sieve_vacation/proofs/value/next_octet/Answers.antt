@@ -1,6 +1,6 @@
 use Rattle.std.proofs.Common.{◌∙◌, sym, ap, drop}
-use Rattle.vacreply.proofs.FoldLaws.{first_unfolded}
-use Rattle.vacreply.proofs.value.next_octet.Goals as goal
+use Rattle.sieve_vacation.proofs.FoldLaws.{first_unfolded}
+use Rattle.sieve_vacation.proofs.value.next_octet.Goals as goal
 
 pub returns-clause-value : goal.returns-clause-value
 returns-clause-value c =

@@ -1,7 +1,7 @@
 use Rattle.std.proofs.Common.{◌≡◌, length}
 use Rattle.octets.specs.Ascii.{trim_front}
-use Rattle.mailhead.specs.Heads.{unfold_of}
-use Rattle.vacreply.proofs.value.skip_blanks.Given as goal
+use Rattle.mail_head.specs.Heads.{unfold_of}
+use Rattle.sieve_vacation.proofs.value.skip_blanks.Given as goal
 
 abbrev pub invariant-loop-octet : goal.invariant-loop-octet
 invariant-loop-octet l = trim_front (unfold_of l.rest) ≡ trim_front (unfold_of l.raw)

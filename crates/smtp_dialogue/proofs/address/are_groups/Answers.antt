@@ -1,8 +1,8 @@
 use Rattle.std.proofs.Common.{rules}
 use Rattle.std.proofs.lemmas.Iterator.Search.{all_from_yields_List}
 use Rattle.std.proofs.lemmas.Iterator.Splits.{YieldsList-from_slice_split}
-use Rattle.smtpclient.specs.Addresses as s
-use Rattle.smtpclient.proofs.address.are_groups.Goals as goal
+use Rattle.smtp_dialogue.specs.Addresses as s
+use Rattle.smtp_dialogue.proofs.address.are_groups.Goals as goal
 
 pub returns : goal.returns
 returns c =

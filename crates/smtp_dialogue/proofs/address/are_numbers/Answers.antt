@@ -1,11 +1,11 @@
 use Rattle.std.proofs.Common.{rules}
 use Rattle.std.proofs.lemmas.Iterator.Search.{all_from_yields_List}
 use Rattle.std.proofs.lemmas.Iterator.Splits.{YieldsList-from_slice_split}
-use Rattle.smtpclient.specs.Addresses as s
-use Rattle.smtpclient.proofs.address.are_numbers.Goals as goal
+use Rattle.smtp_dialogue.specs.Addresses as s
+use Rattle.smtp_dialogue.proofs.address.are_numbers.Goals as goal
 
 pub returns : goal.returns
 returns c =
-    all_from_yields_List s.is_number _ _ _ c.all.ensures.ran
+    all_from_yields_List s.is_ipv4_number _ _ _ c.all.ensures.ran
     (YieldsList-from_slice_split _ s.is_dot c.args.text.now c.split.ensures.rest c.split.ensures.done c.split.ensures.closure (λ x b q k. search rules))
     (λ x b q k. search rules)

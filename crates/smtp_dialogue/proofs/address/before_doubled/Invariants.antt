@@ -1,7 +1,7 @@
 -- What was counted stands before the rest.
 use Rattle.std.proofs.Common.{◌≡◌, ◌+◌, length}
-use Rattle.smtpclient.specs.Addresses.{before_doubled}
-use Rattle.smtpclient.proofs.address.before_doubled.Given as goal
+use Rattle.smtp_dialogue.specs.Addresses.{before_doubled}
+use Rattle.smtp_dialogue.proofs.address.before_doubled.Given as goal
 
 abbrev pub invariant-loop-rest : goal.invariant-loop-rest
 invariant-loop-rest l = (l.count + before_doubled l.left ≡ before_doubled l.text) × (l.count + length l.left ≡ length l.text)

@@ -1,5 +1,5 @@
-use Rattle.smtpclient.proofs.AddressLemmas.{found_doubled, one_doubled, no_first, no_second, none_told}
-use Rattle.smtpclient.proofs.address.cut_doubled.Goals as goal
+use Rattle.smtp_dialogue.proofs.AddressLemmas.{found_doubled, one_doubled, no_first, no_second, none_told}
+use Rattle.smtp_dialogue.proofs.address.cut_doubled.Goals as goal
 
 pub returns-in_err-strip-clause-none : goal.returns-in_err-strip-clause-none
 returns-in_err-strip-clause-none c =

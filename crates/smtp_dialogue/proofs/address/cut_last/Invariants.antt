@@ -1,7 +1,7 @@
 -- Behind what is left no such octet stands.
 use Rattle.std.proofs.Common.{◌≡◌, ◌==◌, ◌++◌, ℕ, List, not, true, length}
 use Rattle.std.specs.List.{list_all}
-use Rattle.smtpclient.proofs.address.cut_last.Given as goal
+use Rattle.smtp_dialogue.proofs.address.cut_last.Given as goal
 
 abbrev pub invariant-loop-octet : goal.invariant-loop-octet
 invariant-loop-octet l = (behind : List ℕ) × (l.text ≡ l.left ++ behind) × (list_all (λ octet. not (octet == l.mark)) behind ≡ true)

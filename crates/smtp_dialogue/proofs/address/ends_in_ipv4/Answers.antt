@@ -1,6 +1,6 @@
 use Rattle.std.proofs.Common.{sym, ◌∙◌}
-use Rattle.smtpclient.proofs.AddressLemmas.{alone_or_not, not_alone}
-use Rattle.smtpclient.proofs.address.ends_in_ipv4.Goals as goal
+use Rattle.smtp_dialogue.proofs.AddressLemmas.{alone_or_not, not_alone}
+use Rattle.smtp_dialogue.proofs.address.ends_in_ipv4.Goals as goal
 
 pub returns-then-is_ipv4 : goal.returns-then-is_ipv4
 returns-then-is_ipv4 c = λ count. alone_or_not c.args.text.now (sym c.is_ipv4.ensures ∙ c.if-is_ipv4.true) count

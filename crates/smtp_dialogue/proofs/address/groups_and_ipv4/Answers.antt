@@ -1,6 +1,6 @@
 use Rattle.std.proofs.Common.{sym, ◌∙◌}
-use Rattle.smtpclient.proofs.AddressLemmas.{groups_by_last, none_by_last}
-use Rattle.smtpclient.proofs.address.groups_and_ipv4.Goals as goal
+use Rattle.smtp_dialogue.proofs.AddressLemmas.{groups_by_last, none_by_last}
+use Rattle.smtp_dialogue.proofs.address.groups_and_ipv4.Goals as goal
 
 pub returns-then-is_ipv4 : goal.returns-then-is_ipv4
 returns-then-is_ipv4 c = λ count.

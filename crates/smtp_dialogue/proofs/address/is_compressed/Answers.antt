@@ -1,7 +1,7 @@
 use Rattle.std.proofs.Common.{subst, sym}
-use Rattle.smtpclient.specs.Addresses.{Fit, some_groups_of}
-use Rattle.smtpclient.proofs.AddressLemmas.{compressed_by, fit_compressed, no_compressed}
-use Rattle.smtpclient.proofs.address.is_compressed.Goals as goal
+use Rattle.smtp_dialogue.specs.Addresses.{Fit, some_groups_of}
+use Rattle.smtp_dialogue.proofs.AddressLemmas.{compressed_by, fit_compressed, no_compressed}
+use Rattle.smtp_dialogue.proofs.address.is_compressed.Goals as goal
 
 pub returns-in-Some : goal.returns-in-Some
 returns-in-Some c =

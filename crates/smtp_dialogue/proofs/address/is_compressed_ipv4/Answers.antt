@@ -1,7 +1,7 @@
 use Rattle.std.proofs.Common.{subst, sym}
-use Rattle.smtpclient.specs.Addresses.{Fit, some_groups_of}
-use Rattle.smtpclient.proofs.AddressLemmas.{mixed_by, fit_mixed, no_mixed}
-use Rattle.smtpclient.proofs.address.is_compressed_ipv4.Goals as goal
+use Rattle.smtp_dialogue.specs.Addresses.{Fit, some_groups_of}
+use Rattle.smtp_dialogue.proofs.AddressLemmas.{mixed_by, fit_mixed, no_mixed}
+use Rattle.smtp_dialogue.proofs.address.is_compressed_ipv4.Goals as goal
 
 pub returns-in-Some : goal.returns-in-Some
 returns-in-Some c =

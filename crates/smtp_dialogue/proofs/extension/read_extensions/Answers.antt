@@ -1,7 +1,7 @@
 use Rattle.std.proofs.Common.{ap, ◌∙◌, drop, subst}
-use Rattle.smtpclient.specs.Extensions.{OffersMore}
-use Rattle.smtpclient.proofs.ExtensionLemmas.{offers, offers_none}
-use Rattle.smtpclient.proofs.extension.read_extensions.Goals as goal
+use Rattle.smtp_dialogue.specs.Extensions.{OffersMore}
+use Rattle.smtp_dialogue.proofs.ExtensionLemmas.{offers, offers_none}
+use Rattle.smtp_dialogue.proofs.extension.read_extensions.Goals as goal
 
 pub returns-in-Line : goal.returns-in-Line
 returns-in-Line c =
@@ -9,4 +9,4 @@ returns-in-Line c =
     (subst (λ it. OffersMore c.behind_end.result.now it c.with_lines.result) c.none.ensures c.with_lines.ensures)
 
 pub returns-in_default : goal.returns-in_default
-returns-in_default c = offers_none c.args.reply.now c.none-in_default.result c.first_line.result c.first_line.ensures c.in_default.not-Line
+returns-in_default c = offers_none c.args.reply.now c.none-in_default.result c.find_line.result c.find_line.ensures c.in_default.not-Line

@@ -1,5 +1,5 @@
-use Rattle.smtpclient.proofs.SentLemmas.{sent_stands}
-use Rattle.smtpclient.proofs.laws.sent_stands.Goals as goal
+use Rattle.smtp_dialogue.proofs.SentLemmas.{sent_stands}
+use Rattle.smtp_dialogue.proofs.laws.sent_stands.Goals as goal
 
 pub returns : goal.returns
 returns c = sent_stands

@@ -1,6 +1,6 @@
 use Rattle.std.proofs.Common.{sym, ◌∙◌}
-use Rattle.smtpclient.proofs.MailboxLemmas.{one_dotted}
-use Rattle.smtpclient.proofs.mailbox.behind_dotted.Goals as goal
+use Rattle.smtp_dialogue.proofs.MailboxLemmas.{one_dotted}
+use Rattle.smtp_dialogue.proofs.mailbox.behind_dotted.Goals as goal
 
 pub returns-then-is_dot_string-clause-one : goal.returns-then-is_dot_string-clause-one
 returns-then-is_dot_string-clause-one c = λ other is.

@@ -1,6 +1,6 @@
 use Rattle.std.proofs.Common.{sym, ap, ◌∙◌, ◌∷◌, Some}
-use Rattle.smtpclient.proofs.MailboxLemmas.{some_by, none_by, closes_back, closes_forth, one_close, same_host}
-use Rattle.smtpclient.proofs.mailbox.behind_quoted.Goals as goal
+use Rattle.smtp_dialogue.proofs.MailboxLemmas.{some_by, none_by, closes_back, closes_forth, one_close, same_host}
+use Rattle.smtp_dialogue.proofs.mailbox.behind_quoted.Goals as goal
 
 pub returns-in-Some-clause-found : goal.returns-in-Some-clause-found
 returns-in-Some-clause-found c =

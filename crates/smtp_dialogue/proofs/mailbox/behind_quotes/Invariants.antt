@@ -1,6 +1,6 @@
 use Rattle.std.proofs.Common.{◌≡◌, false, length}
-use Rattle.smtpclient.specs.Mailboxes.{behind_quotes}
-use Rattle.smtpclient.proofs.mailbox.behind_quotes.Given as goal
+use Rattle.smtp_dialogue.specs.Mailboxes.{behind_quotes}
+use Rattle.smtp_dialogue.proofs.mailbox.behind_quotes.Given as goal
 
 abbrev pub invariant-loop-octet : goal.invariant-loop-octet
 invariant-loop-octet l = behind_quotes false l.inner ≡ behind_quotes l.is_escaped l.left

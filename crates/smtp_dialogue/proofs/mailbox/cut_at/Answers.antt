@@ -1,6 +1,6 @@
 use Rattle.std.proofs.Common.{sym, ◌∙◌}
-use Rattle.smtpclient.proofs.MailboxLemmas.{first_cut, no_cut, no_octets}
-use Rattle.smtpclient.proofs.mailbox.cut_at.Goals as goal
+use Rattle.smtp_dialogue.proofs.MailboxLemmas.{first_cut, no_cut, no_octets}
+use Rattle.smtp_dialogue.proofs.mailbox.cut_at.Goals as goal
 
 pub returns-in-Some-clause-found : goal.returns-in-Some-clause-found
 returns-in-Some-clause-found c =

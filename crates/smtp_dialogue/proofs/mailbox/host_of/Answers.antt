@@ -1,7 +1,7 @@
 use Rattle.std.proofs.Common.{sym, subst}
-use Rattle.smtpclient.specs.Mailboxes.{CutsLocal}
-use Rattle.smtpclient.proofs.MailboxLemmas.{some_by, none_by, quoted_cut, cut_quoted, cut_dotted}
-use Rattle.smtpclient.proofs.mailbox.host_of.Goals as goal
+use Rattle.smtp_dialogue.specs.Mailboxes.{CutsLocal}
+use Rattle.smtp_dialogue.proofs.MailboxLemmas.{some_by, none_by, quoted_cut, cut_quoted, cut_dotted}
+use Rattle.smtp_dialogue.proofs.mailbox.host_of.Goals as goal
 
 pub returns-in-Some-clause-found : goal.returns-in-Some-clause-found
 returns-in-Some-clause-found c =

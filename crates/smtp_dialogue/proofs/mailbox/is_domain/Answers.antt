@@ -1,9 +1,9 @@
 use Rattle.std.proofs.Common.{rules}
 use Rattle.std.proofs.lemmas.Iterator.Search.{all_from_yields_List}
 use Rattle.std.proofs.lemmas.Iterator.Splits.{YieldsList-from_slice_split}
-use Rattle.smtpclient.specs.Addresses.{is_dot}
-use Rattle.smtpclient.specs.Mailboxes as s
-use Rattle.smtpclient.proofs.mailbox.is_domain.Goals as goal
+use Rattle.smtp_dialogue.specs.Addresses.{is_dot}
+use Rattle.smtp_dialogue.specs.Mailboxes as s
+use Rattle.smtp_dialogue.proofs.mailbox.is_domain.Goals as goal
 
 pub returns : goal.returns
 returns c =

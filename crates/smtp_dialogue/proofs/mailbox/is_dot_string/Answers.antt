@@ -1,12 +1,12 @@
 use Rattle.std.proofs.Common.{rules}
 use Rattle.std.proofs.lemmas.Iterator.Search.{all_from_yields_List}
 use Rattle.std.proofs.lemmas.Iterator.Splits.{YieldsList-from_slice_split}
-use Rattle.smtpclient.specs.Addresses.{is_dot}
-use Rattle.smtpclient.specs.Mailboxes as s
-use Rattle.smtpclient.proofs.mailbox.is_dot_string.Goals as goal
+use Rattle.smtp_dialogue.specs.Addresses.{is_dot}
+use Rattle.smtp_dialogue.specs.Mailboxes as s
+use Rattle.smtp_dialogue.proofs.mailbox.is_dot_string.Goals as goal
 
 pub returns : goal.returns
 returns c =
-    all_from_yields_List s.is_atom _ _ _ c.all.ensures.ran
+    all_from_yields_List s.is_smtp_atom _ _ _ c.all.ensures.ran
     (YieldsList-from_slice_split _ is_dot c.args.text.now c.split.ensures.rest c.split.ensures.done c.split.ensures.closure (λ x b q k. search rules))
     (λ x b q k. search rules)

@@ -1,6 +1,6 @@
 use Rattle.std.proofs.Common.{sym, ◌∙◌}
-use Rattle.smtpclient.proofs.MailboxLemmas.{not_by_host}
-use Rattle.smtpclient.proofs.mailbox.is_mailbox.Goals as goal
+use Rattle.smtp_dialogue.proofs.MailboxLemmas.{not_by_host}
+use Rattle.smtp_dialogue.proofs.mailbox.is_smtp_mailbox.Goals as goal
 
 pub returns-else-is_host : goal.returns-else-is_host
 returns-else-is_host c = (

@@ -1,6 +1,6 @@
 use Rattle.std.proofs.Common.{inl, inr}
-use Rattle.smtpclient.proofs.MailboxLemmas.{one_tagged, is_tagged}
-use Rattle.smtpclient.proofs.mailbox.is_tagged.Goals as goal
+use Rattle.smtp_dialogue.proofs.MailboxLemmas.{one_tagged, is_tagged}
+use Rattle.smtp_dialogue.proofs.mailbox.is_tagged.Goals as goal
 
 pub returns-in-Some : goal.returns-in-Some
 returns-in-Some c =

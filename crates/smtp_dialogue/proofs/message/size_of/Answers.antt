@@ -1,7 +1,7 @@
 use Rattle.std.proofs.Common.{sym, ◌∙◌}
-use Rattle.smtpclient.proofs.LetterLemmas.{feed, plain, bare}
-use Rattle.smtpclient.proofs.letter.size_of.Goals as goal
-use Rattle.smtpclient.proofs.letter.size_of.Goals.{then-octet-ne13-via-then-octet-ne13, then-octet-ne13-via-else-octet-ne13+then-not-begins_feed}
+use Rattle.smtp_dialogue.proofs.LetterLemmas.{feed, plain, bare}
+use Rattle.smtp_dialogue.proofs.message.size_of.Goals as goal
+use Rattle.smtp_dialogue.proofs.message.size_of.Goals.{then-octet-ne13-via-then-octet-ne13, then-octet-ne13-via-else-octet-ne13+then-not-begins_feed}
 
 pub loop-octet-preserved-then-octet-eq10 : goal.loop-octet-preserved-then-octet-eq10
 loop-octet-preserved-then-octet-eq10 c =

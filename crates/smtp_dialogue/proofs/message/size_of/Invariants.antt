@@ -1,6 +1,6 @@
 use Rattle.std.proofs.Common.{length}
-use Rattle.smtpclient.proofs.LetterLemmas.{Counts}
-use Rattle.smtpclient.proofs.letter.size_of.Given as goal
+use Rattle.smtp_dialogue.proofs.LetterLemmas.{Counts}
+use Rattle.smtp_dialogue.proofs.message.size_of.Given as goal
 
 abbrev pub invariant-loop-octet : goal.invariant-loop-octet
 invariant-loop-octet l = Counts l.text l.left l.place l.size

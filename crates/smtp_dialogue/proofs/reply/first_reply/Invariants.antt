@@ -1,9 +1,9 @@
 use Rattle.std.proofs.Common.{◌-◌, length}
-use Rattle.smtpclient.specs.Replies.{Begins}
-use Rattle.smtpclient.proofs.reply.first_reply.Given as goal
+use Rattle.smtp_dialogue.specs.Replies.{BeginsReply}
+use Rattle.smtp_dialogue.proofs.reply.first_reply.Given as goal
 
 abbrev pub invariant-loop-count : goal.invariant-loop-count
-invariant-loop-count l = Begins l.octets l.at l.code
+invariant-loop-count l = BeginsReply l.octets l.at l.code
 
 abbrev pub decreases-loop-count : goal.decreases-loop-count
 decreases-loop-count l = length l.octets - l.at

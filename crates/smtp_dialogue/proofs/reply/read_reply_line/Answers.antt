@@ -1,6 +1,6 @@
 use Rattle.std.proofs.Common.{◌∷◌, ap, ◌∙◌}
-use Rattle.smtpclient.proofs.ReplyLemmas.{no_code}
-use Rattle.smtpclient.proofs.reply.read_reply_line.Goals as goal
+use Rattle.smtp_dialogue.proofs.ReplyLemmas.{no_code}
+use Rattle.smtp_dialogue.proofs.reply.read_reply_line.Goals as goal
 
 pub returns-in-None : goal.returns-in-None
 returns-in-None c =

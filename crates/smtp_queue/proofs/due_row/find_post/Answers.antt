@@ -1,9 +1,9 @@
 -- Steps in turn, until a row is due or none is left.
 use Rattle.std.proofs.Common.{Ok, ◌∙◌, ap, rules}
 use Rattle.sqlite.specs.Held.{state}
-use Rattle.mailstore.specs.declared.refusal.Refusal.TheVariants.{Store}
-use Rattle.sendqueues.proofs.StoreLemmas.{steps_begin, steps_on, steps_end, steps_unread, steps_due, steps_past}
-use Rattle.sendqueues.proofs.post.find_post.Goals as goal
+use Rattle.store_accounts.specs.declared.refusal.Refusal.TheVariants.{Store}
+use Rattle.smtp_queue.proofs.StoreLemmas.{steps_begin, steps_on, steps_end, steps_unread, steps_due, steps_past}
+use Rattle.smtp_queue.proofs.due_row.find_post.Goals as goal
 
 pub loop-init : goal.loop-init
 loop-init g c = steps_begin c.args.waits.now c.args.now c.args.start (state g.S.Store c.args.store.now)

@@ -1,9 +1,9 @@
 -- The row was read, or the user has no open account.
 use Rattle.std.proofs.Common.{◌≡◌, Err, rules}
 use Rattle.sqlite.specs.Held.{state}
-use Rattle.mailstore.specs.declared.refusal.Refusal.TheVariants.{NoUser}
-use Rattle.sendqueues.proofs.StoreLemmas.{row_read, row_absent}
-use Rattle.sendqueues.proofs.post.row_at.Goals as goal
+use Rattle.store_accounts.specs.declared.refusal.Refusal.TheVariants.{NoUser}
+use Rattle.smtp_queue.proofs.StoreLemmas.{row_read, row_absent}
+use Rattle.smtp_queue.proofs.due_row.row_at.Goals as goal
 
 pub returns-in-Err-NoUser : goal.returns-in-Err-NoUser
 returns-in-Err-NoUser g c =

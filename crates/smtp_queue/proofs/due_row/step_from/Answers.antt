@@ -1,10 +1,10 @@
 -- The next place was found, and the row there read where it is due.
 use Rattle.std.proofs.Common.{◌≡◌, true, Ok, ◌∙◌, ap, sym, rules}
 use Rattle.sqlite.specs.Held.{state}
-use Rattle.mailstore.specs.declared.refusal.Refusal.TheVariants.{Memory}
-use Rattle.sendqueues.specs.Posts.{is_due}
-use Rattle.sendqueues.proofs.StoreLemmas.{none_next, not_next, past_next, step_unread, step_past, step_due}
-use Rattle.sendqueues.proofs.post.step_from.Goals as goal
+use Rattle.store_accounts.specs.declared.refusal.Refusal.TheVariants.{Memory}
+use Rattle.smtp_queue.specs.DueRows.{is_key_due}
+use Rattle.smtp_queue.proofs.StoreLemmas.{none_next, not_next, past_next, step_unread, step_past, step_due}
+use Rattle.smtp_queue.proofs.due_row.step_from.Goals as goal
 
 pub returns-in_err-place : goal.returns-in_err-place
 returns-in_err-place g c =
@@ -30,7 +30,7 @@ returns-in_err-row g c =
 
 pub returns-in-Some-2 : goal.returns-in-Some-2
 returns-in-Some-2 g c =
-    let due : is_due c.args.waits.now c.args.now c.in-Some.place ≡ true = sym c.in_ok-due.ensures ∙ c.if-not-due.false in
+    let due : is_key_due c.args.waits.now c.args.now c.in-Some.place ≡ true = sym c.in_ok-due.ensures ∙ c.if-not-due.false in
     step_due c.args.waits.now c.args.now c.args.start.now (state g.S.Store c.args.store.now) (state g.S.Store c.next_queued.new.self) c.next_queued.result c.next_queued.ensures.next c.in-Some.place (c.in_ok-place.was ∙ ap Ok c.in-Some.is)
     (state g.S.Store c.row_at.new.store) c.row_at.result c.row_at.ensures c.in-Some-2.row (c.in_ok-row.was ∙ ap Ok c.in-Some-2.is) due
 

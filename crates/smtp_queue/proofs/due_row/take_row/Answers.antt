@@ -2,10 +2,10 @@
 use Rattle.std.proofs.Common.{◌∙◌, ap, sym, subst, Ok, rules}
 use Rattle.std.proofs.lemmas.Bool.{true≢false}
 use Rattle.sqlite.specs.Held.{state}
-use Rattle.mailstore.specs.Account.{takes_out}
-use Rattle.mailstore.specs.Promises.{WritesUser}
-use Rattle.sendqueues.proofs.TakeLemmas.{unseen, missing, other, removed, not_removed}
-use Rattle.sendqueues.proofs.post.take_row.Goals as goal
+use Rattle.store_accounts.specs.Account.{takes_out}
+use Rattle.store_accounts.specs.Promises.{WritesUser}
+use Rattle.smtp_queue.proofs.TakeLemmas.{unseen, missing, other, removed, not_removed}
+use Rattle.smtp_queue.proofs.due_row.take_row.Goals as goal
 
 pub returns-in_err-row : goal.returns-in_err-row
 returns-in_err-row g c =

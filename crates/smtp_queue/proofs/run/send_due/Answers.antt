@@ -1,8 +1,8 @@
 -- The run began with the keeper's rows, and ends with those of the keeper that has the store back.
 use Rattle.std.proofs.Common.{None, sym, subst}
-use Rattle.sendqueues.specs.Queues.{ShowsRows}
-use Rattle.sendqueues.proofs.QueueLemmas.{rows_still}
-use Rattle.sendqueues.proofs.run.send_due.Goals as goal
+use Rattle.smtp_queue.specs.Queues.{ShowsRows}
+use Rattle.smtp_queue.proofs.QueueLemmas.{rows_still}
+use Rattle.smtp_queue.proofs.run.send_due.Goals as goal
 
 pub returns : goal.returns
 returns g c = λ before shows said.

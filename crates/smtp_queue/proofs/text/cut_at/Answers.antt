@@ -1,7 +1,7 @@
 -- The text was cut behind the octets that are none of these.
 use Rattle.std.proofs.Common.{sym, ◌∙◌}
-use Rattle.smtpclient.proofs.MailboxLemmas.{first_cut, no_cut, no_octets}
-use Rattle.sendwaits.proofs.text.cut_at.Goals as goal
+use Rattle.smtp_dialogue.proofs.MailboxLemmas.{first_cut, no_cut, no_octets}
+use Rattle.smtp_queue.proofs.text.cut_at.Goals as goal
 
 pub returns-in-Some-clause-found : goal.returns-in-Some-clause-found
 returns-in-Some-clause-found c =

@@ -2,9 +2,9 @@
 use Rattle.std.proofs.Common.{◌==◌, length, sym, ◌∙◌, ap}
 use Rattle.std.proofs.lemmas.Bool.{true≢false}
 use Rattle.std.specs.BTreeMap.{insert_entry}
-use Rattle.sendwaits.specs.Waits.{place_cmp}
-use Rattle.sendwaits.proofs.TextLemmas.{line_on, line_lost, lines_end}
-use Rattle.sendwaits.proofs.text.lines_of.Goals as goal
+use Rattle.smtp_queue.specs.Waits.{row_key_cmp}
+use Rattle.smtp_queue.proofs.TextLemmas.{line_on, line_lost, lines_end}
+use Rattle.smtp_queue.proofs.text.lines_of.Goals as goal
 
 pub returns-in_default-parts_of : goal.returns-in_default-parts_of
 returns-in_default-parts_of c own book is =
@@ -13,7 +13,7 @@ returns-in_default-parts_of c own book is =
 pub loop-line-preserved : goal.loop-line-preserved
 loop-line-preserved c own book is =
     line_on own c.loop-line.waits.map.entries c.loop-line.rest.now c.in-Some.line.front.now c.in-Some.line.rest.now (c.loop-line.invariant own book is) c.in-Some.ensures.found book.sorted c.in-Some-parts_of.parts c.in-Some-parts_of.ensures
-    c.in_ok-place.place c.in_ok-place.ensures c.put.new.self.map.entries (c.in_ok-put.ensures.entries ∙ ap (insert_entry place_cmp c.loop-line.waits.map.entries c.in_ok-place.place) c.wait.ensures)
+    c.in_ok-place.place c.in_ok-place.ensures c.put.new.self.map.entries (c.in_ok-put.ensures.entries ∙ ap (insert_entry row_key_cmp c.loop-line.waits.map.entries c.in_ok-place.place) c.wait.ensures)
 
 pub returns-then-not-is_empty : goal.returns-then-not-is_empty
 returns-then-not-is_empty c own book is =

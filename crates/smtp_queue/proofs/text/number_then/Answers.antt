@@ -1,7 +1,7 @@
 -- The text was cut at its first space, and the digits before it were read.
 use Rattle.std.proofs.Common.{refl}
-use Rattle.sendwaits.proofs.TextLemmas.{number_read, number_lost}
-use Rattle.sendwaits.proofs.text.number_then.Goals as goal
+use Rattle.smtp_queue.proofs.TextLemmas.{number_read, number_lost}
+use Rattle.smtp_queue.proofs.text.number_then.Goals as goal
 
 pub returns-in-Some-parse_decimal : goal.returns-in-Some-parse_decimal
 returns-in-Some-parse_decimal c n rest small is =

@@ -1,6 +1,6 @@
 use Rattle.std.proofs.Common.{subst}
-use Rattle.smtpclient.specs.Letters.{LeavesPath}
-use Rattle.mailsenders.proofs.row.letter_of.Goals as goal
+use Rattle.smtp_dialogue.specs.Messages.{LeavesPath}
+use Rattle.smtp_send.proofs.row.letter_of.Goals as goal
 
 pub returns : goal.returns
 returns c = record {

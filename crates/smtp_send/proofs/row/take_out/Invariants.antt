@@ -1,5 +1,5 @@
-use Rattle.mailsenders.specs.Rows.{Rows}
-use Rattle.mailsenders.proofs.row.take_out.Given as goal
+use Rattle.smtp_send.specs.Rows.{Rows}
+use Rattle.smtp_send.proofs.row.take_out.Given as goal
 
 abbrev pub invariant-loop : goal.invariant-loop
-invariant-loop g l = (rows : Rows) → g.Q.Queue.shows l.initial.queue rows → g.Q.Queue.shows l.queue rows
+invariant-loop g l = (rows : Rows) → g.Q.SendQueue.shows l.initial.queue rows → g.Q.SendQueue.shows l.queue rows

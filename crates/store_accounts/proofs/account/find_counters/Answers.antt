@@ -1,10 +1,10 @@
-use Rattle.mailtables.proofs.ListLemmas.{owner_key}
-use Rattle.mailtables.specs.AccountTable.{account_tree, select_counters}
-use Rattle.mailstore.specs.AccountRows.{shown_counters}
-use Rattle.mailtables.proofs.TextFacts.{select_counters_plain}
-use Rattle.mailstore.proofs.QueryLemmas.{counters_found}
-use Rattle.mailstore.proofs.KeepLemmas.{finds_own}
-use Rattle.mailstore.proofs.account.find_counters.Goals as goal
+use Rattle.store_tables.proofs.ListLemmas.{owner_key}
+use Rattle.store_tables.specs.AccountTable.{account_tree, select_counters}
+use Rattle.store_accounts.specs.AccountRows.{shown_counters}
+use Rattle.store_tables.proofs.TextFacts.{select_counters_plain}
+use Rattle.store_accounts.proofs.QueryLemmas.{counters_found}
+use Rattle.store_accounts.proofs.KeepLemmas.{finds_own}
+use Rattle.store_accounts.proofs.account.find_counters.Goals as goal
 
 pub returns : goal.returns
 returns g c =

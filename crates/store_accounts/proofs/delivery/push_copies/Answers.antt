@@ -1,7 +1,7 @@
 use Rattle.std.proofs.Common.{◌≡◌, ◌+◌, ◌++◌, ◌∷◌, ◌∙◌, [], pos, ap, rules}
-use Rattle.mailtables.specs.declared.change.Change.TheVariants.{AddCopy}
-use Rattle.mailstore.proofs.DeliveryLemmas.{copies_more}
-use Rattle.mailstore.proofs.delivery.push_copies.Goals as goal
+use Rattle.store_tables.specs.declared.change.Change.TheVariants.{AddCopy}
+use Rattle.store_accounts.proofs.DeliveryLemmas.{copies_more}
+use Rattle.store_accounts.proofs.delivery.push_copies.Goals as goal
 
 pub loop-i-preserved : goal.loop-i-preserved
 loop-i-preserved c =

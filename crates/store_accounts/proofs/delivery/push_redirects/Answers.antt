@@ -1,6 +1,6 @@
 use Rattle.std.proofs.Common.{◌≡◌, ◌+◌, ◌++◌, ◌∷◌, ◌∙◌, [], pos, w64, SFits, to_z-of_z, rules}
-use Rattle.mailstore.proofs.DeliveryLemmas.{redirects_more}
-use Rattle.mailstore.proofs.delivery.push_redirects.Goals as goal
+use Rattle.store_accounts.proofs.DeliveryLemmas.{redirects_more}
+use Rattle.store_accounts.proofs.delivery.push_redirects.Goals as goal
 
 pub loop-i-preserved : goal.loop-i-preserved
 loop-i-preserved c =

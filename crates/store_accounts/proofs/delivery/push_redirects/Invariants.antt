@@ -1,7 +1,7 @@
 use Rattle.std.proofs.Common.{take}
-use Rattle.mailtables.specs.Changes.{Extends}
-use Rattle.mailstore.specs.Delivery.{sent_on}
-use Rattle.mailstore.proofs.delivery.push_redirects.Given as goal
+use Rattle.store_tables.specs.Changes.{ExtendsChanges}
+use Rattle.store_accounts.specs.Delivery.{sent_on}
+use Rattle.store_accounts.proofs.delivery.push_redirects.Given as goal
 
 abbrev pub invariant-loop-i : goal.invariant-loop-i
-invariant-loop-i l = Extends l.user (sent_on l.user l.sender l.message l.next (take l.i l.targets)) l.initial.changes.items l.changes.items
+invariant-loop-i l = ExtendsChanges l.user (sent_on l.user l.sender l.message l.next (take l.i l.targets)) l.initial.changes.items l.changes.items

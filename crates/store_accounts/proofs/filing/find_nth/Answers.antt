@@ -1,9 +1,9 @@
-use Rattle.mailtables.specs.CopyTable.{select_nth}
-use Rattle.mailstore.specs.Shows.{AreNthRows}
-use Rattle.mailtables.proofs.TextFacts.{select_nth_plain}
-use Rattle.mailstore.proofs.NthLemmas.{nth_params, nth_read}
-use Rattle.mailstore.proofs.KeepLemmas.{finds_among}
-use Rattle.mailstore.proofs.filing.find_nth.Goals as goal
+use Rattle.store_tables.specs.CopyTable.{select_nth}
+use Rattle.store_accounts.specs.Shows.{AreNthRows}
+use Rattle.store_tables.proofs.TextFacts.{select_nth_plain}
+use Rattle.store_accounts.proofs.NthLemmas.{nth_params, nth_read}
+use Rattle.store_accounts.proofs.KeepLemmas.{finds_among}
+use Rattle.store_accounts.proofs.filing.find_nth.Goals as goal
 
 pub returns : goal.returns
 returns g c =

@@ -1,9 +1,9 @@
-use Rattle.mailtables.specs.CopyTable.{select_other}
-use Rattle.mailstore.specs.Shows.{AreOtherRows}
-use Rattle.mailtables.proofs.TextFacts.{select_other_plain}
-use Rattle.mailstore.proofs.OtherLemmas.{other_params, other_read}
-use Rattle.mailstore.proofs.KeepLemmas.{finds_among}
-use Rattle.mailstore.proofs.filing.find_other.Goals as goal
+use Rattle.store_tables.specs.CopyTable.{select_other}
+use Rattle.store_accounts.specs.Shows.{AreOtherRows}
+use Rattle.store_tables.proofs.TextFacts.{select_other_plain}
+use Rattle.store_accounts.proofs.OtherLemmas.{other_params, other_read}
+use Rattle.store_accounts.proofs.KeepLemmas.{finds_among}
+use Rattle.store_accounts.proofs.filing.find_other.Goals as goal
 
 pub returns : goal.returns
 returns g c =

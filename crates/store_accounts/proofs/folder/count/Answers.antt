@@ -1,8 +1,8 @@
 use Rattle.std.proofs.Common.{◌≡◌, ◌∙◌, ◌++◌, ◌+◌, ◌∷◌, [], ap, sym, nat_eq, true, false, rules}
 use Rattle.std.specs.Cmp.Lexicographic.{pointwise}
-use Rattle.mailstore.specs.Tally.{counted}
-use Rattle.mailstore.proofs.TallyLemmas.{counted_last_same, counted_last_other, tested_same, tested_other}
-use Rattle.mailstore.proofs.folder.count.Goals as goal
+use Rattle.store_accounts.specs.Tally.{counted}
+use Rattle.store_accounts.proofs.TallyLemmas.{counted_last_same, counted_last_other, tested_same, tested_other}
+use Rattle.store_accounts.proofs.folder.count.Goals as goal
 
 pub returns-then-eq-clause-counted : goal.returns-then-eq-clause-counted
 returns-then-eq-clause-counted c =

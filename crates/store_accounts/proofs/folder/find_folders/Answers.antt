@@ -1,10 +1,10 @@
-use Rattle.mailtables.proofs.ListLemmas.{owner_key}
-use Rattle.mailtables.specs.CopyTable.{select_folders}
-use Rattle.mailstore.specs.Tally.{AreFolderRows}
-use Rattle.mailtables.proofs.TextFacts.{select_folders_plain}
-use Rattle.mailstore.proofs.FolderLemmas.{folders_read}
-use Rattle.mailstore.proofs.KeepLemmas.{finds}
-use Rattle.mailstore.proofs.folder.find_folders.Goals as goal
+use Rattle.store_tables.proofs.ListLemmas.{owner_key}
+use Rattle.store_tables.specs.CopyTable.{select_folders}
+use Rattle.store_accounts.specs.Tally.{AreFolderRows}
+use Rattle.store_tables.proofs.TextFacts.{select_folders_plain}
+use Rattle.store_accounts.proofs.FolderLemmas.{folders_read}
+use Rattle.store_accounts.proofs.KeepLemmas.{finds}
+use Rattle.store_accounts.proofs.folder.find_folders.Goals as goal
 
 pub returns : goal.returns
 returns g c =

@@ -3,8 +3,8 @@ use Rattle.std.proofs.lemmas.List.{take_all}
 use Rattle.sqlite_value.specs.declared.value.Value.TheVariants.{Blob}
 use Rattle.sqlite_value.specs.Order.{Row, column, bytes}
 use Rattle.sqlite_keyed.proofs.ListLemmas.{map-map, map_back}
-use Rattle.mailstore.specs.Tally.{tallied}
-use Rattle.mailstore.proofs.folder.tally.Goals as goal
+use Rattle.store_accounts.specs.Tally.{tallied}
+use Rattle.store_accounts.proofs.folder.tally.Goals as goal
 
 pub returns-clause-ok : goal.returns-clause-ok
 returns-clause-ok c names are =

@@ -1,9 +1,9 @@
-use Rattle.mailtables.specs.MessageTable.{select_message, message_key}
-use Rattle.mailstore.specs.Shows.{AreOctetRows}
-use Rattle.mailtables.proofs.TextFacts.{select_message_plain}
-use Rattle.mailstore.proofs.KeepLemmas.{finds_among}
-use Rattle.mailstore.proofs.FirstLemmas.{octets_read}
-use Rattle.mailstore.proofs.message.find_message.Goals as goal
+use Rattle.store_tables.specs.MessageTable.{select_message, message_key}
+use Rattle.store_accounts.specs.Shows.{AreOctetRows}
+use Rattle.store_tables.proofs.TextFacts.{select_message_plain}
+use Rattle.store_accounts.proofs.KeepLemmas.{finds_among}
+use Rattle.store_accounts.proofs.FirstLemmas.{octets_read}
+use Rattle.store_accounts.proofs.message.find_message.Goals as goal
 
 pub returns : goal.returns
 returns g c =

@@ -1,9 +1,9 @@
-use Rattle.mailtables.specs.CopyTable.{select_later_folder}
-use Rattle.mailstore.specs.Next.{IsLaterFolder, ShowFiled}
-use Rattle.mailtables.proofs.TextFacts.{select_later_folder_plain}
-use Rattle.mailstore.proofs.AllLemmas.{finds_all}
-use Rattle.mailstore.proofs.NextLemmas.{folder_params, later_folder_read}
-use Rattle.mailstore.proofs.next.find_later_folder.Goals as goal
+use Rattle.store_tables.specs.CopyTable.{select_later_folder}
+use Rattle.store_accounts.specs.Next.{IsLaterFolder, ShowFiled}
+use Rattle.store_tables.proofs.TextFacts.{select_later_folder_plain}
+use Rattle.store_accounts.proofs.AllLemmas.{finds_all}
+use Rattle.store_accounts.proofs.NextLemmas.{folder_params, later_folder_read}
+use Rattle.store_accounts.proofs.next.find_later_folder.Goals as goal
 
 pub returns : goal.returns
 returns g c =

@@ -1,9 +1,9 @@
-use Rattle.mailtables.specs.QueueTable.{select_later_id}
-use Rattle.mailstore.specs.Next.{ShowLaterId}
-use Rattle.mailtables.proofs.TextFacts.{select_later_id_plain}
-use Rattle.mailstore.proofs.AllLemmas.{finds_all}
-use Rattle.mailstore.proofs.NextLemmas.{id_params, later_id_read}
-use Rattle.mailstore.proofs.next.find_later_id.Goals as goal
+use Rattle.store_tables.specs.QueueTable.{select_later_id}
+use Rattle.store_accounts.specs.Next.{ShowLaterId}
+use Rattle.store_tables.proofs.TextFacts.{select_later_id_plain}
+use Rattle.store_accounts.proofs.AllLemmas.{finds_all}
+use Rattle.store_accounts.proofs.NextLemmas.{id_params, later_id_read}
+use Rattle.store_accounts.proofs.next.find_later_id.Goals as goal
 
 pub returns : goal.returns
 returns g c =

@@ -1,9 +1,9 @@
-use Rattle.mailtables.specs.CopyTable.{select_later_number}
-use Rattle.mailstore.specs.Next.{ShowLaterNumber}
-use Rattle.mailtables.proofs.TextFacts.{select_later_number_plain}
-use Rattle.mailstore.proofs.AllLemmas.{finds_all}
-use Rattle.mailstore.proofs.NextLemmas.{number_params, later_number_read}
-use Rattle.mailstore.proofs.next.find_later_number.Goals as goal
+use Rattle.store_tables.specs.CopyTable.{select_later_number}
+use Rattle.store_accounts.specs.Next.{ShowLaterNumber}
+use Rattle.store_tables.proofs.TextFacts.{select_later_number_plain}
+use Rattle.store_accounts.proofs.AllLemmas.{finds_all}
+use Rattle.store_accounts.proofs.NextLemmas.{number_params, later_number_read}
+use Rattle.store_accounts.proofs.next.find_later_number.Goals as goal
 
 pub returns : goal.returns
 returns g c =

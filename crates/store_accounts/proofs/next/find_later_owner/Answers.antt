@@ -1,9 +1,9 @@
-use Rattle.mailtables.specs.CopyTable.{select_later_owner}
-use Rattle.mailstore.specs.Next.{IsLaterOwner, ShowFiled}
-use Rattle.mailtables.proofs.TextFacts.{select_later_owner_plain}
-use Rattle.mailstore.proofs.AllLemmas.{finds_all}
-use Rattle.mailstore.proofs.NextLemmas.{owner_params, later_owner_read}
-use Rattle.mailstore.proofs.next.find_later_owner.Goals as goal
+use Rattle.store_tables.specs.CopyTable.{select_later_owner}
+use Rattle.store_accounts.specs.Next.{IsLaterOwner, ShowFiled}
+use Rattle.store_tables.proofs.TextFacts.{select_later_owner_plain}
+use Rattle.store_accounts.proofs.AllLemmas.{finds_all}
+use Rattle.store_accounts.proofs.NextLemmas.{owner_params, later_owner_read}
+use Rattle.store_accounts.proofs.next.find_later_owner.Goals as goal
 
 pub returns : goal.returns
 returns g c =

@@ -1,9 +1,9 @@
-use Rattle.mailtables.specs.QueueTable.{select_later_queue}
-use Rattle.mailstore.specs.Next.{IsLaterQueue, ShowQueued}
-use Rattle.mailtables.proofs.TextFacts.{select_later_queue_plain}
-use Rattle.mailstore.proofs.AllLemmas.{finds_all}
-use Rattle.mailstore.proofs.NextLemmas.{owner_params, later_queue_read}
-use Rattle.mailstore.proofs.next.find_later_queue.Goals as goal
+use Rattle.store_tables.specs.QueueTable.{select_later_queue}
+use Rattle.store_accounts.specs.Next.{IsLaterQueue, ShowQueued}
+use Rattle.store_tables.proofs.TextFacts.{select_later_queue_plain}
+use Rattle.store_accounts.proofs.AllLemmas.{finds_all}
+use Rattle.store_accounts.proofs.NextLemmas.{owner_params, later_queue_read}
+use Rattle.store_accounts.proofs.next.find_later_queue.Goals as goal
 
 pub returns : goal.returns
 returns g c =

@@ -1,8 +1,8 @@
-use Rattle.mailtables.specs.MessageTable.{message_key}
-use Rattle.mailstore.specs.Listing.{select_notice, HasNoticeRow}
-use Rattle.mailstore.proofs.KeepLemmas.{finds_among}
-use Rattle.mailstore.proofs.NoticeLemmas.{notice_read, select_notice_plain}
-use Rattle.mailstore.proofs.notice.find_notice.Goals as goal
+use Rattle.store_tables.specs.MessageTable.{message_key}
+use Rattle.store_accounts.specs.Listing.{select_notice, HasNoticeRow}
+use Rattle.store_accounts.proofs.KeepLemmas.{finds_among}
+use Rattle.store_accounts.proofs.NoticeLemmas.{notice_read, select_notice_plain}
+use Rattle.store_accounts.proofs.notice.find_notice.Goals as goal
 
 pub returns : goal.returns
 returns g c =

@@ -1,9 +1,9 @@
-use Rattle.mailtables.specs.QueueTable.{queue_key, select_outgoing}
-use Rattle.mailstore.specs.QueueRows.{HasOutgoingRow}
-use Rattle.mailtables.proofs.TextFacts.{select_outgoing_plain}
-use Rattle.mailstore.proofs.KeepLemmas.{finds}
-use Rattle.mailstore.proofs.KeyedLemmas.{outgoing_read}
-use Rattle.mailstore.proofs.queue.find_outgoing.Goals as goal
+use Rattle.store_tables.specs.QueueTable.{queue_key, select_outgoing}
+use Rattle.store_accounts.specs.QueueRows.{HasOutgoingRow}
+use Rattle.store_tables.proofs.TextFacts.{select_outgoing_plain}
+use Rattle.store_accounts.proofs.KeepLemmas.{finds}
+use Rattle.store_accounts.proofs.KeyedLemmas.{outgoing_read}
+use Rattle.store_accounts.proofs.queue.find_outgoing.Goals as goal
 
 pub returns : goal.returns
 returns g c =

@@ -1,9 +1,9 @@
-use Rattle.mailtables.specs.ReplyTable.{reply_key, select_moment}
-use Rattle.mailstore.specs.ReplyRows.{HasMomentRow}
-use Rattle.mailtables.proofs.TextFacts.{select_moment_plain}
-use Rattle.mailstore.proofs.ReplyLemmas.{moment_read}
-use Rattle.mailstore.proofs.KeepLemmas.{finds}
-use Rattle.mailstore.proofs.reply.find_moment.Goals as goal
+use Rattle.store_tables.specs.ReplyTable.{reply_key, select_moment}
+use Rattle.store_accounts.specs.ReplyRows.{HasMomentRow}
+use Rattle.store_tables.proofs.TextFacts.{select_moment_plain}
+use Rattle.store_accounts.proofs.ReplyLemmas.{moment_read}
+use Rattle.store_accounts.proofs.KeepLemmas.{finds}
+use Rattle.store_accounts.proofs.reply.find_moment.Goals as goal
 
 pub returns : goal.returns
 returns g c =

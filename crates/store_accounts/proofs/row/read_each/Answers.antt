@@ -1,9 +1,9 @@
 use Rattle.std.proofs.Common.{◌≡◌, ◌∙◌, [], ◌∷◌, ◌++◌, Ok, Err, OnOk, IfErr, inr, refl, rules}
 use Rattle.sqlite.specs.Held.{state}
-use Rattle.mailstore.specs.declared.refusal.Refusal.TheVariants.{Store}
-use Rattle.mailstore.specs.Refusals.{IsTransient}
-use Rattle.mailstore.proofs.EachLemmas.{begun, advanced, read_whole, refused, stopped, passed_over, failed, seen_committed}
-use Rattle.mailstore.proofs.row.read_each.Goals as goal
+use Rattle.store_accounts.specs.declared.refusal.Refusal.TheVariants.{Store}
+use Rattle.store_accounts.specs.Refusals.{IsTransient}
+use Rattle.store_accounts.proofs.EachLemmas.{begun, advanced, read_whole, refused, stopped, passed_over, failed, seen_committed}
+use Rattle.store_accounts.proofs.row.read_each.Goals as goal
 
 pub returns-in_err-rows : goal.returns-in_err-rows
 returns-in_err-rows g c =

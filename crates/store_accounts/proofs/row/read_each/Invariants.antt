@@ -1,7 +1,7 @@
 use Rattle.std.proofs.Common.{◌≡◌}
 use Rattle.sqlite.specs.Values.{bound}
-use Rattle.mailstore.proofs.EachLemmas.{IsUnderWay}
-use Rattle.mailstore.proofs.row.read_each.Given as goal
+use Rattle.store_accounts.proofs.EachLemmas.{IsUnderWay}
+use Rattle.store_accounts.proofs.row.read_each.Given as goal
 
 abbrev pub invariant-rows : goal.invariant-rows
 invariant-rows g l =

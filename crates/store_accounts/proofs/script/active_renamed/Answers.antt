@@ -1,7 +1,7 @@
 use Rattle.std.proofs.Common.{◌≡◌, Some, ap, sym, ◌∙◌, true, false, nat_eq}
 use Rattle.std.specs.Cmp.Lexicographic.{pointwise}
-use Rattle.mailstore.proofs.CallLemmas.{renamed_is}
-use Rattle.mailstore.proofs.script.active_renamed.Goals as goal
+use Rattle.store_accounts.proofs.CallLemmas.{renamed_is}
+use Rattle.store_accounts.proofs.script.active_renamed.Goals as goal
 
 pub returns-then-eq : goal.returns-then-eq
 returns-then-eq c =

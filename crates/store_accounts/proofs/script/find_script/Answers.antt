@@ -1,10 +1,10 @@
-use Rattle.mailtables.proofs.ListLemmas.{pair_key}
-use Rattle.mailtables.specs.ScriptTable.{select_script}
-use Rattle.mailstore.specs.ScriptRows.{HasTextRow}
-use Rattle.mailtables.proofs.TextFacts.{select_script_plain}
-use Rattle.mailstore.proofs.ReadLemmas.{script_read}
-use Rattle.mailstore.proofs.KeepLemmas.{finds}
-use Rattle.mailstore.proofs.script.find_script.Goals as goal
+use Rattle.store_tables.proofs.ListLemmas.{pair_key}
+use Rattle.store_tables.specs.ScriptTable.{select_script}
+use Rattle.store_accounts.specs.ScriptRows.{HasTextRow}
+use Rattle.store_tables.proofs.TextFacts.{select_script_plain}
+use Rattle.store_accounts.proofs.ReadLemmas.{script_read}
+use Rattle.store_accounts.proofs.KeepLemmas.{finds}
+use Rattle.store_accounts.proofs.script.find_script.Goals as goal
 
 pub returns : goal.returns
 returns g c =

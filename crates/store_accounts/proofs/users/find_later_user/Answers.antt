@@ -1,8 +1,8 @@
-use Rattle.mailstore.specs.Users.{ShowLaterUser, select_later_user}
-use Rattle.mailstore.proofs.AllLemmas.{finds_all}
-use Rattle.mailstore.proofs.NextLemmas.{owner_params}
-use Rattle.mailstore.proofs.UserLemmas.{later_user_read, select_later_user_plain}
-use Rattle.mailstore.proofs.users.find_later_user.Goals as goal
+use Rattle.store_accounts.specs.Users.{ShowLaterUser, select_later_user}
+use Rattle.store_accounts.proofs.AllLemmas.{finds_all}
+use Rattle.store_accounts.proofs.NextLemmas.{owner_params}
+use Rattle.store_accounts.proofs.UserLemmas.{later_user_read, select_later_user_plain}
+use Rattle.store_accounts.proofs.users.find_later_user.Goals as goal
 
 pub returns : goal.returns
 returns g c =

@@ -1,9 +1,9 @@
 -- First the account's row comes, then it has what is had once, then the parts come.
 use Rattle.std.proofs.Common.{subst}
-use Rattle.mailtables.specs.Changes.{Extends}
-use Rattle.mailstore.specs.WholeRows.{account_made, head_made, parts_made}
-use Rattle.mailstore.proofs.WholeLemmas.{making}
-use Rattle.mailstore.proofs.whole.added.Goals as goal
+use Rattle.store_tables.specs.Changes.{ExtendsChanges}
+use Rattle.store_accounts.specs.WholeRows.{account_made, head_made, parts_made}
+use Rattle.store_accounts.proofs.WholeLemmas.{making}
+use Rattle.store_accounts.proofs.whole.added.Goals as goal
 
 pub returns-clause-made : goal.returns-clause-made
 returns-clause-made c =
@@ -13,5 +13,5 @@ returns-clause-made c =
     let two = c.push_head.new.changes.items in
     let three = c.push_parts.new.changes.items in
     making user (account_made head) head c.args.parts.now one two three
-    (subst (λ ds. Extends user (account_made head) ds one) c.new-changes.ensures.items c.in_ok-push_account.ensures.made)
-    c.in_ok-push_head.ensures.made (subst (λ u. Extends u (parts_made u c.args.parts.now) two three) c.as_slice.ensures c.in_ok-push_parts.ensures.made)
+    (subst (λ ds. ExtendsChanges user (account_made head) ds one) c.new-changes.ensures.items c.in_ok-push_account.ensures.made)
+    c.in_ok-push_head.ensures.made (subst (λ u. ExtendsChanges u (parts_made u c.args.parts.now) two three) c.as_slice.ensures c.in_ok-push_parts.ensures.made)

@@ -1,13 +1,13 @@
 use Rattle.std.proofs.Common.{◌≡◌, List, ℕ, Option, Ok, OnOk, IfErr, rules}
 use Rattle.std.specs.FinMap.{get}
 use Rattle.sqlite.specs.Held.{state}
-use Rattle.mailstore.specs.Account.{Account}
-use Rattle.mailstore.specs.AccountRows.{profile_of}
-use Rattle.mailstore.specs.Refusals.{IsTransient}
-use Rattle.mailstore.specs.declared.profile.Profile.{Profile}
-use Rattle.mailengine.specs.Lookups.{IsActiveScript}
-use Rattle.mailengine.proofs.LookupLemmas.{looks_answer, looks_entered, looks_failed, none_active, some_active}
-use Rattle.mailengine.proofs.account.active_script.Goals as goal
+use Rattle.store_accounts.specs.Account.{Account}
+use Rattle.store_accounts.specs.AccountRows.{profile_of}
+use Rattle.store_accounts.specs.Refusals.{IsTransient}
+use Rattle.store_accounts.specs.declared.profile.Profile.{Profile}
+use Rattle.store_engine.specs.Lookups.{IsActiveScript}
+use Rattle.store_engine.proofs.LookupLemmas.{looks_answer, looks_entered, looks_failed, none_active, some_active}
+use Rattle.store_engine.proofs.account.active_script.Goals as goal
 
 abbrev Known : Profile → Account → Type 0
 Known profile account = profile ≡ profile_of account

@@ -1,13 +1,13 @@
 use Rattle.std.proofs.Common.{◌≡◌, Err, rules}
 use Rattle.sqlite.specs.Held.{state}
-use Rattle.mailstore.specs.Account.{Account}
-use Rattle.mailstore.specs.AccountRows.{profile_of}
-use Rattle.mailstore.specs.CopyRows.{IsFirstIn}
-use Rattle.mailstore.specs.declared.profile.Profile.{Profile}
-use Rattle.mailstore.proofs.OwnLemmas.{own_enters, own_refused}
-use Rattle.mailstore.specs.Shows.{IsFirstOf}
-use Rattle.mailengine.proofs.LookupLemmas.{looks_enters}
-use Rattle.mailengine.proofs.account.first_message.Goals as goal
+use Rattle.store_accounts.specs.Account.{Account}
+use Rattle.store_accounts.specs.AccountRows.{profile_of}
+use Rattle.store_accounts.specs.CopyRows.{IsFirstIn}
+use Rattle.store_accounts.specs.declared.profile.Profile.{Profile}
+use Rattle.store_accounts.proofs.OwnLemmas.{own_enters, own_refused}
+use Rattle.store_accounts.specs.Shows.{IsFirstOf}
+use Rattle.store_engine.proofs.LookupLemmas.{looks_enters}
+use Rattle.store_engine.proofs.account.first_message.Goals as goal
 
 abbrev Known : Profile → Account → Type 0
 Known profile a = profile ≡ profile_of a

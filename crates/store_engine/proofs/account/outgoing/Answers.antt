@@ -1,10 +1,10 @@
 use Rattle.std.proofs.Common.{◌≡◌}
 use Rattle.sqlite.specs.Held.{state}
-use Rattle.mailstore.specs.Account.{Account, row_with}
-use Rattle.mailstore.specs.AccountRows.{profile_of}
-use Rattle.mailstore.specs.declared.profile.Profile.{Profile}
-use Rattle.mailengine.proofs.LookupLemmas.{looks_enters}
-use Rattle.mailengine.proofs.account.outgoing.Goals as goal
+use Rattle.store_accounts.specs.Account.{Account, row_with}
+use Rattle.store_accounts.specs.AccountRows.{profile_of}
+use Rattle.store_accounts.specs.declared.profile.Profile.{Profile}
+use Rattle.store_engine.proofs.LookupLemmas.{looks_enters}
+use Rattle.store_engine.proofs.account.outgoing.Goals as goal
 
 pub returns : goal.returns
 returns g c =

@@ -1,6 +1,6 @@
 use Rattle.std.proofs.Common.{rules}
-use Rattle.mailengine.proofs.HostLemmas.{ignored_close, closed_now}
-use Rattle.mailengine.proofs.clients.close.Goals as goal
+use Rattle.store_engine.proofs.HostLemmas.{ignored_close, closed_now}
+use Rattle.store_engine.proofs.clients.close.Goals as goal
 
 pub returns-in_default : goal.returns-in_default
 returns-in_default c = ignored_close c.args.sessions.now c.remove.new.self c.args.number (search rules) (search rules)

@@ -1,12 +1,12 @@
 use Rattle.std.proofs.Common.{◌≡◌, rules, Some}
 use Rattle.std.specs.Ordering.{nat_cmp}
 use Rattle.std.specs.BTreeMap as tree
-use Rattle.mailstore.specs.declared.refusal.Refusal.TheVariants.{Memory}
-use Rattle.mailengine.specs.declared.answer.Answer.TheVariants.{Refused}
-use Rattle.mailengine.specs.declared.event.Event.TheVariants.{Give}
-use Rattle.mailengine.specs.Hosts.{answer_of}
-use Rattle.mailengine.proofs.HostLemmas.{ignored_give, lacking_back, given_told, give_lacks}
-use Rattle.mailengine.proofs.clients.give.Goals as goal
+use Rattle.store_accounts.specs.declared.refusal.Refusal.TheVariants.{Memory}
+use Rattle.store_engine.specs.declared.answer.Answer.TheVariants.{Refused}
+use Rattle.store_engine.specs.declared.event.Event.TheVariants.{Give}
+use Rattle.store_engine.specs.Hosts.{answer_of}
+use Rattle.store_engine.proofs.HostLemmas.{ignored_give, lacking_back, given_told, give_lacks}
+use Rattle.store_engine.proofs.clients.give.Goals as goal
 
 pub returns-in_default : goal.returns-in_default
 returns-in_default c = ignored_give c.args.sessions.now c.get_mut.follows.lender-at-none c.args.number c.args.piece.now (search rules) (search rules)

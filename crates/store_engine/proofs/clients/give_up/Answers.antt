@@ -2,9 +2,9 @@ use Rattle.std.proofs.Common.{◌≡◌, rules, Some, sym, subst}
 use Rattle.std.specs.Prelude.{IfSome}
 use Rattle.std.specs.Ordering.{nat_cmp}
 use Rattle.std.specs.BTreeMap as tree
-use Rattle.sessions.specs.GivenUp.{text_given_up}
-use Rattle.mailengine.proofs.HostLemmas.{ignored_give_up, gave_up}
-use Rattle.mailengine.proofs.clients.give_up.Goals as goal
+use Rattle.managesieve_sessions.specs.GivenUp.{text_given_up}
+use Rattle.store_engine.proofs.HostLemmas.{ignored_give_up, gave_up}
+use Rattle.store_engine.proofs.clients.give_up.Goals as goal
 
 pub returns-in_default : goal.returns-in_default
 returns-in_default c = ignored_give_up c.args.sessions.now c.get_mut.follows.lender-at-none c.args.number (search rules) (search rules)

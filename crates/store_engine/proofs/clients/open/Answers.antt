@@ -1,10 +1,10 @@
 use Rattle.std.proofs.Common.{◌≡◌, rules, sym, ◌∙◌, refl}
-use Rattle.mailstore.specs.declared.refusal.Refusal.TheVariants.{Memory}
-use Rattle.mailengine.specs.declared.answer.Answer.TheVariants.{Refused}
-use Rattle.mailengine.specs.declared.event.Event.TheVariants.{Open}
-use Rattle.mailengine.specs.Hosts.{answer_of}
-use Rattle.mailengine.proofs.HostLemmas.{open_twice, open_lacks, opened, lacking}
-use Rattle.mailengine.proofs.clients.open.Goals as goal
+use Rattle.store_accounts.specs.declared.refusal.Refusal.TheVariants.{Memory}
+use Rattle.store_engine.specs.declared.answer.Answer.TheVariants.{Refused}
+use Rattle.store_engine.specs.declared.event.Event.TheVariants.{Open}
+use Rattle.store_engine.specs.Hosts.{answer_of}
+use Rattle.store_engine.proofs.HostLemmas.{open_twice, open_lacks, opened, lacking}
+use Rattle.store_engine.proofs.clients.open.Goals as goal
 
 pub returns-then-contains_key : goal.returns-then-contains_key
 returns-then-contains_key c = open_twice c.args.sessions.now c.args.number (sym c.contains_key.ensures ∙ c.if-contains_key.true)

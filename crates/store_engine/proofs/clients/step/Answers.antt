@@ -2,11 +2,11 @@ use Rattle.std.proofs.Common.{◌≡◌, rules, Some}
 use Rattle.std.specs.Ordering.{nat_cmp}
 use Rattle.std.specs.BTreeMap as tree
 use Rattle.sqlite.specs.Held.{state}
-use Rattle.mailengine.specs.declared.answer.Answer.TheVariants.{Ignored}
-use Rattle.mailengine.specs.declared.event.Event.TheVariants.{Step}
-use Rattle.mailengine.specs.Hosts.{answer_of}
-use Rattle.mailengine.proofs.HostLemmas.{ignored_step, session_event, step_told, step_undone, step_crash}
-use Rattle.mailengine.proofs.clients.step.Goals as goal
+use Rattle.store_engine.specs.declared.answer.Answer.TheVariants.{Ignored}
+use Rattle.store_engine.specs.declared.event.Event.TheVariants.{Step}
+use Rattle.store_engine.specs.Hosts.{answer_of}
+use Rattle.store_engine.proofs.HostLemmas.{ignored_step, session_event, step_told, step_undone, step_crash}
+use Rattle.store_engine.proofs.clients.step.Goals as goal
 
 pub returns-in_default-clause-event : goal.returns-in_default-clause-event
 returns-in_default-clause-event g c =

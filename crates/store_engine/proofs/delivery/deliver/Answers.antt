@@ -1,19 +1,19 @@
 use Rattle.std.proofs.Common.{◌≡◌, ◌≤◌, false, None, Ok, Err, OnOk, IfErr, refl, sym, ◌∙◌, subst, rules}
 use Rattle.sqlite.specs.Held.{state}
-use Rattle.mailstore.specs.declared.refusal.Refusal.TheVariants.{NoUser}
-use Rattle.mailstore.specs.declared.report.Report.{Report}
-use Rattle.mailstore.specs.Refusals.{IsTransient}
-use Rattle.mailengine.specs.Hosts.{ActsDelivery}
-use Rattle.mailengine.specs.Limits.{limit_refusal}
-use Rattle.mailengine.specs.Lookups.{LooksUp, IsLookup}
-use Rattle.mailengine.proofs.DeliveryLemmas.{moment_fits, transient_refuses, absent_refuses, planned_at, delivery_limited, delivery_unread, delivery_absent, delivery_unasked, delivery_failed, delivery_written}
-use Rattle.mailengine.proofs.RunLemmas.{delivery_spaced}
-use Rattle.mailstore.specs.Cells.{contents}
-use Rattle.mailengine.specs.AccountEvents.{text_or}
-use Rattle.mailengine.specs.Terms.{terms_of}
-use Rattle.sieveexec.specs.Mails.{MailSpec}
-use Rattle.deliverplan.specs.Delivered.{has_long_header}
-use Rattle.mailengine.proofs.delivery.deliver.Goals as goal
+use Rattle.store_accounts.specs.declared.refusal.Refusal.TheVariants.{NoUser}
+use Rattle.store_accounts.specs.declared.report.Report.{Report}
+use Rattle.store_accounts.specs.Refusals.{IsTransient}
+use Rattle.store_engine.specs.Hosts.{ActsDelivery}
+use Rattle.store_engine.specs.Limits.{limit_refusal}
+use Rattle.store_engine.specs.Lookups.{LooksUp, IsLookup}
+use Rattle.store_engine.proofs.DeliveryLemmas.{moment_fits, transient_refuses, absent_refuses, planned_at, delivery_limited, delivery_unread, delivery_absent, delivery_unasked, delivery_failed, delivery_written}
+use Rattle.store_engine.proofs.RunLemmas.{delivery_spaced}
+use Rattle.store_accounts.specs.Cells.{borrowed_octets}
+use Rattle.store_engine.specs.AccountEvents.{script_or_default}
+use Rattle.store_engine.specs.Terms.{terms_of}
+use Rattle.sieve_exec.specs.Mails.{MailSpec}
+use Rattle.sieve_plan.specs.Delivered.{has_long_header}
+use Rattle.store_engine.proofs.delivery.deliver.Goals as goal
 
 pub returns-in-Some-clause-acts : goal.returns-in-Some-clause-acts
 returns-in-Some-clause-acts g c = delivery_limited c.args.user.now c.args.envelope c.args.message.now (terms_of c.args.when c.args.default) (state g.S.Store c.args.store.now) c.in-Some.refusal (sym c.limit_refusal.ensures ∙ c.in-Some.is)
@@ -75,7 +75,7 @@ returns-then-has_long_header-clause-acts g c =
     let none : limit_refusal c.args.envelope c.args.message.now c.args.when.moment ≡ None = sym c.limit_refusal.ensures ∙ c.in_default.is in
     delivery_written c.args.user.now c.args.envelope c.args.message.now (terms_of c.args.when c.args.default) none (state g.S.Store c.args.store.now) (state g.S.Store c.look_up-looked.new.store) c.look_up-looked.result c.in_ok-found.found c.in_ok-found.was
     (subst (λ sender. LooksUp c.args.user.now (IsLookup sender) (state g.S.Store c.args.store.now) (state g.S.Store c.look_up-looked.new.store) c.look_up-looked.result) c.as_slice.ensures c.look_up-looked.ensures) c.in_ok-unread.unread
-    (λ account view. c.in_ok-unread.ensures c.in_ok-found.found.view.address (text_or c.in_ok-found.found.text (contents c.args.default)) account)
+    (λ account view. c.in_ok-unread.ensures c.in_ok-found.found.view.address (script_or_default c.in_ok-found.found.text (borrowed_octets c.args.default)) account)
     (state g.S.Store c.carry_out.new.store) c.carry_out.result c.carry_out.ensures.writes c.carry_out.ensures.told c.carry_out.ensures.named
 
 pub returns-then-has_long_header-clause-spaced : goal.returns-then-has_long_header-clause-spaced
@@ -118,7 +118,7 @@ returns-clause-acts g c =
     let none : limit_refusal c.args.envelope c.args.message.now c.args.when.moment ≡ None = sym c.limit_refusal.ensures ∙ c.in_default.is in
     delivery_written c.args.user.now c.args.envelope c.args.message.now (terms_of c.args.when c.args.default) none (state g.S.Store c.args.store.now) (state g.S.Store c.look_up-looked.new.store) c.look_up-looked.result c.in_ok-found.found c.in_ok-found.was
     (subst (λ sender. LooksUp c.args.user.now (IsLookup sender) (state g.S.Store c.args.store.now) (state g.S.Store c.look_up-looked.new.store) c.look_up-looked.result) c.as_slice.ensures c.look_up-looked.ensures) c.in_ok-plan.plan
-    (planned_at c.in_ok-found.found.view (text_or c.in_ok-found.found.text (contents c.args.default)) _ c.in_ok-mail.mail c.args.envelope c.args.message.now (terms_of c.args.when c.args.default) c.in_ok-plan.plan c.in_ok-mail.ensures c.deciding.ensures c.in_ok-plan.ensures)
+    (planned_at c.in_ok-found.found.view (script_or_default c.in_ok-found.found.text (borrowed_octets c.args.default)) _ c.in_ok-mail.mail c.args.envelope c.args.message.now (terms_of c.args.when c.args.default) c.in_ok-plan.plan c.in_ok-mail.ensures c.deciding.ensures c.in_ok-plan.ensures)
     (state g.S.Store c.carry_out-2.new.store) c.carry_out-2.result c.carry_out-2.ensures.writes c.carry_out-2.ensures.told c.carry_out-2.ensures.named
 
 pub returns-clause-spaced : goal.returns-clause-spaced

@@ -1,18 +1,18 @@
 use Rattle.std.proofs.Common.{◌≡◌, ℕ, List, map, OnOk, IfErr, IfSome, ap, ◌∙◌, subst, rules}
 use Rattle.sqlite.specs.Held.{state}
 use Rattle.octets.specs.Ascii.{lowered}
-use Rattle.addrparts.specs.declared.address.Addr.{Addr}
-use Rattle.addrparts.specs.Outbound.{IsBareAddress}
-use Rattle.mailstore.specs.Account.{Account}
-use Rattle.mailstore.specs.declared.profile.Profile.{Profile}
-use Rattle.mailstore.specs.declared.reply.KeptReply.{KeptReply}
-use Rattle.mailstore.specs.Refusals.{IsTransient}
-use Rattle.mailstore.specs.ReplyRows.{replies_to, kept_reply}
-use Rattle.deliverplan.specs.Views.{moment_under}
-use Rattle.mailengine.specs.Lookups.{IsActiveScript, IsLookup}
-use Rattle.mailengine.proofs.LookupLemmas.{looks_entered, looks_failed}
-use Rattle.mailengine.proofs.KeptLemmas.{kept_under}
-use Rattle.mailengine.proofs.delivery.look_up.Goals as goal
+use Rattle.mail_address.specs.declared.address.Addr.{Addr}
+use Rattle.mail_address.specs.Outbound.{IsBareAddress}
+use Rattle.store_accounts.specs.Account.{Account}
+use Rattle.store_accounts.specs.declared.profile.Profile.{Profile}
+use Rattle.store_accounts.specs.declared.reply.KeptReply.{KeptReply}
+use Rattle.store_accounts.specs.Refusals.{IsTransient}
+use Rattle.store_accounts.specs.ReplyRows.{replies_to, kept_reply}
+use Rattle.sieve_plan.specs.Views.{moment_under}
+use Rattle.store_engine.specs.Lookups.{IsActiveScript, IsLookup}
+use Rattle.store_engine.proofs.LookupLemmas.{looks_entered, looks_failed}
+use Rattle.store_engine.proofs.KeptLemmas.{kept_under}
+use Rattle.store_engine.proofs.delivery.look_up.Goals as goal
 
 abbrev Replies : List ℕ → List KeptReply → Account → Type 0
 Replies sender replies a = replies ≡ map kept_reply (replies_to (lowered sender) a.replies)

@@ -1,15 +1,15 @@
 use Rattle.std.proofs.Common.{◌≡◌, is_some, true, false, OnOk, IfErr, None, subst, sym, ◌∙◌, rules}
 use Rattle.std.specs.FinMap.{empty, insert}
 use Rattle.sqlite.specs.Held.{state}
-use Rattle.accountfiles.specs.Text.{IsAccount}
-use Rattle.mailstore.specs.declared.refusal.Refusal.TheVariants.{Memory}
-use Rattle.mailstore.specs.Promises.{IsFree, Writes, WritesAccount}
-use Rattle.mailstore.specs.Refusals.{IsTransient}
-use Rattle.mailstore.specs.Whole.{whole, takes_whole}
-use Rattle.mailengine.specs.AccountEvents.{IsImportable}
-use Rattle.mailengine.specs.Lookups.{over_standing, ReadsStanding}
-use Rattle.mailengine.proofs.ImportingLemmas.{import_over_refuses, import_transient, import_bad, import_lacks, import_unread, import_over, import_added, import_replaced}
-use Rattle.mailengine.proofs.importing.import.Goals as goal
+use Rattle.store_text.specs.Text.{IsAccount}
+use Rattle.store_accounts.specs.declared.refusal.Refusal.TheVariants.{Memory}
+use Rattle.store_accounts.specs.Promises.{IsFree, WritesStore, WritesAccount}
+use Rattle.store_accounts.specs.Refusals.{IsTransient}
+use Rattle.store_accounts.specs.Whole.{whole, takes_whole}
+use Rattle.store_engine.specs.AccountEvents.{IsImportable}
+use Rattle.store_engine.specs.Lookups.{over_standing, ReadsStanding}
+use Rattle.store_engine.proofs.ImportingLemmas.{import_over_refuses, import_transient, import_bad, import_lacks, import_unread, import_over, import_added, import_replaced}
+use Rattle.store_engine.proofs.importing.import.Goals as goal
 
 pub returns-in_err-is_importable-clause-acts : goal.returns-in_err-is_importable-clause-acts
 returns-in_err-is_importable-clause-acts g c =
@@ -80,7 +80,7 @@ returns-clause-acts g c =
     let mid = state g.S.Store c.read_standing.new.store in
     let end = state g.S.Store c.add_whole.new.self in
     let read = subst (λ u. ReadsStanding u old mid c.read_standing.result) c.as_slice.ensures c.read_standing.ensures in
-    let late = subst (λ ps. Writes (IsFree head.owner.name) (λ all. insert all head.owner.name (whole head ps empty)) mid end c.add_whole.result) c.as_slice-2.ensures c.add_whole.ensures in
+    let late = subst (λ ps. WritesStore (IsFree head.owner.name) (λ all. insert all head.owner.name (whole head ps empty)) mid end c.add_whole.result) c.as_slice-2.ensures c.add_whole.ensures in
     import_added head parts fit old mid c.read_standing.result read c.in_ok-found.found c.in_ok-found.was none end c.add_whole.result late
 
 pub returns-clause-named : goal.returns-clause-named

@@ -1,9 +1,9 @@
 -- The scripts are tested last.
 use Rattle.std.proofs.Common.{◌∙◌, sym, ap, subst, IfOk, MatchBool, rules}
-use Rattle.mailengine.specs.Importable.{HasSoundScripts, have_short_flags}
-use Rattle.mailengine.specs.Limits.{IsOwnAddress, is_user_name}
-use Rattle.mailengine.proofs.ImportLemmas.{tested}
-use Rattle.mailengine.proofs.importing.is_importable.Goals as goal
+use Rattle.store_engine.specs.Importable.{HasSoundScripts, have_short_flags}
+use Rattle.store_engine.specs.Limits.{IsOwnAddress, is_user_name}
+use Rattle.store_engine.proofs.ImportLemmas.{tested}
+use Rattle.store_engine.proofs.importing.is_importable.Goals as goal
 
 pub returns : goal.returns
 returns c =

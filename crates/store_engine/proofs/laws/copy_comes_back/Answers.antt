@@ -1,6 +1,6 @@
 -- A text is that of one account at most.
-use Rattle.mailengine.proofs.CopyLemmas.{copy_named, copy_makes, copy_imported}
-use Rattle.mailengine.proofs.laws.copy_comes_back.Goals as goal
+use Rattle.store_engine.proofs.CopyLemmas.{copy_named, copy_makes, copy_imported}
+use Rattle.store_engine.proofs.laws.copy_comes_back.Goals as goal
 
 pub returns-clause-read : goal.returns-clause-read
 returns-clause-read c = λ text user a head parts copy of. (copy_named text user a head parts copy of, copy_makes text user a head parts copy of)

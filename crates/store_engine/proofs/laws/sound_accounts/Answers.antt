@@ -1,5 +1,5 @@
-use Rattle.mailengine.proofs.SoundLemmas.{next_sound, runs_sound}
-use Rattle.mailengine.proofs.laws.sound_accounts.Goals as goal
+use Rattle.store_engine.proofs.SoundLemmas.{next_sound, runs_sound}
+use Rattle.store_engine.proofs.laws.sound_accounts.Goals as goal
 
 pub returns-clause-next : goal.returns-clause-next
 returns-clause-next c w next event answer sound step = next_sound w next event answer sound step

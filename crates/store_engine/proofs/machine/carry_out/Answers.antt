@@ -1,15 +1,15 @@
 use Rattle.std.proofs.Common.{◌≡◌, refl}
 use Rattle.sqlite.specs.Held.{state}
-use Rattle.mailengine.specs.declared.event.Event.{Event}
-use Rattle.mailengine.specs.declared.event.Event.TheVariants.{Open, Give, Step, GiveUp, Close, Deliver, AddUser, Import, TakeOut, TakeMail, Keep}
-use Rattle.mailengine.specs.declared.answer.Answer.TheVariants.{Delivered, Added, Imported, Taken, MailTaken}
-use Rattle.mailengine.specs.AccountEvents.{Delivery, Addition, Importing, Taking, MailTaking}
-use Rattle.mailengine.specs.Upkeep.{Keeping}
-use Rattle.mailengine.specs.Hosts.{answer_by, answer_of, MayRefuseDelivery, MayRefuseAddition, MayRefuseImport, MayRefuseKeeping}
-use Rattle.mailstore.specs.Refusals.{IsTransient}
-use Rattle.mailengine.proofs.HostLemmas.{told_by, told_done, session_event, account_event, account_crash, delivery_may, addition_may, importing_may, taking_may, mail_taking_may, keeping_may, event_is, crash_is}
-use Rattle.mailengine.specs.Terms.{terms}
-use Rattle.mailengine.proofs.machine.carry_out.Goals as goal
+use Rattle.store_engine.specs.declared.event.Event.{Event}
+use Rattle.store_engine.specs.declared.event.Event.TheVariants.{Open, Give, Step, GiveUp, Close, Deliver, AddUser, Import, TakeOut, TakeMail, Keep}
+use Rattle.store_engine.specs.declared.answer.Answer.TheVariants.{Delivered, Added, Imported, Taken, MailTaken}
+use Rattle.store_engine.specs.AccountEvents.{Delivery, Addition, Importing, Taking, MailTaking}
+use Rattle.store_engine.specs.Upkeep.{Keeping}
+use Rattle.store_engine.specs.Hosts.{answer_by, answer_of, MayRefuseDelivery, MayRefuseAddition, MayRefuseImport, MayRefuseKeeping}
+use Rattle.store_accounts.specs.Refusals.{IsTransient}
+use Rattle.store_engine.proofs.HostLemmas.{told_by, told_done, session_event, account_event, account_crash, delivery_may, addition_may, importing_may, taking_may, mail_taking_may, keeping_may, event_is, crash_is}
+use Rattle.store_engine.specs.Terms.{terms}
+use Rattle.store_engine.proofs.machine.carry_out.Goals as goal
 
 pub returns-in-Open-clause-event : goal.returns-in-Open-clause-event
 returns-in-Open-clause-event g c =
@@ -123,12 +123,12 @@ pub returns-in-Keep-clause-event : goal.returns-in-Keep-clause-event
 returns-in-Keep-clause-event g c =
     let event : Event = Keep c.as_slice-in-Keep.result.now c.in-Keep.upkeep in
     let is : c.args.event.now ≡ event = cc in
-    event_is c.args.event.now event c.answer_of-in-Keep.result (answer_of c.keep.result) (state g.S.Store c.args.store.now) (state g.S.Store c.keep.new.store) c.args.sessions.now c.args.sessions.now is c.answer_of-in-Keep.ensures
-    (account_event event (λ accounts. Keeping accounts c.as_slice-in-Keep.result.now c.in-Keep.upkeep) (MayRefuseKeeping c.in-Keep.upkeep) (λ w answer next made. made) (keeping_may c.as_slice-in-Keep.result.now c.in-Keep.upkeep) (state g.S.Store c.args.store.now) (state g.S.Store c.keep.new.store) c.args.sessions.now (λ answer. answer) c.keep.result c.keep.ensures)
+    event_is c.args.event.now event c.answer_of-in-Keep.result (answer_of c.do_upkeep.result) (state g.S.Store c.args.store.now) (state g.S.Store c.do_upkeep.new.store) c.args.sessions.now c.args.sessions.now is c.answer_of-in-Keep.ensures
+    (account_event event (λ accounts. Keeping accounts c.as_slice-in-Keep.result.now c.in-Keep.upkeep) (MayRefuseKeeping c.in-Keep.upkeep) (λ w answer next made. made) (keeping_may c.as_slice-in-Keep.result.now c.in-Keep.upkeep) (state g.S.Store c.args.store.now) (state g.S.Store c.do_upkeep.new.store) c.args.sessions.now (λ answer. answer) c.do_upkeep.result c.do_upkeep.ensures)
 
 pub returns-in-Keep-clause-crash : goal.returns-in-Keep-clause-crash
 returns-in-Keep-clause-crash g c =
     let event : Event = Keep c.as_slice-in-Keep.result.now c.in-Keep.upkeep in
     let is : c.args.event.now ≡ event = cc in
-    crash_is c.args.event.now event (state g.S.Store c.args.store.now) (state g.S.Store c.keep.new.store) c.args.sessions.now is
-    (account_crash event (λ accounts. Keeping accounts c.as_slice-in-Keep.result.now c.in-Keep.upkeep) (MayRefuseKeeping c.in-Keep.upkeep) (λ w answer next made. made) (keeping_may c.as_slice-in-Keep.result.now c.in-Keep.upkeep) (state g.S.Store c.args.store.now) (state g.S.Store c.keep.new.store) c.args.sessions.now c.keep.result (answer_by (λ answer. answer) c.keep.result) c.keep.ensures)
+    crash_is c.args.event.now event (state g.S.Store c.args.store.now) (state g.S.Store c.do_upkeep.new.store) c.args.sessions.now is
+    (account_crash event (λ accounts. Keeping accounts c.as_slice-in-Keep.result.now c.in-Keep.upkeep) (MayRefuseKeeping c.in-Keep.upkeep) (λ w answer next made. made) (keeping_may c.as_slice-in-Keep.result.now c.in-Keep.upkeep) (state g.S.Store c.args.store.now) (state g.S.Store c.do_upkeep.new.store) c.args.sessions.now c.do_upkeep.result (answer_by (λ answer. answer) c.do_upkeep.result) c.do_upkeep.ensures)

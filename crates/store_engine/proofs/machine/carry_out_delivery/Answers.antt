@@ -1,10 +1,10 @@
 use Rattle.std.proofs.Common.{◌≡◌, None, OnOk, IfErr, sym, ◌∙◌, rules}
 use Rattle.sqlite.specs.Held.{state}
-use Rattle.mailstore.specs.Refusals.{IsTransient}
-use Rattle.mailengine.specs.Limits.{limit_refusal}
-use Rattle.mailengine.proofs.DeliveryLemmas.{delivery_limited, delivery_lacks}
-use Rattle.mailengine.specs.Terms.{terms}
-use Rattle.mailengine.proofs.machine.carry_out_delivery.Goals as goal
+use Rattle.store_accounts.specs.Refusals.{IsTransient}
+use Rattle.store_engine.specs.Limits.{limit_refusal}
+use Rattle.store_engine.proofs.DeliveryLemmas.{delivery_limited, delivery_lacks}
+use Rattle.store_engine.specs.Terms.{terms}
+use Rattle.store_engine.proofs.machine.carry_out_delivery.Goals as goal
 
 pub returns-in-Some : goal.returns-in-Some
 returns-in-Some g c = delivery_limited c.args.user.now c.args.envelope.now c.args.message.now (terms c.args.when c.args.default.now) (state g.S.Store c.args.store.now) c.in-Some.refusal (sym c.limit_refusal.ensures ∙ c.in-Some.is)

@@ -1,10 +1,10 @@
 use Rattle.std.proofs.Common.{◌≡◌, sym, subst}
 use Rattle.std.specs.Prelude.{IfSome}
-use Rattle.mailengine.specs.declared.event.Event.{Event}
-use Rattle.mailengine.specs.declared.event.Event.TheVariants.{Open, Give, Step, GiveUp, Close}
-use Rattle.mailengine.specs.Hosts.{IsSessionEvent, answer_of}
-use Rattle.mailengine.proofs.HostLemmas.{session_is}
-use Rattle.mailengine.proofs.machine.carry_out_free.Goals as goal
+use Rattle.store_engine.specs.declared.event.Event.{Event}
+use Rattle.store_engine.specs.declared.event.Event.TheVariants.{Open, Give, Step, GiveUp, Close}
+use Rattle.store_engine.specs.Hosts.{IsSessionEvent, answer_of}
+use Rattle.store_engine.proofs.HostLemmas.{session_is}
+use Rattle.store_engine.proofs.machine.carry_out_free.Goals as goal
 
 pub returns-in-Open-clause-made : goal.returns-in-Open-clause-made
 returns-in-Open-clause-made c =

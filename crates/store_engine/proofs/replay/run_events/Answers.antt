@@ -1,15 +1,15 @@
 use Rattle.std.proofs.Common.{◌≡◌, ◌+◌, [], ◌∷◌, ◌++◌, length, refl, sym, ◌∙◌, ap, subst, rules}
 use Rattle.std.proofs.lemmas.List.{length_push}
 use Rattle.sqlite.specs.Held.{state}
-use Rattle.mailtables.proofs.WriteLemmas.{clean_before}
-use Rattle.mailengine.specs.Hosts.{host_with, host_of, IsRun}
-use Rattle.mailengine.proofs.RunLemmas.{run_none, run_goes, run_counted, crash_goes}
-use Rattle.mailengine.proofs.replay.run_events.Goals as goal
+use Rattle.store_tables.proofs.WriteLemmas.{clean_before}
+use Rattle.store_engine.specs.Hosts.{host_with, host_of, IsHostRun}
+use Rattle.store_engine.proofs.RunLemmas.{run_none, run_goes, run_counted, crash_goes}
+use Rattle.store_engine.proofs.replay.run_events.Goals as goal
 
 pub loop-event-init : goal.loop-event-init
 loop-event-init g c = record {
   answered = ap length c.new-answers.ensures.items;
-  ran = subst (λ l. IsRun [] l (host_of g.S.Store c.args.world.now) (host_of g.S.Store c.args.world.now)) (sym c.new-answers.ensures.items) (run_none (host_of g.S.Store c.args.world.now));
+  ran = subst (λ l. IsHostRun [] l (host_of g.S.Store c.args.world.now) (host_of g.S.Store c.args.world.now)) (sym c.new-answers.ensures.items) (run_none (host_of g.S.Store c.args.world.now));
   crash = search rules;
 }
 

@@ -1,8 +1,8 @@
 use Rattle.std.proofs.Common.{◌≡◌, Ok, Some, OnOk, IfErr, rules}
 use Rattle.sqlite.specs.Held.{state}
-use Rattle.mailstore.specs.Refusals.{IsTransient}
-use Rattle.mailengine.proofs.StandingLemmas.{standing_none, standing_unread, standing_unseen, standing_seen}
-use Rattle.mailengine.proofs.standing.read_standing.Goals as goal
+use Rattle.store_accounts.specs.Refusals.{IsTransient}
+use Rattle.store_engine.proofs.StandingLemmas.{standing_none, standing_unread, standing_unseen, standing_seen}
+use Rattle.store_engine.proofs.standing.read_standing.Goals as goal
 
 pub returns-in_err-profile : goal.returns-in_err-profile
 returns-in_err-profile g c =

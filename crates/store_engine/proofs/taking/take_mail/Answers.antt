@@ -1,7 +1,7 @@
 use Rattle.std.proofs.Common.{◌≡◌, Err, rules}
 use Rattle.sqlite.specs.Held.{state}
-use Rattle.mailengine.proofs.MailTakingLemmas.{mail_unread, mail_none, mail_written}
-use Rattle.mailengine.proofs.taking.take_mail.Goals as goal
+use Rattle.store_engine.proofs.MailTakingLemmas.{mail_unread, mail_none, mail_written}
+use Rattle.store_engine.proofs.taking.take_mail.Goals as goal
 
 pub returns-in_err-first-clause-acts : goal.returns-in_err-first-clause-acts
 returns-in_err-first-clause-acts g c =

@@ -1,7 +1,7 @@
 use Rattle.std.proofs.Common.{◌≡◌, Err, rules}
 use Rattle.sqlite.specs.Held.{state}
-use Rattle.mailengine.proofs.TakingLemmas.{taking_unread, taking_none, taking_made, taking_undone}
-use Rattle.mailengine.proofs.taking.take_out.Goals as goal
+use Rattle.store_engine.proofs.TakingLemmas.{taking_unread, taking_none, taking_made, taking_undone}
+use Rattle.store_engine.proofs.taking.take_out.Goals as goal
 
 pub returns-in_err-row-clause-acts : goal.returns-in_err-row-clause-acts
 returns-in_err-row-clause-acts g c =

@@ -1,12 +1,12 @@
 use Rattle.std.proofs.Common.{◌≡◌, Err, rules}
 use Rattle.sqlite.specs.Held.{state}
-use Rattle.mailstore.specs.Account.{Account, closes}
-use Rattle.mailstore.specs.AccountRows.{profile_of}
-use Rattle.mailstore.specs.declared.profile.Profile.{Profile}
-use Rattle.mailengine.specs.declared.answer.Answer.TheVariants.{Closed}
-use Rattle.mailengine.specs.declared.upkeep.Upkeep.TheVariants.{CloseAccount}
-use Rattle.mailengine.proofs.KeepingLemmas.{opened_unread, opened_written, close_shut, close_makes}
-use Rattle.mailengine.proofs.upkeep.close_account.Goals as goal
+use Rattle.store_accounts.specs.Account.{Account, closes}
+use Rattle.store_accounts.specs.AccountRows.{profile_of}
+use Rattle.store_accounts.specs.declared.profile.Profile.{Profile}
+use Rattle.store_engine.specs.declared.answer.Answer.TheVariants.{Closed}
+use Rattle.store_engine.specs.declared.upkeep.Upkeep.TheVariants.{CloseAccount}
+use Rattle.store_engine.proofs.KeepingLemmas.{opened_unread, opened_written, close_shut, close_makes}
+use Rattle.store_engine.proofs.upkeep.close_account.Goals as goal
 
 abbrev Known : Profile → Account → Type 0
 Known profile a = profile ≡ profile_of a

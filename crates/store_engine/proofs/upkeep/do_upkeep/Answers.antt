@@ -1,9 +1,9 @@
 use Rattle.std.proofs.Common.{◌≡◌, sym, subst}
 use Rattle.sqlite.specs.Held.{state}
-use Rattle.mailengine.specs.declared.upkeep.Upkeep.{Upkeep}
-use Rattle.mailengine.specs.declared.upkeep.Upkeep.TheVariants.{SetPassword, SetAddress, StoreScript, CloseAccount, OpenAccount, RemoveAccount, TakeNotices}
-use Rattle.mailengine.specs.Hosts.{ActsKeeping}
-use Rattle.mailengine.proofs.upkeep.keep.Goals as goal
+use Rattle.store_engine.specs.declared.upkeep.Upkeep.{Upkeep}
+use Rattle.store_engine.specs.declared.upkeep.Upkeep.TheVariants.{SetPassword, SetAddress, StoreScript, CloseAccount, OpenAccount, RemoveAccount, TakeNotices}
+use Rattle.store_engine.specs.Hosts.{ActsKeeping}
+use Rattle.store_engine.proofs.upkeep.do_upkeep.Goals as goal
 
 pub returns-in-SetPassword : goal.returns-in-SetPassword
 returns-in-SetPassword g c =

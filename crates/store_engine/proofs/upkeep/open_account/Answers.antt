@@ -1,13 +1,13 @@
 use Rattle.std.proofs.Common.{OnOk, IfErr, sym, ◌∙◌, inl, inr, rules}
 use Rattle.sqlite.specs.Held.{state}
-use Rattle.mailstore.specs.Account.{opens}
-use Rattle.mailstore.specs.Refusals.{IsTransient}
-use Rattle.mailstore.specs.declared.refusal.Refusal.TheVariants.{NoUser, UserIsOpen}
-use Rattle.mailengine.specs.declared.answer.Answer.TheVariants.{Opened}
-use Rattle.mailengine.specs.declared.upkeep.Upkeep.TheVariants.{OpenAccount}
-use Rattle.mailengine.specs.Upkeep.{rounds}
-use Rattle.mailengine.proofs.KeepingLemmas.{standing_failed, standing_refused, standing_written, open_unknown, open_there_already, open_makes}
-use Rattle.mailengine.proofs.upkeep.open_account.Goals as goal
+use Rattle.store_accounts.specs.Account.{opens}
+use Rattle.store_accounts.specs.Refusals.{IsTransient}
+use Rattle.store_accounts.specs.declared.refusal.Refusal.TheVariants.{NoUser, UserIsOpen}
+use Rattle.store_engine.specs.declared.answer.Answer.TheVariants.{Opened}
+use Rattle.store_engine.specs.declared.upkeep.Upkeep.TheVariants.{OpenAccount}
+use Rattle.store_engine.specs.Upkeep.{rounds}
+use Rattle.store_engine.proofs.KeepingLemmas.{standing_failed, standing_refused, standing_written, open_unknown, open_there_already, open_makes}
+use Rattle.store_engine.proofs.upkeep.open_account.Goals as goal
 
 pub returns-in_err-standing : goal.returns-in_err-standing
 returns-in_err-standing g c =

@@ -1,8 +1,8 @@
 use Rattle.std.proofs.Common.{sym, subst}
 use Rattle.sqlite.specs.Held.{state}
-use Rattle.mailstore.specs.Promises.{WritesUser}
-use Rattle.mailengine.specs.Upkeep.{stores}
-use Rattle.mailengine.proofs.upkeep.put.Goals as goal
+use Rattle.store_accounts.specs.Promises.{WritesUser}
+use Rattle.store_engine.specs.Upkeep.{stores}
+use Rattle.store_engine.proofs.upkeep.put.Goals as goal
 
 pub returns-then-activate : goal.returns-then-activate
 returns-then-activate g c =

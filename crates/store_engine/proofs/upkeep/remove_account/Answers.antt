@@ -1,12 +1,12 @@
 use Rattle.std.proofs.Common.{◌≡◌, ◌&&◌, not, true, false, OnOk, IfErr, sym, ◌∙◌, inl, inr, rules}
 use Rattle.sqlite.specs.Held.{state}
-use Rattle.mailstore.specs.Account.{removes}
-use Rattle.mailstore.specs.Refusals.{IsTransient}
-use Rattle.mailstore.specs.declared.refusal.Refusal.TheVariants.{NoUser, UserHasMail}
-use Rattle.mailengine.specs.declared.answer.Answer.TheVariants.{Removed}
-use Rattle.mailengine.specs.declared.upkeep.Upkeep.TheVariants.{RemoveAccount}
-use Rattle.mailengine.proofs.KeepingLemmas.{standing_failed, standing_refused, standing_written, remove_unknown, remove_full, remove_makes}
-use Rattle.mailengine.proofs.upkeep.remove_account.Goals as goal
+use Rattle.store_accounts.specs.Account.{removes}
+use Rattle.store_accounts.specs.Refusals.{IsTransient}
+use Rattle.store_accounts.specs.declared.refusal.Refusal.TheVariants.{NoUser, UserHasMail}
+use Rattle.store_engine.specs.declared.answer.Answer.TheVariants.{Removed}
+use Rattle.store_engine.specs.declared.upkeep.Upkeep.TheVariants.{RemoveAccount}
+use Rattle.store_engine.proofs.KeepingLemmas.{standing_failed, standing_refused, standing_written, remove_unknown, remove_full, remove_makes}
+use Rattle.store_engine.proofs.upkeep.remove_account.Goals as goal
 
 pub returns-in_err-standing : goal.returns-in_err-standing
 returns-in_err-standing g c =

@@ -1,16 +1,16 @@
 use Rattle.std.proofs.Common.{◌≡◌, true, Err, sym, ◌∙◌, subst, rules}
 use Rattle.sqlite.specs.Held.{state}
-use Rattle.mailstore.specs.declared.refusal.Refusal.TheVariants.{BadUser}
-use Rattle.mailstore.specs.Account.{Account, guards}
-use Rattle.mailstore.specs.AccountRows.{profile_of}
-use Rattle.mailstore.specs.declared.profile.Profile.{Profile}
-use Rattle.mailstore.specs.Promises.{WritesUser}
-use Rattle.mailengine.specs.declared.answer.Answer.TheVariants.{Changed}
-use Rattle.mailengine.specs.declared.upkeep.Upkeep.TheVariants.{SetPassword}
-use Rattle.mailengine.specs.Limits as limits
-use Rattle.mailengine.specs.Upkeep.{kept_password}
-use Rattle.mailengine.proofs.KeepingLemmas.{keeping_unfit, opened_unread, opened_written, password_bad, password_shut, password_makes}
-use Rattle.mailengine.proofs.upkeep.set_password.Goals as goal
+use Rattle.store_accounts.specs.declared.refusal.Refusal.TheVariants.{BadUser}
+use Rattle.store_accounts.specs.Account.{Account, changes_password}
+use Rattle.store_accounts.specs.AccountRows.{profile_of}
+use Rattle.store_accounts.specs.declared.profile.Profile.{Profile}
+use Rattle.store_accounts.specs.Promises.{WritesUser}
+use Rattle.store_engine.specs.declared.answer.Answer.TheVariants.{Changed}
+use Rattle.store_engine.specs.declared.upkeep.Upkeep.TheVariants.{SetPassword}
+use Rattle.store_engine.specs.Limits as limits
+use Rattle.store_engine.specs.Upkeep.{kept_password}
+use Rattle.store_engine.proofs.KeepingLemmas.{keeping_unfit, opened_unread, opened_written, password_bad, password_shut, password_makes}
+use Rattle.store_engine.proofs.upkeep.set_password.Goals as goal
 
 abbrev Known : Profile → Account → Type 0
 Known profile a = profile ≡ profile_of a
@@ -34,6 +34,6 @@ returns g c =
     let fit : limits.is_password c.args.password.now ≡ true = sym c.is_password.ensures ∙ c.if-not-is_password.false in
     let mid = state g.S.Store c.profile.new.store in
     let end = state g.S.Store c.set_password-changed.new.self in
-    let late = subst (λ d. WritesUser user (guards (record { salt = salt; rounds = 10000; digest = d })) mid end c.set_password-changed.result) c.digest-digest.ensures c.set_password-changed.ensures in
-    opened_written user (SetPassword salt password) fit (password_shut salt password fit) Known (state g.S.Store c.args.store.now) mid c.profile.result c.in_ok-profile.field-0 c.in_ok-profile.was c.profile.ensures (guards (kept_password salt password)) Changed
+    let late = subst (λ d. WritesUser user (changes_password (record { salt = salt; rounds = 10000; digest = d })) mid end c.set_password-changed.result) c.digest-digest.ensures c.set_password-changed.ensures in
+    opened_written user (SetPassword salt password) fit (password_shut salt password fit) Known (state g.S.Store c.args.store.now) mid c.profile.result c.in_ok-profile.field-0 c.in_ok-profile.was c.profile.ensures (changes_password (kept_password salt password)) Changed
     (λ o account is fits. password_makes salt password fit o account is) end c.set_password-changed.result late c.and.result c.and.ensures

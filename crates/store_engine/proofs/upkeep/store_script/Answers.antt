@@ -1,15 +1,15 @@
 use Rattle.std.proofs.Common.{◌≡◌, ◌∙◌, ℕ, List, Err, Some, None, OnOk, IfErr, arith, rules}
 use Rattle.std.specs.FinMap.{keys}
 use Rattle.sqlite.specs.Held.{state}
-use Rattle.mailstore.specs.Account.{Account}
-use Rattle.mailstore.specs.Refusals.{IsTransient}
-use Rattle.mailstore.specs.declared.refusal.Refusal.TheVariants.{BadScriptName, ScriptTooLarge, TooManyScripts}
-use Rattle.sessions.specs.Scripts.{IsVerdict}
-use Rattle.mailengine.specs.declared.answer.Answer.TheVariants.{Invalid, Stored}
-use Rattle.mailengine.specs.declared.upkeep.Upkeep.TheVariants.{StoreScript}
-use Rattle.mailengine.specs.Upkeep.{stores}
-use Rattle.mailengine.proofs.KeepingLemmas.{keeping_unfit, opened_unread, opened_failed, opened_refused, opened_said, opened_written, name_bad, text_bad, script_shut, script_many, script_faulty, script_makes}
-use Rattle.mailengine.proofs.upkeep.store_script.Goals as goal
+use Rattle.store_accounts.specs.Account.{Account}
+use Rattle.store_accounts.specs.Refusals.{IsTransient}
+use Rattle.store_accounts.specs.declared.refusal.Refusal.TheVariants.{BadScriptName, ScriptTooLarge, TooManyScripts}
+use Rattle.managesieve_sessions.specs.Scripts.{IsVerdict}
+use Rattle.store_engine.specs.declared.answer.Answer.TheVariants.{Invalid, Stored}
+use Rattle.store_engine.specs.declared.upkeep.Upkeep.TheVariants.{StoreScript}
+use Rattle.store_engine.specs.Upkeep.{stores}
+use Rattle.store_engine.proofs.KeepingLemmas.{keeping_unfit, opened_unread, opened_failed, opened_refused, opened_said, opened_written, name_bad, text_bad, script_shut, script_many, script_faulty, script_makes}
+use Rattle.store_engine.proofs.upkeep.store_script.Goals as goal
 
 abbrev Names : List (List ℕ) → Account → Type 0
 Names names a = names ≡ keys a.scripts

@@ -1,13 +1,13 @@
 use Rattle.std.proofs.Common.{◌≡◌, is_some, true, false, OnOk, IfErr, None, subst, sym, ◌∙◌, rules}
 use Rattle.sqlite.specs.Held.{state}
-use Rattle.mailstore.specs.declared.refusal.Refusal.TheVariants.{Memory}
-use Rattle.mailstore.specs.Account.{new_user, renews}
-use Rattle.mailstore.specs.Promises.{IsFree, Writes, WritesUser}
-use Rattle.mailstore.specs.Refusals.{IsTransient}
-use Rattle.mailengine.specs.Limits.{IsNewUser}
-use Rattle.mailengine.specs.Lookups.{over_standing}
-use Rattle.mailengine.proofs.UserLemmas.{over_refuses, transient_refuses, addition_bad, addition_lacks, addition_unread, addition_over, addition_written, addition_renewed}
-use Rattle.mailengine.proofs.user.add_user.Goals as goal
+use Rattle.store_accounts.specs.declared.refusal.Refusal.TheVariants.{Memory}
+use Rattle.store_accounts.specs.Account.{new_user, renews}
+use Rattle.store_accounts.specs.Promises.{IsFree, WritesStore, WritesUser}
+use Rattle.store_accounts.specs.Refusals.{IsTransient}
+use Rattle.store_engine.specs.Limits.{IsNewUser}
+use Rattle.store_engine.specs.Lookups.{over_standing}
+use Rattle.store_engine.proofs.UserLemmas.{over_refuses, transient_refuses, addition_bad, addition_lacks, addition_unread, addition_over, addition_written, addition_renewed}
+use Rattle.store_engine.proofs.user.add_user.Goals as goal
 
 pub returns-in_err-is_new_user-clause-acts : goal.returns-in_err-is_new_user-clause-acts
 returns-in_err-is_new_user-clause-acts g c =
@@ -65,7 +65,7 @@ returns-clause-acts g c =
     let none : is_some c.in_ok-found.found ≡ false = sym c.is_some.ensures ∙ c.if-is_some.false in
     let mid = state g.S.Store c.read_standing.new.store in
     let end = state g.S.Store c.add_user.new.self in
-    let late = subst (λ d. Writes (IsFree name) (new_user name address salt 10000 d) mid end c.add_user.result) c.digest-digest.ensures c.add_user.ensures.writes in
+    let late = subst (λ d. WritesStore (IsFree name) (new_user name address salt 10000 d) mid end c.add_user.result) c.digest-digest.ensures c.add_user.ensures.writes in
     addition_written name address salt c.args.password.now new (state g.S.Store c.args.store.now) mid c.read_standing.result c.read_standing.ensures c.in_ok-found.found c.in_ok-found.was none end c.add_user.result late
 
 pub returns-clause-named : goal.returns-clause-named

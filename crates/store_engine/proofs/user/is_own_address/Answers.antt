@@ -1,5 +1,5 @@
 use Rattle.std.proofs.Common.{◌≡◌, Some}
-use Rattle.mailengine.proofs.user.is_own_address.Goals as goal
+use Rattle.store_engine.proofs.user.is_own_address.Goals as goal
 
 pub returns : goal.returns
 returns c own =

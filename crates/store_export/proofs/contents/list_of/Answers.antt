@@ -1,29 +1,29 @@
 use Rattle.std.proofs.Common.{◌≡◌, ℕ, List, [], OnOk, IfErr, rules}
 use Rattle.sqlite.specs.Held.{state}
 use Rattle.sqlite.specs.Effect.{Database}
-use Rattle.mailtables.specs.Rows.{Tables, HoldsTables}
-use Rattle.mailtables.specs.Schema.{mail_schema}
-use Rattle.mailstore.specs.declared.account.Counters.{Counters}
-use Rattle.mailstore.specs.declared.profile.Profile.{Profile}
-use Rattle.mailstore.specs.Account.{Account}
-use Rattle.mailstore.specs.AccountRows.{profile_of}
-use Rattle.mailstore.specs.Listing.{AreCountersOf}
-use Rattle.mailstore.specs.Refusals.{IsTransient}
-use Rattle.mailstore.specs.Shows.{rows_of}
-use Rattle.mailstore.proofs.EnterLemmas.{entered_again}
-use Rattle.mailstore.proofs.KeepLemmas.{none_if}
-use Rattle.accountcopies.specs.declared.contents.Contents.{Contents}
-use Rattle.accountcopies.specs.declared.place.Place.{Place}
-use Rattle.accountcopies.specs.Places.{ArePlaces}
-use Rattle.accountcopies.specs.Reading.{AreRead}
-use Rattle.accountcopies.proofs.KeptLemmas.{Both, among_entered, learned, learned_answer, learned_failed, learned_then}
-use Rattle.accountcopies.proofs.ListingLemmas.{begins_read}
-use Rattle.accountcopies.proofs.contents.list_of.Goals as goal
+use Rattle.store_tables.specs.Rows.{Tables, HoldsTables}
+use Rattle.store_tables.specs.Schema.{mail_schema}
+use Rattle.store_accounts.specs.declared.account.Counters.{Counters}
+use Rattle.store_accounts.specs.declared.profile.Profile.{Profile}
+use Rattle.store_accounts.specs.Account.{Account}
+use Rattle.store_accounts.specs.AccountRows.{profile_of}
+use Rattle.store_accounts.specs.Listing.{AreCountersOf}
+use Rattle.store_accounts.specs.Refusals.{IsTransient}
+use Rattle.store_accounts.specs.Shows.{rows_of}
+use Rattle.store_accounts.proofs.EnterLemmas.{entered_again}
+use Rattle.store_accounts.proofs.KeepLemmas.{none_if}
+use Rattle.store_export.specs.declared.contents.Contents.{Contents}
+use Rattle.store_export.specs.declared.place.PartPlace.{PartPlace}
+use Rattle.store_export.specs.Places.{ArePlaces}
+use Rattle.store_export.specs.Reading.{AreRead}
+use Rattle.store_export.proofs.KeptLemmas.{Both, among_entered, learned, learned_answer, learned_failed, learned_then}
+use Rattle.store_export.proofs.ListingLemmas.{begins_read}
+use Rattle.store_export.proofs.contents.list_of.Goals as goal
 
 abbrev Counted : List ℕ → Counters → Database → Account → Type 0
 Counted user c db account = (tables : Tables) → HoldsTables mail_schema db tables → AreCountersOf c (rows_of user tables)
 
-abbrev Placed : List ℕ → List Place → Database → Account → Type 0
+abbrev Placed : List ℕ → List PartPlace → Database → Account → Type 0
 Placed user places db account = ArePlaces user places db account
 
 abbrev Begins : Profile → Database → Contents → Account → Type 0

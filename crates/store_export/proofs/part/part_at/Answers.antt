@@ -1,8 +1,8 @@
 use Rattle.std.proofs.Common.{sym, subst}
 use Rattle.sqlite.specs.Held.{state}
-use Rattle.mailstore.specs.Promises.{ReadsEntered}
-use Rattle.accountcopies.specs.Saying.{SaysAt}
-use Rattle.accountcopies.proofs.part.part_at.Goals as goal
+use Rattle.store_accounts.specs.Promises.{ReadsEntered}
+use Rattle.store_export.specs.Saying.{SaysAt}
+use Rattle.store_export.proofs.part.part_at.Goals as goal
 
 pub returns-in-Mail : goal.returns-in-Mail
 returns-in-Mail g c =

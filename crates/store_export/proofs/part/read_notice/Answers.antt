@@ -1,14 +1,14 @@
 use Rattle.sqlite.specs.Held.{state}
-use Rattle.mailtables.specs.Rows.{Tables, HoldsTables}
-use Rattle.mailtables.specs.Schema.{mail_schema}
-use Rattle.mailstore.specs.Listing.{IsNoticeOf}
-use Rattle.mailstore.specs.Shows.{rows_of}
-use Rattle.mailstore.proofs.EnterLemmas.{entered_other}
-use Rattle.accountcopies.specs.declared.place.Place.TheVariants as place
-use Rattle.accountcopies.specs.Saying.{SaysAt}
-use Rattle.accountcopies.proofs.KeptLemmas.{among_entered}
-use Rattle.accountcopies.proofs.SayingLemmas.{said_notice}
-use Rattle.accountcopies.proofs.part.read_notice.Goals as goal
+use Rattle.store_tables.specs.Rows.{Tables, HoldsTables}
+use Rattle.store_tables.specs.Schema.{mail_schema}
+use Rattle.store_accounts.specs.Listing.{IsNoticeOf}
+use Rattle.store_accounts.specs.Shows.{rows_of}
+use Rattle.store_accounts.proofs.EnterLemmas.{entered_other}
+use Rattle.store_export.specs.declared.place.PartPlace.TheVariants as place
+use Rattle.store_export.specs.Saying.{SaysAt}
+use Rattle.store_export.proofs.KeptLemmas.{among_entered}
+use Rattle.store_export.proofs.SayingLemmas.{said_notice}
+use Rattle.store_export.proofs.part.read_notice.Goals as goal
 
 pub returns : goal.returns
 returns g c =

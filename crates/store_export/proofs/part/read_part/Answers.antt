@@ -1,13 +1,13 @@
 use Rattle.std.proofs.Common.{◌≡◌, ◌∙◌, Ok, Err, Some, slice_get, get_or, ap, inr, refl, sym, subst}
 use Rattle.std.proofs.lemmas.Option.{slice_get-get_or}
 use Rattle.sqlite.specs.Held.{state}
-use Rattle.mailstore.specs.declared.refusal.Refusal.TheVariants.{Store}
-use Rattle.mailstore.specs.Promises.{ReadsEntered}
-use Rattle.mailstore.proofs.EnterLemmas.{entered_other}
-use Rattle.accountcopies.specs.Reading.{IsNextPart}
-use Rattle.accountcopies.specs.Saying.{SaysAt}
-use Rattle.accountcopies.proofs.PartLemmas.{next_part}
-use Rattle.accountcopies.proofs.part.read_part.Goals as goal
+use Rattle.store_accounts.specs.declared.refusal.Refusal.TheVariants.{Store}
+use Rattle.store_accounts.specs.Promises.{ReadsEntered}
+use Rattle.store_accounts.proofs.EnterLemmas.{entered_other}
+use Rattle.store_export.specs.Reading.{IsNextPart}
+use Rattle.store_export.specs.Saying.{SaysAt}
+use Rattle.store_export.proofs.PartLemmas.{next_part}
+use Rattle.store_export.proofs.part.read_part.Goals as goal
 
 pub returns-then-not-may_have : goal.returns-then-not-may_have
 returns-then-not-may_have g c =

@@ -1,12 +1,12 @@
 use Rattle.sqlite.specs.Held.{state}
-use Rattle.mailtables.specs.Rows.{Tables, HoldsTables}
-use Rattle.mailtables.specs.Schema.{mail_schema}
-use Rattle.mailstore.specs.Listing.{AreNoticeNumbersOf}
-use Rattle.mailstore.specs.Shows.{rows_of}
-use Rattle.mailstore.proofs.EnterLemmas.{entered_other}
-use Rattle.accountcopies.proofs.KeptLemmas.{among_entered}
-use Rattle.accountcopies.proofs.ListingLemmas.{HasNotices, notices_placed}
-use Rattle.accountcopies.proofs.place.list_notices.Goals as goal
+use Rattle.store_tables.specs.Rows.{Tables, HoldsTables}
+use Rattle.store_tables.specs.Schema.{mail_schema}
+use Rattle.store_accounts.specs.Listing.{AreNoticeNumbersOf}
+use Rattle.store_accounts.specs.Shows.{rows_of}
+use Rattle.store_accounts.proofs.EnterLemmas.{entered_other}
+use Rattle.store_export.proofs.KeptLemmas.{among_entered}
+use Rattle.store_export.proofs.ListingLemmas.{HasNotices, notices_placed}
+use Rattle.store_export.proofs.place.list_notices.Goals as goal
 
 pub returns : goal.returns
 returns g c =

@@ -1,11 +1,11 @@
 use Rattle.std.proofs.Common.{Ok, OnOk, IfErr, rules}
 use Rattle.sqlite.specs.Held.{state}
-use Rattle.mailstore.specs.Refusals.{IsTransient}
-use Rattle.mailstore.proofs.EnterLemmas.{entered_again}
-use Rattle.accountcopies.specs.Places.{ArePlaces}
-use Rattle.accountcopies.proofs.KeptLemmas.{Both, learned, learned_answer, learned_failed, learned_then}
-use Rattle.accountcopies.proofs.ListingLemmas.{HasScripts, HasReplies, HasCopies, HasLetters, HasNotices, all_placed}
-use Rattle.accountcopies.proofs.place.list_places.Goals as goal
+use Rattle.store_accounts.specs.Refusals.{IsTransient}
+use Rattle.store_accounts.proofs.EnterLemmas.{entered_again}
+use Rattle.store_export.specs.Places.{ArePlaces}
+use Rattle.store_export.proofs.KeptLemmas.{Both, learned, learned_answer, learned_failed, learned_then}
+use Rattle.store_export.proofs.ListingLemmas.{HasScripts, HasReplies, HasCopies, HasLetters, HasNotices, all_placed}
+use Rattle.store_export.proofs.place.list_places.Goals as goal
 
 pub returns-in_err-list_scripts : goal.returns-in_err-list_scripts
 returns-in_err-list_scripts g c =

@@ -1,8 +1,8 @@
 use Rattle.std.proofs.Common.{◌≡◌, ◌++◌, ◌∷◌, ◌∙◌, [], None, Some, append_assoc, sym, ap}
-use Rattle.accountcopies.specs.Parts.{run_with}
-use Rattle.accountcopies.specs.Places.{copy_place, copy_places}
-use Rattle.accountcopies.proofs.RunLemmas.{run_after, run_after-append, copy_places-append}
-use Rattle.accountcopies.proofs.place.push_copies.Goals as goal
+use Rattle.store_export.specs.Parts.{run_with}
+use Rattle.store_export.specs.Places.{copy_place, copy_places}
+use Rattle.store_export.proofs.RunLemmas.{run_after, run_after-append, copy_places-append}
+use Rattle.store_export.proofs.place.push_copies.Goals as goal
 
 pub loop-copy-preserved : goal.loop-copy-preserved
 loop-copy-preserved c =

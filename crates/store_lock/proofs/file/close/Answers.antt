@@ -1,6 +1,6 @@
 -- What SQLite answered, as it answered it.
-use Rattle.keepers.specs.Closing.{was_answered}
-use Rattle.keepers.proofs.file.close.Goals as goal
+use Rattle.store_lock.specs.Closing.{was_answered}
+use Rattle.store_lock.proofs.file.close.Goals as goal
 
 pub returns : goal.returns
 returns c = was_answered c.args.conn c.close.result

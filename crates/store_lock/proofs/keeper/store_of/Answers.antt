@@ -1,11 +1,11 @@
 use Rattle.std.proofs.Common.{◌≡◌}
 use Rattle.sqlite.specs.Held.{state}
 use Rattle.sqlite.specs.State.{HasCleanDisk}
-use Rattle.mailstore.specs.Schema.{mail_schema}
-use Rattle.mailstore.specs.Connection.{StaysSame}
-use Rattle.mailstore.specs.Opening.{IsKnown}
-use Rattle.keepers.proofs.TakenLemmas.{same_if, if_stale}
-use Rattle.keepers.proofs.keeper.store_of.Goals as goal
+use Rattle.store_accounts.specs.Schema.{mail_schema}
+use Rattle.store_accounts.specs.Connection.{StaysSame}
+use Rattle.store_accounts.specs.Opening.{IsKnown}
+use Rattle.store_lock.proofs.TakenLemmas.{same_if, if_stale}
+use Rattle.store_lock.proofs.keeper.store_of.Goals as goal
 
 pub returns-else-fresh-clause-same : goal.returns-else-fresh-clause-same
 returns-else-fresh-clause-same g c =

@@ -1,6 +1,6 @@
-use Rattle.mailtables.proofs.WriteLemmas.{statement_makes}
-use Rattle.mailtables.proofs.StatementLemmas.{inserts_account}
-use Rattle.mailtables.proofs.account.add_account.Goals as goal
+use Rattle.store_tables.proofs.WriteLemmas.{statement_makes}
+use Rattle.store_tables.proofs.StatementLemmas.{inserts_account}
+use Rattle.store_tables.proofs.account.add_account.Goals as goal
 
 pub returns : goal.returns
 returns g c =

@@ -1,10 +1,10 @@
 use Rattle.std.proofs.Common.{refl}
-use Rattle.mailtables.specs.Schema.{schema_1}
-use Rattle.mailtables.specs.AccountTable.{account, create_account}
-use Rattle.mailtables.proofs.WriteLemmas.{statement_makes}
-use Rattle.mailtables.proofs.SchemaFacts.{account_defined, account_creates}
-use Rattle.mailtables.proofs.CreateLemmas.{creates}
-use Rattle.mailtables.proofs.account.make_account.Goals as goal
+use Rattle.store_tables.specs.Schema.{schema_1}
+use Rattle.store_tables.specs.AccountTable.{account, create_account}
+use Rattle.store_tables.proofs.WriteLemmas.{statement_makes}
+use Rattle.store_tables.proofs.SchemaFacts.{account_defined, account_creates}
+use Rattle.store_tables.proofs.CreateLemmas.{creates}
+use Rattle.store_tables.proofs.account.make_account.Goals as goal
 
 pub returns : goal.returns
 returns g c =

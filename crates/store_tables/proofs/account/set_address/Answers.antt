@@ -1,6 +1,6 @@
-use Rattle.mailtables.proofs.WriteLemmas.{statement_makes}
-use Rattle.mailtables.proofs.StatementLemmas.{sets_address}
-use Rattle.mailtables.proofs.account.set_address.Goals as goal
+use Rattle.store_tables.proofs.WriteLemmas.{statement_makes}
+use Rattle.store_tables.proofs.StatementLemmas.{sets_address}
+use Rattle.store_tables.proofs.account.set_address.Goals as goal
 
 pub returns : goal.returns
 returns g c =

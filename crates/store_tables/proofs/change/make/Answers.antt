@@ -1,4 +1,4 @@
-use Rattle.mailtables.proofs.change.make.Goals as goal
+use Rattle.store_tables.proofs.change.make.Goals as goal
 
 pub returns-in-AddAccount : goal.returns-in-AddAccount
 returns-in-AddAccount g c = rw c.in-AddAccount.is c.add_account.ensures

@@ -3,11 +3,11 @@ use Rattle.std.proofs.lemmas.List.{take_all}
 use Rattle.sqlite.specs.Held.{state}
 use Rattle.sqlite.specs.State.{HasCleanDisk, Survives}
 use Rattle.sqlite.proofs.StateLemmas.{survives_then}
-use Rattle.mailtables.specs.Rows.{Tables, HoldsTables}
-use Rattle.mailtables.specs.Schema.{mail_schema}
-use Rattle.mailtables.specs.Changes.{made, CrashLeavesTables}
-use Rattle.mailtables.proofs.WriteLemmas.{HasMade, one_more, if_committed, commits_all}
-use Rattle.mailtables.proofs.change.make_all.Goals as goal
+use Rattle.store_tables.specs.Rows.{Tables, HoldsTables}
+use Rattle.store_tables.specs.Schema.{mail_schema}
+use Rattle.store_tables.specs.Changes.{made, CrashLeavesTables}
+use Rattle.store_tables.proofs.WriteLemmas.{HasMade, one_more, if_committed, commits_all}
+use Rattle.store_tables.proofs.change.make_all.Goals as goal
 
 pub loop-change-preserved : goal.loop-change-preserved
 loop-change-preserved g c =

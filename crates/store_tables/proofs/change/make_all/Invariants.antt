@@ -1,8 +1,8 @@
 use Rattle.std.proofs.Common.{◌≡◌, take}
 use Rattle.sqlite.specs.Held.{state}
 use Rattle.sqlite.specs.State.{HasCleanDisk, Survives}
-use Rattle.mailtables.proofs.WriteLemmas.{HasMade}
-use Rattle.mailtables.proofs.change.make_all.Given as goal
+use Rattle.store_tables.proofs.WriteLemmas.{HasMade}
+use Rattle.store_tables.proofs.change.make_all.Given as goal
 
 abbrev pub invariant-loop-change : goal.invariant-loop-change
 invariant-loop-change g l =

@@ -1,6 +1,6 @@
-use Rattle.mailtables.proofs.WriteLemmas.{statement_makes}
-use Rattle.mailtables.proofs.StatementLemmas.{inserts_copy}
-use Rattle.mailtables.proofs.copy.add_copy.Goals as goal
+use Rattle.store_tables.proofs.WriteLemmas.{statement_makes}
+use Rattle.store_tables.proofs.StatementLemmas.{inserts_copy}
+use Rattle.store_tables.proofs.copy.add_copy.Goals as goal
 
 pub returns : goal.returns
 returns g c =

@@ -1,10 +1,10 @@
 use Rattle.std.proofs.Common.{refl}
-use Rattle.mailtables.specs.Schema.{schema_7}
-use Rattle.mailtables.specs.CopyTable.{copy, create_copy}
-use Rattle.mailtables.proofs.WriteLemmas.{statement_makes}
-use Rattle.mailtables.proofs.SchemaFacts.{copy_defined, copy_creates}
-use Rattle.mailtables.proofs.CreateLemmas.{creates}
-use Rattle.mailtables.proofs.copy.make_copy.Goals as goal
+use Rattle.store_tables.specs.Schema.{schema_7}
+use Rattle.store_tables.specs.CopyTable.{copy, create_copy}
+use Rattle.store_tables.proofs.WriteLemmas.{statement_makes}
+use Rattle.store_tables.proofs.SchemaFacts.{copy_defined, copy_creates}
+use Rattle.store_tables.proofs.CreateLemmas.{creates}
+use Rattle.store_tables.proofs.copy.make_copy.Goals as goal
 
 pub returns : goal.returns
 returns g c =

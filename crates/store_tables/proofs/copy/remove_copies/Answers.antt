@@ -1,6 +1,6 @@
-use Rattle.mailtables.proofs.WriteLemmas.{statement_makes}
-use Rattle.mailtables.proofs.StatementLemmas.{removes_copies}
-use Rattle.mailtables.proofs.copy.remove_copies.Goals as goal
+use Rattle.store_tables.proofs.WriteLemmas.{statement_makes}
+use Rattle.store_tables.proofs.StatementLemmas.{removes_copies}
+use Rattle.store_tables.proofs.copy.remove_copies.Goals as goal
 
 pub returns : goal.returns
 returns g c =

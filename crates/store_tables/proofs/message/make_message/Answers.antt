@@ -1,10 +1,10 @@
 use Rattle.std.proofs.Common.{refl}
-use Rattle.mailtables.specs.Schema.{schema_6}
-use Rattle.mailtables.specs.MessageTable.{message, create_message}
-use Rattle.mailtables.proofs.WriteLemmas.{statement_makes}
-use Rattle.mailtables.proofs.SchemaFacts.{message_defined, message_creates}
-use Rattle.mailtables.proofs.CreateLemmas.{creates}
-use Rattle.mailtables.proofs.message.make_message.Goals as goal
+use Rattle.store_tables.specs.Schema.{schema_6}
+use Rattle.store_tables.specs.MessageTable.{message, create_message}
+use Rattle.store_tables.proofs.WriteLemmas.{statement_makes}
+use Rattle.store_tables.proofs.SchemaFacts.{message_defined, message_creates}
+use Rattle.store_tables.proofs.CreateLemmas.{creates}
+use Rattle.store_tables.proofs.message.make_message.Goals as goal
 
 pub returns : goal.returns
 returns g c =

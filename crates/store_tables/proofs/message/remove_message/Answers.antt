@@ -1,6 +1,6 @@
-use Rattle.mailtables.proofs.WriteLemmas.{statement_makes}
-use Rattle.mailtables.proofs.StatementLemmas.{removes_message}
-use Rattle.mailtables.proofs.message.remove_message.Goals as goal
+use Rattle.store_tables.proofs.WriteLemmas.{statement_makes}
+use Rattle.store_tables.proofs.StatementLemmas.{removes_message}
+use Rattle.store_tables.proofs.message.remove_message.Goals as goal
 
 pub returns : goal.returns
 returns g c =

@@ -1,6 +1,6 @@
-use Rattle.mailtables.proofs.WriteLemmas.{statement_makes}
-use Rattle.mailtables.proofs.StatementLemmas.{inserts_notice}
-use Rattle.mailtables.proofs.notice.add_notice.Goals as goal
+use Rattle.store_tables.proofs.WriteLemmas.{statement_makes}
+use Rattle.store_tables.proofs.StatementLemmas.{inserts_notice}
+use Rattle.store_tables.proofs.notice.add_notice.Goals as goal
 
 pub returns : goal.returns
 returns g c =

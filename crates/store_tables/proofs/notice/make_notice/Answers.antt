@@ -1,10 +1,10 @@
 use Rattle.std.proofs.Common.{refl}
-use Rattle.mailtables.specs.Schema.{schema_5}
-use Rattle.mailtables.specs.NoticeTable.{notice, create_notice}
-use Rattle.mailtables.proofs.SchemaFacts.{notice_defined, notice_creates}
-use Rattle.mailtables.proofs.WriteLemmas.{statement_makes}
-use Rattle.mailtables.proofs.CreateLemmas.{creates}
-use Rattle.mailtables.proofs.notice.make_notice.Goals as goal
+use Rattle.store_tables.specs.Schema.{schema_5}
+use Rattle.store_tables.specs.NoticeTable.{notice, create_notice}
+use Rattle.store_tables.proofs.SchemaFacts.{notice_defined, notice_creates}
+use Rattle.store_tables.proofs.WriteLemmas.{statement_makes}
+use Rattle.store_tables.proofs.CreateLemmas.{creates}
+use Rattle.store_tables.proofs.notice.make_notice.Goals as goal
 
 pub returns : goal.returns
 returns g c =

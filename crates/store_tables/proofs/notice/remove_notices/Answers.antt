@@ -1,6 +1,6 @@
-use Rattle.mailtables.proofs.WriteLemmas.{statement_makes}
-use Rattle.mailtables.proofs.StatementLemmas.{removes_notices}
-use Rattle.mailtables.proofs.notice.remove_notices.Goals as goal
+use Rattle.store_tables.proofs.WriteLemmas.{statement_makes}
+use Rattle.store_tables.proofs.StatementLemmas.{removes_notices}
+use Rattle.store_tables.proofs.notice.remove_notices.Goals as goal
 
 pub returns : goal.returns
 returns g c =

@@ -1,6 +1,6 @@
-use Rattle.mailtables.proofs.WriteLemmas.{statement_makes}
-use Rattle.mailtables.proofs.StatementLemmas.{inserts_outgoing}
-use Rattle.mailtables.proofs.queue.add_outgoing.Goals as goal
+use Rattle.store_tables.proofs.WriteLemmas.{statement_makes}
+use Rattle.store_tables.proofs.StatementLemmas.{inserts_outgoing}
+use Rattle.store_tables.proofs.queue.add_outgoing.Goals as goal
 
 pub returns : goal.returns
 returns g c =

@@ -1,10 +1,10 @@
 use Rattle.std.proofs.Common.{refl}
-use Rattle.mailtables.specs.Schema.{schema_3}
-use Rattle.mailtables.specs.QueueTable.{outgoing, create_outgoing}
-use Rattle.mailtables.proofs.WriteLemmas.{statement_makes}
-use Rattle.mailtables.proofs.SchemaFacts.{outgoing_defined, outgoing_creates}
-use Rattle.mailtables.proofs.CreateLemmas.{creates}
-use Rattle.mailtables.proofs.queue.make_outgoing.Goals as goal
+use Rattle.store_tables.specs.Schema.{schema_3}
+use Rattle.store_tables.specs.QueueTable.{outgoing, create_outgoing}
+use Rattle.store_tables.proofs.WriteLemmas.{statement_makes}
+use Rattle.store_tables.proofs.SchemaFacts.{outgoing_defined, outgoing_creates}
+use Rattle.store_tables.proofs.CreateLemmas.{creates}
+use Rattle.store_tables.proofs.queue.make_outgoing.Goals as goal
 
 pub returns : goal.returns
 returns g c =

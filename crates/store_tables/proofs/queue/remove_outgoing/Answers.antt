@@ -1,6 +1,6 @@
-use Rattle.mailtables.proofs.WriteLemmas.{statement_makes}
-use Rattle.mailtables.proofs.StatementLemmas.{removes_outgoing}
-use Rattle.mailtables.proofs.queue.remove_outgoing.Goals as goal
+use Rattle.store_tables.proofs.WriteLemmas.{statement_makes}
+use Rattle.store_tables.proofs.StatementLemmas.{removes_outgoing}
+use Rattle.store_tables.proofs.queue.remove_outgoing.Goals as goal
 
 pub returns : goal.returns
 returns g c =

@@ -1,6 +1,6 @@
-use Rattle.mailtables.proofs.WriteLemmas.{statement_makes}
-use Rattle.mailtables.proofs.StatementLemmas.{inserts_reply}
-use Rattle.mailtables.proofs.reply.add_reply.Goals as goal
+use Rattle.store_tables.proofs.WriteLemmas.{statement_makes}
+use Rattle.store_tables.proofs.StatementLemmas.{inserts_reply}
+use Rattle.store_tables.proofs.reply.add_reply.Goals as goal
 
 pub returns : goal.returns
 returns g c =

@@ -1,10 +1,10 @@
 use Rattle.std.proofs.Common.{refl}
-use Rattle.mailtables.specs.Schema.{schema_4}
-use Rattle.mailtables.specs.ReplyTable.{reply, create_reply}
-use Rattle.mailtables.proofs.WriteLemmas.{statement_makes}
-use Rattle.mailtables.proofs.SchemaFacts.{reply_defined, reply_creates}
-use Rattle.mailtables.proofs.CreateLemmas.{creates}
-use Rattle.mailtables.proofs.reply.make_reply.Goals as goal
+use Rattle.store_tables.specs.Schema.{schema_4}
+use Rattle.store_tables.specs.ReplyTable.{reply, create_reply}
+use Rattle.store_tables.proofs.WriteLemmas.{statement_makes}
+use Rattle.store_tables.proofs.SchemaFacts.{reply_defined, reply_creates}
+use Rattle.store_tables.proofs.CreateLemmas.{creates}
+use Rattle.store_tables.proofs.reply.make_reply.Goals as goal
 
 pub returns : goal.returns
 returns g c =

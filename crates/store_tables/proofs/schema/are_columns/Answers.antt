@@ -1,7 +1,7 @@
 use Rattle.std.proofs.Common.{rules, get_or}
-use Rattle.mailtables.specs.Schema.{column_of}
-use Rattle.mailtables.proofs.SchemaLemmas.{same_first, one_less, no_first, none_left, shown_false, get_is, shorter, empty_is}
-use Rattle.mailtables.proofs.schema.are_columns.Goals as goal
+use Rattle.store_tables.specs.Schema.{column_of}
+use Rattle.store_tables.proofs.SchemaLemmas.{same_first, one_less, no_first, none_left, shown_false, get_is, shorter, empty_is}
+use Rattle.store_tables.proofs.schema.are_columns.Goals as goal
 
 pub loop-forms-init : goal.loop-forms-init
 loop-forms-init c = (λ h. h, λ h. h)

@@ -1,6 +1,6 @@
 use Rattle.std.proofs.Common.{◌≡◌, ◌↔◌, IsTrue, subst}
-use Rattle.mailtables.proofs.SchemaFacts.{indexes_are}
-use Rattle.mailtables.proofs.schema.are_keys.Goals as goal
+use Rattle.store_tables.proofs.SchemaFacts.{indexes_are}
+use Rattle.store_tables.proofs.schema.are_keys.Goals as goal
 
 pub returns : goal.returns
 returns c =

@@ -1,6 +1,6 @@
 use Rattle.std.proofs.Common.{◌≡◌, [], ◌∷◌, get_or, ap, ap₂, sym, ◌∙◌}
-use Rattle.mailtables.proofs.SchemaLemmas.{two_items, same_text}
-use Rattle.mailtables.proofs.schema.are_two_texts.Goals as goal
+use Rattle.store_tables.proofs.SchemaLemmas.{two_items, same_text}
+use Rattle.store_tables.proofs.schema.are_two_texts.Goals as goal
 
 pub returns-then-eq : goal.returns-then-eq
 returns-then-eq c =

@@ -1,4 +1,4 @@
-use Rattle.mailtables.proofs.schema.is_account.Goals as goal
+use Rattle.store_tables.proofs.schema.is_account.Goals as goal
 
 pub returns : goal.returns
 returns c =

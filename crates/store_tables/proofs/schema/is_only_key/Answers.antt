@@ -1,6 +1,6 @@
 use Rattle.std.proofs.Common.{◌≡◌, [], ◌∷◌, ap, sym, ◌∙◌}
-use Rattle.mailtables.proofs.SchemaLemmas.{only_item, only_same, same_text}
-use Rattle.mailtables.proofs.schema.is_only_key.Goals as goal
+use Rattle.store_tables.proofs.SchemaLemmas.{only_item, only_same, same_text}
+use Rattle.store_tables.proofs.schema.is_only_key.Goals as goal
 
 pub returns : goal.returns
 returns c =

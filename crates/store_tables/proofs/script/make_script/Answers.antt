@@ -1,10 +1,10 @@
 use Rattle.std.proofs.Common.{refl}
-use Rattle.mailtables.specs.Schema.{schema_2}
-use Rattle.mailtables.specs.ScriptTable.{script, create_script}
-use Rattle.mailtables.proofs.WriteLemmas.{statement_makes}
-use Rattle.mailtables.proofs.SchemaFacts.{script_defined, script_creates}
-use Rattle.mailtables.proofs.CreateLemmas.{creates}
-use Rattle.mailtables.proofs.script.make_script.Goals as goal
+use Rattle.store_tables.specs.Schema.{schema_2}
+use Rattle.store_tables.specs.ScriptTable.{script, create_script}
+use Rattle.store_tables.proofs.WriteLemmas.{statement_makes}
+use Rattle.store_tables.proofs.SchemaFacts.{script_defined, script_creates}
+use Rattle.store_tables.proofs.CreateLemmas.{creates}
+use Rattle.store_tables.proofs.script.make_script.Goals as goal
 
 pub returns : goal.returns
 returns g c =

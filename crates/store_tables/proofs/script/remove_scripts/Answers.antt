@@ -1,6 +1,6 @@
-use Rattle.mailtables.proofs.WriteLemmas.{statement_makes}
-use Rattle.mailtables.proofs.StatementLemmas.{removes_scripts}
-use Rattle.mailtables.proofs.script.remove_scripts.Goals as goal
+use Rattle.store_tables.proofs.WriteLemmas.{statement_makes}
+use Rattle.store_tables.proofs.StatementLemmas.{removes_scripts}
+use Rattle.store_tables.proofs.script.remove_scripts.Goals as goal
 
 pub returns : goal.returns
 returns g c =

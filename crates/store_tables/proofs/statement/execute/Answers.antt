@@ -1,8 +1,8 @@
 use Rattle.std.proofs.Common.{◌≡◌, Err, rules, sym, subst}
 use Rattle.sqlite.specs.Held.{state}
 use Rattle.sqlite.specs.Values.{bound}
-use Rattle.mailtables.specs.Connection.{RunsText}
-use Rattle.mailtables.proofs.statement.execute.Goals as goal
+use Rattle.store_tables.specs.Connection.{RunsText}
+use Rattle.store_tables.proofs.statement.execute.Goals as goal
 
 pub returns-in_err-execute : goal.returns-in_err-execute
 returns-in_err-execute g c =

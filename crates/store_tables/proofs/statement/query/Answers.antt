@@ -1,5 +1,5 @@
 use Rattle.std.proofs.Common.{rules}
-use Rattle.mailtables.proofs.statement.query.Goals as goal
+use Rattle.store_tables.proofs.statement.query.Goals as goal
 
 pub returns : goal.returns
 returns g c = record {

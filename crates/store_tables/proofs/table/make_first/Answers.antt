@@ -1,7 +1,7 @@
 use Rattle.std.proofs.Common.{arith}
-use Rattle.mailtables.specs.Schema.{no_schema, schema_1, schema_2, schema_3}
-use Rattle.mailtables.proofs.CreateLemmas.{makes_then}
-use Rattle.mailtables.proofs.table.make_first.Goals as goal
+use Rattle.store_tables.specs.Schema.{no_schema, schema_1, schema_2, schema_3}
+use Rattle.store_tables.proofs.CreateLemmas.{makes_then}
+use Rattle.store_tables.proofs.table.make_first.Goals as goal
 
 pub returns : goal.returns
 returns g c =

@@ -1,7 +1,7 @@
 use Rattle.std.proofs.Common.{arith, ◌≡◌, Err, rules}
-use Rattle.mailtables.specs.Schema.{schema_6, schema_7, mail_schema}
-use Rattle.mailtables.proofs.CreateLemmas.{makes_then, makes_failed}
-use Rattle.mailtables.proofs.table.make_folders.Goals as goal
+use Rattle.store_tables.specs.Schema.{schema_6, schema_7, mail_schema}
+use Rattle.store_tables.proofs.CreateLemmas.{makes_then, makes_failed}
+use Rattle.store_tables.proofs.table.make_folders.Goals as goal
 
 pub returns-in_err-make_message : goal.returns-in_err-make_message
 returns-in_err-make_message g c =

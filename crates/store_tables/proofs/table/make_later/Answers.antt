@@ -1,7 +1,7 @@
 use Rattle.std.proofs.Common.{arith, ◌≡◌, Err, rules}
-use Rattle.mailtables.specs.Schema.{schema_3, schema_4, schema_5, schema_6}
-use Rattle.mailtables.proofs.CreateLemmas.{makes_then, makes_failed}
-use Rattle.mailtables.proofs.table.make_later.Goals as goal
+use Rattle.store_tables.specs.Schema.{schema_3, schema_4, schema_5, schema_6}
+use Rattle.store_tables.proofs.CreateLemmas.{makes_then, makes_failed}
+use Rattle.store_tables.proofs.table.make_later.Goals as goal
 
 pub returns-in_err-make_outgoing : goal.returns-in_err-make_outgoing
 returns-in_err-make_outgoing g c =

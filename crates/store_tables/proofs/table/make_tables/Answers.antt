@@ -1,9 +1,9 @@
 use Rattle.std.proofs.Common.{◌≡◌, true, refl, subst, rules, OnOk}
 use Rattle.sqlite.specs.Held.{state}
 use Rattle.sqlite.specs.State.{HasCleanDisk, Survives}
-use Rattle.mailtables.specs.Ours.{TurnsOurs, MayCreate}
-use Rattle.mailtables.proofs.CreateLemmas.{all_made, creates_all}
-use Rattle.mailtables.proofs.table.make_tables.Goals as goal
+use Rattle.store_tables.specs.Ours.{TurnsOurs, MayCreate}
+use Rattle.store_tables.proofs.CreateLemmas.{all_made, creates_all}
+use Rattle.store_tables.proofs.table.make_tables.Goals as goal
 
 pub returns-clause-made : goal.returns-clause-made
 returns-clause-made g c =

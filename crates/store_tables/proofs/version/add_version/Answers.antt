@@ -1,6 +1,6 @@
-use Rattle.mailtables.proofs.WriteLemmas.{statement_makes}
-use Rattle.mailtables.proofs.StatementLemmas.{inserts_version}
-use Rattle.mailtables.proofs.version.add_version.Goals as goal
+use Rattle.store_tables.proofs.WriteLemmas.{statement_makes}
+use Rattle.store_tables.proofs.StatementLemmas.{inserts_version}
+use Rattle.store_tables.proofs.version.add_version.Goals as goal
 
 pub returns : goal.returns
 returns g c =

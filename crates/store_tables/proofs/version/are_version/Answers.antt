@@ -1,6 +1,6 @@
-use Rattle.mailtables.proofs.SchemaLemmas.{only_item}
-use Rattle.mailtables.proofs.VersionLemmas.{row_says}
-use Rattle.mailtables.proofs.version.are_version.Goals as goal
+use Rattle.store_tables.proofs.SchemaLemmas.{only_item}
+use Rattle.store_tables.proofs.VersionLemmas.{row_says}
+use Rattle.store_tables.proofs.version.are_version.Goals as goal
 
 pub returns-in-len1 : goal.returns-in-len1
 returns-in-len1 c =

@@ -1,9 +1,9 @@
 use Rattle.std.proofs.Common.{◌≡◌, ◌↔◌, Err, IsTrue, pos, rules}
 use Rattle.sqlite.specs.Held.{state}
-use Rattle.mailtables.specs.Schema.{IsOurSchema}
-use Rattle.mailtables.specs.Ours.{IsOurs}
-use Rattle.mailtables.proofs.VersionLemmas.{says_version, asks_refused, asks_ours, ours_says}
-use Rattle.mailtables.proofs.version.has_version.Goals as goal
+use Rattle.store_tables.specs.Schema.{IsOurSchema}
+use Rattle.store_tables.specs.Ours.{IsOurs}
+use Rattle.store_tables.proofs.VersionLemmas.{says_version, asks_refused, asks_ours, ours_says}
+use Rattle.store_tables.proofs.version.has_version.Goals as goal
 
 pub returns-in_err-rows : goal.returns-in_err-rows
 returns-in_err-rows g c =

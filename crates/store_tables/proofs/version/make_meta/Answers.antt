@@ -1,10 +1,10 @@
 use Rattle.std.proofs.Common.{refl}
-use Rattle.mailtables.specs.Schema.{no_schema}
-use Rattle.mailtables.specs.MetaTable.{meta, create_meta}
-use Rattle.mailtables.proofs.WriteLemmas.{statement_makes}
-use Rattle.mailtables.proofs.SchemaFacts.{meta_defined, meta_creates}
-use Rattle.mailtables.proofs.CreateLemmas.{creates}
-use Rattle.mailtables.proofs.version.make_meta.Goals as goal
+use Rattle.store_tables.specs.Schema.{no_schema}
+use Rattle.store_tables.specs.MetaTable.{meta, create_meta}
+use Rattle.store_tables.proofs.WriteLemmas.{statement_makes}
+use Rattle.store_tables.proofs.SchemaFacts.{meta_defined, meta_creates}
+use Rattle.store_tables.proofs.CreateLemmas.{creates}
+use Rattle.store_tables.proofs.version.make_meta.Goals as goal
 
 pub returns : goal.returns
 returns g c =

@@ -1,4 +1,4 @@
-use Rattle.accountfiles.proofs.limits.is_head.Goals as goal
+use Rattle.store_text.proofs.limits.is_head.Goals as goal
 
 pub returns-then-has_counters : goal.returns-then-has_counters
 returns-then-has_counters c =

@@ -1,6 +1,6 @@
 use Rattle.std.proofs.Common.{sym, ◌∙◌, arith}
-use Rattle.accountfiles.proofs.LimitLemmas.{fields_small, texts_small}
-use Rattle.accountfiles.proofs.limits.may_have.Goals as goal
+use Rattle.store_text.proofs.LimitLemmas.{fields_small, texts_small}
+use Rattle.store_text.proofs.limits.may_have.Goals as goal
 
 pub returns-then-fits : goal.returns-then-fits
 returns-then-fits c =

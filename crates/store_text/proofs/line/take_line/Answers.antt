@@ -1,7 +1,7 @@
 -- A field more was taken, or the line's end; where neither stands there, no line does.
 use Rattle.std.proofs.Common.{sym, subst}
-use Rattle.accountfiles.proofs.NetstringLemmas.{IsTaking, taking_on, line_taken, line_lost, netstring_shrinks}
-use Rattle.accountfiles.proofs.line.take_line.Goals as goal
+use Rattle.store_text.proofs.NetstringLemmas.{IsTaking, taking_on, line_taken, line_lost, netstring_shrinks}
+use Rattle.store_text.proofs.line.take_line.Goals as goal
 
 pub fields-preserved : goal.fields-preserved
 fields-preserved c =

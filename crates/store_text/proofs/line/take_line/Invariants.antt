@@ -1,6 +1,6 @@
 use Rattle.std.proofs.Common.{length}
-use Rattle.accountfiles.proofs.NetstringLemmas.{IsTaking}
-use Rattle.accountfiles.proofs.line.take_line.Given as goal
+use Rattle.store_text.proofs.NetstringLemmas.{IsTaking}
+use Rattle.store_text.proofs.line.take_line.Given as goal
 
 abbrev pub invariant-fields : goal.invariant-fields
 invariant-fields l = IsTaking l.octets l.fields.items l.rest

@@ -1,7 +1,7 @@
 -- What is cut at the first colon is the length; the text of that length is the netstring's, and no other.
 use Rattle.std.proofs.Common.{None, ◌∙◌}
-use Rattle.accountfiles.proofs.NetstringLemmas.{netstring_then, length_found, taken_made, taken_none, taken_small}
-use Rattle.accountfiles.proofs.netstring.take_netstring.Goals as goal
+use Rattle.store_text.proofs.NetstringLemmas.{netstring_then, length_found, taken_made, taken_none, taken_small}
+use Rattle.store_text.proofs.netstring.take_netstring.Goals as goal
 
 pub returns-in_default-clause-none : goal.returns-in_default-clause-none
 returns-in_default-clause-none c = λ text more small is. c.in_default.ensures.none _ _ (is ∙ netstring_then text more)

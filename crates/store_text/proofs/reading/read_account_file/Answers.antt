@@ -2,11 +2,11 @@
 use Rattle.std.proofs.Common.{◌≡◌, ◌∙◌, ◌-◌, ◌++◌, None, length, take, slice_get, sym, ap, subst}
 use Rattle.std.specs.Prelude.{option_copied}
 use Rattle.std.proofs.lemmas.Result.{err_from_is_err_and}
-use Rattle.accountfiles.specs.Netstring.{line, AreFields}
-use Rattle.accountfiles.specs.Reading.{MayStand, entry_fields, ends}
-use Rattle.accountfiles.specs.Text.{body_of}
-use Rattle.accountfiles.proofs.ReadLemmas.{IsReading, last_of, reading_begins, reading_on, reading_lost, last_is, line_shrinks, text_ends, text_goes_on, text_head, body_is}
-use Rattle.accountfiles.proofs.reading.read.Goals as goal
+use Rattle.store_text.specs.Netstring.{line, AreFields}
+use Rattle.store_text.specs.Reading.{MayStand, entry_fields, ends}
+use Rattle.store_text.specs.Text.{account_body}
+use Rattle.store_text.proofs.ReadLemmas.{IsReading, last_of, reading_begins, reading_on, reading_lost, last_is, line_shrinks, text_ends, text_goes_on, text_head, body_is}
+use Rattle.store_text.proofs.reading.read_account_file.Goals as goal
 
 pub returns-in_err-head-clause-none : goal.returns-in_err-head-clause-none
 returns-in_err-head-clause-none c =
@@ -42,10 +42,10 @@ pub returns-then-not-ends-clause-none : goal.returns-then-not-ends-clause-none
 returns-then-not-ends-clause-none c = λ same h ps of.
     text_goes_on c.args.text.now c.in_ok-head.head c.parts.parts c.parts.rest.now c.parts.invariant c.in-Sum.sum c.in_ok-entry.more.now
     (c.in_ok-entry.ensures.found ∙ ap (λ e. line (entry_fields e) ++ c.in_ok-entry.more.now) c.in-Sum.is) (subst (λ e. AreFields (entry_fields e)) c.in-Sum.is c.in_ok-entry.ensures.small) _
-    (body_is c.args.text.now (body_of c.in_ok-head.head c.parts.parts) c.parts.rest.now c.parts.invariant.spelled) (ap (λ ps. ends c.in_ok-head.head ps (take (length c.args.text.now - length c.parts.rest.now) c.args.text.now) c.in-Sum.sum c.in_ok-entry.more.now) (sym c.as_slice-in-Sum.ensures) ∙ (ap (λ s. ends c.in_ok-head.head c.as_slice-in-Sum.result.now (take (length c.args.text.now - length c.parts.rest.now) c.args.text.now) s c.in_ok-entry.more.now) (sym c.as_slice-in-Sum-2.ensures) ∙ (sym c.in_ok-ends-in-Sum.ensures ∙ c.if-not-ends.true))) h ps of
+    (body_is c.args.text.now (account_body c.in_ok-head.head c.parts.parts) c.parts.rest.now c.parts.invariant.spelled) (ap (λ ps. ends c.in_ok-head.head ps (take (length c.args.text.now - length c.parts.rest.now) c.args.text.now) c.in-Sum.sum c.in_ok-entry.more.now) (sym c.as_slice-in-Sum.ensures) ∙ (ap (λ s. ends c.in_ok-head.head c.as_slice-in-Sum.result.now (take (length c.args.text.now - length c.parts.rest.now) c.args.text.now) s c.in_ok-entry.more.now) (sym c.as_slice-in-Sum-2.ensures) ∙ (sym c.in_ok-ends-in-Sum.ensures ∙ c.if-not-ends.true))) h ps of
 
 pub returns-in-Sum-clause-found : goal.returns-in-Sum-clause-found
 returns-in-Sum-clause-found c =
     text_ends c.args.text.now c.in_ok-head.head c.parts.parts c.parts.rest.now c.parts.invariant c.in-Sum.sum c.in_ok-entry.more.now
     (c.in_ok-entry.ensures.found ∙ ap (λ e. line (entry_fields e) ++ c.in_ok-entry.more.now) c.in-Sum.is) (subst (λ e. AreFields (entry_fields e)) c.in-Sum.is c.in_ok-entry.ensures.small) _
-    (body_is c.args.text.now (body_of c.in_ok-head.head c.parts.parts) c.parts.rest.now c.parts.invariant.spelled) (ap (λ ps. ends c.in_ok-head.head ps (take (length c.args.text.now - length c.parts.rest.now) c.args.text.now) c.in-Sum.sum c.in_ok-entry.more.now) (sym c.as_slice-in-Sum.ensures) ∙ (ap (λ s. ends c.in_ok-head.head c.as_slice-in-Sum.result.now (take (length c.args.text.now - length c.parts.rest.now) c.args.text.now) s c.in_ok-entry.more.now) (sym c.as_slice-in-Sum-2.ensures) ∙ (sym c.in_ok-ends-in-Sum.ensures ∙ c.if-not-ends.false)))
+    (body_is c.args.text.now (account_body c.in_ok-head.head c.parts.parts) c.parts.rest.now c.parts.invariant.spelled) (ap (λ ps. ends c.in_ok-head.head ps (take (length c.args.text.now - length c.parts.rest.now) c.args.text.now) c.in-Sum.sum c.in_ok-entry.more.now) (sym c.as_slice-in-Sum.ensures) ∙ (ap (λ s. ends c.in_ok-head.head c.as_slice-in-Sum.result.now (take (length c.args.text.now - length c.parts.rest.now) c.args.text.now) s c.in_ok-entry.more.now) (sym c.as_slice-in-Sum-2.ensures) ∙ (sym c.in_ok-ends-in-Sum.ensures ∙ c.if-not-ends.false)))

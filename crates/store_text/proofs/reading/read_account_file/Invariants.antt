@@ -1,7 +1,7 @@
 -- The parts so far were read, and what is left of a text of an account is that of its other parts.
 use Rattle.std.proofs.Common.{length}
-use Rattle.accountfiles.proofs.ReadLemmas.{IsReading}
-use Rattle.accountfiles.proofs.reading.read.Given as goal
+use Rattle.store_text.proofs.ReadLemmas.{IsReading}
+use Rattle.store_text.proofs.reading.read_account_file.Given as goal
 
 abbrev pub invariant-parts : goal.invariant-parts
 invariant-parts l = IsReading l.text l.head l.parts l.rest

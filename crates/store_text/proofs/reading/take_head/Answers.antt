@@ -1,9 +1,9 @@
 -- A text with other lines in front has other things once.
 use Rattle.std.proofs.Common.{◌≡◌, ◌∙◌, ap, true, false}
 use Rattle.std.proofs.lemmas.Result.{err_from_is_err_and}
-use Rattle.accountfiles.specs.Order.{are_numbers}
-use Rattle.accountfiles.proofs.ReadLemmas.{head_then, owner_next, numbers_next, numbers_same, numbers_fields_small, head_numbers}
-use Rattle.accountfiles.proofs.reading.take_head.Goals as goal
+use Rattle.store_text.specs.Order.{are_numbers}
+use Rattle.store_text.proofs.ReadLemmas.{head_then, owner_next, numbers_next, numbers_same, numbers_fields_small, head_numbers}
+use Rattle.store_text.proofs.reading.take_head.Goals as goal
 
 pub returns-in_err-rest-clause-none : goal.returns-in_err-rest-clause-none
 returns-in_err-rest-clause-none c =

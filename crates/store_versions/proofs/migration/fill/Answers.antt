@@ -1,10 +1,10 @@
 use Rattle.std.proofs.Common.{◌≡◌, ◌+◌, refl, Ok, Err, take, rules, subst, arith}
 use Rattle.std.proofs.lemmas.List.{take_all}
-use Rattle.mailtables.specs.Connection.{RunsInside, TurnsRows}
-use Rattle.oldtables.specs.Migration.{filled, refiled, cells_of}
-use Rattle.oldtables.proofs.MigrationLemmas.{none_filled, keeps_failed, keeps_stopped, keeps_more, one_more_filled}
-use Rattle.oldtables.proofs.migration.fill.Goals as goal
-use Rattle.oldtables.specs.Inside.{TurnsInside}
+use Rattle.store_tables.specs.Connection.{RunsInside, TurnsRows}
+use Rattle.store_versions.specs.Migration.{filled, refiled, old_copy_cells}
+use Rattle.store_versions.proofs.MigrationLemmas.{none_filled, keeps_failed, keeps_stopped, keeps_more, one_more_filled}
+use Rattle.store_versions.proofs.migration.fill.Goals as goal
+use Rattle.store_versions.specs.Inside.{TurnsInside}
 
 pub loop-row-init : goal.loop-row-init
 loop-row-init g c = none_filled g.S.Store c.args.tx.now
@@ -25,8 +25,8 @@ pub loop-row-preserved : goal.loop-row-preserved
 loop-row-preserved g c =
     let at = c.loop-row.row-index in
     let shown = rw (c.row-item.is) at (rw (c.in_ok-copy.was) at c.copy_in.ensures) in
-    keeps_more g.S.Store (TurnsRows (filled (take at c.args.rows.now))) (TurnsRows (refiled (cells_of c.in_ok-copy.copy))) (TurnsRows (filled (take (at + 1) c.args.rows.now))) c.args.tx.now c.loop-row.tx c.refile.new.tx _ _ refl c.refile.result
-    c.loop-row.invariant c.refile.ensures (one_more_filled c.args.rows.now at _ (cells_of c.in_ok-copy.copy) c.loop-row-test.true shown _ _ _) _ c.in_ok-refile.was _
+    keeps_more g.S.Store (TurnsRows (filled (take at c.args.rows.now))) (TurnsRows (refiled (old_copy_cells c.in_ok-copy.copy))) (TurnsRows (filled (take (at + 1) c.args.rows.now))) c.args.tx.now c.loop-row.tx c.refile.new.tx _ _ refl c.refile.result
+    c.loop-row.invariant c.refile.ensures (one_more_filled c.args.rows.now at _ (old_copy_cells c.in_ok-copy.copy) c.loop-row-test.true shown _ _ _) _ c.in_ok-refile.was _
 
 pub returns : goal.returns
 returns g c =

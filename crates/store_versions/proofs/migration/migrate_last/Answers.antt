@@ -1,10 +1,10 @@
 use Rattle.std.proofs.Common.{◌≡◌, Err, rules}
 use Rattle.sqlite.specs.Effect.{Database}
-use Rattle.mailtables.specs.Connection.{TurnsRows}
-use Rattle.oldtables.specs.Migration.{AreOldCopies, Remakes, TurnsNew, filled, renewed}
-use Rattle.mailtables.proofs.CreateLemmas.{inside_then, inside_failed}
-use Rattle.oldtables.proofs.MigrationLemmas.{found_makes, find_failed, turns_new}
-use Rattle.oldtables.proofs.migration.migrate_last.Goals as goal
+use Rattle.store_tables.specs.Connection.{TurnsRows}
+use Rattle.store_versions.specs.Migration.{AreOldCopies, Remakes, TurnsNew, filled, renewed}
+use Rattle.store_tables.proofs.CreateLemmas.{inside_then, inside_failed}
+use Rattle.store_versions.proofs.MigrationLemmas.{found_makes, find_failed, turns_new}
+use Rattle.store_versions.proofs.migration.migrate_last.Goals as goal
 
 pub returns-in_err-copies : goal.returns-in_err-copies
 returns-in_err-copies g c =

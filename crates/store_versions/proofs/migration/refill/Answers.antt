@@ -1,8 +1,8 @@
 use Rattle.std.proofs.Common.{◌≡◌, Err, rules}
-use Rattle.mailtables.specs.Connection.{TurnsRows}
-use Rattle.oldtables.specs.Migration.{filled, renewed}
-use Rattle.oldtables.proofs.MigrationLemmas.{keeps_made, keeps_refused}
-use Rattle.oldtables.proofs.migration.refill.Goals as goal
+use Rattle.store_tables.specs.Connection.{TurnsRows}
+use Rattle.store_versions.specs.Migration.{filled, renewed}
+use Rattle.store_versions.proofs.MigrationLemmas.{keeps_made, keeps_refused}
+use Rattle.store_versions.proofs.migration.refill.Goals as goal
 
 pub returns-in_err-fill : goal.returns-in_err-fill
 returns-in_err-fill g c =

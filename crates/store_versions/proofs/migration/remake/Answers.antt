@@ -1,10 +1,10 @@
 use Rattle.std.proofs.Common.{◌≡◌, Err, rules}
-use Rattle.mailtables.specs.Schema.{schema_6, mail_schema}
-use Rattle.mailtables.specs.Connection.{TurnsSchema}
-use Rattle.oldtables.specs.Migration.{LosesCopies, Remakes}
-use Rattle.mailtables.proofs.CreateLemmas.{inside_then, inside_failed}
-use Rattle.oldtables.proofs.MigrationLemmas.{remakes}
-use Rattle.oldtables.proofs.migration.remake.Goals as goal
+use Rattle.store_tables.specs.Schema.{schema_6, mail_schema}
+use Rattle.store_tables.specs.Connection.{TurnsSchema}
+use Rattle.store_versions.specs.Migration.{LosesCopies, Remakes}
+use Rattle.store_tables.proofs.CreateLemmas.{inside_then, inside_failed}
+use Rattle.store_versions.proofs.MigrationLemmas.{remakes}
+use Rattle.store_versions.proofs.migration.remake.Goals as goal
 
 pub returns-in_err-drop_copy : goal.returns-in_err-drop_copy
 returns-in_err-drop_copy g c =

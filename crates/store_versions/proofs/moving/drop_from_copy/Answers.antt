@@ -1,10 +1,10 @@
 use Rattle.std.proofs.Common.{◌≡◌, Err, rules}
-use Rattle.mailtables.specs.Schema.{schema_3}
-use Rattle.oldtables.specs.OldSchema.{oldest_schema, oldest_4}
-use Rattle.oldtables.specs.Migration.{LosesCopies}
-use Rattle.mailtables.proofs.CreateLemmas.{inside_then, inside_failed}
-use Rattle.oldtables.proofs.moving.drop_from_copy.Goals as goal
-use Rattle.oldtables.specs.Inside.{LosesTable}
+use Rattle.store_tables.specs.Schema.{schema_3}
+use Rattle.store_versions.specs.OldSchema.{oldest_schema, oldest_4}
+use Rattle.store_versions.specs.Migration.{LosesCopies}
+use Rattle.store_tables.proofs.CreateLemmas.{inside_then, inside_failed}
+use Rattle.store_versions.proofs.moving.drop_from_copy.Goals as goal
+use Rattle.store_versions.specs.Inside.{LosesTable}
 
 pub returns-in_err-drop_later : goal.returns-in_err-drop_later
 returns-in_err-drop_later g c =

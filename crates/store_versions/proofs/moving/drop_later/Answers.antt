@@ -1,8 +1,8 @@
 use Rattle.std.proofs.Common.{◌≡◌, Err, rules}
-use Rattle.oldtables.specs.OldSchema.{oldest_schema, oldest_4, oldest_5, oldest_6}
-use Rattle.mailtables.proofs.CreateLemmas.{inside_then, inside_failed}
-use Rattle.oldtables.proofs.moving.drop_later.Goals as goal
-use Rattle.oldtables.specs.Inside.{LosesTable}
+use Rattle.store_versions.specs.OldSchema.{oldest_schema, oldest_4, oldest_5, oldest_6}
+use Rattle.store_tables.proofs.CreateLemmas.{inside_then, inside_failed}
+use Rattle.store_versions.proofs.moving.drop_later.Goals as goal
+use Rattle.store_versions.specs.Inside.{LosesTable}
 
 pub returns-in_err-drop_notice : goal.returns-in_err-drop_notice
 returns-in_err-drop_notice g c =

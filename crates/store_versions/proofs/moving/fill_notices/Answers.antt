@@ -1,14 +1,14 @@
 use Rattle.std.proofs.Common.{◌≡◌, ◌+◌, refl, Ok, Err, take, rules, subst, arith}
 use Rattle.std.proofs.lemmas.List.{take_all}
-use Rattle.mailtables.specs.Connection.{RunsInside, TurnsRows}
-use Rattle.mailtables.specs.NoticeTable.{notice_tree}
-use Rattle.oldtables.specs.OldSchema.{four_cells}
-use Rattle.mailtables.specs.Rows.{added}
-use Rattle.oldtables.specs.Migration.{joined, noted_cells}
-use Rattle.oldtables.proofs.MovingLemmas.{one_more_joined}
-use Rattle.oldtables.proofs.MigrationLemmas.{none_joined, keeps_failed, keeps_stopped, keeps_more}
-use Rattle.oldtables.proofs.moving.fill_notices.Goals as goal
-use Rattle.oldtables.specs.Inside.{TurnsInside}
+use Rattle.store_tables.specs.Connection.{RunsInside, TurnsRows}
+use Rattle.store_tables.specs.NoticeTable.{notice_tree}
+use Rattle.store_versions.specs.OldSchema.{four_cells}
+use Rattle.store_tables.specs.Rows.{row_added}
+use Rattle.store_versions.specs.Migration.{rows_joined, noted_cells}
+use Rattle.store_versions.proofs.MovingLemmas.{one_more_joined}
+use Rattle.store_versions.proofs.MigrationLemmas.{none_joined, keeps_failed, keeps_stopped, keeps_more}
+use Rattle.store_versions.proofs.moving.fill_notices.Goals as goal
+use Rattle.store_versions.specs.Inside.{TurnsInside}
 
 pub loop-row-init : goal.loop-row-init
 loop-row-init g c = none_joined g.S.Store notice_tree four_cells c.args.tx.now
@@ -17,22 +17,22 @@ pub returns-in_err-noted : goal.returns-in_err-noted
 returns-in_err-noted g c =
     let e = c.in_err-noted.field-0.0 in
     let is : c.from_residual.result ≡ Err e = search rules in
-    keeps_failed g.S.Store _ (TurnsRows (joined notice_tree four_cells c.args.rows.now)) c.args.tx.now c.loop-row.tx _ e c.from_residual.result is c.loop-row.invariant
+    keeps_failed g.S.Store _ (TurnsRows (rows_joined notice_tree four_cells c.args.rows.now)) c.args.tx.now c.loop-row.tx _ e c.from_residual.result is c.loop-row.invariant
 
 pub returns-in_err-renote : goal.returns-in_err-renote
 returns-in_err-renote g c =
     let e = c.in_err-renote.field-0.0 in
     let is : c.from_residual-in_err-renote.result ≡ Err e = search rules in
-    keeps_stopped g.S.Store _ _ (TurnsRows (joined notice_tree four_cells c.args.rows.now)) c.args.tx.now c.loop-row.tx c.renote.new.tx _ _ refl c.renote.result c.loop-row.invariant c.renote.ensures e c.from_residual-in_err-renote.result is
+    keeps_stopped g.S.Store _ _ (TurnsRows (rows_joined notice_tree four_cells c.args.rows.now)) c.args.tx.now c.loop-row.tx c.renote.new.tx _ _ refl c.renote.result c.loop-row.invariant c.renote.ensures e c.from_residual-in_err-renote.result is
 
 pub loop-row-preserved : goal.loop-row-preserved
 loop-row-preserved g c =
     let at = c.loop-row.row-index in
     let shown = rw (c.row-item.is) at (rw (c.in_ok-noted.was) at c.noted_in.ensures) in
-    keeps_more g.S.Store (TurnsRows (joined notice_tree four_cells (take at c.args.rows.now))) (TurnsRows (added notice_tree (noted_cells c.in_ok-noted.noted))) (TurnsRows (joined notice_tree four_cells (take (at + 1) c.args.rows.now))) c.args.tx.now c.loop-row.tx c.renote.new.tx _ _ refl c.renote.result
+    keeps_more g.S.Store (TurnsRows (rows_joined notice_tree four_cells (take at c.args.rows.now))) (TurnsRows (row_added notice_tree (noted_cells c.in_ok-noted.noted))) (TurnsRows (rows_joined notice_tree four_cells (take (at + 1) c.args.rows.now))) c.args.tx.now c.loop-row.tx c.renote.new.tx _ _ refl c.renote.result
     c.loop-row.invariant c.renote.ensures (one_more_joined notice_tree four_cells c.args.rows.now at _ (noted_cells c.in_ok-noted.noted) c.loop-row-test.true shown _ _ _) _ c.in_ok-renote.was _
 
 pub returns : goal.returns
 returns g c =
     let whole = take_all c.loop-row.row-index c.args.rows.now (omega arith) in
-    subst (λ rows. RunsInside {X = Unit {0}} g.S.Store (TurnsInside (TurnsRows (joined notice_tree four_cells rows))) c.args.tx.now c.loop-row.tx (Ok tt)) whole c.loop-row.invariant
+    subst (λ rows. RunsInside {X = Unit {0}} g.S.Store (TurnsInside (TurnsRows (rows_joined notice_tree four_cells rows))) c.args.tx.now c.loop-row.tx (Ok tt)) whole c.loop-row.invariant

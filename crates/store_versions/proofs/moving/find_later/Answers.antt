@@ -1,11 +1,11 @@
 use Rattle.std.proofs.Common.{◌≡◌, Err, rules}
 use Rattle.sqlite.specs.Effect.{Database}
-use Rattle.oldtables.specs.OldSchema.{oldest_outgoing_tree, oldest_reply_tree, oldest_notice_tree, queue_columns, four_cells}
-use Rattle.oldtables.specs.Migration.{AreOldRows, AreLater}
-use Rattle.mailtables.proofs.CreateLemmas.{inside_then}
-use Rattle.oldtables.proofs.MigrationLemmas.{found_makes, makes_found, find_failed_find, find_stopped}
-use Rattle.oldtables.proofs.MovingLemmas.{later_found}
-use Rattle.oldtables.proofs.moving.find_later.Goals as goal
+use Rattle.store_versions.specs.OldSchema.{oldest_outgoing_tree, oldest_reply_tree, oldest_notice_tree, queue_columns, four_cells}
+use Rattle.store_versions.specs.Migration.{AreOldRows, AreLater}
+use Rattle.store_tables.proofs.CreateLemmas.{inside_then}
+use Rattle.store_versions.proofs.MigrationLemmas.{found_makes, makes_found, find_failed_find, find_stopped}
+use Rattle.store_versions.proofs.MovingLemmas.{later_found}
+use Rattle.store_versions.proofs.moving.find_later.Goals as goal
 
 abbrev Any : Database → Database → Type 0
 Any old new = Unit {0}

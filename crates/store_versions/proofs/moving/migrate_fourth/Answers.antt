@@ -1,11 +1,11 @@
 use Rattle.std.proofs.Common.{◌≡◌, Err, rules}
 use Rattle.sqlite.specs.Effect.{Database}
-use Rattle.mailtables.specs.Connection.{TurnsRows}
-use Rattle.oldtables.specs.Migration.{AreOldCopies, AreLater, RemakesAll, TurnsNewest, restored, filled, renewed}
-use Rattle.mailtables.proofs.CreateLemmas.{inside_then, inside_failed}
-use Rattle.oldtables.proofs.MigrationLemmas.{found_makes, find_failed, makes_stopped, makes_keeps, keeps_chain, keeps_refused, keeps_made}
-use Rattle.oldtables.proofs.MovingLemmas.{Remade, remade, turns_newest}
-use Rattle.oldtables.proofs.moving.migrate_fourth.Goals as goal
+use Rattle.store_tables.specs.Connection.{TurnsRows}
+use Rattle.store_versions.specs.Migration.{AreOldCopies, AreLater, RemakesAll, TurnsNewest, restored, filled, renewed}
+use Rattle.store_tables.proofs.CreateLemmas.{inside_then, inside_failed}
+use Rattle.store_versions.proofs.MigrationLemmas.{found_makes, find_failed, makes_stopped, makes_keeps, keeps_chain, keeps_refused, keeps_made}
+use Rattle.store_versions.proofs.MovingLemmas.{Remade, remade, turns_newest}
+use Rattle.store_versions.proofs.moving.migrate_fourth.Goals as goal
 
 abbrev Any : Database → Database → Type 0
 Any old new = Unit {0}

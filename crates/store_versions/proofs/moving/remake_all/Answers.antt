@@ -1,12 +1,12 @@
 use Rattle.std.proofs.Common.{◌≡◌, Err, rules}
-use Rattle.mailtables.specs.Connection.{TurnsSchema}
-use Rattle.mailtables.specs.Schema.{schema_3, schema_6, mail_schema}
-use Rattle.oldtables.specs.OldSchema.{oldest_schema}
-use Rattle.oldtables.specs.Migration.{RemakesAll}
-use Rattle.mailtables.proofs.CreateLemmas.{inside_then, inside_failed}
-use Rattle.oldtables.proofs.MovingLemmas.{Halfway, halfway, remakes_all}
-use Rattle.oldtables.proofs.moving.remake_all.Goals as goal
-use Rattle.oldtables.specs.Inside.{LosesTable}
+use Rattle.store_tables.specs.Connection.{TurnsSchema}
+use Rattle.store_tables.specs.Schema.{schema_3, schema_6, mail_schema}
+use Rattle.store_versions.specs.OldSchema.{oldest_schema}
+use Rattle.store_versions.specs.Migration.{RemakesAll}
+use Rattle.store_tables.proofs.CreateLemmas.{inside_then, inside_failed}
+use Rattle.store_versions.proofs.MovingLemmas.{Halfway, halfway, remakes_all}
+use Rattle.store_versions.proofs.moving.remake_all.Goals as goal
+use Rattle.store_versions.specs.Inside.{LosesTable}
 
 pub returns-in_err-drop_from_copy : goal.returns-in_err-drop_from_copy
 returns-in_err-drop_from_copy g c =

@@ -1,6 +1,6 @@
-use Rattle.mailtables.proofs.WriteLemmas.{statement_makes}
-use Rattle.oldtables.proofs.MovingLemmas.{requeues}
-use Rattle.oldtables.proofs.moving.requeue.Goals as goal
+use Rattle.store_tables.proofs.WriteLemmas.{statement_makes}
+use Rattle.store_versions.proofs.MovingLemmas.{requeues}
+use Rattle.store_versions.proofs.moving.requeue.Goals as goal
 
 pub returns : goal.returns
 returns g c =

@@ -1,13 +1,13 @@
 use Rattle.std.proofs.Common.{◌≡◌, Err, rules}
-use Rattle.mailtables.specs.Connection.{TurnsRows}
-use Rattle.mailtables.specs.Rows.{Tables}
-use Rattle.mailtables.specs.QueueTable.{outgoing_tree}
-use Rattle.mailtables.specs.ReplyTable.{reply_tree}
-use Rattle.mailtables.specs.NoticeTable.{notice_tree}
-use Rattle.oldtables.specs.OldSchema.{queue_columns, four_cells}
-use Rattle.oldtables.specs.Migration.{joined, restored}
-use Rattle.oldtables.proofs.MigrationLemmas.{keeps_chain, keeps_failed}
-use Rattle.oldtables.proofs.moving.restore.Goals as goal
+use Rattle.store_tables.specs.Connection.{TurnsRows}
+use Rattle.store_tables.specs.Rows.{Tables}
+use Rattle.store_tables.specs.QueueTable.{outgoing_tree}
+use Rattle.store_tables.specs.ReplyTable.{reply_tree}
+use Rattle.store_tables.specs.NoticeTable.{notice_tree}
+use Rattle.store_versions.specs.OldSchema.{queue_columns, four_cells}
+use Rattle.store_versions.specs.Migration.{rows_joined, restored}
+use Rattle.store_versions.proofs.MigrationLemmas.{keeps_chain, keeps_failed}
+use Rattle.store_versions.proofs.moving.restore.Goals as goal
 
 pub returns-in_err-fill_queue : goal.returns-in_err-fill_queue
 returns-in_err-fill_queue g c =
@@ -25,9 +25,9 @@ returns-in_err-fill_replies g c =
 pub returns : goal.returns
 returns g c =
     let later = c.args.later.now in
-    let queue : Tables → Tables = joined outgoing_tree queue_columns later.queue.items in
-    let replies : Tables → Tables = joined reply_tree four_cells later.replies.items in
-    let notices : Tables → Tables = joined notice_tree four_cells later.notices.items in
+    let queue : Tables → Tables = rows_joined outgoing_tree queue_columns later.queue.items in
+    let replies : Tables → Tables = rows_joined reply_tree four_cells later.replies.items in
+    let notices : Tables → Tables = rows_joined notice_tree four_cells later.notices.items in
     let both = keeps_chain g.S.Store (TurnsRows queue) (TurnsRows replies) (TurnsRows (λ tables. replies (queue tables))) c.args.tx.now c.fill_queue.new.tx c.fill_replies.new.tx c.fill_queue.result _ c.in_ok-fill_queue.was c.fill_replies.result
     (rw (c.deref.ensures.value) at c.fill_queue.ensures) (rw (c.deref-2.ensures.value) at c.fill_replies.ensures) (λ _ _ _ first second tables h. second (queue tables) (first tables h)) in
     keeps_chain g.S.Store (TurnsRows (λ tables. replies (queue tables))) (TurnsRows notices) (TurnsRows (restored later)) c.args.tx.now c.fill_replies.new.tx c.fill_notices.new.tx c.fill_replies.result _ c.in_ok-fill_replies.was c.fill_notices.result

@@ -1,8 +1,8 @@
 use Rattle.std.proofs.Common.{sym, subst}
 use Rattle.sqlite.specs.Held.{state}
-use Rattle.oldtables.specs.Opening.{OpensKnown}
-use Rattle.oldtables.proofs.OpeningLemmas.{opens_current, opens_second, opens_last, opens_fourth}
-use Rattle.oldtables.proofs.opening.open_known.Goals as goal
+use Rattle.store_versions.specs.Opening.{OpensKnown}
+use Rattle.store_versions.proofs.OpeningLemmas.{opens_current, opens_second, opens_last, opens_fourth}
+use Rattle.store_versions.proofs.opening.open_known.Goals as goal
 
 pub returns-in-Current-clause-opens : goal.returns-in-Current-clause-opens
 returns-in-Current-clause-opens g c =

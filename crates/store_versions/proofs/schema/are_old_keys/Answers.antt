@@ -1,6 +1,6 @@
 use Rattle.std.proofs.Common.{◌≡◌, ◌↔◌, IsTrue, subst}
-use Rattle.oldtables.proofs.OldFacts.{old_indexes_are}
-use Rattle.oldtables.proofs.schema.are_old_keys.Goals as goal
+use Rattle.store_versions.proofs.OldFacts.{old_indexes_are}
+use Rattle.store_versions.proofs.schema.are_old_keys.Goals as goal
 
 pub returns : goal.returns
 returns c =

@@ -1,4 +1,4 @@
-use Rattle.oldtables.proofs.statement.list.Goals as goal
+use Rattle.store_versions.proofs.statement.list.Goals as goal
 
 pub returns : goal.returns
 returns g c = record {

@@ -1,11 +1,11 @@
 use Rattle.std.proofs.Common.{◌≡◌, Err, rules}
 use Rattle.sqlite.specs.Effect.{Database}
-use Rattle.mailtables.specs.Connection.{TurnsRows}
-use Rattle.oldtables.specs.Third.{AreSecondCopies, RemakesCopies, TurnsThird, flagged}
-use Rattle.mailtables.proofs.CreateLemmas.{inside_then, inside_failed}
-use Rattle.oldtables.proofs.MigrationLemmas.{found_makes, find_failed}
-use Rattle.oldtables.proofs.ThirdLemmas.{turns_third}
-use Rattle.oldtables.proofs.third.migrate_second.Goals as goal
+use Rattle.store_tables.specs.Connection.{TurnsRows}
+use Rattle.store_versions.specs.Third.{AreSecondCopies, RemakesCopies, TurnsThird, flagged}
+use Rattle.store_tables.proofs.CreateLemmas.{inside_then, inside_failed}
+use Rattle.store_versions.proofs.MigrationLemmas.{found_makes, find_failed}
+use Rattle.store_versions.proofs.ThirdLemmas.{turns_third}
+use Rattle.store_versions.proofs.third.migrate_second.Goals as goal
 
 pub returns-in_err-copies : goal.returns-in_err-copies
 returns-in_err-copies g c =

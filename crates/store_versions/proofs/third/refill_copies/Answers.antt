@@ -1,11 +1,11 @@
 use Rattle.std.proofs.Common.{◌≡◌, Err, rules}
-use Rattle.mailtables.specs.CopyTable.{copy_tree}
-use Rattle.mailtables.specs.Connection.{TurnsRows}
-use Rattle.oldtables.specs.SecondSchema.{flagless}
-use Rattle.oldtables.specs.Migration.{joined, renewed}
-use Rattle.oldtables.specs.Third.{flagged}
-use Rattle.oldtables.proofs.MigrationLemmas.{keeps_made, keeps_refused}
-use Rattle.oldtables.proofs.third.refill_copies.Goals as goal
+use Rattle.store_tables.specs.CopyTable.{copy_tree}
+use Rattle.store_tables.specs.Connection.{TurnsRows}
+use Rattle.store_versions.specs.SecondSchema.{flagless}
+use Rattle.store_versions.specs.Migration.{rows_joined, renewed}
+use Rattle.store_versions.specs.Third.{flagged}
+use Rattle.store_versions.proofs.MigrationLemmas.{keeps_made, keeps_refused}
+use Rattle.store_versions.proofs.third.refill_copies.Goals as goal
 
 pub returns-in_err-fill_copies : goal.returns-in_err-fill_copies
 returns-in_err-fill_copies g c =
@@ -16,5 +16,5 @@ returns-in_err-fill_copies g c =
 pub returns : goal.returns
 returns g c =
     let rows = c.args.rows.now in
-    keeps_made g.S.Store (TurnsRows (joined copy_tree flagless rows)) (TurnsRows renewed) (TurnsRows (flagged rows)) c.args.tx.now c.fill_copies.new.tx c.renew_version.new.tx c.fill_copies.result _ c.in_ok-fill_copies.was c.renew_version.result
-    c.fill_copies.ensures c.renew_version.ensures (λ first second tables h. second (joined copy_tree flagless rows tables) (first tables h))
+    keeps_made g.S.Store (TurnsRows (rows_joined copy_tree flagless rows)) (TurnsRows renewed) (TurnsRows (flagged rows)) c.args.tx.now c.fill_copies.new.tx c.renew_version.new.tx c.fill_copies.result _ c.in_ok-fill_copies.was c.renew_version.result
+    c.fill_copies.ensures c.renew_version.ensures (λ first second tables h. second (rows_joined copy_tree flagless rows tables) (first tables h))

@@ -1,11 +1,11 @@
 use Rattle.std.proofs.Common.{◌≡◌, Err, rules}
-use Rattle.mailtables.specs.Schema.{schema_7, mail_schema}
-use Rattle.mailtables.specs.Connection.{TurnsSchema}
-use Rattle.oldtables.specs.Migration.{LosesCopies}
-use Rattle.oldtables.specs.Third.{RemakesCopies}
-use Rattle.mailtables.proofs.CreateLemmas.{inside_then, inside_failed}
-use Rattle.oldtables.proofs.ThirdLemmas.{remakes_copies}
-use Rattle.oldtables.proofs.third.remake_copies.Goals as goal
+use Rattle.store_tables.specs.Schema.{schema_7, mail_schema}
+use Rattle.store_tables.specs.Connection.{TurnsSchema}
+use Rattle.store_versions.specs.Migration.{LosesCopies}
+use Rattle.store_versions.specs.Third.{RemakesCopies}
+use Rattle.store_tables.proofs.CreateLemmas.{inside_then, inside_failed}
+use Rattle.store_versions.proofs.ThirdLemmas.{remakes_copies}
+use Rattle.store_versions.proofs.third.remake_copies.Goals as goal
 
 pub returns-in_err-drop_copy : goal.returns-in_err-drop_copy
 returns-in_err-drop_copy g c =

@@ -2,9 +2,9 @@ use Rattle.std.proofs.Common.{◌≡◌, true, refl, subst, rules, OnOk}
 use Rattle.sqlite.specs.Held.{state}
 use Rattle.sqlite.specs.State.{HasCleanDisk, Survives}
 use Rattle.sqlite.proofs.StateLemmas.{survives_weaker}
-use Rattle.oldtables.specs.Upgrade.{MigratesBy, MayMigrate}
-use Rattle.mailtables.proofs.CreateLemmas.{all_made, turns_all}
-use Rattle.oldtables.proofs.upgrade.migrate.Goals as goal
+use Rattle.store_versions.specs.Upgrade.{MigratesBy, MayMigrate}
+use Rattle.store_tables.proofs.CreateLemmas.{all_made, turns_all}
+use Rattle.store_versions.proofs.upgrade.migrate.Goals as goal
 
 pub returns-clause-made : goal.returns-clause-made
 returns-clause-made g c =

@@ -1,4 +1,4 @@
-use Rattle.oldtables.proofs.upgrade.migrate_in.Goals as goal
+use Rattle.store_versions.proofs.upgrade.migrate_in.Goals as goal
 
 pub returns-in-Second : goal.returns-in-Second
 returns-in-Second g c = rw c.in-Second.is c.migrate_second.ensures

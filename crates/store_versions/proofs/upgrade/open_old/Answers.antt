@@ -1,7 +1,7 @@
 use Rattle.std.proofs.Common.{◌≡◌, true, Ok, refl, rules}
 use Rattle.sqlite.specs.Held.{state}
-use Rattle.oldtables.proofs.UpgradeLemmas.{old_all}
-use Rattle.oldtables.proofs.upgrade.open_old.Goals as goal
+use Rattle.store_versions.proofs.UpgradeLemmas.{old_all}
+use Rattle.store_versions.proofs.upgrade.open_old.Goals as goal
 
 pub returns-clause-opens : goal.returns-clause-opens
 returns-clause-opens g c =

@@ -1,4 +1,4 @@
-use Rattle.oldtables.proofs.version.are_older.Goals as goal
+use Rattle.store_versions.proofs.version.are_older.Goals as goal
 
 pub returns-in-Second : goal.returns-in-Second
 returns-in-Second c = rw c.in-Second.is c.are_version.ensures

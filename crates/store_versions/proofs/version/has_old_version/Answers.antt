@@ -1,9 +1,9 @@
 use Rattle.std.proofs.Common.{◌≡◌, ◌↔◌, Err, IsTrue, rules}
 use Rattle.sqlite.specs.Held.{state}
-use Rattle.oldtables.specs.Upgrade.{IsOlder, IsOlderSchema, version_of}
-use Rattle.mailtables.proofs.VersionLemmas.{says_version, asks_refused}
-use Rattle.oldtables.proofs.OldVersionLemmas.{asks_older, older_says}
-use Rattle.oldtables.proofs.version.has_old_version.Goals as goal
+use Rattle.store_versions.specs.Upgrade.{IsOlder, IsOlderSchema, version_of}
+use Rattle.store_tables.proofs.VersionLemmas.{says_version, asks_refused}
+use Rattle.store_versions.proofs.OldVersionLemmas.{asks_older, older_says}
+use Rattle.store_versions.proofs.version.has_old_version.Goals as goal
 
 pub returns-in_err-rows : goal.returns-in_err-rows
 returns-in_err-rows g c =

@@ -1,6 +1,6 @@
-use Rattle.mailtables.proofs.WriteLemmas.{statement_makes}
-use Rattle.oldtables.proofs.OldVersionLemmas.{removes_version}
-use Rattle.oldtables.proofs.version.remove_version.Goals as goal
+use Rattle.store_tables.proofs.WriteLemmas.{statement_makes}
+use Rattle.store_versions.proofs.OldVersionLemmas.{removes_version}
+use Rattle.store_versions.proofs.version.remove_version.Goals as goal
 
 pub returns : goal.returns
 returns g c =

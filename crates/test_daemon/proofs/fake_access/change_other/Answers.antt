@@ -1,7 +1,7 @@
 use Rattle.std.proofs.Common.{◌≡◌, ◌∷◌, ◌++◌, ◌∙◌, [], true, false, sym, ap, subst, rules}
-use Rattle.daemonfakes.specs.Shelves.{IsLet, LetsOthers}
-use Rattle.daemonfakes.proofs.ShelfLemmas.{lets_then, lets_still}
-use Rattle.daemonfakes.proofs.desk.change_other.Goals as goal
+use Rattle.test_daemon.specs.Shelves.{IsLet, LetsOthers}
+use Rattle.test_daemon.proofs.ShelfLemmas.{lets_then, lets_still}
+use Rattle.test_daemon.proofs.fake_access.change_other.Goals as goal
 
 pub returns-then-is_err-clause-lets : goal.returns-then-is_err-clause-lets
 returns-then-is_err-clause-lets g c = λ s lets. subst (λ others. LetsOthers g.S.Shelf.view others s c.args.shelf.now) (sym c.reserve.ensures.items) lets

@@ -2,14 +2,14 @@
 use Rattle.std.proofs.Common.{◌≡◌, is_ok, refl, rules, subst}
 use Rattle.sqlite.specs.Held.{state}
 use Rattle.sqlite.specs.Steps.{over_memory}
-use Rattle.mailengine.specs.AccountEvents.{Delivery}
-use Rattle.mailengine.specs.Hosts.{ActsDelivery, MayRefuseDelivery}
-use Rattle.mailengine.specs.declared.answer.Answer.TheVariants.{Delivered}
-use Rattle.mailengine.specs.declared.event.Event.TheVariants.{Deliver}
-use Rattle.mailengine.specs.Terms.{terms}
-use Rattle.mailengine.proofs.HostLemmas.{delivery_may}
-use Rattle.daemonfakes.proofs.MemoryLemmas.{lets_by}
-use Rattle.daemonfakes.proofs.memory.let_delivery.Goals as goal
+use Rattle.store_engine.specs.AccountEvents.{Delivery}
+use Rattle.store_engine.specs.Hosts.{ActsDelivery, MayRefuseDelivery}
+use Rattle.store_engine.specs.declared.answer.Answer.TheVariants.{Delivered}
+use Rattle.store_engine.specs.declared.event.Event.TheVariants.{Deliver}
+use Rattle.store_engine.specs.Terms.{terms}
+use Rattle.store_engine.proofs.HostLemmas.{delivery_may}
+use Rattle.test_daemon.proofs.MemoryLemmas.{lets_by}
+use Rattle.test_daemon.proofs.memory.let_delivery.Goals as goal
 
 pub returns : goal.returns
 returns c =

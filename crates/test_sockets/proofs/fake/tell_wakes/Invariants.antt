@@ -1,5 +1,5 @@
 use Rattle.std.proofs.Common.{◌≡◌}
-use Rattle.wirefakes.proofs.fake.tell_wakes.Given as goal
+use Rattle.test_sockets.proofs.fake.tell_wakes.Given as goal
 
 abbrev pub invariant-loop-wake : goal.invariant-loop-wake
 invariant-loop-wake l = l.told ≡ l.ready.items

@@ -2,8 +2,8 @@
 use Rattle.std.proofs.Common.{◌≡◌, suc, rules}
 use Prim.Native.Nat.{zero}
 use Rattle.sqlite.specs.Held.{state}
-use Rattle.sievedrun.proofs.WordLemmas.{message_read, message_none}
-use Rattle.sievedrun.proofs.account_read.MessageOfAccountRead.read.Goals as goal
+use Rattle.cli_run.proofs.WordLemmas.{message_read, message_none}
+use Rattle.cli_run.proofs.account_read.MessageOfAccountRead.read.Goals as goal
 
 pub returns-in-Some : goal.returns-in-Some
 returns-in-Some g c =

@@ -1,10 +1,10 @@
 -- The line was written, and then what is known of the cause; or it wasn't, and nothing follows.
 use Rattle.std.proofs.Common.{◌≡◌, ◌++◌, is_ok, true, false, subst, rules}
 use Rattle.std.specs.Option.{option_copied}
-use Rattle.sievedrun.specs.Faults.{cause_line}
-use Rattle.sievedrun.specs.Streams.{IsWritten}
-use Rattle.sievedrun.proofs.StreamLemmas.{written_cut, written_then}
-use Rattle.sievedrun.proofs.trouble.Trouble.tell.Goals as goal
+use Rattle.cli_run.specs.Faults.{cause_line}
+use Rattle.cli_run.specs.Streams.{IsWritten}
+use Rattle.cli_run.proofs.StreamLemmas.{written_cut, written_then}
+use Rattle.cli_run.proofs.fault_with_cause.FaultWithCause.tell.Goals as goal
 
 pub returns-then-is_ok : goal.returns-then-is_ok
 returns-then-is_ok g c =

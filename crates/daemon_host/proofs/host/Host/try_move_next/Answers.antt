@@ -1,22 +1,22 @@
 -- What became of a message of the store that was reached, behind calls that changed no account, and left the sink as it was; where that store
 -- is had still.
 use Rattle.std.proofs.Common.{Some, ◌∙◌, refl, subst, sym}
-use Rattle.sieveddaemon.proofs.StillLemmas.{still_then}
-use Rattle.daemonhosts.specs.Held.{MovesBy, IsClean, view_of}
-use Rattle.daemonhosts.proofs.HeldLemmas.{kept_behind, kept_then, moved_behind}
-use Rattle.daemonhosts.proofs.host.Host.carry_on.Goals as goal
+use Rattle.daemon_core.proofs.StillLemmas.{still_then}
+use Rattle.daemon_host.specs.Held.{MovesBy, IsClean, host_view}
+use Rattle.daemon_host.proofs.HeldLemmas.{kept_behind, kept_then, moved_behind}
+use Rattle.daemon_host.proofs.host.Host.try_move_next.Goals as goal
 
 pub returns-clause-moves : goal.returns-clause-moves
 returns-clause-moves g c = λ clean.
-    let view = view_of g.K.S.Store g.K.Keeper.tells g.K.Keeper.holds in
+    let view = host_view g.K.S.Store g.K.Keeper.tells g.K.Keeper.holds in
     let kept = c.is_kept.ensures.kept clean in
-    let moves : MovesBy view (IsClean g.K.S.Store g.K.Keeper.tells) (Some c.in_ok-moving.moving) c.args.self.now.held c.go_on.new.self.held = λ clean.
-    moved_behind view c.args.self.now.held c.reach.new.self.held c.go_on.new.self.held c.in_ok-moving.moving
+    let moves : MovesBy view (IsClean g.K.S.Store g.K.Keeper.tells) (Some c.in_ok-moving.moving) c.args.self.now.held c.move_next_on_route.new.self.held = λ clean.
+    moved_behind view c.args.self.now.held c.reach.new.self.held c.move_next_on_route.new.self.held c.in_ok-moving.moving
     (still_then view c.args.self.now.held c.may_move.new.self.held c.reach.new.self.held c.may_move.ensures.shown c.reach.ensures.shown) (c.in_ok-moving.ensures.moves clean) in
     subst (λ held. MovesBy view (IsClean g.K.S.Store g.K.Keeper.tells) (Some c.in_ok-moving.moving) c.args.self.now.held held) (sym kept.1) moves clean
 
 pub returns-clause-keeps : goal.returns-clause-keeps
 returns-clause-keeps g c =
-    kept_then g.T.MailSink.tells g.T.MailSink.kept c.args.self.now.held c.go_on.new.self.held c.is_kept.new.self.held c.in_ok-moving.moving c.is_kept.ensures.sink
-    (kept_behind g.T.MailSink.tells g.T.MailSink.kept c.args.self.now.held c.reach.new.self.held c.go_on.new.self.held c.go_on.new.self.held c.in_ok-moving.moving (c.reach.ensures.sink ∙ c.may_move.ensures.sink) refl
+    kept_then g.T.MailSink.tells g.T.MailSink.kept c.args.self.now.held c.move_next_on_route.new.self.held c.is_kept.new.self.held c.in_ok-moving.moving c.is_kept.ensures.sink
+    (kept_behind g.T.MailSink.tells g.T.MailSink.kept c.args.self.now.held c.reach.new.self.held c.move_next_on_route.new.self.held c.move_next_on_route.new.self.held c.in_ok-moving.moving (c.reach.ensures.sink ∙ c.may_move.ensures.sink) refl
     c.in_ok-moving.ensures.keeps)

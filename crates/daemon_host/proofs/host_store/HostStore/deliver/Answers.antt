@@ -1,16 +1,16 @@
 -- What `deliver` makes of the store that is had.
 use Rattle.std.proofs.Common.{Ok, Err, subst, sym}
 use Rattle.sqlite.specs.Held.{state}
-use Rattle.mailengine.specs.declared.answer.Answer.TheVariants.{Delivered, Refused}
-use Rattle.sieveddaemon.specs.Desk.{delivery_of}
-use Rattle.daemonhosts.specs.Held.{view_of, ShowsBy, LeavesBy}
-use Rattle.daemonhosts.proofs.HeldLemmas.{done_alone, delivered_as, delivered_crash}
-use Rattle.mailengine.specs.Terms.{terms_of}
-use Rattle.daemonhosts.proofs.held.HeldStore.deliver.Goals as goal
+use Rattle.store_engine.specs.declared.answer.Answer.TheVariants.{Delivered, Refused}
+use Rattle.daemon_core.specs.StoreAccess.{delivery_of}
+use Rattle.daemon_host.specs.Held.{host_view, ShowsBy, LeavesBy}
+use Rattle.daemon_host.proofs.HeldLemmas.{done_alone, delivered_as, delivered_crash}
+use Rattle.store_engine.specs.Terms.{terms_of}
+use Rattle.daemon_host.proofs.host_store.HostStore.deliver.Goals as goal
 
 pub returns-in-Ok-deliver : goal.returns-in-Ok-deliver
 returns-in-Ok-deliver g c = λ kept clean.
-    done_alone g.K.S.Store (view_of g.K.S.Store g.K.Keeper.tells g.K.Keeper.holds) c.args.self.now _ (delivery_of c.args.parcel.now (terms_of c.args.when c.args.default)) (Delivered c.in-Ok-deliver.report) c.in-Some.store c.deliver.new.store kept kept
+    done_alone g.K.S.Store (host_view g.K.S.Store g.K.Keeper.tells g.K.Keeper.holds) c.args.self.now _ (delivery_of c.args.parcel.now (terms_of c.args.when c.args.default)) (Delivered c.in-Ok-deliver.report) c.in-Some.store c.deliver.new.store kept kept
     (λ accounts shown. subst (λ o. ShowsBy g.K.S.Store g.K.Keeper.tells (g.K.Keeper.holds c.args.self.now.keeper) o accounts) c.in-Some.is shown)
     (λ accounts shown. shown)
     (λ trees left. subst (λ o. LeavesBy g.K.S.Store o trees) (sym c.in-Some.is) left)
@@ -24,7 +24,7 @@ returns-in-Ok-deliver g c = λ kept clean.
 
 pub returns-in-Err : goal.returns-in-Err
 returns-in-Err g c = λ kept clean.
-    done_alone g.K.S.Store (view_of g.K.S.Store g.K.Keeper.tells g.K.Keeper.holds) c.args.self.now _ (delivery_of c.args.parcel.now (terms_of c.args.when c.args.default)) (Refused c.in-Err.refusal) c.in-Some.store c.deliver.new.store kept kept
+    done_alone g.K.S.Store (host_view g.K.S.Store g.K.Keeper.tells g.K.Keeper.holds) c.args.self.now _ (delivery_of c.args.parcel.now (terms_of c.args.when c.args.default)) (Refused c.in-Err.refusal) c.in-Some.store c.deliver.new.store kept kept
     (λ accounts shown. subst (λ o. ShowsBy g.K.S.Store g.K.Keeper.tells (g.K.Keeper.holds c.args.self.now.keeper) o accounts) c.in-Some.is shown)
     (λ accounts shown. shown)
     (λ trees left. subst (λ o. LeavesBy g.K.S.Store o trees) (sym c.in-Some.is) left)

@@ -1,9 +1,9 @@
 -- What was found in the store that is had.
 use Rattle.std.proofs.Common.{subst, sym}
-use Rattle.mailmoves.specs.Enduring.{MayLeave, none_tried, leaves_of}
+use Rattle.maildir_moves.specs.Enduring.{MayLeave, none_tried, leaves_of}
 use Rattle.sqlite.specs.Held.{state}
-use Rattle.daemonhosts.specs.Held.{ShowsBy, LeavesBy}
-use Rattle.daemonhosts.proofs.held.HeldStore.find_account.Goals as goal
+use Rattle.daemon_host.specs.Held.{ShowsBy, LeavesBy}
+use Rattle.daemon_host.proofs.host_store.HostStore.find_account.Goals as goal
 
 pub returns-clause-seeks : goal.returns-clause-seeks
 returns-clause-seeks g c = λ clean accounts shown.

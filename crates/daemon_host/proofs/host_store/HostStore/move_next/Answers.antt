@@ -1,11 +1,11 @@
 -- What became of a message of the store that is had.
 use Rattle.std.proofs.Common.{subst, sym}
-use Rattle.mailmoves.specs.Enduring.{MayLeave, leaves_of}
-use Rattle.mailmoves.specs.Moving.{TriedMoving}
+use Rattle.maildir_moves.specs.Enduring.{MayLeave, leaves_of}
+use Rattle.maildir_moves.specs.Moving.{TriedMoving}
 use Rattle.sqlite.specs.Held.{state}
-use Rattle.daemonhosts.specs.Held.{ShowsBy, LeavesBy}
-use Rattle.daemonhosts.proofs.HeldLemmas.{has_kept}
-use Rattle.daemonhosts.proofs.held.HeldStore.move_on.Goals as goal
+use Rattle.daemon_host.specs.Held.{ShowsBy, LeavesBy}
+use Rattle.daemon_host.proofs.HeldLemmas.{has_kept}
+use Rattle.daemon_host.proofs.host_store.HostStore.move_next.Goals as goal
 
 pub returns-clause-moves : goal.returns-clause-moves
 returns-clause-moves g c = λ clean w shown.

@@ -1,9 +1,9 @@
 -- A store that was taken shows what the tables offered, and nobody was waited for.
 use Rattle.std.proofs.Common.{◌≡◌, None, Some, rules, subst, sym}
-use Rattle.mailmoves.specs.Enduring.{MayLeave, none_tried}
-use Rattle.daemonhosts.specs.Held.{ShowsBy, LeavesBy}
-use Rattle.daemonhosts.proofs.HeldLemmas.{kept, taken}
-use Rattle.daemonhosts.proofs.held.HeldStore.take.Goals as goal
+use Rattle.maildir_moves.specs.Enduring.{MayLeave, none_tried}
+use Rattle.daemon_host.specs.Held.{ShowsBy, LeavesBy}
+use Rattle.daemon_host.proofs.HeldLemmas.{kept, taken}
+use Rattle.daemon_host.proofs.host_store.HostStore.take.Goals as goal
 
 pub returns-clause-shown : goal.returns-clause-shown
 returns-clause-shown g c accounts shown =

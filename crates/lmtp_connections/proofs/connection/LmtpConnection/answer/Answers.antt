@@ -1,7 +1,7 @@
 use Rattle.std.proofs.Common.{refl}
-use Rattle.mailposts.specs.declared.post.Post.{Post as Code}
-use Rattle.mailposts.proofs.PostLemmas.{answers}
-use Rattle.mailposts.proofs.post.Post.answer.Goals as goal
+use Rattle.lmtp_connections.specs.declared.connection.LmtpConnection.{LmtpConnection as Code}
+use Rattle.lmtp_connections.proofs.PostLemmas.{answers}
+use Rattle.lmtp_connections.proofs.connection.LmtpConnection.answer.Goals as goal
 
 pub returns-clause-does : goal.returns-clause-does
 returns-clause-does c =

@@ -1,10 +1,10 @@
 use Rattle.std.proofs.Common.{◌≡◌, ◌∙◌, refl, sym, ap, subst}
-use Rattle.lmtp.specs.declared.receiver.Lookup.TheVariants.{Known, Unknown, Fault, NoRoom}
-use Rattle.mailposts.specs.Posts.{taken_with, Asked}
-use Rattle.mailposts.specs.Stands.{Does}
-use Rattle.mailposts.specs.declared.post.Post.{Post as Code}
-use Rattle.mailposts.proofs.PostLemmas.{found, tried, not_taken}
-use Rattle.mailposts.proofs.post.Post.answer_recipient.Goals as goal
+use Rattle.lmtp_dialogue.specs.declared.receiver.Lookup.TheVariants.{Known, Unknown, Fault, NoRoom}
+use Rattle.lmtp_connections.specs.Connections.{taken_with, Asked}
+use Rattle.lmtp_connections.specs.Stands.{ConnectionDoes}
+use Rattle.lmtp_connections.specs.declared.connection.LmtpConnection.{LmtpConnection as Code}
+use Rattle.lmtp_connections.proofs.PostLemmas.{found, tried, not_taken}
+use Rattle.lmtp_connections.proofs.connection.LmtpConnection.answer_recipient.Goals as goal
 
 pub returns-in-Known-clause-does : goal.returns-in-Known-clause-does
 returns-in-Known-clause-does c =
@@ -19,9 +19,9 @@ pub returns-in-Some-clause-does : goal.returns-in-Some-clause-does
 returns-in-Some-clause-does c =
     let s = c.args.self.now in
     let q = c.args.question in
-    subst (λ l. Does c.args.now (Asked q.user l) c.try_next.result s c.try_next.new.self) (sym c.in-Unknown.is)
-    (subst (λ e. Does c.args.now (Asked q.user Unknown) c.try_next.result s e) (sym c.try_next.ensures.rest)
-    (subst (λ x. Does c.args.now (Asked q.user Unknown) x s (record s { tally = c.try_next.new.self.tally })) (sym c.try_next.ensures.said)
+    subst (λ l. ConnectionDoes c.args.now (Asked q.user l) c.try_next.result s c.try_next.new.self) (sym c.in-Unknown.is)
+    (subst (λ e. ConnectionDoes c.args.now (Asked q.user Unknown) c.try_next.result s e) (sym c.try_next.ensures.rest)
+    (subst (λ x. ConnectionDoes c.args.now (Asked q.user Unknown) x s (record s { tally = c.try_next.new.self.tally })) (sym c.try_next.ensures.said)
     (tried c.args.now c.in-Some.next s c.try_next.new.self.tally q c.requires.asked c.in-Some.is c.try_next.ensures.tally)))
 
 pub returns-in-None-clause-does : goal.returns-in-None-clause-does

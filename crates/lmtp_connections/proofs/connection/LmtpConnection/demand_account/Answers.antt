@@ -1,10 +1,10 @@
 use Rattle.std.proofs.Common.{◌≡◌, ◌∙◌, Some, ap, sym, rules, true, false, length, subst, List, ℕ}
 use Rattle.std.specs.Prelude.{slice_get}
-use Rattle.lmtp.specs.Names.{AreForms}
-use Rattle.mailposts.specs.Stands.{Follows}
-use Rattle.mailposts.specs.declared.demand.Question.{Question}
-use Rattle.mailposts.proofs.DemandLemmas.{put_off, account}
-use Rattle.mailposts.proofs.post.Post.demand_account.Goals as goal
+use Rattle.lmtp_dialogue.specs.Names.{AreForms}
+use Rattle.lmtp_connections.specs.Stands.{FormFollows}
+use Rattle.lmtp_connections.specs.declared.demand.Question.{Question}
+use Rattle.lmtp_connections.proofs.DemandLemmas.{put_off, account}
+use Rattle.lmtp_connections.proofs.connection.LmtpConnection.demand_account.Goals as goal
 
 pub returns-then-not-may_ask : goal.returns-then-not-may_ask
 returns-then-not-may_ask c =
@@ -19,5 +19,5 @@ returns c =
     let address : c.in_ok-address.address ≡ c.args.address.now = c.in_ok-address.ensures in
     let there : slice_get forms c.args.self.now.tally.tried ≡ Some c.in_ok-user.user =
     ap (λ (xs : List (List ℕ)). slice_get xs c.args.self.now.tally.tried) (sym c.as_slice.ensures) ∙ (sym c.in-Some.ensures ∙ ap (λ b. Some b) (sym c.in_ok-user.ensures)) in
-    let follows : Follows c.args.self.now.tally.tried (length forms) c.following.result = subst (λ n. Follows c.args.self.now.tally.tried n c.following.result) c.len.ensures c.following.ensures in
+    let follows : FormFollows c.args.self.now.tally.tried (length forms) c.following.result = subst (λ n. FormFollows c.args.self.now.tally.tried n c.following.result) c.len.ensures c.following.ensures in
     account c.args.now c.args.self.now question forms (rw address c.requires) (subst (λ a. AreForms c.args.self.now.names a forms) (sym address) c.in_ok-forms.ensures) there follows (c.may_ask.ensures.may yes)

@@ -1,8 +1,8 @@
 use Rattle.std.proofs.Common.{◌≡◌, ◌∙◌, Some, ap, sym}
-use Rattle.mailposts.specs.Posts.{earlier}
-use Rattle.mailposts.specs.Stands.{told_before}
-use Rattle.mailposts.proofs.DemandLemmas.{again}
-use Rattle.mailposts.proofs.post.Post.demand_delivery.Goals as goal
+use Rattle.lmtp_connections.specs.Connections.{earlier}
+use Rattle.lmtp_connections.specs.Stands.{told_before}
+use Rattle.lmtp_connections.proofs.DemandLemmas.{again}
+use Rattle.lmtp_connections.proofs.connection.LmtpConnection.demand_delivery.Goals as goal
 
 pub returns-in_ok-try_clone-in-Some : goal.returns-in_ok-try_clone-in-Some
 returns-in_ok-try_clone-in-Some c =

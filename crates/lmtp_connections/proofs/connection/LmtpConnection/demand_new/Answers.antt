@@ -1,12 +1,12 @@
 use Rattle.std.proofs.Common.{◌≡◌, rules, true, false}
-use Rattle.lmtp.specs.Copies.{was_delivered}
-use Rattle.mailposts.specs.Posts.{has_long_header}
-use Rattle.mailposts.proofs.DemandLemmas.{too_long, goes_round, puts_off, delivery}
-use Rattle.mailposts.proofs.post.Post.demand_new.Goals as goal
+use Rattle.lmtp_dialogue.specs.Copies.{was_delivered}
+use Rattle.lmtp_connections.specs.Connections.{has_long_text_header}
+use Rattle.lmtp_connections.proofs.DemandLemmas.{too_long, goes_round, puts_off, delivery}
+use Rattle.lmtp_connections.proofs.connection.LmtpConnection.demand_new.Goals as goal
 
 pub returns-then-has_long_header : goal.returns-then-has_long_header
 returns-then-has_long_header c =
-    let is : has_long_header c.args.text.now ≡ true = search rules in
+    let is : has_long_text_header c.args.text.now ≡ true = search rules in
     too_long c.args.now c.args.self.now c.args.addressee.now c.args.sender.now c.args.text.now c.requires.owes is
 
 pub returns-then-branch : goal.returns-then-branch
@@ -16,14 +16,14 @@ returns-then-branch c =
 
 pub returns-then-not-may_ask : goal.returns-then-not-may_ask
 returns-then-not-may_ask c =
-    let headed : has_long_header c.args.text.now ≡ false = search rules in
+    let headed : has_long_text_header c.args.text.now ≡ false = search rules in
     let is : was_delivered c.args.addressee.now.address c.args.text.now ≡ false = search rules in
     let no : c.may_ask.result ≡ false = search rules in
     puts_off c.args.now c.args.self.now c.args.addressee.now c.args.sender.now c.args.text.now c.requires.owes c.requires.once headed is (c.may_ask.ensures.waited no)
 
 pub returns : goal.returns
 returns c =
-    let headed : has_long_header c.args.text.now ≡ false = search rules in
+    let headed : has_long_text_header c.args.text.now ≡ false = search rules in
     let is : was_delivered c.args.addressee.now.address c.args.text.now ≡ false = search rules in
     let yes : c.may_ask.result ≡ true = search rules in
     let made = c.in_ok-parcel.ensures in

@@ -1,10 +1,10 @@
 use Rattle.std.proofs.Common.{◌≡◌, ◌∙◌, Some, ap, sym, subst, rules}
 use Rattle.std.specs.Prelude.{slice_get}
-use Rattle.mailposts.specs.Stands.{Demands}
-use Rattle.mailposts.specs.declared.addressee.Became.TheVariants.{Refused}
-use Rattle.mailposts.specs.declared.demand.Demand.TheVariants.{Reply}
-use Rattle.mailposts.proofs.DemandLemmas.{owes, unkept}
-use Rattle.mailposts.proofs.post.Post.demand_reply.Goals as goal
+use Rattle.lmtp_connections.specs.Stands.{Demands}
+use Rattle.lmtp_connections.specs.declared.addressee.DeliveryResult.TheVariants.{Refused}
+use Rattle.lmtp_connections.specs.declared.demand.Demand.TheVariants.{Reply}
+use Rattle.lmtp_connections.proofs.DemandLemmas.{owes, unkept}
+use Rattle.lmtp_connections.proofs.connection.LmtpConnection.demand_reply.Goals as goal
 
 pub demand_delivery-requires-clause-owes : goal.demand_delivery-requires-clause-owes
 demand_delivery-requires-clause-owes c =

@@ -1,6 +1,6 @@
 use Rattle.std.proofs.Common.{refl}
-use Rattle.mailposts.proofs.PostLemmas.{goes_on}
-use Rattle.mailposts.proofs.post.Post.go_on.Goals as goal
+use Rattle.lmtp_connections.proofs.PostLemmas.{goes_on}
+use Rattle.lmtp_connections.proofs.connection.LmtpConnection.go_on.Goals as goal
 
 pub returns-clause-goes : goal.returns-clause-goes
 returns-clause-goes c =

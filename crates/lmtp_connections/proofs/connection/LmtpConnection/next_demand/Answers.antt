@@ -1,5 +1,5 @@
 use Rattle.std.proofs.Common.{inl, inr}
-use Rattle.mailposts.proofs.post.Post.next_demand.Goals as goal
+use Rattle.lmtp_connections.proofs.connection.LmtpConnection.next_demand.Goals as goal
 
 pub returns-in-Need : goal.returns-in-Need
 returns-in-Need c = λ p stands. inl (rw c.in-Need.is at c.next.ensures p.dialogue stands.holds.dialogue)

@@ -1,7 +1,7 @@
 use Rattle.std.proofs.Common.{◌≡◌, ◌∙◌, ◌∷◌, ◌++◌, Some, ap, sym, get_or, set}
 use Rattle.std.proofs.Math.Seq.{set-append_seam, get_or-append_seam}
-use Rattle.mailposts.specs.declared.addressee.Addressee.{Addressee}
-use Rattle.mailposts.proofs.post.Post.note_became.Goals as goal
+use Rattle.lmtp_connections.specs.declared.addressee.Addressee.{Addressee}
+use Rattle.lmtp_connections.proofs.connection.LmtpConnection.note_became.Goals as goal
 
 pub returns-in-Some-clause-noted : goal.returns-in-Some-clause-noted
 returns-in-Some-clause-noted c = λ before after it items told.

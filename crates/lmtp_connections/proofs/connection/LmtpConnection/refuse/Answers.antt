@@ -1,10 +1,10 @@
 use Rattle.std.proofs.Common.{◌∙◌, true, false, refl, sym, ap, subst}
-use Rattle.lmtp.specs.Receivers.{Refuses as RefusesIn}
-use Rattle.lmtp.specs.declared.receiver.Receiver.{Receiver}
-use Rattle.mailposts.specs.Stands.{Refuses}
-use Rattle.mailposts.specs.declared.post.Post.{Post as Code}
-use Rattle.mailposts.proofs.PostLemmas.{declines}
-use Rattle.mailposts.proofs.post.Post.refuse.Goals as goal
+use Rattle.lmtp_dialogue.specs.Receivers.{ReceiverRefuses as RefusesIn}
+use Rattle.lmtp_dialogue.specs.declared.receiver.Receiver.{Receiver}
+use Rattle.lmtp_connections.specs.Stands.{ConnectionRefuses}
+use Rattle.lmtp_connections.specs.declared.connection.LmtpConnection.{LmtpConnection as Code}
+use Rattle.lmtp_connections.proofs.PostLemmas.{declines}
+use Rattle.lmtp_connections.proofs.connection.LmtpConnection.refuse.Goals as goal
 
 pub returns-then-did-clause-ok : goal.returns-then-did-clause-ok
 returns-then-did-clause-ok c =
@@ -12,7 +12,7 @@ returns-then-did-clause-ok c =
     let m : Code = record s { receiver = c.refuse.new.self } in
     let refused : RefusesIn c.args.room s.receiver c.refuse.new.self c.args.out.now c.refuse.new.out true =
     subst (RefusesIn c.args.room s.receiver c.refuse.new.self c.args.out.now c.refuse.new.out) c.if-did.true c.in_ok-did.ensures.ok in
-    subst (λ did. Refuses c.args.now c.args.room c.refuse.new.out did s c.go_on.new.self) (sym c.if-did.true)
+    subst (λ did. ConnectionRefuses c.args.now c.args.room c.refuse.new.out did s c.go_on.new.self) (sym c.if-did.true)
     (declines c.args.now c.args.room s m c.go_on.new.self c.args.out.now c.refuse.new.out c.requires.out refused c.refuse.ensures.hello refl refl refl c.go_on.ensures.goes)
 
 pub returns-else-did-clause-ok : goal.returns-else-did-clause-ok
@@ -21,5 +21,5 @@ returns-else-did-clause-ok c =
     let m : Code = record s { receiver = c.refuse.new.self } in
     let none : RefusesIn c.args.room s.receiver c.refuse.new.self c.args.out.now c.refuse.new.out false =
     subst (RefusesIn c.args.room s.receiver c.refuse.new.self c.args.out.now c.refuse.new.out) c.if-did.false c.in_ok-did.ensures.ok in
-    subst (λ did. Refuses c.args.now c.args.room c.refuse.new.out did s m) (sym c.if-did.false)
+    subst (λ did. ConnectionRefuses c.args.now c.args.room c.refuse.new.out did s m) (sym c.if-did.false)
     (none.1 ∙ c.requires.out, ap (λ (r : Receiver). record s { receiver = r }) none.0, λ p stands. none.2 p.dialogue stands.holds.dialogue)

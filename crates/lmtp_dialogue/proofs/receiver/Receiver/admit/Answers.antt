@@ -1,7 +1,7 @@
 use Rattle.std.proofs.Common.{refl}
-use Rattle.lmtp.specs.declared.receiver.Receiver.{Receiver}
-use Rattle.lmtp.proofs.AnswerLemmas.{admits, admits_none}
-use Rattle.lmtp.proofs.receiver.Receiver.admit.Goals as goal
+use Rattle.lmtp_dialogue.specs.declared.receiver.Receiver.{Receiver}
+use Rattle.lmtp_dialogue.proofs.AnswerLemmas.{admits, admits_none}
+use Rattle.lmtp_dialogue.proofs.receiver.Receiver.admit.Goals as goal
 
 pub returns-in-Asking-clause-goes : goal.returns-in-Asking-clause-goes
 returns-in-Asking-clause-goes c =

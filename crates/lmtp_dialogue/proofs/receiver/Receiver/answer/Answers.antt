@@ -1,7 +1,7 @@
 use Rattle.std.proofs.Common.{ap, inl, inr}
-use Rattle.lmtp.specs.Receivers.{reads_lines}
-use Rattle.lmtp.proofs.AnswerLemmas.{no_lines, no_lines_next}
-use Rattle.lmtp.proofs.receiver.Receiver.answer.Goals as goal
+use Rattle.lmtp_dialogue.specs.Receivers.{reads_lines}
+use Rattle.lmtp_dialogue.proofs.AnswerLemmas.{no_lines, no_lines_next}
+use Rattle.lmtp_dialogue.proofs.receiver.Receiver.answer.Goals as goal
 
 pub returns-in-Asking-clause-ok : goal.returns-in-Asking-clause-ok
 returns-in-Asking-clause-ok c =

@@ -1,7 +1,7 @@
 use Rattle.std.proofs.Common.{◌≤◌, length, subst, refl}
-use Rattle.lmtp.specs.Lines.{Skips}
-use Rattle.lmtp.proofs.ReceiverLemmas.{takes_long}
-use Rattle.lmtp.proofs.receiver.Receiver.drop_line.Goals as goal
+use Rattle.lmtp_dialogue.specs.Lines.{Skips}
+use Rattle.lmtp_dialogue.proofs.ReceiverLemmas.{takes_long}
+use Rattle.lmtp_dialogue.proofs.receiver.Receiver.drop_line.Goals as goal
 
 pub returns-clause-takes : goal.returns-clause-takes
 returns-clause-takes c =

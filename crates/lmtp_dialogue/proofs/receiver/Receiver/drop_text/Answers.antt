@@ -1,7 +1,7 @@
 use Rattle.std.proofs.Common.{refl}
-use Rattle.lmtp.proofs.FeedLemmas.{feeds_nothing}
-use Rattle.lmtp.proofs.ReceiverLemmas.{keeps_less}
-use Rattle.lmtp.proofs.receiver.Receiver.drop_text.Goals as goal
+use Rattle.lmtp_dialogue.proofs.FeedLemmas.{feeds_nothing}
+use Rattle.lmtp_dialogue.proofs.ReceiverLemmas.{keeps_less}
+use Rattle.lmtp_dialogue.proofs.receiver.Receiver.drop_text.Goals as goal
 
 pub returns-in-Sending-clause-stands : goal.returns-in-Sending-clause-stands
 returns-in-Sending-clause-stands c =

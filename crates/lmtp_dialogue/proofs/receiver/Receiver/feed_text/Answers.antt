@@ -1,7 +1,7 @@
 use Rattle.std.proofs.Common.{List, ℕ, ap, ◌∙◌, length, take, refl, subst}
-use Rattle.lmtp.specs.Texts.{Feeds}
-use Rattle.lmtp.proofs.ReceiverLemmas.{takes_text}
-use Rattle.lmtp.proofs.receiver.Receiver.feed_text.Goals as goal
+use Rattle.lmtp_dialogue.specs.Texts.{Feeds}
+use Rattle.lmtp_dialogue.proofs.ReceiverLemmas.{takes_text}
+use Rattle.lmtp_dialogue.proofs.receiver.Receiver.feed_text.Goals as goal
 
 pub returns-clause-takes : goal.returns-clause-takes
 returns-clause-takes c =

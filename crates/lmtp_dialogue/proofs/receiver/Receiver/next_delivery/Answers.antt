@@ -1,6 +1,6 @@
 use Rattle.std.proofs.Common.{sym, ◌∙◌}
-use Rattle.lmtp.proofs.NextLemmas.{no_text_in, sending_is_heard, delivery_in}
-use Rattle.lmtp.proofs.receiver.Receiver.next_delivery.Goals as goal
+use Rattle.lmtp_dialogue.proofs.NextLemmas.{no_text_in, sending_is_heard, delivery_in}
+use Rattle.lmtp_dialogue.proofs.receiver.Receiver.next_delivery.Goals as goal
 
 pub returns-then-not-has_ended : goal.returns-then-not-has_ended
 returns-then-not-has_ended c = λ d stands. (

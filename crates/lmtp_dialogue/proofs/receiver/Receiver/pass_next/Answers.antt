@@ -1,7 +1,7 @@
 use Rattle.std.proofs.Common.{[], refl, sym, ◌∙◌}
-use Rattle.lmtp.specs.declared.receiver.Receiver.{Receiver}
-use Rattle.lmtp.proofs.AnswerLemmas.{not_whole, pass_none, pass_goes}
-use Rattle.lmtp.proofs.receiver.Receiver.pass_next.Goals as goal
+use Rattle.lmtp_dialogue.specs.declared.receiver.Receiver.{Receiver}
+use Rattle.lmtp_dialogue.proofs.AnswerLemmas.{not_whole, pass_none, pass_goes}
+use Rattle.lmtp_dialogue.proofs.receiver.Receiver.pass_next.Goals as goal
 
 pub returns-then-not-has_ended-clause-goes : goal.returns-then-not-has_ended-clause-goes
 returns-then-not-has_ended-clause-goes c =

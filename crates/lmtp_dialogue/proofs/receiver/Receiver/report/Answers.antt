@@ -1,5 +1,5 @@
-use Rattle.lmtp.proofs.AnswerLemmas.{not_sent}
-use Rattle.lmtp.proofs.receiver.Receiver.report.Goals as goal
+use Rattle.lmtp_dialogue.proofs.AnswerLemmas.{not_sent}
+use Rattle.lmtp_dialogue.proofs.receiver.Receiver.report.Goals as goal
 
 pub returns-in_default-clause-ok : goal.returns-in_default-clause-ok
 returns-in_default-clause-ok c = not_sent c.args.self.now c.args.outcome c.args.out.now c.in_default.not-Sending

@@ -1,7 +1,7 @@
 use Rattle.std.proofs.Common.{refl, sym, ◌∙◌}
-use Rattle.lmtp.specs.declared.receiver.Receiver.{Receiver}
-use Rattle.lmtp.proofs.AnswerLemmas.{not_whole, report_goes}
-use Rattle.lmtp.proofs.receiver.Receiver.report_next.Goals as goal
+use Rattle.lmtp_dialogue.specs.declared.receiver.Receiver.{Receiver}
+use Rattle.lmtp_dialogue.proofs.AnswerLemmas.{not_whole, report_goes}
+use Rattle.lmtp_dialogue.proofs.receiver.Receiver.report_next.Goals as goal
 
 pub returns-then-not-has_ended-clause-ok : goal.returns-then-not-has_ended-clause-ok
 returns-then-not-has_ended-clause-ok c =

@@ -1,7 +1,7 @@
 use Rattle.std.proofs.Common.{refl}
-use Rattle.lmtp.specs.declared.receiver.Receiver.{Receiver}
-use Rattle.lmtp.proofs.AnswerLemmas.{not_asked, resolves}
-use Rattle.lmtp.proofs.receiver.Receiver.resolve.Goals as goal
+use Rattle.lmtp_dialogue.specs.declared.receiver.Receiver.{Receiver}
+use Rattle.lmtp_dialogue.proofs.AnswerLemmas.{not_asked, resolves}
+use Rattle.lmtp_dialogue.proofs.receiver.Receiver.resolve.Goals as goal
 
 pub returns-in_ok-resolve-in-Asking-clause-ok : goal.returns-in_ok-resolve-in-Asking-clause-ok
 returns-in_ok-resolve-in-Asking-clause-ok c =

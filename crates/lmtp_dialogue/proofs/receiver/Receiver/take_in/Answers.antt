@@ -1,7 +1,7 @@
 use Rattle.std.proofs.Common.{refl, ap, drop, ◌∙◌}
 use Rattle.std.proofs.Math.Seq.{drop-length}
-use Rattle.lmtp.proofs.ReceiverLemmas.{takes_over}
-use Rattle.lmtp.proofs.receiver.Receiver.take_in.Goals as goal
+use Rattle.lmtp_dialogue.proofs.ReceiverLemmas.{takes_over}
+use Rattle.lmtp_dialogue.proofs.receiver.Receiver.take_in.Goals as goal
 
 pub returns-in-Over-clause-takes : goal.returns-in-Over-clause-takes
 returns-in-Over-clause-takes c =

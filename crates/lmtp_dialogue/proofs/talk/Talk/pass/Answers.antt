@@ -1,6 +1,6 @@
 use Rattle.std.proofs.Common.{◌≡◌, ◌+◌, length, refl, arith}
-use Rattle.lmtp.proofs.TalkLemmas.{next_owed, none_owed}
-use Rattle.lmtp.proofs.talk.Talk.pass.Goals as goal
+use Rattle.lmtp_dialogue.proofs.TalkLemmas.{next_owed, none_owed}
+use Rattle.lmtp_dialogue.proofs.talk.Talk.pass.Goals as goal
 
 pub returns-then-told-count : goal.returns-then-told-count
 returns-then-told-count c =

@@ -1,5 +1,5 @@
-use Rattle.lmtp.proofs.FeedLemmas.{keeps_same, not_but}
-use Rattle.lmtp.proofs.text.Text.append_unless.Goals as goal
+use Rattle.lmtp_dialogue.proofs.FeedLemmas.{keeps_same, not_but}
+use Rattle.lmtp_dialogue.proofs.text.Text.append_unless.Goals as goal
 
 pub returns-then-octet-but-clause-keeps : goal.returns-then-octet-but-clause-keeps
 returns-then-octet-but-clause-keeps c =

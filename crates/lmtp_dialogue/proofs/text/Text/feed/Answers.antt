@@ -1,8 +1,8 @@
 use Rattle.std.proofs.Common.{take, length, ap, ◌∙◌, subst, arith}
 use Rattle.std.proofs.lemmas.List.{length-drop, take_rest}
-use Rattle.lmtp.specs.Texts.{Feeds}
-use Rattle.lmtp.proofs.FeedLemmas.{feeds_up_to}
-use Rattle.lmtp.proofs.text.Text.feed.Goals as goal
+use Rattle.lmtp_dialogue.specs.Texts.{Feeds}
+use Rattle.lmtp_dialogue.proofs.FeedLemmas.{feeds_up_to}
+use Rattle.lmtp_dialogue.proofs.text.Text.feed.Goals as goal
 
 pub loop-self-preserved : goal.loop-self-preserved
 loop-self-preserved c =

@@ -1,6 +1,6 @@
 use Rattle.std.proofs.Common.{◌≡◌, ◌+◌, ◌-◌, ◌≤◌, length, take}
-use Rattle.lmtp.specs.Texts.{Feeds, held_text}
-use Rattle.lmtp.proofs.text.Text.feed.Given as goal
+use Rattle.lmtp_dialogue.specs.Texts.{Feeds, held_text}
+use Rattle.lmtp_dialogue.proofs.text.Text.feed.Given as goal
 
 abbrev pub invariant-loop-self : goal.invariant-loop-self
 invariant-loop-self l = record {

@@ -1,5 +1,5 @@
-use Rattle.lmtp.proofs.FeedLemmas.{feeds_inside}
-use Rattle.lmtp.proofs.text.Text.feed_run.Goals as goal
+use Rattle.lmtp_dialogue.proofs.FeedLemmas.{feeds_inside}
+use Rattle.lmtp_dialogue.proofs.text.Text.feed_run.Goals as goal
 
 pub returns-clause-feeds : goal.returns-clause-feeds
 returns-clause-feeds c =

@@ -1,5 +1,5 @@
-use Rattle.lmtp.proofs.FeedLemmas.{finished, not_kept}
-use Rattle.lmtp.proofs.text.Text.finish.Goals as goal
+use Rattle.lmtp_dialogue.proofs.FeedLemmas.{finished, not_kept}
+use Rattle.lmtp_dialogue.proofs.text.Text.finish.Goals as goal
 
 pub returns-in-None : goal.returns-in-None
 returns-in-None c = λ sent stands. finished c.args.self sent c.requires c.in-None.is stands

@@ -1,6 +1,6 @@
-use Rattle.lmtp.specs.declared.text.Place.TheVariants.{Start, Dot, DotReturn, Inside, Return}
-use Rattle.lmtp.proofs.FeedLemmas.{keeps_same, gained_at, dot_return_gains}
-use Rattle.lmtp.proofs.text.Text.gain.Goals as goal
+use Rattle.lmtp_dialogue.specs.declared.text.TextState.TheVariants.{Start, Dot, DotReturn, Inside, Return}
+use Rattle.lmtp_dialogue.proofs.FeedLemmas.{keeps_same, gained_at, dot_return_gains}
+use Rattle.lmtp_dialogue.proofs.text.Text.gain.Goals as goal
 
 pub returns-in-Start-clause-keeps : goal.returns-in-Start-clause-keeps
 returns-in-Start-clause-keeps c = gained_at c.args.self.now c.append_unless.new.self Start c.args.octet c.in-Start.is c.append_unless.ensures.keeps

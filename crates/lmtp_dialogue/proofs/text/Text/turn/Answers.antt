@@ -1,7 +1,7 @@
 use Rattle.std.proofs.Common.{ap, ◌∙◌}
-use Rattle.lmtp.specs.Texts.{after}
-use Rattle.lmtp.proofs.FeedLemmas.{feeds_one}
-use Rattle.lmtp.proofs.text.Text.turn.Goals as goal
+use Rattle.lmtp_dialogue.specs.Texts.{after}
+use Rattle.lmtp_dialogue.proofs.FeedLemmas.{feeds_one}
+use Rattle.lmtp_dialogue.proofs.text.Text.turn.Goals as goal
 
 pub returns-clause-feeds : goal.returns-clause-feeds
 returns-clause-feeds c =

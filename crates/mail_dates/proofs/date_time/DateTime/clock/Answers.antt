@@ -1,6 +1,6 @@
 use Rattle.std.proofs.Common.{arith, sym, ◌∙◌, ap, pos}
-use Rattle.maildates.proofs.ClockLemmas.{clock_is, clock_early}
-use Rattle.maildates.proofs.date_time.DateTime.clock.Goals as goal
+use Rattle.mail_dates.proofs.ClockLemmas.{clock_is, clock_early}
+use Rattle.mail_dates.proofs.date_time.DateTime.clock.Goals as goal
 
 pub returns-clause-is : goal.returns-clause-is
 returns-clause-is c =

@@ -1,8 +1,8 @@
 use Rattle.std.proofs.Common.{arith, w16, FitsSigned}
 use Rattle.std.proofs.lemmas.Int.{to_z-of_z}
 use Rattle.jiff_core.proofs.SignedLemmas.{signed_arith}
-use Rattle.maildates.proofs.ClockLemmas.{moment_in}
-use Rattle.maildates.proofs.date_time.DateTime.in_zone.Goals as goal
+use Rattle.mail_dates.proofs.ClockLemmas.{moment_in}
+use Rattle.mail_dates.proofs.date_time.DateTime.in_zone.Goals as goal
 
 pub returns : goal.returns
 returns c =

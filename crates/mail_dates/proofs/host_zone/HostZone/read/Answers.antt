@@ -1,8 +1,8 @@
 use Rattle.std.proofs.Common.{◌≡◌, ℤ, None, Some, sym, ◌∙◌}
-use Rattle.hostzones.specs.declared.zone.HostZone.TheVariants.{Always, ByRule}
-use Rattle.hostzones.proofs.RuleLemmas.{daylight_read}
+use Rattle.mail_dates.specs.declared.host_zone.HostZone.TheVariants.{Always, ByRule}
+use Rattle.mail_dates.proofs.RuleLemmas.{daylight_read}
 use Rattle.jiff_tz.specs.PosixText.{tz_view}
-use Rattle.hostzones.proofs.zone.HostZone.read.Goals as goal
+use Rattle.mail_dates.proofs.host_zone.HostZone.read.Goals as goal
 
 pub returns-in-None-clause-none : goal.returns-in-None-clause-none
 returns-in-None-clause-none c (Always offset) is = let no : None ≡ Some offset.minutes = sym c.in_default.is ∙ c.read_zone.ensures.is ∙ is in cc

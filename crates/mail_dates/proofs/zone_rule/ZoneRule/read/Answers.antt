@@ -1,7 +1,7 @@
 use Rattle.std.proofs.Common.{IsTrue, false, subst}
-use Rattle.hostzones.proofs.RuleLemmas.{part_rule, not_true}
-use Rattle.hostzones.proofs.rule.ZoneRule.read.Goals as goal
-use Rattle.hostzones.proofs.rule.ZoneRule.read.Goals.{else-is_whole-via-then-is_whole+else-has_whole_daylight, else-is_whole-via-else-is_whole}
+use Rattle.mail_dates.proofs.RuleLemmas.{part_rule, not_true}
+use Rattle.mail_dates.proofs.zone_rule.ZoneRule.read.Goals as goal
+use Rattle.mail_dates.proofs.zone_rule.ZoneRule.read.Goals.{else-is_whole-via-then-is_whole+else-has_whole_daylight, else-is_whole-via-else-is_whole}
 
 pub returns-else-is_whole-clause-none : goal.returns-else-is_whole-clause-none
 returns-else-is_whole-clause-none c read is whole =

@@ -1,6 +1,6 @@
 use Rattle.std.proofs.Common.{◌≡◌, take}
-use Rattle.mailflags.specs.Flags.{added}
-use Rattle.mailflags.proofs.flags.Flags.add.Given as goal
+use Rattle.mail_flags.specs.Flags.{with_all_named}
+use Rattle.mail_flags.proofs.flags.Flags.add.Given as goal
 
 abbrev pub invariant-loop-text : goal.invariant-loop-text
-invariant-loop-text l = l.self ≡ added l.initial.self (take l.text-index l.texts)
+invariant-loop-text l = l.self ≡ with_all_named l.initial.self (take l.text-index l.texts)

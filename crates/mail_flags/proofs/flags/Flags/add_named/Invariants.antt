@@ -1,6 +1,6 @@
 use Rattle.std.proofs.Common.{◌≡◌, fold, length}
-use Rattle.mailflags.specs.Flags.{with_one, between_blanks}
-use Rattle.mailflags.proofs.flags.Flags.add_named.Given as goal
+use Rattle.mail_flags.specs.Flags.{with_one, between_blanks}
+use Rattle.mail_flags.proofs.flags.Flags.add_named.Given as goal
 
 abbrev pub invariant-loop-name : goal.invariant-loop-name
 invariant-loop-name l = fold with_one l.self (between_blanks l.rest) ≡ fold with_one l.initial.self (between_blanks l.initial.rest)

@@ -1,7 +1,7 @@
 use Rattle.std.proofs.Common.{rules, ap, ◌∙◌, not, filter}
 use Rattle.std.proofs.lemmas.Fn.{filter_same}
-use Rattle.mailflags.specs.Names.{are_same}
-use Rattle.mailflags.proofs.flags.Flags.remove_one.Goals as goal
+use Rattle.mail_flags.specs.Names.{are_same}
+use Rattle.mail_flags.proofs.flags.Flags.remove_one.Goals as goal
 
 pub returns : goal.returns
 returns c =

@@ -1,6 +1,6 @@
 use Rattle.std.proofs.Common.{◌+◌, ap}
-use Rattle.mailfronts.proofs.SizeLemmas.{counts_more}
-use Rattle.mailfronts.proofs.size.SizeCount.with.Goals as goal
+use Rattle.mail_head.proofs.CountLemmas.{counts_more}
+use Rattle.mail_head.proofs.size_count.SizeCount.with.Goals as goal
 
 pub returns-clause-counts : goal.returns-clause-counts
 returns-clause-counts c came counts =

@@ -1,7 +1,7 @@
 use Rattle.std.proofs.Common.{rules, ap, refl, ◌∙◌, filter, not}
 use Rattle.std.proofs.lemmas.Fn.{filter_same}
-use Rattle.mailmoves.specs.Order.{is_behind}
-use Rattle.mailmoves.proofs.order.Order.end_round.Goals as goal
+use Rattle.maildir_moves.specs.Order.{is_behind}
+use Rattle.maildir_moves.proofs.order.MoveOrder.end_round.Goals as goal
 
 pub returns : goal.returns
 returns c = record {

@@ -1,9 +1,9 @@
 use Rattle.std.proofs.Common.{◌≡◌, ℕ, [], ◌∷◌, ◌++◌, false, sym, subst}
-use Rattle.msproto.specs.Machine.{rows, begins_row}
-use Rattle.msproto.proofs.Names.{no_space, no_return}
-use Rattle.msproto.proofs.Verbs.{rows_are}
-use Rattle.msproto.proofs.verb.Verb.extend.Goals as goal
-use Rattle.msproto.proofs.verb.Verb.extend.Goals.{then-letter-eq32-via-then-letter-eq32, then-letter-eq32-via-else-letter-eq32+then-letter-eq13}
+use Rattle.managesieve_protocol.specs.Machine.{rows, begins_row}
+use Rattle.managesieve_protocol.proofs.Names.{no_space, no_return}
+use Rattle.managesieve_protocol.proofs.Verbs.{rows_are}
+use Rattle.managesieve_protocol.proofs.command_name.CommandName.extend.Goals as goal
+use Rattle.managesieve_protocol.proofs.command_name.CommandName.extend.Goals.{then-letter-eq32-via-then-letter-eq32, then-letter-eq32-via-else-letter-eq32+then-letter-eq13}
 
 pub returns-then-letter-eq32 : goal.returns-then-letter-eq32
 returns-then-letter-eq32 c =

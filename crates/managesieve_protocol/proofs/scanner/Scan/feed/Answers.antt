@@ -1,9 +1,9 @@
 use Rattle.std.proofs.Common.{◌-◌, ◌≤◌, List, ℕ, take, drop, length, ap, ◌∙◌, subst, arith}
 use Rattle.std.specs.Prelude.{fold}
 use Rattle.std.proofs.lemmas.List.{length-drop, take_rest}
-use Rattle.msproto.specs.Scanning.{fed, reached}
-use Rattle.msproto.proofs.Feeding.{NoneBefore, fed_on, none_before_on, fed_up_to}
-use Rattle.msproto.proofs.scanner.Scan.feed.Goals as goal
+use Rattle.managesieve_protocol.specs.Scanning.{fed, reached}
+use Rattle.managesieve_protocol.proofs.Feeding.{NoneBefore, fed_on, none_before_on, fed_up_to}
+use Rattle.managesieve_protocol.proofs.scanner.Scan.feed.Goals as goal
 
 pub loop-self-preserved : goal.loop-self-preserved
 loop-self-preserved c =

@@ -1,8 +1,8 @@
 use Rattle.std.proofs.Common.{◌≡◌, ◌-◌, ◌≤◌, length, take}
 use Rattle.std.specs.Prelude.{fold}
-use Rattle.msproto.specs.Scanning.{fed}
-use Rattle.msproto.proofs.Feeding.{NoneBefore}
-use Rattle.msproto.proofs.scanner.Scan.feed.Given as goal
+use Rattle.managesieve_protocol.specs.Scanning.{fed}
+use Rattle.managesieve_protocol.proofs.Feeding.{NoneBefore}
+use Rattle.managesieve_protocol.proofs.scanner.Scan.feed.Given as goal
 
 abbrev pub invariant-loop-self : goal.invariant-loop-self
 invariant-loop-self l = record {

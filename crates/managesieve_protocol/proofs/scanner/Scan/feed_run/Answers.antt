@@ -1,9 +1,9 @@
 use Rattle.std.proofs.Common.{take, refl, ap, ◌∙◌, arith}
 use Rattle.std.proofs.lemmas.List.{length-take, length-take-le}
-use Rattle.msproto.proofs.FedRuns.{skim_takes, pass_still}
-use Rattle.msproto.proofs.Feeding.{takes, fed_known}
-use Rattle.msproto.specs.Scanning.{ScanView}
-use Rattle.msproto.proofs.scanner.Scan.feed_run.Goals as goal
+use Rattle.managesieve_protocol.proofs.FedRuns.{skim_takes, pass_still}
+use Rattle.managesieve_protocol.proofs.Feeding.{takes, fed_known}
+use Rattle.managesieve_protocol.specs.Scanning.{ScanView}
+use Rattle.managesieve_protocol.proofs.scanner.Scan.feed_run.Goals as goal
 
 pub returns-then-inside-gt0-clause-still : goal.returns-then-inside-gt0-clause-still
 returns-then-inside-gt0-clause-still c =

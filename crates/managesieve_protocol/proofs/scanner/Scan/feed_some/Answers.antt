@@ -1,6 +1,6 @@
 use Rattle.std.proofs.Common.{arith}
-use Rattle.msproto.proofs.Feeding.{needs_before}
-use Rattle.msproto.proofs.scanner.Scan.feed_some.Goals as goal
+use Rattle.managesieve_protocol.proofs.Feeding.{needs_before}
+use Rattle.managesieve_protocol.proofs.scanner.Scan.feed_some.Goals as goal
 
 pub returns-then-count-gt0-clause-before : goal.returns-then-count-gt0-clause-before
 returns-then-count-gt0-clause-before c = λ count less.

@@ -1,8 +1,8 @@
 use Rattle.std.proofs.Common.{ap, ◌∙◌}
-use Rattle.msproto.specs.Scanning.{ScanView}
-use Rattle.msproto.proofs.Turning.{shown_reach}
-use Rattle.msproto.proofs.Feeding.{stands_reach, stands_reaches}
-use Rattle.msproto.proofs.scanner.Scan.state.Goals as goal
+use Rattle.managesieve_protocol.specs.Scanning.{ScanView}
+use Rattle.managesieve_protocol.proofs.Turning.{shown_reach}
+use Rattle.managesieve_protocol.proofs.Feeding.{stands_reach, stands_reaches}
+use Rattle.managesieve_protocol.proofs.scanner.Scan.state.Goals as goal
 
 pub returns-clause-value : goal.returns-clause-value
 returns-clause-value c = λ pending text stands.

@@ -1,6 +1,6 @@
 use Rattle.std.proofs.Common.{arith}
-use Rattle.sessions.proofs.ScanLemmas.{piece_scanned}
-use Rattle.sessions.proofs.session.Session.give.Goals as goal
+use Rattle.managesieve_sessions.proofs.ScanLemmas.{piece_scanned}
+use Rattle.managesieve_sessions.proofs.session.Session.give.Goals as goal
 
 pub invariant_of-self-2 : goal.invariant_of-self-2
 invariant_of-self-2 c =

@@ -1,10 +1,10 @@
 use Rattle.std.proofs.Common.{◌≡◌, false, sym, ap, ◌∙◌}
-use Rattle.sessions.specs.Clients.{reach_in}
-use Rattle.sessions.specs.Counts.{SessionView}
-use Rattle.sessions.specs.GivenUp.{progress_by}
-use Rattle.sessions.proofs.ScanLemmas.{scan_reach}
-use Rattle.sessions.proofs.ReachLemmas.{given_up_progress, item_progress}
-use Rattle.sessions.proofs.session.Session.progress_given_up.Goals as goal
+use Rattle.managesieve_sessions.specs.Clients.{reach_in}
+use Rattle.managesieve_sessions.specs.Counts.{SessionView}
+use Rattle.managesieve_sessions.specs.GivenUp.{progress_by}
+use Rattle.managesieve_sessions.proofs.ScanLemmas.{scan_reach}
+use Rattle.managesieve_sessions.proofs.ReachLemmas.{given_up_progress, item_progress}
+use Rattle.managesieve_sessions.proofs.session.Session.progress_given_up.Goals as goal
 
 pub returns-in-TooBig : goal.returns-in-TooBig
 returns-in-TooBig c =

@@ -1,10 +1,10 @@
 use Rattle.std.proofs.Common.{ap, ◌∙◌, inl, inr, sym}
-use Rattle.sessions.specs.Clients.{reach_in}
-use Rattle.sessions.specs.Counts.{SessionView}
-use Rattle.sessions.proofs.ScanLemmas.{scan_reach}
-use Rattle.sessions.proofs.ReachLemmas.{ready_by}
-use Rattle.sessions.proofs.session.Session.ready.Goals as goal
-use Rattle.sessions.proofs.session.Session.ready.Goals.{in-Need, in_default}
+use Rattle.managesieve_sessions.specs.Clients.{reach_in}
+use Rattle.managesieve_sessions.specs.Counts.{SessionView}
+use Rattle.managesieve_sessions.proofs.ScanLemmas.{scan_reach}
+use Rattle.managesieve_sessions.proofs.ReachLemmas.{ready_by}
+use Rattle.managesieve_sessions.proofs.session.Session.ready.Goals as goal
+use Rattle.managesieve_sessions.proofs.session.Session.ready.Goals.{in-Need, in_default}
 
 pub returns-after-matches : goal.returns-after-matches
 returns-after-matches c =

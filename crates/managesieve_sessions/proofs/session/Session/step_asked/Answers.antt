@@ -1,6 +1,6 @@
 -- A refusal of an order is one of the step.
-use Rattle.sessions.proofs.AskedLemmas.{asked_refused}
-use Rattle.sessions.proofs.session.Session.step_asked.Goals as goal
+use Rattle.managesieve_sessions.proofs.AskedLemmas.{asked_refused}
+use Rattle.managesieve_sessions.proofs.session.Session.step_asked.Goals as goal
 
 pub returns-in-Login-clause-refused : goal.returns-in-Login-clause-refused
 returns-in-Login-clause-refused g c = asked_refused c.args.self.now.client c.args.order.now c.requires c.step_login.result c.step_login.ensures.named

@@ -1,14 +1,14 @@
 use Rattle.std.proofs.Common.{◌≡◌, ℕ, List, Option, true, sym, ap, subst, rules}
-use Rattle.mailstore.specs.declared.refusal.Refusal.TheVariants.{Memory}
-use Rattle.sessions.specs.Clients.{Client}
-use Rattle.sessions.specs.Counts.{SessionView}
-use Rattle.sessions.specs.Refusing.{was_refused}
-use Rattle.sessions.specs.Steps.{HasFirst, may_lack}
-use Rattle.sessions.specs.Turns.{IsTurnAlone}
-use Rattle.sessions.proofs.AskedLemmas.{command_lacks}
-use Rattle.sessions.proofs.FreeLemmas.{turn_over, free_turn_step}
-use Rattle.sessions.proofs.StepLemmas.{on_err}
-use Rattle.sessions.proofs.session.Session.step_free.Goals as goal
+use Rattle.store_accounts.specs.declared.refusal.Refusal.TheVariants.{Memory}
+use Rattle.managesieve_sessions.specs.Clients.{Client}
+use Rattle.managesieve_sessions.specs.Counts.{SessionView}
+use Rattle.managesieve_sessions.specs.Refusing.{was_refused}
+use Rattle.managesieve_sessions.specs.Steps.{HasFirstCommand, may_lack}
+use Rattle.managesieve_sessions.specs.CommandOutcomes.{IsOutcomeAlone}
+use Rattle.managesieve_sessions.proofs.AskedLemmas.{command_lacks}
+use Rattle.managesieve_sessions.proofs.FreeLemmas.{turn_over, free_turn_step}
+use Rattle.managesieve_sessions.proofs.StepLemmas.{on_err}
+use Rattle.managesieve_sessions.proofs.session.Session.step_free.Goals as goal
 
 pub returns-in_ok-progress-in-Made-2-clause-step : goal.returns-in_ok-progress-in-Made-2-clause-step
 returns-in_ok-progress-in-Made-2-clause-step c =
@@ -17,12 +17,12 @@ returns-in_ok-progress-in-Made-2-clause-step c =
     let first = c.step_over.new.self.client in
     let command = c.in-Command.command in
     let turn = c.in-Made-2.turn in
-    let here : HasFirst first command = subst (λ (k : Client). HasFirst k command) (sym (ap (λ (v : SessionView). v.client) kept.0)) has in
+    let here : HasFirstCommand first command = subst (λ (k : Client). HasFirstCommand k command) (sym (ap (λ (v : SessionView). v.client) kept.0)) has in
     let user : first.user ≡ c.self.inside.user = ap (λ (v : SessionView). v.client.user) (sym c.self.view_is) in
-    let free : IsTurnAlone c.self.inside.user command turn = rw c.in-Made-2.is at c.in_ok-turn.ensures in
-    turn_over c.args.self.now.client first c.take_turn.new.self.client command here.used turn c.in_ok-progress-in-Made-2.progress c.args.out.now c.step_over.new.out c.take_turn.new.out
+    let free : IsOutcomeAlone c.self.inside.user command turn = rw c.in-Made-2.is at c.in_ok-turn.ensures in
+    turn_over c.args.self.now.client first c.apply_outcome.new.self.client command here.used turn c.in_ok-progress-in-Made-2.progress c.args.out.now c.step_over.new.out c.apply_outcome.new.out
     (ap (λ (v : SessionView). v.client) kept.0) kept.1 here.first c.in_ok-progress-in-Made-2.ensures.session c.in_ok-progress-in-Made-2.ensures.goes_on c.in_ok-progress-in-Made-2.ensures.told
-    (λ accounts. free_turn_step accounts first command here.used turn (here.live, here.first) (subst (λ (u : Option (List ℕ)). IsTurnAlone u command turn) (sym user) free))
+    (λ accounts. free_turn_step accounts first command here.used turn (here.live, here.first) (subst (λ (u : Option (List ℕ)). IsOutcomeAlone u command turn) (sym user) free))
 
 pub returns-in_err-progress-clause-refused : goal.returns-in_err-progress-clause-refused
 returns-in_err-progress-clause-refused c =

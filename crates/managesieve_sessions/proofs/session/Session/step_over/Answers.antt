@@ -1,14 +1,14 @@
 use Rattle.std.proofs.Common.{◌≡◌, Bool, false, cond, sym, ap, ◌∙◌, subst}
-use Rattle.msproto.specs.declared.items.Reach.{Reach}
-use Rattle.msproto.specs.Items.{Reaches}
-use Rattle.sessions.specs.Clients.{reach_in, is_item, shut}
-use Rattle.sessions.specs.Counts.{SessionView, scanned_past}
-use Rattle.sessions.proofs.ScanLemmas.{scan_reach, unread_reaches}
-use Rattle.sessions.proofs.ReachLemmas.{scanned_same}
-use Rattle.sessions.proofs.AskedLemmas.{command_lacks}
-use Rattle.sessions.proofs.FreeLemmas.{command_first}
-use Rattle.sessions.proofs.StepLemmas.{on_err, need_over, bad_over, big_over, has_by, lacks_by}
-use Rattle.sessions.proofs.session.Session.step_over.Goals as goal
+use Rattle.managesieve_protocol.specs.declared.items.ItemExtent.{ItemExtent}
+use Rattle.managesieve_protocol.specs.Items.{IsFirstExtent}
+use Rattle.managesieve_sessions.specs.Clients.{reach_in, is_item, shut}
+use Rattle.managesieve_sessions.specs.Counts.{SessionView, scanned_past}
+use Rattle.managesieve_sessions.proofs.ScanLemmas.{scan_reach, unread_reaches}
+use Rattle.managesieve_sessions.proofs.ReachLemmas.{scanned_same}
+use Rattle.managesieve_sessions.proofs.AskedLemmas.{command_lacks}
+use Rattle.managesieve_sessions.proofs.FreeLemmas.{command_first}
+use Rattle.managesieve_sessions.proofs.StepLemmas.{on_err, need_over, bad_over, big_over, has_by, lacks_by}
+use Rattle.managesieve_sessions.proofs.session.Session.step_over.Goals as goal
 
 pub returns-in-Need-clause-step : goal.returns-in-Need-clause-step
 returns-in-Need-clause-step c =
@@ -78,7 +78,7 @@ returns-in_ok-extend_from_slice-in-TooBig-clause-scans c =
 pub command_at-requires : goal.command_at-requires
 command_at-requires c =
     let s = c.self.inside in
-    subst (λ (r : Reach). Reaches s.pending r c.as_slice.result.now) c.in-Command.is
+    subst (λ (r : ItemExtent). IsFirstExtent s.pending r c.as_slice.result.now) c.in-Command.is
     (unread_reaches s.pending c.state.result s.unread c.as_slice.result.now
     (c.state.ensures.reached ∙ scan_reach s.pending s.scan s.unread s.scanned s.given c.self.invariant) c.as_slice.ensures)
 

@@ -1,12 +1,12 @@
 use Rattle.std.proofs.Common.{◌≡◌, false, Some, Err, sym, ap, ◌∙◌, subst, rules}
 use Rattle.sqlite.specs.Held.{state}
-use Rattle.sessions.specs.Clients.{reach_in, without_first}
-use Rattle.sessions.specs.Orders.{ActsStep}
-use Rattle.sessions.specs.Turns.{followed}
-use Rattle.sessions.specs.declared.sort.Order.TheVariants.{Script}
-use Rattle.sessions.specs.declared.turn.Sequel.{Sequel}
-use Rattle.sessions.proofs.AskedLemmas.{about_scripts, scripts_refused, scripts_answered}
-use Rattle.sessions.proofs.session.Session.step_scripts.Goals as goal
+use Rattle.managesieve_sessions.specs.Clients.{reach_in, without_first}
+use Rattle.managesieve_sessions.specs.Orders.{ActsStep}
+use Rattle.managesieve_sessions.specs.CommandOutcomes.{client_after}
+use Rattle.managesieve_sessions.specs.declared.command_class.StoreCommand.TheVariants.{Script}
+use Rattle.managesieve_sessions.specs.declared.command_outcome.SessionChange.{SessionChange}
+use Rattle.managesieve_sessions.proofs.AskedLemmas.{about_scripts, scripts_refused, scripts_answered}
+use Rattle.managesieve_sessions.proofs.session.Session.step_scripts.Goals as goal
 
 pub returns-in_err-is_open : goal.returns-in_err-is_open
 returns-in_err-is_open g c =
@@ -30,7 +30,7 @@ returns g c =
     record {
       acts =
           scripts_answered c.args.self.now.client (Script c.args.user.now c.args.command.now) c.requires c.as_slice.result.now is (about_scripts c.args.command.now) (state g.S.Store c.args.store.now) (state g.S.Store c.execute.new.store) c.follow.new.self.client
-          c.in_ok-is_open.is_open c.args.out.now c.execute.new.out (c.follow.ensures.session ∙ ap (λ (s : Sequel). followed s (without_first false (reach_in c.args.self.now.client) c.args.self.now.client)) c.sequel_of.ensures) c.in_ok-is_open.ensures.acts;
+          c.in_ok-is_open.is_open c.args.out.now c.execute.new.out (c.follow.ensures.session ∙ ap (λ (s : SessionChange). client_after s (without_first false (reach_in c.args.self.now.client) c.args.self.now.client)) c.session_change_of.ensures) c.in_ok-is_open.ensures.acts;
       counts = search rules;
       scans = search rules;
       err = search rules;

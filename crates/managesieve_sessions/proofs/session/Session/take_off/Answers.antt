@@ -1,12 +1,12 @@
 use Rattle.std.proofs.Common.{ℕ, ◌+◌, ◌≤◌, min, List, length, take, ap, ◌∙◌, subst}
 use Rattle.std.specs.Prelude.{fold}
-use Rattle.msproto.specs.Scanning.{ScanView, new_scan, fed, fed_until}
-use Rattle.sessions.specs.Clients.{reach_in}
-use Rattle.sessions.specs.Counts.{SessionView, greatest, looked_in}
-use Rattle.sessions.proofs.ScanLemmas.{scan_reach, rest_scanned}
-use Rattle.sessions.proofs.ReachLemmas.{item_either, item_ends, no_item, some_item, scanned_same, scanned_more, taken_off, none_off}
-use Rattle.sessions.proofs.session.Session.take_off.Goals as goal
-use Rattle.sessions.proofs.session.Session.take_off.Goals.{in-Command, in-Command-2}
+use Rattle.managesieve_protocol.specs.Scanning.{ScanView, new_scan, fed, fed_until}
+use Rattle.managesieve_sessions.specs.Clients.{reach_in}
+use Rattle.managesieve_sessions.specs.Counts.{SessionView, greatest, looked_in}
+use Rattle.managesieve_sessions.proofs.ScanLemmas.{scan_reach, rest_scanned}
+use Rattle.managesieve_sessions.proofs.ReachLemmas.{item_either, item_ends, no_item, some_item, scanned_same, scanned_more, taken_off, none_off}
+use Rattle.managesieve_sessions.proofs.session.Session.take_off.Goals as goal
+use Rattle.managesieve_sessions.proofs.session.Session.take_off.Goals.{in-Command, in-Command-2}
 
 pub returns-in_default-clause-client : goal.returns-in_default-clause-client
 returns-in_default-clause-client c =

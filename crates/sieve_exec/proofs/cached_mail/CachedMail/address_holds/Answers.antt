@@ -1,8 +1,8 @@
 use Rattle.std.proofs.Common.{◌≡◌, ◌∙◌, IfOk, true, subst, sym, ap}
-use Rattle.sieveexec.specs.Counts.{is_count, addresses_counted}
-use Rattle.sieveexec.specs.Truth.{some_address_matches, count_matches}
-use Rattle.sieveexec.proofs.TruthLemmas.{each_asked, number_asked}
-use Rattle.sieveexec.proofs.cached_mail.CachedMail.address_holds.Goals as goal
+use Rattle.sieve_exec.specs.Counts.{is_count, addresses_counted}
+use Rattle.sieve_exec.specs.Truth.{some_address_matches, count_matches}
+use Rattle.sieve_exec.proofs.TruthLemmas.{each_asked, number_asked}
+use Rattle.sieve_exec.proofs.cached_mail.CachedMail.address_holds.Goals as goal
 
 pub returns-then-not-is_count-clause-truth : goal.returns-then-not-is_count-clause-truth
 returns-then-not-is_count-clause-truth c =

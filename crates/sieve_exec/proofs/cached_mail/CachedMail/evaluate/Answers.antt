@@ -1,5 +1,5 @@
-use Rattle.sieveexec.proofs.TruthLemmas.{mailboxes_same}
-use Rattle.sieveexec.proofs.cached_mail.CachedMail.evaluate.Goals as goal
+use Rattle.sieve_exec.proofs.TruthLemmas.{mailboxes_same}
+use Rattle.sieve_exec.proofs.cached_mail.CachedMail.evaluate.Goals as goal
 
 pub returns-in-Header-clause-truth : goal.returns-in-Header-clause-truth
 returns-in-Header-clause-truth c = rw c.in-Header.is c.header_holds.ensures.truth

@@ -1,8 +1,8 @@
 use Rattle.std.proofs.Common.{◌≡◌, ◌∙◌, IfOk, subst, sym}
-use Rattle.sieveexec.specs.Counts.{is_count}
-use Rattle.sieveexec.specs.Truth.{some_text_matches}
-use Rattle.sieveexec.proofs.TruthLemmas.{each_asked}
-use Rattle.sieveexec.proofs.cached_mail.CachedMail.header_holds.Goals as goal
+use Rattle.sieve_exec.specs.Counts.{is_count}
+use Rattle.sieve_exec.specs.Truth.{some_text_matches}
+use Rattle.sieve_exec.proofs.TruthLemmas.{each_asked}
+use Rattle.sieve_exec.proofs.cached_mail.CachedMail.header_holds.Goals as goal
 
 pub returns-then-not-is_count-clause-truth : goal.returns-then-not-is_count-clause-truth
 returns-then-not-is_count-clause-truth c =

@@ -1,6 +1,6 @@
 use Rattle.std.proofs.Common.{subst}
-use Rattle.sieveexec.specs.Work.{IsLeft, envelope_sizes, values_work}
-use Rattle.sieveexec.proofs.cached_mail.CachedMail.spend.Goals as goal
+use Rattle.sieve_exec.specs.Work.{IsLeft, envelope_sizes, values_work}
+use Rattle.sieve_exec.proofs.cached_mail.CachedMail.spend.Goals as goal
 
 pub returns-in-Envelope-clause-left : goal.returns-in-Envelope-clause-left
 returns-in-Envelope-clause-left c =

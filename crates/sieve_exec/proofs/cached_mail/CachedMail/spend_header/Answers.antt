@@ -1,8 +1,8 @@
 -- The values are those of the mail.
 use Rattle.std.proofs.Common.{◌≡◌, ◌+◌, ◌<◌, length, ap, subst, ◌∙◌}
-use Rattle.sieveexec.specs.Work.{IsLeft, names_work, header_sizes, values_work}
-use Rattle.sieveexec.proofs.WorkLemmas.{left_then, too_large}
-use Rattle.sieveexec.proofs.cached_mail.CachedMail.spend_header.Goals as goal
+use Rattle.sieve_exec.specs.Work.{IsLeft, names_work, header_sizes, values_work}
+use Rattle.sieve_exec.proofs.WorkLemmas.{left_then, too_large}
+use Rattle.sieve_exec.proofs.cached_mail.CachedMail.spend_header.Goals as goal
 
 pub returns-in_default-2-clause-left : goal.returns-in_default-2-clause-left
 returns-in_default-2-clause-left c =

@@ -2,7 +2,7 @@
 use Rattle.std.proofs.Common.{◌≡◌, ◌≤◌, ◌*◌, take}
 use Rattle.std.specs.Prelude.{sum_by}
 use Rattle.octets.specs.Ascii.{lowered}
-use Rattle.sieveexec.proofs.field_cache.FieldCache.count.Given as goal
+use Rattle.sieve_exec.proofs.field_cache.FieldCache.count.Given as goal
 
 abbrev pub invariant-loop-name : goal.invariant-loop-name
 invariant-loop-name g l = record {

@@ -1,6 +1,6 @@
 -- What was read is kept too.
-use Rattle.sieveexec.proofs.IndexLemmas.{known_more}
-use Rattle.sieveexec.proofs.field_cache.FieldCache.count_at.Goals as goal
+use Rattle.sieve_exec.proofs.IndexLemmas.{known_more}
+use Rattle.sieve_exec.proofs.field_cache.FieldCache.count_at.Goals as goal
 
 pub invariant_of-self-2 : goal.invariant_of-self-2
 invariant_of-self-2 g c =

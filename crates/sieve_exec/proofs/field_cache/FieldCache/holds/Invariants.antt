@@ -2,7 +2,7 @@
 use Rattle.std.proofs.Common.{◌≡◌, false, take}
 use Rattle.std.specs.List.{list_any}
 use Rattle.octets.specs.Ascii.{lowered}
-use Rattle.sieveexec.proofs.field_cache.FieldCache.holds.Given as goal
+use Rattle.sieve_exec.proofs.field_cache.FieldCache.holds.Given as goal
 
 abbrev pub invariant-loop-name : goal.invariant-loop-name
 invariant-loop-name g l =

@@ -1,8 +1,8 @@
 -- The mail stays, and the sizes are those of the fields of the names so far, which have no more octets than may be.
 use Rattle.std.proofs.Common.{◌≡◌, ◌≤◌, take}
 use Rattle.octets.specs.Ascii.{lowered}
-use Rattle.sieveexec.specs.Work.{named_sizes}
-use Rattle.sieveexec.proofs.field_cache.FieldCache.sizes.Given as goal
+use Rattle.sieve_exec.specs.Work.{named_sizes}
+use Rattle.sieve_exec.proofs.field_cache.FieldCache.sizes.Given as goal
 
 abbrev pub invariant-loop-name : goal.invariant-loop-name
 invariant-loop-name g l = record {

@@ -1,7 +1,7 @@
 use Rattle.std.proofs.Common.{◌≡◌, subst}
-use Rattle.sieveexec.specs.Ready.{matches_of}
-use Rattle.sieveexec.proofs.KeyLemmas.{ready_contains}
-use Rattle.sieveexec.proofs.ready_key.ReadyKey.matches.Goals as goal
+use Rattle.sieve_exec.specs.Ready.{matches_of}
+use Rattle.sieve_exec.proofs.KeyLemmas.{ready_contains}
+use Rattle.sieve_exec.proofs.ready_key.ReadyKey.matches.Goals as goal
 
 pub returns-in-Some : goal.returns-in-Some
 returns-in-Some c =

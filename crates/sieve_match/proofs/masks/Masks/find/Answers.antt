@@ -1,7 +1,7 @@
 use Rattle.std.proofs.Common.{ℕ, ◌≡◌, ◌+◌, ◌-◌, ◌^◌, ◌<◌, slice_index, subst, arith, ⊎_elim}
 use Rattle.std.proofs.lemmas.Bool.{cases_lt, false≢true}
-use Rattle.collation.proofs.MaskLemmas.{IsState, IsState-start, IsState-step, Window-ended, ended_clear, taken, Window-from, FitsAt-from}
-use Rattle.collation.proofs.masks.Masks.find.Goals as goal
+use Rattle.sieve_match.proofs.MaskLemmas.{IsState, IsState-start, IsState-step, Window-ended, ended_clear, taken, Window-from, FitsAt-from}
+use Rattle.sieve_match.proofs.masks.Masks.find.Goals as goal
 
 -- a term of the type given
 abbrev by : (A : Type 0) → A → A

@@ -1,7 +1,7 @@
 -- What the state says of the octets so far, before which the places take none.
 use Rattle.std.proofs.Common.{ℕ, ◌+◌, ◌-◌, ◌≤◌, slice_index}
-use Rattle.collation.proofs.MaskLemmas.{IsState, Window, taken}
-use Rattle.collation.proofs.masks.Masks.find.Given as goal
+use Rattle.sieve_match.proofs.MaskLemmas.{IsState, Window, taken}
+use Rattle.sieve_match.proofs.masks.Masks.find.Given as goal
 
 abbrev pub invariant-loop-i : goal.invariant-loop-i
 invariant-loop-i l = record {

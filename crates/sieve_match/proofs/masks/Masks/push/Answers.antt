@@ -1,6 +1,6 @@
 use Rattle.std.proofs.Common.{ℕ, ap, ◌∙◌, arith}
-use Rattle.collation.proofs.MaskLemmas.{IsCleared, unasked_after, each_after}
-use Rattle.collation.proofs.masks.Masks.push.Goals as goal
+use Rattle.sieve_match.proofs.MaskLemmas.{IsCleared, unasked_after, each_after}
+use Rattle.sieve_match.proofs.masks.Masks.push.Goals as goal
 
 pub invariant_of-self : goal.invariant_of-self
 invariant_of-self g c =

@@ -1,7 +1,7 @@
 use Rattle.std.proofs.Common.{◌≡◌, true, slice_index, subst, sym, arith, ⊎_elim}
 use Rattle.std.proofs.lemmas.Bool.{cases_eq}
 use Rattle.std.proofs.lemmas.Nat.Bits.{bit_at_and}
-use Rattle.collation.proofs.masks.Masks.push_any.Goals as goal
+use Rattle.sieve_match.proofs.masks.Masks.push_any.Goals as goal
 
 pub returns : goal.returns
 returns c fits n are takes =

@@ -1,9 +1,9 @@
 use Rattle.std.proofs.Common.{sym, ◌∙◌, arith, drop}
-use Rattle.globmatch.specs.Glob.{items}
-use Rattle.globmatch.specs.declared.pattern.Item.TheVariants.{Star}
-use Rattle.globmatch.proofs.Cursors.{left_after}
-use Rattle.globmatch.proofs.Patterns.{inside_pattern}
-use Rattle.globmatch.proofs.parts.LiteralKey.next.Goals as goal
+use Rattle.sieve_match.specs.Glob.{items}
+use Rattle.sieve_match.specs.declared.pattern.GlobItem.TheVariants.{Star}
+use Rattle.sieve_match.proofs.Cursors.{left_after}
+use Rattle.sieve_match.proofs.Patterns.{inside_pattern}
+use Rattle.sieve_match.proofs.parts.LiteralKey.next.Goals as goal
 
 pub read_item-place-requires : goal.read_item-place-requires
 read_item-place-requires c =

@@ -1,13 +1,13 @@
 use Rattle.std.proofs.Common.{ℕ, ◌+◌, List, length, drop, get_or, slice_index, sym, arith}
 use Rattle.std.proofs.lemmas.Bool.{false≢true}
 use Rattle.memchr.proofs.lemmas.FindLemmas.{IsFirst-agree, Nowhere-more}
-use Rattle.collation.specs.Search.{StandsAt}
-use Rattle.globmatch.specs.Glob.{items}
-use Rattle.globmatch.specs.Segments.{octet_of, StandAt}
-use Rattle.globmatch.specs.declared.pattern.Item.{Item}
-use Rattle.globmatch.specs.declared.pattern.Item.TheVariants.{Star}
-use Rattle.globmatch.proofs.Steps.{segment_len-within, Takes-exact, Exact-takes}
-use Rattle.globmatch.proofs.parts.Segment.find.Goals as goal
+use Rattle.sieve_match.specs.Search.{StandsAt}
+use Rattle.sieve_match.specs.Glob.{items}
+use Rattle.sieve_match.specs.Segments.{item_octet, ItemsStandAt}
+use Rattle.sieve_match.specs.declared.pattern.GlobItem.{GlobItem}
+use Rattle.sieve_match.specs.declared.pattern.GlobItem.TheVariants.{Star}
+use Rattle.sieve_match.proofs.Steps.{segment_len-within, Takes-exact, Exact-takes}
+use Rattle.sieve_match.proofs.parts.Segment.find.Goals as goal
 
 pub invariant_of-key : goal.invariant_of-key
 invariant_of-key g c =
@@ -19,10 +19,10 @@ returns-then-self g c =
     let f : ℕ → ℕ = g.C.Comparator.image_of in
     let self = c.args.self.now in
     let v : List ℕ = c.args.value.now in
-    let is : List Item = items (drop self.from self.pattern.now) in
-    let octets : ℕ → ℕ = λ k. octet_of (get_or is k Star) in
+    let is : List GlobItem = items (drop self.from self.pattern.now) in
+    let octets : ℕ → ℕ = λ k. item_octet (get_or is k Star) in
     let literal = c.requires.segment.literal c.if-self.true in
-    IsFirst-agree (StandsAt f octets self.count v) (StandAt f is self.count v) c.args.from (length v + 1)
+    IsFirst-agree (StandsAt f octets self.count v) (ItemsStandAt f is self.count v) c.args.from (length v + 1)
     (λ k l h. record {
       fits = h.fits;
       takes = λ j b. Takes-exact f (get_or is j Star) (octets j) (slice_index v (k + j)) (literal j b) (sym (h.reads j b));

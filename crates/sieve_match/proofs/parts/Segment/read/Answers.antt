@@ -1,31 +1,31 @@
 use Rattle.std.proofs.Common.{◌≡◌, ℕ, ◌+◌, ◌∷◌, List, drop, get_or, sym, ap, subst, ◌∙◌, ⊎_elim, arith}
 use Rattle.std.proofs.lemmas.Bool.{cases_lt, false≢true}
-use Rattle.globmatch.specs.Glob.{items}
-use Rattle.globmatch.specs.Segments.{segment_len, octet_of}
-use Rattle.globmatch.specs.declared.pattern.Item.{Item}
-use Rattle.globmatch.specs.declared.pattern.Item.TheVariants.{Star, Exact}
-use Rattle.globmatch.proofs.Cursors.{item_at, left_after}
-use Rattle.globmatch.proofs.Patterns.{items-past, Exact-octet}
-use Rattle.globmatch.proofs.Steps.{segment_len-nil, segment_len-star, segment_len-one, segment_len-exact}
-use Rattle.globmatch.proofs.parts.Segment.read.Goals as goal
-use Rattle.globmatch.proofs.parts.Segment.read.Goals.{in-One, in-Exact, else-loop-end-test, then-loop-end-test+in-Star}
+use Rattle.sieve_match.specs.Glob.{items}
+use Rattle.sieve_match.specs.Segments.{segment_len, item_octet}
+use Rattle.sieve_match.specs.declared.pattern.GlobItem.{GlobItem}
+use Rattle.sieve_match.specs.declared.pattern.GlobItem.TheVariants.{Star, Exact}
+use Rattle.sieve_match.proofs.Cursors.{item_at, left_after}
+use Rattle.sieve_match.proofs.Patterns.{items-past, Exact-octet}
+use Rattle.sieve_match.proofs.Steps.{segment_len-nil, segment_len-star, segment_len-one, segment_len-exact}
+use Rattle.sieve_match.proofs.parts.Segment.read.Goals as goal
+use Rattle.sieve_match.proofs.parts.Segment.read.Goals.{in-One, in-Exact, else-loop-end-test, then-loop-end-test+in-Star}
 
 pub loop-end-preserved : goal.loop-end-preserved
 loop-end-preserved c =
     let old = c.loop-end.invariant in
     let read = c.read_item-item.ensures in
-    let is : List Item = items (drop c.args.from c.args.pattern.now) in
-    let item : Item = c.read_item-item.result.0 in
+    let is : List GlobItem = items (drop c.args.from c.args.pattern.now) in
+    let item : GlobItem = c.read_item-item.result.0 in
     let count : ℕ = c.loop-end.count in
-    let after : List Item = items (drop c.read_item-item.result.1 c.args.pattern.now) in
+    let after : List GlobItem = items (drop c.read_item-item.result.1 c.args.pattern.now) in
     let left : drop count is ≡ item ∷ after = sym old.rest ∙ read.item in
     let here : get_or is count Star ≡ item = item_at Star is count item after left in
     let low = old.low in
     let few = old.few in
     let later = read.later in
     let one_more : segment_len (item ∷ after) ≡ segment_len after + 1 = elim c.match-item.branch [
-      | in-One w ↦ ap (λ (i : Item). segment_len (i ∷ after)) w.in-One.is ∙ segment_len-one after
-      | in-Exact w ↦ ap (λ (i : Item). segment_len (i ∷ after)) w.in-Exact.is ∙ segment_len-exact w.in-Exact.field-0 after
+      | in-One w ↦ ap (λ (i : GlobItem). segment_len (i ∷ after)) w.in-One.is ∙ segment_len-one after
+      | in-Exact w ↦ ap (λ (i : GlobItem). segment_len (i ∷ after)) w.in-Exact.is ∙ segment_len-exact w.in-Exact.field-0 after
     ] in
     record {
       low = omega arith;
@@ -39,7 +39,7 @@ loop-end-preserved c =
             (λ before. old.literal (sym w.literal-is ∙ yes) j before)
             (λ from.
             let last : count ≡ j = omega arith in
-            subst (λ n. get_or is n Star ≡ Exact (octet_of (get_or is n Star))) last (Exact-octet (get_or is count Star) w.in-Exact.field-0 (here ∙ w.in-Exact.is)))
+            subst (λ n. get_or is n Star ≡ Exact (item_octet (get_or is n Star))) last (Exact-octet (get_or is count Star) w.in-Exact.field-0 (here ∙ w.in-Exact.is)))
             (cases_lt j count)
       ];
     }
@@ -51,7 +51,7 @@ returns-clause-segment c =
     let end : ℕ = c.loop-end.end in
     let none_left : segment_len (items (drop end p)) ≡ 0 = elim c.loop-end-test.branch [
       | else-loop-end-test w ↦ ap segment_len (items-past p end w.loop-end-test.false) ∙ segment_len-nil
-      | then-loop-end-test+in-Star w ↦ ap segment_len (w.read_item-item.ensures.item ∙ ap (λ (i : Item). i ∷ items (drop w.read_item-item.result.1 p)) w.in-Star.is)
+      | then-loop-end-test+in-Star w ↦ ap segment_len (w.read_item-item.ensures.item ∙ ap (λ (i : GlobItem). i ∷ items (drop w.read_item-item.result.1 p)) w.in-Star.is)
           ∙ segment_len-star (items (drop w.read_item-item.result.1 p))
     ] in
     record {
@@ -62,7 +62,7 @@ returns-clause-segment c =
       star = λ inside. elim c.loop-end-test.branch [
         | else-loop-end-test w ↦ absurd (omega (arith, w.loop-end-test.false))
         | then-loop-end-test+in-Star w ↦ w.read_item-item.ensures.item
-            ∙ ap (λ (i : Item). i ∷ items (drop w.read_item-item.result.1 p)) w.in-Star.is
+            ∙ ap (λ (i : GlobItem). i ∷ items (drop w.read_item-item.result.1 p)) w.in-Star.is
             ∙ ap (λ n. Star ∷ items (drop n p)) (w.read_item-item.ensures.star w.in-Star.is)
       ];
       literal = old.literal;

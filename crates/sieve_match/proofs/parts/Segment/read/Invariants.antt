@@ -1,8 +1,8 @@
 use Rattle.std.proofs.Common.{◌≡◌, ℕ, ◌+◌, ◌-◌, ◌<◌, ◌≤◌, length, drop, slice_index_or, IsTrue}
-use Rattle.globmatch.specs.Glob.{items}
-use Rattle.globmatch.specs.Segments.{segment_len, octet_of}
-use Rattle.globmatch.specs.declared.pattern.Item.TheVariants.{Star, Exact}
-use Rattle.globmatch.proofs.parts.Segment.read.Given as goal
+use Rattle.sieve_match.specs.Glob.{items}
+use Rattle.sieve_match.specs.Segments.{segment_len, item_octet}
+use Rattle.sieve_match.specs.declared.pattern.GlobItem.TheVariants.{Star, Exact}
+use Rattle.sieve_match.proofs.parts.Segment.read.Given as goal
 
 abbrev pub invariant-loop-end : goal.invariant-loop-end
 invariant-loop-end l = record {
@@ -12,7 +12,7 @@ invariant-loop-end l = record {
   rest : items (drop l.end l.pattern) ≡ drop l.count (items (drop l.from l.pattern));
   counted : segment_len (items (drop l.from l.pattern)) ≡ l.count + segment_len (items (drop l.end l.pattern));
   literal : IsTrue l.literal → (j : ℕ) → j < l.count
-      → slice_index_or (items (drop l.from l.pattern)) j Star ≡ Exact (octet_of (slice_index_or (items (drop l.from l.pattern)) j Star));
+      → slice_index_or (items (drop l.from l.pattern)) j Star ≡ Exact (item_octet (slice_index_or (items (drop l.from l.pattern)) j Star));
 }
 
 abbrev pub decreases-loop-end : goal.decreases-loop-end

@@ -1,25 +1,25 @@
 use Rattle.std.proofs.Common.{◌≡◌, ℕ, ◌+◌, ◌∷◌, List, drop, get_or, sym, ◌∙◌, arith, below_more}
 use Rattle.std.proofs.lemmas.Bool.{false≢true}
-use Rattle.globmatch.specs.Glob.{items}
-use Rattle.globmatch.specs.declared.pattern.Item.{Item}
-use Rattle.globmatch.specs.declared.pattern.Item.TheVariants.{Star}
-use Rattle.globmatch.proofs.Cursors.{item_at, left_after}
-use Rattle.globmatch.proofs.Patterns.{inside_pattern}
-use Rattle.globmatch.proofs.Steps.{segment_len-within, Takes-one, Takes-exact, Exact-takes, Star-takes}
-use Rattle.globmatch.proofs.parts.Segment.stands_at.Goals as goal
-use Rattle.globmatch.proofs.parts.Segment.stands_at.Goals.{in-One, in-Exact+else-image}
+use Rattle.sieve_match.specs.Glob.{items}
+use Rattle.sieve_match.specs.declared.pattern.GlobItem.{GlobItem}
+use Rattle.sieve_match.specs.declared.pattern.GlobItem.TheVariants.{Star}
+use Rattle.sieve_match.proofs.Cursors.{item_at, left_after}
+use Rattle.sieve_match.proofs.Patterns.{inside_pattern}
+use Rattle.sieve_match.proofs.Steps.{segment_len-within, Takes-one, Takes-exact, Exact-takes, Star-takes}
+use Rattle.sieve_match.proofs.parts.Segment.stands_at.Goals as goal
+use Rattle.sieve_match.proofs.parts.Segment.stands_at.Goals.{in-One, in-Exact+else-image}
 
 pub read_item-item-requires : goal.read_item-item-requires
 read_item-item-requires g c =
     let self = c.args.self.now in
-    let is : List Item = items (drop self.from self.pattern.now) in
+    let is : List GlobItem = items (drop self.from self.pattern.now) in
     inside_pattern self.pattern.now c.loop-j.place is c.loop-j.j c.loop-j.invariant.cursor
     (omega (arith, c.requires.segment.counted, segment_len-within is, c.loop-j-test.true))
 
 pub returns-in-Star : goal.returns-in-Star
 returns-in-Star g c =
     let self = c.args.self.now in
-    let is : List Item = items (drop self.from self.pattern.now) in
+    let is : List GlobItem = items (drop self.from self.pattern.now) in
     let left : drop c.loop-j.j is ≡ c.read_item-item.result.0 ∷ items (drop c.read_item-item.result.1 self.pattern.now) =
     sym c.loop-j.invariant.cursor ∙ c.read_item-item.ensures.item in
     let here = item_at Star is c.loop-j.j _ _ left in (
@@ -31,7 +31,7 @@ returns-in-Star g c =
 pub returns-then-image : goal.returns-then-image
 returns-then-image g c =
     let self = c.args.self.now in
-    let is : List Item = items (drop self.from self.pattern.now) in
+    let is : List GlobItem = items (drop self.from self.pattern.now) in
     let left : drop c.loop-j.j is ≡ c.read_item-item.result.0 ∷ items (drop c.read_item-item.result.1 self.pattern.now) =
     sym c.loop-j.invariant.cursor ∙ c.read_item-item.ensures.item in
     let here = item_at Star is c.loop-j.j _ _ left in (
@@ -46,7 +46,7 @@ pub loop-j-preserved : goal.loop-j-preserved
 loop-j-preserved g c =
     let f : ℕ → ℕ = g.C.Comparator.image_of in
     let self = c.args.self.now in
-    let is : List Item = items (drop self.from self.pattern.now) in
+    let is : List GlobItem = items (drop self.from self.pattern.now) in
     let j : ℕ = c.loop-j.j in
     let x : ℕ = get_or c.args.value.now (c.args.at + j) 0 in
     let left : drop j is ≡ c.read_item-item.result.0 ∷ items (drop c.read_item-item.result.1 self.pattern.now) =

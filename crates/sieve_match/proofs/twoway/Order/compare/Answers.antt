@@ -1,5 +1,5 @@
-use Rattle.collation.proofs.Orders.{compared_rising, compared_falling}
-use Rattle.collation.proofs.twoway.Order.compare.Goals as goal
+use Rattle.sieve_match.proofs.Orders.{compared_rising, compared_falling}
+use Rattle.sieve_match.proofs.twoway.Order.compare.Goals as goal
 
 pub returns-in-Rising : goal.returns-in-Rising
 returns-in-Rising c = compared_rising c.args.self c.args.a c.args.b c.cmp.result c.in-Rising.is c.cmp.ensures

@@ -1,9 +1,9 @@
 use Rattle.std.proofs.lemmas.Result.{err_from_is_err_and}
-use Rattle.sievesyntax.specs.Arguments.{IsArgument, IsEnd}
-use Rattle.sievesyntax.proofs.Chains.{chain_more}
-use Rattle.sievesyntax.proofs.FaultLemmas.{faults_on}
-use Rattle.sievesyntax.proofs.ArgumentLemmas.{end_none, argument_longer, arguments_fail, arguments_end}
-use Rattle.sievesyntax.proofs.parser.argument.read_arguments.Goals as goal
+use Rattle.sieve_syntax.specs.Arguments.{IsArgument, IsArgumentsEnd}
+use Rattle.sieve_syntax.proofs.Chains.{chain_more}
+use Rattle.sieve_syntax.proofs.FaultLemmas.{faults_on}
+use Rattle.sieve_syntax.proofs.ArgumentLemmas.{end_none, argument_longer, arguments_fail, arguments_end}
+use Rattle.sieve_syntax.proofs.parser.argument.read_arguments.Goals as goal
 
 pub returns-in_err-argument : goal.returns-in_err-argument
 returns-in_err-argument c =
@@ -20,7 +20,7 @@ arguments-preserved c =
     let l = c.arguments in
     let at = rw c.in-Some.is at c.in_ok-argument.ensures.found in
     let only = rw c.in-Some.is at c.in_ok-argument.ensures.only in
-    rw c.in_ok-push.ensures.items (chain_more IsArgument IsEnd _ l.arguments.items l.reader c.in-Some.argument _ l.invariant at only (λ end. end_none _ end c.in-Some.argument _ at))
+    rw c.in_ok-push.ensures.items (chain_more IsArgument IsArgumentsEnd _ l.arguments.items l.reader c.in-Some.argument _ l.invariant at only (λ end. end_none _ end c.in-Some.argument _ at))
 
 pub returns : goal.returns
 returns c =

@@ -1,10 +1,10 @@
 use Rattle.std.proofs.Common.{subst, sym, ap, ◌∙◌, append_assoc, ◌∷◌, [], ◌++◌, Ok}
 use Rattle.std.proofs.lemmas.Result.{err_from_is_err_and}
-use Rattle.sievesyntax.specs.Arguments.{IsOther}
-use Rattle.sievesyntax.specs.Chains.{Chain}
-use Rattle.sievesyntax.proofs.FaultLemmas.{fault_on, faults_on}
-use Rattle.sievesyntax.proofs.ArgumentLemmas.{others_stop, others_lack, others_grow, others_end}
-use Rattle.sievesyntax.proofs.parser.argument.read_others.Goals as goal
+use Rattle.sieve_syntax.specs.Arguments.{IsOther}
+use Rattle.sieve_syntax.specs.Chains.{Chain}
+use Rattle.sieve_syntax.proofs.FaultLemmas.{fault_on, faults_on}
+use Rattle.sieve_syntax.proofs.ArgumentLemmas.{others_stop, others_lack, others_grow, others_end}
+use Rattle.sieve_syntax.proofs.parser.argument.read_others.Goals as goal
 
 pub returns-in_err-read_separator : goal.returns-in_err-read_separator
 returns-in_err-read_separator c =

@@ -2,15 +2,15 @@ use Rattle.std.proofs.Common.{◌≡◌, ap, sym, ◌∙◌, ◌++◌, ◌∷◌
 use Rattle.std.proofs.Common.{refl}
 use Rattle.std.proofs.lemmas.List.{map-append, append-nil}
 use Rattle.std.proofs.lemmas.Result.{err_from_is_err_and}
-use Rattle.sievesyntax.specs.Tree.{yes}
-use Rattle.sievesyntax.specs.View.{branch_view, command_view, commands_view}
-use Rattle.sievesyntax.specs.Steps.{TakesCommand, IsStop}
-use Rattle.sievesyntax.proofs.Chains.{chain_more}
-use Rattle.sievesyntax.proofs.FaultLemmas.{fault_on}
-use Rattle.sievesyntax.proofs.ViewLemmas.{view-If, view-Branch, push-branch, push-else}
-use Rattle.sievesyntax.proofs.BlockLemmas.{commands_stop, commands_end, reads_longer, block_no_inside, block_no_close, block_found, if_no_first, if_no_elsifs, if_no_else, if_only, if_takes, branch_no_test, branch_no_block, branch_found, elsifs_end, elsifs_fail, elsifs_more, elsif_shorter, else_fails, else_only, else_none}
-use Rattle.sievesyntax.proofs.parser.command_parser.+parse.Goals as goal
-use Rattle.sievesyntax.proofs.parser.command_parser.+parse.Goals.{read_else-then-take_else+in_ok-block+in_ok-push, read_else-else-take_else}
+use Rattle.sieve_syntax.specs.Tree.{yes}
+use Rattle.sieve_syntax.specs.View.{branch_view, command_view, commands_view}
+use Rattle.sieve_syntax.specs.Steps.{TakesCommand, IsStop}
+use Rattle.sieve_syntax.proofs.Chains.{chain_more}
+use Rattle.sieve_syntax.proofs.FaultLemmas.{fault_on}
+use Rattle.sieve_syntax.proofs.ViewLemmas.{view-If, view-Branch, push-branch, push-else}
+use Rattle.sieve_syntax.proofs.BlockLemmas.{commands_stop, commands_end, reads_longer, block_no_inside, block_no_close, block_found, if_no_first, if_no_elsifs, if_no_else, if_only, if_takes, branch_no_test, branch_no_block, branch_found, elsifs_end, elsifs_fail, elsifs_more, elsif_shorter, else_fails, else_only, else_none}
+use Rattle.sieve_syntax.proofs.parser.command_parser.+parse.Goals as goal
+use Rattle.sieve_syntax.proofs.parser.command_parser.+parse.Goals.{read_else-then-take_else+in_ok-block+in_ok-push, read_else-else-take_else}
 
 pub read_branch-returns-in_err-test : goal.read_branch-returns-in_err-test
 read_branch-returns-in_err-test t c =

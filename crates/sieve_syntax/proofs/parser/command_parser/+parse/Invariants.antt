@@ -1,9 +1,9 @@
 use Rattle.std.proofs.Common.{◌≡◌, ◌+◌, ◌*◌, ◌++◌, List, length, map}
-use Rattle.sievesyntax.specs.Tree.{TestTree, CommandTree, Commands}
-use Rattle.sievesyntax.specs.View.{command_view, branch_view}
-use Rattle.sievesyntax.specs.Steps.{TakesCommand, TakesElsif, IsPastElsif, IsStop}
-use Rattle.sievesyntax.proofs.Chains.{IsSoFar}
-use Rattle.sievesyntax.proofs.parser.command_parser.+parse.Given as goal
+use Rattle.sieve_syntax.specs.Tree.{TestTree, CommandTree, Commands}
+use Rattle.sieve_syntax.specs.View.{command_view, branch_view}
+use Rattle.sieve_syntax.specs.Steps.{TakesCommand, TakesElsif, IsPastElsif, IsStop}
+use Rattle.sieve_syntax.proofs.Chains.{IsSoFar}
+use Rattle.sieve_syntax.proofs.parser.command_parser.+parse.Given as goal
 
 abbrev pub decreases-read_commands : goal.decreases-read_commands
 decreases-read_commands l = 8 * l.room + 5

@@ -1,7 +1,7 @@
 use Rattle.std.proofs.lemmas.Result.{err_from_is_err_and}
-use Rattle.sievesyntax.proofs.FaultLemmas.{fault_on}
-use Rattle.sievesyntax.proofs.ParserLemmas.{statement_no_args, statement_no_row, statement_no_end, statement_found}
-use Rattle.sievesyntax.proofs.parser.command_parser.read_statement.Goals as goal
+use Rattle.sieve_syntax.proofs.FaultLemmas.{fault_on}
+use Rattle.sieve_syntax.proofs.ParserLemmas.{statement_no_args, statement_no_row, statement_no_end, statement_found}
+use Rattle.sieve_syntax.proofs.parser.command_parser.read_statement.Goals as goal
 
 pub returns-in_err-args : goal.returns-in_err-args
 returns-in_err-args c =

@@ -1,14 +1,14 @@
 use Rattle.std.proofs.Common.{ap, sym, ◌∙◌, ◌++◌, ◌∷◌, [], map}
 use Rattle.std.proofs.lemmas.List.{map-append}
 use Rattle.std.proofs.lemmas.Result.{err_from_is_err_and}
-use Rattle.sievesyntax.specs.Tree.{require}
-use Rattle.sievesyntax.specs.View.{command_view}
-use Rattle.sievesyntax.specs.Steps.{all_names}
-use Rattle.sievesyntax.specs.Valid.{granted_by}
-use Rattle.sievesyntax.proofs.FaultLemmas.{fault_on}
-use Rattle.sievesyntax.proofs.ViewLemmas.{view-Require}
-use Rattle.sievesyntax.proofs.RequireLemmas.{granted_push, requires_end, requires_no_names, requires_unknown, requires_more, requires_shorter}
-use Rattle.sievesyntax.proofs.parser.require.read_requires.Goals as goal
+use Rattle.sieve_syntax.specs.Tree.{require}
+use Rattle.sieve_syntax.specs.View.{command_view}
+use Rattle.sieve_syntax.specs.Steps.{all_names}
+use Rattle.sieve_syntax.specs.Valid.{granted_by}
+use Rattle.sieve_syntax.proofs.FaultLemmas.{fault_on}
+use Rattle.sieve_syntax.proofs.ViewLemmas.{view-Require}
+use Rattle.sieve_syntax.proofs.RequireLemmas.{granted_push, requires_end, requires_no_names, requires_unknown, requires_more, requires_shorter}
+use Rattle.sieve_syntax.proofs.parser.require.read_requires.Goals as goal
 
 pub returns-in_err-names-clause-fault : goal.returns-in_err-names-clause-fault
 returns-in_err-names-clause-fault c =

@@ -1,10 +1,10 @@
 use Rattle.std.proofs.Common.{◌≡◌, ℕ, List, length, map}
-use Rattle.sievesyntax.specs.Tree.{require}
-use Rattle.sievesyntax.specs.View.{command_view}
-use Rattle.sievesyntax.specs.Valid.{granted_by}
-use Rattle.sievesyntax.specs.Steps.{TakesRequire, IsPastRequires, all_names}
-use Rattle.sievesyntax.proofs.Chains.{IsSoFar}
-use Rattle.sievesyntax.proofs.parser.require.read_requires.Given as goal
+use Rattle.sieve_syntax.specs.Tree.{require}
+use Rattle.sieve_syntax.specs.View.{command_view}
+use Rattle.sieve_syntax.specs.Valid.{granted_by}
+use Rattle.sieve_syntax.specs.Steps.{TakesRequire, IsPastRequires, all_names}
+use Rattle.sieve_syntax.proofs.Chains.{IsSoFar}
+use Rattle.sieve_syntax.proofs.parser.require.read_requires.Given as goal
 
 abbrev pub invariant-found : goal.invariant-found
 invariant-found l =

@@ -1,8 +1,8 @@
 use Rattle.std.proofs.Common.{ap, ◌∙◌, ◌++◌}
 use Rattle.std.proofs.lemmas.Result.{err_from_is_err_and}
-use Rattle.sievesyntax.proofs.FaultLemmas.{fault_on}
-use Rattle.sievesyntax.proofs.RequireLemmas.{script_no_requires, script_no_commands, script_no_end, script_only, script_found}
-use Rattle.sievesyntax.proofs.parser.require.read_script.Goals as goal
+use Rattle.sieve_syntax.proofs.FaultLemmas.{fault_on}
+use Rattle.sieve_syntax.proofs.RequireLemmas.{script_no_requires, script_no_commands, script_no_end, script_only, script_found}
+use Rattle.sieve_syntax.proofs.parser.require.read_script.Goals as goal
 
 pub returns-in_err-opening-clause-fault : goal.returns-in_err-opening-clause-fault
 returns-in_err-opening-clause-fault c =

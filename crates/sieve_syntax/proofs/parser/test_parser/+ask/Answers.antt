@@ -1,12 +1,12 @@
 use Rattle.std.proofs.Common.{◌≡◌, subst, ap, sym, ◌∙◌, ◌++◌, ◌∷◌, [], map, append_assoc, length, arith, Ok, ◌-◌}
 use Rattle.std.proofs.lemmas.Result.{err_from_is_err_and}
-use Rattle.sievesyntax.specs.View.{test_view}
-use Rattle.sievesyntax.specs.Chains.{Chain}
-use Rattle.sievesyntax.specs.Steps.{TakesNextTest}
-use Rattle.sievesyntax.proofs.FaultLemmas.{fault_on, faults_on}
-use Rattle.sievesyntax.proofs.ViewLemmas.{view-Not, view-AllOf, view-AnyOf, push-test}
-use Rattle.sievesyntax.proofs.TestLemmas.{allof_none, allof_found, anyof_none, anyof_found, not_deep, not_none, not_found, tests_no_first, tests_after, next_stops, next_lacks, next_grows, next_ends, reads_test_longer}
-use Rattle.sievesyntax.proofs.parser.test_parser.+ask.Goals as goal
+use Rattle.sieve_syntax.specs.View.{test_view}
+use Rattle.sieve_syntax.specs.Chains.{Chain}
+use Rattle.sieve_syntax.specs.Steps.{TakesNextTest}
+use Rattle.sieve_syntax.proofs.FaultLemmas.{fault_on, faults_on}
+use Rattle.sieve_syntax.proofs.ViewLemmas.{view-Not, view-AllOf, view-AnyOf, push-test}
+use Rattle.sieve_syntax.proofs.TestLemmas.{allof_none, allof_found, anyof_none, anyof_found, not_deep, not_none, not_found, tests_no_first, tests_after, next_stops, next_lacks, next_grows, next_ends, reads_test_longer}
+use Rattle.sieve_syntax.proofs.parser.test_parser.+ask.Goals as goal
 
 pub read_test-returns-in_err-read_tests-in-AllOf : goal.read_test-returns-in_err-read_tests-in-AllOf
 read_test-returns-in_err-read_tests-in-AllOf t c =

@@ -1,11 +1,11 @@
 use Rattle.std.proofs.Common.{◌≡◌, ◌+◌, ◌*◌, ◌++◌, List, length, map}
-use Rattle.sievelex.specs.declared.token.Mark.TheVariants as K
-use Rattle.sievesyntax.specs.Tree.{TestTree}
-use Rattle.sievesyntax.specs.View.{test_view}
-use Rattle.sievesyntax.specs.Steps.{TakesNextTest}
-use Rattle.sievesyntax.proofs.Chains.{IsSoFar}
-use Rattle.sievesyntax.proofs.ArgumentLemmas.{IsMarked}
-use Rattle.sievesyntax.proofs.parser.test_parser.+ask.Given as goal
+use Rattle.sieve_lex.specs.declared.token.Mark.TheVariants as K
+use Rattle.sieve_syntax.specs.Tree.{TestTree}
+use Rattle.sieve_syntax.specs.View.{test_view}
+use Rattle.sieve_syntax.specs.Steps.{TakesNextTest}
+use Rattle.sieve_syntax.proofs.Chains.{IsSoFar}
+use Rattle.sieve_syntax.proofs.ArgumentLemmas.{IsMarked}
+use Rattle.sieve_syntax.proofs.parser.test_parser.+ask.Given as goal
 
 abbrev pub decreases-read_test : goal.decreases-read_test
 decreases-read_test l = 4 * (l.lists + l.nots) + 2

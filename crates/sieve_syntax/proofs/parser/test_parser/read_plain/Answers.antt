@@ -1,7 +1,7 @@
 use Rattle.std.proofs.lemmas.Result.{err_from_is_err_and}
-use Rattle.sievesyntax.proofs.FaultLemmas.{fault_on}
-use Rattle.sievesyntax.proofs.TestLemmas.{plain_no_args, plain_no_row, plain_found}
-use Rattle.sievesyntax.proofs.parser.test_parser.read_plain.Goals as goal
+use Rattle.sieve_syntax.proofs.FaultLemmas.{fault_on}
+use Rattle.sieve_syntax.proofs.TestLemmas.{plain_no_args, plain_no_row, plain_found}
+use Rattle.sieve_syntax.proofs.parser.test_parser.read_plain.Goals as goal
 
 pub returns-in_err-args : goal.returns-in_err-args
 returns-in_err-args c =

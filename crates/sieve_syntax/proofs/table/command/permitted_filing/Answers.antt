@@ -1,14 +1,14 @@
 use Rattle.std.proofs.Common.{true}
 use Rattle.std.specs.Prelude.{is_some}
 use Rattle.std.proofs.lemmas.Result.{err_from_is_err_and}
-use Rattle.sievelex.specs.declared.fault.FaultKind.TheVariants.{BadMailbox}
-use Rattle.sievesyntax.specs.declared.error.ReadError.TheVariants.{Fault}
-use Rattle.sievesyntax.specs.declared.tree.action.Action.TheVariants as D
-use Rattle.sievesyntax.specs.declared.tree.action.FileInto.{FileInto}
-use Rattle.sievesyntax.specs.Table.{IsFileInto}
-use Rattle.sievesyntax.specs.Valid.{Permits, MayAct}
-use Rattle.sievesyntax.proofs.FaultLemmas.{fault_on, none_fits, one_unfit}
-use Rattle.sievesyntax.proofs.table.command.permitted_filing.Goals as goal
+use Rattle.sieve_lex.specs.declared.fault.FaultKind.TheVariants.{BadMailbox}
+use Rattle.sieve_syntax.specs.declared.error.ParseError.TheVariants.{Fault}
+use Rattle.sieve_syntax.specs.declared.tree.action.Action.TheVariants as D
+use Rattle.sieve_syntax.specs.declared.tree.action.FileInto.{FileInto}
+use Rattle.sieve_syntax.specs.Table.{IsFileInto}
+use Rattle.sieve_syntax.specs.Valid.{Permits, MayAct}
+use Rattle.sieve_syntax.proofs.FaultLemmas.{fault_on, none_fits, one_unfit}
+use Rattle.sieve_syntax.proofs.table.command.permitted_filing.Goals as goal
 
 pub returns-in_err-require : goal.returns-in_err-require
 returns-in_err-require c =

@@ -1,9 +1,9 @@
 use Rattle.std.proofs.Common.{◌≡◌, ℕ, List, true}
 use Rattle.std.proofs.lemmas.Result.{err_from_is_err_and}
-use Rattle.sievesyntax.specs.Table.{IsList}
-use Rattle.sievesyntax.specs.Valid.{Permits}
-use Rattle.sievesyntax.proofs.FaultLemmas.{fault_on, none_fits}
-use Rattle.sievesyntax.proofs.table.command.permitted_flags.Goals as goal
+use Rattle.sieve_syntax.specs.Table.{IsList}
+use Rattle.sieve_syntax.specs.Valid.{Permits}
+use Rattle.sieve_syntax.proofs.FaultLemmas.{fault_on, none_fits}
+use Rattle.sieve_syntax.proofs.table.command.permitted_flags.Goals as goal
 
 pub returns-in_err-require : goal.returns-in_err-require
 returns-in_err-require c =

@@ -1,9 +1,9 @@
 use Rattle.std.proofs.lemmas.Result.{err_from_is_err_and}
-use Rattle.sievesyntax.specs.declared.tree.action.Action.TheVariants as D
-use Rattle.sievesyntax.specs.Table.{IsRedirect}
-use Rattle.sievesyntax.specs.Valid.{MayAct}
-use Rattle.sievesyntax.proofs.FaultLemmas.{none_fits, one_unfit}
-use Rattle.sievesyntax.proofs.table.command.permitted_redirect.Goals as goal
+use Rattle.sieve_syntax.specs.declared.tree.action.Action.TheVariants as D
+use Rattle.sieve_syntax.specs.Table.{IsRedirect}
+use Rattle.sieve_syntax.specs.Valid.{MayAct}
+use Rattle.sieve_syntax.proofs.FaultLemmas.{none_fits, one_unfit}
+use Rattle.sieve_syntax.proofs.table.command.permitted_redirect.Goals as goal
 
 pub returns-in_err-redirect : goal.returns-in_err-redirect
 returns-in_err-redirect c =

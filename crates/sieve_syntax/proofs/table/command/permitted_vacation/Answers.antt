@@ -1,18 +1,18 @@
 use Rattle.std.proofs.Common.{refl, true, is_some}
 use Rattle.std.proofs.lemmas.Result.{err_from_is_err_and}
-use Rattle.sievesyntax.specs.declared.tree.action.Action.TheVariants as D
-use Rattle.sievesyntax.specs.declared.tree.vacation.VacArgs.{VacArgs}
-use Rattle.sievesyntax.specs.Reasons.{IsReason}
-use Rattle.sievesyntax.specs.Vacations.{IsVacation}
-use Rattle.sievesyntax.specs.Valid.{may_answer, Permits, MayAct}
-use Rattle.sievesyntax.proofs.FaultLemmas.{fault_on, none_fits, one_unfit}
-use Rattle.sievesyntax.proofs.table.command.permitted_vacation.Goals as goal
+use Rattle.sieve_syntax.specs.declared.tree.action.Action.TheVariants as D
+use Rattle.sieve_syntax.specs.declared.tree.vacation.VacationArgs.{VacationArgs}
+use Rattle.sieve_syntax.specs.Reasons.{IsReason}
+use Rattle.sieve_syntax.specs.Vacations.{IsVacation}
+use Rattle.sieve_syntax.specs.Valid.{may_use_vacation, Permits, MayAct}
+use Rattle.sieve_syntax.proofs.FaultLemmas.{fault_on, none_fits, one_unfit}
+use Rattle.sieve_syntax.proofs.table.command.permitted_vacation.Goals as goal
 
 pub returns-in_err-require : goal.returns-in_err-require
 returns-in_err-require c =
     let p = err_from_is_err_and c.from_residual.result c.from_residual.ensures.1 in
-    let e = rw c.may_answer.ensures at c.in_err-require.ensures.fault in
-    rw (p.1, p.2) (fault_on _ (Permits (may_answer c.args.granted) true → ⊥) ((x : VacArgs) → IsVacation c.args.args.now x → MayAct c.args.granted (D.Vacation x) → ⊥) (λ bad x is fit. bad (λ used. fit.0)) e)
+    let e = rw c.may_use_vacation.ensures at c.in_err-require.ensures.fault in
+    rw (p.1, p.2) (fault_on _ (Permits (may_use_vacation c.args.granted) true → ⊥) ((x : VacationArgs) → IsVacation c.args.args.now x → MayAct c.args.granted (D.Vacation x) → ⊥) (λ bad x is fit. bad (λ used. fit.0)) e)
 
 pub returns-in_err-vacation : goal.returns-in_err-vacation
 returns-in_err-vacation c =
@@ -32,6 +32,6 @@ returns-in_err-check_reason c =
 
 pub returns : goal.returns
 returns c =
-    let granted = rw c.may_answer.ensures at c.in_ok-require.ensures.granted in
+    let granted = rw c.may_use_vacation.ensures at c.in_ok-require.ensures.granted in
     let seconds = rw c.is_some.ensures at c.in_ok-require-2.ensures.granted in
     rw c.in_ok-new.ensures (c.in_ok-vacation.ensures.0, (granted refl, seconds, c.in_ok-check_reason.ensures.found), c.in_ok-vacation.ensures.1)

@@ -1,13 +1,13 @@
 use Rattle.std.proofs.Common.{refl, subst}
 use Rattle.std.proofs.lemmas.Result.{err_from_is_err_and}
-use Rattle.sievesyntax.specs.declared.tree.action.Action.TheVariants as D
-use Rattle.sievesyntax.specs.Table.{IsList, IsKeep, IsFileInto, IsRedirect}
-use Rattle.sievesyntax.specs.Tree.{stop, act}
-use Rattle.sievesyntax.specs.Vacations.{IsVacation}
-use Rattle.sievesyntax.specs.Valid.{MayAct, MayStand}
-use Rattle.sievesyntax.proofs.TableLemmas.{row_only, fit_fault, bare_fault}
-use Rattle.sievesyntax.proofs.ViewLemmas.{view-Stop, view-Act}
-use Rattle.sievesyntax.proofs.table.command.plain_command.Goals as goal
+use Rattle.sieve_syntax.specs.declared.tree.action.Action.TheVariants as D
+use Rattle.sieve_syntax.specs.Table.{IsList, IsKeep, IsFileInto, IsRedirect}
+use Rattle.sieve_syntax.specs.Tree.{stop, act}
+use Rattle.sieve_syntax.specs.Vacations.{IsVacation}
+use Rattle.sieve_syntax.specs.Valid.{MayAct, MayStand}
+use Rattle.sieve_syntax.proofs.TableLemmas.{row_only, fit_fault, bare_fault}
+use Rattle.sieve_syntax.proofs.ViewLemmas.{view-Stop, view-Act}
+use Rattle.sieve_syntax.proofs.table.command.plain_command.Goals as goal
 
 pub returns-in_err-no_arguments-in-Stop-clause-fault : goal.returns-in_err-no_arguments-in-Stop-clause-fault
 returns-in_err-no_arguments-in-Stop-clause-fault c =

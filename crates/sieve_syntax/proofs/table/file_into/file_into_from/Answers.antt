@@ -1,8 +1,8 @@
 use Rattle.std.proofs.lemmas.Result.{err_from_is_err_and}
-use Rattle.sievesyntax.proofs.FaultLemmas.{fault_on}
-use Rattle.sievesyntax.proofs.TableLemmas.{finds_one}
-use Rattle.sievesyntax.proofs.VacationLemmas.{file_into_same, file_into_no_text}
-use Rattle.sievesyntax.proofs.table.file_into.file_into_from.Goals as goal
+use Rattle.sieve_syntax.proofs.FaultLemmas.{fault_on}
+use Rattle.sieve_syntax.proofs.TableLemmas.{finds_one}
+use Rattle.sieve_syntax.proofs.VacationLemmas.{file_into_same, file_into_no_text}
+use Rattle.sieve_syntax.proofs.table.file_into.file_into_from.Goals as goal
 
 pub returns-in_err-mailbox : goal.returns-in_err-mailbox
 returns-in_err-mailbox c =

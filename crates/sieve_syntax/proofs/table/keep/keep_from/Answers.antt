@@ -1,7 +1,7 @@
 use Rattle.std.proofs.lemmas.Result.{err_from_is_err_and}
-use Rattle.sievesyntax.proofs.FaultLemmas.{fault_on}
-use Rattle.sievesyntax.proofs.TableLemmas.{finds_one, keep_same, keep_extra}
-use Rattle.sievesyntax.proofs.table.keep.keep_from.Goals as goal
+use Rattle.sieve_syntax.proofs.FaultLemmas.{fault_on}
+use Rattle.sieve_syntax.proofs.TableLemmas.{finds_one, keep_same, keep_extra}
+use Rattle.sieve_syntax.proofs.table.keep.keep_from.Goals as goal
 
 pub returns-in_err-no_arguments : goal.returns-in_err-no_arguments
 returns-in_err-no_arguments c =

@@ -1,9 +1,9 @@
 use Rattle.std.proofs.Common.{◌≡◌, ℕ, List, Some}
-use Rattle.addrparts.specs.declared.address.Addr.{Addr}
-use Rattle.addrparts.specs.Outbound.{IsOutbound}
-use Rattle.sievesyntax.specs.Vacations.{IsNamedAs}
-use Rattle.sievesyntax.proofs.VacationLemmas.{if_ok_so}
-use Rattle.sievesyntax.proofs.table.redirect.named_address.Goals as goal
+use Rattle.mail_address.specs.declared.address.Addr.{Addr}
+use Rattle.mail_address.specs.Outbound.{IsOutbound}
+use Rattle.sieve_syntax.specs.Vacations.{IsNamedAs}
+use Rattle.sieve_syntax.proofs.VacationLemmas.{if_ok_so}
+use Rattle.sieve_syntax.proofs.table.redirect.named_address.Goals as goal
 
 pub returns-clause-only : goal.returns-clause-only
 returns-clause-only c = if_ok_so

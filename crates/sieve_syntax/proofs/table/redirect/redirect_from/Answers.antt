@@ -1,8 +1,8 @@
 use Rattle.std.proofs.lemmas.Result.{err_from_is_err_and}
-use Rattle.sievesyntax.proofs.FaultLemmas.{fault_on}
-use Rattle.sievesyntax.proofs.TableLemmas.{finds_one}
-use Rattle.sievesyntax.proofs.VacationLemmas.{redirect_same, redirect_no_text, redirect_no_address}
-use Rattle.sievesyntax.proofs.table.redirect.redirect_from.Goals as goal
+use Rattle.sieve_syntax.proofs.FaultLemmas.{fault_on}
+use Rattle.sieve_syntax.proofs.TableLemmas.{finds_one}
+use Rattle.sieve_syntax.proofs.VacationLemmas.{redirect_same, redirect_no_text, redirect_no_address}
+use Rattle.sieve_syntax.proofs.table.redirect.redirect_from.Goals as goal
 
 pub returns-in_err-text : goal.returns-in_err-text
 returns-in_err-text c =

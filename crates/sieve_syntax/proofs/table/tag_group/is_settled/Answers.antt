@@ -1,8 +1,8 @@
 use Rattle.std.proofs.Common.{rules, arith, true, false, ◌≡◌, ℕ, ◌<◌, ◌≤◌, length, get_or}
-use Rattle.sievesyntax.specs.declared.table.tag_group.TagValue.{TagValue}
-use Rattle.sievesyntax.specs.Tags.{group_of}
-use Rattle.sievesyntax.proofs.TagLemmas.{group_absent}
-use Rattle.sievesyntax.proofs.table.tag_group.is_settled.Goals as goal
+use Rattle.sieve_syntax.specs.declared.table.tag_group.TagValue.{TagValue}
+use Rattle.sieve_syntax.specs.Tags.{group_of}
+use Rattle.sieve_syntax.proofs.TagLemmas.{group_absent}
+use Rattle.sieve_syntax.proofs.table.tag_group.is_settled.Goals as goal
 
 pub returns : goal.returns
 returns c =

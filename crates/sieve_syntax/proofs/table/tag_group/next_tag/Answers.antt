@@ -1,11 +1,11 @@
 use Rattle.std.proofs.Common.{rules, map, ◌≡◌, ◌∷◌, ap, ◌∙◌}
 use Rattle.std.proofs.lemmas.Result.{err_from_is_err_and}
 use Rattle.std.specs.List.{Contains}
-use Rattle.sievesyntax.specs.Tags.{group_of}
-use Rattle.sievesyntax.specs.declared.parser.argument.Argument.TheVariants as A
-use Rattle.sievesyntax.proofs.FaultLemmas.{fault_on}
-use Rattle.sievesyntax.proofs.TagLemmas.{not_allowed, not_free, not_there}
-use Rattle.sievesyntax.proofs.table.tag_group.next_tag.Goals as goal
+use Rattle.sieve_syntax.specs.Tags.{group_of}
+use Rattle.sieve_syntax.specs.declared.parser.argument.Argument.TheVariants as A
+use Rattle.sieve_syntax.proofs.FaultLemmas.{fault_on}
+use Rattle.sieve_syntax.proofs.TagLemmas.{not_allowed, not_free, not_there}
+use Rattle.sieve_syntax.proofs.table.tag_group.next_tag.Goals as goal
 
 pub returns-in_err-tag_value-clause-fault : goal.returns-in_err-tag_value-clause-fault
 returns-in_err-tag_value-clause-fault c =

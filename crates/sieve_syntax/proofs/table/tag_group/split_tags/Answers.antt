@@ -1,9 +1,9 @@
 use Rattle.std.proofs.Common.{length-drop, arith}
 use Rattle.std.proofs.lemmas.List.{drop-drop}
 use Rattle.std.proofs.lemmas.Result.{err_from_is_err_and}
-use Rattle.sievesyntax.proofs.FaultLemmas.{faults_on}
-use Rattle.sievesyntax.proofs.TagLemmas.{settled_more, taken_ends, taken_fails}
-use Rattle.sievesyntax.proofs.table.tag_group.split_tags.Goals as goal
+use Rattle.sieve_syntax.proofs.FaultLemmas.{faults_on}
+use Rattle.sieve_syntax.proofs.TagLemmas.{settled_more, taken_ends, taken_fails}
+use Rattle.sieve_syntax.proofs.table.tag_group.split_tags.Goals as goal
 
 pub returns-in_err-tag_value-clause-fault : goal.returns-in_err-tag_value-clause-fault
 returns-in_err-tag_value-clause-fault c =

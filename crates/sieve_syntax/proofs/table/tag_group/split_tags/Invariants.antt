@@ -1,7 +1,7 @@
 use Rattle.std.proofs.Common.{◌-◌, ◌≤◌, length, drop, map}
-use Rattle.sievesyntax.specs.Tags.{group_of}
-use Rattle.sievesyntax.proofs.TagLemmas.{IsTaken}
-use Rattle.sievesyntax.proofs.table.tag_group.split_tags.Given as goal
+use Rattle.sieve_syntax.specs.Tags.{group_of}
+use Rattle.sieve_syntax.proofs.TagLemmas.{IsTaken}
+use Rattle.sieve_syntax.proofs.table.tag_group.split_tags.Given as goal
 
 abbrev pub invariant-tag_values : goal.invariant-tag_values
 invariant-tag_values l = record {

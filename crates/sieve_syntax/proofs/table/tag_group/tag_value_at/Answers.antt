@@ -1,7 +1,7 @@
 use Rattle.std.proofs.lemmas.Result.{err_from_is_err_and}
-use Rattle.sievesyntax.proofs.FaultLemmas.{fault_on}
-use Rattle.sievesyntax.proofs.TagLemmas.{zone_nowhere}
-use Rattle.sievesyntax.proofs.table.tag_group.tag_value_at.Goals as goal
+use Rattle.sieve_syntax.proofs.FaultLemmas.{fault_on}
+use Rattle.sieve_syntax.proofs.TagLemmas.{zone_nowhere}
+use Rattle.sieve_syntax.proofs.table.tag_group.tag_value_at.Goals as goal
 
 pub returns-in_err-zone-in-Zone-clause-fault : goal.returns-in_err-zone-in-Zone-clause-fault
 returns-in_err-zone-in-Zone-clause-fault c =

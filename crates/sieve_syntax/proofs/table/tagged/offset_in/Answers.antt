@@ -1,7 +1,7 @@
 use Rattle.std.proofs.Common.{◌≡◌, ◌∙◌, None, Some, sym, arith, w16, FitsSigned}
 use Rattle.std.proofs.lemmas.Int.{to_z-of_z, ints}
-use Rattle.maildates.proofs.ZoneLaws.{numeric_is, numeric_again}
-use Rattle.sievesyntax.proofs.table.tagged.offset_in.Goals as goal
+use Rattle.mail_dates.proofs.ZoneLaws.{numeric_is, numeric_again}
+use Rattle.sieve_syntax.proofs.table.tagged.offset_in.Goals as goal
 
 pub returns-in-Some-clause-found : goal.returns-in-Some-clause-found
 returns-in-Some-clause-found c =

@@ -1,10 +1,10 @@
 use Rattle.std.proofs.Common.{◌≡◌, ◌∙◌, ◌∷◌, ℕ, ℤ, List, sym, ap, subst}
 use Rattle.std.proofs.lemmas.Result.{err_from_is_err_and}
-use Rattle.maildates.specs.Zones.{IsOffset}
-use Rattle.sievesyntax.specs.declared.parser.argument.Argument.{Argument}
-use Rattle.sievesyntax.specs.declared.parser.argument.Argument.TheVariants as A
-use Rattle.sievesyntax.proofs.FaultLemmas.{fault_on}
-use Rattle.sievesyntax.proofs.table.tagged.zone_at.Goals as goal
+use Rattle.mail_dates.specs.Zones.{IsOffset}
+use Rattle.sieve_syntax.specs.declared.parser.argument.Argument.{Argument}
+use Rattle.sieve_syntax.specs.declared.parser.argument.Argument.TheVariants as A
+use Rattle.sieve_syntax.proofs.FaultLemmas.{fault_on}
+use Rattle.sieve_syntax.proofs.table.tagged.zone_at.Goals as goal
 
 -- a string that is no zone is none at the front
 no_zone : (text : List ℕ) (args rest : List Argument) → args ≡ A.Text text ∷ rest → ((zone : ℤ) → IsOffset text zone → ⊥)

@@ -1,24 +1,24 @@
 use Rattle.std.proofs.Common.{true}
 use Rattle.std.proofs.lemmas.Result.{err_from_is_err_and}
-use Rattle.sievesyntax.specs.declared.tree.checks.Check.TheVariants as C
-use Rattle.sievesyntax.specs.Table.{IsHasFlag}
-use Rattle.sievesyntax.specs.Valid.{Permits, MayMatch, MayCheck}
-use Rattle.sievesyntax.specs.declared.tree.checks.HasFlag.{HasFlag}
-use Rattle.sievesyntax.proofs.FaultLemmas.{fault_on, none_fits, one_unfit}
-use Rattle.sievesyntax.proofs.table.test.permitted_has_flag.Goals as goal
+use Rattle.sieve_syntax.specs.declared.tree.checks.MailCheck.TheVariants as C
+use Rattle.sieve_syntax.specs.Table.{IsHasFlagTest}
+use Rattle.sieve_syntax.specs.Valid.{Permits, MayMatch, MayCheck}
+use Rattle.sieve_syntax.specs.declared.tree.checks.HasFlag.{HasFlag}
+use Rattle.sieve_syntax.proofs.FaultLemmas.{fault_on, none_fits, one_unfit}
+use Rattle.sieve_syntax.proofs.table.test.permitted_has_flag.Goals as goal
 
 pub returns-in_err-require : goal.returns-in_err-require
 returns-in_err-require c =
     let p = err_from_is_err_and c.from_residual.result c.from_residual.ensures.1 in
-    rw (p.1, p.2) (fault_on _ (Permits c.args.granted.flags true → ⊥) ((x : HasFlag) → IsHasFlag c.args.args.now x → MayCheck c.args.granted (C.HasFlag x) → ⊥) (λ bad x is fit. bad (λ used. fit.0)) c.in_err-require.ensures.fault)
+    rw (p.1, p.2) (fault_on _ (Permits c.args.granted.flags true → ⊥) ((x : HasFlag) → IsHasFlagTest c.args.args.now x → MayCheck c.args.granted (C.HasFlag x) → ⊥) (λ bad x is fit. bad (λ used. fit.0)) c.in_err-require.ensures.fault)
 
 pub returns-in_err-flag : goal.returns-in_err-flag
 returns-in_err-flag c =
     let p = err_from_is_err_and c.from_residual-in_err-flag.result c.from_residual-in_err-flag.ensures.1 in
-    rw (p.1, p.2) (none_fits (IsHasFlag c.args.args.now) (λ x. MayCheck c.args.granted (C.HasFlag x)) _ c.in_err-flag.ensures)
+    rw (p.1, p.2) (none_fits (IsHasFlagTest c.args.args.now) (λ x. MayCheck c.args.granted (C.HasFlag x)) _ c.in_err-flag.ensures)
 
 pub returns-in_err-require_match : goal.returns-in_err-require_match
 returns-in_err-require_match c =
     let p = err_from_is_err_and c.from_residual-in_err-require_match.result c.from_residual-in_err-require_match.ensures.1 in
     let flag = c.in_ok-flag.flag in
-    rw (p.1, p.2) (one_unfit (IsHasFlag c.args.args.now) (λ x. MayCheck c.args.granted (C.HasFlag x)) _ c.in_ok-flag.ensures.1 _ (fault_on _ (MayMatch c.args.granted flag.comparator flag.matching → ⊥) (MayCheck c.args.granted (C.HasFlag flag) → ⊥) (λ bad fit. bad fit.1) c.in_err-require_match.ensures.fault))
+    rw (p.1, p.2) (one_unfit (IsHasFlagTest c.args.args.now) (λ x. MayCheck c.args.granted (C.HasFlag x)) _ c.in_ok-flag.ensures.1 _ (fault_on _ (MayMatch c.args.granted flag.comparator flag.matching → ⊥) (MayCheck c.args.granted (C.HasFlag flag) → ⊥) (λ bad fit. bad fit.1) c.in_err-require_match.ensures.fault))

@@ -1,7 +1,7 @@
 use Rattle.std.proofs.lemmas.Result.{err_from_is_err_and}
-use Rattle.sievesyntax.proofs.FaultLemmas.{fault_on}
-use Rattle.sievesyntax.proofs.TableLemmas.{envelope_no_parts}
-use Rattle.sievesyntax.proofs.table.test_arguments.envelope_from.Goals as goal
+use Rattle.sieve_syntax.proofs.FaultLemmas.{fault_on}
+use Rattle.sieve_syntax.proofs.TableLemmas.{envelope_no_parts}
+use Rattle.sieve_syntax.proofs.table.test_arguments.envelope_from.Goals as goal
 
 pub returns-in_err-parts : goal.returns-in_err-parts
 returns-in_err-parts c =

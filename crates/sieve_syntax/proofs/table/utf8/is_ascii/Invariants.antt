@@ -2,7 +2,7 @@
 use Rattle.std.proofs.Common.{◌≡◌, take}
 use Rattle.std.specs.Char.{is_ascii}
 use Rattle.std.specs.List.{list_all}
-use Rattle.sievesyntax.proofs.table.utf8.is_ascii.Given as goal
+use Rattle.sieve_syntax.proofs.table.utf8.is_ascii.Given as goal
 
 abbrev pub invariant-loop-octet : goal.invariant-loop-octet
 invariant-loop-octet l = l.all ≡ list_all is_ascii (take l.octet-index l.text)

@@ -1,5 +1,5 @@
-use Rattle.sievesyntax.proofs.VacationLemmas.{named_step}
-use Rattle.sievesyntax.proofs.table.vacation_arguments.addresses_named.Goals as goal
+use Rattle.sieve_syntax.proofs.VacationLemmas.{named_step}
+use Rattle.sieve_syntax.proofs.table.vacation_arguments.addresses_named.Goals as goal
 
 pub loop-text-preserved : goal.loop-text-preserved
 loop-text-preserved c =

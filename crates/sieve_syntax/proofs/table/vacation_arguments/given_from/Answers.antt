@@ -1,7 +1,7 @@
 use Rattle.std.proofs.lemmas.Result.{err_from_is_err_and}
-use Rattle.sievesyntax.proofs.FaultLemmas.{fault_on}
-use Rattle.sievesyntax.proofs.VacationLemmas.{given_some, given_none}
-use Rattle.sievesyntax.proofs.table.vacation_arguments.given_from.Goals as goal
+use Rattle.sieve_syntax.proofs.FaultLemmas.{fault_on}
+use Rattle.sieve_syntax.proofs.VacationLemmas.{given_some, given_none}
+use Rattle.sieve_syntax.proofs.table.vacation_arguments.given_from.Goals as goal
 
 pub returns-in_err-reply_from-in-Some-clause-fault : goal.returns-in_err-reply_from-in-Some-clause-fault
 returns-in_err-reply_from-in-Some-clause-fault c =

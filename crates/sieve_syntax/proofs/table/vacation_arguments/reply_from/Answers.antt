@@ -1,7 +1,7 @@
 use Rattle.std.proofs.lemmas.Result.{err_from_is_err_and}
-use Rattle.sievesyntax.proofs.FaultLemmas.{fault_on}
-use Rattle.sievesyntax.proofs.VacationLemmas.{reply_none}
-use Rattle.sievesyntax.proofs.table.vacation_arguments.reply_from.Goals as goal
+use Rattle.sieve_syntax.proofs.FaultLemmas.{fault_on}
+use Rattle.sieve_syntax.proofs.VacationLemmas.{reply_none}
+use Rattle.sieve_syntax.proofs.table.vacation_arguments.reply_from.Goals as goal
 
 pub returns-in_err-display-clause-fault : goal.returns-in_err-display-clause-fault
 returns-in_err-display-clause-fault c =

@@ -1,6 +1,6 @@
-use Rattle.sievesyntax.proofs.TableLemmas.{finds_one}
-use Rattle.sievesyntax.proofs.VacationLemmas.{vacation_same}
-use Rattle.sievesyntax.proofs.table.vacation_arguments.vacation_from.Goals as goal
+use Rattle.sieve_syntax.proofs.TableLemmas.{finds_one}
+use Rattle.sieve_syntax.proofs.VacationLemmas.{vacation_same}
+use Rattle.sieve_syntax.proofs.table.vacation_arguments.vacation_from.Goals as goal
 
 pub returns : goal.returns
 returns c = finds_one _ (vacation_same _ _) _ (record {

@@ -1,6 +1,6 @@
 use Rattle.std.proofs.Common.{ap, drop, ◌∙◌}
-use Rattle.smtpclient.proofs.ExtensionLemmas.{more, ended}
-use Rattle.smtpclient.proofs.extension.Extensions.with_lines.Goals as goal
+use Rattle.smtp_dialogue.proofs.ExtensionLemmas.{more, ended}
+use Rattle.smtp_dialogue.proofs.extension.Extensions.with_lines.Goals as goal
 
 pub loop-count-preserved : goal.loop-count-preserved
 loop-count-preserved c =
@@ -8,4 +8,4 @@ loop-count-preserved c =
     c.split_at.ensures.front (c.behind_end-left.ensures ∙ ap (drop 2) c.split_at.ensures.back) c.with_line-offered.ensures c.loop-count.invariant
 
 pub returns : goal.returns
-returns c = ended c.args.octets.now c.loop-count.left.now c.args.self c.loop-count.offered c.first_line.result c.first_line.ensures c.in_default.not-Line c.loop-count.invariant
+returns c = ended c.args.octets.now c.loop-count.left.now c.args.self c.loop-count.offered c.find_line.result c.find_line.ensures c.in_default.not-Line c.loop-count.invariant

@@ -1,6 +1,6 @@
 use Rattle.std.proofs.Common.{length}
-use Rattle.smtpclient.specs.Extensions.{OffersMore}
-use Rattle.smtpclient.proofs.extension.Extensions.with_lines.Given as goal
+use Rattle.smtp_dialogue.specs.Extensions.{OffersMore}
+use Rattle.smtp_dialogue.proofs.extension.Extensions.with_lines.Given as goal
 
 abbrev pub invariant-loop-count : goal.invariant-loop-count
 invariant-loop-count l = (after : _) → OffersMore l.left l.offered after → OffersMore l.octets l.fn.self after

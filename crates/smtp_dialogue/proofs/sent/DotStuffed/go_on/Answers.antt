@@ -1,6 +1,6 @@
 use Rattle.std.proofs.Common.{◌∙◌}
-use Rattle.smtpclient.proofs.RunLemmas.{break_first, run_passes}
-use Rattle.smtpclient.proofs.sent.Sent.go_on.Goals as goal
+use Rattle.smtp_dialogue.proofs.RunLemmas.{break_first, run_passes}
+use Rattle.smtp_dialogue.proofs.sent.DotStuffed.go_on.Goals as goal
 
 pub end_line-requires : goal.end_line-requires
 end_line-requires c = record {

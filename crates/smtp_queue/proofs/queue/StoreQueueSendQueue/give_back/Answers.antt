@@ -1,5 +1,5 @@
-use Rattle.sendqueues.proofs.QueueLemmas.{rows_still}
-use Rattle.sendqueues.proofs.queue.StoreQueueQueue.give_back.Goals as goal
+use Rattle.smtp_queue.proofs.QueueLemmas.{rows_still}
+use Rattle.smtp_queue.proofs.queue.StoreQueueSendQueue.give_back.Goals as goal
 
 pub returns : goal.returns
 returns g c = record { same = rows_still g.K.S.Store g.K.Keeper.tells c.args.self.now.search.waits.now c.args.self.now.search.now g.K.Keeper.holds c.args.self.now.held.store c.args.self.now.held.keeper c.give_back.new.self.store c.give_back.new.self.keeper c.give_back.ensures.shown }

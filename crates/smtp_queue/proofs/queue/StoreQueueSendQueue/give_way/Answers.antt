@@ -1,6 +1,6 @@
 -- Nobody changed a row, and the store was given back where that is to be.
-use Rattle.sendqueues.proofs.QueueLemmas.{rows_still}
-use Rattle.sendqueues.proofs.queue.StoreQueueQueue.give_way.Goals as goal
+use Rattle.smtp_queue.proofs.QueueLemmas.{rows_still}
+use Rattle.smtp_queue.proofs.queue.StoreQueueSendQueue.give_way.Goals as goal
 
 pub returns-then-is_awaited : goal.returns-then-is_awaited
 returns-then-is_awaited g c = record {

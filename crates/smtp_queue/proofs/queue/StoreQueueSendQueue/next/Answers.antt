@@ -1,13 +1,13 @@
 -- The row was looked for, and where that failed the store was given back.
-use Rattle.sendqueues.proofs.QueueLemmas.{found_there, rows_found, rows_still}
-use Rattle.sendqueues.proofs.ShownLemmas.{still_then}
-use Rattle.sendqueues.proofs.queue.StoreQueueQueue.next.Goals as goal
+use Rattle.smtp_queue.proofs.QueueLemmas.{found_there, rows_found, rows_still}
+use Rattle.smtp_queue.proofs.ShownLemmas.{still_then}
+use Rattle.smtp_queue.proofs.queue.StoreQueueSendQueue.next.Goals as goal
 
 pub returns-in-Ok-find-clause-there : goal.returns-in-Ok-find-clause-there
 returns-in-Ok-find-clause-there g c =
     let old = c.args.self.now in
     let new = c.find.new.self in
-    found_there g.K.S.Store g.K.Keeper.tells old.search.waits.now old.search.now g.K.Keeper.holds old.held.store old.held.keeper new.store new.keeper c.in-Ok.start c.find.result c.find.ensures c.in-Ok-find.found c.in-Ok-find.is c.told_of.result c.told_of.ensures
+    found_there g.K.S.Store g.K.Keeper.tells old.search.waits.now old.search.now g.K.Keeper.holds old.held.store old.held.keeper new.store new.keeper c.in-Ok.start c.find.result c.find.ensures c.in-Ok-find.found c.in-Ok-find.is c.due_message_of.result c.due_message_of.ensures
 
 pub returns-in-Ok-find-clause-same : goal.returns-in-Ok-find-clause-same
 returns-in-Ok-find-clause-same g c =

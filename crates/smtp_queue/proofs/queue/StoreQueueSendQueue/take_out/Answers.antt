@@ -1,8 +1,8 @@
 -- The row was taken out, or all is as it was and the store was given back.
 use Rattle.std.proofs.Common.{◌∙◌}
-use Rattle.sendqueues.proofs.QueueLemmas.{rows_kept, rows_taken, rows_still}
-use Rattle.sendqueues.proofs.ShownLemmas.{still_then}
-use Rattle.sendqueues.proofs.queue.StoreQueueQueue.take_out.Goals as goal
+use Rattle.smtp_queue.proofs.QueueLemmas.{rows_kept, rows_taken, rows_still}
+use Rattle.smtp_queue.proofs.ShownLemmas.{still_then}
+use Rattle.smtp_queue.proofs.queue.StoreQueueSendQueue.take_out.Goals as goal
 
 pub returns-in-Ok-remove-clause-taken : goal.returns-in-Ok-remove-clause-taken
 returns-in-Ok-remove-clause-taken g c =

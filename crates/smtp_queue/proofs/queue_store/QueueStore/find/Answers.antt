@@ -1,9 +1,9 @@
 -- The store was taken, and the row looked for; or it can't be had.
 use Rattle.std.proofs.Common.{Ok, Err, IfOk, refl, rules, subst}
-use Rattle.keepers.specs.declared.keeper.Unavailable.TheVariants.{Busy, Refused}
-use Rattle.sendqueues.specs.Posts.{IsFound}
-use Rattle.sendqueues.proofs.ShownLemmas.{find_made, find_not}
-use Rattle.sendqueues.proofs.held.HeldStore.find.Goals as goal
+use Rattle.store_lock.specs.declared.keeper.StoreUnavailable.TheVariants.{Busy, Refused}
+use Rattle.smtp_queue.specs.DueRows.{IsDueRowFound}
+use Rattle.smtp_queue.proofs.ShownLemmas.{find_made, find_not}
+use Rattle.smtp_queue.proofs.queue_store.QueueStore.find.Goals as goal
 
 pub returns-in_err-take : goal.returns-in_err-take
 returns-in_err-take g c =
@@ -17,7 +17,7 @@ returns-in_default g c =
 pub returns-in-Ok : goal.returns-in-Ok
 returns-in-Ok g c =
     find_made g.K.S.Store g.K.Keeper.tells g.K.Keeper.holds g.met.K.Keeper.sure c.args.search.waits.now c.args.search.now c.args.start c.args.self.now.store c.take.new.self.store c.args.self.now.keeper c.take.new.self.keeper
-    c.in-Some.store c.find_post.new.store c.take.ensures c.in-Some.is c.find_post.result c.find_post.ensures (Ok c.in-Ok.found) (λ accounts has. subst (λ o. IfOk o (IsFound c.args.search.waits.now c.args.search.now c.args.start accounts)) c.in-Ok.is has)
+    c.in-Some.store c.find_post.new.store c.take.ensures c.in-Some.is c.find_post.result c.find_post.ensures (Ok c.in-Ok.found) (λ accounts has. subst (λ o. IfOk o (IsDueRowFound c.args.search.waits.now c.args.search.now c.args.start accounts)) c.in-Ok.is has)
 
 pub returns-in-Err : goal.returns-in-Err
 returns-in-Err g c =

@@ -1,7 +1,7 @@
 -- A store that was given back is offered by the tables.
 use Rattle.std.proofs.Common.{sym}
-use Rattle.sendqueues.proofs.ShownLemmas.{shown_given}
-use Rattle.sendqueues.proofs.held.HeldStore.give_back.Goals as goal
+use Rattle.smtp_queue.proofs.ShownLemmas.{shown_given}
+use Rattle.smtp_queue.proofs.queue_store.QueueStore.give_back.Goals as goal
 
 pub returns-in-Some-clause-shown : goal.returns-in-Some-clause-shown
 returns-in-Some-clause-shown g c =

@@ -1,9 +1,9 @@
 -- The store was taken, and the row taken out; or it can't be had, or refused.
 use Rattle.std.proofs.Common.{Ok, Err, refl, rules, subst}
-use Rattle.keepers.specs.declared.keeper.Unavailable.TheVariants.{Busy, Refused}
-use Rattle.sendqueues.specs.Posts.{TakesRow}
-use Rattle.sendqueues.proofs.ShownLemmas.{remove_made, remove_not}
-use Rattle.sendqueues.proofs.held.HeldStore.remove.Goals as goal
+use Rattle.store_lock.specs.declared.keeper.StoreUnavailable.TheVariants.{Busy, Refused}
+use Rattle.smtp_queue.specs.DueRows.{QueueTakesRow}
+use Rattle.smtp_queue.proofs.ShownLemmas.{remove_made, remove_not}
+use Rattle.smtp_queue.proofs.queue_store.QueueStore.remove.Goals as goal
 
 pub returns-in_err-take : goal.returns-in_err-take
 returns-in_err-take g c =
@@ -15,9 +15,9 @@ returns-in_default g c = remove_not g.K.S.Store g.K.Keeper.tells g.K.Keeper.hold
 pub returns-in-Ok : goal.returns-in-Ok
 returns-in-Ok g c =
     remove_made g.K.S.Store g.K.Keeper.tells g.K.Keeper.holds g.met.K.Keeper.sure c.args.place.now c.args.sent.now c.args.self.now.store c.take.new.self.store c.args.self.now.keeper c.take.new.self.keeper c.in-Some.store c.take_row.new.store
-    c.take.ensures c.in-Some.is c.take_row.result c.take_row.ensures (Ok c.in-Ok.taken) (λ accounts later has. subst (λ o. TakesRow c.args.place.now c.args.sent.now o accounts later) c.in-Ok.is has)
+    c.take.ensures c.in-Some.is c.take_row.result c.take_row.ensures (Ok c.in-Ok.taken) (λ accounts later has. subst (λ o. QueueTakesRow c.args.place.now c.args.sent.now o accounts later) c.in-Ok.is has)
 
 pub returns-in-Err : goal.returns-in-Err
 returns-in-Err g c =
     remove_made g.K.S.Store g.K.Keeper.tells g.K.Keeper.holds g.met.K.Keeper.sure c.args.place.now c.args.sent.now c.args.self.now.store c.take.new.self.store c.args.self.now.keeper c.take.new.self.keeper c.in-Some.store c.take_row.new.store
-    c.take.ensures c.in-Some.is c.take_row.result c.take_row.ensures (Err (Refused c.in-Err.refusal)) (λ accounts later has. subst (λ o. TakesRow c.args.place.now c.args.sent.now o accounts later) c.in-Err.is has)
+    c.take.ensures c.in-Some.is c.take_row.result c.take_row.ensures (Err (Refused c.in-Err.refusal)) (λ accounts later has. subst (λ o. QueueTakesRow c.args.place.now c.args.sent.now o accounts later) c.in-Err.is has)

@@ -1,7 +1,7 @@
 -- A store that was taken shows what the tables offered.
 use Rattle.std.proofs.Common.{◌≡◌, None, rules}
-use Rattle.sendqueues.proofs.ShownLemmas.{shown_taken}
-use Rattle.sendqueues.proofs.held.HeldStore.take.Goals as goal
+use Rattle.smtp_queue.proofs.ShownLemmas.{shown_taken}
+use Rattle.smtp_queue.proofs.queue_store.QueueStore.take.Goals as goal
 
 pub returns : goal.returns
 returns g c =

@@ -1,8 +1,8 @@
 -- A wait was put there, or taken away.
 use Rattle.std.proofs.Common.{None, Some, sym, ap, ◌∙◌}
-use Rattle.sendwaits.specs.Waits.{wait_after}
-use Rattle.sendwaits.proofs.WaitLemmas.{noted, on_ok}
-use Rattle.sendwaits.proofs.waits.Waits.note.Goals as goal
+use Rattle.smtp_queue.specs.Waits.{wait_after}
+use Rattle.smtp_queue.proofs.WaitLemmas.{noted, on_ok}
+use Rattle.smtp_queue.proofs.waits.RowWaits.note.Goals as goal
 
 pub returns-in-None-clause-noted : goal.returns-in-None-clause-noted
 returns-in-None-clause-noted c =

@@ -1,7 +1,7 @@
-use Rattle.mailsenders.proofs.WireLemmas.{reads_other}
-use Rattle.mailsenders.proofs.client.Client.greet.Goals as goal
+use Rattle.smtp_send.proofs.WireLemmas.{reads_other}
+use Rattle.smtp_send.proofs.client.SmtpClient.greet.Goals as goal
 
 pub returns-in-Ok : goal.returns-in-Ok
 returns-in-Ok g c = λ t passes.
-    reads_other (g.P.Peer.passed c.next_reply.new.self.peer) c.next_reply.new.self.unread c.drop_front.new.self c.in-Ok.reply.count t c.drop_front.ensures
+    reads_other (g.P.SmtpPeer.passed c.next_reply.new.self.peer) c.next_reply.new.self.unread c.drop_front.new.self c.in-Ok.reply.count t c.drop_front.ensures
     (c.in-Ok.ensures.kept t (c.say_hello.ensures t (c.agrees.ensures t passes)))

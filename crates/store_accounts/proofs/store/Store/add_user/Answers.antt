@@ -1,11 +1,11 @@
 use Rattle.std.proofs.Common.{[], ◌∷◌}
 use Rattle.sqlite.specs.Held.{state}
-use Rattle.mailtables.specs.declared.change.Change.TheVariants.{AddAccount}
-use Rattle.mailstore.specs.Account.{new_user}
-use Rattle.mailstore.specs.Promises.{IsFree}
-use Rattle.mailstore.proofs.CallLemmas.{carries_account}
-use Rattle.mailstore.proofs.KeepLemmas.{writes}
-use Rattle.mailstore.proofs.store.Store.add_user.Goals as goal
+use Rattle.store_tables.specs.declared.change.Change.TheVariants.{AddAccount}
+use Rattle.store_accounts.specs.Account.{new_user}
+use Rattle.store_accounts.specs.Promises.{IsFree}
+use Rattle.store_accounts.proofs.CallLemmas.{carries_account}
+use Rattle.store_accounts.proofs.KeepLemmas.{writes}
+use Rattle.store_accounts.proofs.store.Store.add_user.Goals as goal
 
 pub returns-clause-writes : goal.returns-clause-writes
 returns-clause-writes g c =

@@ -2,13 +2,13 @@
 use Rattle.std.proofs.Common.{sym, subst}
 use Rattle.std.specs.FinMap.{empty, insert}
 use Rattle.sqlite.specs.Held.{state}
-use Rattle.mailstore.specs.Account.{with_user}
-use Rattle.mailstore.specs.Promises.{HasUser, IsFree}
-use Rattle.mailstore.specs.Whole.{whole, takes_whole}
-use Rattle.mailstore.specs.WholeRows.{account_made, emptied_by, IsMaking}
-use Rattle.mailstore.proofs.KeepLemmas.{writes}
-use Rattle.mailstore.proofs.WholeLemmas.{carries_whole}
-use Rattle.mailstore.proofs.store.Store.add_whole.Goals as goal
+use Rattle.store_accounts.specs.Account.{with_user}
+use Rattle.store_accounts.specs.Promises.{HasUser, IsFree}
+use Rattle.store_accounts.specs.Whole.{whole, takes_whole}
+use Rattle.store_accounts.specs.WholeRows.{account_made, emptied_by, IsMaking}
+use Rattle.store_accounts.proofs.KeepLemmas.{writes}
+use Rattle.store_accounts.proofs.WholeLemmas.{carries_whole}
+use Rattle.store_accounts.proofs.store.Store.add_whole.Goals as goal
 
 pub returns : goal.returns
 returns g c =

@@ -1,6 +1,6 @@
 use Rattle.std.proofs.Common.{◌≡◌, rules}
-use Rattle.mailtables.proofs.ResultLemmas.{on_ok}
-use Rattle.mailstore.proofs.store.Store.apply.Goals as goal
+use Rattle.store_tables.proofs.ResultLemmas.{on_ok}
+use Rattle.store_accounts.proofs.store.Store.apply.Goals as goal
 
 pub returns-clause-made : goal.returns-clause-made
 returns-clause-made g c clean tables holds =

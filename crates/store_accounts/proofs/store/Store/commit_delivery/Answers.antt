@@ -1,15 +1,15 @@
 use Rattle.std.proofs.Common.{◌≡◌, Err, ◌∙◌, ap, refl, sym, subst, rules}
 use Rattle.sqlite.specs.Held.{state}
 use Rattle.octets.specs.Ascii.{lowered}
-use Rattle.mailstore.specs.Account.{delivers}
-use Rattle.mailstore.specs.Delivery.{AreDelivery}
-use Rattle.mailstore.specs.Refusals.{IsTransient}
-use Rattle.mailstore.specs.declared.refusal.Refusal.TheVariants.{Memory}
-use Rattle.mailstore.proofs.DeliveryLemmas.{delivery_shows, stores_once}
-use Rattle.mailstore.proofs.KeepLemmas.{account_absent}
-use Rattle.mailstore.proofs.StandingLemmas.{free_shut}
-use Rattle.mailstore.proofs.AfterLemmas.{writes_then, write_refused, write_failed}
-use Rattle.mailstore.proofs.store.Store.commit_delivery.Goals as goal
+use Rattle.store_accounts.specs.Account.{delivers}
+use Rattle.store_accounts.specs.Delivery.{AreDelivery}
+use Rattle.store_accounts.specs.Refusals.{IsTransient}
+use Rattle.store_accounts.specs.declared.refusal.Refusal.TheVariants.{Memory}
+use Rattle.store_accounts.proofs.DeliveryLemmas.{delivery_shows, stores_once}
+use Rattle.store_accounts.proofs.KeepLemmas.{account_absent}
+use Rattle.store_accounts.proofs.StandingLemmas.{free_shut}
+use Rattle.store_accounts.proofs.AfterLemmas.{writes_then, write_refused, write_failed}
+use Rattle.store_accounts.proofs.store.Store.commit_delivery.Goals as goal
 
 pub returns-clause-writes : goal.returns-clause-writes
 returns-clause-writes g c =

@@ -1,8 +1,8 @@
 use Rattle.std.proofs.Common.{◌≡◌, rules}
 use Rattle.sqlite.specs.Held.{state}
-use Rattle.mailtables.specs.Schema.{no_schema}
-use Rattle.mailstore.proofs.OpenLemmas.{presents_nobody, shows_left, outlives_made}
-use Rattle.mailstore.proofs.store.Store.create.Goals as goal
+use Rattle.store_tables.specs.Schema.{no_schema}
+use Rattle.store_accounts.proofs.OpenLemmas.{presents_nobody, shows_left, outlives_made}
+use Rattle.store_accounts.proofs.store.Store.create.Goals as goal
 
 pub returns-in-Ok-clause-made : goal.returns-in-Ok-clause-made
 returns-in-Ok-clause-made g c clean =

@@ -1,11 +1,11 @@
 use Rattle.std.proofs.Common.{[], ◌∷◌}
 use Rattle.sqlite.specs.Held.{state}
-use Rattle.mailtables.specs.declared.change.Change.TheVariants.{RemoveScript}
-use Rattle.mailstore.specs.Account.{with_user, deletes_script}
-use Rattle.mailstore.specs.Promises.{HasUser}
-use Rattle.mailstore.proofs.CallLemmas.{carries_deletion}
-use Rattle.mailstore.proofs.KeepLemmas.{writes}
-use Rattle.mailstore.proofs.store.Store.delete.Goals as goal
+use Rattle.store_tables.specs.declared.change.Change.TheVariants.{RemoveScript}
+use Rattle.store_accounts.specs.Account.{with_user, deletes_script}
+use Rattle.store_accounts.specs.Promises.{HasUser}
+use Rattle.store_accounts.proofs.CallLemmas.{carries_deletion}
+use Rattle.store_accounts.proofs.KeepLemmas.{writes}
+use Rattle.store_accounts.proofs.store.Store.delete.Goals as goal
 
 pub returns : goal.returns
 returns g c =

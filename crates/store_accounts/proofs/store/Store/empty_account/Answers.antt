@@ -1,11 +1,11 @@
 use Rattle.std.proofs.Common.{[], ◌∷◌}
 use Rattle.sqlite.specs.Held.{state}
-use Rattle.mailtables.specs.declared.change.Change.TheVariants.{SetPassword}
-use Rattle.mailstore.specs.Account.{with_user, empties_under}
-use Rattle.mailstore.specs.Promises.{HasUser}
-use Rattle.mailstore.proofs.UpkeepLemmas.{carries_removal, emptying}
-use Rattle.mailstore.proofs.KeepLemmas.{writes}
-use Rattle.mailstore.proofs.store.Store.empty_account.Goals as goal
+use Rattle.store_tables.specs.declared.change.Change.TheVariants.{SetPassword}
+use Rattle.store_accounts.specs.Account.{with_user, empties_under}
+use Rattle.store_accounts.specs.Promises.{HasUser}
+use Rattle.store_accounts.proofs.UpkeepLemmas.{carries_removal, emptying}
+use Rattle.store_accounts.proofs.KeepLemmas.{writes}
+use Rattle.store_accounts.proofs.store.Store.empty_account.Goals as goal
 
 pub returns : goal.returns
 returns g c =

@@ -1,8 +1,8 @@
 use Rattle.std.proofs.Common.{◌≡◌, ◌∙◌, sym, Ok, Some, None, OnOk, IfErr, rules}
 use Rattle.sqlite.specs.Held.{state}
-use Rattle.mailstore.specs.Refusals.{IsTransient}
-use Rattle.mailstore.proofs.AfterLemmas.{account_entered, account_shut, account_missing, account_unread}
-use Rattle.mailstore.proofs.store.Store.enter.Goals as goal
+use Rattle.store_accounts.specs.Refusals.{IsTransient}
+use Rattle.store_accounts.proofs.AfterLemmas.{account_entered, account_shut, account_missing, account_unread}
+use Rattle.store_accounts.proofs.store.Store.enter.Goals as goal
 
 pub returns-in_err-profile : goal.returns-in_err-profile
 returns-in_err-profile g c =

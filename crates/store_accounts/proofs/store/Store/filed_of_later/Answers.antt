@@ -2,11 +2,11 @@ use Rattle.std.proofs.Common.{◌≡◌, OnOk, Vec, rules}
 use Rattle.std.specs.declared.alloc.Global.{Global}
 use Rattle.sqlite.specs.Held.{state}
 use Rattle.sqlite_value.specs.Order.{Row}
-use Rattle.mailstore.specs.FirstCells.{first_three}
-use Rattle.mailstore.specs.Next.{filed_cells, filed_cmp, IsFiled, ShowFiled, LeastFiled, IsLaterOwner}
-use Rattle.mailstore.proofs.AllLemmas.{all_made, all_failed}
-use Rattle.mailstore.proofs.LeastLemmas.{shown_least}
-use Rattle.mailstore.proofs.store.Store.filed_of_later.Goals as goal
+use Rattle.store_accounts.specs.FirstCells.{first_three}
+use Rattle.store_accounts.specs.Next.{filed_cells, filed_cmp, IsFiled, ShowFiled, LeastFiled, IsLaterOwner}
+use Rattle.store_accounts.proofs.AllLemmas.{all_made, all_failed}
+use Rattle.store_accounts.proofs.LeastLemmas.{shown_least}
+use Rattle.store_accounts.proofs.store.Store.filed_of_later.Goals as goal
 
 pub returns-in_err-rows-clause-finds : goal.returns-in_err-rows-clause-finds
 returns-in_err-rows-clause-finds g c =

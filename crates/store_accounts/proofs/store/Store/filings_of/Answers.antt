@@ -1,12 +1,12 @@
 use Rattle.std.proofs.Common.{◌≡◌, Ok, rules}
-use Rattle.mailtables.proofs.ListLemmas.{owner_key}
-use Rattle.mailstore.specs.declared.refusal.Refusal.{Refusal}
-use Rattle.mailstore.specs.CopyRows.{filing_cells}
-use Rattle.mailstore.specs.FirstCells.{first_four}
-use Rattle.mailstore.specs.Listing.{select_filings, AreFilingRows, AreFilingsOf}
-use Rattle.mailstore.proofs.EachLemmas.{finds_among}
-use Rattle.mailstore.proofs.FilingLemmas.{select_filings_plain, filings_are, filings_read}
-use Rattle.mailstore.proofs.store.Store.filings_of.Goals as goal
+use Rattle.store_tables.proofs.ListLemmas.{owner_key}
+use Rattle.store_accounts.specs.declared.refusal.Refusal.{Refusal}
+use Rattle.store_accounts.specs.CopyRows.{filing_cells}
+use Rattle.store_accounts.specs.FirstCells.{first_four}
+use Rattle.store_accounts.specs.Listing.{select_filings, AreFilingRows, AreFilingsOf}
+use Rattle.store_accounts.proofs.EachLemmas.{finds_among}
+use Rattle.store_accounts.proofs.FilingLemmas.{select_filings_plain, filings_are, filings_read}
+use Rattle.store_accounts.proofs.store.Store.filings_of.Goals as goal
 
 pub read_each-requires-clause-plain : goal.read_each-requires-clause-plain
 read_each-requires-clause-plain g c = select_filings_plain.0

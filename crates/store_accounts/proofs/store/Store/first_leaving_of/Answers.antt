@@ -1,9 +1,9 @@
 use Rattle.std.proofs.Common.{◌≡◌, ◌∙◌, pos, Ok, None, Some, OnOk, ap, rules}
 use Rattle.sqlite.specs.Held.{state}
-use Rattle.mailstore.specs.Shows.{IsNthFiling, IsShared, IsLeaving}
-use Rattle.mailstore.proofs.AmongLemmas.{among_made, among_failed, among_both, among_late}
-use Rattle.mailstore.proofs.OtherLemmas.{leaving_none, leaving_some}
-use Rattle.mailstore.proofs.store.Store.first_leaving_of.Goals as goal
+use Rattle.store_accounts.specs.Shows.{IsNthFiling, IsShared, IsLeaving}
+use Rattle.store_accounts.proofs.AmongLemmas.{among_made, among_failed, among_both, among_late}
+use Rattle.store_accounts.proofs.OtherLemmas.{leaving_none, leaving_some}
+use Rattle.store_accounts.proofs.store.Store.first_leaving_of.Goals as goal
 
 pub returns-in_err-copy-clause-finds : goal.returns-in_err-copy-clause-finds
 returns-in_err-copy-clause-finds g c =

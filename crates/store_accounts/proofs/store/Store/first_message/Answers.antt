@@ -1,14 +1,14 @@
 use Rattle.std.proofs.Common.{◌≡◌, Err, pos, rules}
 use Rattle.sqlite.specs.Held.{state}
-use Rattle.mailstore.specs.Account.{Account}
-use Rattle.mailstore.specs.AccountRows.{profile_of}
-use Rattle.mailstore.specs.declared.profile.Profile.{Profile}
-use Rattle.mailstore.specs.CopyRows.{IsFirstIn}
-use Rattle.mailstore.specs.Shows.{IsFirstOf, IsNthOf}
-use Rattle.mailstore.proofs.KeepLemmas.{reads_refused}
-use Rattle.mailstore.proofs.OwnLemmas.{own_enters, own_refused, own_reads, own_told}
-use Rattle.mailstore.proofs.FirstLemmas.{first_shows, nth_first}
-use Rattle.mailstore.proofs.store.Store.first_message.Goals as goal
+use Rattle.store_accounts.specs.Account.{Account}
+use Rattle.store_accounts.specs.AccountRows.{profile_of}
+use Rattle.store_accounts.specs.declared.profile.Profile.{Profile}
+use Rattle.store_accounts.specs.CopyRows.{IsFirstIn}
+use Rattle.store_accounts.specs.Shows.{IsFirstOf, IsNthOf}
+use Rattle.store_accounts.proofs.KeepLemmas.{reads_refused}
+use Rattle.store_accounts.proofs.OwnLemmas.{own_enters, own_refused, own_reads, own_told}
+use Rattle.store_accounts.proofs.FirstLemmas.{first_shows, nth_first}
+use Rattle.store_accounts.proofs.store.Store.first_message.Goals as goal
 
 abbrev Known : Profile → Account → Type 0
 Known profile a = profile ≡ profile_of a

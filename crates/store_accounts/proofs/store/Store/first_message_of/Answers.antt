@@ -1,10 +1,10 @@
 use Rattle.std.proofs.Common.{pos}
 use Rattle.sqlite.specs.Held.{state}
-use Rattle.mailstore.specs.CopyRows.{IsFirstIn}
-use Rattle.mailstore.specs.Shows.{IsFirstOf, IsNthOf}
-use Rattle.mailstore.proofs.AmongLemmas.{among_reads, among_told}
-use Rattle.mailstore.proofs.FirstLemmas.{first_shows, nth_first}
-use Rattle.mailstore.proofs.store.Store.first_message_of.Goals as goal
+use Rattle.store_accounts.specs.CopyRows.{IsFirstIn}
+use Rattle.store_accounts.specs.Shows.{IsFirstOf, IsNthOf}
+use Rattle.store_accounts.proofs.AmongLemmas.{among_reads, among_told}
+use Rattle.store_accounts.proofs.FirstLemmas.{first_shows, nth_first}
+use Rattle.store_accounts.proofs.store.Store.first_message_of.Goals as goal
 
 pub returns-clause-first : goal.returns-clause-first
 returns-clause-first g c =

@@ -1,15 +1,15 @@
 use Rattle.std.proofs.Common.{◌≡◌, Ok, rules}
-use Rattle.mailstore.specs.Account.{messages_in}
-use Rattle.mailtables.proofs.ListLemmas.{pair_key}
-use Rattle.mailtables.specs.CopyTable.{select_folder}
-use Rattle.mailtables.proofs.TextFacts.{select_folder_plain}
-use Rattle.mailstore.specs.declared.refusal.Refusal.{Refusal}
-use Rattle.mailstore.specs.FirstCells.{first_one, text_cells}
-use Rattle.mailstore.specs.CopyRows.{AreMessageRows, AreMessagesOf}
-use Rattle.mailstore.proofs.ReadLemmas.{messages_read}
-use Rattle.mailstore.proofs.DecodeLemmas.{texts_are}
-use Rattle.mailstore.proofs.EachLemmas.{reads_entered}
-use Rattle.mailstore.proofs.store.Store.folder_of.Goals as goal
+use Rattle.store_accounts.specs.Account.{messages_in}
+use Rattle.store_tables.proofs.ListLemmas.{pair_key}
+use Rattle.store_tables.specs.CopyTable.{select_folder}
+use Rattle.store_tables.proofs.TextFacts.{select_folder_plain}
+use Rattle.store_accounts.specs.declared.refusal.Refusal.{Refusal}
+use Rattle.store_accounts.specs.FirstCells.{first_one, text_cells}
+use Rattle.store_accounts.specs.CopyRows.{AreMessageRows, AreMessagesOf}
+use Rattle.store_accounts.proofs.ReadLemmas.{messages_read}
+use Rattle.store_accounts.proofs.DecodeLemmas.{texts_are}
+use Rattle.store_accounts.proofs.EachLemmas.{reads_entered}
+use Rattle.store_accounts.proofs.store.Store.folder_of.Goals as goal
 
 pub read_each-requires-clause-plain : goal.read_each-requires-clause-plain
 read_each-requires-clause-plain g c = select_folder_plain.0

@@ -1,10 +1,10 @@
 use Rattle.std.proofs.Common.{◌≡◌, ◌∙◌, Ok, Err, Vec, OnOk, IfErr, ap, rules}
 use Rattle.sqlite.specs.Held.{state}
-use Rattle.mailstore.specs.Refusals.{IsTransient}
-use Rattle.mailstore.specs.Tally.{AreFolders, AreFolderRows}
-use Rattle.mailstore.proofs.DecodeLemmas.{tally_of}
-use Rattle.mailstore.proofs.EnterLemmas.{entered_answer, entered_failed}
-use Rattle.mailstore.proofs.store.Store.folders_of.Goals as goal
+use Rattle.store_accounts.specs.Refusals.{IsTransient}
+use Rattle.store_accounts.specs.Tally.{AreFolders, AreFolderRows}
+use Rattle.store_accounts.proofs.DecodeLemmas.{tally_of}
+use Rattle.store_accounts.proofs.EnterLemmas.{entered_answer, entered_failed}
+use Rattle.store_accounts.proofs.store.Store.folders_of.Goals as goal
 
 pub returns-in_err-rows : goal.returns-in_err-rows
 returns-in_err-rows g c =

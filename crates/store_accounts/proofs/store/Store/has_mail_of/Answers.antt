@@ -1,16 +1,16 @@
 use Rattle.std.proofs.Common.{◌≡◌, ◌==◌, ◌∙◌, true, false, not, length, List, Ok, map, OnOk, IfErr, sym, ap, rules}
 use Rattle.sqlite.specs.Held.{state}
-use Rattle.mailstore.specs.Account.{Account, has_mail}
-use Rattle.mailstore.specs.declared.head.Head.{Head}
-use Rattle.mailstore.specs.HeadRows.{head_of}
-use Rattle.mailstore.specs.Refusals.{IsTransient}
-use Rattle.mailstore.specs.Tally.{AreFolders}
-use Rattle.mailstore.proofs.EnterLemmas.{entered_again, entered_other, entered_both, entered_both_failed}
-use Rattle.mailstore.proofs.StandingLemmas.{empty_is, mail_filed, mail_queued}
-use Rattle.mailstore.proofs.store.Store.has_mail_of.Goals as goal
+use Rattle.store_accounts.specs.Account.{Account, has_mail}
+use Rattle.store_accounts.specs.declared.queued_envelope.QueuedEnvelope.{QueuedEnvelope}
+use Rattle.store_accounts.specs.HeadRows.{queued_envelope}
+use Rattle.store_accounts.specs.Refusals.{IsTransient}
+use Rattle.store_accounts.specs.Tally.{AreFolders}
+use Rattle.store_accounts.proofs.EnterLemmas.{entered_again, entered_other, entered_both, entered_both_failed}
+use Rattle.store_accounts.proofs.StandingLemmas.{empty_is, mail_filed, mail_queued}
+use Rattle.store_accounts.proofs.store.Store.has_mail_of.Goals as goal
 
-abbrev AreHeads : List Head → Account → Type 0
-AreHeads heads a = heads ≡ map head_of a.queue
+abbrev AreHeads : List QueuedEnvelope → Account → Type 0
+AreHeads heads a = heads ≡ map queued_envelope a.queue
 
 pub returns-in_err-folders : goal.returns-in_err-folders
 returns-in_err-folders g c =

@@ -2,10 +2,10 @@ use Rattle.std.proofs.Common.{◌≡◌, ◌==◌, ◌∙◌, Vec, length, w64, 
 use Rattle.std.specs.declared.alloc.Global.{Global}
 use Rattle.sqlite.specs.Held.{state}
 use Rattle.sqlite_value.specs.Order.{Row}
-use Rattle.mailstore.specs.Shows.{AreOtherRows, IsShared}
-use Rattle.mailstore.proofs.AmongLemmas.{among_made}
-use Rattle.mailstore.proofs.OtherLemmas.{shared_is}
-use Rattle.mailstore.proofs.store.Store.has_other_copy.Goals as goal
+use Rattle.store_accounts.specs.Shows.{AreOtherRows, IsShared}
+use Rattle.store_accounts.proofs.AmongLemmas.{among_made}
+use Rattle.store_accounts.proofs.OtherLemmas.{shared_is}
+use Rattle.store_accounts.proofs.store.Store.has_other_copy.Goals as goal
 
 pub returns-clause-finds : goal.returns-clause-finds
 returns-clause-finds g c =

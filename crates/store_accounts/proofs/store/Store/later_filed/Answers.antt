@@ -1,9 +1,9 @@
 use Rattle.std.proofs.Common.{◌⊎◌, ◌∙◌, Ok, Some, None, ap}
 use Rattle.sqlite.specs.Held.{state}
-use Rattle.mailstore.specs.Next.{LeastFiled, IsLaterNumber, IsLaterFolder}
-use Rattle.mailstore.proofs.AllLemmas.{all_made, all_then}
-use Rattle.mailstore.proofs.PlaceLemmas.{in_same, in_later}
-use Rattle.mailstore.proofs.store.Store.later_filed.Goals as goal
+use Rattle.store_accounts.specs.Next.{LeastFiled, IsLaterNumber, IsLaterFolder}
+use Rattle.store_accounts.proofs.AllLemmas.{all_made, all_then}
+use Rattle.store_accounts.proofs.PlaceLemmas.{in_same, in_later}
+use Rattle.store_accounts.proofs.store.Store.later_filed.Goals as goal
 
 pub returns-in-Some-clause-finds : goal.returns-in-Some-clause-finds
 returns-in-Some-clause-finds g c =

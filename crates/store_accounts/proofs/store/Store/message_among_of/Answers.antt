@@ -1,10 +1,10 @@
 use Rattle.std.proofs.Common.{◌≡◌, ◌∙◌, ℕ, List, Ok, Err, OnOk, IfErr, IfOk, Result, Option, ap, slice_get, rules}
 use Rattle.sqlite.specs.Held.{state}
-use Rattle.mailstore.specs.Account.{messages_in}
-use Rattle.mailstore.specs.Refusals.{IsTransient}
-use Rattle.mailstore.specs.declared.refusal.Refusal.{Refusal}
-use Rattle.mailstore.proofs.EnterLemmas.{entered_other, entered_again}
-use Rattle.mailstore.proofs.store.Store.message_among_of.Goals as goal
+use Rattle.store_accounts.specs.Account.{messages_in}
+use Rattle.store_accounts.specs.Refusals.{IsTransient}
+use Rattle.store_accounts.specs.declared.refusal.Refusal.{Refusal}
+use Rattle.store_accounts.proofs.EnterLemmas.{entered_other, entered_again}
+use Rattle.store_accounts.proofs.store.Store.message_among_of.Goals as goal
 
 made : (r : Result (Option (List ℕ)) Refusal) (found wanted : Option (List ℕ)) → found ≡ wanted → IfOk r (λ copy. copy ≡ found) → IfOk r (λ copy. copy ≡ wanted)
 made (Err e) found wanted same h = tt

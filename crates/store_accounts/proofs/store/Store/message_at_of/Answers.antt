@@ -1,9 +1,9 @@
 use Rattle.std.proofs.Common.{◌≡◌, ◌∙◌, slice_get, w64, SFits, to_z-of_z, rules}
 use Rattle.sqlite.specs.Held.{state}
-use Rattle.mailstore.specs.Account.{messages_in}
-use Rattle.mailstore.specs.CopyRows.{IsNthMessage}
-use Rattle.mailstore.proofs.EnterLemmas.{entered_told}
-use Rattle.mailstore.proofs.store.Store.message_at_of.Goals as goal
+use Rattle.store_accounts.specs.Account.{messages_in}
+use Rattle.store_accounts.specs.CopyRows.{IsNthMessage}
+use Rattle.store_accounts.proofs.EnterLemmas.{entered_told}
+use Rattle.store_accounts.proofs.store.Store.message_at_of.Goals as goal
 
 pub returns-in-Ok : goal.returns-in-Ok
 returns-in-Ok g c =

@@ -1,11 +1,11 @@
 use Rattle.std.proofs.Common.{◌≡◌, ◌∙◌, OnOk, IfErr, ap, slice_get, rules}
 use Rattle.std.specs.FinMap.{get}
 use Rattle.sqlite.specs.Held.{state}
-use Rattle.mailstore.specs.Refusals.{IsTransient}
-use Rattle.mailstore.specs.ReplyRows.{HasMomentRow}
-use Rattle.mailstore.proofs.EnterLemmas.{entered_answer, entered_failed}
-use Rattle.mailstore.proofs.ReplyLemmas.{moment_is}
-use Rattle.mailstore.proofs.store.Store.moment_of.Goals as goal
+use Rattle.store_accounts.specs.Refusals.{IsTransient}
+use Rattle.store_accounts.specs.ReplyRows.{HasMomentRow}
+use Rattle.store_accounts.proofs.EnterLemmas.{entered_answer, entered_failed}
+use Rattle.store_accounts.proofs.ReplyLemmas.{moment_is}
+use Rattle.store_accounts.proofs.store.Store.moment_of.Goals as goal
 
 pub returns-in_err-rows : goal.returns-in_err-rows
 returns-in_err-rows g c =

@@ -1,9 +1,9 @@
 use Rattle.std.proofs.Common.{◌⊎◌, ◌∙◌, Ok, Some, None, ap}
 use Rattle.sqlite.specs.Held.{state}
-use Rattle.mailstore.specs.Next.{IsNextQueued, LeastQueued, IsLaterId, IsLaterQueue}
-use Rattle.mailstore.proofs.AllLemmas.{all_made, all_then}
-use Rattle.mailstore.proofs.PlaceLemmas.{queued_same, queued_later}
-use Rattle.mailstore.proofs.store.Store.next_queued.Goals as goal
+use Rattle.store_accounts.specs.Next.{IsNextQueued, LeastQueued, IsLaterId, IsLaterQueue}
+use Rattle.store_accounts.proofs.AllLemmas.{all_made, all_then}
+use Rattle.store_accounts.proofs.PlaceLemmas.{queued_same, queued_later}
+use Rattle.store_accounts.proofs.store.Store.next_queued.Goals as goal
 
 pub returns-in-Some-clause-next : goal.returns-in-Some-clause-next
 returns-in-Some-clause-next g c =

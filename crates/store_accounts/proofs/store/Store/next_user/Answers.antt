@@ -1,7 +1,7 @@
 use Rattle.std.proofs.Common.{◌≡◌, OnOk, rules}
 use Rattle.sqlite.specs.Held.{state}
-use Rattle.mailstore.proofs.UserLemmas.{user_found, user_refused}
-use Rattle.mailstore.proofs.store.Store.next_user.Goals as goal
+use Rattle.store_accounts.proofs.UserLemmas.{user_found, user_refused}
+use Rattle.store_accounts.proofs.store.Store.next_user.Goals as goal
 
 pub returns-in_err-rows-clause-next : goal.returns-in_err-rows-clause-next
 returns-in_err-rows-clause-next g c =

@@ -1,12 +1,12 @@
 use Rattle.std.proofs.Common.{◌≡◌, Ok, rules}
-use Rattle.mailtables.proofs.ListLemmas.{owner_key}
-use Rattle.mailstore.specs.declared.refusal.Refusal.{Refusal}
-use Rattle.mailstore.specs.FirstCells.{first_one}
-use Rattle.mailstore.specs.FolderNumbers.{number_cells}
-use Rattle.mailstore.specs.Listing.{select_notice_numbers, AreNoticeNumberRows, AreNoticeNumbersOf}
-use Rattle.mailstore.proofs.EachLemmas.{finds_among}
-use Rattle.mailstore.proofs.NoticeLemmas.{select_notice_numbers_plain, notice_numbers_are, notice_numbers_read}
-use Rattle.mailstore.proofs.store.Store.notice_numbers_of.Goals as goal
+use Rattle.store_tables.proofs.ListLemmas.{owner_key}
+use Rattle.store_accounts.specs.declared.refusal.Refusal.{Refusal}
+use Rattle.store_accounts.specs.FirstCells.{first_one}
+use Rattle.store_accounts.specs.FolderNumbers.{number_cells}
+use Rattle.store_accounts.specs.Listing.{select_notice_numbers, AreNoticeNumberRows, AreNoticeNumbersOf}
+use Rattle.store_accounts.proofs.EachLemmas.{finds_among}
+use Rattle.store_accounts.proofs.NoticeLemmas.{select_notice_numbers_plain, notice_numbers_are, notice_numbers_read}
+use Rattle.store_accounts.proofs.store.Store.notice_numbers_of.Goals as goal
 
 pub read_each-requires-clause-plain : goal.read_each-requires-clause-plain
 read_each-requires-clause-plain g c = select_notice_numbers_plain.0

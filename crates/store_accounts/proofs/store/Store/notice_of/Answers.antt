@@ -2,10 +2,10 @@ use Rattle.std.proofs.Common.{◌≡◌, ◌∙◌, OnOk, Vec, w64, SFits, to_z-
 use Rattle.std.specs.declared.alloc.Global.{Global}
 use Rattle.sqlite.specs.Held.{state}
 use Rattle.sqlite_value.specs.Order.{Row}
-use Rattle.mailstore.specs.Listing.{HasNoticeRow, IsNoticeOf}
-use Rattle.mailstore.proofs.AmongLemmas.{among_made, among_failed}
-use Rattle.mailstore.proofs.NoticeLemmas.{notice_told}
-use Rattle.mailstore.proofs.store.Store.notice_of.Goals as goal
+use Rattle.store_accounts.specs.Listing.{HasNoticeRow, IsNoticeOf}
+use Rattle.store_accounts.proofs.AmongLemmas.{among_made, among_failed}
+use Rattle.store_accounts.proofs.NoticeLemmas.{notice_told}
+use Rattle.store_accounts.proofs.store.Store.notice_of.Goals as goal
 
 pub returns-in_err-rows-clause-finds : goal.returns-in_err-rows-clause-finds
 returns-in_err-rows-clause-finds g c =

@@ -1,14 +1,14 @@
 use Rattle.std.proofs.Common.{◌≡◌, Ok, rules}
-use Rattle.mailtables.proofs.ListLemmas.{owner_key}
-use Rattle.mailtables.specs.NoticeTable.{select_notices}
-use Rattle.mailtables.proofs.TextFacts.{select_notices_plain}
-use Rattle.mailstore.specs.declared.refusal.Refusal.{Refusal}
-use Rattle.mailstore.specs.FirstCells.{first_two}
-use Rattle.mailstore.specs.NoticeRows.{AreNoticeRows, notice_cells}
-use Rattle.mailstore.proofs.ReadLemmas.{notices_read}
-use Rattle.mailstore.proofs.DecodeLemmas.{notices_are}
-use Rattle.mailstore.proofs.EachLemmas.{reads_entered}
-use Rattle.mailstore.proofs.store.Store.notices_of.Goals as goal
+use Rattle.store_tables.proofs.ListLemmas.{owner_key}
+use Rattle.store_tables.specs.NoticeTable.{select_notices}
+use Rattle.store_tables.proofs.TextFacts.{select_notices_plain}
+use Rattle.store_accounts.specs.declared.refusal.Refusal.{Refusal}
+use Rattle.store_accounts.specs.FirstCells.{first_two}
+use Rattle.store_accounts.specs.NoticeRows.{AreNoticeRows, notice_cells}
+use Rattle.store_accounts.proofs.ReadLemmas.{notices_read}
+use Rattle.store_accounts.proofs.DecodeLemmas.{notices_are}
+use Rattle.store_accounts.proofs.EachLemmas.{reads_entered}
+use Rattle.store_accounts.proofs.store.Store.notices_of.Goals as goal
 
 pub read_each-requires-clause-plain : goal.read_each-requires-clause-plain
 read_each-requires-clause-plain g c = select_notices_plain.0

@@ -2,10 +2,10 @@ use Rattle.std.proofs.Common.{◌≡◌, ◌∙◌, OnOk, Vec, w64, SFits, to_z-
 use Rattle.std.specs.declared.alloc.Global.{Global}
 use Rattle.sqlite.specs.Held.{state}
 use Rattle.sqlite_value.specs.Order.{Row}
-use Rattle.mailstore.specs.Shows.{AreNthRows, IsNthFiling}
-use Rattle.mailstore.proofs.AmongLemmas.{among_made, among_failed}
-use Rattle.mailstore.proofs.NthLemmas.{nth_filing_is}
-use Rattle.mailstore.proofs.store.Store.nth_filing_of.Goals as goal
+use Rattle.store_accounts.specs.Shows.{AreNthRows, IsNthFiling}
+use Rattle.store_accounts.proofs.AmongLemmas.{among_made, among_failed}
+use Rattle.store_accounts.proofs.NthLemmas.{nth_filing_is}
+use Rattle.store_accounts.proofs.store.Store.nth_filing_of.Goals as goal
 
 pub returns-in_err-rows-clause-finds : goal.returns-in_err-rows-clause-finds
 returns-in_err-rows-clause-finds g c =

@@ -1,13 +1,13 @@
 use Rattle.std.proofs.Common.{◌≡◌, ◌∙◌, OnOk, IfErr, Option, option_map, w64, SFits, to_z-of_z, rules}
 use Rattle.sqlite.specs.Held.{state}
-use Rattle.mailstore.specs.declared.taking.NumberedMessage.{NumberedMessage}
-use Rattle.mailstore.specs.CopyRows.{IsNthMessage}
-use Rattle.mailstore.specs.Refusals.{IsTransient}
-use Rattle.mailstore.specs.Shows.{IsNthOf}
-use Rattle.mailstore.proofs.AmongLemmas.{among_reads}
-use Rattle.mailstore.proofs.EnterLemmas.{entered_other, entered_again}
-use Rattle.mailstore.proofs.FirstLemmas.{nth_shows}
-use Rattle.mailstore.proofs.store.Store.nth_message_of.Goals as goal
+use Rattle.store_accounts.specs.declared.taking.NumberedMessage.{NumberedMessage}
+use Rattle.store_accounts.specs.CopyRows.{IsNthMessage}
+use Rattle.store_accounts.specs.Refusals.{IsTransient}
+use Rattle.store_accounts.specs.Shows.{IsNthOf}
+use Rattle.store_accounts.proofs.AmongLemmas.{among_reads}
+use Rattle.store_accounts.proofs.EnterLemmas.{entered_other, entered_again}
+use Rattle.store_accounts.proofs.FirstLemmas.{nth_shows}
+use Rattle.store_accounts.proofs.store.Store.nth_message_of.Goals as goal
 
 pub returns-in_err-nth : goal.returns-in_err-nth
 returns-in_err-nth g c =

@@ -1,9 +1,9 @@
 use Rattle.std.proofs.Common.{◌≡◌, ◌∙◌, Ok, Some, None, OnOk, refl, ap, w64, SFits, to_z-of_z, rules}
 use Rattle.sqlite.specs.Held.{state}
-use Rattle.mailstore.specs.Shows.{IsNthFiling, HasOctets, IsNthOf}
-use Rattle.mailstore.proofs.AmongLemmas.{among_made, among_failed, among_both, among_late}
-use Rattle.mailstore.proofs.FirstLemmas.{nth_none, nth_some}
-use Rattle.mailstore.proofs.store.Store.nth_numbered_of.Goals as goal
+use Rattle.store_accounts.specs.Shows.{IsNthFiling, HasMessageOctets, IsNthOf}
+use Rattle.store_accounts.proofs.AmongLemmas.{among_made, among_failed, among_both, among_late}
+use Rattle.store_accounts.proofs.FirstLemmas.{nth_none, nth_some}
+use Rattle.store_accounts.proofs.store.Store.nth_numbered_of.Goals as goal
 
 pub returns-in_err-filing-clause-finds : goal.returns-in_err-filing-clause-finds
 returns-in_err-filing-clause-finds g c =
@@ -27,7 +27,7 @@ returns-in_err-message-clause-finds g c =
     let user = c.args.user.now in
     let folder = c.args.folder.now in
     let first = c.in-Some.filing in
-    among_late user (IsNthFiling user folder c.args.count) (HasOctets user first.id) (IsNthOf user folder c.args.count) (state g.S.Store c.args.self.now) (state g.S.Store c.nth_filing_of.new.self) (state g.S.Store c.message_of.new.self) c.nth_filing_of.result (Some first)
+    among_late user (IsNthFiling user folder c.args.count) (HasMessageOctets user first.id) (IsNthOf user folder c.args.count) (state g.S.Store c.args.self.now) (state g.S.Store c.nth_filing_of.new.self) (state g.S.Store c.message_of.new.self) c.nth_filing_of.result (Some first)
     (c.in_ok-filing.was ∙ ap Ok c.in-Some.is) (rw (to_z-of_z fits) at c.nth_filing_of.ensures.finds) c.message_of.result c.message_of.ensures.finds c.from_residual-in_err-message.result none
 
 pub returns-clause-finds : goal.returns-clause-finds
@@ -36,5 +36,5 @@ returns-clause-finds g c =
     let user = c.args.user.now in
     let folder = c.args.folder.now in
     let first = c.in-Some.filing in
-    among_both user (IsNthFiling user folder c.args.count) (HasOctets user first.id) (IsNthOf user folder c.args.count) (state g.S.Store c.args.self.now) (state g.S.Store c.nth_filing_of.new.self) (state g.S.Store c.message_of.new.self) c.nth_filing_of.result (Some first)
+    among_both user (IsNthFiling user folder c.args.count) (HasMessageOctets user first.id) (IsNthOf user folder c.args.count) (state g.S.Store c.args.self.now) (state g.S.Store c.nth_filing_of.new.self) (state g.S.Store c.message_of.new.self) c.nth_filing_of.result (Some first)
     (c.in_ok-filing.was ∙ ap Ok c.in-Some.is) (rw (to_z-of_z fits) at c.nth_filing_of.ensures.finds) c.message_of.result c.message_of.ensures.finds c.in_ok-message.message c.in_ok-message.was _ (λ own is has. nth_some user folder c.args.count (Some first) own is first c.in_ok-message.message refl has)

@@ -1,13 +1,13 @@
 use Rattle.std.proofs.Common.{◌≡◌, Err, List, ℕ, length, rules}
 use Rattle.sqlite.specs.Held.{state}
-use Rattle.mailstore.specs.Account.{Account, messages_in}
-use Rattle.mailstore.specs.AccountRows.{profile_of}
-use Rattle.mailstore.specs.declared.profile.Profile.{Profile}
-use Rattle.mailstore.specs.FolderNumbers.{AreNumbersOf}
-use Rattle.mailstore.proofs.KeepLemmas.{reads_refused}
-use Rattle.mailstore.proofs.OwnLemmas.{own_enters, own_refused, own_reads}
-use Rattle.mailstore.proofs.ListedLemmas.{as_many}
-use Rattle.mailstore.proofs.store.Store.numbers.Goals as goal
+use Rattle.store_accounts.specs.Account.{Account, messages_in}
+use Rattle.store_accounts.specs.AccountRows.{profile_of}
+use Rattle.store_accounts.specs.declared.profile.Profile.{Profile}
+use Rattle.store_accounts.specs.FolderNumbers.{AreNumbersOf}
+use Rattle.store_accounts.proofs.KeepLemmas.{reads_refused}
+use Rattle.store_accounts.proofs.OwnLemmas.{own_enters, own_refused, own_reads}
+use Rattle.store_accounts.proofs.ListedLemmas.{as_many}
+use Rattle.store_accounts.proofs.store.Store.numbers.Goals as goal
 
 abbrev Known : Profile → Account → Type 0
 Known profile a = profile ≡ profile_of a

@@ -1,13 +1,13 @@
 use Rattle.std.proofs.Common.{◌≡◌, Ok, rules}
-use Rattle.mailtables.proofs.ListLemmas.{pair_key}
-use Rattle.mailtables.specs.CopyTable.{select_numbers}
-use Rattle.mailtables.proofs.TextFacts.{select_numbers_plain}
-use Rattle.mailstore.specs.declared.refusal.Refusal.{Refusal}
-use Rattle.mailstore.specs.FirstCells.{first_one}
-use Rattle.mailstore.specs.FolderNumbers.{AreNumberRows, AreNumbersOf, number_cells}
-use Rattle.mailstore.proofs.ListedLemmas.{numbers_are, numbers_read}
-use Rattle.mailstore.proofs.EachLemmas.{finds_among}
-use Rattle.mailstore.proofs.store.Store.numbers_of.Goals as goal
+use Rattle.store_tables.proofs.ListLemmas.{pair_key}
+use Rattle.store_tables.specs.CopyTable.{select_numbers}
+use Rattle.store_tables.proofs.TextFacts.{select_numbers_plain}
+use Rattle.store_accounts.specs.declared.refusal.Refusal.{Refusal}
+use Rattle.store_accounts.specs.FirstCells.{first_one}
+use Rattle.store_accounts.specs.FolderNumbers.{AreNumberRows, AreNumbersOf, number_cells}
+use Rattle.store_accounts.proofs.ListedLemmas.{numbers_are, numbers_read}
+use Rattle.store_accounts.proofs.EachLemmas.{finds_among}
+use Rattle.store_accounts.proofs.store.Store.numbers_of.Goals as goal
 
 pub read_each-requires-clause-plain : goal.read_each-requires-clause-plain
 read_each-requires-clause-plain g c = select_numbers_plain.0

@@ -1,8 +1,8 @@
 use Rattle.std.proofs.Common.{◌≡◌, true, false, None, rules, refl}
 use Rattle.sqlite.specs.Held.{state}
-use Rattle.oldtables.specs.Opening.{LiesAs}
-use Rattle.mailstore.proofs.OpenLemmas.{opens_as, outlives_open, still_shows, shown_known}
-use Rattle.mailstore.proofs.store.Store.open.Goals as goal
+use Rattle.store_versions.specs.Opening.{LiesAs}
+use Rattle.store_accounts.proofs.OpenLemmas.{opens_as, outlives_open, still_shows, shown_known}
+use Rattle.store_accounts.proofs.store.Store.open.Goals as goal
 
 pub returns-in-Ok-true-clause-shown : goal.returns-in-Ok-true-clause-shown
 returns-in-Ok-true-clause-shown g c clean accounts p =

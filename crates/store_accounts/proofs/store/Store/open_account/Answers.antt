@@ -1,11 +1,11 @@
 use Rattle.std.proofs.Common.{[], ◌∷◌}
 use Rattle.sqlite.specs.Held.{state}
-use Rattle.mailtables.specs.declared.change.Change.TheVariants.{SetRounds}
-use Rattle.mailstore.specs.Account.{with_user, opens}
-use Rattle.mailstore.specs.Promises.{HasUser}
-use Rattle.mailstore.proofs.UpkeepLemmas.{carries_rounds}
-use Rattle.mailstore.proofs.KeepLemmas.{writes}
-use Rattle.mailstore.proofs.store.Store.open_account.Goals as goal
+use Rattle.store_tables.specs.declared.change.Change.TheVariants.{SetRounds}
+use Rattle.store_accounts.specs.Account.{with_user, opens}
+use Rattle.store_accounts.specs.Promises.{HasUser}
+use Rattle.store_accounts.proofs.UpkeepLemmas.{carries_rounds}
+use Rattle.store_accounts.proofs.KeepLemmas.{writes}
+use Rattle.store_accounts.proofs.store.Store.open_account.Goals as goal
 
 pub returns : goal.returns
 returns g c =

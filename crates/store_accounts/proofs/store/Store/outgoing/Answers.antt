@@ -1,12 +1,12 @@
 use Rattle.std.proofs.Common.{◌≡◌, Err, rules}
 use Rattle.sqlite.specs.Held.{state}
-use Rattle.mailstore.specs.Account.{Account}
-use Rattle.mailstore.specs.AccountRows.{profile_of}
-use Rattle.mailstore.specs.declared.profile.Profile.{Profile}
-use Rattle.mailstore.specs.Account.{row_with}
-use Rattle.mailstore.proofs.KeepLemmas.{reads_refused}
-use Rattle.mailstore.proofs.EnterLemmas.{enters}
-use Rattle.mailstore.proofs.store.Store.outgoing.Goals as goal
+use Rattle.store_accounts.specs.Account.{Account}
+use Rattle.store_accounts.specs.AccountRows.{profile_of}
+use Rattle.store_accounts.specs.declared.profile.Profile.{Profile}
+use Rattle.store_accounts.specs.Account.{row_with}
+use Rattle.store_accounts.proofs.KeepLemmas.{reads_refused}
+use Rattle.store_accounts.proofs.EnterLemmas.{enters}
+use Rattle.store_accounts.proofs.store.Store.outgoing.Goals as goal
 
 abbrev Known : Profile → Account → Type 0
 Known profile a = profile ≡ profile_of a

@@ -1,13 +1,13 @@
 use Rattle.std.proofs.Common.{◌≡◌, ◌∙◌, Ok, Err, OnOk, IfErr, IfOk, Result, Option, ap, option_copied, rules}
 use Rattle.sqlite.specs.Held.{state}
-use Rattle.mailstore.specs.Account.{Account, row_with}
-use Rattle.mailstore.specs.Refusals.{IsTransient}
-use Rattle.mailstore.specs.declared.queue.Outgoing.{Outgoing}
-use Rattle.mailstore.specs.declared.refusal.Refusal.{Refusal}
-use Rattle.mailstore.proofs.EnterLemmas.{entered_other, entered_again}
-use Rattle.mailstore.proofs.store.Store.outgoing_among.Goals as goal
+use Rattle.store_accounts.specs.Account.{Account, row_with}
+use Rattle.store_accounts.specs.Refusals.{IsTransient}
+use Rattle.store_accounts.specs.declared.queue.QueuedMessage.{QueuedMessage}
+use Rattle.store_accounts.specs.declared.refusal.Refusal.{Refusal}
+use Rattle.store_accounts.proofs.EnterLemmas.{entered_other, entered_again}
+use Rattle.store_accounts.proofs.store.Store.outgoing_among.Goals as goal
 
-made : (r : Result (Option Outgoing) Refusal) (found wanted : Option Outgoing) → found ≡ wanted → IfOk r (λ copy. copy ≡ found) → IfOk r (λ copy. copy ≡ wanted)
+made : (r : Result (Option QueuedMessage) Refusal) (found wanted : Option QueuedMessage) → found ≡ wanted → IfOk r (λ copy. copy ≡ found) → IfOk r (λ copy. copy ≡ wanted)
 made (Err e) found wanted same h = tt
 made (Ok copy) found wanted same h = h ∙ same
 

@@ -1,10 +1,10 @@
 use Rattle.std.proofs.Common.{◌≡◌, ◌∙◌, OnOk, IfErr, ap, slice_get, w64, SFits, to_z-of_z, rules}
 use Rattle.sqlite.specs.Held.{state}
-use Rattle.mailstore.specs.QueueRows.{HasOutgoingRow, IsOutgoing}
-use Rattle.mailstore.specs.Refusals.{IsTransient}
-use Rattle.mailstore.proofs.DecodeLemmas.{outgoing_told}
-use Rattle.mailstore.proofs.EnterLemmas.{entered_answer, entered_failed}
-use Rattle.mailstore.proofs.store.Store.outgoing_at.Goals as goal
+use Rattle.store_accounts.specs.QueueRows.{HasOutgoingRow, IsOutgoing}
+use Rattle.store_accounts.specs.Refusals.{IsTransient}
+use Rattle.store_accounts.proofs.DecodeLemmas.{outgoing_told}
+use Rattle.store_accounts.proofs.EnterLemmas.{entered_answer, entered_failed}
+use Rattle.store_accounts.proofs.store.Store.outgoing_at.Goals as goal
 
 pub returns-in_err-rows : goal.returns-in_err-rows
 returns-in_err-rows g c =

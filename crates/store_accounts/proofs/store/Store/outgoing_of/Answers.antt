@@ -1,9 +1,9 @@
 use Rattle.std.proofs.Common.{◌≡◌, ◌∙◌, ℕ, pos, w64, SFits, to_z-of_z, rules}
 use Rattle.sqlite.specs.Held.{state}
-use Rattle.mailstore.specs.Account.{row_with}
-use Rattle.mailstore.specs.QueueRows.{IsOutgoing}
-use Rattle.mailstore.proofs.EnterLemmas.{entered_told}
-use Rattle.mailstore.proofs.store.Store.outgoing_of.Goals as goal
+use Rattle.store_accounts.specs.Account.{row_with}
+use Rattle.store_accounts.specs.QueueRows.{IsOutgoing}
+use Rattle.store_accounts.proofs.EnterLemmas.{entered_told}
+use Rattle.store_accounts.proofs.store.Store.outgoing_of.Goals as goal
 
 pub returns-in-Ok : goal.returns-in-Ok
 returns-in-Ok g c =

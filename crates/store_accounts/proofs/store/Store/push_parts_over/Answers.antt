@@ -1,8 +1,8 @@
 use Rattle.std.proofs.Common.{OnOk, IfErr, rules}
 use Rattle.sqlite.specs.Held.{state}
-use Rattle.mailstore.specs.Refusals.{IsTransient}
-use Rattle.mailstore.proofs.OverLemmas.{pushed_more, pushed_lost}
-use Rattle.mailstore.proofs.store.Store.push_parts_over.Goals as goal
+use Rattle.store_accounts.specs.Refusals.{IsTransient}
+use Rattle.store_accounts.proofs.OverLemmas.{pushed_more, pushed_lost}
+use Rattle.store_accounts.proofs.store.Store.push_parts_over.Goals as goal
 
 pub returns-in_err-push_over : goal.returns-in_err-push_over
 returns-in_err-push_over g c =

@@ -1,11 +1,11 @@
 use Rattle.std.proofs.Common.{[], ◌∷◌, Some, refl}
 use Rattle.sqlite.specs.Held.{state}
-use Rattle.mailtables.specs.declared.change.Change.TheVariants.{AddScript, RemoveScript, SetActive}
-use Rattle.mailstore.specs.Account.{with_user, keeps_active}
-use Rattle.mailstore.specs.Promises.{HasUser}
-use Rattle.mailstore.proofs.UpkeepLemmas.{carries_active_script}
-use Rattle.mailstore.proofs.KeepLemmas.{writes}
-use Rattle.mailstore.proofs.store.Store.put_active.Goals as goal
+use Rattle.store_tables.specs.declared.change.Change.TheVariants.{AddScript, RemoveScript, SetActive}
+use Rattle.store_accounts.specs.Account.{with_user, keeps_active}
+use Rattle.store_accounts.specs.Promises.{HasUser}
+use Rattle.store_accounts.proofs.UpkeepLemmas.{carries_active_script}
+use Rattle.store_accounts.proofs.KeepLemmas.{writes}
+use Rattle.store_accounts.proofs.store.Store.put_active.Goals as goal
 
 pub returns : goal.returns
 returns g c =

@@ -1,12 +1,12 @@
 use Rattle.std.proofs.Common.{◌≡◌, Err, map, rules}
 use Rattle.sqlite.specs.Held.{state}
-use Rattle.mailstore.specs.Account.{Account}
-use Rattle.mailstore.specs.AccountRows.{profile_of}
-use Rattle.mailstore.specs.declared.profile.Profile.{Profile}
-use Rattle.mailstore.proofs.KeepLemmas.{reads_refused}
-use Rattle.mailstore.proofs.EnterLemmas.{enters}
-use Rattle.mailstore.specs.HeadRows.{head_of}
-use Rattle.mailstore.proofs.store.Store.queue_heads.Goals as goal
+use Rattle.store_accounts.specs.Account.{Account}
+use Rattle.store_accounts.specs.AccountRows.{profile_of}
+use Rattle.store_accounts.specs.declared.profile.Profile.{Profile}
+use Rattle.store_accounts.proofs.KeepLemmas.{reads_refused}
+use Rattle.store_accounts.proofs.EnterLemmas.{enters}
+use Rattle.store_accounts.specs.HeadRows.{queued_envelope}
+use Rattle.store_accounts.proofs.store.Store.queue_heads.Goals as goal
 
 abbrev Known : Profile → Account → Type 0
 Known profile a = profile ≡ profile_of a
@@ -14,8 +14,8 @@ Known profile a = profile ≡ profile_of a
 pub returns-in_err-enter : goal.returns-in_err-enter
 returns-in_err-enter g c =
     let is : c.from_residual.result ≡ Err c.in_err-enter.field-0.0 = search rules in
-    reads_refused c.args.user.now Known (λ heads a. heads ≡ map head_of a.queue) (state g.S.Store c.args.self.now) (state g.S.Store c.enter.new.self) c.in_err-enter.field-0.0 c.from_residual.result is c.in_err-enter.ensures
+    reads_refused c.args.user.now Known (λ heads a. heads ≡ map queued_envelope a.queue) (state g.S.Store c.args.self.now) (state g.S.Store c.enter.new.self) c.in_err-enter.field-0.0 c.from_residual.result is c.in_err-enter.ensures
 
 pub returns : goal.returns
 returns g c =
-    enters c.args.user.now Known (state g.S.Store c.args.self.now) (state g.S.Store c.enter.new.self) (state g.S.Store c.queue_heads_of.new.self) c.enter.result c.in_ok-enter.field-0 c.in_ok-enter.was c.enter.ensures (λ heads a. heads ≡ map head_of a.queue) c.queue_heads_of.result c.queue_heads_of.ensures
+    enters c.args.user.now Known (state g.S.Store c.args.self.now) (state g.S.Store c.enter.new.self) (state g.S.Store c.queue_heads_of.new.self) c.enter.result c.in_ok-enter.field-0 c.in_ok-enter.was c.enter.ensures (λ heads a. heads ≡ map queued_envelope a.queue) c.queue_heads_of.result c.queue_heads_of.ensures

@@ -1,14 +1,14 @@
 use Rattle.std.proofs.Common.{◌≡◌, Ok, rules}
-use Rattle.mailtables.proofs.ListLemmas.{owner_key}
-use Rattle.mailtables.specs.QueueTable.{select_queue}
-use Rattle.mailtables.proofs.TextFacts.{select_queue_plain}
-use Rattle.mailstore.specs.declared.refusal.Refusal.{Refusal}
-use Rattle.mailstore.specs.FirstCells.{first_five}
-use Rattle.mailstore.specs.QueueRows.{AreQueueRows, outgoing_cells}
-use Rattle.mailstore.proofs.ReadLemmas.{queue_read}
-use Rattle.mailstore.proofs.DecodeLemmas.{queue_is}
-use Rattle.mailstore.proofs.EachLemmas.{reads_entered}
-use Rattle.mailstore.proofs.store.Store.queue_of.Goals as goal
+use Rattle.store_tables.proofs.ListLemmas.{owner_key}
+use Rattle.store_tables.specs.QueueTable.{select_queue}
+use Rattle.store_tables.proofs.TextFacts.{select_queue_plain}
+use Rattle.store_accounts.specs.declared.refusal.Refusal.{Refusal}
+use Rattle.store_accounts.specs.FirstCells.{first_five}
+use Rattle.store_accounts.specs.QueueRows.{AreQueueRows, outgoing_cells}
+use Rattle.store_accounts.proofs.ReadLemmas.{queue_read}
+use Rattle.store_accounts.proofs.DecodeLemmas.{queue_is}
+use Rattle.store_accounts.proofs.EachLemmas.{reads_entered}
+use Rattle.store_accounts.proofs.store.Store.queue_of.Goals as goal
 
 pub read_each-requires-clause-plain : goal.read_each-requires-clause-plain
 read_each-requires-clause-plain g c = select_queue_plain.0

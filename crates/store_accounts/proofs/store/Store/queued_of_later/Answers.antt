@@ -2,11 +2,11 @@ use Rattle.std.proofs.Common.{◌≡◌, OnOk, Vec, rules}
 use Rattle.std.specs.declared.alloc.Global.{Global}
 use Rattle.sqlite.specs.Held.{state}
 use Rattle.sqlite_value.specs.Order.{Row}
-use Rattle.mailstore.specs.FirstCells.{first_two}
-use Rattle.mailstore.specs.Next.{queued_cells, queued_cmp, IsQueued, ShowQueued, LeastQueued, IsLaterQueue}
-use Rattle.mailstore.proofs.AllLemmas.{all_made, all_failed}
-use Rattle.mailstore.proofs.LeastLemmas.{shown_least}
-use Rattle.mailstore.proofs.store.Store.queued_of_later.Goals as goal
+use Rattle.store_accounts.specs.FirstCells.{first_two}
+use Rattle.store_accounts.specs.Next.{queue_key_cells, queued_cmp, IsQueued, ShowQueued, LeastQueued, IsLaterQueue}
+use Rattle.store_accounts.proofs.AllLemmas.{all_made, all_failed}
+use Rattle.store_accounts.proofs.LeastLemmas.{shown_least}
+use Rattle.store_accounts.proofs.store.Store.queued_of_later.Goals as goal
 
 pub returns-in_err-rows-clause-finds : goal.returns-in_err-rows-clause-finds
 returns-in_err-rows-clause-finds g c =
@@ -18,4 +18,4 @@ pub returns-clause-finds : goal.returns-clause-finds
 returns-clause-finds g c =
     let same : c.self.inside.conn ≡ c.args.self.now = search rules in
     all_made (λ (rows : Vec Row Global). ShowQueued (IsLaterQueue c.args.user.now) rows.items) (LeastQueued (IsLaterQueue c.args.user.now)) (state g.S.Store c.args.self.now) (state g.S.Store c.find_later_queue.new.conn) c.find_later_queue.result (rw same at c.find_later_queue.ensures.finds) c.in_ok-rows.rows c.in_ok-rows.was c.first_from_row.result
-    (λ tables shown. shown_least queued_cells first_two queued_cmp (IsQueued tables) (IsLaterQueue c.args.user.now) c.first_from_row.result c.deref.result.now c.in_ok-rows.rows.items c.deref.ensures.value (shown) c.first_from_row.ensures.ok)
+    (λ tables shown. shown_least queue_key_cells first_two queued_cmp (IsQueued tables) (IsLaterQueue c.args.user.now) c.first_from_row.result c.deref.result.now c.in_ok-rows.rows.items c.deref.ensures.value (shown) c.first_from_row.ensures.ok)

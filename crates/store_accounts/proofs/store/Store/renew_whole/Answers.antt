@@ -2,12 +2,12 @@
 use Rattle.std.proofs.Common.{◌≡◌, Err, IfSome, OnOk, sym, subst, rules}
 use Rattle.std.specs.FinMap.{get}
 use Rattle.sqlite.specs.Held.{state}
-use Rattle.mailtables.specs.Changes.{Extends}
-use Rattle.mailstore.specs.Whole.{takes_whole}
-use Rattle.mailstore.specs.WholeRows.{emptied_by, parts_over, PushesOver}
-use Rattle.mailstore.proofs.AfterLemmas.{CarriesKnown, seen_none, writes_seen, write_lost}
-use Rattle.mailstore.proofs.OverLemmas.{renewed_shows}
-use Rattle.mailstore.proofs.store.Store.renew_whole.Goals as goal
+use Rattle.store_tables.specs.Changes.{ExtendsChanges}
+use Rattle.store_accounts.specs.Whole.{takes_whole}
+use Rattle.store_accounts.specs.WholeRows.{emptied_by, parts_over, PushesOver}
+use Rattle.store_accounts.proofs.AfterLemmas.{CarriesKnown, seen_none, writes_seen, write_lost}
+use Rattle.store_accounts.proofs.OverLemmas.{renewed_shows}
+use Rattle.store_accounts.proofs.store.Store.renew_whole.Goals as goal
 
 pub returns-in_err-push_emptying-clause-writes : goal.returns-in_err-push_emptying-clause-writes
 returns-in_err-push_emptying-clause-writes g c =
@@ -41,10 +41,10 @@ returns-clause-writes g c =
     let two = c.push_head.new.changes.items in
     let three = c.push_parts_over.new.changes.items in
     let ok = c.in_ok-push_parts_over.was in
-    let begins = subst (λ ds. Extends user (emptied_by user) ds one) c.new-changes.ensures.items (subst (λ u. Extends u (emptied_by u) c.new-changes.result.items one) c.as_slice-user.ensures c.in_ok-push_emptying.ensures.made) in
+    let begins = subst (λ ds. ExtendsChanges user (emptied_by user) ds one) c.new-changes.ensures.items (subst (λ u. ExtendsChanges u (emptied_by u) c.new-changes.result.items one) c.as_slice-user.ensures c.in_ok-push_emptying.ensures.made) in
     let pushed = subst (λ u. PushesOver u (parts_over u parts) old mid two three c.push_parts_over.result) c.as_slice-user.ensures c.push_parts_over.ensures in
     writes_seen old mid (state g.S.Store c.apply.new.self) c.push_parts_over.result c.in_ok-push_parts_over.field-0 ok pushed.keeps user (takes_whole head parts) c.deref.result.now
     (subst (CarriesKnown old mid user (takes_whole head parts)) (sym c.deref.ensures.value)
     (λ clean accounts p has. renewed_shows head parts c.requires one two three begins c.in_ok-push_head.ensures.made p.0 accounts p.2 has
-    (subst (λ o. OnOk o (IfSome (get accounts user) (λ a. Extends user (parts_over user parts a.replies) two three))) ok (pushed.made clean accounts p))))
+    (subst (λ o. OnOk o (IfSome (get accounts user) (λ a. ExtendsChanges user (parts_over user parts a.replies) two three))) ok (pushed.made clean accounts p))))
     c.apply.ensures.crash c.apply.result c.apply.ensures.made c.apply.ensures.settled c.apply.ensures.same c.apply.ensures.named

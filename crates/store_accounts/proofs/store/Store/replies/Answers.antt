@@ -1,12 +1,12 @@
 use Rattle.std.proofs.Common.{◌≡◌, Err, rules}
 use Rattle.sqlite.specs.Held.{state}
-use Rattle.mailstore.specs.Account.{Account}
-use Rattle.mailstore.specs.AccountRows.{profile_of}
-use Rattle.mailstore.specs.declared.profile.Profile.{Profile}
-use Rattle.mailstore.specs.ReplyRows.{AreReplies}
-use Rattle.mailstore.proofs.KeepLemmas.{reads_refused}
-use Rattle.mailstore.proofs.EnterLemmas.{enters}
-use Rattle.mailstore.proofs.store.Store.replies.Goals as goal
+use Rattle.store_accounts.specs.Account.{Account}
+use Rattle.store_accounts.specs.AccountRows.{profile_of}
+use Rattle.store_accounts.specs.declared.profile.Profile.{Profile}
+use Rattle.store_accounts.specs.ReplyRows.{AreKeptReplies}
+use Rattle.store_accounts.proofs.KeepLemmas.{reads_refused}
+use Rattle.store_accounts.proofs.EnterLemmas.{enters}
+use Rattle.store_accounts.proofs.store.Store.replies.Goals as goal
 
 abbrev Known : Profile → Account → Type 0
 Known profile a = profile ≡ profile_of a
@@ -14,8 +14,8 @@ Known profile a = profile ≡ profile_of a
 pub returns-in_err-enter : goal.returns-in_err-enter
 returns-in_err-enter g c =
     let is : c.from_residual.result ≡ Err c.in_err-enter.field-0.0 = search rules in
-    reads_refused c.args.user.now Known (AreReplies c.args.sender.now) (state g.S.Store c.args.self.now) (state g.S.Store c.enter.new.self) c.in_err-enter.field-0.0 c.from_residual.result is c.in_err-enter.ensures
+    reads_refused c.args.user.now Known (AreKeptReplies c.args.sender.now) (state g.S.Store c.args.self.now) (state g.S.Store c.enter.new.self) c.in_err-enter.field-0.0 c.from_residual.result is c.in_err-enter.ensures
 
 pub returns : goal.returns
 returns g c =
-    enters c.args.user.now Known (state g.S.Store c.args.self.now) (state g.S.Store c.enter.new.self) (state g.S.Store c.replies_of.new.self) c.enter.result c.in_ok-enter.field-0 c.in_ok-enter.was c.enter.ensures (AreReplies c.args.sender.now) c.replies_of.result c.replies_of.ensures
+    enters c.args.user.now Known (state g.S.Store c.args.self.now) (state g.S.Store c.enter.new.self) (state g.S.Store c.replies_of.new.self) c.enter.result c.in_ok-enter.field-0 c.in_ok-enter.was c.enter.ensures (AreKeptReplies c.args.sender.now) c.replies_of.result c.replies_of.ensures

@@ -1,13 +1,13 @@
 use Rattle.std.proofs.Common.{◌≡◌, Ok, map, rules}
 use Rattle.std.specs.FinMap.{keys}
-use Rattle.mailtables.proofs.ListLemmas.{owner_key}
-use Rattle.mailstore.specs.declared.refusal.Refusal.{Refusal}
-use Rattle.mailstore.specs.FirstCells.{first_two}
-use Rattle.mailstore.specs.Listing.{select_reply_keys}
-use Rattle.mailstore.specs.ReplyRows.{reply_key_of, key_cells, AreKeyRows}
-use Rattle.mailstore.proofs.EachLemmas.{reads_entered}
-use Rattle.mailstore.proofs.ReplyKeyLemmas.{select_reply_keys_plain, keys_are, keys_read}
-use Rattle.mailstore.proofs.store.Store.reply_keys_of.Goals as goal
+use Rattle.store_tables.proofs.ListLemmas.{owner_key}
+use Rattle.store_accounts.specs.declared.refusal.Refusal.{Refusal}
+use Rattle.store_accounts.specs.FirstCells.{first_two}
+use Rattle.store_accounts.specs.Listing.{select_reply_keys}
+use Rattle.store_accounts.specs.ReplyRows.{reply_key_of, key_cells, AreKeyRows}
+use Rattle.store_accounts.proofs.EachLemmas.{reads_entered}
+use Rattle.store_accounts.proofs.ReplyKeyLemmas.{select_reply_keys_plain, keys_are, keys_read}
+use Rattle.store_accounts.proofs.store.Store.reply_keys_of.Goals as goal
 
 pub read_each-requires-clause-plain : goal.read_each-requires-clause-plain
 read_each-requires-clause-plain g c = select_reply_keys_plain.0

@@ -1,12 +1,12 @@
 use Rattle.std.proofs.Common.{◌≡◌, ◌∙◌, Ok, Err, Vec, OnOk, IfErr, ap, rules}
 use Rattle.sqlite.specs.Held.{state}
-use Rattle.mailstore.specs.Refusals.{IsTransient}
+use Rattle.store_accounts.specs.Refusals.{IsTransient}
 use Rattle.std.specs.FinMap.{get}
 use Rattle.std.specs.Prelude.{slice_get}
-use Rattle.mailstore.specs.ScriptRows.{HasTextRow}
-use Rattle.mailstore.proofs.DecodeLemmas.{text_is}
-use Rattle.mailstore.proofs.EnterLemmas.{entered_answer, entered_failed}
-use Rattle.mailstore.proofs.store.Store.script_of.Goals as goal
+use Rattle.store_accounts.specs.ScriptRows.{HasTextRow}
+use Rattle.store_accounts.proofs.DecodeLemmas.{text_is}
+use Rattle.store_accounts.proofs.EnterLemmas.{entered_answer, entered_failed}
+use Rattle.store_accounts.proofs.store.Store.script_of.Goals as goal
 
 pub returns-in_err-rows : goal.returns-in_err-rows
 returns-in_err-rows g c =

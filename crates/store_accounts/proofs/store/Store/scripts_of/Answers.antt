@@ -1,15 +1,15 @@
 use Rattle.std.proofs.Common.{◌≡◌, Ok, rules}
 use Rattle.std.specs.FinMap.{keys}
-use Rattle.mailtables.proofs.ListLemmas.{owner_key}
-use Rattle.mailtables.specs.ScriptTable.{select_names}
-use Rattle.mailtables.proofs.TextFacts.{select_names_plain}
-use Rattle.mailstore.specs.declared.refusal.Refusal.{Refusal}
-use Rattle.mailstore.specs.FirstCells.{first_one, text_cells}
-use Rattle.mailstore.specs.ScriptRows.{AreNameRows}
-use Rattle.mailstore.proofs.ReadLemmas.{names_read}
-use Rattle.mailstore.proofs.DecodeLemmas.{texts_are}
-use Rattle.mailstore.proofs.EachLemmas.{reads_entered}
-use Rattle.mailstore.proofs.store.Store.scripts_of.Goals as goal
+use Rattle.store_tables.proofs.ListLemmas.{owner_key}
+use Rattle.store_tables.specs.ScriptTable.{select_names}
+use Rattle.store_tables.proofs.TextFacts.{select_names_plain}
+use Rattle.store_accounts.specs.declared.refusal.Refusal.{Refusal}
+use Rattle.store_accounts.specs.FirstCells.{first_one, text_cells}
+use Rattle.store_accounts.specs.ScriptRows.{AreNameRows}
+use Rattle.store_accounts.proofs.ReadLemmas.{names_read}
+use Rattle.store_accounts.proofs.DecodeLemmas.{texts_are}
+use Rattle.store_accounts.proofs.EachLemmas.{reads_entered}
+use Rattle.store_accounts.proofs.store.Store.scripts_of.Goals as goal
 
 pub read_each-requires-clause-plain : goal.read_each-requires-clause-plain
 read_each-requires-clause-plain g c = select_names_plain.0

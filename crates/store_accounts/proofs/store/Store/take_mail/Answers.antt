@@ -1,10 +1,10 @@
 use Rattle.std.proofs.Common.{◌≡◌, Err, sym, subst, rules}
 use Rattle.sqlite.specs.Held.{state}
-use Rattle.mailstore.specs.Account.{takes_mail}
-use Rattle.mailstore.specs.Taking.{AreTaking}
-use Rattle.mailstore.proofs.TakingLemmas.{mail_shows}
-use Rattle.mailstore.proofs.AfterLemmas.{writes_then, write_failed}
-use Rattle.mailstore.proofs.store.Store.take_mail.Goals as goal
+use Rattle.store_accounts.specs.Account.{takes_mail}
+use Rattle.store_accounts.specs.Taking.{AreTaking}
+use Rattle.store_accounts.proofs.TakingLemmas.{mail_shows}
+use Rattle.store_accounts.proofs.AfterLemmas.{writes_then, write_failed}
+use Rattle.store_accounts.proofs.store.Store.take_mail.Goals as goal
 
 pub returns-clause-writes : goal.returns-clause-writes
 returns-clause-writes g c =

@@ -1,12 +1,12 @@
 use Rattle.std.proofs.Common.{OnOk, IfErr, ◌∙◌, [], ◌∷◌, w64, SFits, to_z-of_z, rules}
 use Rattle.sqlite.specs.Held.{state}
-use Rattle.mailtables.specs.declared.change.Change.TheVariants.{RemoveEarlyNotices}
-use Rattle.mailstore.specs.Account.{with_user, takes_notices}
-use Rattle.mailstore.specs.Promises.{HasUser}
-use Rattle.mailstore.specs.Refusals.{IsTransient}
-use Rattle.mailstore.proofs.UpkeepLemmas.{carries_notices}
-use Rattle.mailstore.proofs.KeepLemmas.{writes, writes_failed}
-use Rattle.mailstore.proofs.store.Store.take_notices.Goals as goal
+use Rattle.store_tables.specs.declared.change.Change.TheVariants.{RemoveEarlyNotices}
+use Rattle.store_accounts.specs.Account.{with_user, takes_notices}
+use Rattle.store_accounts.specs.Promises.{HasUser}
+use Rattle.store_accounts.specs.Refusals.{IsTransient}
+use Rattle.store_accounts.proofs.UpkeepLemmas.{carries_notices}
+use Rattle.store_accounts.proofs.KeepLemmas.{writes, writes_failed}
+use Rattle.store_accounts.proofs.store.Store.take_notices.Goals as goal
 
 pub returns-in_err-until : goal.returns-in_err-until
 returns-in_err-until g c =

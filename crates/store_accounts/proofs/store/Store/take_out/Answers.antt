@@ -1,12 +1,12 @@
 use Rattle.std.proofs.Common.{OnOk, IfErr, ◌∙◌, [], ◌∷◌, w64, SFits, to_z-of_z, rules}
 use Rattle.sqlite.specs.Held.{state}
-use Rattle.mailtables.specs.declared.change.Change.TheVariants.{RemoveOutgoing}
-use Rattle.mailstore.specs.Account.{with_user, takes_out}
-use Rattle.mailstore.specs.Promises.{HasUser}
-use Rattle.mailstore.specs.Refusals.{IsTransient}
-use Rattle.mailstore.proofs.CallLemmas.{carries_taking}
-use Rattle.mailstore.proofs.KeepLemmas.{writes, writes_failed}
-use Rattle.mailstore.proofs.store.Store.take_out.Goals as goal
+use Rattle.store_tables.specs.declared.change.Change.TheVariants.{RemoveOutgoing}
+use Rattle.store_accounts.specs.Account.{with_user, takes_out}
+use Rattle.store_accounts.specs.Promises.{HasUser}
+use Rattle.store_accounts.specs.Refusals.{IsTransient}
+use Rattle.store_accounts.proofs.CallLemmas.{carries_taking}
+use Rattle.store_accounts.proofs.KeepLemmas.{writes, writes_failed}
+use Rattle.store_accounts.proofs.store.Store.take_out.Goals as goal
 
 pub returns-in_err-id : goal.returns-in_err-id
 returns-in_err-id g c =

@@ -1,14 +1,14 @@
 use Rattle.std.proofs.Common.{◌≡◌, Err, OnOk, IfErr, ap, rules}
 use Rattle.std.specs.FinMap.{get}
 use Rattle.sqlite.specs.Held.{state}
-use Rattle.mailstore.specs.Account.{Account}
-use Rattle.mailstore.specs.AccountRows.{profile_of}
-use Rattle.mailstore.specs.Refusals.{IsTransient}
-use Rattle.mailstore.specs.ScriptRows.{HasTextAndActive}
-use Rattle.mailstore.specs.declared.profile.Profile.{Profile}
-use Rattle.mailstore.proofs.EnterLemmas.{enters_both, enters_failed}
-use Rattle.mailstore.proofs.KeepLemmas.{reads_refused}
-use Rattle.mailstore.proofs.store.Store.text_and_active.Goals as goal
+use Rattle.store_accounts.specs.Account.{Account}
+use Rattle.store_accounts.specs.AccountRows.{profile_of}
+use Rattle.store_accounts.specs.Refusals.{IsTransient}
+use Rattle.store_accounts.specs.ScriptRows.{HasTextAndActive}
+use Rattle.store_accounts.specs.declared.profile.Profile.{Profile}
+use Rattle.store_accounts.proofs.EnterLemmas.{enters_both, enters_failed}
+use Rattle.store_accounts.proofs.KeepLemmas.{reads_refused}
+use Rattle.store_accounts.proofs.store.Store.text_and_active.Goals as goal
 
 abbrev Known : Profile → Account → Type 0
 Known profile a = profile ≡ profile_of a

@@ -3,11 +3,11 @@ use Rattle.std.proofs.Common.{◌≡◌, Some, refl, rules, ◌∙◌, sym, ap, 
 use Rattle.sqlite.proofs.Callers.{memory_is_clean}
 use Rattle.sqlite.specs.Held.{state}
 use Rattle.sqlite.specs.Steps.{over_memory}
-use Rattle.mailstore.specs.Opening.{IsKnown}
-use Rattle.mailstore.specs.Shows.{OpensAs}
-use Rattle.keepers.specs.Memory.{database_in}
-use Rattle.keepers.proofs.TakenLemmas.{is_taken}
-use Rattle.keepers.proofs.memory.MemoryKeeperKeeper.take.Goals as goal
+use Rattle.store_accounts.specs.Opening.{IsKnown}
+use Rattle.store_accounts.specs.Shows.{OpensAs}
+use Rattle.store_lock.specs.Memory.{database_in}
+use Rattle.store_lock.proofs.TakenLemmas.{is_taken}
+use Rattle.store_lock.proofs.memory.MemoryKeeperKeeper.take.Goals as goal
 
 pub returns-in-Ok-clause-taken : goal.returns-in-Ok-clause-taken
 returns-in-Ok-clause-taken c _ =

@@ -1,8 +1,8 @@
 -- The hash is that of all that was handed out.
 use Rattle.std.proofs.Common.{[], ◌∷◌, ◌++◌, codes, ap, ◌∙◌}
 use Rattle.hex.specs.Hex.{encode_lower}
-use Rattle.accountfiles.specs.Netstring.{line}
-use Rattle.accountfiles.proofs.writing.Writer.end.Goals as goal
+use Rattle.store_text.specs.Netstring.{line}
+use Rattle.store_text.proofs.writing.Writer.end.Goals as goal
 
 pub returns : goal.returns
 returns c = λ text held.

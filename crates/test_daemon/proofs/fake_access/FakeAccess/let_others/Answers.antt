@@ -1,7 +1,7 @@
 use Rattle.std.proofs.Common.{◌≡◌, ◌∙◌, refl, sym, subst, rules}
-use Rattle.daemonfakes.specs.Shelves.{LetsOthers}
-use Rattle.daemonfakes.proofs.ShelfLemmas.{lets_none}
-use Rattle.daemonfakes.proofs.desk.DeskFake.let_others.Goals as goal
+use Rattle.test_daemon.specs.Shelves.{LetsOthers}
+use Rattle.test_daemon.proofs.ShelfLemmas.{lets_none}
+use Rattle.test_daemon.proofs.fake_access.FakeAccess.let_others.Goals as goal
 
 pub loop-event-init : goal.loop-event-init
 loop-event-init g c = (

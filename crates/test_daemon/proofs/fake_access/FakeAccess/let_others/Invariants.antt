@@ -1,6 +1,6 @@
 use Rattle.std.proofs.Common.{◌≡◌, length}
-use Rattle.daemonfakes.specs.Shelves.{LetsOthers, StillHas}
-use Rattle.daemonfakes.proofs.desk.DeskFake.let_others.Given as goal
+use Rattle.test_daemon.specs.Shelves.{LetsOthers, StillHas}
+use Rattle.test_daemon.proofs.fake_access.FakeAccess.let_others.Given as goal
 
 -- those that happened so far are told, and nothing else is
 abbrev pub invariant-loop-event : goal.invariant-loop-event

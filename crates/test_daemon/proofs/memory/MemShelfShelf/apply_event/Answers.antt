@@ -2,9 +2,9 @@ use Rattle.std.proofs.Common.{rules}
 use Rattle.sqlite.proofs.Callers.{memory_is_clean}
 use Rattle.sqlite.specs.Held.{state}
 use Rattle.sqlite.specs.Steps.{over_memory}
-use Rattle.mailengine.specs.Hosts.{IsEvent, IsGivenUp, host_with}
-use Rattle.mailmoves.proofs.EnduringLemmas.{event_endures}
-use Rattle.daemonfakes.proofs.memory.MemShelfShelf.apply_event.Goals as goal
+use Rattle.store_engine.specs.Hosts.{IsEvent, IsGivenUp, host_with}
+use Rattle.maildir_moves.proofs.EnduringLemmas.{event_endures}
+use Rattle.test_daemon.proofs.memory.MemShelfShelf.apply_event.Goals as goal
 
 pub returns-in-Ok-clause-applied : goal.returns-in-Ok-clause-applied
 returns-in-Ok-clause-applied c = λ w is.

@@ -1,5 +1,5 @@
 use Rattle.sqlite.proofs.Callers.{memory_is_clean}
-use Rattle.daemonfakes.proofs.memory.MemShelfShelf.find_account.Goals as goal
+use Rattle.test_daemon.proofs.memory.MemShelfShelf.find_account.Goals as goal
 
 pub returns-clause-sought : goal.returns-clause-sought
 returns-clause-sought c = λ accounts has.

@@ -1,18 +1,18 @@
--- An event of others, by the call of mailengine for it.
+-- An event of others, by the call of store_engine for it.
 use Rattle.std.proofs.Common.{◌≡◌, is_ok, refl, rules, sym, subst}
 use Rattle.sqlite.specs.Held.{state}
 use Rattle.sqlite.specs.Steps.{over_memory}
-use Rattle.mailstore.specs.Refusals.{IsTransient}
-use Rattle.mailengine.specs.AccountEvents.{Addition, Importing, Taking, MailTaking}
-use Rattle.mailengine.specs.Hosts.{ActsAddition, ActsTaking, ActsMailTaking, ActsKeeping, MayRefuseAddition, MayRefuseImport, MayRefuseKeeping}
-use Rattle.mailengine.specs.Upkeep.{Keeping}
-use Rattle.mailengine.specs.declared.answer.Answer.TheVariants.{Added, Imported, Taken, MailTaken}
-use Rattle.mailengine.specs.declared.event.Event.TheVariants.{Deliver, AddUser, Import, TakeOut, TakeMail, Keep}
-use Rattle.mailengine.proofs.HostLemmas.{addition_may, importing_may, taking_may, mail_taking_may, keeping_may}
-use Rattle.daemonfakes.specs.Memory.{memory_view_of}
-use Rattle.daemonfakes.specs.Shelves.{IsLet}
-use Rattle.daemonfakes.proofs.MemoryLemmas.{lets_by, on_shelf}
-use Rattle.daemonfakes.proofs.memory.MemShelfShelf.let_other.Goals as goal
+use Rattle.store_accounts.specs.Refusals.{IsTransient}
+use Rattle.store_engine.specs.AccountEvents.{Addition, Importing, Taking, MailTaking}
+use Rattle.store_engine.specs.Hosts.{ActsAddition, ActsTaking, ActsMailTaking, ActsKeeping, MayRefuseAddition, MayRefuseImport, MayRefuseKeeping}
+use Rattle.store_engine.specs.Upkeep.{Keeping}
+use Rattle.store_engine.specs.declared.answer.Answer.TheVariants.{Added, Imported, Taken, MailTaken}
+use Rattle.store_engine.specs.declared.event.Event.TheVariants.{Deliver, AddUser, Import, TakeOut, TakeMail, Keep}
+use Rattle.store_engine.proofs.HostLemmas.{addition_may, importing_may, taking_may, mail_taking_may, keeping_may}
+use Rattle.test_daemon.specs.Memory.{memory_view_of}
+use Rattle.test_daemon.specs.Shelves.{IsLet}
+use Rattle.test_daemon.proofs.MemoryLemmas.{lets_by, on_shelf}
+use Rattle.test_daemon.proofs.memory.MemShelfShelf.let_other.Goals as goal
 
 pub returns-in-Deliver-clause-lets : goal.returns-in-Deliver-clause-lets
 returns-in-Deliver-clause-lets c =
@@ -75,10 +75,10 @@ pub returns-in-Keep-clause-lets : goal.returns-in-Keep-clause-lets
 returns-in-Keep-clause-lets c =
     let it = c.in-Keep in
     let old = state over_memory c.args.self.now.store in
-    let new = state over_memory c.keep.new.store in
-    let is : c.is_ok-in-Keep.result ≡ is_ok c.keep.result = search rules in
-    let acts = subst (λ u. ActsKeeping u it.upkeep old new c.keep.result) c.as_slice-in-Keep.ensures c.keep.ensures in
+    let new = state over_memory c.do_upkeep.new.store in
+    let is : c.is_ok-in-Keep.result ≡ is_ok c.do_upkeep.result = search rules in
+    let acts = subst (λ u. ActsKeeping u it.upkeep old new c.do_upkeep.result) c.as_slice-in-Keep.ensures c.do_upkeep.ensures in
     on_shelf c.args.event.now c.is_ok-in-Keep.result c.args.self.now _
-    (subst (λ e. IsLet memory_view_of e c.is_ok-in-Keep.result c.args.self.now.store c.keep.new.store) (sym it.is)
+    (subst (λ e. IsLet memory_view_of e c.is_ok-in-Keep.result c.args.self.now.store c.do_upkeep.new.store) (sym it.is)
     (lets_by (Keep it.user it.upkeep) (λ accounts. Keeping accounts it.user it.upkeep) (MayRefuseKeeping it.upkeep) (keeping_may it.user it.upkeep) (λ w answer later row. (later, row, refl)) c.args.self.now.store
-    c.keep.new.store (λ answer. answer) c.keep.result c.is_ok-in-Keep.result is acts))
+    c.do_upkeep.new.store (λ answer. answer) c.do_upkeep.result c.is_ok-in-Keep.result is acts))

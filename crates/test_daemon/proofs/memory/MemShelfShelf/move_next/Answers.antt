@@ -1,5 +1,5 @@
 use Rattle.sqlite.proofs.Callers.{memory_is_clean}
-use Rattle.daemonfakes.proofs.memory.MemShelfShelf.move_on.Goals as goal
+use Rattle.test_daemon.proofs.memory.MemShelfShelf.move_next.Goals as goal
 
 pub returns-clause-moves : goal.returns-clause-moves
 returns-clause-moves c = λ w has.

@@ -1,4 +1,0 @@
-pub mod Cursors
-pub mod Examples
-pub mod Patterns
-pub mod Steps

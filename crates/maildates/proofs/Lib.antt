@@ -1,9 +1,0 @@
-pub mod GapLaws
-pub mod PieceLaws
-pub mod WordLemmas
-pub mod ReadingLaws
-pub mod ClockLemmas
-pub mod DateExamples
-pub mod ZoneLaws
-pub mod MomentLaws
-pub mod FindingLaws

@@ -1,2 +1,0 @@
-mod FileNameLemmas
-mod LetterLemmas

@@ -1,2 +1,0 @@
-pub mod FileName
-pub mod Kept
