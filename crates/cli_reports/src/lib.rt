@@ -8,5 +8,5 @@ mod line;
 pub mod listing;
 pub mod report;
 
-pub use listing::{list_user_notices, list_queue};
+pub use listing::{list_queue, list_user_notices};
 pub use report::{report_fault, report_outcome};

@@ -4,9 +4,9 @@ ghost use Rattle.cli_reports.specs.Listings.{kind_word, notice_line, notice_list
 ghost use Rattle.cli_reports.specs.Reports.{ended_line};
 
 use crate::address::add_address;
-use store_accounts::{QueuedEnvelope, QueuedKind, Notice};
 use octets::{Octets, write_decimal};
 use std::alloc::{AllocError, Global};
+use store_accounts::{Notice, QueuedEnvelope, QueuedKind};
 
 /// A line for each message on its way out, in order: `1 redirect <bob@example.net> <c@example.com> 18`, which are its
 /// number, kind, sender, target and size in octets. In an address an octet up to 32, 127, `<`, `>` or `\` is

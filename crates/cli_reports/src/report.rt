@@ -9,12 +9,12 @@ ghost use Rattle.cli_reports.specs.Reports.{file_line, send_line, action_lines, 
 
 use crate::line::add_line;
 use mail_address::{Addr, spell_address};
-use sieve_plan::failure_text;
-use store_engine::{Failure, Outcome};
 use mail_flags::Placement;
 use octets::Octets;
 use sieve_lex::ScriptFault;
+use sieve_plan::failure_text;
 use std::alloc::{AllocError, Global};
+use store_engine::{Failure, Outcome};
 
 /// The report: a line for each action, in order, or `discard` if there is none. A run that failed
 /// has one line, and no other.

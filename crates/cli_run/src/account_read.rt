@@ -10,12 +10,12 @@ ghost use Rattle.cli_run.specs.Subcommands.{FindsIn};
 
 use crate::commands::take_store;
 use crate::fault::RunFault;
-use store_lock::Keeper;
-use maildir_files::Separator;
-use store_accounts::{Folder, QueuedEnvelope, Notice, QueuedMessage, Refusal, Store};
-use octets::{List, Octets, Texts};
 use cli_subcommands::StoreLocation;
+use maildir_files::Separator;
+use octets::{List, Octets, Texts};
 use sqlite::Alter;
+use store_accounts::{Folder, Notice, QueuedEnvelope, QueuedMessage, Refusal, Store};
+use store_lock::Keeper;
 
 /// A read of a user's account.
 pub trait AccountRead {

@@ -17,14 +17,14 @@ ghost use Rattle.cli_run.specs.TryScript.{AnswersInput, IsNoInput, answer_text};
 use crate::fault::RunFault;
 use crate::framing::split;
 use crate::kept_input::KeptInput;
-use store_engine::{Envelope, Outcome, attempt, attempt_on_prefix};
-use mail_head::SizeCount;
-use store_accounts::Refusal;
-use octets::Octets;
 use cli_reports::{report_fault, report_outcome};
+use mail_head::SizeCount;
+use octets::Octets;
 use sieve_exec::When;
 use sieve_lex::ScriptError;
 use std::alloc::Global;
+use store_accounts::Refusal;
+use store_engine::{Envelope, Outcome, attempt, attempt_on_prefix};
 
 /// The answer to an input that is a script and a message.
 #[derive(Drop)]

@@ -6,13 +6,13 @@ ghost use Rattle.cli_run.specs.Streams.{IsWritten, ReadsToEnd};
 
 use crate::fault::{RunFault, refuse};
 use crate::stream::{read_all, write_all, write_line};
-use store_accounts::Refusal;
-use octets::{Octets, write_decimal};
 use cli_reports::report_fault;
 use managesieve_sessions::scripts::{MAX_SCRIPT, fault_in};
+use octets::{Octets, write_decimal};
 use sieve_lex::ScriptFault;
 use std::alloc::{AllocError, Global};
 use std::io::{Read, Write};
+use store_accounts::Refusal;
 
 /// Checks the input as a script. For a valid one nothing is printed, for another one the line that tells why it isn't valid. What
 /// goes wrong is reported on the errors. Returns the exit status.

@@ -17,13 +17,13 @@ use crate::fault::RunFault;
 use crate::report::print_report;
 use crate::stream::{read_all, write_all, write_line};
 use crate::values::{decimal, envelope_of, first_input_line, given_salt, when_of};
-use store_lock::Keeper;
-use store_engine::{Envelope, Report, add_user, deliver};
-use store_accounts::Store;
 use cli_subcommands::{AddUserArgs, DeliverArgs, InitArgs, ShowArgs, StoreLocation};
 use sieve_exec::When;
 use std::alloc::Global;
 use std::io::{Read, Write};
+use store_accounts::Store;
+use store_engine::{Envelope, Report, add_user, deliver};
+use store_lock::Keeper;
 
 /// `init`: a new store.
 pub fn run_init<W: Write, K: Keeper>(

@@ -10,13 +10,13 @@ use crate::commands::take_store;
 use crate::fault::RunFault;
 use crate::stream::write_number;
 use crate::values::decimal;
-use store_lock::Keeper;
-use store_engine::first_message;
-use maildir_files::{MailSink, SinkError};
-use store_accounts::{Refusal, Store};
 use cli_subcommands::DrainArgs;
+use maildir_files::{MailSink, SinkError};
 use sqlite::Alter;
 use std::io::Write;
+use store_accounts::{Refusal, Store};
+use store_engine::first_message;
+use store_lock::Keeper;
 
 /// `drain`: moves a folder's messages into a Maildir, the first ones first. If the arguments or the path are wrong, no store is
 /// taken.

@@ -12,15 +12,15 @@ use crate::commands::take_store;
 use crate::fault::RunFault;
 use crate::stream::{put, write_all};
 use crate::upkeep::done_by;
-use store_export::{Contents, list_contents, read_part};
-use store_text::{AccountLine, Writer};
-use store_lock::Keeper;
-use store_engine::{Upkeep, do_upkeep};
-use store_accounts::Store;
 use cli_subcommands::ExportArgs;
 use sqlite::Alter;
 use std::alloc::Global;
 use std::io::Write;
+use store_accounts::Store;
+use store_engine::{Upkeep, do_upkeep};
+use store_export::{Contents, list_contents, read_part};
+use store_lock::Keeper;
+use store_text::{AccountLine, Writer};
 
 /// `export`: prints the text of the user's account, and closes the account after that if asked to, without giving the store back
 /// in between.

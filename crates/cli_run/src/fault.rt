@@ -5,12 +5,12 @@ ghost use Rattle.cli_run.specs.declared.fault.RunFault.TheVariants.{Refused};
 ghost use Rattle.cli_run.specs.Streams.{IsWritten};
 
 use crate::stream;
-use store_text::AccountReadError;
-use store_lock::StoreUnavailable;
 use maildir_files::SinkError;
-use store_accounts::Refusal;
 use std::alloc::AllocError;
 use std::io::Write;
+use store_accounts::Refusal;
+use store_lock::StoreUnavailable;
+use store_text::AccountReadError;
 use thiserror::Error;
 
 /// Why a run gives no answer.

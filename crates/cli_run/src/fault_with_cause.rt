@@ -5,9 +5,9 @@ ghost use Rattle.cli_run.specs.Streams.{IsWritten};
 
 use crate::fault::RunFault;
 use crate::stream::{write_all, write_line};
-use store_lock::Keeper;
-use store_accounts::Refusal;
 use std::io::Write;
+use store_accounts::Refusal;
+use store_lock::Keeper;
 
 /// A fault, and its cause as far as it is known.
 #[derive(Clone, Copy)]

@@ -12,11 +12,11 @@ ghost use Rattle.cli_run.specs.Subcommands.{IsImportEvent, DeniedAtEnd, DoesImpo
 use crate::commands::take_store;
 use crate::fault::RunFault;
 use crate::stream::{read_all, write_line};
-use store_text::AccountFile;
-use store_lock::Keeper;
 use cli_subcommands::{ImportArgs, StoreLocation};
 use std::alloc::Global;
 use std::io::{Read, Write};
+use store_lock::Keeper;
+use store_text::AccountFile;
 
 /// `import`: adds the account whose text is the input.
 ///

@@ -10,14 +10,14 @@ use crate::account_read::{AccountRead, DirectoriesOf, FoldersOf, QueueOf, read_o
 use crate::fault::RunFault;
 use crate::stream::write_all;
 use crate::values::separator_of;
-use store_lock::Keeper;
-use maildir_files::{Separator, directory_of};
-use store_accounts::{Folder, QueuedEnvelope};
-use octets::{List, Octets, write_decimal};
 use cli_reports::list_queue;
 use cli_subcommands::{FoldersArgs, StoreLocation};
+use maildir_files::{Separator, directory_of};
+use octets::{List, Octets, write_decimal};
 use std::alloc::{AllocError, Global};
 use std::io::Write;
+use store_accounts::{Folder, QueuedEnvelope};
+use store_lock::Keeper;
 
 /// A listing of a user's account, a line for each thing that is found.
 pub trait Listing: AccountRead {

@@ -13,15 +13,15 @@ use crate::listing::{Listing, run_listing};
 use crate::stream::write_all;
 use crate::upkeep::done_by;
 use crate::values::until_of;
-use store_lock::Keeper;
-use store_engine::{Upkeep, do_upkeep};
-use store_accounts::{Notice, Store};
-use octets::{List, Octets};
 use cli_reports::list_user_notices;
 use cli_subcommands::{NoticesArgs, StoreLocation};
+use octets::{List, Octets};
 use sqlite::Alter;
 use std::alloc::{AllocError, Global};
 use std::io::Write;
+use store_accounts::{Notice, Store};
+use store_engine::{Upkeep, do_upkeep};
+use store_lock::Keeper;
 
 impl Listing for NoticesOf<'_> {
     ghost use Rattle.cli_run.specs.Subcommands.{ListsNotices};

@@ -14,12 +14,12 @@ use crate::fault::RunFault;
 use crate::listing::run_listing;
 use crate::stream::{write_all, write_number};
 use crate::values::decimal;
-use store_lock::Keeper;
-use store_engine::take_out;
-use store_accounts::{QueuedMessage, Refusal};
 use cli_subcommands::{DoneArgs, QueueArgs, StoreLocation};
 use std::alloc::Global;
 use std::io::Write;
+use store_accounts::{QueuedMessage, Refusal};
+use store_engine::take_out;
+use store_lock::Keeper;
 
 /// `queue`: the user's messages on their way out, or the octets of the one with the number.
 pub fn run_queue<W: Write, K: Keeper>(

@@ -7,9 +7,9 @@ ghost use Rattle.cli_run.specs.Faults.{IsPrinted, IsTextPut};
 use crate::fault::RunFault;
 use crate::stream::{flush, put, put_line, write_all};
 use itoa::Buffer;
-use store_accounts::{Report, VacationReport};
 use octets::Octets;
 use std::io::Write;
+use store_accounts::{Report, VacationReport};
 
 /// Prints the report on a delivery: a line for each folder that the message joined, for each address that it is
 /// sent on to, for a vacation reply and for a notice, in this order, or `discard` if there is none of these.

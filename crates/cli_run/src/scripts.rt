@@ -16,18 +16,18 @@ use crate::commands::take_store;
 use crate::fault::RunFault;
 use crate::listing::{Listing, run_listing};
 use crate::stream::{read_all, write_all, write_line};
-use store_lock::Keeper;
-use store_engine::{Answer, Upkeep, do_upkeep};
-use store_accounts::Refusal;
-use managesieve_protocol::spell;
-use octets::Octets;
 use cli_reports::report_fault;
-use managesieve_sessions::scripts::decide_script_command;
-use managesieve_sessions::command_class::NamedCommand;
 use cli_subcommands::{PutArgs, ScriptsArgs, StoreLocation};
+use managesieve_protocol::spell;
+use managesieve_sessions::command_class::NamedCommand;
+use managesieve_sessions::scripts::decide_script_command;
+use octets::Octets;
 use sieve_lex::ScriptFault;
 use std::alloc::{AllocError, Global};
 use std::io::{Read, Write};
+use store_accounts::Refusal;
+use store_engine::{Answer, Upkeep, do_upkeep};
+use store_lock::Keeper;
 
 impl Listing for ScriptsOf<'_> {
     ghost use Rattle.cli_run.specs.Subcommands.{ListsScripts};
@@ -44,7 +44,12 @@ fn script_lines(alloc: Global, found: &ScriptNames) -> Result<Octets, AllocError
     ensures { IfOk result (λ text. (a : Account) → AreScripts found.now.names found.now.active a → ListsScripts a text) }
 {
     let names = found.names.try_clone(alloc)?;
-    let decision = decide_script_command(alloc, names, active_in(found), &NamedCommand::ListScripts)?;
+    let decision = decide_script_command(
+        alloc,
+        names,
+        active_in(found),
+        &NamedCommand::ListScripts,
+    )?;
     let mut reply = decision.reply;
     reply.word = None;
     let mut text = Octets::new(alloc);

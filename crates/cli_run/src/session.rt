@@ -18,16 +18,16 @@ ghost use Rattle.cli_run.specs.Serving.{WritesFirst, database_seen};
 ghost use Rattle.cli_run.specs.Streams.{OutputFailed, ReadsOn, ReadsToEnd};
 
 use crate::fault::{RunFault, refuse};
+use crate::fault_with_cause::{FaultWithCause, FirstFault};
 use crate::stream::{MAX_READS, read_at, write_all};
-use crate::fault_with_cause::{FirstFault, FaultWithCause};
-use store_lock::{Keeper, StoreUnavailable};
-use store_accounts::{Refusal, Store};
-use octets::Octets;
-use managesieve_sessions::{StoreCommand, Session, FreeStep};
 use cli_subcommands::StoreLocation;
+use managesieve_sessions::{FreeStep, Session, StoreCommand};
+use octets::Octets;
 use std::alloc::{AllocError, Global};
 use std::io;
 use std::io::{Read, Write};
+use store_accounts::{Refusal, Store};
+use store_lock::{Keeper, StoreUnavailable};
 
 /// The largest number of octets that are read at once.
 const PIECE: usize = 4096;

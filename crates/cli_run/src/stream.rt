@@ -56,7 +56,11 @@ pub(crate) fn make_room(octets: &mut Vec<u8>, filled: usize) -> Result<(), Alloc
 
 /// One read into the room from `at` on: how many octets came, 0 if a signal came first,
 /// or `None` at the end of the input.
-pub fn read_at<R: Read>(input: &mut R, room: &mut [u8], at: usize) -> Result<Option<usize>, RunFault>
+pub fn read_at<R: Read>(
+    input: &mut R,
+    room: &mut [u8],
+    at: usize,
+) -> Result<Option<usize>, RunFault>
     requires { at < length room.old }
     ensures front { take at room.new ≡ take at room.old }
     ensures fits { IfOk result (λ more. at + unwrap_or more 0 ≤ length room.new) }

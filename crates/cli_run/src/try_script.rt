@@ -7,10 +7,10 @@ use crate::answer::{TryAnswer, answer_to};
 use crate::fault::{RunFault, refuse};
 use crate::kept_input::KeptInput;
 use crate::stream::write_all;
-use store_engine::Envelope;
 use sieve_exec::When;
 use std::alloc::Global;
 use std::io::{Read, Write};
+use store_engine::Envelope;
 
 /// Reads a script and a message from the input, and prints on the output what the script does with the message under
 /// the envelope, if it is delivered then. What goes wrong is reported on the errors. Returns the exit status.

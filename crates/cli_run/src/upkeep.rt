@@ -14,13 +14,13 @@ use crate::commands::take_store;
 use crate::fault::RunFault;
 use crate::stream::{read_all, write_line};
 use crate::values::{first_input_line, given_salt};
-use store_lock::Keeper;
-use store_engine::{Answer, Upkeep, do_upkeep};
-use store_accounts::Refusal;
+use cli_subcommands::{AddressArgs, OpenArgs, PasswdArgs, RemoveArgs, StoreLocation};
 use octets::Octets;
-use cli_subcommands::{OpenArgs, PasswdArgs, RemoveArgs, AddressArgs, StoreLocation};
 use std::alloc::Global;
 use std::io::{Read, Write};
+use store_accounts::Refusal;
+use store_engine::{Answer, Upkeep, do_upkeep};
+use store_lock::Keeper;
 
 /// `passwd`: another password, which is the first line of the input. `random` is the salt if the arguments have none.
 pub fn run_passwd<R: Read, W: Write, K: Keeper>(

@@ -12,14 +12,14 @@ ghost use Rattle.cli_run.specs.Subcommands.{AddsUser, DoesUsers, FindsUsers, fou
 use crate::commands::take_store;
 use crate::fault::RunFault;
 use crate::stream::write_all;
-use store_lock::Keeper;
-use store_accounts::{Profile, Refusal, Store};
+use cli_subcommands::{StoreLocation, UsersArgs};
 use managesieve_protocol::spell_string;
 use octets::Octets;
-use cli_subcommands::{StoreLocation, UsersArgs};
 use sqlite::Alter;
 use std::alloc::{AllocError, Global};
 use std::io::Write;
+use store_accounts::{Profile, Refusal, Store};
+use store_lock::Keeper;
 
 /// `users`: a line for each account, in the order of the octets of the names. Memory is that of the lines and of one account:
 /// the store is handed back before they are written.

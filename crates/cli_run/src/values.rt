@@ -10,10 +10,10 @@ use crate::fault::RunFault;
 use hex::FromHex;
 use mail_dates::HostZone;
 use maildir_files::Separator;
-use store_engine::Envelope;
 use octets::{Octets, parse_decimal};
 use sieve_exec::When;
 use std::alloc::{AllocError, Global};
+use store_engine::Envelope;
 
 /// The last moment that the database can hold.
 const MAX_UNTIL: u64 = 9_223_372_036_854_775_807;

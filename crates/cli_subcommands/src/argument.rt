@@ -186,7 +186,8 @@ impl CliArgument {
             | CliArgument::AndClose => "",
             CliArgument::Separator => ".|/",
             CliArgument::From | CliArgument::To | CliArgument::AnyTo => "A",
-            CliArgument::At | CliArgument::Number | CliArgument::Sessions | CliArgument::Until => "N",
+            CliArgument::At | CliArgument::Number | CliArgument::Sessions | CliArgument::Until =>
+                "N",
             CliArgument::Zone => "ZONE",
             CliArgument::Most | CliArgument::MostRows => "K",
             CliArgument::Smtp => "ADDRESS:PORT|PATH",
@@ -236,7 +237,8 @@ impl CliArgument {
             CliArgument::Lmtp => "The port or the path of a socket for LMTP; - for descriptor 0",
             CliArgument::Names => "What of an address names its account [default: local]",
             CliArgument::Mail => "Moves mail on into the users' Maildirs in this directory",
-            CliArgument::Host => "The name that clients of LMTP are greeted with [default: localhost]",
+            CliArgument::Host =>
+                "The name that clients of LMTP are greeted with [default: localhost]",
             CliArgument::Quiet => "Tells of no delivery that was made",
             CliArgument::Check => "Says what would go wrong, and serves nobody",
             CliArgument::Smtp => "The mail server's address and port, or the path of its socket",

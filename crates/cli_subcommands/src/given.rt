@@ -4,8 +4,8 @@ ghost use Rattle.cli_subcommands.specs.Asks.{HasNoText, IsArgAddress, IsFlag, Is
 ghost use Rattle.cli_subcommands.specs.Ids.{argument_id};
 
 use crate::argument::CliArgument;
-use crate::raw_args::RawArgs;
 use crate::location::StoreLocation;
+use crate::raw_args::RawArgs;
 use clap::ArgMatches;
 
 /// What `clap` found for a subcommand in a command line.

@@ -2,17 +2,17 @@
 #![tactic(auto)]
 
 mod argument;
-mod raw_args;
 mod given;
 mod location;
 mod program;
+mod raw_args;
 mod reading;
-mod subcommand_row;
 mod subcommand;
+mod subcommand_row;
 
-pub use raw_args::RawArgs;
 pub use location::StoreLocation;
 pub use program::VERSION;
+pub use raw_args::RawArgs;
 pub use reading::{ArgsError, read_command_line, read_files};
 pub use subcommand::Subcommand;
 pub use subcommand::address::AddressArgs;

@@ -3,9 +3,9 @@ ghost use Rattle.std.specs.Prelude.{◌≡◌, false, map, IfOk};
 ghost use Rattle.cli_subcommands.specs.Asks.{HasNoText, NamesFiles, WasMatched, WasRead};
 
 use crate::argument::CliArgument;
-use crate::raw_args::RawArgs;
 use crate::given::Given;
 use crate::program::sieved;
+use crate::raw_args::RawArgs;
 use crate::subcommand::check::CHECK;
 use crate::subcommand::try_script::TryArgs;
 use crate::subcommand::{Subcommand, SubcommandName};

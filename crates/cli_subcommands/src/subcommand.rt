@@ -28,6 +28,7 @@ pub mod show;
 pub mod try_script;
 pub mod users;
 
+use crate::given::Given;
 use crate::subcommand::address::{ADDRESS, AddressArgs};
 use crate::subcommand::adduser::{ADDUSER, AddUserArgs};
 use crate::subcommand::check::{CHECK, CheckArgs};
@@ -52,7 +53,6 @@ use crate::subcommand::session::{SESSION, SessionArgs};
 use crate::subcommand::show::{SHOW, ShowArgs};
 use crate::subcommand::try_script::{TRY, TryArgs};
 use crate::subcommand::users::{USERS, UsersArgs};
-use crate::given::Given;
 use crate::subcommand_row::SubcommandRow;
 
 /// A subcommand with its arguments, as they were written.

@@ -4,8 +4,8 @@ ghost use Rattle.sqlite.specs.Held.{state};
 ghost use Rattle.daemon_core.specs.StoreAccess.{StoreFindsAccount};
 
 use lmtp_dialogue::Lookup;
-use store_accounts::{Refusal, Store};
 use sqlite::Alter;
+use store_accounts::{Refusal, Store};
 
 /// Whether the store has an account of that name, open or closed; one that was removed isn't there. A name that it can't look for now
 /// is a fault, or lacks memory. Nothing changes.

@@ -3,9 +3,9 @@ ghost use Rattle.std.specs.Prelude.{◌≡◌, []};
 ghost use Rattle.daemon_core.specs.Holds as rules;
 
 use crate::client_state::ClientState;
-use store_engine::Clients;
 use std::alloc::Global;
 use std::collections::BTreeMap;
+use store_engine::Clients;
 
 /// Whether the store is held, and when a message is to move on. Moments are in milliseconds.
 #[derive(Clone, Copy, Debug, PartialEq, Eq)]

@@ -5,10 +5,10 @@ ghost use Rattle.store_engine.specs.Limits.{is_envelope_address, is_forbidden_oc
 ghost use Rattle.daemon_core.specs.LmtpSteps as deeds;
 
 use crate::report::line_of_report;
-use lmtp_dialogue::LmtpReply;
-use store_engine::{Answer, Refusal};
 use lmtp_connections::DeliveryResult;
+use lmtp_dialogue::LmtpReply;
 use std::alloc::Global;
+use store_engine::{Answer, Refusal};
 
 /// What became of a message that was to be delivered.
 pub fn result_of(alloc: Global, sender: &[u8], answer: Answer) -> DeliveryResult

@@ -5,14 +5,14 @@ ghost use Rattle.daemon_core.specs.ClientStates as places;
 ghost use Rattle.daemon_core.specs.ClientStates.{client_at};
 ghost use Rattle.daemon_core.specs.Eviction as room;
 
-use crate::daemon::Daemon;
 use crate::client_state::{ClientState, SessionWait};
+use crate::daemon::Daemon;
 use crate::want::want_by;
-use store_engine::Clients;
 use lmtp_connections::LmtpConnection;
 use managesieve_sessions::Session;
-use std::collections::BTreeMap;
 use net_loop::machine::{Claim, Want};
+use std::collections::BTreeMap;
+use store_engine::Clients;
 
 /// For so many milliseconds after it came a ManageSieve client that isn't logged in isn't closed for another, nor an LMTP client before
 /// its LHLO while many are: a client on the same machine answers its greeting within one or two, and 300 that say nothing have gone by within a second.

@@ -3,23 +3,23 @@
 #![tactic(auto)]
 
 pub mod account;
-mod delivery_result;
-mod memory_room;
+pub mod client_state;
 pub mod daemon;
-pub mod store_access;
+mod delivery_result;
+mod eviction;
 pub mod life;
 mod look;
 mod machine;
 pub mod mail;
 mod mail_connections;
 mod mail_step;
+mod memory_room;
 pub mod note;
 mod poll_wait;
-pub mod client_state;
 mod report;
-mod eviction;
 mod session;
 mod step;
+pub mod store_access;
 mod want;
 
 pub use machine::{LMTP, MANAGESIEVE, MAX_CLIENTS, MAX_SENDERS};

@@ -4,8 +4,8 @@ ghost use Rattle.net_loop.specs.Life.{AddsIf, LivesIf};
 ghost use Rattle.daemon_core.specs.MailRules.{mail_rules};
 ghost use Rattle.daemon_core.specs.Headline.{DaemonServes};
 
-use crate::store_access::StoreAccess;
 use crate::mail::MailDaemon;
+use crate::store_access::StoreAccess;
 use net_loop::life;
 use net_loop::outcome::WaitError;
 use net_loop::outside::{Clock, Sockets};

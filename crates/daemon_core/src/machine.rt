@@ -2,19 +2,19 @@
 ghost use Rattle.std.specs.Prelude.{◌≡◌};
 ghost use Rattle.daemon_core.specs.MailRules as rules;
 
-use crate::store_access::StoreAccess;
+use crate::eviction::{claim_of_guest, claim_of_sender, is_flooded};
 use crate::look::{has_work, work_by};
 use crate::mail::MailDaemon;
 use crate::mail_connections::{enter_client, enter_post, hear_by, leave_by, say_last};
 use crate::mail_step::step_post;
 use crate::poll_wait::patience_for;
-use crate::eviction::{claim_of_guest, claim_of_sender, is_flooded};
 use crate::step::step_once;
+use crate::store_access::StoreAccess;
 use crate::want::{due_of, want_of};
 use lmtp_connections::Wanted;
+use net_loop::machine::{Claim, Machine, Want};
 use octets::Octets;
 use std::alloc::AllocError;
-use net_loop::machine::{Claim, Machine, Want};
 
 /// The kind of the connections of ManageSieve.
 pub const MANAGESIEVE: u32 = 0;

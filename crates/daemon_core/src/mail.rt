@@ -2,8 +2,8 @@
 ghost use Rattle.std.specs.Prelude.{◌≡◌, []};
 
 use crate::daemon::Daemon;
-use lmtp_dialogue::Names;
 use lmtp_connections::LmtpConnection;
+use lmtp_dialogue::Names;
 use octets::Octets;
 use std::alloc::Global;
 use std::collections::BTreeMap;

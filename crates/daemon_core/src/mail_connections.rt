@@ -3,13 +3,13 @@ ghost use Rattle.std.specs.Prelude.{◌≡◌, true, false, None, [], IsErr, IfS
 ghost use Rattle.daemon_core.specs.DaemonRules.{place_at};
 ghost use Rattle.daemon_core.specs.MailRules as rules;
 
-use crate::memory_room::{has_octet_room, has_room_for, is_own};
-use crate::mail::MailDaemon;
 use crate::client_state::Fit;
+use crate::mail::MailDaemon;
+use crate::memory_room::{has_octet_room, has_room_for, is_own};
 use crate::session::{enter, hear, leave};
 use crate::step::forget;
-use lmtp_dialogue::LmtpReply;
 use lmtp_connections::LmtpConnection;
+use lmtp_dialogue::LmtpReply;
 use octets::Octets;
 use std::alloc::AllocError;
 

@@ -7,13 +7,13 @@ ghost use Rattle.daemon_core.specs.MailRules.{mail_rules, LacksBy};
 ghost use Rattle.lmtp_connections.specs.Stands.{Demands, HasSlot};
 ghost use Rattle.lmtp_connections.specs.declared.demand.Demand.TheVariants as demands;
 
-use crate::delivery_result::result_of;
-use crate::memory_room::room;
 use crate::daemon::Daemon;
-use crate::store_access::StoreAccess;
+use crate::delivery_result::result_of;
 use crate::mail::MailDaemon;
 use crate::mail_connections::lack_post;
-use lmtp_connections::{Demand, StoreDelivery, LmtpConnection, Question, ReplyBuffer};
+use crate::memory_room::room;
+use crate::store_access::StoreAccess;
+use lmtp_connections::{Demand, LmtpConnection, Question, ReplyBuffer, StoreDelivery};
 use octets::Octets;
 use std::alloc::{AllocError, Global};
 

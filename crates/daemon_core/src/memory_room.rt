@@ -6,12 +6,12 @@ ghost use Rattle.daemon_core.specs.Bounds as bounds;
 ghost use Rattle.daemon_core.specs.MailRules as rules;
 ghost use Rattle.daemon_core.specs.ClientStates.{client_at};
 
-use crate::mail::MailDaemon;
 use crate::client_state::ClientState;
 use crate::eviction::is_user;
-use store_engine::Clients;
+use crate::mail::MailDaemon;
 use lmtp_connections::LmtpConnection;
 use std::collections::BTreeMap;
+use store_engine::Clients;
 
 /// Octets of a KiB.
 const KIB: usize = 1024;

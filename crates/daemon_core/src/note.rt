@@ -1,8 +1,8 @@
 //! What the daemon notes.
 use lmtp_dialogue::Lookup;
-use store_engine::{Answer, Event};
 use maildir_moves::Moving;
 use octets::{List, Octets};
+use store_engine::{Answer, Event};
 
 /// What the daemon did when it continued with a connection, or by itself. One that tells its acts makes the value; over the
 /// system none is made.

@@ -4,9 +4,9 @@ ghost use Rattle.daemon_core.specs.DaemonRules as rules;
 ghost use Rattle.daemon_core.specs.Holds as holds;
 ghost use Rattle.daemon_core.specs.MailRules as mail;
 
+use crate::client_state::SessionWait;
 use crate::daemon::{Daemon, Holding};
 use crate::mail::MailDaemon;
-use crate::client_state::SessionWait;
 use lmtp_connections::Wanted;
 
 /// How long the loop waits for its sockets while a client waits for the store, in milliseconds.

@@ -4,9 +4,9 @@ ghost use Rattle.std.specs.List.{flat_map};
 ghost use Rattle.cli_reports.specs.Reports.{delivery_lines, delivery_report, file_line, send_line, notice_lines, vacation_lines, ended_line};
 ghost use Rattle.daemon_core.specs.LmtpSteps as deeds;
 
-use store_engine::{Report, VacationReport};
 use octets::{Octets, write_decimal};
 use std::alloc::{AllocError, Global};
+use store_engine::{Report, VacationReport};
 
 /// What is told of a delivery: its report, or nothing if memory is lacking for that. Linear in the report.
 pub fn line_of_report(alloc: Global, report: &Report) -> Octets

@@ -6,13 +6,13 @@ ghost use Rattle.daemon_core.specs.ClientStates.{begun};
 ghost use Rattle.daemon_core.specs.Waiting as waiting;
 ghost use Rattle.daemon_core.specs.DaemonRules.{DaemonOpens, DaemonGives, DaemonCloses, LacksFor};
 
+use crate::client_state::{ClientState, Fit, SessionWait};
 use crate::daemon::Daemon;
-use crate::client_state::{Fit, ClientState, SessionWait};
 use crate::step::{forget, is_out, lack};
-use store_engine::{Answer, Event, apply_free};
 use octets::Octets;
 use std::alloc::{AllocError, Global};
 use std::collections::BTreeMap;
+use store_engine::{Answer, Event, apply_free};
 
 /// One comes: it is greeted, and its session begins.
 pub fn enter(daemon: &mut Daemon, now: u64, id: u32, out: &mut Octets) -> Result<(), AllocError>

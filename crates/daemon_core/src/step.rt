@@ -12,15 +12,15 @@ ghost use Rattle.daemon_core.specs.declared.note.Note.TheVariants.{Away};
 ghost use Rattle.store_engine.specs.Hosts.{EventAsksStore};
 ghost use Rattle.store_engine.specs.declared.event.Event.TheVariants.{Step};
 
+use crate::client_state::{ClientState, Fit, SessionWait};
 use crate::daemon::Daemon;
-use crate::store_access::StoreAccess;
-use crate::client_state::{Fit, ClientState, SessionWait};
 use crate::eviction::is_user;
-use store_engine::{Answer, Clients, Event, apply_free};
+use crate::store_access::StoreAccess;
 use octets::Octets;
 use std::alloc::AllocError;
 use std::collections::BTreeMap;
 use std::mem::replace;
+use store_engine::{Answer, Clients, Event, apply_free};
 
 /// For how many milliseconds the answer to a login that failed is kept back.
 const LOGIN_DELAY: u64 = 2000;

@@ -10,10 +10,10 @@ ghost use Rattle.daemon_core.specs.Moves.{MovesNextMessage};
 ghost use Rattle.daemon_core.specs.StoreAccess.{View, AppliesEvent, DeliversMessage, Looks, FindsAccount, StillShowsIf};
 
 use crate::note::Note;
-use lmtp_dialogue::Lookup;
-use store_engine::{Answer, Clients, Event};
 use lmtp_connections::StoreDelivery;
+use lmtp_dialogue::Lookup;
 use net_loop::outside::Outside;
+use store_engine::{Answer, Clients, Event};
 
 /// Access to a store that other processes use too. Each call but those that only tell takes the store if it isn't held, and keeps it
 /// until it is given back.

@@ -4,8 +4,8 @@ ghost use Rattle.daemon_core.specs.DaemonRules.{place_at};
 ghost use Rattle.daemon_core.specs.ClientStates as places;
 ghost use Rattle.daemon_core.specs.ClientStates.{client_at};
 
+use crate::client_state::{ClientState, Fit, SessionWait};
 use crate::daemon::Daemon;
-use crate::client_state::{Fit, ClientState, SessionWait};
 use managesieve_sessions::Session;
 use net_loop::machine::Want;
 

@@ -12,21 +12,24 @@ ghost use Rattle.daemon_host.specs.Held as held;
 ghost use Rattle.daemon_host.specs.Held.{host_view, IsClean, StillShown, HostBrings, HostMovesNext, SinkHasMail, IsToldAs, Seeks};
 ghost use Rattle.daemon_core.specs.Moves.{HasKept};
 
-use crate::host_store::HostStore;
 use crate::host_log::HostLog;
+use crate::host_store::HostStore;
 use crate::store_turns::StoreTurns;
-use mail_dates::HostZone;
-use store_lock::{Keeper, StoreUnavailable};
-use lmtp_dialogue::Lookup;
-use store_engine::{Answer, Clients, Event, Refusal};
-use maildir_moves::{Moving, Route, span_behind};
-use lmtp_connections::StoreDelivery;
-use maildir_files::MailSink;
-use octets::Octets;
-use daemon_core::LMTP;
-use daemon_core::store_access::StoreAccess;
-use daemon_core::note::Note;
 use cli_run::fault_with_cause::FaultWithCause;
+use daemon_core::LMTP;
+use daemon_core::note::Note;
+use daemon_core::store_access::StoreAccess;
+use lmtp_connections::StoreDelivery;
+use lmtp_dialogue::Lookup;
+use mail_dates::HostZone;
+use maildir_files::MailSink;
+use maildir_moves::{Moving, Route, span_behind};
+use net_loop::act::Act;
+use net_loop::outcome::{self, Accepted, Input, Output, Wake};
+use net_loop::outside::{Clock, Outside, Sockets};
+use net_shares::{Scheduler, TimeAccount};
+use net_sockets::SystemSockets;
+use octets::Octets;
 use sieve_exec::When;
 use sqlite::ErrorCode;
 use std::alloc::Global;
@@ -36,11 +39,8 @@ use std::mem::take;
 use std::net::Net;
 use std::time;
 use std::time::{Instant, SystemTime};
-use net_sockets::SystemSockets;
-use net_shares::{TimeAccount, Scheduler};
-use net_loop::act::Act;
-use net_loop::outcome::{self, Accepted, Input, Output, Wake};
-use net_loop::outside::{Clock, Outside, Sockets};
+use store_engine::{Answer, Clients, Event, Refusal};
+use store_lock::{Keeper, StoreUnavailable};
 
 /// After a step of more than this many microseconds another connection has its turn.
 const MAX_STEP: u64 = 5_000;
@@ -670,7 +670,12 @@ impl<N: Net + time::Clock, E: Write + Drop, K: Keeper + Drop, T: MailSink + Drop
         }
     }
 
-    fn deliver(&mut self, id: u32, _clients: &mut Clients, parcel: &StoreDelivery) -> Option<Answer> {
+    fn deliver(
+        &mut self,
+        id: u32,
+        _clients: &mut Clients,
+        parcel: &StoreDelivery,
+    ) -> Option<Answer> {
         match self.try_deliver(id, parcel) {
             Some(answer) => {
                 self.queue.leave(id);

@@ -4,21 +4,23 @@ ghost use Rattle.daemon_host.specs.Events as events;
 ghost use Rattle.daemon_host.specs.Log.{is_delivered_answer, has_moved, moving_failed_store};
 ghost use Rattle.daemon_host.specs.Pauses.{PauseIsOver};
 
-use crate::log::{has_failed, is_delivered, is_moved, of_beginning, of_delivery, of_moving, of_slow};
+use crate::log::{
+    has_failed, is_delivered, is_moved, of_beginning, of_delivery, of_moving, of_slow,
+};
 use crate::pause::Pause;
-use store_lock::cause::{FILE_IS_GONE, sqlite_cause};
-use lmtp_dialogue::Lookup;
-use daemon_log::tally::{StatusTally, status_line};
-use store_engine::{Answer, Refusal};
-use maildir_moves::Moving;
-use lmtp_connections::StoreDelivery;
-use octets::Octets;
 use cli_run::fault::RunFault;
-use cli_run::fault_with_cause::{FirstFault, FaultWithCause};
+use cli_run::fault_with_cause::{FaultWithCause, FirstFault};
+use daemon_log::tally::{StatusTally, status_line};
+use lmtp_connections::StoreDelivery;
+use lmtp_dialogue::Lookup;
+use maildir_moves::Moving;
+use net_shares::TimeAccount;
+use octets::Octets;
 use sqlite::ErrorCode;
 use std::alloc::{AllocError, Global};
 use std::io::{ErrorKind, Write};
-use net_shares::TimeAccount;
+use store_engine::{Answer, Refusal};
+use store_lock::cause::{FILE_IS_GONE, sqlite_cause};
 
 /// An act of this many microseconds has a line of its own.
 const SLOW: u64 = 200_000;
@@ -174,7 +176,12 @@ impl<E: Write + Drop> HostLog<E> {
     }
 
     /// The same of a delivery, which is told of.
-    pub fn note_delivery(&mut self, parcel: &StoreDelivery, answer: &Answer, code: Option<ErrorCode>)
+    pub fn note_delivery(
+        &mut self,
+        parcel: &StoreDelivery,
+        answer: &Answer,
+        code: Option<ErrorCode>,
+    )
         ensures failed { self.new.failed ≡ events.failed_by (events.answers_fault answer.now) code self.old.failed }
         ensures counted { self.new.tally.counts ≡ events.with_delivery (is_delivered_answer answer.now) self.old.tally.counts }
     {

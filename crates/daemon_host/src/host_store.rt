@@ -7,18 +7,18 @@ ghost use Rattle.daemon_core.specs.StoreAccess.{delivery_of};
 ghost use Rattle.daemon_host.specs.Held.{IsClean, StillShown, HostBrings, DeniesAtOnce, GivesAtOnce, HostMovesNext, SinkHasMail, Seeks};
 ghost use Rattle.daemon_core.specs.Moves.{HasKept};
 
-use store_lock::{Keeper, StoreUnavailable};
-use lmtp_dialogue::Lookup;
-use store_engine::{Answer, Clients, Envelope, Event, Refusal, apply, deliver};
-use maildir_moves::{Moving, Route, move_next};
-use lmtp_connections::StoreDelivery;
-use maildir_files::MailSink;
-use store_accounts::Store;
 use daemon_core::account::find_account;
+use lmtp_connections::StoreDelivery;
+use lmtp_dialogue::Lookup;
+use maildir_files::MailSink;
+use maildir_moves::{Moving, Route, move_next};
 use sieve_exec::When;
 use sqlite::ErrorCode;
 use std::alloc::{AllocError, Global};
 use std::io::ErrorKind;
+use store_accounts::Store;
+use store_engine::{Answer, Clients, Envelope, Event, Refusal, apply, deliver};
+use store_lock::{Keeper, StoreUnavailable};
 
 /// The keeper of a store, and the store while it is held.
 #[derive(Drop)]

@@ -5,15 +5,15 @@ ghost use Rattle.daemon_host.specs.Log as said;
 ghost use Rattle.daemon_host.specs.Log.{why_by, why_pairs, delivery_line, moved_line, stay_line, IsStayLine, IsStayBy, IsMovingLine, log_first_line, slow_line, user_pairs};
 ghost use Rattle.store_accounts.specs.Cells.{borrowed_octets};
 
-use store_lock::cause::file_cause;
 use daemon_log::line::{add_number, add_pair, begin, end};
-use store_engine::{Answer, Refusal};
-use maildir_moves::{Moving, Stay, StayReason};
 use lmtp_connections::StoreDelivery;
 use maildir_files::{KeptMail, SinkError};
+use maildir_moves::{Moving, Stay, StayReason};
 use octets::Octets;
 use std::alloc::{AllocError, Global};
 use std::io::ErrorKind;
+use store_engine::{Answer, Refusal};
+use store_lock::cause::file_cause;
 
 /// The first line: `sieved: begins version=2.0.0 pid=1234`.
 ///
@@ -31,7 +31,11 @@ pub fn of_beginning(alloc: Global, version: &[u8], pid: u32) -> Result<Octets, A
 /// `refused` with a `why`. It has no text of mail, and is one line whatever the addresses have.
 ///
 /// Lack of memory is the only error. Linear in the addresses.
-pub fn of_delivery(alloc: Global, parcel: &StoreDelivery, answer: &Answer) -> Result<Octets, AllocError>
+pub fn of_delivery(
+    alloc: Global,
+    parcel: &StoreDelivery,
+    answer: &Answer,
+) -> Result<Octets, AllocError>
     ensures { IfOk result (λ line. line ≡ delivery_line parcel.now answer.now) }
 {
     let mut line = begin(alloc, word_of(answer))?;

@@ -32,7 +32,9 @@ impl DeliveryResult {
         ensures { IfOk result (λ copy. copy ≡ self.now) }
     {
         match self {
-            DeliveryResult::Delivered(report) => Ok(DeliveryResult::Delivered(report.try_clone(alloc)?)),
+            DeliveryResult::Delivered(report) => Ok(DeliveryResult::Delivered(report.try_clone(
+                alloc,
+            )?)),
             DeliveryResult::Refused(reply) => Ok(DeliveryResult::Refused(*reply)),
         }
     }

@@ -10,10 +10,10 @@ ghost use Rattle.lmtp_connections.specs.Progress as tallies;
 ghost use Rattle.lmtp_connections.specs.declared.demand.Demand.TheVariants as demands;
 
 use crate::addressee::{Addressee, DeliveryResult};
-use crate::demand::{StoreDelivery, Question};
-use crate::reply_buffer::ReplyBuffer;
+use crate::demand::{Question, StoreDelivery};
 use crate::progress::{LmtpProgress, Wanted};
-use lmtp_dialogue::{Lookup, Names, Next, DeliveryOutcome, Receiver, LmtpStage};
+use crate::reply_buffer::ReplyBuffer;
+use lmtp_dialogue::{DeliveryOutcome, LmtpStage, Lookup, Names, Next, Receiver};
 use octets::Octets;
 use std::alloc::{AllocError, Global};
 
@@ -176,7 +176,13 @@ impl LmtpConnection {
     }
 
     /// The store was asked a question, and this is what was found. Returns what is said. Takes no memory.
-    pub fn answer_recipient(&mut self, now: u64, question: Question, lookup: Lookup, room: ReplyBuffer) -> Octets
+    pub fn answer_recipient(
+        &mut self,
+        now: u64,
+        question: Question,
+        lookup: Lookup,
+        room: ReplyBuffer,
+    ) -> Octets
         requires found { posts.IsFinding lookup }
         requires asked { s.Demands now self.old (demands.Account question) }
         requires slot { s.HasSlot self.old }
@@ -242,7 +248,13 @@ impl LmtpConnection {
     }
 
     /// The store was to deliver a message, and this became of it. Returns what is said. Takes no memory.
-    pub fn answer_delivery(&mut self, now: u64, parcel: &StoreDelivery, became: DeliveryResult, room: ReplyBuffer) -> Octets
+    pub fn answer_delivery(
+        &mut self,
+        now: u64,
+        parcel: &StoreDelivery,
+        became: DeliveryResult,
+        room: ReplyBuffer,
+    ) -> Octets
         requires { s.Demands now self.old (demands.Delivery parcel.now) }
         ensures does { s.ConnectionDoes now (Brought parcel.now became) result self.old self.new }
         ensures held { s.ConnectionHoldsNoMore self.old self.new }

@@ -3,14 +3,14 @@
 #![tactic(auto)]
 
 pub mod addressee;
+pub mod connection;
 pub mod demand;
 mod next;
-pub mod connection;
-pub mod reply_buffer;
 pub mod progress;
+pub mod reply_buffer;
 
 pub use addressee::{Addressee, DeliveryResult};
-pub use demand::{Demand, StoreDelivery, Question};
 pub use connection::LmtpConnection;
-pub use reply_buffer::ReplyBuffer;
+pub use demand::{Demand, Question, StoreDelivery};
 pub use progress::{LmtpProgress, StoreWait, Wanted};
+pub use reply_buffer::ReplyBuffer;

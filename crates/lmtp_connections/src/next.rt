@@ -8,11 +8,10 @@ ghost use Rattle.lmtp_connections.specs.Connections as posts;
 ghost use Rattle.lmtp_connections.specs.Stands as s;
 
 use crate::addressee::{Addressee, DeliveryResult};
-use crate::demand::{Demand, StoreDelivery, Question};
 use crate::connection::LmtpConnection;
-use lmtp_dialogue::{Delivery, Next, LmtpReply, TextFault, copy_for, name_forms, was_delivered};
-use mail_head::is_header_longer;
-use mail_head::Head;
+use crate::demand::{Demand, Question, StoreDelivery};
+use lmtp_dialogue::{Delivery, LmtpReply, Next, TextFault, copy_for, name_forms, was_delivered};
+use mail_head::{Head, is_header_longer};
 use octets::Octets;
 use std::alloc::{AllocError, Global};
 

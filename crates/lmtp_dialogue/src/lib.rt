@@ -2,11 +2,11 @@
 #![tactic(auto)]
 
 pub mod argument;
+pub mod command;
 pub mod copy;
 pub mod laws;
 pub mod line;
 pub mod name;
-pub mod command;
 pub mod path;
 pub mod receiver;
 mod recipients;
@@ -18,6 +18,6 @@ pub mod verb;
 pub use copy::{copy_for, was_delivered};
 pub use line::{Found, find_line, skip_line};
 pub use name::{Names, name_forms};
-pub use receiver::{Delivery, Lookup, Next, Receiver, LmtpStage};
+pub use receiver::{Delivery, LmtpStage, Lookup, Next, Receiver};
 pub use reply::{DeliveryOutcome, LmtpReply};
-pub use text::{TextState, Text, TextFault};
+pub use text::{Text, TextFault, TextState};

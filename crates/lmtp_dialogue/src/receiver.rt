@@ -6,8 +6,8 @@ ghost use Rattle.lmtp_dialogue.specs.Receivers as s;
 ghost use Rattle.lmtp_dialogue.specs.Replies as r;
 ghost use Rattle.lmtp_dialogue.specs.Turns.{DialogueAnswers, Resolves, DialogueReplies, lookup_reply, lacks_room, announced_size as spec_size};
 
-use crate::line::{Found, find_line, skip_line};
 use crate::command::{LmtpCommand, read_lmtp_command};
+use crate::line::{Found, find_line, skip_line};
 use crate::recipients::Recipients;
 use crate::reply::{DeliveryOutcome, LmtpReply, capabilities, greeting};
 use crate::talk::{MAX_TEXT, Talk};
@@ -293,7 +293,11 @@ impl Receiver {
     /// After the last one the message is dropped.
     ///
     /// Lack of memory is the only error; nothing changes then.
-    pub fn report(&mut self, outcome: DeliveryOutcome<'_>, out: &mut Octets) -> Result<(), AllocError>
+    pub fn report(
+        &mut self,
+        outcome: DeliveryOutcome<'_>,
+        out: &mut Octets,
+    ) -> Result<(), AllocError>
         ensures ok { OnOk result (s.ReceiverGoes (λ d. DialogueReplies d outcome.entry) self.old self.new out.old out.new) }
         ensures hello { self.new.talk.hello ≡ self.old.talk.hello }
         ensures held { s.ReceiverHoldsNoMore self.old self.new }
@@ -305,7 +309,11 @@ impl Receiver {
         }
     }
 
-    fn report_next(&mut self, outcome: DeliveryOutcome<'_>, out: &mut Octets) -> Result<(), AllocError>
+    fn report_next(
+        &mut self,
+        outcome: DeliveryOutcome<'_>,
+        out: &mut Octets,
+    ) -> Result<(), AllocError>
         requires { self.old.talk.stage ≡ LmtpStage.Sending }
         ensures ok { OnOk result (s.ReceiverGoes (λ d. DialogueReplies d outcome.entry) self.old self.new out.old out.new) }
         ensures hello { self.new.talk.hello ≡ self.old.talk.hello }

@@ -5,7 +5,7 @@ ghost use Rattle.lmtp_dialogue.specs.Turns.{is_too_large as too_large};
 
 use crate::argument::MailArgument;
 use crate::command::{LmtpCommand, read_lmtp_command};
-use crate::receiver::{Delivery, Lookup, LmtpStage};
+use crate::receiver::{Delivery, LmtpStage, Lookup};
 use crate::recipients::Recipients;
 use crate::reply::{DeliveryOutcome, LmtpReply};
 use crate::text::Text;
@@ -119,7 +119,10 @@ impl Talk {
         ensures err { OnErr result (s.IsSame self.old self.new out.old out.new) }
     {
         match self.stage {
-            LmtpStage::Ready if is_too_large(mail.size) => self.say(LmtpReply::MessageTooLarge, out),
+            LmtpStage::Ready if is_too_large(mail.size) => self.say(
+                LmtpReply::MessageTooLarge,
+                out,
+            ),
             LmtpStage::Ready => self.begin(mail.from, out),
             _ => self.say(LmtpReply::OutOfOrder, out),
         }
@@ -170,7 +173,10 @@ impl Talk {
         ensures err { OnErr result (s.IsSame self.old self.new out.old out.new) }
     {
         match self.stage {
-            LmtpStage::Opened if self.recipients.len() == 0 => self.say(LmtpReply::NoRecipient, out),
+            LmtpStage::Opened if self.recipients.len() == 0 => self.say(
+                LmtpReply::NoRecipient,
+                out,
+            ),
             LmtpStage::Opened => self.go_ahead(out),
             _ => self.say(LmtpReply::OutOfOrder, out),
         }
@@ -231,7 +237,11 @@ impl Talk {
     /// Makes a reply after the text, for the next recipient to whom one is owed.
     ///
     /// Lack of memory is the only error; nothing changes then.
-    pub fn report(&mut self, outcome: DeliveryOutcome<'_>, out: &mut Octets) -> Result<(), AllocError>
+    pub fn report(
+        &mut self,
+        outcome: DeliveryOutcome<'_>,
+        out: &mut Octets,
+    ) -> Result<(), AllocError>
         requires sends { self.old.stage ≡ LmtpStage.Sending }
         requires owed { self.old.told < length self.old.recipients }
         ensures ok { OnOk result (s.TalkReports self.old self.new (outcome_line outcome.entry) out.old out.new) }

@@ -146,7 +146,13 @@ impl<'a> Draft<'a> {
     {
         self.stage = stage_after(self.stage, kind);
         match self.stage {
-            AddrSpecState::Word | AddrSpecState::Dot => append(alloc, &mut self.local, kind, text, from),
+            AddrSpecState::Word | AddrSpecState::Dot => append(
+                alloc,
+                &mut self.local,
+                kind,
+                text,
+                from,
+            ),
             AddrSpecState::Name | AddrSpecState::NameDot | AddrSpecState::Literal => append(
                 alloc,
                 &mut self.domain,

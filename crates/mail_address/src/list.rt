@@ -7,7 +7,7 @@ ghost use Rattle.mail_address.specs.Reading as reading;
 ghost use Rattle.mail_address.specs.Spelling.{IsDomain};
 
 use crate::address::Addr;
-use crate::draft::{Draft, BracketState};
+use crate::draft::{BracketState, Draft};
 use crate::scanner::{AddrPieceKind, next_token};
 use std::alloc::{AllocError, Global};
 

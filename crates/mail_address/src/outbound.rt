@@ -8,7 +8,7 @@ ghost use Rattle.mail_address.specs.Reading as reading;
 ghost use Rattle.mail_address.specs.Spelling.{IsDomain};
 
 use crate::address::Addr;
-use crate::draft::{Draft, BracketState};
+use crate::draft::{BracketState, Draft};
 use crate::pieces::unquote;
 use crate::scanner::{AddrPieceKind, next_token};
 use octets::{Octets, trim_blanks};
@@ -61,7 +61,11 @@ fn opening(text: &[u8]) -> Option<(usize, &[u8])>
 }
 
 /// The addr-spec that the text is, or that precedes a `>` at its end.
-fn addr_spec_only(alloc: Global, place: BracketState, text: &[u8]) -> Result<Option<Addr>, AllocError>
+fn addr_spec_only(
+    alloc: Global,
+    place: BracketState,
+    text: &[u8],
+) -> Result<Option<Addr>, AllocError>
     ensures { IfOk result (λ found. found ≡ reading.addr_spec_only (drafts.empty_draft_at place) (reading.pieces text.now)) }
 {
     let mut draft = Draft::new(alloc, place);

@@ -2,8 +2,8 @@
 ghost use Rattle.std.specs.Prelude.{◌≡◌, ℕ, pos, IfSome, IfNone};
 ghost use Rattle.mail_dates.specs.DateTimes.{IsZone};
 
-use crate::zone_rule::ZoneRule;
 use crate::read_zone;
+use crate::zone_rule::ZoneRule;
 
 /// An offset that is the same at each moment.
 #[derive(Clone, Copy, Debug)]

@@ -19,8 +19,8 @@ pub use zone::read_zone;
 
 // The zone of a host: a fixed offset, or a rule (POSIX, Base Definitions, 8.3).
 
-mod zone_rule;
 mod host_zone;
+mod zone_rule;
 
-pub use zone_rule::ZoneRule;
 pub use host_zone::{HostZone, Offset};
+pub use zone_rule::ZoneRule;

@@ -1,13 +1,13 @@
 //! Who keeps the messages that leave a store: a Maildir, or memory.
 #![tactic(auto)]
 
-mod sync;
+pub mod file_laws;
 mod file_name;
 mod kept;
-pub mod file_laws;
 mod maildir;
 mod memory_sink;
 mod sink;
+mod sync;
 
 pub use kept::KeptMail;
 pub use maildir::Maildir;

@@ -1,9 +1,9 @@
 //! A sink over a Maildir.
 ghost use Rattle.std.specs.Prelude.{◌≡◌, []};
 
-use crate::sync::{Identity, open_directory};
 use crate::file_name::{name_of, place_of};
 use crate::sink::{MailSink, SinkError};
+use crate::sync::{Identity, open_directory};
 use std::fs::File;
 use std::io::{ErrorKind, Write};
 use std::{format, fs, io};

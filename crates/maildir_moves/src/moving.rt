@@ -4,11 +4,11 @@ ghost use Rattle.sqlite.specs.Held.{state};
 ghost use Rattle.maildir_files.specs.Kept.{kept_mail};
 ghost use Rattle.maildir_moves.specs.Moving.{MovesFirstMail, WasClean};
 
-use store_engine::{Answer, first_message};
 use maildir_files::{KeptMail, MailSink, SinkError};
-use store_accounts::{Refusal, Store};
 use octets::Octets;
 use sqlite::Alter;
+use store_accounts::{Refusal, Store};
+use store_engine::{Answer, first_message};
 
 /// What became of a message that was to move on.
 #[derive(Drop)]

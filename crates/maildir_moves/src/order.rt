@@ -4,9 +4,9 @@ ghost use Rattle.store_tables.specs.Cells.{borrowed_octets};
 ghost use Rattle.maildir_moves.specs.Order as order;
 ghost use Rattle.maildir_moves.specs.Turns.{BeginsRound, OrderStays, TurnEnds, TurnGoesOn};
 
-use store_accounts::CopyKey;
 use octets::Octets;
 use std::alloc::{AllocError, Global};
+use store_accounts::CopyKey;
 
 /// The folder of a user's last turn.
 #[derive(Drop)]

@@ -11,13 +11,12 @@ use crate::moving::{Kept, Moving, Stay, StayReason, move_first_mail};
 use crate::order::MoveOrder;
 use crate::place::{home_of, place_in};
 use crate::rest::Rests;
-use maildir_files::Separator;
-use store_engine::Answer;
-use maildir_files::{KeptMail, MailSink, SinkError};
-use store_accounts::{CopyKey, Refusal, Store};
+use maildir_files::{KeptMail, MailSink, Separator, SinkError};
 use octets::Octets;
 use sqlite::Alter;
 use std::alloc::{AllocError, Global};
+use store_accounts::{CopyKey, Refusal, Store};
+use store_engine::Answer;
 
 /// Where mail goes, whose turn it is, and which folders rest.
 #[derive(Drop)]

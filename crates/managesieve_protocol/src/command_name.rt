@@ -85,10 +85,14 @@ impl CommandName {
     {
         match self {
             CommandName::Authenticate => Params::TextMaybeText,
-            CommandName::Capability | CommandName::ListScripts | CommandName::Logout | CommandName::Unauthenticate =>
-                Params::LineEnd,
-            CommandName::CheckScript | CommandName::DeleteScript | CommandName::GetScript | CommandName::SetActive =>
-                Params::Text,
+            CommandName::Capability
+            | CommandName::ListScripts
+            | CommandName::Logout
+            | CommandName::Unauthenticate => Params::LineEnd,
+            CommandName::CheckScript
+            | CommandName::DeleteScript
+            | CommandName::GetScript
+            | CommandName::SetActive => Params::Text,
             CommandName::HaveSpace => Params::TextNumber,
             CommandName::Noop => Params::MaybeText,
             CommandName::PutScript | CommandName::RenameScript => Params::TwoTexts,

@@ -97,7 +97,12 @@ pub fn command_at(
     reading::command(alloc, &buffer[..used], pending)
 }
 
-fn read_at(alloc: Global, buffer: &[u8], pending: bool, reach: ItemExtent) -> Result<ClientItem, AllocError>
+fn read_at(
+    alloc: Global,
+    buffer: &[u8],
+    pending: bool,
+    reach: ItemExtent,
+) -> Result<ClientItem, AllocError>
     requires { IsFirstExtent pending reach buffer.now }
     ensures value { IfOk result (λ item. item ≡ item_at_of pending buffer.now reach) }
     ensures lacks { OnErr result (takes_memory (item_of pending buffer.now) ≡ true) }

@@ -2,14 +2,18 @@
 ghost use Rattle.std.specs.Prelude.{◌≡◌, ◌≤◌, IfOk, OnErr, is_some, length, true, false};
 ghost use Rattle.managesieve_protocol.specs.Values as v;
 
-use crate::commands::ClientCommand;
 use crate::command_name::CommandName;
+use crate::commands::ClientCommand;
 use octets::Octets;
 use std::alloc::{AllocError, Global};
 
 /// The command that a text spells; a text that spells none gives some command. Each octet is read once, and a literal's
 /// text is copied in one piece. Lack of memory is the only error.
-pub(crate) fn command(alloc: Global, text: &[u8], pending: bool) -> Result<ClientCommand, AllocError>
+pub(crate) fn command(
+    alloc: Global,
+    text: &[u8],
+    pending: bool,
+) -> Result<ClientCommand, AllocError>
     ensures value { IfOk result (λ command. command ≡ v.command_in pending text.now) }
     ensures lacks { OnErr result (v.has_string (v.command_in pending text.now) ≡ true) }
 {

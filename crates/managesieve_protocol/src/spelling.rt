@@ -3,7 +3,7 @@ ghost use Rattle.std.specs.Prelude.{◌≡◌, ◌++◌, [], ◌∷◌, OnOk, On
 ghost use Rattle.managesieve_protocol.specs.Arguments.{inside, quoted_octet};
 ghost use Rattle.managesieve_protocol.specs.Replies as s;
 
-use crate::replies::{ReplyCode, DataLine, ServerReply, Status};
+use crate::replies::{DataLine, ReplyCode, ServerReply, Status};
 use crate::state::MAX_QUOTED;
 use octets::{Octets, write_decimal};
 use std::alloc::{AllocError, Global};

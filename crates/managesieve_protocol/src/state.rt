@@ -4,7 +4,7 @@ ghost use Rattle.std.specs.List.{prefix_len};
 ghost use Rattle.managesieve_protocol.specs.Machine as m;
 ghost use Rattle.managesieve_protocol.specs.Shown as s;
 
-use crate::command_name::{Params, CommandName};
+use crate::command_name::{CommandName, Params};
 
 /// The longest quoted string, in octets between its quotation marks, in what is read and in what is written (RFC 5804, section 4).
 pub(crate) const MAX_QUOTED: u32 = 1024;

@@ -14,18 +14,18 @@ ghost use Rattle.managesieve_sessions.specs.CommandClasses.{of_script};
 ghost use Rattle.managesieve_sessions.specs.Table.{early_reply};
 ghost use Rattle.managesieve_sessions.specs.CommandOutcomes.{admitted_in, says_login};
 
-use crate::decision::{ScriptChange, Decision};
+use crate::command_class::ScriptCommand;
+use crate::decision::{Decision, ScriptChange};
 use crate::login::{has_password, spend_rounds};
 use crate::replies::negative_reply;
 use crate::scripts::{decide_script_command, get_script};
-use crate::command_class::ScriptCommand;
-use store_accounts::{Profile, Refusal, Store};
 use managesieve_protocol::spell;
 use octets::{Octets, Texts};
 use sasl_plain::{Login, PasswordHash, plain};
 use sqlite::Alter;
 use std::alloc::{AllocError, Global};
 use std::mem;
+use store_accounts::{Profile, Refusal, Store};
 
 /// The names of an account's scripts, in the order of their octets, and the active one.
 #[derive(Drop)]

@@ -122,7 +122,10 @@ pub fn classify(command: ClientCommand) -> CommandClass
         ClientCommand::Response(text) => CommandClass::Login(LoginCommand::Response(text)),
         ClientCommand::GetScript(name) => CommandClass::Script(ScriptCommand::Get(name)),
         ClientCommand::HaveSpace { name, size } => named(NamedCommand::HaveSpace { name, size }),
-        ClientCommand::PutScript { name, script } => named(NamedCommand::PutScript { name, script }),
+        ClientCommand::PutScript { name, script } => named(NamedCommand::PutScript {
+            name,
+            script,
+        }),
         ClientCommand::ListScripts => named(NamedCommand::ListScripts),
         ClientCommand::SetActive(name) => named(NamedCommand::SetActive(name)),
         ClientCommand::DeleteScript(name) => named(NamedCommand::DeleteScript(name)),

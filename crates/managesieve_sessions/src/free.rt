@@ -5,10 +5,10 @@ ghost use Rattle.managesieve_sessions.specs.CommandClasses.{of_free, of_script};
 ghost use Rattle.managesieve_sessions.specs.Table.{needs_login as needs_login_of, early_reply};
 ghost use Rattle.managesieve_sessions.specs.CommandOutcomes.{IsFreeOutcome, IsOutcomeAlone, IsCommandOutcome, HasSessionUser};
 
-use crate::replies::{ok_reply, capability_reply, negative_reply, noop_reply};
+use crate::command_class::{CommandClass, FreeCommand, ScriptCommand, StoreCommand, classify};
+use crate::command_outcome::{CommandOutcome, SessionChange};
+use crate::replies::{capability_reply, negative_reply, noop_reply, ok_reply};
 use crate::scripts::check_script;
-use crate::command_class::{FreeCommand, StoreCommand, ScriptCommand, CommandClass, classify};
-use crate::command_outcome::{SessionChange, CommandOutcome};
 use managesieve_protocol::{ClientCommand, ServerReply};
 use octets::Octets;
 use std::alloc::{AllocError, Global};
@@ -54,7 +54,11 @@ fn script_turn(
 }
 
 /// Answers a command that asks no store, unless it lacks a login.
-fn turn_of(alloc: Global, user: &Option<Octets>, command: &FreeCommand) -> Result<CommandOutcome, AllocError>
+fn turn_of(
+    alloc: Global,
+    user: &Option<Octets>,
+    command: &FreeCommand,
+) -> Result<CommandOutcome, AllocError>
     ensures { IfOk result (IsOutcomeAlone user.now (of_free command.now)) }
 {
     if needs_login(command) && user.is_none() {
@@ -65,14 +69,30 @@ fn turn_of(alloc: Global, user: &Option<Octets>, command: &FreeCommand) -> Resul
 
 /// Answers `CAPABILITY`, `NOOP`, `LOGOUT`, `UNAUTHENTICATE` and `CHECKSCRIPT` (RFC 5804, 2.3, 2.4, 2.12 to 2.14), in a
 /// session where this user is logged in, or nobody. Lack of memory is the only error.
-fn free(alloc: Global, user: &Option<Octets>, command: &FreeCommand) -> Result<CommandOutcome, AllocError>
+fn free(
+    alloc: Global,
+    user: &Option<Octets>,
+    command: &FreeCommand,
+) -> Result<CommandOutcome, AllocError>
     ensures { IfOk result (IsCommandOutcome (HasSessionUser user.now) (of_free command.now)) }
 {
     match command {
-        FreeCommand::Capability => Ok(with_session_change(capability_reply(alloc, user)?, SessionChange::Stay)),
-        FreeCommand::Noop(tag) => Ok(with_session_change(noop_reply(alloc, tag)?, SessionChange::Stay)),
-        FreeCommand::Logout => Ok(with_session_change(ok_reply(alloc, b"Bye.")?, SessionChange::Close)),
-        FreeCommand::Unauthenticate => Ok(with_session_change(ok_reply(alloc, b"Done.")?, SessionChange::LogOut)),
+        FreeCommand::Capability => Ok(with_session_change(
+            capability_reply(alloc, user)?,
+            SessionChange::Stay,
+        )),
+        FreeCommand::Noop(tag) => Ok(with_session_change(
+            noop_reply(alloc, tag)?,
+            SessionChange::Stay,
+        )),
+        FreeCommand::Logout => Ok(with_session_change(
+            ok_reply(alloc, b"Bye.")?,
+            SessionChange::Close,
+        )),
+        FreeCommand::Unauthenticate => Ok(with_session_change(
+            ok_reply(alloc, b"Done.")?,
+            SessionChange::LogOut,
+        )),
         FreeCommand::CheckScript(text) => Ok(with_session_change(
             check_script(alloc, text.as_slice())?,
             SessionChange::Stay,
@@ -84,7 +104,10 @@ fn free(alloc: Global, user: &Option<Octets>, command: &FreeCommand) -> Result<C
 fn early(alloc: Global) -> Result<CommandOutcome, AllocError>
     ensures { IfOk result (λ turn. turn ≡ record { reply = early_reply; session_change = Stay }) }
 {
-    Ok(with_session_change(negative_reply(alloc, None, b"Log in first.")?, SessionChange::Stay))
+    Ok(with_session_change(
+        negative_reply(alloc, None, b"Log in first.")?,
+        SessionChange::Stay,
+    ))
 }
 
 /// Whether only a user who is logged in may send the command. Takes no memory.
@@ -100,5 +123,8 @@ fn needs_login(command: &FreeCommand) -> bool
 fn with_session_change(reply: ServerReply, session_change: SessionChange) -> CommandOutcome
     ensures { result ≡ record { reply = reply; session_change = session_change } }
 {
-    CommandOutcome { reply, session_change }
+    CommandOutcome {
+        reply,
+        session_change,
+    }
 }

@@ -2,6 +2,8 @@
 #![tactic(auto)]
 
 mod account;
+pub mod command_class;
+pub mod command_outcome;
 pub mod decision;
 pub mod free;
 pub mod laws;
@@ -11,11 +13,9 @@ pub mod replies;
 pub mod script_name;
 pub mod scripts;
 pub mod session;
-pub mod command_class;
-pub mod command_outcome;
 
-pub use decision::{ScriptChange, Decision};
-pub use progress::{FirstItem, Progress, FreeStep};
-pub use session::Session;
 pub use command_class::StoreCommand;
-pub use command_outcome::{SessionChange, CommandOutcome};
+pub use command_outcome::{CommandOutcome, SessionChange};
+pub use decision::{Decision, ScriptChange};
+pub use progress::{FirstItem, FreeStep, Progress};
+pub use session::Session;

@@ -6,12 +6,12 @@ ghost use Rattle.managesieve_sessions.specs.Replies.{borrowed_text};
 ghost use Rattle.managesieve_sessions.specs.CommandClasses.{of_login};
 ghost use Rattle.managesieve_sessions.specs.CommandOutcomes as t;
 
-use crate::replies::{ok_reply, challenge_reply, negative_reply, bye_reply};
 use crate::command_class::LoginCommand;
-use crate::command_outcome::{SessionChange, CommandOutcome};
+use crate::command_outcome::{CommandOutcome, SessionChange};
+use crate::replies::{bye_reply, challenge_reply, negative_reply, ok_reply};
 use managesieve_protocol::ServerReply;
 use octets::Octets;
-use sasl_plain::{Login, ROUNDS, PasswordHash, accepts, digest};
+use sasl_plain::{Login, PasswordHash, ROUNDS, accepts, digest};
 use std::alloc::{AllocError, Global};
 
 /// How many logins may fail before a further failure ends the session: a limit of this project.

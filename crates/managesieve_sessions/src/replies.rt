@@ -4,7 +4,7 @@ ghost use Rattle.sieve_lex.specs.Faults.{fault_line};
 ghost use Rattle.managesieve_protocol.specs.declared.replies.DataLine.TheVariants as line;
 ghost use Rattle.managesieve_sessions.specs.Replies as s;
 
-use managesieve_protocol::{ReplyCode, DataLine, ServerReply, Status};
+use managesieve_protocol::{DataLine, ReplyCode, ServerReply, Status};
 use octets::{List, Octets};
 use sieve_lex::ScriptFault;
 use std::alloc::{AllocError, Global};
@@ -18,7 +18,11 @@ pub fn ok_reply(alloc: Global, text: &[u8]) -> Result<ServerReply, AllocError>
 }
 
 /// `NO`, a code if there is one, and a text.
-pub fn negative_reply(alloc: Global, code: Option<ReplyCode>, text: &[u8]) -> Result<ServerReply, AllocError>
+pub fn negative_reply(
+    alloc: Global,
+    code: Option<ReplyCode>,
+    text: &[u8],
+) -> Result<ServerReply, AllocError>
     ensures { IfOk result (λ reply. reply ≡ s.negative_reply code text.now) }
 {
     let text = Octets::from_slice(alloc, text)?;

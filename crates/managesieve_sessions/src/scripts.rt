@@ -10,11 +10,11 @@ ghost use Rattle.managesieve_sessions.specs.Replies as r;
 ghost use Rattle.managesieve_sessions.specs.Scripts as s;
 ghost use Rattle.managesieve_sessions.specs.CommandClasses.{of_named};
 
-use crate::decision::{ScriptChange, Decision};
-use crate::replies::{ok_reply, negative_reply, faulty, listed};
-use crate::script_name::is_script_name;
 use crate::command_class::NamedCommand;
-use managesieve_protocol::{ReplyCode, DataLine, ServerReply};
+use crate::decision::{Decision, ScriptChange};
+use crate::replies::{faulty, listed, negative_reply, ok_reply};
+use crate::script_name::is_script_name;
+use managesieve_protocol::{DataLine, ReplyCode, ServerReply};
 use octets::{List, Octets, Texts};
 use sieve_lex::{ScriptError, ScriptFault};
 use sieve_syntax::check;
@@ -138,7 +138,11 @@ fn list_scripts<'a>(
     })
 }
 
-fn lines_of(alloc: Global, names: Texts, active: Option<&[u8]>) -> Result<List<DataLine>, AllocError>
+fn lines_of(
+    alloc: Global,
+    names: Texts,
+    active: Option<&[u8]>,
+) -> Result<List<DataLine>, AllocError>
     ensures { IfOk result (λ lines. lines ≡ s.script_lines (r.borrowed_text active.entry) names) }
 {
     let mut lines = List::from_vec(Vec::with_capacity(alloc, names.len())?);
@@ -206,7 +210,11 @@ fn rename_script<'a>(
 }
 
 // `NO`, and nothing changes.
-fn refuse<'a>(alloc: Global, code: Option<ReplyCode>, text: &[u8]) -> Result<Decision<'a>, AllocError>
+fn refuse<'a>(
+    alloc: Global,
+    code: Option<ReplyCode>,
+    text: &[u8],
+) -> Result<Decision<'a>, AllocError>
     ensures { IfOk result (λ decision. decision ≡ record { reply = r.negative_reply code text.now; change = None }) }
 {
     Ok(Decision {

@@ -15,18 +15,18 @@ ghost use Rattle.managesieve_sessions.specs.Steps.{progress_of, Asked, StepsFirs
 ghost use Rattle.managesieve_sessions.specs.CommandOutcomes.{client_after};
 
 use crate::account::{admitted, execute};
+use crate::command_class::{LoginCommand, ScriptCommand, StoreCommand};
+use crate::command_outcome::{CommandOutcome, SessionChange};
 use crate::free::{FreeOutcome, free_outcome};
 use crate::login::{MAX_FAILURES, exchange, login_text};
-use crate::progress::{FirstItem, Progress, FreeStep};
+use crate::progress::{FirstItem, FreeStep, Progress};
 use crate::replies::capability_reply;
-use crate::command_class::{LoginCommand, StoreCommand, ScriptCommand};
-use crate::command_outcome::{SessionChange, CommandOutcome};
-use store_accounts::{Refusal, Store};
 use managesieve_protocol::{ItemExtent, Scan, command_at, spell};
 use octets::{Octets, Pending};
 use sqlite::Alter;
 use std::alloc::{AllocError, Global};
 use std::marker::Model;
+use store_accounts::{Refusal, Store};
 
 /// The reply if an item can't be answered now (RFC 5804, section 1.3).
 const TRY_LATER: &[u8] = b"NO (TRYLATER) \"Try later.\"\r\n";
@@ -349,7 +349,11 @@ impl Session {
     /// Takes the first item, a command with this outcome, off: appends the answer to the output, and then changes the session.
     ///
     /// Lack of memory is the only error; nothing changes then, and the output stays.
-    pub fn apply_outcome(&mut self, turn: CommandOutcome, out: &mut Octets) -> Result<Progress, AllocError>
+    pub fn apply_outcome(
+        &mut self,
+        turn: CommandOutcome,
+        out: &mut Octets,
+    ) -> Result<Progress, AllocError>
         requires { is_item (reach_in self.old.client) ≡ true }
         ensures told { OnOk result (out.new ≡ out.old ++ reply_octets turn.reply) }
         ensures session { OnOk result (self.new.client ≡ client_after turn.session_change (without_first false (reach_in self.old.client) self.old.client)) }
@@ -358,7 +362,10 @@ impl Session {
         ensures scans { OnOk result (self.new.scanned ≡ scanned_past self.old) }
         ensures err { OnErr result ((self.new ≡ self.old) × (out.new ≡ out.old)) }
     {
-        let CommandOutcome { reply, session_change } = turn;
+        let CommandOutcome {
+            reply,
+            session_change,
+        } = turn;
         spell(self.alloc, &reply, out)?;
         self.follow(session_change);
         Ok(self.progress())

@@ -5,7 +5,7 @@ ghost use Rattle.net_loop.specs.declared.act.Act.TheVariants.{Woke, Timed, Again
 ghost use Rattle.net_loop.specs.declared.act.Act.{Act};
 
 use crate::act::Act;
-use crate::outcome::{Accepted, WaitError, Input, Output, Wake};
+use crate::outcome::{Accepted, Input, Output, WaitError, Wake};
 use std::collections::VecDeque;
 
 /// Where acts happen. Sockets, a clock and a store are traits over one such value, so that all acts stand in one order.

@@ -35,7 +35,8 @@ impl TimeAccount {
         match (self, other) {
             (TimeAccount::Guests, TimeAccount::Guests) => true,
             (TimeAccount::Senders, TimeAccount::Senders) => true,
-            (TimeAccount::User(name), TimeAccount::User(other)) => name.as_slice() == other.as_slice(),
+            (TimeAccount::User(name), TimeAccount::User(other)) => name.as_slice()
+                == other.as_slice(),
             _ => false,
         }
     }

@@ -8,10 +8,10 @@ ghost use Rattle.net_shares.specs.Shares as s;
 
 use crate::account::TimeAccount;
 use crate::share::Shares;
+use net_loop::outcome::Wake;
 use std::alloc::{AllocError, Global};
 use std::collections::{BTreeMap, VecDeque};
 use std::mem::swap;
-use net_loop::outcome::Wake;
 
 /// Connections of an account that used more than this many microseconds recently wait after all others.
 const MAX_SPENT: u64 = 50_000;

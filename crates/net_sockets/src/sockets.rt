@@ -5,13 +5,13 @@ ghost use Rattle.net_loop.specs.Told.{ReadFits, DiscardFits, WriteFits};
 use crate::listener::Listener;
 use crate::stream::Stream;
 use mio::{Events, Interest, Poll, Token};
+use net_loop::outcome::{Accepted, Input, Output, WaitError, Wake};
 use std::alloc::Global;
 use std::collections::{BTreeMap, VecDeque};
 use std::io;
 use std::io::ErrorKind;
 use std::net::Net;
 use std::time::{Clock, Duration, Instant};
-use net_loop::outcome::{Accepted, WaitError, Input, Output, Wake};
 
 /// The tokens of connections come after those of listeners.
 const FIRST_CONNECTION: usize = 64;
@@ -170,7 +170,11 @@ impl<'n, N: Net + Clock> SystemSockets<'n, N> {
 
     /// For how many milliseconds the listener that rests shortest does; the greatest number if none rests.
     fn shortest_rest(&mut self) -> u64 {
-        if self.listener_states.iter().all(|door| door.rests_until.is_none()) {
+        if self
+            .listener_states
+            .iter()
+            .all(|door| door.rests_until.is_none())
+        {
             return u64::MAX;
         }
         let now = self.now();

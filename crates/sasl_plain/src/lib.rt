@@ -8,4 +8,4 @@ pub mod message;
 pub mod password;
 
 pub use message::{Login, plain};
-pub use password::{ROUNDS, PasswordHash, accepts, digest};
+pub use password::{PasswordHash, ROUNDS, accepts, digest};

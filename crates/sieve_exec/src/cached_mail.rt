@@ -14,10 +14,15 @@ use crate::flags::flag_holds;
 use crate::joined_address::JoinedAddress;
 use crate::mail::Mail;
 use crate::matching::{count_matches, is_count, matches_some};
-use crate::work::{SHORT, envelope_sizes, spend, spend_flags, spend_keys, spend_names, spend_text, spend_texts, spend_values};
+use crate::work::{
+    SHORT, envelope_sizes, spend, spend_flags, spend_keys, spend_names, spend_text, spend_texts,
+    spend_values,
+};
 use mail_flags::Flags;
 use octets::{List, Octets, Texts, lowered};
-use sieve_syntax::{Address, AddressPart, Bound, MailCheck, DateTest, EnvelopeTest, Header, Size, is_mailbox};
+use sieve_syntax::{
+    Address, AddressPart, Bound, DateTest, EnvelopeTest, Header, MailCheck, Size, is_mailbox,
+};
 use std::alloc::{AllocError, Global};
 use std::marker::Model;
 

@@ -106,7 +106,12 @@ impl<'m, 'a> ScriptRun<'m, 'a> {
     }
 
     /// One step: carries out the instruction at this place.
-    fn turn(&mut self, alloc: Global, instr: &Instr<'_>, place: usize) -> Result<InstrOutcome, AllocError>
+    fn turn(
+        &mut self,
+        alloc: Global,
+        instr: &Instr<'_>,
+        place: usize,
+    ) -> Result<InstrOutcome, AllocError>
         requires { place + 1 < 2 ^ 64 }
         ensures turn { IfOk result (λ turn. (next : Run) →
             turn_of (truth_at self.old.cached) next (instr_view instr.now) place self.old.flag (run_state_of self.old.state)
@@ -123,7 +128,11 @@ impl<'m, 'a> ScriptRun<'m, 'a> {
                 .evaluate(alloc, check, &self.state.flags)?,
             Instr::Flip => self.flag = !self.flag,
             Instr::Jump(target) => return Ok(InstrOutcome::Next(*target)),
-            Instr::JumpIf(target) => return Ok(InstrOutcome::Next(if self.flag { *target } else { next })),
+            Instr::JumpIf(target) => return Ok(InstrOutcome::Next(if self.flag {
+                *target
+            } else {
+                next
+            })),
             Instr::JumpUnless(target) => {
                 return Ok(InstrOutcome::Next(if self.flag { next } else { *target }));
             }

@@ -4,10 +4,12 @@ ghost use Rattle.sieve_exec.specs.Counts.{is_count};
 ghost use Rattle.sieve_exec.specs.Matches.{relates, matches_by_image, matches_by_number, matches_key, matches_some};
 ghost use Rattle.sieve_exec.specs.Truth.{count_matches};
 
-use sieve_match::{AsciiCasemap, Comparator, Octet, are_equal_numbers, compare, compare_numbers, contains, is};
-use sieve_match::matches;
 use itoa::Buffer;
 use octets::Octets;
+use sieve_match::{
+    AsciiCasemap, Comparator, Octet, are_equal_numbers, compare, compare_numbers, contains, is,
+    matches,
+};
 use sieve_syntax::{Collation, Matching, Relation};
 use std::cmp::Ordering;
 

@@ -160,7 +160,11 @@ impl RunState {
         Ok(None)
     }
 
-    fn reply_by(&mut self, alloc: Global, args: &VacationArgs) -> Result<Option<Failure>, AllocError>
+    fn reply_by(
+        &mut self,
+        alloc: Global,
+        args: &VacationArgs,
+    ) -> Result<Option<Failure>, AllocError>
         ensures { IfOk result (λ failed. flow_of failed (run_state_of self.new) ≡ replied_by args.now (run_state_of self.old)) }
     {
         if self.reply.is_some() {

@@ -7,8 +7,8 @@ ghost use Rattle.sieve_exec.specs.Work.{IsLeft, AreSizesWithin, is_question, is_
 use crate::mail::Mail;
 use crate::matching::is_count;
 use crate::sizes::{Sizes, text_size as size_of};
-use sieve_match::MAX_PLACES;
 use octets::Octets;
+use sieve_match::MAX_PLACES;
 use sieve_syntax::{EnvelopeParts, Matching};
 
 /// How much work the tests of a run may take together. A unit is about one octet that is looked at or compared, and takes 0.3 ns of a

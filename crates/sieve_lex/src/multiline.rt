@@ -140,12 +140,12 @@ pub(crate) fn read_body(
     }
     match stage {
         BodyState::Done | BodyState::Dot => Ok((value, octets.len())),
-        BodyState::Opening | BodyState::OpeningReturn | BodyState::Broken => Err(ScriptError::Fault(
-            ScriptFault {
+        BodyState::Opening | BodyState::OpeningReturn | BodyState::Broken => Err(
+            ScriptError::Fault(ScriptFault {
                 line,
                 kind: FaultKind::Unexpected,
-            },
-        )),
+            }),
+        ),
         _ => Err(ScriptError::Fault(ScriptFault {
             line,
             kind: FaultKind::OpenString,

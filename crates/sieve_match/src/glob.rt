@@ -3,7 +3,6 @@
 ghost use Rattle.std.specs.Prelude.{◌↔◌, IsTrue};
 ghost use Rattle.sieve_match.specs.Glob.{items, Glob};
 
-
 use crate::Comparator;
 use crate::parts::Segment;
 

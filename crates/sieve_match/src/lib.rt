@@ -7,16 +7,16 @@ ghost use Rattle.std.specs.Char.{to_ascii_uppercase};
 ghost use Rattle.std.proofs.lemmas.Str.Ascii.{uppercase-uppercase};
 ghost use Rattle.sieve_match.specs.Comparators.{EqualBy, ContainsBy, SameFrom};
 
+mod glob;
 pub mod laws;
 mod masks;
 mod numeric;
 mod order;
+mod parts;
+mod pattern;
 mod places;
 mod spelling;
 mod twoway;
-mod parts;
-mod pattern;
-mod glob;
 
 pub use crate::pattern::GlobItem;
 pub use glob::matches;
@@ -24,7 +24,7 @@ pub use masks::{MAX_PLACES, Masks};
 pub use numeric::{are_equal_numbers, compare_numbers};
 pub use order::compare;
 pub use places::{contains_places, places_of};
-pub use spelling::{Key, PlainKey, KeyCursor};
+pub use spelling::{Key, KeyCursor, PlainKey};
 pub use twoway::find;
 
 /// A comparator (RFC 4790, section 4): octets are the same if their images are.

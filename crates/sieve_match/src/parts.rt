@@ -8,7 +8,7 @@ ghost use Rattle.sieve_match.specs.Glob.{items};
 ghost use Rattle.sieve_match.specs.Segments.{item_octet, item_takes_at, ItemsStandAt};
 
 use crate::pattern::{GlobItem, read_item};
-use crate::{Comparator, Key, MAX_PLACES, Masks, KeyCursor, find};
+use crate::{Comparator, Key, KeyCursor, MAX_PLACES, Masks, find};
 
 /// The items of a pattern up to a star or the pattern's end.
 #[derive(Clone, Copy)]

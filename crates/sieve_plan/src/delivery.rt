@@ -17,13 +17,13 @@ use crate::vacation::{VacationPlan, plan_vacation};
 use crate::view::AccountView;
 use mail_address::Addr;
 use mail_flags::Placement;
-use store_accounts::{Plan, Report, VacationReport};
 use octets::{List, Octets, Texts};
 use sieve_exec::{Envelope, Mail, Outcome, When};
 use sieve_lex::ScriptError;
 use sieve_syntax::VacationArgs;
-use std::alloc::{AllocError, Global};
 use sieve_vacation::MAX_MOMENT;
+use std::alloc::{AllocError, Global};
+use store_accounts::{Plan, Report, VacationReport};
 
 /// Returns what a delivery of a mail is to write and to report, given the text of the account's active script, if one is active.
 ///

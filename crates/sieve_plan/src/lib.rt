@@ -13,7 +13,7 @@ mod view;
 
 pub use delivery::{plan, plan_unread};
 pub use long_header::has_long_header;
-pub use store_accounts::KeptReply;
 pub use notice::failure_text;
 pub use outcome::evaluate_script;
+pub use store_accounts::KeptReply;
 pub use view::AccountView;

@@ -22,7 +22,11 @@ use std::alloc::Global;
 /// # Errors
 ///
 /// [`ScriptError::Fault`] if the text isn't a valid script, and [`ScriptError::Memory`] if an allocation failed.
-pub fn evaluate_script(alloc: Global, script: &[u8], mail: &Mail<'_>) -> Result<Outcome, ScriptError>
+pub fn evaluate_script(
+    alloc: Global,
+    script: &[u8],
+    mail: &Mail<'_>,
+) -> Result<Outcome, ScriptError>
     ensures valid { IfOk result (λ done. (tree : Commands) × Means script.now tree) }
     ensures done { IfOk result (λ done. (tree : Commands) → Means script.now tree → outcome_view done ≡ outcome_at mail.now tree) }
     ensures fault { IfFault result ((tree : Commands) → Means script.now tree → ⊥) }

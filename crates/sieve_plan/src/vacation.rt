@@ -4,12 +4,15 @@ ghost use Rattle.sieve_plan.specs.Plans.{IsVacationPlan, SendsReply, unsent_plan
 ghost use Rattle.sieve_plan.specs.Views.{moment_under};
 
 use crate::view::AccountView;
-use store_accounts::{VacationReply, VacationReport, latest};
 use octets::Octets;
 use sieve_exec::Mail;
 use sieve_syntax::VacationArgs;
+use sieve_vacation::{
+    AddressedMail, MAX_MOMENT, ReplyDecision, decide_reply, handle_key, has_short_texts,
+    reply_bytes,
+};
 use std::alloc::{AllocError, Global};
-use sieve_vacation::{AddressedMail, ReplyDecision, MAX_MOMENT, decide_reply, handle_key, has_short_texts, reply_bytes};
+use store_accounts::{VacationReply, VacationReport, latest};
 
 /// What is to be done about `vacation`.
 #[derive(Drop)]

@@ -3,8 +3,8 @@ ghost use Rattle.std.specs.Prelude.{◌≡◌};
 ghost use Rattle.sieve_plan.specs.Views.{moment_under};
 
 use mail_address::Addr;
-use store_accounts::KeptReply;
 use octets::List;
+use store_accounts::KeptReply;
 
 /// What a delivery has to know of the account, besides the text of its active script.
 #[derive(Debug, Drop)]

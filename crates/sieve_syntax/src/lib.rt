@@ -13,7 +13,10 @@ pub use script::{Script, check};
 pub use sieve_lex::{FaultKind, ScriptError, ScriptFault};
 pub use table::command::is_mailbox;
 pub use tree::action::{Action, FileInto, Redirect};
-pub use tree::checks::{Address, AddressPart, Bound, MailCheck, Collation, CurrentDate, DateTest, DateZone, EnvelopeParts, EnvelopeTest, HasFlag, Header, Matching, Relation, Size};
+pub use tree::checks::{
+    Address, AddressPart, Bound, Collation, CurrentDate, DateTest, DateZone, EnvelopeParts,
+    EnvelopeTest, HasFlag, Header, MailCheck, Matching, Relation, Size,
+};
 pub use tree::command::{Branch, Command};
 pub use tree::test::Test;
-pub use tree::vacation::{ReplyFrom, VacationArgs, Vacation};
+pub use tree::vacation::{ReplyFrom, Vacation, VacationArgs};

@@ -6,7 +6,7 @@ ghost use Rattle.sieve_vacation.specs.Reasons.{decision_of};
 
 use crate::addressed::AddressedMail;
 use crate::fields::{Sign, has_sign};
-use crate::reason::{ReplyDecision, Reason};
+use crate::reason::{Reason, ReplyDecision};
 use crate::sender::{is_bad, is_robot, is_users};
 use mail_address::Addr;
 use sieve_syntax::VacationArgs;

@@ -21,4 +21,4 @@ pub use date::{MAX_MOMENT, write_date};
 pub use decision::decide_reply;
 pub use handle::{handle_key, has_short_texts};
 pub use layout::reply_bytes;
-pub use reason::{ReplyDecision, Reason};
+pub use reason::{Reason, ReplyDecision};

@@ -1,9 +1,9 @@
 //! Checks scripts in files, or on standard input, without a store.
 use clap::error::ErrorKind as WordsKind;
-use managesieve_sessions::scripts::MAX_SCRIPT;
 use cli_run::check::{check_input, check_text};
 use cli_run::fault::{RunFault, refuse};
-use cli_subcommands::{RawArgs, ArgsError, read_files};
+use cli_subcommands::{ArgsError, RawArgs, read_files};
+use managesieve_sessions::scripts::MAX_SCRIPT;
 use std::alloc::{AllocError, Global};
 use std::fs::{File, Files};
 use std::io;
@@ -41,7 +41,9 @@ pub fn check<F: Files, R: Read, W: Write, E: Write>(
 
 fn fault_of(error: &ArgsError) -> RunFault {
     match error {
-        ArgsError::Said(error) if error.kind() == WordsKind::OutOfMemory => RunFault::from(AllocError),
+        ArgsError::Said(error) if error.kind() == WordsKind::OutOfMemory => RunFault::from(
+            AllocError,
+        ),
         _ => RunFault::BadArgument,
     }
 }

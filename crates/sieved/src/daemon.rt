@@ -1,17 +1,20 @@
 //! Many clients at once.
 use crate::default_script::read_default;
 use crate::descriptors::{TOO_FEW, are_enough};
-use crate::listening::{DaemonOptions, Listening, MailOptions, listen, read_options, trouble_of_socket};
-use daemon_host::host::Host;
-use store_lock::Keeper;
-use maildir_moves::Route;
-use maildir_files::MailSink;
-use octets::Octets;
-use daemon_core::life;
-use daemon_core::mail::MailDaemon;
+use crate::listening::{
+    DaemonOptions, Listening, MailOptions, listen, read_options, trouble_of_socket,
+};
 use cli_run::fault::RunFault;
 use cli_run::fault_with_cause::FaultWithCause;
 use cli_subcommands as words;
+use daemon_core::life;
+use daemon_core::mail::MailDaemon;
+use daemon_host::host::Host;
+use maildir_files::MailSink;
+use maildir_moves::Route;
+use net_loop::service::Service;
+use net_sockets::SystemSockets;
+use octets::Octets;
 use std::alloc::{AllocError, Global};
 use std::fs::Files;
 use std::io::Write;
@@ -19,8 +22,7 @@ use std::net::Net;
 use std::os::fd::AsFd;
 use std::time::Clock;
 use std::{fs, io};
-use net_sockets::SystemSockets;
-use net_loop::service::Service;
+use store_lock::Keeper;
 
 /// Serves many clients at once from a keeper's store. `descriptor` may hold a socket that another process left for LMTP. The
 /// first line on the errors has the version and the process number. Returns the exit status if the daemon ends.

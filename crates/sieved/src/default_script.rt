@@ -1,8 +1,8 @@
 //! The script for accounts without an active one.
 use crate::check::{MOST, read_front, tell_unread};
-use octets::Octets;
 use cli_run::check::check_text;
 use cli_run::fault::{RunFault, refuse};
+use octets::Octets;
 use std::alloc::Global;
 use std::fs::Files;
 use std::io::Write;

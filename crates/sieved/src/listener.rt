@@ -1,5 +1,4 @@
 //! Serves clients on the loopback address, one after the other.
-use store_lock::Keeper;
 use cli_run::fault::{RunFault, refuse};
 use cli_run::session::serve_client;
 use cli_run::values::{decimal, port_of};
@@ -8,6 +7,7 @@ use std::alloc::Global;
 use std::io::{ErrorKind, Write};
 use std::net::{Ipv4Addr, Net, SocketAddr, TcpListener, TcpStream};
 use std::{format, io};
+use store_lock::Keeper;
 
 /// Listens on 127.0.0.1 and serves one client after the other, however the one before ended. Returns the exit
 /// status: 0 after as many sessions as were asked for.

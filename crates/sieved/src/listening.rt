@@ -1,21 +1,21 @@
 //! The daemon's options, and its listeners.
-use mail_dates::HostZone;
-use store_lock::cause::socket_cause;
-use lmtp_dialogue::Names;
-use maildir_files::Separator;
-use mio::net::TcpListener;
-use octets::{Octets, is_printable};
 use cli_run::fault::RunFault;
 use cli_run::fault_with_cause::FaultWithCause;
 use cli_run::values::{mebibytes_of, port_of, separator_of, zone_of};
 use cli_subcommands::DaemonArgs;
+use lmtp_dialogue::Names;
+use mail_dates::HostZone;
+use maildir_files::Separator;
+use mio::net::TcpListener;
+use net_sockets::{Listener, bind_path, inherit};
+use octets::{Octets, is_printable};
 use std::alloc::{AllocError, Global};
 use std::fs::Files;
 use std::io::ErrorKind;
 use std::net::{Ipv4Addr, Net, SocketAddr};
 use std::os::fd::AsFd;
 use std::{format, io};
-use net_sockets::{Listener, bind_path, inherit};
+use store_lock::cause::socket_cause;
 
 /// The longest name of a host, in octets (RFC 5321, 4.5.3.1.2).
 const MAX_HOST: usize = 255;

@@ -14,17 +14,16 @@ mod wall_clock;
 
 use check::check;
 use clap::error::ErrorKind;
+use cli_run::fault::{RunFault, refuse};
+use cli_run::run::run_program;
+use cli_run::session::run_session;
+use cli_subcommands::{ArgsError, RawArgs, SendArgs, Subcommand, read_command_line};
 use daemon::serve_daemon;
 use default_script::read_default;
-use store_lock::{FileKeeper, Keeper};
 use listener::serve;
 use maildir_files::{MailSink, Maildir};
 use octets::Octets;
 use send::send;
-use cli_run::run::run_program;
-use cli_run::fault::{RunFault, refuse};
-use cli_run::session::run_session;
-use cli_subcommands::{RawArgs, ArgsError, SendArgs, Subcommand, read_command_line};
 use std::alloc::{AllocError, Global};
 use std::env::{Env, FillError};
 use std::fs::Files;
@@ -35,6 +34,7 @@ use std::process;
 use std::process::ExitCode;
 use std::random::RandomSource;
 use std::time::{Clock, SystemTime};
+use store_lock::{FileKeeper, Keeper};
 
 fn main(rt: HostRuntime) -> ExitCode {
     let status = match words_after_name(&rt) {

@@ -1,15 +1,15 @@
 //! The files of a run of `send` beside the store: `FILE.send`, its lock, and `FILE.send.waits`, what is known of rows that wait.
-use store_lock::cause::file_cause;
-use store_accounts::Refusal;
-use octets::Octets;
-use smtp_queue::{RowWaits, write_waits};
 use cli_run::fault::RunFault;
 use cli_run::fault_with_cause::FaultWithCause;
+use octets::Octets;
+use smtp_queue::{RowWaits, write_waits};
 use std::alloc::AllocError;
 use std::fs::{File, OpenOptions, TryLockError};
 use std::io::Write;
 use std::os::unix::fs::OpenOptionsExt;
 use std::{format, fs, io};
+use store_accounts::Refusal;
+use store_lock::cause::file_cause;
 
 /// The permissions of these files: their owner reads and writes them.
 const OWNER_ALONE: u32 = 0o600;

@@ -2,19 +2,18 @@
 use crate::listening::host_of;
 use crate::run_file::{lock_run, read_run, write_run};
 use crate::wall_clock::WallClock;
-use store_lock::{FileKeeper, Keeper};
-use smtp_send::{SmtpClient, Stop};
-use store_accounts::Refusal;
-use octets::Octets;
-use smtp_queue::{Ended, Search, send_due};
-use smtp_queue::{Book, NotedWaits, RowWaits, read_waits, tally_line};
 use cli_run::fault::RunFault;
 use cli_run::fault_with_cause::FaultWithCause;
 use cli_run::values::decimal;
 use cli_subcommands::SendArgs;
 use net_sockets::{SocketPeer, Target};
+use octets::Octets;
+use smtp_queue::{Book, Ended, NotedWaits, RowWaits, Search, read_waits, send_due, tally_line};
+use smtp_send::{SmtpClient, Stop};
 use std::alloc::{AllocError, Global};
 use std::io::Write;
+use store_accounts::Refusal;
+use store_lock::{FileKeeper, Keeper};
 
 /// What the arguments of `send` ask for.
 #[derive(Clone, Copy)]

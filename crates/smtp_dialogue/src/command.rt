@@ -43,7 +43,11 @@ pub fn mail_line(
     Ok(line)
 }
 
-fn add_size(line: &mut Octets, offered: Extensions, letter: SmtpMessage<'_>) -> Result<(), AllocError>
+fn add_size(
+    line: &mut Octets,
+    offered: Extensions,
+    letter: SmtpMessage<'_>,
+) -> Result<(), AllocError>
     ensures { OnOk result (line.new ≡ line.old ++ s.size_part offered (s.smtp_mail_of letter.entry)) }
 {
     if offered.size {
@@ -53,7 +57,11 @@ fn add_size(line: &mut Octets, offered: Extensions, letter: SmtpMessage<'_>) -> 
     Ok(())
 }
 
-fn add_body(line: &mut Octets, offered: Extensions, letter: SmtpMessage<'_>) -> Result<(), AllocError>
+fn add_body(
+    line: &mut Octets,
+    offered: Extensions,
+    letter: SmtpMessage<'_>,
+) -> Result<(), AllocError>
     ensures { OnOk result (line.new ≡ line.old ++ s.body_part offered (s.smtp_mail_of letter.entry)) }
 {
     if offered.eight_bit_mime && letter.needs_eight_bit() {

@@ -5,9 +5,9 @@ use crate::clock::SendClock;
 use crate::line::{changed_line, gone_line, is_for_good, place_line, refusal_line, row_line};
 use crate::row_key::RowKey;
 use crate::waits::RowWaits;
-use smtp_send::{Journal, Unwritten};
 use octets::Octets;
 use smtp_dialogue::Ending;
+use smtp_send::{Journal, Unwritten};
 use std::alloc::{AllocError, Global};
 use std::io::Write;
 

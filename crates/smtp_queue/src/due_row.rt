@@ -4,11 +4,11 @@ ghost use Rattle.sqlite.specs.Held.{state};
 ghost use Rattle.smtp_queue.specs.DueRows as s;
 ghost use Rattle.smtp_queue.specs.DueRows.{OutgoingHasOctets, IsDueRowFound, IsRowAt, IsStep, QueueReads, Sees, QueueTakesRow, QueueWorks};
 
-use smtp_send::{DueMessage, TakenOut};
-use store_accounts::{QueuedMessage, QueueKey, Refusal, Store};
 use crate::{RowKey, RowWaits};
+use smtp_send::{DueMessage, TakenOut};
 use sqlite::Alter;
 use std::alloc::{AllocError, Global};
+use store_accounts::{QueueKey, QueuedMessage, Refusal, Store};
 
 /// A row of a queue, with its place.
 #[derive(Drop)]
@@ -37,7 +37,10 @@ fn is_due(alloc: Global, waits: &RowWaits, place: &QueueKey, now: u64) -> Result
 }
 
 /// The row at a place; none if there is none, and if the user's account isn't open.
-fn row_at<S: Alter>(store: &mut Store<S>, place: &QueueKey) -> Result<Option<QueuedMessage>, Refusal>
+fn row_at<S: Alter>(
+    store: &mut Store<S>,
+    place: &QueueKey,
+) -> Result<Option<QueuedMessage>, Refusal>
     ensures { Sees (IsRowAt place.now) (state S.Store store.old) (state S.Store store.new) result }
 {
     let found = store.outgoing(place.user.as_slice(), place.id);

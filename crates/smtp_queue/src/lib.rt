@@ -20,12 +20,12 @@ pub use waits::RowWaits;
 
 // The queues of a store as a run of `send` needs them: rows that are due, one after the other.
 
-pub mod queue_store;
 pub mod due_row;
 pub mod queue;
+pub mod queue_store;
 pub mod run;
 
-pub use queue_store::Search;
 pub use due_row::DueRow;
 pub use queue::StoreQueue;
+pub use queue_store::Search;
 pub use run::{Ended, send_due};

@@ -2,13 +2,13 @@
 ghost use Rattle.std.specs.Prelude.{◌≡◌, None, IfOk};
 ghost use Rattle.smtp_queue.specs.Queues.{IsRowTold, QueueStillShows};
 
-use crate::queue_store::{QueueStore, Search};
 use crate::due_row::DueRow;
-use store_lock::{Keeper, StoreUnavailable};
-use smtp_send::{SendQueue, DueMessage, TakenOut, QueueUnavailable as Denial};
-use store_accounts::{QueuedMessage, QueueKey, Refusal};
+use crate::queue_store::{QueueStore, Search};
 use octets::Octets;
+use smtp_send::{DueMessage, QueueUnavailable as Denial, SendQueue, TakenOut};
 use std::alloc::{AllocError, Global};
+use store_accounts::{QueueKey, QueuedMessage, Refusal};
+use store_lock::{Keeper, StoreUnavailable};
 
 /// For how many milliseconds at most the store is held without a break, while others may ask for it who don't say that they wait.
 const MAX_HAD: u64 = 1_000;

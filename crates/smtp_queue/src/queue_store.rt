@@ -2,12 +2,12 @@
 ghost use Rattle.std.specs.Prelude.{◌≡◌, None};
 ghost use Rattle.smtp_queue.specs.Queues.{QueueFinds, QueueRemoves, QueueStillShows, TurnsShown};
 
-use crate::due_row::{DueRow, find_post, take_row};
-use store_lock::{Keeper, StoreUnavailable};
-use smtp_send::{DueMessage, TakenOut};
-use store_accounts::{QueueKey, Store};
 use crate::RowWaits;
+use crate::due_row::{DueRow, find_post, take_row};
+use smtp_send::{DueMessage, TakenOut};
 use std::alloc::Global;
+use store_accounts::{QueueKey, Store};
+use store_lock::{Keeper, StoreUnavailable};
 
 /// Which rows are asked for.
 #[derive(Clone, Copy)]

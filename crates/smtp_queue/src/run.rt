@@ -3,11 +3,11 @@ ghost use Rattle.std.specs.Prelude.{is_ok, None};
 ghost use Rattle.smtp_send.specs.Deeds.{RunReaches, SendState};
 ghost use Rattle.smtp_queue.specs.Queues.{ShowsRows, ShowsSome};
 
-use crate::queue_store::Search;
 use crate::queue::StoreQueue;
-use store_lock::Keeper;
-use smtp_send::{Journal, Server, Stop, SendTally, send_queue};
+use crate::queue_store::Search;
+use smtp_send::{Journal, SendTally, Server, Stop, send_queue};
 use std::alloc::Global;
+use store_lock::Keeper;
 
 /// How a run ended, and the keeper that it had.
 #[derive(Drop)]

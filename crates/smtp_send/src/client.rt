@@ -7,7 +7,9 @@ ghost use Rattle.smtp_send.specs.Wires as s;
 use crate::peer::{Patience, SmtpPeer};
 use crate::server::{Lost, Server};
 use octets::{Octets, Pending};
-use smtp_dialogue::{Extensions, Heard, QUIT, RSET, SmtpStage, ehlo_line, first_reply, read_extensions};
+use smtp_dialogue::{
+    Extensions, Heard, QUIT, RSET, SmtpStage, ehlo_line, first_reply, read_extensions,
+};
 use std::alloc::Global;
 
 /// The most octets of a reply.

@@ -11,7 +11,9 @@ use crate::queue::SendQueue;
 use crate::server::{Lost, Server};
 use crate::text::write_text;
 use crate::way::{await_reply, write_octets};
-use smtp_dialogue::{DATA, Ending, Extensions, SmtpMessage, SmtpStage, NextStage, mail_line, next_turn, rcpt_line};
+use smtp_dialogue::{
+    DATA, Ending, Extensions, NextStage, SmtpMessage, SmtpStage, mail_line, next_turn, rcpt_line,
+};
 use std::alloc::{AllocError, Global};
 
 /// Hands a message to a server: one whose addresses are no mailboxes, or that needs what isn't offered, isn't written.

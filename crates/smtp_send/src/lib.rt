@@ -16,7 +16,7 @@ pub use client::SmtpClient;
 pub use dialogue::send_message;
 pub use journal::{Journal, Unwritten};
 pub use peer::{MOMENT, Patience, SmtpPeer};
-pub use queue::{SendQueue, DueMessage, TakenOut, QueueUnavailable};
+pub use queue::{DueMessage, QueueUnavailable, SendQueue, TakenOut};
 pub use row::{Stop, send_row};
 pub use run::{SendTally, send_queue};
 pub use server::{Lost, Server};

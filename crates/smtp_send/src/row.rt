@@ -6,7 +6,7 @@ ghost use Rattle.smtp_send.specs.Deeds as s;
 
 use crate::dialogue::send_message;
 use crate::journal::Journal;
-use crate::queue::{SendQueue, DueMessage, TakenOut, QueueUnavailable};
+use crate::queue::{DueMessage, QueueUnavailable, SendQueue, TakenOut};
 use crate::server::Server;
 use smtp_dialogue::{Ending, Extensions, SmtpMessage, without_path};
 use std::alloc::Global;

@@ -5,7 +5,7 @@ ghost use Rattle.smtp_send.specs.Rows.{Rows, IsThere};
 ghost use Rattle.smtp_send.specs.Deeds as s;
 
 use crate::journal::Journal;
-use crate::queue::{SendQueue, DueMessage, QueueUnavailable};
+use crate::queue::{DueMessage, QueueUnavailable, SendQueue};
 use crate::row::{Stop, letter_of, send_row};
 use crate::server::Server;
 use crate::way::{await_reply, make_way};
@@ -104,7 +104,11 @@ pub fn send_queue<Q: SendQueue, S: Server, J: Journal>(
 }
 
 // The first row after a place.
-fn read_next<Q: SendQueue>(queue: &mut Q, user: &Octets, id: u64) -> Result<Option<DueMessage>, Stop>
+fn read_next<Q: SendQueue>(
+    queue: &mut Q,
+    user: &Octets,
+    id: u64,
+) -> Result<Option<DueMessage>, Stop>
     ensures there { IfOk result (λ found. IfSome found (λ row. (rows : Rows) → Q.shows queue.old rows → IsThere row rows)) }
     ensures same { (rows : Rows) → Q.shows queue.old rows → Q.shows queue.new rows }
 {

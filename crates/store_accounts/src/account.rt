@@ -17,9 +17,9 @@ use crate::cell::{optional_text_at, text_at};
 use crate::profile::Profile;
 use crate::refusal::Refusal;
 use crate::store::Store;
-use store_tables::{Change, query};
 use octets::Octets;
 use sqlite::{Alter, Connection, Error, Row, params};
+use store_tables::{Change, query};
 
 /// The numbers that an account gives next: to a copy, to a message on its way out, and to a notice. Each counter begins at 1
 /// and counts on its own, and no number is given twice.

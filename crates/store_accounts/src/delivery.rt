@@ -14,10 +14,10 @@ use crate::refusal::Refusal;
 use crate::report::{Plan, VacationReply};
 use crate::store::Store;
 use mail_flags::Placement;
-use store_tables::{Change, QueuedKind};
 use octets::Octets;
 use sqlite::Alter;
 use std::alloc::Global;
+use store_tables::{Change, QueuedKind};
 
 /// The number that comes `i` after the first one, as the database keeps it; past 2^63 - 1 it is refused.
 fn number_after(first: u64, i: usize) -> Result<i64, Refusal>

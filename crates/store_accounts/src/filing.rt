@@ -11,9 +11,9 @@ use crate::cell::{number, text_at};
 use crate::refusal::Refusal;
 use crate::row::{FromRow, first_from_row, read_each};
 use crate::store::Store;
-use store_tables::query;
 use octets::{List, Octets};
 use sqlite::{Alter, Connection, Error, Row, params};
+use store_tables::query;
 
 /// A copy in a folder, without its message.
 #[derive(Debug, Drop)]

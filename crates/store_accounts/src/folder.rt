@@ -14,10 +14,10 @@ use crate::refusal::Refusal;
 use crate::row::read_each;
 use crate::store::Store;
 use crate::taking::NumberedMessage;
-use store_tables::query;
 use octets::{List, Octets, Texts};
 use sqlite::{Alter, Connection, Error, Row, params};
 use std::alloc::Global;
+use store_tables::query;
 
 /// A folder and the number of its messages.
 #[derive(Debug, Drop)]

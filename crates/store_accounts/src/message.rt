@@ -9,9 +9,9 @@ ghost use Rattle.sqlite.specs.Held.{state};
 use crate::cell::{first_text, number};
 use crate::refusal::Refusal;
 use crate::store::Store;
-use store_tables::query;
 use octets::Octets;
 use sqlite::{Alter, Connection, Error, Row, params};
+use store_tables::query;
 
 /// The octets of the message with the number.
 fn find_message<S: Alter>(

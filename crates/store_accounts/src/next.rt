@@ -10,9 +10,9 @@ use crate::cell::{number, text_at};
 use crate::refusal::Refusal;
 use crate::row::{FromRow, first_from_row};
 use crate::store::Store;
-use store_tables::query;
 use octets::Octets;
 use sqlite::{Alter, Connection, Error, Row, params};
+use store_tables::query;
 
 /// The place of a message.
 #[derive(Debug, Drop)]

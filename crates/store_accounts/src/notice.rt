@@ -11,9 +11,9 @@ use crate::cell::{number, text_at};
 use crate::refusal::Refusal;
 use crate::row::{FromRow, first_from_row, read_each};
 use crate::store::Store;
-use store_tables::{Change, query};
 use octets::{List, Octets};
 use sqlite::{Alter, Connection, Error, Row, params};
+use store_tables::{Change, query};
 
 /// A notice to the user: what went wrong with a delivery.
 #[derive(Debug, Drop)]

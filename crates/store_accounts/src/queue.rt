@@ -14,10 +14,10 @@ use crate::cell::{number, text_at};
 use crate::refusal::Refusal;
 use crate::row::{FromRow, first_from_row, read_each};
 use crate::store::Store;
-use store_tables::{Change, QueuedKind, query};
 use octets::{List, Octets};
 use sqlite::{Alter, Connection, Error, Row, params};
 use std::alloc::{AllocError, Global};
+use store_tables::{Change, QueuedKind, query};
 
 /// A message on its way out.
 #[derive(Debug, Drop)]

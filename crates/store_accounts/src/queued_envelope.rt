@@ -9,9 +9,9 @@ use crate::queue::kind_at;
 use crate::refusal::Refusal;
 use crate::row::{FromRow, read_each};
 use crate::store::Store;
-use store_tables::QueuedKind;
 use octets::{List, Octets};
 use sqlite::{Alter, Row, params};
+use store_tables::QueuedKind;
 
 /// A message on its way out, without its octets.
 #[derive(Debug, Drop)]

@@ -14,9 +14,9 @@ use crate::cell::text_at;
 use crate::refusal::Refusal;
 use crate::row::{FromRow, read_each};
 use crate::store::Store;
-use store_tables::query;
 use octets::{List, Octets};
 use sqlite::{Alter, Connection, Error, Row, params};
+use store_tables::query;
 
 /// The moment of the last reply under a handle.
 #[derive(Debug, Drop)]

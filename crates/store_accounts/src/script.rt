@@ -12,9 +12,9 @@ use crate::cell::first_text;
 use crate::refusal::Refusal;
 use crate::row::read_each;
 use crate::store::Store;
-use store_tables::{Change, query};
 use octets::{Octets, Texts};
 use sqlite::{Alter, Connection, Error, Row, params};
+use store_tables::{Change, query};
 
 /// The text of the script.
 fn find_script<S: Alter>(

@@ -11,11 +11,11 @@ ghost use Rattle.store_tables.specs.Changes.{CrashLeavesTables, MakesAll};
 ghost use Rattle.store_versions.specs.Opening.{IsKnown};
 
 use crate::refusal::Refusal;
-use store_tables::{Change, has_no_tables, is_taken, make_all, make_tables};
-use store_versions::{layout_of, open_known};
 use sqlite::{Alter, Connection, Error, ErrorCode};
 use std::alloc::Global;
 use std::marker::Model;
+use store_tables::{Change, has_no_tables, is_taken, make_all, make_tables};
+use store_versions::{layout_of, open_known};
 
 /// Accounts with their scripts, messages, queue, replies and notices, in an SQL database.
 ///

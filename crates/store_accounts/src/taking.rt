@@ -12,10 +12,10 @@ use crate::cell::number;
 use crate::filing::Filing;
 use crate::refusal::Refusal;
 use crate::store::Store;
-use store_tables::Change;
 use octets::Octets;
 use sqlite::Alter;
 use std::alloc::Global;
+use store_tables::Change;
 
 /// A message of a folder, with the number of its copy and its flags.
 #[derive(Debug, Drop)]

@@ -9,9 +9,9 @@ ghost use Rattle.store_accounts.specs.Refusals.{IsTransient};
 use crate::refusal::Refusal;
 use crate::row::first_from_row;
 use crate::store::Store;
-use store_tables::query;
 use octets::Octets;
 use sqlite::{Alter, Connection, Error, Row, params};
+use store_tables::query;
 
 /// The first name of an account after this one.
 fn find_later_user<S: Alter>(conn: &mut Connection<S>, name: &[u8]) -> Result<Vec<Row>, Error>

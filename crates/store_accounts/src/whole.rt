@@ -14,11 +14,11 @@ use crate::cell::number;
 use crate::refusal::Refusal;
 use crate::reply::latest;
 use crate::store::Store;
-use store_text::{AccountHead, LetterKind, Part};
-use store_tables::{Change, QueuedKind};
 use octets::Octets;
 use sqlite::Alter;
 use std::alloc::Global;
+use store_tables::{Change, QueuedKind};
+use store_text::{AccountHead, LetterKind, Part};
 
 fn kind_of(kind: LetterKind) -> QueuedKind
     ensures { result ≡ kind_by kind }
@@ -299,7 +299,11 @@ fn push_emptying<'a>(changes: &mut Vec<Change<'a>>, user: &'a [u8]) -> Result<()
 }
 
 /// All changes of a new account.
-fn added<'a>(alloc: Global, head: &'a AccountHead, parts: &'a [Part]) -> Result<Vec<Change<'a>>, Refusal>
+fn added<'a>(
+    alloc: Global,
+    head: &'a AccountHead,
+    parts: &'a [Part],
+) -> Result<Vec<Change<'a>>, Refusal>
     ensures made { IfOk result (λ changes. IsMaking head.now.owner.name (account_made head.now) head.now parts.now changes.items) }
     ensures named { IfErr result IsTransient }
 {

@@ -9,9 +9,9 @@ ghost use Rattle.store_accounts.specs.Promises.{ReadsOwn};
 ghost use Rattle.store_accounts.specs.Shows.{IsFirstOf};
 ghost use Rattle.store_engine.specs.Lookups.{LooksUp, IsActiveScript};
 
-use store_accounts::{NumberedMessage, QueuedMessage, Profile, Refusal, Store};
 use octets::{Octets, Texts};
 use sqlite::Alter;
+use store_accounts::{NumberedMessage, Profile, QueuedMessage, Refusal, Store};
 
 /// What the store has of an account, with the text of its active script.
 #[derive(Drop)]

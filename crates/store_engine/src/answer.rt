@@ -1,8 +1,8 @@
 //! The answers to events.
-use store_accounts::{QueuedMessage, Refusal, Report};
-use octets::Octets;
 use managesieve_sessions::Progress;
+use octets::Octets;
 use sieve_lex::ScriptFault;
+use store_accounts::{QueuedMessage, Refusal, Report};
 
 /// The answer to an event.
 #[derive(Drop)]

@@ -10,9 +10,9 @@ ghost use Rattle.sieve_exec.specs.Mails.{mail_spec_of};
 ghost use Rattle.sieve_exec.specs.Outcomes.{outcome_at};
 ghost use Rattle.sieve_exec.specs.Runs.{outcome_view};
 
-use sieve_plan::evaluate_script;
 use sieve_exec::{Envelope, Mail, Outcome, When};
 use sieve_lex::ScriptError;
+use sieve_plan::evaluate_script;
 use std::alloc::Global;
 
 /// What a script does with a message that is delivered at that moment (RFC 5228, 2.10), or why it is no valid script.

@@ -9,12 +9,12 @@ ghost use Rattle.store_engine.specs.declared.event.Event.TheVariants.{Open, Give
 ghost use Rattle.store_engine.specs.Hosts.{host, EventAsksStore, IsSessionEvent, IsEvent, KeepsClients, SurvivesEvent, IsPrepared, answer_of};
 
 use crate::answer::Answer;
-use store_accounts::{Refusal, Store};
+use managesieve_sessions::{FreeStep, Progress, Session};
 use octets::Octets;
-use managesieve_sessions::{Progress, Session, FreeStep};
 use sqlite::Alter;
 use std::alloc::{AllocError, Global};
 use std::collections::BTreeMap;
+use store_accounts::{Refusal, Store};
 
 /// The sessions of clients, by their numbers. Dropping them closes nothing but these sessions.
 #[derive(Drop)]

@@ -18,12 +18,12 @@ ghost use Rattle.store_engine.specs.Terms.{terms_of};
 use crate::account::{ActiveScript, active_script};
 use crate::limits::limit_refusal;
 use mail_address::bare_address;
-use sieve_plan::{AccountView, has_long_header, plan, plan_unread};
-use store_accounts::{Plan, Refusal, Report, Store};
 use octets::Octets;
 use sieve_exec::{Envelope, Mail, When};
+use sieve_plan::{AccountView, has_long_header, plan, plan_unread};
 use sqlite::Alter;
 use std::alloc::Global;
+use store_accounts::{Plan, Refusal, Report, Store};
 
 /// What a delivery has to know of the account.
 #[derive(Drop)]

@@ -1,8 +1,8 @@
 //! The events that change accounts and sessions, one after the other.
 use crate::upkeep::Upkeep;
-use store_text::AccountFile;
 use octets::Octets;
 use sieve_exec::{Envelope, When};
+use store_text::AccountFile;
 
 /// An event, with all that comes from outside. A session is known by a number.
 #[derive(Drop)]

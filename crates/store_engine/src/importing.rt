@@ -11,13 +11,13 @@ ghost use Rattle.store_engine.specs.Sound.{IsSoundScript};
 
 use crate::standing::read_standing;
 use crate::user::{is_own_address, is_user_name, refusal_over};
-use store_text::{AccountFile, AccountOwner, Part};
-use store_accounts::{Refusal, Store};
-use sasl_plain::ROUNDS;
 use managesieve_sessions::script_name::is_script_name;
 use managesieve_sessions::scripts::{MAX_SCRIPT, MAX_SCRIPTS, fault_in};
+use sasl_plain::ROUNDS;
 use sqlite::Alter;
 use std::alloc::{AllocError, Global};
+use store_accounts::{Refusal, Store};
+use store_text::{AccountFile, AccountOwner, Part};
 
 /// The largest salt of an imported password, in octets.
 const MAX_SALT: usize = 64;

@@ -3,9 +3,9 @@
 
 mod account;
 mod answer;
+mod attempting;
 mod clients;
 mod delivery;
-mod attempting;
 mod event;
 mod importing;
 pub mod laws;
@@ -19,16 +19,16 @@ mod user;
 
 pub use account::first_message;
 pub use answer::Answer;
+pub use attempting::{attempt, attempt_on_prefix};
 pub use clients::Clients;
 pub use delivery::deliver;
-pub use attempting::{attempt, attempt_on_prefix};
 pub use event::Event;
 pub use importing::import;
 pub use machine::{World, apply, apply_free};
-pub use store_accounts::{QueuedKind, QueuedMessage, Plan, Refusal, Report, VacationReport};
-pub use replay::{RunAnswers, run};
 pub use managesieve_sessions::Progress;
+pub use replay::{RunAnswers, run};
 pub use sieve_exec::{Envelope, Failure, Outcome, When};
+pub use store_accounts::{Plan, QueuedKind, QueuedMessage, Refusal, Report, VacationReport};
 pub use taking::{take_mail, take_out};
 pub use upkeep::{Upkeep, do_upkeep};
 pub use user::add_user;

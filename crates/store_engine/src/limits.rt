@@ -4,9 +4,9 @@ ghost use Rattle.std.specs.List.{list_any};
 ghost use Rattle.store_engine.specs.Limits as limits;
 ghost use Rattle.store_engine.specs.Limits.{is_envelope_address, is_forbidden_octet};
 
-use store_accounts::Refusal;
 use sieve_exec::Envelope;
 use sieve_vacation::MAX_MOMENT;
+use store_accounts::Refusal;
 
 /// The largest message, in octets.
 pub const MAX_MESSAGE: usize = 33_554_432;

@@ -17,13 +17,13 @@ use crate::limits::limit_refusal;
 use crate::taking::{take_mail, take_out};
 use crate::upkeep::do_upkeep;
 use crate::user::add_user;
-use store_accounts::{QueuedMessage, Refusal, Report, Store};
-use octets::Octets;
 use managesieve_sessions::Session;
+use octets::Octets;
 use sieve_exec::{Envelope, When};
 use sqlite::Alter;
 use std::alloc::{AllocError, Global};
 use std::collections::BTreeMap;
+use store_accounts::{QueuedMessage, Refusal, Report, Store};
 
 /// The accounts of a store and the sessions of its clients, which events change one after the other. Dropping it closes
 /// the store.
@@ -184,7 +184,9 @@ fn carry_out<S: Alter>(
             let taken = take_mail(store, user.as_slice(), folder.as_slice());
             answer_of(taken.and(Ok(Answer::MailTaken)))
         }
-        Event::Keep { user, upkeep } => { answer_of(do_upkeep(alloc, store, user.as_slice(), upkeep)) }
+        Event::Keep { user, upkeep } => {
+            answer_of(do_upkeep(alloc, store, user.as_slice(), upkeep))
+        }
     }
 }
 

@@ -2,8 +2,8 @@
 ghost use Rattle.sqlite.specs.Held.{state};
 ghost use Rattle.store_engine.specs.Lookups.{ReadsStanding};
 
-use store_accounts::{Refusal, Store};
 use sqlite::Alter;
+use store_accounts::{Refusal, Store};
 
 /// The state of an account: what decides whether it can be opened, removed or made again.
 #[derive(Clone, Copy)]

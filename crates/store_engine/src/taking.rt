@@ -6,8 +6,8 @@ ghost use Rattle.store_engine.specs.Hosts.{ActsTaking, ActsMailTaking, RefusesTa
 ghost use Rattle.store_accounts.specs.Connection.{IsSettled};
 
 use crate::account::{first_message, outgoing};
-use store_accounts::{QueuedMessage, Refusal, Store};
 use sqlite::Alter;
+use store_accounts::{QueuedMessage, Refusal, Store};
 
 /// Takes a row out of the user's queue and returns it, in one transaction, which is the last step. The number isn't used
 /// again.
@@ -18,7 +18,11 @@ use sqlite::Alter;
 ///
 /// In this order: [`Refusal::NoUser`], and [`Refusal::NoRow`] if no row has the number. [`Refusal::Memory`] and
 /// [`Refusal::Store`] may come at any point. The store then stays as it was.
-pub fn take_out<S: Alter>(store: &mut Store<S>, user: &[u8], id: u64) -> Result<QueuedMessage, Refusal>
+pub fn take_out<S: Alter>(
+    store: &mut Store<S>,
+    user: &[u8],
+    id: u64,
+) -> Result<QueuedMessage, Refusal>
     ensures acts { ActsTaking user.now id (state S.Store store.old) (state S.Store store.new) result }
     ensures settled { HasCleanDisk (state S.Store store.new) → OnOk result (IsSettled (state S.Store store.new)) }
     ensures named { IfErr result RefusesTaking }

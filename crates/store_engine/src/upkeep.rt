@@ -10,13 +10,13 @@ use crate::account::{profile, script_names};
 use crate::answer::Answer;
 use crate::standing::{Standing, read_standing};
 use crate::user::{is_own_address, is_password};
-use store_accounts::{Refusal, Store};
-use octets::Octets;
-use sasl_plain::{ROUNDS, digest};
 use managesieve_sessions::script_name::is_script_name;
 use managesieve_sessions::scripts::{MAX_SCRIPT, fault_in, has_room};
+use octets::Octets;
+use sasl_plain::{ROUNDS, digest};
 use sqlite::Alter;
 use std::alloc::Global;
+use store_accounts::{Refusal, Store};
 
 /// What is done to one account, with all that comes from outside. For a user without an open account only `OpenAccount` and
 /// `RemoveAccount` do anything, and for a removed one nothing does.

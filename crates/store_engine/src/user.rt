@@ -12,11 +12,11 @@ ghost use Rattle.store_engine.specs.Limits.{IsNewUser, IsOwnAddress};
 
 use crate::standing::{Standing, read_standing};
 use mail_address::bare_address;
-use store_accounts::{Refusal, Store};
 use octets::is_letter;
 use sasl_plain::{ROUNDS, digest};
 use sqlite::Alter;
 use std::alloc::{AllocError, Global};
+use store_accounts::{Refusal, Store};
 
 /// The longest name of a user, in octets: names are arguments and file names of other programs.
 pub const MAX_USER_NAME: usize = 64;

@@ -8,11 +8,11 @@ ghost use Rattle.store_export.specs.Places.{has_active_place as has_active_in};
 ghost use Rattle.store_export.specs.Reading.{ListsContents, ListsEntered};
 
 use crate::place::{PartPlace, has_active, list_places};
-use store_text::{AccountHead, Numbers, AccountOwner, is_head};
-use store_accounts::{Counters, Profile, Refusal, Store};
 use octets::{List, Octets};
 use sqlite::Alter;
 use std::alloc::{AllocError, Global};
+use store_accounts::{Counters, Profile, Refusal, Store};
+use store_text::{AccountHead, AccountOwner, Numbers, is_head};
 
 /// The contents of an account: what it has once, and the place of each of its parts, in the order of its text. Memory is in
 /// proportion to names and numbers only: it holds no script's text, no message, and no notice's text.

@@ -10,11 +10,11 @@ ghost use Rattle.store_export.specs.Saying.{ReadsPlace};
 
 use crate::contents::Contents;
 use crate::place::PartPlace;
-use store_text::{LetterKind, Part, may_have};
-use store_accounts::{Filing, QueuedKind, Notice, QueuedMessage, Refusal, ReplyKey, Store};
 use octets::Octets;
 use sqlite::Alter;
 use std::alloc::Global;
+use store_accounts::{Filing, Notice, QueuedKind, QueuedMessage, Refusal, ReplyKey, Store};
+use store_text::{LetterKind, Part, may_have};
 
 /// Reads the part at a place, in an account whose contents were listed and that hasn't changed since.
 ///

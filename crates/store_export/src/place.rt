@@ -8,10 +8,10 @@ ghost use Rattle.store_export.specs.Places.{ListsPlaces, JoinsCopies, JoinsNotic
 ghost use Rattle.store_export.specs.Places.{copy_place as copy_place_of, has_active_place as has_active_in, is_script_place as is_script_of};
 
 use crate::run::Run;
-use store_accounts::{Filing, QueuedEnvelope, Refusal, ReplyKey, Store};
 use octets::{List, Octets, Texts};
 use sqlite::Alter;
 use std::alloc::Global;
+use store_accounts::{Filing, QueuedEnvelope, Refusal, ReplyKey, Store};
 
 /// The place where a part of an account is found.
 #[derive(Debug, Drop)]

@@ -3,17 +3,17 @@ ghost use Rattle.std.specs.Prelude.{◌≡◌, IfSome};
 ghost use Rattle.store_accounts.specs.Refusals.{IsTransient};
 ghost use Rattle.store_lock.specs.Closing.{WasAnswered, IsToldOf, IsToldOfClosing, code_at_end};
 
-use crate::cause::{FILE_IS_GONE, LOG_OF_ANOTHER, store_file_cause, lock_cause, sqlite_cause};
+use crate::cause::{FILE_IS_GONE, LOG_OF_ANOTHER, lock_cause, sqlite_cause, store_file_cause};
 use crate::identity::{Identity, Log};
 use crate::keeper::{Keeper, StoreUnavailable, release, store_of};
 use crate::note::Note;
-use store_accounts::{Refusal, Store};
 use sqlite::{Connection, Error, ErrorCode, File as Database, FileStore};
 use std::alloc::AllocError;
 use std::fs::{File, OpenOptions, TryLockError};
 use std::io::ErrorKind;
 use std::os::unix::fs::OpenOptionsExt;
 use std::{format, io};
+use store_accounts::{Refusal, Store};
 
 /// The permissions of a new file: its owner reads and writes it, and no one else does. All users' mail is in it.
 const OWNER_ALONE: u32 = 0o600;
@@ -62,7 +62,11 @@ impl<'a> FileKeeper<'a> {
     }
 
     /// Opens a store whose lock is held, and keeps the cause if it fails.
-    fn open(&mut self, path: &str, fresh: bool) -> Result<Store<FileStore<Database>>, StoreUnavailable>
+    fn open(
+        &mut self,
+        path: &str,
+        fresh: bool,
+    ) -> Result<Store<FileStore<Database>>, StoreUnavailable>
         ensures kept { self.new.lock ≡ self.old.lock }
         ensures closed { self.new.unclosed ≡ self.old.unclosed }
     {
@@ -157,7 +161,11 @@ impl Keeper for FileKeeper<'_> {
         self.lock = None;
     }
 
-    fn take(&mut self, path: &str, fresh: bool) -> Result<Store<FileStore<Database>>, StoreUnavailable> {
+    fn take(
+        &mut self,
+        path: &str,
+        fresh: bool,
+    ) -> Result<Store<FileStore<Database>>, StoreUnavailable> {
         if self.lock.is_some() {
             return self.open(path, fresh);
         }
@@ -398,7 +406,9 @@ fn make_file(rt: &HostRuntime, path: &str) -> Result<(), Failure> {
 fn open_failure(error: Error) -> Failure {
     let denial = match error {
         Error::SqliteFailure(ErrorCode::DatabaseBusy) => StoreUnavailable::Busy,
-        Error::SqliteFailure(ErrorCode::NotADatabase) => StoreUnavailable::Refused(Refusal::NotOurs),
+        Error::SqliteFailure(ErrorCode::NotADatabase) => StoreUnavailable::Refused(
+            Refusal::NotOurs,
+        ),
         _ => StoreUnavailable::Refused(Refusal::from(error)),
     };
     let cause = match error {

@@ -14,9 +14,9 @@ ghost use Rattle.store_accounts.specs.Shows.{Presents, OpensAs};
 ghost use Rattle.store_lock.specs.Taken.{IsStoreTaken};
 ghost use Rattle.store_lock.specs.declared.keeper.StoreUnavailable.{StoreUnavailable};
 
-use store_accounts::{Refusal, Store};
 use sqlite::{Alter, Connection, ErrorCode};
 use std::alloc::Global;
+use store_accounts::{Refusal, Store};
 
 /// Why no store is given out.
 #[derive(Clone, Copy, Debug, PartialEq, Eq)]

@@ -3,9 +3,9 @@ ghost use Rattle.std.specs.Prelude.{◌≡◌};
 ghost use Rattle.store_lock.specs.Memory.{told_of_close, left_after};
 
 use crate::keeper::{Keeper, StoreUnavailable, store_of};
-use store_accounts::{Refusal, Store};
 use sqlite::{Connection, MemStore};
 use std::alloc::{AllocError, Global};
+use store_accounts::{Refusal, Store};
 
 /// Keeps one store in memory, whatever path it is asked for, answers Busy to one chosen call for the lock, and fails to close
 /// at another one. It never waits, whether or not it is asked to.

@@ -5,7 +5,9 @@ ghost use Rattle.store_tables.specs.Changes.{MakesAll, CrashLeavesTables, made_o
 ghost use Rattle.sqlite.specs.State.{Survives, HasCleanDisk};
 ghost use Rattle.store_tables.specs.Connection.{ChangesRows, IsSettled, StaysSame};
 
-use crate::account::{add_account, set_active, set_address, set_counters, set_password, set_rounds};
+use crate::account::{
+    add_account, set_active, set_address, set_counters, set_password, set_rounds,
+};
 use crate::copy::{add_copy, remove_copies, remove_copy};
 use crate::message::{add_message, remove_message, remove_messages};
 use crate::notice::{add_notice, remove_early_notices, remove_notices};

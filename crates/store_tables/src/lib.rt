@@ -22,5 +22,7 @@ pub use queue::QueuedKind;
 pub use reply::add_reply;
 pub use schema::is_ours;
 pub use statement::{execute, query};
-pub use table::{has_no_tables, is_taken, make_copies, make_folders, make_later, make_tables, open_tables};
+pub use table::{
+    has_no_tables, is_taken, make_copies, make_folders, make_later, make_tables, open_tables,
+};
 pub use version::{add_version, are_version, find_version};

@@ -6,7 +6,7 @@ ghost use Rattle.store_text.specs.Reading.{ReadsAccountLine, entry_fields, IsEnt
 
 use crate::account_file::AccountReadError;
 use crate::fields::{are_version, numbers_of, owner_of, part_of, sum_of};
-use crate::head::{Numbers, AccountOwner};
+use crate::head::{AccountOwner, Numbers};
 use crate::line::take_line;
 use crate::part::Part;
 use octets::Octets;
@@ -35,7 +35,10 @@ pub(crate) fn take_version(alloc: Global, octets: &[u8]) -> Result<&[u8], Accoun
 }
 
 /// Reads the line on the account's owner, and returns it with the rest.
-pub(crate) fn take_owner(alloc: Global, octets: &[u8]) -> Result<(AccountOwner, &[u8]), AccountReadError>
+pub(crate) fn take_owner(
+    alloc: Global,
+    octets: &[u8],
+) -> Result<(AccountOwner, &[u8]), AccountReadError>
     ensures { ReadsAccountLine owner_fields (λ _. ⊤) octets.now result }
 {
     let Some((fields, rest)) = take_line(alloc, octets)? else {
@@ -48,7 +51,10 @@ pub(crate) fn take_owner(alloc: Global, octets: &[u8]) -> Result<(AccountOwner, 
 }
 
 /// Reads the line with the account's numbers, and returns them with the rest.
-pub(crate) fn take_numbers(alloc: Global, octets: &[u8]) -> Result<(Numbers, &[u8]), AccountReadError>
+pub(crate) fn take_numbers(
+    alloc: Global,
+    octets: &[u8],
+) -> Result<(Numbers, &[u8]), AccountReadError>
     ensures { ReadsAccountLine numbers_fields AreSmall octets.now result }
 {
     let Some((fields, rest)) = take_line(alloc, octets)? else {

@@ -3,7 +3,7 @@ ghost use Rattle.std.specs.Prelude.{◌≡◌, ◌&&◌, IfOk, codes, option_map
 ghost use Rattle.store_text.specs.Fields.{is_version, owner_at, owner_with as owner_by_word, rounds_in, counters_at, numbers_at, sum_at, part_at, script_at, reply_at, mail_at, copy_at, notice_at, four_at, where_flags, five_at, kind_at, letter_at};
 ghost use Rattle.store_text.specs.Netstring.{same_text, texts};
 
-use crate::head::{Numbers, AccountOwner};
+use crate::head::{AccountOwner, Numbers};
 use crate::netstring::number_of;
 use crate::part::{LetterKind, Part};
 use octets::Octets;

@@ -15,7 +15,7 @@ mod reading;
 mod writing;
 
 pub use account_file::{AccountFile, AccountReadError};
-pub use head::{AccountHead, Numbers, AccountOwner};
+pub use head::{AccountHead, AccountOwner, Numbers};
 pub use limits::{is_head, may_have};
 pub use netstring::MAX_FIELD;
 pub use part::{LetterKind, Part};

@@ -6,7 +6,7 @@ ghost use Rattle.store_text.specs.Netstring.{AreFields, IsNetstringField};
 ghost use Rattle.store_text.specs.Order.{are_numbers as are_numbers_in};
 ghost use Rattle.store_text.specs.Text.{IsHead};
 
-use crate::head::{AccountHead, Numbers, AccountOwner};
+use crate::head::{AccountHead, AccountOwner, Numbers};
 use crate::netstring::MAX_FIELD;
 use crate::order::{are_numbers, fits};
 use crate::part::Part;

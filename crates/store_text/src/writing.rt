@@ -8,7 +8,7 @@ ghost use Rattle.store_text.specs.Fields.{version_fields, owner_fields, numbers_
 ghost use Rattle.store_text.specs.Text.{head_text, part_line, sum_line};
 ghost use Rattle.store_text.specs.Writing.{HasWritten, line_octets};
 
-use crate::head::{AccountHead, Numbers, AccountOwner};
+use crate::head::{AccountHead, AccountOwner, Numbers};
 use crate::netstring::{push_length, push_netstring, push_number};
 use crate::part::{LetterKind, Part};
 use octets::Octets;

@@ -9,9 +9,9 @@ ghost use Rattle.store_versions.specs.Migration.{old_copy_cells, AreOldCopies, L
 
 use crate::statement::list;
 use crate::version::remove_version;
-use store_tables::{add_copy, add_message, add_version, execute, make_folders};
 use sqlite::{Alter, Error, Row, Transaction};
 use sqlite_value::value::ValueRef;
+use store_tables::{add_copy, add_message, add_version, execute, make_folders};
 
 /// A copy of a message, as version 1 stores it.
 #[derive(Drop)]

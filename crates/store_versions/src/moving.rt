@@ -12,8 +12,8 @@ ghost use Rattle.store_versions.specs.Migration.{AreOldRows, AreLater, RemakesAl
 
 use crate::migration::{drop_copy, find_copies, refill, text_at};
 use crate::statement::list;
-use store_tables::{add_notice, add_reply, execute, make_folders, make_later};
 use sqlite::{Alter, Error, Row, Transaction, params};
+use store_tables::{add_notice, add_reply, execute, make_folders, make_later};
 
 /// The rows of the queue, the replies and the notices.
 #[derive(Drop)]

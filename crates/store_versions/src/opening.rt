@@ -6,9 +6,9 @@ ghost use Rattle.store_versions.specs.Opening.{IsKnownSchema, LiesAs, OpensKnown
 use crate::schema::{is_old, is_oldest, is_second};
 use crate::upgrade::open_old;
 use crate::version::Older;
-use store_tables::{is_ours, open_tables};
 use sqlite::{Alter, Connection, Error};
 use sqlite_schema::schema::Schema;
+use store_tables::{is_ours, open_tables};
 
 /// The layout of a store's tables.
 #[derive(Clone, Copy, Debug, PartialEq, Eq)]

@@ -8,8 +8,11 @@ ghost use Rattle.store_tables.specs.Schema.{the_keys, the_indexes};
 ghost use Rattle.store_versions.specs.OldSchema.{old_copy, old_schema, oldest_schema};
 ghost use Rattle.store_versions.specs.SecondSchema.{second_copy, second_tables, IsSecondSchema};
 
-use store_tables::schema::{Parents, are_all, are_indexes, are_keys, is_account, is_message, is_meta, is_notice, is_outgoing, is_reply, is_script, is_table, key_of, needed};
 use sqlite_schema::schema::{Index, Kind, Schema, Table};
+use store_tables::schema::{
+    Parents, are_all, are_indexes, are_keys, is_account, is_message, is_meta, is_notice,
+    is_outgoing, is_reply, is_script, is_table, key_of, needed,
+};
 
 /// Whether this is the table of version 1's copies.
 fn is_old_copy(table: &Table, tree: u32) -> bool

@@ -10,8 +10,8 @@ ghost use Rattle.store_versions.specs.Third.{AreSecondCopies, RemakesCopies, Tur
 
 use crate::migration::{drop_copy, renew_version, text_at};
 use crate::statement::list;
-use store_tables::{add_copy, make_copies};
 use sqlite::{Alter, Error, Row, Transaction};
+use store_tables::{add_copy, make_copies};
 
 /// A copy of a message, as version 2 stores it: with the message's number.
 #[derive(Drop)]

@@ -6,8 +6,8 @@ ghost use Rattle.store_tables.specs.Connection.{AsksDatabase, Queries, ChangesRo
 ghost use Rattle.store_tables.specs.Rows.{rows_removed};
 ghost use Rattle.store_versions.specs.Upgrade.{IsOlder, IsOlderSchema, version_of};
 
-use store_tables::{are_version, execute, find_version};
 use sqlite::{Alter, Connection, Error, Row, Transaction, params};
+use store_tables::{are_version, execute, find_version};
 
 /// The tables of an earlier version.
 #[derive(Clone, Copy)]

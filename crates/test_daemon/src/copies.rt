@@ -4,11 +4,11 @@ ghost use Rattle.test_daemon.specs.Shelves as shelves;
 ghost use Rattle.store_engine.specs.Terms.{terms};
 ghost use Rattle.daemon_core.specs.StoreAccess.{delivery_of};
 
-use store_engine::{Answer, Envelope, Event, Report};
 use lmtp_connections::StoreDelivery;
 use octets::Octets;
 use sieve_exec::When;
 use std::alloc::{AllocError, Global};
+use store_engine::{Answer, Envelope, Event, Report};
 
 /// The same event, if it is one that the daemon applies; none otherwise.
 pub fn copy_event(event: &Event) -> Option<Event>

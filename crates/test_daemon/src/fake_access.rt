@@ -9,20 +9,20 @@ ghost use Rattle.test_daemon.specs.Shelves.{LetsMore, LetsOthers, StillHas, is_o
 
 use crate::copies::{copy_answer, copy_delivery, copy_event, is_of_accounts};
 use crate::shelf::Shelf;
-use lmtp_dialogue::Lookup;
-use store_engine::{Answer, Clients, Event};
-use maildir_moves::span_behind;
-use lmtp_connections::StoreDelivery;
-use octets::{List, Octets};
-use daemon_core::store_access::StoreAccess;
 use daemon_core::note::Note;
+use daemon_core::store_access::StoreAccess;
+use lmtp_connections::StoreDelivery;
+use lmtp_dialogue::Lookup;
+use maildir_moves::span_behind;
+use net_loop::act::Act;
+use net_loop::outcome::{Accepted, Input, Output, WaitError, Wake};
+use net_loop::outside::{Clock, Outside, Sockets};
+use octets::{List, Octets};
 use sieve_exec::When;
 use std::alloc::Global;
 use std::collections::VecDeque;
+use store_engine::{Answer, Clients, Event};
 use test_sockets::stage::{FakeNetwork, HasFakeNetwork};
-use net_loop::act::Act;
-use net_loop::outcome::{Accepted, WaitError, Input, Output, Wake};
-use net_loop::outside::{Clock, Outside, Sockets};
 
 /// Sockets and a clock that follow a script, and a store that others use too: it is away when the script says so, and each
 /// time that it is available events of others may come before.
@@ -316,7 +316,12 @@ impl<S: Shelf + Drop> StoreAccess for FakeAccess<S> {
     }
 
     // If memory is lacking for the event the store is as good as away.
-    fn deliver(&mut self, id: u32, clients: &mut Clients, parcel: &StoreDelivery) -> Option<Answer> {
+    fn deliver(
+        &mut self,
+        id: u32,
+        clients: &mut Clients,
+        parcel: &StoreDelivery,
+    ) -> Option<Answer> {
         let when = When::in_utc(self.stage.fake.moment / 1000);
         match copy_delivery(self.stage.fake.alloc, parcel, when, &None) {
             Ok(event) => self.bring(id, clients, event),

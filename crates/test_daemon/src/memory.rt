@@ -6,16 +6,19 @@ ghost use Rattle.test_daemon.specs.Shelves.{IsLet};
 ghost use Rattle.test_daemon.specs.Memory.{memory_view_of};
 
 use crate::shelf::Shelf;
-use lmtp_dialogue::Lookup;
-use store_engine::{Answer, Clients, Envelope, Event, Refusal, add_user, apply, deliver, import, do_upkeep, take_mail, take_out};
-use maildir_moves::{Moving, Route, move_next};
-use maildir_files::MemorySink;
-use store_accounts::Store;
-use octets::Octets;
 use daemon_core::account::find_account;
+use lmtp_dialogue::Lookup;
+use maildir_files::MemorySink;
+use maildir_moves::{Moving, Route, move_next};
+use octets::Octets;
 use sieve_exec::When;
 use sqlite::MemStore;
 use std::alloc::{AllocError, Global};
+use store_accounts::Store;
+use store_engine::{
+    Answer, Clients, Envelope, Event, Refusal, add_user, apply, deliver, do_upkeep, import,
+    take_mail, take_out,
+};
 
 /// A store of store_engine, in memory, and where its mail moves on to.
 #[derive(Drop)]

@@ -8,9 +8,9 @@ ghost use Rattle.daemon_core.specs.Moves.{HasKept};
 ghost use Rattle.test_daemon.specs.Shelves.{IsApplied, IsLet, IsSought, IsMovedOn, StillHas, is_of_accounts};
 
 use lmtp_dialogue::Lookup;
-use store_engine::{Answer, Clients, Event};
 use maildir_moves::Moving;
 use std::alloc::Global;
+use store_engine::{Answer, Clients, Event};
 
 /// Accounts that events change, with the sessions beside them.
 pub trait Shelf {

@@ -1,21 +1,20 @@
 //! The entries that are the daemon's own: who has an account at the start, what others do to the store, whether it is away, and
 //! what is in it.
 use crate::others::{SALT, parse_event};
-use test_daemon::fake_access::FakeAccess;
-use test_daemon::memory::MemShelf;
-use maildir_files::Separator;
-use store_engine::add_user;
-use maildir_moves::Route;
-use maildir_files::MemorySink;
-use store_accounts::Store;
-use octets::{List, Octets, write_decimal};
 use daemon_core::note::Note;
+use maildir_files::{MemorySink, Separator};
+use maildir_moves::Route;
+use net_loop::act::Act;
+use octets::{List, Octets, write_decimal};
 use sqlite::{Alter, Connection};
 use std::alloc::{AllocError, Global};
 use std::collections::VecDeque;
+use store_accounts::Store;
+use store_engine::add_user;
+use test_daemon::fake_access::FakeAccess;
+use test_daemon::memory::MemShelf;
 use test_sockets::play::{ScheduleCheck, ScheduleOwner};
 use test_sockets::schedule::split_word;
-use net_loop::act::Act;
 
 /// Looks at the accounts, and lets others change them.
 #[derive(Drop)]

@@ -1,9 +1,9 @@
 //! Dialogues of LMTP: what a client is answered, by `lmtp_dialogue` alone, whose questions the address of a recipient answers.
-use test_files::Answers;
 use lmtp_dialogue::reply::{DeliveryOutcome, LmtpReply};
-use lmtp_dialogue::{Delivery, Lookup, Next, Receiver, LmtpStage, TextFault};
+use lmtp_dialogue::{Delivery, LmtpStage, Lookup, Next, Receiver, TextFault};
 use octets::Octets;
 use std::alloc::{AllocError, Global};
+use test_files::Answers;
 
 /// No dialogue has more lines, recipients and deliveries.
 const MAX_ITEMS: usize = 10_000;

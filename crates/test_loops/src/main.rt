@@ -11,21 +11,21 @@ mod others;
 mod total;
 
 use accounts::{Accounts, new_shelf};
-use test_files::{CaseTally, try_rows};
-use test_daemon::fake_access::FakeAccess;
+use daemon_core::mail::MailDaemon;
 use dialogue::Dialogues;
 use lmtp_dialogue::Names;
+use net_loop::service::Service;
 use octets::{List, Octets};
-use daemon_core::mail::MailDaemon;
 use std::alloc::{AllocError, Global};
 use std::process::ExitCode;
 use std::{fs, io};
-use total::Totals;
+use test_daemon::fake_access::FakeAccess;
+use test_files::{CaseTally, try_rows};
 use test_sockets::echo::Echo;
-use test_sockets::play::{ScheduleCheck, Player};
+use test_sockets::play::{Player, ScheduleCheck};
 use test_sockets::schedule::{Flaw, Schedule};
 use test_sockets::stage::FakeNetwork;
-use net_loop::service::Service;
+use total::Totals;
 
 /// Those of the echo, in the order in which they are played.
 const ECHOES: [&str; 20] = [
@@ -198,7 +198,11 @@ fn try_part(
     }
 }
 
-fn note_checks(tally: &mut CaseTally, before: usize, checks: &List<ScheduleCheck>) -> Result<(), AllocError> {
+fn note_checks(
+    tally: &mut CaseTally,
+    before: usize,
+    checks: &List<ScheduleCheck>,
+) -> Result<(), AllocError> {
     for check in checks.as_slice() {
         let line = before.saturating_add(check.line);
         tally.note(line, check.wanted.as_slice(), check.got.as_slice())?;
@@ -207,7 +211,11 @@ fn note_checks(tally: &mut CaseTally, before: usize, checks: &List<ScheduleCheck
 }
 
 /// Plays a schedule, and returns all that was wanted and what came.
-fn play(alloc: Global, server: Server, schedule: &Schedule) -> Result<List<ScheduleCheck>, AllocError> {
+fn play(
+    alloc: Global,
+    server: Server,
+    schedule: &Schedule,
+) -> Result<List<ScheduleCheck>, AllocError> {
     match server {
         Server::Echo => play_echo(alloc, schedule),
         Server::Daemon => play_daemon(alloc, schedule, false, MEMORY),

@@ -1,7 +1,7 @@
 //! What other processes do to the daemon's store, as an entry names it.
-use store_engine::{Envelope, Event, Upkeep, When};
 use octets::{Octets, parse_decimal};
 use std::alloc::{AllocError, Global};
+use store_engine::{Envelope, Event, Upkeep, When};
 use test_sockets::schedule::{parse_text, split_word};
 
 /// The salt of every account.

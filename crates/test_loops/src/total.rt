@@ -1,11 +1,11 @@
 //! The entries that are the echo's own: `total N`, what the total is, and `ticks N`, how often the machine worked.
+use net_loop::act::Act;
 use octets::{List, Octets, write_decimal};
 use std::alloc::{AllocError, Global};
 use test_sockets::echo_outside::EchoNote;
 use test_sockets::play::{ScheduleCheck, ScheduleOwner};
 use test_sockets::schedule::split_word;
 use test_sockets::stage::FakeNetwork;
-use net_loop::act::Act;
 
 /// Looks at the total.
 #[derive(Drop)]

@@ -1,8 +1,8 @@
 //! What changes the accounts, as events over a store.
 use crate::base::{COPIES_FOURTH, COPIES_LAST, CURRENT, SECOND};
-use store_engine::{Envelope, Event, When};
 use octets::Octets;
 use std::alloc::{AllocError, Global};
+use store_engine::{Envelope, Event, When};
 
 /// The account that is there.
 const USER: &[u8] = b"alice";

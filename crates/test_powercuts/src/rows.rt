@@ -1,10 +1,10 @@
 //! What a store has, as a text: the rows of its tables.
-use test_files::LinePart::{Number, Text};
-use test_files::add_parts;
 use octets::Octets;
 use sqlite::{Alter, Connection, Row};
 use sqlite_value::value::ValueRef;
 use std::alloc::{AllocError, Global};
+use test_files::LinePart::{Number, Text};
+use test_files::add_parts;
 
 /// All rows, by their tables.
 pub const ALL: [&str; 8] = [

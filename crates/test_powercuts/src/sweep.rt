@@ -2,9 +2,9 @@
 use crate::act::CutAct;
 use crate::image::Image;
 use crate::visit::{Errand, open_files};
-use store_engine::Event;
 use octets::Octets;
 use std::alloc::{AllocError, Global};
+use store_engine::Event;
 
 /// More calls than an act makes.
 const MOST: u64 = 10_000;

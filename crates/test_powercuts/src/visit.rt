@@ -1,12 +1,12 @@
 //! A database that is opened over files, and what comes of it.
 use crate::image::CutFiles;
 use crate::rows::{ALL, VERSION, find_rows};
-use store_engine::{Answer, Event, Progress, RunAnswers, World, run};
-use store_accounts::Store;
 use octets::Octets;
 use sqlite::{Alter, Connection, Options};
 use sqlite_disk::Disk;
 use std::alloc::Global;
+use store_accounts::Store;
+use store_engine::{Answer, Event, Progress, RunAnswers, World, run};
 
 /// What is to happen in a database.
 #[derive(Clone, Copy)]

@@ -1,11 +1,11 @@
 //! What is answered to events.
-use test_files::LinePart::{Number, Text};
-use test_files::add_parts;
-use store_engine::{Answer, QueuedMessage, Progress, Refusal, Report};
-use octets::Octets;
 use cli_run::report::print_report;
+use octets::Octets;
 use std::alloc::{AllocError, Global};
 use std::format;
+use store_engine::{Answer, Progress, QueuedMessage, Refusal, Report};
+use test_files::LinePart::{Number, Text};
+use test_files::add_parts;
 
 /// Appends the answers that are shown.
 pub fn add_shown(
@@ -91,6 +91,10 @@ pub fn add_refusal(alloc: Global, out: &mut Octets, refusal: Refusal) -> Result<
 }
 
 /// Appends a word and a text as a line.
-pub fn add_word_line<'a>(out: &mut Octets, word: &'a [u8], text: &'a [u8]) -> Result<(), AllocError> {
+pub fn add_word_line<'a>(
+    out: &mut Octets,
+    word: &'a [u8],
+    text: &'a [u8],
+) -> Result<(), AllocError> {
     add_parts(out, &[Text(word), Text(text), Text(b"\n")])
 }

@@ -1,10 +1,13 @@
 //! What the words of the command line ask for.
-use test_files::words_of;
 use clap::Error;
+use cli_subcommands::{
+    ArgsError, DrainArgs, FoldersArgs, NoticesArgs, RawArgs, StoreLocation, Subcommand,
+    read_command_line, read_files,
+};
 use octets::Octets;
-use cli_subcommands::{RawArgs, DrainArgs, FoldersArgs, NoticesArgs, ArgsError, StoreLocation, Subcommand, read_command_line, read_files};
 use std::alloc::{AllocError, Global};
 use std::format;
+use test_files::words_of;
 
 /// What the words ask for, with the values in them; or whether what `clap` says is an error.
 pub fn add_asked(alloc: Global, out: &mut Octets, words: &[u8]) -> Result<(), AllocError> {

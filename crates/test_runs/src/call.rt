@@ -1,13 +1,15 @@
 //! Calls of a store that only sessions and deliveries make in the program.
 use crate::answer::add_word_line;
-use test_files::LinePart::{Number, Text};
-use test_files::{add_parts, decode_cell, split_at_first, trim_end};
-use store_engine::Refusal;
 use mail_flags::Placement;
-use store_accounts::{KeptReply, QueuedMessage, Plan, Profile, Report, Store, VacationReply, VacationReport};
 use octets::{List, Octets, Texts};
 use sqlite::MemStore;
 use std::alloc::{AllocError, Global};
+use store_accounts::{
+    KeptReply, Plan, Profile, QueuedMessage, Report, Store, VacationReply, VacationReport,
+};
+use store_engine::Refusal;
+use test_files::LinePart::{Number, Text};
+use test_files::{add_parts, decode_cell, split_at_first, trim_end};
 
 /// Gives a script another name: the note has both.
 pub fn rename(store: &mut Store<MemStore>, user: &[u8], note: &str) -> Result<(), Refusal> {

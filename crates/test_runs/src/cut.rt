@@ -1,11 +1,11 @@
 //! Streams of a client that come in pieces, and how far they are scanned.
-use test_files::LinePart::{Number, Text};
-use test_files::add_parts;
-use store_engine::{Answer, Event, World, run};
+use managesieve_sessions::{FreeStep, Progress, Session};
 use octets::Octets;
-use managesieve_sessions::{Progress, Session, FreeStep};
 use sqlite::MemStore;
 use std::alloc::{AllocError, Global};
+use store_engine::{Answer, Event, World, run};
+use test_files::LinePart::{Number, Text};
+use test_files::add_parts;
 
 /// The session that the streams come over, one after the other.
 const NUMBER: u32 = 999;

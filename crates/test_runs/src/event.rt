@@ -1,12 +1,12 @@
 //! The events that sections are.
-use store_text::AccountReadError;
 use base64::engine::general_purpose::STANDARD;
-use test_files::LinePart::Text;
-use test_files::{Section, add_parts, decode_cell, split_at_first, with_ends};
 use mail_dates::read_zone;
-use store_engine::{Envelope, Event, Upkeep, When};
 use octets::{Octets, parse_decimal};
 use std::alloc::{AllocError, Global};
+use store_engine::{Envelope, Event, Upkeep, When};
+use store_text::AccountReadError;
+use test_files::LinePart::Text;
+use test_files::{Section, add_parts, decode_cell, split_at_first, with_ends};
 
 /// The password of every account that `account` adds.
 pub const PASSWORD: &[u8] = b"secret";

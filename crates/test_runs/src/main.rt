@@ -19,10 +19,10 @@ mod stream;
 mod table;
 mod talk;
 
-use test_files::CaseTally;
 use std::process::ExitCode;
 use std::{fs, io};
 use table::{TABLES, Table};
+use test_files::CaseTally;
 
 fn main(rt: HostRuntime) -> io::Result<ExitCode> {
     let mut status = ExitCode::SUCCESS;

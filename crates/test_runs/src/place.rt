@@ -1,12 +1,12 @@
 //! Where messages and rows of queues are: the numbers of a folder, and the first place after one.
 use crate::answer::add_word_line;
-use test_files::LinePart::{Number, Text};
-use test_files::{add_parts, split_at_first};
-use store_engine::Refusal;
-use store_accounts::{CopyKey, QueueKey, Store};
 use octets::{Octets, parse_decimal};
 use sqlite::MemStore;
 use std::alloc::{AllocError, Global};
+use store_accounts::{CopyKey, QueueKey, Store};
+use store_engine::Refusal;
+use test_files::LinePart::{Number, Text};
+use test_files::{add_parts, split_at_first};
 
 /// Appends the numbers of the folder's messages, a line each.
 pub fn add_numbers(

@@ -1,17 +1,17 @@
 //! What is asked of a store, and done to it, beside events.
-use crate::answer::{add_word_line, add_refusal};
+use crate::answer::{add_refusal, add_word_line};
 use crate::call::{add_moment, add_profile, add_replies, add_rows, commit, rename};
 use crate::event::PASSWORD;
 use crate::place::{add_next_filed, add_next_queued, add_numbers, number_in};
-use test_files::LinePart::{Number, Text};
-use test_files::{Section, CaseTally, add_parts, decode_cell, split_at_first, trim_end};
-use store_engine::Refusal;
-use store_accounts::{Folder, NumberedMessage, Store};
+use cli_reports::{list_queue, list_user_notices};
 use octets::{Octets, Texts};
-use cli_reports::{list_user_notices, list_queue};
 use sasl_plain::digest;
 use sqlite::MemStore;
 use std::alloc::{AllocError, Global};
+use store_accounts::{Folder, NumberedMessage, Store};
+use store_engine::Refusal;
+use test_files::LinePart::{Number, Text};
+use test_files::{CaseTally, Section, add_parts, decode_cell, split_at_first, trim_end};
 
 /// Asks the store what a section asks, and appends what it says.
 pub fn ask(

@@ -1,18 +1,18 @@
 //! Runs of the program: its words, its input, and what they leave.
 use crate::stream::{NEVER, ShortWriter};
 use crate::talk;
-use test_files::LinePart::{Number, Text};
-use test_files::{Answers, add_parts, text_in, words_of};
-use store_lock::{Keeper, MemoryKeeper};
-use maildir_files::{KeptMail, MailSink, MemorySink};
-use store_accounts::Refusal;
-use octets::{Octets, parse_decimal, write_decimal};
-use cli_run::run::run_program;
 use cli_run::fault::RunFault;
+use cli_run::run::run_program;
 use cli_subcommands::RawArgs;
+use maildir_files::{KeptMail, MailSink, MemorySink};
+use octets::{Octets, parse_decimal, write_decimal};
 use sqlite::{Connection, Error};
 use std::alloc::{AllocError, Global};
 use std::format;
+use store_accounts::Refusal;
+use store_lock::{Keeper, MemoryKeeper};
+use test_files::LinePart::{Number, Text};
+use test_files::{Answers, add_parts, text_in, words_of};
 
 /// What the clock says, in seconds since 1970-01-01 UTC.
 pub const CLOCK: Option<u64> = Some(1_700_000_000);

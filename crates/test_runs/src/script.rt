@@ -1,11 +1,13 @@
 //! Scripts and tests, each tried on a message with its envelope (RFC 5228).
-use test_files::LinePart::Text;
-use test_files::{Lines, Section, Sections, CaseTally, add_parts, decode_cell, trim_end, try_lines, try_sections};
-use store_engine::attempt;
-use octets::Octets;
 use cli_reports::{report_fault, report_outcome};
+use octets::Octets;
 use sieve_lex::ScriptError;
 use std::alloc::{AllocError, Global};
+use store_engine::attempt;
+use test_files::LinePart::Text;
+use test_files::{
+    CaseTally, Lines, Section, Sections, add_parts, decode_cell, trim_end, try_lines, try_sections,
+};
 use test_texts::Trial;
 
 /// Tries each case of the file.

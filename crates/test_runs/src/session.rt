@@ -1,21 +1,25 @@
 //! Conversations: lists of events and what is answered, over a store in memory.
-use crate::answer::{add_word_line, add_shown};
+use crate::answer::{add_shown, add_word_line};
 use crate::cut::{add_answers, add_counts};
 use crate::event::{DeliverySettings, event, login, number_in_digits, octets_in, times_in};
 use crate::question::ask;
 use crate::spare::Spare;
-use test_files::{Section, Sections, CaseTally, try_sections};
-use store_engine::{Event, RunAnswers, World, run};
-use store_accounts::Store;
 use octets::Octets;
 use sqlite::{Connection, MemStore};
 use std::alloc::{AllocError, Global};
+use store_accounts::Store;
+use store_engine::{Event, RunAnswers, World, run};
+use test_files::{CaseTally, Section, Sections, try_sections};
 
 /// The number of the first session that a user has by `send`; those of `open` are smaller.
 const FIRST_OWN: u32 = 1_000_000;
 
 /// Tries each case of the file. The accounts stay to its end.
-pub fn try_conversations(alloc: Global, tally: &mut CaseTally, file: &str) -> Result<(), AllocError> {
+pub fn try_conversations(
+    alloc: Global,
+    tally: &mut CaseTally,
+    file: &str,
+) -> Result<(), AllocError> {
     let mut talk = Talk::new(alloc)?;
     try_sections(alloc, tally, &mut talk, file)
 }

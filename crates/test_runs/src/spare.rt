@@ -1,10 +1,10 @@
 //! A store beside that of the world: it is made, let go and opened again, and takes the world's place.
-use crate::answer::{add_word_line, add_refusal};
-use store_accounts::{Refusal, Store};
+use crate::answer::{add_refusal, add_word_line};
 use octets::Octets;
 use sqlite::{Connection, ErrorCode, MemStore};
 use std::alloc::{AllocError, Global};
 use std::mem;
+use store_accounts::{Refusal, Store};
 
 /// What is beside the store of a world.
 #[derive(Drop)]

@@ -1,12 +1,12 @@
 //! Readers and writers that fail at a call.
 use crate::run::add_left;
-use test_files::text_in;
-use store_engine::{Envelope, When};
-use octets::{Octets, parse_decimal};
 use cli_run::try_script::try_run;
+use octets::{Octets, parse_decimal};
 use std::alloc::{AllocError, Global};
 use std::io;
 use std::io::{ErrorKind, Read, Write};
+use store_engine::{Envelope, When};
+use test_files::text_in;
 
 /// A script that files into two mailboxes, without a message: `file a`, `file b`, 14 octets.
 const TWO: &[u8] = b"44\nrequire \"fileinto\";fileinto \"a\";fileinto\"b\";";

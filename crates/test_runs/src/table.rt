@@ -1,9 +1,9 @@
 //! The files of cases.
 use crate::run::MemoryRuns;
 use crate::{asked, script, session, stream};
-use test_files::{Answers, CaseTally, try_rows};
 use octets::Octets;
 use std::alloc::{AllocError, Global};
+use test_files::{Answers, CaseTally, try_rows};
 use test_texts::TextTable;
 
 /// A file of cases: in tables a line is a case, and its last column is what is wanted.
@@ -73,7 +73,12 @@ impl Table {
     }
 
     /// Tries each case of the file.
-    pub fn try_all(self, alloc: Global, tally: &mut CaseTally, file: &str) -> Result<(), AllocError> {
+    pub fn try_all(
+        self,
+        alloc: Global,
+        tally: &mut CaseTally,
+        file: &str,
+    ) -> Result<(), AllocError> {
         match self {
             Table::Text(table) => table.try_all(alloc, tally, file),
             Table::Scripts | Table::Tests => script::try_script_file(alloc, tally, file),

@@ -1,15 +1,15 @@
 //! Sessions of ManageSieve over a keeper: what one client is told.
 use crate::stream::{NEVER, PieceReader, ShortWriter};
-use test_files::LinePart::Text;
-use test_files::add_parts;
-use store_lock::Keeper;
-use octets::{Octets, parse_decimal};
 use cli_run::fault::RunFault;
 use cli_run::session::{serve_client, serve_one};
 use cli_subcommands::StoreLocation;
+use octets::{Octets, parse_decimal};
 use std::alloc::{AllocError, Global};
 use std::format;
 use std::io::ErrorKind;
+use store_lock::Keeper;
+use test_files::LinePart::Text;
+use test_files::add_parts;
 
 /// The greeting's last line.
 const GREETED: &[u8] = b"OK\r\n";

@@ -1,8 +1,8 @@
 //! Texts that are mailboxes, or none.
-use test_files::Answers;
 use octets::Octets;
 use smtp_dialogue::is_smtp_mailbox;
 use std::alloc::{AllocError, Global};
+use test_files::Answers;
 
 /// Answers `yes` or `no` to a text.
 #[derive(Drop)]

@@ -1,11 +1,11 @@
 //! Runs over queues in memory, with a server that sends given octets.
 use crate::memory_journal::MemoryJournal;
 use crate::memory_peer::MemoryPeer;
-use crate::memory_queue::{QueueChange, MemoryQueue};
-use test_files::Answers;
-use smtp_send::{SmtpClient, DueMessage, send_queue};
+use crate::memory_queue::{MemoryQueue, QueueChange};
 use octets::{Octets, parse_decimal, write_decimal};
+use smtp_send::{DueMessage, SmtpClient, send_queue};
 use std::alloc::{AllocError, Global};
+use test_files::Answers;
 
 /// How many octets come at once, at most: what is answered doesn't depend on that.
 const PIECES: [usize; 4] = [4_096, 1, 2, 7];

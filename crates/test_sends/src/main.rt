@@ -11,10 +11,10 @@ mod memory_peer;
 mod memory_queue;
 
 use boxes::Boxes;
-use test_files::{Answers, CaseTally, try_rows};
 use letters::{Changes, Holdings, Letters, Refusals};
 use std::process::ExitCode;
 use std::{fs, io};
+use test_files::{Answers, CaseTally, try_rows};
 
 fn main(rt: HostRuntime) -> io::Result<ExitCode> {
     let mut failed = try_file(&rt, "mailboxes.cases", &mut Boxes)?;

@@ -1,7 +1,7 @@
 //! A journal in memory.
-use smtp_send::{Journal, Unwritten};
 use octets::{Octets, write_decimal};
 use smtp_dialogue::Ending;
+use smtp_send::{Journal, Unwritten};
 use std::alloc::{AllocError, Global};
 
 /// What became of rows, one after another: `ID ENDING; ` for each, and `ID changed; ` before that of one whose number another row has. Its

@@ -1,8 +1,8 @@
 //! A connection in memory.
 ghost use Rattle.std.specs.Prelude.{◌≡◌, ◌≤◌, length};
 
-use smtp_send::{Lost, Patience, SmtpPeer};
 use octets::Octets;
+use smtp_send::{Lost, Patience, SmtpPeer};
 use std::alloc::Global;
 
 /// Of what is written at once it takes this many octets.

@@ -1,6 +1,6 @@
 //! Queues in memory.
-use smtp_send::{SendQueue, DueMessage, TakenOut, QueueUnavailable};
 use octets::{List, Octets};
+use smtp_send::{DueMessage, QueueUnavailable, SendQueue, TakenOut};
 use std::alloc::{AllocError, Global};
 
 /// For how many milliseconds at most the store is held without a break.

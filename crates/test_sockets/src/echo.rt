@@ -4,10 +4,10 @@ ghost use Rattle.std.specs.BTreeMap as tree;
 ghost use Rattle.test_sockets.specs.EchoRules.{echo_rules, echo_claim_by, echo_want_by, echo_deadline_by, guest_of};
 
 use crate::echo_outside::EchoOutside;
+use net_loop::machine::{Claim, Machine, Want};
 use octets::{Octets, Pending, parse_decimal, write_decimal};
 use std::alloc::{AllocError, Global};
 use std::collections::BTreeMap;
-use net_loop::machine::{Claim, Machine, Want};
 
 /// No line is longer.
 const MAX_LINE: usize = 100;

@@ -4,12 +4,12 @@ ghost use Rattle.net_loop.specs.declared.act.Act.TheVariants.{Woke};
 ghost use Rattle.net_loop.specs.Told.{IsLoopAct, AfterRead, AfterDiscard, AfterWrite, ReadFits, DiscardFits, WriteFits};
 
 use crate::script::{Reading, SocketScript};
+use net_loop::act::Act;
+use net_loop::outcome::{Accepted, Input, Output, WaitError, Wake};
+use net_loop::outside::{Clock, Outside, Sockets};
 use octets::{List, Octets};
 use std::alloc::{AllocError, Global};
 use std::collections::VecDeque;
-use net_loop::act::Act;
-use net_loop::outcome::{Accepted, WaitError, Input, Output, Wake};
-use net_loop::outside::{Clock, Outside, Sockets};
 
 /// No more octets are dropped at once.
 const MAX_DISCARD: usize = 4096;

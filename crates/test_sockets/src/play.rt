@@ -1,11 +1,11 @@
 //! Plays a schedule on a machine.
 use crate::peer::{FakePeer, Side};
-use crate::schedule::{PeerAct, Entry, Schedule};
+use crate::schedule::{Entry, PeerAct, Schedule};
 use crate::stage::HasFakeNetwork;
-use octets::{List, Octets, Pending};
-use std::alloc::{AllocError, Global};
 use net_loop::machine::Machine;
 use net_loop::service::{Service, act};
+use octets::{List, Octets, Pending};
+use std::alloc::{AllocError, Global};
 
 /// How many acts may follow until all is done that can be done.
 const MAX_ACTS: u32 = 10_000_000;
@@ -183,7 +183,11 @@ fn say(alloc: Global, peer: &mut FakePeer, text: &[u8]) -> Result<(), AllocError
 }
 
 /// What an entry wants, and what came.
-fn seen_by(alloc: Global, peer: &mut FakePeer, deed: &PeerAct) -> Result<(Octets, Octets), AllocError> {
+fn seen_by(
+    alloc: Global,
+    peer: &mut FakePeer,
+    deed: &PeerAct,
+) -> Result<(Octets, Octets), AllocError> {
     match deed {
         PeerAct::Has(text) => {
             let got = peer.sent.try_clone(alloc)?;

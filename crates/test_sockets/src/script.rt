@@ -1,10 +1,10 @@
 //! What is to happen.
 ghost use Rattle.std.specs.Prelude.{◌≤◌};
 
+use net_loop::outcome::Wake;
 use octets::Octets;
 use std::alloc::Global;
 use std::collections::VecDeque;
-use net_loop::outcome::Wake;
 
 /// What a read of a connection comes to.
 #[derive(Drop)]

@@ -5,13 +5,13 @@ ghost use Rattle.net_loop.specs.Told.{IsLoopAct};
 use crate::fake::Fake;
 use crate::peer::{FakePeer, Side};
 use crate::script::{Reading, SocketScript};
+use net_loop::act::Act;
+use net_loop::outcome::{Accepted, Input, Output, WaitError, Wake};
+use net_loop::outside::{Clock, Outside, Sockets};
 use octets::Octets;
 use std::alloc::{AllocError, Global};
 use std::collections::VecDeque;
 use std::mem::replace;
-use net_loop::act::Act;
-use net_loop::outcome::{Accepted, WaitError, Input, Output, Wake};
-use net_loop::outside::{Clock, Outside, Sockets};
 
 /// No more octets are dropped at once.
 const MAX_DISCARD: usize = 4096;

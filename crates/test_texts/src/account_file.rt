@@ -1,7 +1,9 @@
 //! Texts of accounts.
-use store_text::{AccountFile, AccountHead, LetterKind, Part, AccountReadError, Writer, read_account_file};
 use octets::{Octets, write_decimal};
 use std::alloc::{AllocError, Global};
+use store_text::{
+    AccountFile, AccountHead, AccountReadError, LetterKind, Part, Writer, read_account_file,
+};
 
 /// What the text says, one part after the other; none if it is that of no account.
 pub fn add_account(alloc: Global, out: &mut Octets, text: &[u8]) -> Result<(), AllocError> {

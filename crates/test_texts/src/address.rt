@@ -1,9 +1,9 @@
 //! Mail addresses (RFC 5322, 3.4).
 use mail_address::{Addr, addresses, bare_address, sieve_address, spell_address};
-use test_files::LinePart::Text;
-use test_files::add_parts;
 use octets::Octets;
 use std::alloc::{AllocError, Global};
+use test_files::LinePart::Text;
+use test_files::add_parts;
 
 /// The addresses of a header value, each as `LOCAL|DOMAIN;`.
 pub fn add_addresses(alloc: Global, out: &mut Octets, value: &[u8]) -> Result<(), AllocError> {

@@ -2,12 +2,12 @@
 use crate::decision::try_decisions;
 use crate::response::Response;
 use mail_address::Addr;
-use test_files::{Section, CaseTally, try_lines, with_ends};
 use octets::{Octets, parse_decimal};
 use sieve_exec::Mail;
 use sieve_syntax::VacationArgs;
-use std::alloc::{AllocError, Global};
 use sieve_vacation::{AddressedMail, MAX_MOMENT, handle_key, has_short_texts, reply_bytes};
+use std::alloc::{AllocError, Global};
+use test_files::{CaseTally, Section, try_lines, with_ends};
 
 /// What a script asks to be answered, and the address of its user.
 #[derive(Clone, Copy)]

@@ -1,10 +1,15 @@
 //! Words on ASCII, and decimals.
-use test_files::text_in;
 use octets::{Octets, lowered, parse_decimal, trim_blanks, write_decimal};
 use std::alloc::{AllocError, Global};
+use test_files::text_in;
 
 /// What a call makes of a text.
-pub fn answer_ascii(alloc: Global, out: &mut Octets, call: &[u8], text: &[u8]) -> Result<(), AllocError> {
+pub fn answer_ascii(
+    alloc: Global,
+    out: &mut Octets,
+    call: &[u8],
+    text: &[u8],
+) -> Result<(), AllocError> {
     match text_in(call) {
         "trim" => out.extend_from_slice(trim_blanks(text)),
         "lowered" => out.extend_from_slice(lowered(alloc, text)?.as_slice()),

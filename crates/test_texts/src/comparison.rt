@@ -1,10 +1,9 @@
 //! Texts compared by both comparators (RFC 4790, 9.2 and 9.3).
+use octets::Octets;
+use sieve_match::{AsciiCasemap, Octet, contains, is, matches};
+use std::alloc::AllocError;
 use test_files::LinePart::Text;
 use test_files::add_parts;
-use sieve_match::{AsciiCasemap, Octet, contains, is};
-use sieve_match::matches;
-use octets::Octets;
-use std::alloc::AllocError;
 
 /// By which comparators a key is the value, and by which the value contains it.
 pub fn add_comparison(out: &mut Octets, key: &[u8], value: &[u8]) -> Result<(), AllocError> {

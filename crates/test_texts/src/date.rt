@@ -1,8 +1,8 @@
 //! Dates in a response (RFC 5322, 3.3).
-use test_files::{Lines, CaseTally, split_at_first};
 use octets::{Octets, parse_decimal};
-use std::alloc::{AllocError, Global};
 use sieve_vacation::{MAX_MOMENT, write_date};
+use std::alloc::{AllocError, Global};
+use test_files::{CaseTally, Lines, split_at_first};
 
 /// Dates: a line has a moment and its text.
 #[derive(Drop)]

@@ -1,9 +1,9 @@
 //! Whether a response is sent.
 use crate::answering::Answering;
-use test_files::{Section, CaseTally, split_at_first};
 use octets::{Octets, parse_decimal, write_decimal};
-use std::alloc::{AllocError, Global};
 use sieve_vacation::{AddressedMail, ReplyDecision, decide_reply};
+use std::alloc::{AllocError, Global};
+use test_files::{CaseTally, Section, split_at_first};
 
 /// Tries one decision per line: the moment kept or `-`, this moment, and the reason's number or `send`.
 pub fn try_decisions(

@@ -1,9 +1,9 @@
 //! Scripts and their first fault.
 use crate::trial::Trial;
-use sieve_plan::evaluate_script;
 use octets::Octets;
 use sieve_exec::Mail;
 use sieve_lex::ScriptError;
+use sieve_plan::evaluate_script;
 use std::alloc::{AllocError, Global};
 
 /// The first fault of a script, or `valid`.

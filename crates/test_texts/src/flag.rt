@@ -1,8 +1,8 @@
 //! The flags of a message (RFC 5232).
-use test_files::text_in;
 use mail_flags::Flags;
 use octets::Octets;
 use std::alloc::{AllocError, Global};
+use test_files::text_in;
 
 /// What steps make of no flags: their names, `|`, and their letters. A step is `set`, `add` or `remove`, and after a blank the texts
 /// of one command, with `;` between two.

@@ -1,9 +1,9 @@
 //! The heads of messages (RFC 5322, 2.2).
-use test_files::LinePart::{Number, Text};
-use test_files::{Message, Section, Sections, CaseTally, add_parts, try_sections};
 use mail_head::{Field, Head};
 use octets::Octets;
 use std::alloc::{AllocError, Global};
+use test_files::LinePart::{Number, Text};
+use test_files::{CaseTally, Message, Section, Sections, add_parts, try_sections};
 
 /// Tries each case of the file. `message` is a message as it is, `mail` one whose line ends are CRLF.
 pub fn try_heads(alloc: Global, tally: &mut CaseTally, file: &str) -> Result<(), AllocError> {

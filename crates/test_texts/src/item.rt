@@ -1,9 +1,9 @@
 //! What comes first in the octets of a ManageSieve client (RFC 5804).
-use test_files::LinePart::{Number, Text};
-use test_files::add_parts;
 use managesieve_protocol::{ClientCommand, ClientItem, ItemExtent, Scan, extent, first};
 use octets::Octets;
 use std::alloc::{AllocError, Global};
+use test_files::LinePart::{Number, Text};
+use test_files::add_parts;
 
 /// How many octets the first item takes, and what it says. `extent` has to reach as far, and a scan too, octet by octet and in two pieces.
 pub fn add_first(

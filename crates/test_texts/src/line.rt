@@ -1,12 +1,19 @@
 //! Lines of a message, and the fields among them (RFC 5322, 2.1 and 2.2).
-use test_files::LinePart::Text;
-use test_files::{add_parts, text_in};
-use mail_head::{after_empty_line, first_line, logical_line, read_field, unfold_value, without_end};
+use mail_head::{
+    after_empty_line, first_line, logical_line, read_field, unfold_value, without_end,
+};
 use octets::Octets;
 use std::alloc::{AllocError, Global};
+use test_files::LinePart::Text;
+use test_files::{add_parts, text_in};
 
 /// What a call makes of a text.
-pub fn answer_about_line(alloc: Global, out: &mut Octets, call: &[u8], text: &[u8]) -> Result<(), AllocError> {
+pub fn answer_about_line(
+    alloc: Global,
+    out: &mut Octets,
+    call: &[u8],
+    text: &[u8],
+) -> Result<(), AllocError> {
     match text_in(call) {
         "first" => add_first(out, text),
         "logical" => add_logical(out, text),

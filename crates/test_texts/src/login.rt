@@ -1,9 +1,9 @@
 //! Logins by PLAIN, and kept passwords (RFC 4616).
 use crate::line::add_text_pair;
-use test_files::text_in;
 use octets::{Octets, parse_decimal};
 use sasl_plain::{Login, PasswordHash, accepts, digest, plain};
 use std::alloc::{AllocError, Global};
+use test_files::text_in;
 
 /// What comes of a row that has other columns than its call takes.
 const NOT_THAT_MANY: &[u8] = b"not that many columns";

@@ -1,11 +1,15 @@
 //! Answers of ManageSieve as they are spelled (RFC 5804).
-use test_files::text_in;
-use managesieve_protocol::{ReplyCode, DataLine, ServerReply, Status, spell};
+use managesieve_protocol::{DataLine, ReplyCode, ServerReply, Status, spell};
 use octets::{List, Octets};
 use std::alloc::{AllocError, Global};
+use test_files::text_in;
 
 /// The octets of an answer of one line.
-pub fn add_reply_spelling(alloc: Global, out: &mut Octets, given: &[Octets]) -> Result<(), AllocError> {
+pub fn add_reply_spelling(
+    alloc: Global,
+    out: &mut Octets,
+    given: &[Octets],
+) -> Result<(), AllocError> {
     match reply_of(alloc, given)? {
         Some(reply) => spell(alloc, &reply, out),
         None => out.extend_from_slice(b"no such answer"),
@@ -37,7 +41,11 @@ fn line_of(alloc: Global, kind: &str, given: &[Octets]) -> Result<Option<DataLin
     }
 }
 
-fn capability(alloc: Global, name: &Octets, value: &Octets) -> Result<Option<DataLine>, AllocError> {
+fn capability(
+    alloc: Global,
+    name: &Octets,
+    value: &Octets,
+) -> Result<Option<DataLine>, AllocError> {
     let name = name.try_clone(alloc)?;
     let value = some(alloc, value)?;
     Ok(Some(DataLine::Capability { name, value }))

@@ -1,6 +1,6 @@
 //! Responses of `vacation`, line by line.
-use test_files::{Lines, CaseTally, decode_cell};
 use std::alloc::{AllocError, Global};
+use test_files::{CaseTally, Lines, decode_cell};
 
 /// A response, and whether each line that is tried is in it.
 #[derive(Drop)]

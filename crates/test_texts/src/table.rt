@@ -1,8 +1,11 @@
 //! The files of cases whose answers need no store.
-use crate::{account_file, address, ascii, comparison, date_part, fault, flag, head, item, line, login, reply, token, vacation, word};
-use test_files::{Answers, CaseTally, try_rows};
+use crate::{
+    account_file, address, ascii, comparison, date_part, fault, flag, head, item, line, login,
+    reply, token, vacation, word,
+};
 use octets::Octets;
 use std::alloc::{AllocError, Global};
+use test_files::{Answers, CaseTally, try_rows};
 
 /// A file of cases whose answers need no store: in tables a line is a case, and its last column is what is wanted.
 #[derive(Clone, Copy)]
@@ -57,7 +60,12 @@ impl TextTable {
     }
 
     /// Tries each case of the file.
-    pub fn try_all(self, alloc: Global, tally: &mut CaseTally, file: &str) -> Result<(), AllocError> {
+    pub fn try_all(
+        self,
+        alloc: Global,
+        tally: &mut CaseTally,
+        file: &str,
+    ) -> Result<(), AllocError> {
         match self {
             TextTable::Heads => head::try_heads(alloc, tally, file),
             TextTable::Vacations => vacation::try_vacations(alloc, tally, file),

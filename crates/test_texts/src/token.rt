@@ -1,10 +1,10 @@
 //! The tokens of a script (RFC 5228, 8.1).
-use test_files::LinePart::{Number, Text};
-use test_files::add_parts;
 use octets::Octets;
 use sieve_lex::{Content, Mark, Said, ScriptError, Token, tokens};
 use std::alloc::{AllocError, Global};
 use std::format;
+use test_files::LinePart::{Number, Text};
+use test_files::add_parts;
 
 /// Each token with what it is and says, its place and its line; or the fault.
 pub fn add_tokens(alloc: Global, out: &mut Octets, script: &[u8]) -> Result<(), AllocError> {

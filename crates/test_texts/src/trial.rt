@@ -1,9 +1,9 @@
 //! Scripts, each with a message and its envelope, as files have them.
-use test_files::{Message, Section, decode_cell};
 use mail_dates::read_zone;
 use octets::Octets;
 use sieve_exec::{Envelope, Mail, When};
 use std::alloc::{AllocError, Global};
+use test_files::{Message, Section, decode_cell};
 
 /// What is in force, as the file has it: each text stays until another section has its name.
 #[derive(Clone, Copy)]

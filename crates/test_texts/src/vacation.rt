@@ -3,12 +3,12 @@ use crate::answering::Answering;
 use crate::date::Dates;
 use crate::trial::Trial;
 use mail_address::{Addr, bare_address};
-use test_files::{Section, Sections, CaseTally, decode_cell, try_lines, try_sections};
-use sieve_plan::evaluate_script;
 use sieve_exec::{Mail, Outcome};
 use sieve_lex::ScriptError;
+use sieve_plan::evaluate_script;
 use sieve_syntax::VacationArgs;
 use std::alloc::{AllocError, Global};
+use test_files::{CaseTally, Section, Sections, decode_cell, try_lines, try_sections};
 
 /// What is in force, as the file has it: each text stays until another section has its name.
 #[derive(Clone, Copy)]

@@ -11,7 +11,12 @@ pub static DONE: SubcommandRow = SubcommandRow {
     about: "Takes a message that went out off the queue",
     more: "Reads nothing. Prints `taken ID`.
 Status 0: taken, and on the disk. 64: wrong words or number. 65: no such row or store. 67: no such user. 75: try again later.",
-    arguments: &[CliArgument::Db, CliArgument::Wait, CliArgument::User, CliArgument::Id],
+    arguments: &[
+        CliArgument::Db,
+        CliArgument::Wait,
+        CliArgument::User,
+        CliArgument::Id,
+    ],
 };
 
 /// The message that was sent.

@@ -11,7 +11,12 @@ pub static PASSWD: SubcommandRow = SubcommandRow {
     about: "Sets an account's password",
     more: "Reads the password, up to the first line end. Prints `changed NAME`. A session that is open stays logged in until it ends.
 Status 0: changed. 64: wrong words or salt. 65: such a password is not allowed. 67: no such user. 75: try again later.",
-    arguments: &[CliArgument::Db, CliArgument::Wait, CliArgument::Salt, CliArgument::Name],
+    arguments: &[
+        CliArgument::Db,
+        CliArgument::Wait,
+        CliArgument::Salt,
+        CliArgument::Name,
+    ],
 };
 
 /// The account that gets another password.

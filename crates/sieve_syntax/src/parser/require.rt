@@ -26,7 +26,10 @@ use std::alloc::Global;
 const MAX_BLOCKS: usize = 32;
 
 /// Reads the commands of a whole script.
-pub(crate) fn read_script(alloc: Global, reader: &mut Reader<'_>) -> Result<Vec<Command>, ParseError>
+pub(crate) fn read_script(
+    alloc: Global,
+    reader: &mut Reader<'_>,
+) -> Result<Vec<Command>, ParseError>
     ensures found { IfOk result (λ all. ReadsScript (commands_view all.items) reader.old × IsValid (commands_view all.items)) }
     ensures only { IfOk result (λ all. (tree : Commands) → ReadsScript tree reader.old → IsValid tree → tree ≡ commands_view all.items) }
     ensures fault { IfParseFault result ((tree : Commands) → ReadsScript tree reader.old → IsValid tree → ⊥) }

@@ -12,8 +12,13 @@ use crate::parser::argument::Argument;
 use crate::table::capability::{Capabilities, require};
 use crate::table::keyword::Keyword;
 use crate::table::positional::{no_arguments, read_list};
-use crate::table::test_arguments::{read_address, read_current_date, read_date_test, read_envelope, read_has_flag, read_header, read_size};
-use crate::tree::checks::{Address, MailCheck, Collation, CurrentDate, DateTest, EnvelopeTest, HasFlag, Header, Matching};
+use crate::table::test_arguments::{
+    read_address, read_current_date, read_date_test, read_envelope, read_has_flag, read_header,
+    read_size,
+};
+use crate::tree::checks::{
+    Address, Collation, CurrentDate, DateTest, EnvelopeTest, HasFlag, Header, MailCheck, Matching,
+};
 use crate::tree::test::Test;
 use octets::Texts;
 use sieve_lex::FaultKind;

@@ -12,8 +12,12 @@ use crate::parser::argument::Argument;
 use crate::table::keyword::is_name;
 use crate::table::positional::{list, lists, number, text_and_list, two_texts_and_list};
 use crate::table::tag_group::{TagGroup, TagValue, split_tags};
-use crate::table::tag_values::{given_bound, given_comparator, given_matching, given_part, given_zone};
-use crate::tree::checks::{Address, CurrentDate, DateTest, DateZone, EnvelopeParts, EnvelopeTest, HasFlag, Header, Size};
+use crate::table::tag_values::{
+    given_bound, given_comparator, given_matching, given_part, given_zone,
+};
+use crate::tree::checks::{
+    Address, CurrentDate, DateTest, DateZone, EnvelopeParts, EnvelopeTest, HasFlag, Header, Size,
+};
 use mail_dates::DatePart;
 use octets::Octets;
 use sieve_lex::FaultKind;
@@ -92,7 +96,10 @@ fn address_from(
 }
 
 /// Reads the arguments of `envelope`.
-pub(crate) fn read_envelope(alloc: Global, args: &[Argument<'_>]) -> Result<EnvelopeTest, ParseError>
+pub(crate) fn read_envelope(
+    alloc: Global,
+    args: &[Argument<'_>],
+) -> Result<EnvelopeTest, ParseError>
     ensures { FindsValue (IsEnvelopeTest args.now) result }
 {
     let allowed = &[TagGroup::Comparator, TagGroup::Part, TagGroup::Matching];

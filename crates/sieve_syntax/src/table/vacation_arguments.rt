@@ -11,14 +11,19 @@ use crate::parser::argument::Argument;
 use crate::table::positional::text;
 use crate::table::redirect::{named_address, outbound};
 use crate::table::tag_group::{TagGroup, TagValue, split_tags};
-use crate::table::tag_values::{given_days, given_handle, given_mime, given_seconds, given_subject};
+use crate::table::tag_values::{
+    given_days, given_handle, given_mime, given_seconds, given_subject,
+};
 use crate::tree::vacation::{ReplyFrom, VacationArgs};
 use mail_address::Addr;
 use octets::{List, Octets};
 use std::alloc::{AllocError, Global};
 
 /// Reads the arguments of `vacation`.
-pub(crate) fn read_vacation(alloc: Global, args: &[Argument<'_>]) -> Result<VacationArgs, ParseError>
+pub(crate) fn read_vacation(
+    alloc: Global,
+    args: &[Argument<'_>],
+) -> Result<VacationArgs, ParseError>
     ensures { FindsValue (IsVacation args.now) result }
 {
     let allowed = &[
