@@ -63,7 +63,7 @@ if header :contains "subject" "[list]" { fileinto "lists"; }
 # Does what the page's lines say to systemctl, without systemd: programs that run in the background, by the lines of their units.
 SYSTEMCTL = r"""#!/usr/bin/env python3
 import glob, os, re, subprocess, sys
-UNITS = "@DOCS@/systemd"
+UNITS = "@PACKAGING@/systemd"
 
 def line_of(unit):
     line = None
@@ -181,7 +181,7 @@ class Host:
         users, groups = (open(f"/etc/{name}").read() for name in ("passwd", "group"))
         if "\nsieved:" not in users:
             users, groups = users + "sieved:x:977:977::/var/lib/sieved:/usr/sbin/nologin\n", groups + "sieved:x:977:\n"
-        return {"/etc/hosts": hosts, "/etc/passwd": users, "/etc/group": groups, "/usr/local/bin/systemctl": SYSTEMCTL.replace("@DOCS@", f"{TOP}/docs"),
+        return {"/etc/hosts": hosts, "/etc/passwd": users, "/etc/group": groups, "/usr/local/bin/systemctl": SYSTEMCTL.replace("@PACKAGING@", f"{TOP}/packaging"),
                 "/root/sshd_config": SSHD}
 
     def begin(self):

@@ -168,7 +168,7 @@ def version():
     with open(f"{TOP}/crates/cli_subcommands/src/program.rt") as file:
         (found,) = re.findall(r'VERSION: &str = "([^"]*)"', file.read())
     said = subprocess.run([SIEVED, "--version"], capture_output=True, text=True).stdout.split()
-    page = [line for line in lines_of("docs/sieved.1") if line.startswith(".Os")]
+    page = [line for line in lines_of("packaging/sieved.1") if line.startswith(".Os")]
     newest = [line for line in lines_of("CHANGELOG.md") if line.startswith("## ")][0]
     named = re.findall(r"sieved_(\S+)_amd64\.deb", "\n".join(lines_of("README.md")))
     plain = found.removesuffix("~dev")
@@ -182,7 +182,7 @@ def version():
 def completed(words):
     """What is offered behind these words, the last of which is begun."""
     script = 'source "$1"; shift; COMP_WORDS=("$@"); COMP_CWORD=$(($# - 1)); _sieved; printf "%s\\n" "${COMPREPLY[@]}"'
-    done = subprocess.run(["bash", "-c", script, "-", f"{TOP}/docs/completion/sieved", SIEVED, *words], capture_output=True, text=True, cwd="/")
+    done = subprocess.run(["bash", "-c", script, "-", f"{TOP}/packaging/completion/sieved", SIEVED, *words], capture_output=True, text=True, cwd="/")
     return set(done.stdout.split())
 
 

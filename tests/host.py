@@ -292,7 +292,8 @@ def host(base, package, page, keep):
     run("cp", "-a", base, root)
     shutil.copy(package, f"{root}/root/")
     # VARIANTS' first lines are typed at the top of the repository.
-    shutil.copytree(f"{TOP}/docs", f"{root}/root/docs")
+    for folder in "docs", "packaging":
+        shutil.copytree(f"{TOP}/{folder}", f"{root}/root/{folder}")
     os.makedirs(f"{root}/root/crates/sieved/out")
     shutil.copy(f"{TOP}/crates/sieved/out/sieved", f"{root}/root/crates/sieved/out/")
     machine = Machine(root)

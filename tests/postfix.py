@@ -14,6 +14,7 @@ from scripts import PROGRAM, small_disk
 
 TOP = os.path.dirname(managesieve.HERE)
 DOCS = os.environ.get("SIEVED_DOCS", f"{TOP}/docs")
+PACKAGING = os.environ.get("SIEVED_PACKAGING", f"{TOP}/packaging")
 MAIN = """compatibility_level = 3.6
 queue_directory = {room}/spool
 data_directory = {room}/lib
@@ -129,7 +130,7 @@ class Host:
         os.chown(f"{room}/lib", postfix.pw_uid, postfix.pw_gid)
         os.chown(f"{room}/var", nobody.pw_uid, nobody.pw_gid)
         for name in "sieved-deliver", "sieved-drain", "sieved-queue":
-            shutil.copy(f"{DOCS}/{name}", f"{room}/bin")
+            shutil.copy(f"{PACKAGING}/{name}", f"{room}/bin")
         shutil.copy(PROGRAM[0], f"{room}/bin/sieved")
         self.file("bin/sendmail", f'#!/bin/sh\nexec /usr/sbin/sendmail -C {room}/etc "$@"\n', 0o755)
         self.db = f"{room}/var/mail.db"
@@ -165,7 +166,7 @@ class Host:
 
     def run_unit(self, name, instance="", user=""):
         """Runs a unit's command with the variables of its file, as systemd does."""
-        with open(f"{DOCS}/systemd/{name}.service") as file:
+        with open(f"{PACKAGING}/systemd/{name}.service") as file:
             unit = self.ours(file.read().replace("%i", instance))
         command = f"set -a; . {re.search('EnvironmentFile=(.*)', unit)[1]}; exec {re.search('ExecStart=(.*)', unit)[1]}"
         done = subprocess.run([*user.split(), "sh", "-c", command], env=self.env, capture_output=True)

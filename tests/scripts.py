@@ -1,5 +1,5 @@
 #!/usr/bin/env python3
-"""Tries docs/sieved-deliver, sieved-queue and sieved-drain with what strangers send, programs that are killed and disks that are full.
+"""Tries packaging/sieved-deliver, sieved-queue and sieved-drain with what strangers send, programs that are killed and disks that are full.
 
   tests/scripts.py [--sieved SIEVED] [TRIAL ..]       SIEVED: the program, crates/sieved/out/sieved where none is named
 
@@ -12,6 +12,7 @@ from contextlib import contextmanager
 
 TOP = os.path.dirname(managesieve.HERE)
 DOCS = os.environ.get("SIEVED_DOCS", f"{TOP}/docs")
+PACKAGING = os.environ.get("SIEVED_PACKAGING", f"{TOP}/packaging")
 PROGRAM = [managesieve.SIEVED]
 MAIL = b"From: bob@example.net\r\nTo: alice@example.org\r\nSubject: %s\r\n\r\nHi\r\n"
 STAND_IN = """#!/bin/sh
@@ -39,7 +40,7 @@ class Host(managesieve.Store):
         self.mail = f"{self.room}/mail"
         os.mkdir(self.mail)
         self.env = {**os.environ, "SIEVED": self.sieved, "SIEVED_DB": self.file, "SIEVED_MAIL": self.mail,
-                    "SIEVED_DRAIN": f"{DOCS}/sieved-drain", "RUNS": f"{self.room}/runs", "SENDMAIL": self.program("sendmail", SENDMAIL)}
+                    "SIEVED_DRAIN": f"{PACKAGING}/sieved-drain", "RUNS": f"{self.room}/runs", "SENDMAIL": self.program("sendmail", SENDMAIL)}
 
     def program(self, name, text):
         with open(f"{self.room}/{name}", "w") as file:
@@ -48,7 +49,7 @@ class Host(managesieve.Store):
         return file.name
 
     def start(self, script, *words, **env):
-        return subprocess.Popen([f"{DOCS}/{script}", *words], env={**self.env, **env}, stdin=subprocess.PIPE,
+        return subprocess.Popen([f"{PACKAGING}/{script}", *words], env={**self.env, **env}, stdin=subprocess.PIPE,
                                 stdout=subprocess.PIPE, stderr=subprocess.PIPE, start_new_session=True)
 
     def call(self, script, *words, data=b"", **env):
@@ -157,7 +158,7 @@ def deliver_faults():
 def deliver_cut():
     """A script of which only the first lines are there, as on a full disk, doesn't tell a mail server of a delivery that wasn't."""
     host = Host("alice")
-    with open(f"{DOCS}/sieved-deliver") as file:
+    with open(f"{PACKAGING}/sieved-deliver") as file:
         lines = file.read().splitlines(keepends=True)
     first = 1 + next(at for at, line in enumerate(lines) if line.startswith(("trap", '"$sieved"')))
     before = 0
@@ -599,7 +600,7 @@ def drain_order():
     shutil.rmtree(host.mail)
     log = f"{host.room}/calls"
     done = subprocess.run(["strace", "-f", "-y", "-e", "trace=fsync,fdatasync,write,pwrite64,rename,renameat,renameat2,execve", "-s", "200", "-o", log,
-                           f"{DOCS}/sieved-drain", "alice"], env=host.env, capture_output=True)
+                           f"{PACKAGING}/sieved-drain", "alice"], env=host.env, capture_output=True)
     if done.returncode or not os.path.exists(log):
         raise trials.LeftOut("no strace of another process") if b"PTRACE" in done.stderr else AssertionError(done)
     with open(log, errors="replace") as file:
@@ -682,7 +683,7 @@ def swap_serves():
             base.execute("INSERT INTO copy(owner, folder, n, id, flags) VALUES (?, ?, ?, ?, X'')", (b"alice", b"INBOX", number, number))
         base.execute("UPDATE account SET next_copy = ? WHERE name = ?", (count + 1, b"alice"))
     base.close()
-    given = {"/var/swap": f"{host.room}/swap", "/var/lib/sieved/mail.db": host.file, "runuser -u sieved -- sieved-drain alice bob": f"'{DOCS}/sieved-drain' alice"}
+    given = {"/var/swap": f"{host.room}/swap", "/var/lib/sieved/mail.db": host.file, "runuser -u sieved -- sieved-drain alice bob": f"'{PACKAGING}/sieved-drain' alice"}
     lines = re.sub("|".join(map(re.escape, given)), lambda found: given[found[0]], lines)
     make, drain, end = re.fullmatch(r"(.*swapon \S+\n)(.*?\n)(swapoff .*)", lines, re.DOTALL).groups()
     with less_memory(os.path.getsize(host.file) // 2) as group:
@@ -712,7 +713,7 @@ def restore_keeps_the_old():
     host = Host("alice", "bob")
     ours = re.sub(r"runuser -u sieved -- (sieved )?", lambda found: f"'{host.sieved}' " if found[1] else "", section)
     for given, own in (("/var/lib/sieved", host.room), ("/var/backups/sieved", f"{host.room}/backups"), (" -o sieved -g sieved", ""), ("systemctl ", ": "),
-                       ("sieved-drain alice", f"'{DOCS}/sieved-drain' alice"), ("/etc/postfix/sieved", f"{host.room}/table")):
+                       ("sieved-drain alice", f"'{PACKAGING}/sieved-drain' alice"), ("/etc/postfix/sieved", f"{host.room}/table")):
         ours = ours.replace(given, own)
     blocks = ["\n".join(line[4:] for line in block.split("\n")) for block in re.findall(r"(?:\n    .*)+", ours)]
     run = lambda text, shell="sh": subprocess.run([shell, "-e", "-c", text], env=host.env, capture_output=True)

@@ -20,7 +20,7 @@ from contextlib import closing
 from managesieve import HERE, SIEVED
 
 DATA = os.path.abspath(f"{HERE}/../crates/test_runs/data")
-DOCS = os.path.abspath(f"{HERE}/../docs")
+PACKAGING = os.path.abspath(f"{HERE}/../packaging")
 
 BEGIN = [
     "CREATE TABLE meta (item TEXT NOT NULL PRIMARY KEY, value INTEGER NOT NULL) STRICT",
@@ -391,8 +391,8 @@ def refused():
             db, _ = upgraded(folder, layout)
             with open(db, "rb") as file:
                 octets = file.read()
-            env = {**os.environ, "SIEVED": before, "SIEVED_DB": db, "SIEVED_MAIL": f"{folder}/mail", "SIEVED_DRAIN": f"{DOCS}/sieved-drain"}
-            for status, words in (65, [before, "folders", "--db", db, "alice"]), (75, [f"{DOCS}/sieved-deliver", "--to", "a@example.org", "alice"]):
+            env = {**os.environ, "SIEVED": before, "SIEVED_DB": db, "SIEVED_MAIL": f"{folder}/mail", "SIEVED_DRAIN": f"{PACKAGING}/sieved-drain"}
+            for status, words in (65, [before, "folders", "--db", db, "alice"]), (75, [f"{PACKAGING}/sieved-deliver", "--to", "a@example.org", "alice"]):
                 done = subprocess.run(words, input=b"x", capture_output=True, timeout=120, env=env)
                 assert (done.returncode, done.stdout) == (status, b"") and b"sieved: not a sieved database\n" in done.stderr, (words, done)
             with open(db, "rb") as file:
