@@ -1,10 +1,11 @@
 //! Trouble with a store, or in taking one, as it is reported on standard error.
 ghost use Rattle.std.specs.Prelude.{◌≡◌, ◌≢◌, ◌++◌, false, Some, None, IsTrue, IfSome, option_copied};
-ghost use Rattle.cli_run.specs.Faults.{cause_line, run_fault_line, store_failed};
+ghost use Rattle.cli_run.specs.Faults.{cause_line, run_fault_line, status_of, store_failed};
 ghost use Rattle.cli_run.specs.Streams.{IsWritten};
 
 use crate::fault::RunFault;
 use crate::stream::{write_all, write_line};
+use std::alloc::AllocError;
 use std::io::Write;
 use store_accounts::Refusal;
 use store_lock::Keeper;
@@ -38,6 +39,38 @@ impl FaultWithCause {
         if write_all(errors, self.fault.line()).is_ok() {
             tell_cause(errors, self.cause);
         }
+    }
+
+    /// Reports it as [`FaultWithCause::tell`] does, and returns its exit status.
+    pub fn refuse<E: Write>(self, errors: &mut E) -> u8
+        ensures status { result ≡ status_of self.fault }
+        ensures lines { IsWritten (E.contents errors.old) (E.contents errors.new) (run_fault_line self.fault ++ cause_line (option_copied self.cause)) }
+    {
+        self.tell(errors);
+        self.fault.status()
+    }
+}
+
+/// A fault of which no cause is known.
+impl From<RunFault> for FaultWithCause {
+    ghost use Rattle.std.specs.Prelude.{◌≡◌, None};
+
+    ghost from_gives = { λ fault trouble. (trouble.fault ≡ fault) × (trouble.cause ≡ None) };
+
+    fn from(fault: RunFault) -> FaultWithCause {
+        FaultWithCause { fault, cause: None }
+    }
+}
+
+/// Lack of memory.
+impl From<AllocError> for FaultWithCause {
+    ghost use Rattle.std.specs.Prelude.{◌≡◌, None};
+    ghost use Rattle.cli_run.specs.Faults.{memory};
+
+    ghost from_gives = { λ _ trouble. (trouble.fault ≡ memory) × (trouble.cause ≡ None) };
+
+    fn from(refused: AllocError) -> FaultWithCause {
+        FaultWithCause::from(RunFault::from(refused))
     }
 }
 

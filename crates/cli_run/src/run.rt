@@ -1,5 +1,5 @@
 //! A run of the program: reads the arguments and does what they ask for.
-ghost use Rattle.std.specs.Prelude.{◌≡◌, false, None, IsTrue, IfSome, OnOk, option_copied};
+ghost use Rattle.std.specs.Prelude.{◌≡◌, false, None, IsTrue, IfSome, Ok, OnOk, option_copied};
 ghost use Rattle.store_accounts.specs.Cells.{borrowed_octets};
 ghost use Rattle.cli_run.specs.Draining.{HasRefused};
 ghost use Rattle.cli_run.specs.Faults.{cause_of, status_of, text_said, run_fault_lines, troubles, AreTold};
@@ -8,7 +8,7 @@ ghost use Rattle.cli_run.specs.Serving.{HasDenied, HasGiven};
 ghost use Rattle.cli_run.specs.Streams.{IsWritten, ReadsAllOrNone, ReadsToEnd};
 ghost use Rattle.cli_run.specs.TryScript.{Tries};
 ghost use Rattle.cli_run.specs.Values.{envelope_with};
-ghost use Rattle.cli_run.specs.Subcommands.{DoesSubcommand, TellsClapText, TellsArgsError, ReachesStore, RunsWords};
+ghost use Rattle.cli_run.specs.Subcommands.{DoesSubcommand, TellsClapText, TellsArgsError, ReachesStore, RunsAs, RunsWords};
 
 use crate::commands::{run_adduser, run_deliver, run_init, run_show};
 use crate::drain::run_drain;
@@ -67,10 +67,36 @@ pub fn run_program<R: Read, W: Write, E: Write, K: Keeper, T: MailSink>(
         (E.contents errors.old) (E.contents errors.new) result (K.holds keeper.old) (K.holds keeper.new) words.now }
     ensures asked { K.unclosed keeper.old ≡ None → K.unclosed keeper.new ≡ None }
 {
-    let asked = match read_command_line(alloc, words) {
-        Ok(asked) => asked,
-        Err(error) => return tell_unread(alloc, error, output, errors),
-    };
+    match read_command_line(alloc, words) {
+        Ok(asked) => run_subcommand(
+            alloc, asked, input, output, errors, keeper, clock, random, default, sink,
+        ),
+        Err(error) => tell_unread(alloc, error, output, errors),
+    }
+}
+
+/// Runs what arguments ask for that were read, as [`run_program`] does, and returns the exit status.
+pub fn run_subcommand<R: Read, W: Write, E: Write, K: Keeper, T: MailSink>(
+    alloc: Global,
+    asked: Subcommand<'_>,
+    input: &mut R,
+    output: &mut W,
+    errors: &mut E,
+    keeper: &mut K,
+    clock: Option<u64>,
+    random: Option<[u8; 16]>,
+    default: Option<&[u8]>,
+    sink: &mut T,
+) -> u8
+    ensures unread { result ≡ 64 → input.new ≡ input.old }
+    ensures reads { result ≡ 0 → ReadsAllOrNone R.remaining input.old input.new }
+    ensures back { K.is_out keeper.old ≡ false → K.is_out keeper.new ≡ false }
+    ensures runs { IsTrue K.tells → RunsAs (HasDenied K.refuses K.will_wait) (HasRefused T.refuses) (HasGiven K.gives K.will_wait) (T.is_at sink.new)
+        (cause_of (K.said keeper.new) (text_said (T.said sink.new))) clock random (borrowed_octets default.entry)
+        (R.remaining input.old) (R.remaining input.new) T.tells (T.kept sink.old) (T.kept sink.new) (W.contents output.old) (W.contents output.new)
+        (E.contents errors.old) (E.contents errors.new) result (K.holds keeper.old) (K.holds keeper.new) (Ok asked.entry) }
+    ensures asked { K.unclosed keeper.old ≡ None → K.unclosed keeper.new ≡ None }
+{
     match asked {
         Subcommand::Try(asked) => try_script(alloc, asked, clock, input, output, errors),
         _ => {
@@ -245,8 +271,8 @@ fn sink_cause<T: MailSink>(sink: &T) -> Option<&'static str>
     file_cause(sink.cause()?)
 }
 
-/// Reports why the arguments ask for nothing.
-fn tell_unread<W: Write, E: Write>(
+/// Reports why the arguments ask for nothing, and returns the exit status.
+pub fn tell_unread<W: Write, E: Write>(
     alloc: Global,
     error: ArgsError,
     output: &mut W,

@@ -3,7 +3,6 @@ ghost use Rattle.std.specs.Prelude.{◌≡◌, ℕ, [], ◌∷◌, ◌++◌, tru
 ghost use Rattle.lmtp_connections.specs.Connections.{IsFinding};
 ghost use Rattle.store_engine.specs.Hosts.{IsGivenUp, SessionMap};
 ghost use Rattle.store_engine.specs.Terms.{terms};
-ghost use Rattle.store_accounts.specs.Cells.{borrowed_octets};
 ghost use Rattle.sieve_exec.specs.declared.when.When.{When};
 ghost use Rattle.daemon_core.specs.StoreAccess.{delivery_of};
 ghost use Rattle.net_loop.specs.Told.{IsLoopAct};
@@ -29,7 +28,7 @@ use net_loop::outcome::{self, Accepted, Input, Output, Wake};
 use net_loop::outside::{Clock, Outside, Sockets};
 use net_shares::{Scheduler, TimeAccount};
 use net_sockets::SystemSockets;
-use octets::Octets;
+use octets::{Octets, as_deref};
 use sieve_exec::When;
 use sqlite::ErrorCode;
 use std::alloc::Global;
@@ -306,7 +305,7 @@ impl<'a, N: Net + time::Clock, E: Write + Drop, K: Keeper + Drop, T: MailSink + 
         self.reach();
         match self
             .held
-            .deliver(self.alloc, parcel, when, slice_of(&self.default))
+            .deliver(self.alloc, parcel, when, as_deref(&self.default))
         {
             Some(answer) => {
                 let code = self.held.code();
@@ -501,16 +500,6 @@ fn when_in<C: time::Clock>(clock: &C, zone: &HostZone) -> When {
     When {
         moment,
         zone: zone.at(moment),
-    }
-}
-
-/// The text's octets, if there is one.
-fn slice_of(text: &Option<Octets>) -> Option<&[u8]>
-    ensures { borrowed_octets result ≡ text.now }
-{
-    match text {
-        Some(text) => Some(text.as_slice()),
-        None => None,
     }
 }
 

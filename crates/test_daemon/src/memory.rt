@@ -1,7 +1,6 @@
 //! Accounts in a store in memory.
 ghost use Rattle.std.specs.Prelude.{◌≡◌};
 ghost use Rattle.store_engine.specs.declared.event.Event.TheVariants.{Deliver};
-ghost use Rattle.store_accounts.specs.Cells.{borrowed_octets};
 ghost use Rattle.test_daemon.specs.Shelves.{IsLet};
 ghost use Rattle.test_daemon.specs.Memory.{memory_view_of};
 
@@ -10,7 +9,7 @@ use daemon_core::account::find_account;
 use lmtp_dialogue::Lookup;
 use maildir_files::MemorySink;
 use maildir_moves::{Moving, Route, move_next};
-use octets::Octets;
+use octets::{Octets, as_deref};
 use sieve_exec::When;
 use sqlite::MemStore;
 use std::alloc::{AllocError, Global};
@@ -117,16 +116,6 @@ fn let_delivery(
     let Ok(envelope) = envelope.try_clone(alloc) else {
         return false;
     };
-    let default = slice_of(default);
+    let default = as_deref(default);
     deliver(alloc, store, user, envelope, message, when, default).is_ok()
-}
-
-/// The text's octets, if there is one.
-fn slice_of(text: &Option<Octets>) -> Option<&[u8]>
-    ensures { borrowed_octets result ≡ text.now }
-{
-    match text {
-        Some(text) => Some(text.as_slice()),
-        None => None,
-    }
 }
