@@ -1,20 +1,23 @@
 -- The definitions on small cases: one that is right, and one that nearly is.
 use Rattle.std.proofs.Common.{◌≡◌, ℕ, suc, true, false, List, [], ◌∷◌, ◌++◌, codes, Some, None, refl, ap, sym, subst, pos}
 use Rattle.std.specs.Prelude.{Option, nat_lt, replicate}
+use Rattle.std.specs.FinMap.{empty, insert}
+use Rattle.std.proofs.Math.Seq.{take-nil}
 use Rattle.mail_head.specs.Fields.{FieldText}
 use Rattle.mail_head.specs.Heads.{body_start}
 use Rattle.mail_address.specs.declared.address.Addr.{Addr}
 use Rattle.mail_flags.specs.declared.placement.Placement.{Placement}
 use Rattle.sieve_syntax.specs.RunState.{TwoVacations, TooManyRedirects, TooManyMailboxes, TooMuchWork, inbox}
-use Rattle.sieve_syntax.specs.Meaning.{Failed}
+use Rattle.sieve_syntax.specs.Meaning.{Actions, Failed}
 use Rattle.sieve_syntax.specs.declared.tree.vacation.VacationArgs.{VacationArgs}
 use Rattle.sieve_exec.specs.Mails.{MailSpec}
+use Rattle.sieve_vacation.specs.declared.reason.ReplyDecision.TheVariants as D
 use Rattle.sieve_vacation.specs.declared.reason.Reason.TheVariants as R
-use Rattle.store_accounts.specs.Account.{Account, latest, files_copies, adds_notice, remembers}
+use Rattle.store_accounts.specs.Account.{Account, latest, files_copies, new_account, adds_notice, remembers, room_in}
 use Rattle.store_tables.specs.declared.queue.QueuedKind.TheVariants.{Redirect, Reply}
 use Rattle.store_accounts.specs.declared.report.VacationReport.TheVariants as V
-use Rattle.sieve_plan.specs.Views.{moment_under}
-use Rattle.sieve_plan.specs.Delivered.{Acts, Tells, Disposes, DisposesUnlessLong, disposition_of, has_long_header, invalid_text, is_looping, is_received_field, kept, long_text, loop_text, max_header, Silent, Quiet, Sent, Responds, responds, redirects, report_of, notice_report, Delivers, unflagged_copy}
+use Rattle.sieve_plan.specs.Sent.{held_notice, is_near_if, kept_handles, message_key, name_of, over_keys, sent_handle, was_sent}
+use Rattle.sieve_plan.specs.Delivered.{Acts, Tells, Disposes, DisposesUnlessLong, disposition_of, has_long_header, invalid_text, is_looping, is_received_field, kept, long_text, loop_text, max_header, Silent, NoRoom, Quiet, Sent, FollowsDecision, Responds, done_of, responds, redirects, report_of, notice_report, Delivers, unflagged_copy, with_inbox}
 use Rattle.sieve_plan.proofs.DeliveryLaws.{one_delivery}
 
 abbrev alice : Addr
@@ -80,20 +83,25 @@ failures = (refl, (refl, (refl, refl)))
 -- ---- the response to the sender
 
 -- the null sender is answered nothing, and nothing of it is kept; near miss: it is answered
-null_sender : Responds alice 5 (mail_with [] []) (λ key. None) (Some away) (Quiet R.NullSender)
+null_sender : Responds alice 5 (mail_with [] []) (λ key. None) 5 (Some away) (Quiet R.NullSender)
 null_sender = refl
 
-null_sender_answered : (key reply : List ℕ) (moment : ℕ) → Responds alice 5 (mail_with [] []) (λ key. None) (Some away) (Sent key reply moment) → ⊥
+null_sender_answered : (key reply : List ℕ) (moment : ℕ) → Responds alice 5 (mail_with [] []) (λ key. None) 5 (Some away) (Sent key reply moment) → ⊥
 null_sender_answered key reply moment is = cc
 
 -- without `vacation` there is no reason either
-no_vacation : (own : Addr) (mail : MailSpec) → Responds own 5 mail (λ key. None) None (Quiet R.NullSender) → ⊥
-no_vacation own mail is = cc
+no_vacation : (own : Addr) (mail : MailSpec) (room : ℕ) → Responds own 5 mail (λ key. None) room None (Quiet R.NullSender) → ⊥
+no_vacation own mail room is = cc
 
--- a moment is kept under its own key
-kept_moments : (moment_under (record { handle = codes "a"; moment = 1 } ∷ record { handle = codes "b"; moment = 2 } ∷ []) (codes "b") ≡ Some 2)
-    × (moment_under (record { handle = codes "a"; moment = 1 } ∷ []) (codes "ab") ≡ None)
-kept_moments = (refl, refl)
+-- the decision to send is carried out where there is room for one row; near miss: it is sent without room
+no_room : FollowsDecision alice 5 (mail_with bob []) away None 0 D.Send NoRoom
+no_room = refl
+
+sent_without_room : (key reply : List ℕ) (moment : ℕ) → FollowsDecision alice 5 (mail_with bob []) away None 0 D.Send (Sent key reply moment) → ⊥
+sent_without_room key reply moment is = cc
+
+untold_with_room : FollowsDecision alice 5 (mail_with bob []) away None 1 D.Send NoRoom → ⊥
+untold_with_room (reply, (is, same)) = cc
 
 -- ---- the account afterwards
 
@@ -119,16 +127,76 @@ kept_is_latest = (refl, refl, refl)
 quiet_changes_nothing : (a : Account) → responds (mail_with bob []) (Quiet R.TooSoon) a ≡ a
 quiet_changes_nothing a = refl
 
+-- ---- what was sent on before
+
+abbrev with_id : List ℕ → MailSpec
+with_id id = mail_with bob (record { name = codes "Message-Id"; raw = id } ∷ [])
+
+-- the value counts, without blanks at its ends and without what folds it; an empty one is as none, and then the body counts, here an empty one
+names : (name_of (with_id (codes " <1@a>")) ≡ 1 ∷ codes "<1@a>") × (name_of (with_id (codes " \r\n <1@a> ")) ≡ name_of (with_id (codes "<1@a>")))
+    × (name_of (with_id (codes "  ")) ≡ 2 ∷ []) × (name_of (mail_with bob []) ≡ 2 ∷ [])
+names = (refl, refl, refl, refl)
+
+-- near miss: the name in the field is that of a body with the same octets
+name_is_no_body : name_of (with_id (codes "a")) ≡ 2 ∷ codes "a" → ⊥
+name_is_no_body same = cc
+
+-- the half day stands before the address, the highest octet first
+handles : (sent_handle 258 (codes "a@b") ≡ 3 ∷ 0 ∷ 0 ∷ 1 ∷ 2 ∷ codes "a@b") × (kept_handles 43200 (alice ∷ []) ≡ (3 ∷ 0 ∷ 0 ∷ 0 ∷ 1 ∷ codes "alice@example.org") ∷ [])
+handles = (refl, refl)
+
+-- 12 hours to the second, whichever comes first
+near : (is_near_if 100000 (Some 56801) ≡ true) × (is_near_if 100000 (Some 56800) ≡ false) × (is_near_if 100000 (Some 143199) ≡ true) × (is_near_if 100000 (Some 143200) ≡ false)
+    × (is_near_if 100000 None ≡ false)
+near = (refl, refl, refl, refl, refl)
+
+abbrev keeping : (List ℕ × List ℕ) → ℕ → Account
+keeping key moment = record (new_account [] (record { salt = []; rounds = 1; digest = [] })) { replies = insert empty key moment }
+
+-- a moment of the half day before is found; one of another message or of another address isn't
+was : (was_sent (keeping (sent_handle 0 (codes "a@b"), 7 ∷ []) 43000) 43300 (7 ∷ []) (codes "a@b") ≡ true)
+    × (was_sent (keeping (sent_handle 0 (codes "a@b"), 7 ∷ []) 43000) 43300 (8 ∷ []) (codes "a@b") ≡ false)
+    × (was_sent (keeping (sent_handle 0 (codes "a@b"), 7 ∷ []) 43000) 43300 (7 ∷ []) (codes "a@c") ≡ false)
+    × (was_sent (keeping (sent_handle 0 (codes "a@b"), 7 ∷ []) 100) 43300 (7 ∷ []) (codes "a@b") ≡ false)
+was = (refl, refl, refl, refl)
+
+-- what is over goes, where the message is sent on, and nothing else: not the moment of the last half day, and no response's
+over : (over_keys (keeping (sent_handle 0 (codes "a@b"), 7 ∷ []) 43000) 86400 (alice ∷ []) ≡ record { handle = sent_handle 0 (codes "a@b"); sender = 7 ∷ [] } ∷ [])
+    × (over_keys (keeping (sent_handle 0 (codes "a@b"), 7 ∷ []) 43000) 86400 [] ≡ [])
+    × (over_keys (keeping (sent_handle 1 (codes "a@b"), 7 ∷ []) 43200) 86400 (alice ∷ []) ≡ [])
+    × (over_keys (keeping (1 ∷ codes "h", codes "bob") 5) 86400 (alice ∷ []) ≡ [])
+over = (refl, refl, refl, refl)
+
+-- of the two notices the one that there was no room; none where the message goes to all
+held : (held_notice 3 2 1 ≡ Some (codes "queue is full")) × (held_notice 3 2 2 ≡ Some (codes "sent on before")) × (held_notice 2 2 2 ≡ None)
+held = (refl, refl, refl)
+
+-- what isn't sent on is kept: in INBOX once, with the flags that the script gives it there
+kept_too : (with_inbox [] ≡ unflagged_copy inbox ∷ []) × (with_inbox (unflagged_copy (codes "a") ∷ []) ≡ unflagged_copy (codes "a") ∷ unflagged_copy inbox ∷ [])
+    × (with_inbox (record { mailbox = codes "INBOX"; flags = codes "\\Seen" } ∷ []) ≡ record { mailbox = codes "INBOX"; flags = codes "\\Seen" } ∷ [])
+kept_too = (refl, refl, refl)
+
+-- a message that comes again goes nowhere, and is kept; near miss: it is dropped
+again : (a : Account) → (mail : MailSpec) → was_sent a mail.moment (message_key mail) (codes "alice@example.org") ≡ true
+    → done_of a mail (record { filed = []; sent = alice ∷ []; reply = None }) ≡ record { filed = unflagged_copy inbox ∷ []; sent = []; reply = None }
+again a mail before = rw (before, take-nil (room_in a)) refl
+
+dropped_again : (a : Account) → (mail : MailSpec) → was_sent a mail.moment (message_key mail) (codes "alice@example.org") ≡ true
+    → done_of a mail (record { filed = []; sent = alice ∷ []; reply = None }) ≡ record { filed = []; sent = []; reply = None } → ⊥
+dropped_again a mail before same =
+    let is : unflagged_copy inbox ∷ [] ≡ [] = ap (λ (d : Actions). d.filed) (sym (again a mail before) ∙ same) in
+    cc
+
 -- ---- what is reported
 
-reports : (report_of (record { filed = record { mailbox = inbox; flags = codes "\\Seen" } ∷ []; sent = carol ∷ []; reply = Some away }) (Quiet R.TooSoon)
+reports : (report_of (record { filed = record { mailbox = inbox; flags = codes "\\Seen" } ∷ []; sent = carol ∷ []; reply = Some away }) (Quiet R.TooSoon) None
     ≡ record { filed = inbox ∷ []; sent = codes "\"c d\"@example.com" ∷ []; vacation = V.Quiet 9; notice = None })
     × (notice_report (codes "n") ≡ record { filed = inbox ∷ []; sent = []; vacation = V.None; notice = Some (codes "n") })
 reports = (refl, refl)
 
 -- ---- a delivery
 
-delivered : (a : Account) → Delivers alice (mail_with bob []) None a (report_of kept Silent) (files_copies (unflagged_copy inbox ∷ []) (65 ∷ []) a)
+delivered : (a : Account) → Delivers alice (mail_with bob []) None a (report_of kept Silent None) (files_copies (unflagged_copy inbox ∷ []) (65 ∷ []) a)
 delivered a =
     record {
       disposition = Acts kept;
@@ -140,8 +208,8 @@ looped : (a : Account) → Delivers alice (mail_with bob (replicate 101 (field (
 looped a = record { disposition = Tells loop_text; disposes = refl; delivers = record { reported = refl; changed = refl } }
 
 -- near miss: the delivery leaves a notice, and doesn't tell of it
-silent_notice : (a after : Account) → Delivers alice (mail_with bob (replicate 101 (field (codes "Received")))) None a (report_of kept Silent) after → ⊥
+silent_notice : (a after : Account) → Delivers alice (mail_with bob (replicate 101 (field (codes "Received")))) None a (report_of kept Silent None) after → ⊥
 silent_notice a after is =
-    let same = one_delivery alice (mail_with bob (replicate 101 (field (codes "Received")))) None a (report_of kept Silent) (notice_report loop_text) after _ is (looped a) in
+    let same = one_delivery alice (mail_with bob (replicate 101 (field (codes "Received")))) None a (report_of kept Silent None) (notice_report loop_text) after _ is (looped a) in
     let told : None ≡ Some loop_text = ap (λ r. r.notice) same.0 in
     cc

@@ -90,11 +90,11 @@ module _ (a : Account) (open_is : is_closed_account a ≡ false) where
   unknown_user_late = record { refused = refl; stays = refl }
 
   -- without an active script the message joins INBOX
-  filed : (own : Addr) → IsBareAddress a.address own → a.active ≡ None → Delivery one alice envelope message at_five (Delivered (report_of kept Silent)) (insert one alice (files_copies (unflagged_copy inbox ∷ []) message a))
+  filed : (own : Addr) → IsBareAddress a.address own → a.active ≡ None → Delivery one alice envelope message at_five (Delivered (report_of kept Silent None)) (insert one alice (files_copies (unflagged_copy inbox ∷ []) message a))
   unfolding one
-  filed own address none = subst (λ o. DeliversIn one alice at_five envelope message o (Delivered (report_of kept Silent)) (insert one alice (files_copies (unflagged_copy inbox ∷ []) message a))) (sym open_alice)
+  filed own address none = subst (λ o. DeliversIn one alice at_five envelope message o (Delivered (report_of kept Silent None)) (insert one alice (files_copies (unflagged_copy inbox ∷ []) message a))) (sym open_alice)
       (record {
-        report = report_of kept Silent;
+        report = report_of kept Silent None;
         account = files_copies (unflagged_copy inbox ∷ []) message a;
         delivers = record {
           own = own;
