@@ -3,7 +3,7 @@ use Rattle.std.proofs.Common.{[]}
 use Rattle.store_lock.specs.Laws.{never_told}
 use Rattle.daemon_host.specs.Held.{host_view}
 use Rattle.daemon_host.proofs.HeldLemmas.{moved_alone}
-use Rattle.daemon_host.proofs.host.HostDesk.move_next.Goals as goal
+use Rattle.daemon_host.proofs.host.HostStoreAccess.move_next.Goals as goal
 
 pub returns-in-Some-clause-moves : goal.returns-in-Some-clause-moves
 returns-in-Some-clause-moves g c = (

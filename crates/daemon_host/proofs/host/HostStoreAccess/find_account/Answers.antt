@@ -3,7 +3,7 @@ use Rattle.std.proofs.Common.{[]}
 use Rattle.store_lock.specs.Laws.{never_told}
 use Rattle.daemon_host.specs.Held.{host_view}
 use Rattle.daemon_host.proofs.HeldLemmas.{asked_alone}
-use Rattle.daemon_host.proofs.host.HostDesk.find_account.Goals as goal
+use Rattle.daemon_host.proofs.host.HostStoreAccess.find_account.Goals as goal
 
 pub returns-in-Some-clause-asks : goal.returns-in-Some-clause-asks
 returns-in-Some-clause-asks g c = rw c.end_act.ensures.same (

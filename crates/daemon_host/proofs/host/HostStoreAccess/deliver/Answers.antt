@@ -1,7 +1,7 @@
 -- Nobody came between, and nothing is told.
 use Rattle.std.proofs.Common.{[]}
 use Rattle.store_lock.specs.Laws.{never_told}
-use Rattle.daemon_host.proofs.host.HostDesk.deliver.Goals as goal
+use Rattle.daemon_host.proofs.host.HostStoreAccess.deliver.Goals as goal
 
 pub returns-in-Some-clause-delivers : goal.returns-in-Some-clause-delivers
 returns-in-Some-clause-delivers g c = rw c.end_act_of.ensures.same (c.in-Some.ensures.0, ([], c.in-Some.ensures.1 c.args._clients.now.sessions, λ told. never_told told))
