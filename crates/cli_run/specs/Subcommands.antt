@@ -51,7 +51,7 @@ use Rattle.cli_subcommands.specs.declared.reading.ArgsError.{ArgsError}
 use Rattle.cli_subcommands.specs.declared.reading.ArgsError.TheVariants.{Said, NotText, Unknown}
 use Rattle.cli_subcommands.specs.declared.subcommand.Subcommand.{Subcommand}
 use Rattle.cli_subcommands.specs.declared.subcommand.Subcommand.TheVariants as word
-use Rattle.cli_run.specs.Draining.{StaysAsItWas, TurnsTables, HasDrained}
+use Rattle.cli_run.specs.Draining.{StaysAsItWas, TurnsTables, HasDrained, sink_mails}
 use Rattle.cli_run.specs.Exports.{IsCutOff}
 use Rattle.cli_run.specs.Faults.{memory, no_user, status_of, run_fault_line, troubles, AreTold, IsSudden, IsHindered, IsPrinted}
 use Rattle.cli_run.specs.Promise.{first_line, world_of_accounts, status_after}
@@ -560,7 +560,7 @@ module _ (Denied : StoreLocation → RunFault → Type 0) (Sunk : SinkError → 
       × DoesEvent (PostFailed (option_copied a.at) clock) (HasNoWhen (option_copied a.at) (option_copied a.zone)) (DeniedAtEnd (Denied a.location) left)
       (IsDeliverEvent a.from.now a.to.now (option_copied a.at) (option_copied a.zone) a.user.now clock default given) out_old out_new result old new
   DoesSubcommand (word.Done a) result old new = Idle × DoesEvent ⊥ (IsNoNumber a.id.now) (Denied a.location) (IsDoneEvent a.user.now a.id.now) out_old out_new result old new
-  DoesSubcommand (word.Drain a) result old new = (left ≡ given) × HasDrained Sunk (Denied a.location) a tells had has out_old out_new result old new
+  DoesSubcommand (word.Drain a) result old new = (left ≡ given) × HasDrained Sunk (Denied a.location) a (sink_mails tells had has) out_old out_new result old new
   DoesSubcommand (word.Folders a) result old new = Idle × DoesFolders (Denied a.location) out_old out_new a.user.now a.directories (option_copied a.separator) result old new
   DoesSubcommand (word.Show a) result old new =
       Idle × DoesRead (IsNoNumber a.number.now) (Denied a.location) a.user.now (ShowsMessage a.folder.now a.number.now) (LacksMessage a.folder.now a.number.now) out_old out_new result old new

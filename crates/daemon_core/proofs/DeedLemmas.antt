@@ -1,10 +1,8 @@
 -- One step of a client of LMTP, put together from what is told and known.
-use Rattle.std.proofs.Common.{◌≡◌, ◌≤◌, ℕ, Bool, true, false, List, Option, Some, None, IsTrue, inl, inr, refl, sym, ◌∙◌, ap, subst, arith}
+use Rattle.std.proofs.Common.{◌≡◌, ◌≤◌, ℕ, Bool, true, false, List, Some, None, IsTrue, inl, inr, refl, sym, ◌∙◌, ap, subst, arith}
 use Rattle.lmtp_dialogue.specs.Receivers.{held_by}
 use Rattle.lmtp_dialogue.specs.declared.receiver.Lookup.{Lookup}
-use Rattle.store_accounts.specs.Account.{Accounts}
 use Rattle.store_engine.specs.declared.answer.Answer.{Answer}
-use Rattle.store_engine.specs.declared.event.Event.{Event}
 use Rattle.store_engine.specs.declared.clients.Clients.{Clients}
 use Rattle.lmtp_connections.specs.Connections.{LmtpStep, Answered, Declined, Asked, Away, Brought}
 use Rattle.lmtp_connections.specs.Stands.{ConnectionKeeps, ConnectionDoes, Demands, AsksIt, ConnectionHoldsNoMore}
@@ -13,12 +11,12 @@ use Rattle.lmtp_connections.specs.declared.demand.Demand.TheVariants as demand
 use Rattle.lmtp_connections.specs.declared.demand.StoreDelivery.{StoreDelivery}
 use Rattle.lmtp_connections.specs.declared.demand.Question.{Question}
 use Rattle.lmtp_connections.specs.declared.connection.LmtpConnection.{LmtpConnection}
-use Rattle.net_loop.specs.declared.act.Act.{Act}
 use Rattle.net_loop.specs.declared.act.Act.TheVariants.{Noted}
-use Rattle.net_loop.specs.Told.{TellsIf}
+use Rattle.net_loop.specs.Told.{Telling, TellsIf}
+use Rattle.net_loop.specs.Rules.{step_at}
 use Rattle.daemon_core.specs.Holds.{asked_at}
-use Rattle.daemon_core.specs.LmtpSteps.{IsDeliveryResult, DoesOneIf}
-use Rattle.daemon_core.specs.StoreAccess.{View, FindsAccount, DeliversMessage, StillShowsIf, delivery_of}
+use Rattle.daemon_core.specs.LmtpSteps.{IsDeliveryResult, DoesOneIf, lmtp_moment}
+use Rattle.daemon_core.specs.StoreAccess.{View, StoreFacts, access_state, FindsAccount, DeliversMessage, StillShowsIf, delivery_of}
 use Rattle.daemon_core.specs.declared.daemon.Daemon.{Daemon}
 use Rattle.daemon_core.specs.declared.daemon.Holding.{Holding}
 use Rattle.daemon_core.specs.declared.note.Note.{Note}
@@ -55,23 +53,23 @@ abbrev size_of : LmtpStep → ℕ
 size_of (Declined size) = size
 size_of deed = 0
 
-module _ {O R : Type 0} (tells : O → Bool) (seen : O → List (Act Note)) (rest : O → R) (view : View R) (clean : R → Type 0) (sure : (o : O) → IsTrue (tells o) → clean (rest o))
+module _ {O R : Type 0} (told : Telling O Note R) (store : StoreFacts O R) (sure : (o : O) → IsTrue (told.tells o) → store.clean (told.rest o))
     (o p : O) (d : Daemon) (c : Clients) (now id : ℕ) (said : List ℕ) (before after : LmtpConnection) (room : ℕ) (less : ConnectionHoldsNoMore before after) where
   abbrev One : Daemon → Type 0
-  One e = DoesOneIf tells seen rest view room o d before now id said p e after
+  One e = DoesOneIf told store.view room (lmtp_moment o d before) (step_at now id said) (lmtp_moment p e after)
 
-  pub answered : ConnectionDoes now Answered said before after → TellsIf tells seen o (Noted id note.Answered) p → StillShowsIf tells rest view o p → One d
-  answered does told still = λ tell. (
+  pub answered : ConnectionDoes now Answered said before after → TellsIf told o (Noted id note.Answered) p → StillShowsIf told store.view o p → One d
+  answered does noted still = λ tell. (
     note.Answered,
-    told tell,
+    noted tell,
     record { deed = Answered; is = inl refl; does = does; spare = λ size. other_deed room size Answered refl; held = less; stores = record { shown = still tell; kept = λ clients has. has }; places = refl; holding = refl },
   )
 
   -- a MAIL was refused that announces more than there is room for
-  pub declined : ConnectionDoes now (Declined room) said before after → TellsIf tells seen o (Noted id note.Answered) p → StillShowsIf tells rest view o p → One d
-  declined does told still = λ tell. (
+  pub declined : ConnectionDoes now (Declined room) said before after → TellsIf told o (Noted id note.Answered) p → StillShowsIf told store.view o p → One d
+  declined does noted still = λ tell. (
     note.Answered,
-    told tell,
+    noted tell,
     record {
       deed = Declined room;
       is = inr (room, refl);
@@ -84,7 +82,7 @@ module _ {O R : Type 0} (tells : O → Bool) (seen : O → List (Act Note)) (res
     },
   )
 
-  pub asked : (user : List ℕ) (lookup : Lookup) → FindsAccount tells seen rest view clean id user o d.clients.sessions (Some lookup) p c.sessions → ConnectionDoes now (Asked user lookup) said before after
+  pub asked : (user : List ℕ) (lookup : Lookup) → FindsAccount told store id user (access_state o d.clients.sessions) (Some lookup) (access_state p c.sessions) → ConnectionDoes now (Asked user lookup) said before after
       → (h : Holding) → h ≡ asked_at now d.holding → One (record d { clients = c; holding = h })
   asked user lookup looks does h had = λ tell. (
     note.Asked looks.0 user lookup,
@@ -92,32 +90,32 @@ module _ {O R : Type 0} (tells : O → Bool) (seen : O → List (Act Note)) (res
     record { deed = Asked user lookup; is = refl; does = does; spare = λ size. other_deed room size (Asked user lookup) refl; held = less; stores = looks.1 (sure p tell); places = refl; holding = had },
   )
 
-  pub unasked : (user : List ℕ) → FindsAccount tells seen rest view clean id user o d.clients.sessions None p c.sessions → ConnectionDoes now Away said before after → One (record d { clients = c })
+  pub unasked : (user : List ℕ) → FindsAccount told store id user (access_state o d.clients.sessions) None (access_state p c.sessions) → ConnectionDoes now Away said before after → One (record d { clients = c })
   unasked user looks does = λ tell. (
     note.Away,
     looks.1 tell,
     record { deed = Away; is = refl; does = does; spare = λ size. other_deed room size Away refl; held = less; stores = looks.0 (sure p tell); places = refl; holding = refl },
   )
 
-  pub answer_delivery : (default : O → Option (List ℕ)) (parcel : StoreDelivery) (answer : Answer) (became : DeliveryResult) → DeliversMessage tells seen rest view clean default id parcel o d.clients.sessions (Some answer) p c.sessions → IsDeliveryResult parcel.sender answer became
+  pub answer_delivery : (parcel : StoreDelivery) (answer : Answer) (became : DeliveryResult) → DeliversMessage told store id parcel (access_state o d.clients.sessions) (Some answer) (access_state p c.sessions) → IsDeliveryResult parcel.sender answer became
       → ConnectionDoes now (Brought parcel became) said before after → (h : Holding) → h ≡ asked_at now d.holding → One (record d { clients = c; holding = h })
-  answer_delivery default parcel answer became delivers is does h had = λ tell. (
-    note.Did delivers.1.0 (delivery_of parcel (terms delivers.0 (default o))) answer,
+  answer_delivery parcel answer became delivers is does h had = λ tell. (
+    note.Did delivers.1.0 (delivery_of parcel (terms delivers.0 (store.default o))) answer,
     delivers.1.2 tell,
-    record { deed = Brought parcel became; is = (parcel, terms delivers.0 (default o), became, refl, is, refl); does = does; spare = λ size. other_deed room size (Brought parcel became) refl; held = less; stores = delivers.1.1 (sure p tell); places = refl; holding = had },
+    record { deed = Brought parcel became; is = (parcel, terms delivers.0 (store.default o), became, refl, is, refl); does = does; spare = λ size. other_deed room size (Brought parcel became) refl; held = less; stores = delivers.1.1 (sure p tell); places = refl; holding = had },
   )
 
-  pub unbrought : (default : O → Option (List ℕ)) (parcel : StoreDelivery) → DeliversMessage tells seen rest view clean default id parcel o d.clients.sessions None p c.sessions → ConnectionDoes now Away said before after → One (record d { clients = c })
-  unbrought default parcel delivers does = λ tell. (
+  pub unbrought : (parcel : StoreDelivery) → DeliversMessage told store id parcel (access_state o d.clients.sessions) None (access_state p c.sessions) → ConnectionDoes now Away said before after → One (record d { clients = c })
+  unbrought parcel delivers does = λ tell. (
     note.Away,
     delivers.1.1 tell,
     record { deed = Away; is = refl; does = does; spare = λ size. other_deed room size Away refl; held = less; stores = delivers.1.0 (sure p tell); places = refl; holding = refl },
   )
 
 -- one step of a connection that is as it was
-pub one_behind : {O R : Type 0} (tells : O → Bool) (seen : O → List (Act Note)) (rest : O → R) (view : View R) (o p : O) (d e : Daemon) (before mid after : LmtpConnection) (now id : ℕ) (said : List ℕ) (room : ℕ)
-    → ConnectionKeeps before mid → mid.receiver ≡ before.receiver → DoesOneIf tells seen rest view room o d mid now id said p e after → DoesOneIf tells seen rest view room o d before now id said p e after
-one_behind tells seen rest view o p d e before mid after now id said room keeps same one = λ tell.
+pub one_behind : {O R : Type 0} (told : Telling O Note R) (view : View R) (o p : O) (d e : Daemon) (before mid after : LmtpConnection) (now id : ℕ) (said : List ℕ) (room : ℕ)
+    → ConnectionKeeps before mid → mid.receiver ≡ before.receiver → DoesOneIf told view room (lmtp_moment o d mid) (step_at now id said) (lmtp_moment p e after) → DoesOneIf told view room (lmtp_moment o d before) (step_at now id said) (lmtp_moment p e after)
+one_behind told view o p d e before mid after now id said room keeps same one = λ tell.
     let s = one tell in (
       s.0,
       s.1,

@@ -5,7 +5,6 @@ use Rattle.std.specs.FinMap.{get, get-insert}
 use Rattle.std.specs.Ordering.{nat_cmp}
 use Rattle.std.specs.BTreeMap as tree
 use Rattle.lmtp_dialogue.specs.Receivers.{held_by}
-use Rattle.store_accounts.specs.Account.{Accounts}
 use Rattle.store_engine.specs.Hosts.{HasClients}
 use Rattle.store_engine.specs.World.{World, Clients, Next, OpensSession}
 use Rattle.store_engine.specs.declared.answer.Answer.{Answer}

@@ -1,5 +1,5 @@
 -- What a move of the daemon makes of accounts and sessions.
-use Rattle.std.proofs.Common.{◌≡◌, ◌⊎◌, inl, inr, ℕ, ◌==◌, Bool, true, false, List, Option, Some, None, is_some, IfSome, refl, sym, ◌∙◌, ap, subst, if◌then◌else◌}
+use Rattle.std.proofs.Common.{◌≡◌, ◌⊎◌, inl, inr, ℕ, ◌==◌, Bool, true, false, List, Option, Some, None, is_some, IfSome, refl, sym, ◌∙◌, ap, subst}
 use Rattle.std.specs.FinMap.{get}
 use Rattle.managesieve_sessions.specs.Clients.{Client}
 use Rattle.sqlite_trees.specs.Tree.{Trees}

@@ -3,8 +3,6 @@ use Rattle.std.proofs.Common.{◌≡◌, ◌⊎◌, inl, inr, ℕ, ◌==◌, ◌
 use Rattle.std.proofs.lemmas.Bool.{ltb-false}
 use Rattle.std.specs.Ordering.{nat_cmp}
 use Rattle.std.specs.BTreeMap as tree
-use Rattle.store_accounts.specs.Account.{Accounts}
-use Rattle.store_engine.specs.declared.event.Event.{Event}
 use Rattle.lmtp_connections.specs.declared.connection.LmtpConnection.{LmtpConnection}
 use Rattle.managesieve_sessions.specs.Clients.{Client as SessionClient}
 use Rattle.net_loop.specs.declared.act.Act.{Act}

@@ -5,8 +5,6 @@ use Rattle.std.specs.BTreeMap as tree
 use Rattle.lmtp_dialogue.specs.Replies.{lmtp_greeting, lmtp_line_of}
 use Rattle.lmtp_dialogue.specs.declared.name.Names.{Names}
 use Rattle.lmtp_dialogue.specs.declared.reply.LmtpReply.TheVariants.{Idle}
-use Rattle.store_accounts.specs.Account.{Accounts}
-use Rattle.store_engine.specs.declared.event.Event.{Event}
 use Rattle.lmtp_connections.specs.Connections.{LmtpState, new_lmtp_state, lmtp_state_heard}
 use Rattle.lmtp_connections.specs.Stands.{ConnectionStands}
 use Rattle.lmtp_connections.specs.declared.connection.LmtpConnection.{LmtpConnection as Code}

@@ -1,5 +1,5 @@
 -- Who claims to go when another one of its kind wants its place, and all are taken.
-use Rattle.std.specs.Prelude.{◌≡◌, ℕ, ◌+◌, ◌-◌, ◌==◌, nat_le, Bool, true, false, if◌then◌else◌, List, [], ◌∷◌, Option, Some, None, is_some}
+use Rattle.std.specs.Prelude.{ℕ, ◌+◌, ◌-◌, ◌==◌, nat_le, Bool, true, false, if◌then◌else◌, List, [], ◌∷◌, Option, Some, None, is_some}
 use Rattle.managesieve_sessions.specs.Clients.{Client, has_failed}
 use Rattle.lmtp_connections.specs.Stands.{owed_since, has_said_hello}
 use Rattle.lmtp_connections.specs.declared.connection.LmtpConnection.{LmtpConnection}

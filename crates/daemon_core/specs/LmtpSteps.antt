@@ -6,7 +6,6 @@ use Rattle.lmtp_dialogue.specs.declared.reply.LmtpReply.TheVariants.{NoSuchUser,
 use Rattle.store_accounts.specs.declared.refusal.Refusal.{Refusal}
 use Rattle.store_accounts.specs.declared.refusal.Refusal.TheVariants.{Memory, NoUser, AccountClosed as ClosedAccount, TooLarge, BadEnvelope}
 use Rattle.store_engine.specs.Hosts.{SessionMap}
-use Rattle.store_engine.specs.declared.event.Event.{Event}
 use Rattle.store_engine.specs.Limits.{is_envelope_address}
 use Rattle.store_engine.specs.declared.answer.Answer.{Answer}
 use Rattle.store_engine.specs.declared.answer.Answer.TheVariants as answer
@@ -17,7 +16,8 @@ use Rattle.lmtp_connections.specs.declared.demand.StoreDelivery.{StoreDelivery}
 use Rattle.lmtp_connections.specs.Stands.{ConnectionDoes, ConnectionHoldsNoMore}
 use Rattle.lmtp_connections.specs.declared.connection.LmtpConnection.{LmtpConnection}
 use Rattle.cli_reports.specs.Reports.{delivery_report}
-use Rattle.net_loop.specs.declared.act.Act.{Act}
+use Rattle.net_loop.specs.Rules.{OneStep}
+use Rattle.net_loop.specs.Told.{Telling}
 use Rattle.net_loop.specs.declared.act.Act.TheVariants.{Noted}
 use Rattle.daemon_core.specs.Holds.{holding_behind}
 use Rattle.daemon_core.specs.StoreAccess.{View, IsEventDone, IsAccountAsked, NothingDone, delivery_of}
@@ -82,7 +82,18 @@ pub record DoesOne {R : Type 0} (view : View R) (room : ℕ) (d : Daemon) (r : R
   pub places : e.places ≡ d.places
   pub holding : e.holding ≡ holding_behind now note d.holding
 
--- the same, if it is told
-abbrev pub DoesOneIf : {O R : Type 0} → (O → Bool) → (O → List (Act Note)) → (O → R) → View R → ℕ → O → Daemon → LmtpConnection → ℕ → ℕ → List ℕ → O → Daemon → LmtpConnection → Type 0
-DoesOneIf tells seen rest view room o d before now id said p e after =
-    IsTrue (tells p) → (note : Note) × (seen p ≡ seen o ++ Noted id note ∷ []) × DoesOne view room d (rest o) before now note said e (rest p) after
+-- the outside, the daemon and one of its connections
+pub record LmtpMoment (O : Type 0) : Type 0 where
+  pub outside : O
+  pub daemon : Daemon
+  pub connection : LmtpConnection
+
+abbrev pub lmtp_moment : {O : Type 0} → O → Daemon → LmtpConnection → LmtpMoment O
+lmtp_moment outside daemon connection = record { outside = outside; daemon = daemon; connection = connection }
+
+-- one step, if it is told
+abbrev pub DoesOneIf : {O R : Type 0} → Telling O Note R → View R → ℕ → LmtpMoment O → OneStep → LmtpMoment O → Type 0
+DoesOneIf told view room before step after =
+    IsTrue (told.tells after.outside)
+    → (note : Note) × (told.seen after.outside ≡ told.seen before.outside ++ Noted step.id note ∷ [])
+    × DoesOne view room before.daemon (told.rest before.outside) before.connection step.now note step.said after.daemon (told.rest after.outside) after.connection

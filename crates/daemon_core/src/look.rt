@@ -1,6 +1,7 @@
 //! What the daemon does by itself: it looks whether somebody waits for the store, and has mail move on.
 ghost use Rattle.std.specs.Prelude.{◌≡◌, true, IsTrue};
-ghost use Rattle.net_loop.specs.Rules.{WorksIf};
+ghost use Rattle.net_loop.specs.Rules.{WorksIf, machine_state};
+ghost use Rattle.net_loop.specs.Told.{ToldBefore};
 ghost use Rattle.daemon_core.specs.DaemonRules.{daemon_rules};
 ghost use Rattle.daemon_core.specs.Holds as rules;
 
@@ -62,8 +63,8 @@ fn is_turn(holding: &Holding, now: u64) -> bool
 
 /// Does something by itself.
 pub fn work_by<O: StoreAccess>(daemon: &mut Daemon, outside: &mut O, now: u64)
-    ensures kept { IsTrue (O.tells outside.new) → IsTrue (O.tells outside.old) }
-    ensures works { WorksIf O.tells O.seen O.rest (daemon_rules O.view) outside.old daemon.old now outside.new daemon.new }
+    ensures kept { ToldBefore O.told outside.old outside.new }
+    ensures works { WorksIf O.told (daemon_rules O.store.view) (machine_state outside.old daemon.old) now (machine_state outside.new daemon.new) }
 {
     if is_move_due(&daemon.holding, now) && is_looked(&daemon.holding) {
         move_next(daemon, outside, now)
@@ -74,8 +75,8 @@ pub fn work_by<O: StoreAccess>(daemon: &mut Daemon, outside: &mut O, now: u64)
 
 /// Looks whether somebody waits for the store.
 fn look_for_others<O: StoreAccess>(daemon: &mut Daemon, outside: &mut O, now: u64)
-    ensures kept { IsTrue (O.tells outside.new) → IsTrue (O.tells outside.old) }
-    ensures works { WorksIf O.tells O.seen O.rest (daemon_rules O.view) outside.old daemon.old now outside.new daemon.new }
+    ensures kept { ToldBefore O.told outside.old outside.new }
+    ensures works { WorksIf O.told (daemon_rules O.store.view) (machine_state outside.old daemon.old) now (machine_state outside.new daemon.new) }
 {
     let rests = daemon.holding.asked.wrapping_add(MAX_REST) <= now;
     let gives = outside.look(rests);
@@ -117,8 +118,8 @@ fn span_behind(rests: bool) -> u64
 /// Has a message move on.
 fn move_next<O: StoreAccess>(daemon: &mut Daemon, outside: &mut O, now: u64)
     requires { rules.is_move_due daemon.old.holding now ≡ true }
-    ensures kept { IsTrue (O.tells outside.new) → IsTrue (O.tells outside.old) }
-    ensures works { WorksIf O.tells O.seen O.rest (daemon_rules O.view) outside.old daemon.old now outside.new daemon.new }
+    ensures kept { ToldBefore O.told outside.old outside.new }
+    ensures works { WorksIf O.told (daemon_rules O.store.view) (machine_state outside.old daemon.old) now (machine_state outside.new daemon.new) }
 {
     let fresh = daemon.holding.events != 0;
     let span = outside.move_next(&mut daemon.clients, now, fresh);

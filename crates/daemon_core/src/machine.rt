@@ -31,7 +31,7 @@ pub const MAX_SENDERS: usize = 20;
 impl<O: StoreAccess> Machine<O> for MailDaemon {
     ghost use Rattle.daemon_core.specs.MailRules.{mail_rules};
 
-    ghost rules = { mail_rules O.view };
+    ghost rules = { mail_rules O.store.view };
 
     fn limit(&self, kind: u32) -> usize {
         if kind == LMTP {

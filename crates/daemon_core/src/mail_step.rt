@@ -1,6 +1,7 @@
 //! One step of a client of LMTP.
 ghost use Rattle.std.specs.Prelude.{◌≡◌, ℕ, [], IsTrue, OnOk, OnErr};
-ghost use Rattle.net_loop.specs.Rules.{StepsIf, IdlesIf};
+ghost use Rattle.net_loop.specs.Rules.{StepsIf, IdlesIf, machine_state, step_at};
+ghost use Rattle.net_loop.specs.Told.{ToldBefore};
 ghost use Rattle.daemon_core.specs.LmtpSteps as deeds;
 ghost use Rattle.daemon_core.specs.declared.daemon.Daemon.{Daemon as DaemonOf};
 ghost use Rattle.daemon_core.specs.MailRules.{mail_rules, LacksBy};
@@ -26,9 +27,9 @@ pub fn step_post<O: StoreAccess>(
     out: &mut Octets,
 ) -> Result<(), AllocError>
     requires { out.old ≡ [] }
-    ensures kept { IsTrue (O.tells outside.new) → IsTrue (O.tells outside.old) }
-    ensures ok { OnOk result (StepsIf O.tells O.seen O.rest (mail_rules O.view) outside.old mail.old now id out.new outside.new mail.new) }
-    ensures err { OnErr result (IdlesIf O.tells O.seen O.rest outside.old outside.new) }
+    ensures kept { ToldBefore O.told outside.old outside.new }
+    ensures ok { OnOk result (StepsIf O.told (mail_rules O.store.view) (machine_state outside.old mail.old) (step_at now id out.new) (machine_state outside.new mail.new)) }
+    ensures err { OnErr result (IdlesIf O.told outside.old outside.new) }
     ensures lacks { OnErr result (LacksBy mail.old id mail.new) }
 {
     let alloc = mail.daemon.alloc;
@@ -54,9 +55,9 @@ fn do_next<O: StoreAccess>(
     out: &mut Octets,
 ) -> Result<(), AllocError>
     requires { out.old ≡ [] }
-    ensures kept { IsTrue (O.tells outside.new) → IsTrue (O.tells outside.old) }
-    ensures ok { OnOk result (deeds.DoesOneIf O.tells O.seen O.rest O.view spare outside.old daemon.old post.old now id out.new outside.new daemon.new post.new) }
-    ensures err { OnErr result (IdlesIf O.tells O.seen O.rest outside.old outside.new) }
+    ensures kept { ToldBefore O.told outside.old outside.new }
+    ensures ok { OnOk result (deeds.DoesOneIf O.told O.store.view spare (deeds.lmtp_moment outside.old daemon.old post.old) (step_at now id out.new) (deeds.lmtp_moment outside.new daemon.new post.new)) }
+    ensures err { OnErr result (IdlesIf O.told outside.old outside.new) }
     ensures lacks { OnErr result (daemon.new ≡ daemon.old) }
 {
     match post.demand(now)? {
@@ -98,9 +99,9 @@ fn answer_line<O: StoreAccess>(
 ) -> Result<(), AllocError>
     requires line { Demands now post.old demands.Line }
     requires out { out.old ≡ [] }
-    ensures kept { IsTrue (O.tells outside.new) → IsTrue (O.tells outside.old) }
-    ensures ok { OnOk result ((daemon : DaemonOf) → deeds.DoesOneIf O.tells O.seen O.rest O.view spare outside.old daemon post.old now id out.new outside.new daemon post.new) }
-    ensures err { OnErr result (IdlesIf O.tells O.seen O.rest outside.old outside.new) }
+    ensures kept { ToldBefore O.told outside.old outside.new }
+    ensures ok { OnOk result ((daemon : DaemonOf) → deeds.DoesOneIf O.told O.store.view spare (deeds.lmtp_moment outside.old daemon post.old) (step_at now id out.new) (deeds.lmtp_moment outside.new daemon post.new)) }
+    ensures err { OnErr result (IdlesIf O.told outside.old outside.new) }
 {
     let refused = post.refuse(now, spare as u64, out)?;
     if refused {
@@ -125,8 +126,8 @@ fn find_account_for<O: StoreAccess>(
 ) -> Octets
     requires asked { Demands now post.old (demands.Account question) }
     requires slot { HasSlot post.old }
-    ensures kept { IsTrue (O.tells outside.new) → IsTrue (O.tells outside.old) }
-    ensures does { (spare : ℕ) → deeds.DoesOneIf O.tells O.seen O.rest O.view spare outside.old daemon.old post.old now id result outside.new daemon.new post.new }
+    ensures kept { ToldBefore O.told outside.old outside.new }
+    ensures does { (spare : ℕ) → deeds.DoesOneIf O.told O.store.view spare (deeds.lmtp_moment outside.old daemon.old post.old) (step_at now id result) (deeds.lmtp_moment outside.new daemon.new post.new) }
 {
     match outside.find_account(id, &mut daemon.clients, question.user.as_slice()) {
         Some(lookup) => {
@@ -152,8 +153,8 @@ fn deliver<O: StoreAccess>(
     room: ReplyBuffer,
 ) -> Octets
     requires { Demands now post.old (demands.Delivery parcel) }
-    ensures kept { IsTrue (O.tells outside.new) → IsTrue (O.tells outside.old) }
-    ensures does { (spare : ℕ) → deeds.DoesOneIf O.tells O.seen O.rest O.view spare outside.old daemon.old post.old now id result outside.new daemon.new post.new }
+    ensures kept { ToldBefore O.told outside.old outside.new }
+    ensures does { (spare : ℕ) → deeds.DoesOneIf O.told O.store.view spare (deeds.lmtp_moment outside.old daemon.old post.old) (step_at now id result) (deeds.lmtp_moment outside.new daemon.new post.new) }
 {
     match outside.deliver(id, &mut daemon.clients, &parcel) {
         Some(answer) => {

@@ -2,7 +2,8 @@
 ghost use Rattle.std.specs.Prelude.{◌≡◌, [], Some, true, false, IsTrue, IsSome, IsErr, OnOk, OnErr};
 ghost use Rattle.std.specs.Ordering.{nat_cmp};
 ghost use Rattle.std.specs.BTreeMap as tree;
-ghost use Rattle.net_loop.specs.Rules.{StepsIf, IdlesIf};
+ghost use Rattle.net_loop.specs.Rules.{StepsIf, IdlesIf, machine_state, step_at};
+ghost use Rattle.net_loop.specs.Told.{ToldBefore};
 ghost use Rattle.daemon_core.specs.DaemonRules.{daemon_rules, place_at, AtPlace, Forgets, DaemonRenews, LacksFor, had_at};
 ghost use Rattle.daemon_core.specs.ClientStates as places;
 ghost use Rattle.daemon_core.specs.ClientStates.{client_at, state_renewed, place_told};
@@ -190,9 +191,9 @@ fn apply_step<O: StoreAccess>(
     requires out { out.old ≡ [] }
     requires may { AtPlace daemon.old id (λ place. SessionMayAsk now place.waits) }
     requires asks { EventAsksStore (Step id) daemon.old.clients.sessions }
-    ensures kept { IsTrue (O.tells outside.new) → IsTrue (O.tells outside.old) }
-    ensures ok { OnOk result (StepsIf O.tells O.seen O.rest (daemon_rules O.view) outside.old daemon.old now id out.new outside.new daemon.new) }
-    ensures err { OnErr result (IdlesIf O.tells O.seen O.rest outside.old outside.new) }
+    ensures kept { ToldBefore O.told outside.old outside.new }
+    ensures ok { OnOk result (StepsIf O.told (daemon_rules O.store.view) (machine_state outside.old daemon.old) (step_at now id out.new) (machine_state outside.new daemon.new)) }
+    ensures err { OnErr result (IdlesIf O.told outside.old outside.new) }
     ensures lacks { OnErr result (LacksFor daemon.old id daemon.new) }
 {
     match outside.apply_event(id, &mut daemon.clients, &Event::Step(id)) {
@@ -217,9 +218,9 @@ fn step_first<O: StoreAccess>(
 ) -> Result<(), AllocError>
     requires out { out.old ≡ [] }
     requires may { AtPlace daemon.old id (λ place. SessionMayAsk now place.waits) }
-    ensures kept { IsTrue (O.tells outside.new) → IsTrue (O.tells outside.old) }
-    ensures ok { OnOk result (StepsIf O.tells O.seen O.rest (daemon_rules O.view) outside.old daemon.old now id out.new outside.new daemon.new) }
-    ensures err { OnErr result (IdlesIf O.tells O.seen O.rest outside.old outside.new) }
+    ensures kept { ToldBefore O.told outside.old outside.new }
+    ensures ok { OnOk result (StepsIf O.told (daemon_rules O.store.view) (machine_state outside.old daemon.old) (step_at now id out.new) (machine_state outside.new daemon.new)) }
+    ensures err { OnErr result (IdlesIf O.told outside.old outside.new) }
     ensures lacks { OnErr result (LacksFor daemon.old id daemon.new) }
 {
     let event = Event::Step(id);
@@ -247,9 +248,9 @@ fn give_up<O: StoreAccess>(
 ) -> Result<(), AllocError>
     requires out { out.old ≡ [] }
     requires may { AtPlace daemon.old id (λ place. MayGiveUp now place.waits) }
-    ensures kept { IsTrue (O.tells outside.new) → IsTrue (O.tells outside.old) }
-    ensures ok { OnOk result (StepsIf O.tells O.seen O.rest (daemon_rules O.view) outside.old daemon.old now id out.new outside.new daemon.new) }
-    ensures err { OnErr result (IdlesIf O.tells O.seen O.rest outside.old outside.new) }
+    ensures kept { ToldBefore O.told outside.old outside.new }
+    ensures ok { OnOk result (StepsIf O.told (daemon_rules O.store.view) (machine_state outside.old daemon.old) (step_at now id out.new) (machine_state outside.new daemon.new)) }
+    ensures err { OnErr result (IdlesIf O.told outside.old outside.new) }
     ensures lacks { OnErr result (LacksFor daemon.old id daemon.new) }
 {
     let event = Event::GiveUp(id);
@@ -268,8 +269,8 @@ fn give_up<O: StoreAccess>(
 fn speak<O: StoreAccess>(daemon: &mut Daemon, outside: &mut O, now: u64, id: u32, out: &mut Octets)
     requires out { out.old ≡ [] }
     requires may { AtPlace daemon.old id (λ place. IsReplyKeptBack place.waits) }
-    ensures kept { IsTrue (O.tells outside.new) → IsTrue (O.tells outside.old) }
-    ensures ok { StepsIf O.tells O.seen O.rest (daemon_rules O.view) outside.old daemon.old now id out.new outside.new daemon.new }
+    ensures kept { ToldBefore O.told outside.old outside.new }
+    ensures ok { StepsIf O.told (daemon_rules O.store.view) (machine_state outside.old daemon.old) (step_at now id out.new) (machine_state outside.new daemon.new) }
 {
     outside.tell_spoke(id);
     match renew(daemon, now, id, SessionWait::Nothing, true) {
@@ -314,9 +315,9 @@ fn refuse<O: StoreAccess>(
 ) -> Result<(), AllocError>
     requires out { out.old ≡ [] }
     requires may { AtPlace daemon.old id (λ place. (place.waits ≡ SessionWait.Nothing) × (place.fit ≡ Fit.Over)) }
-    ensures kept { IsTrue (O.tells outside.new) → IsTrue (O.tells outside.old) }
-    ensures ok { OnOk result (StepsIf O.tells O.seen O.rest (daemon_rules O.view) outside.old daemon.old now id out.new outside.new daemon.new) }
-    ensures err { OnErr result (IdlesIf O.tells O.seen O.rest outside.old outside.new) }
+    ensures kept { ToldBefore O.told outside.old outside.new }
+    ensures ok { OnOk result (StepsIf O.told (daemon_rules O.store.view) (machine_state outside.old daemon.old) (step_at now id out.new) (machine_state outside.new daemon.new)) }
+    ensures err { OnErr result (IdlesIf O.told outside.old outside.new) }
     ensures lacks { OnErr result (LacksFor daemon.old id daemon.new) }
 {
     if out.extend_from_slice(TOO_MUCH).is_err() {
@@ -339,9 +340,9 @@ fn step_free<O: StoreAccess>(
 ) -> Result<(), AllocError>
     requires out { out.old ≡ [] }
     requires may { AtPlace daemon.old id (λ place. (place.waits ≡ SessionWait.Nothing) × (place.fit ≡ fit)) }
-    ensures kept { IsTrue (O.tells outside.new) → IsTrue (O.tells outside.old) }
-    ensures ok { OnOk result (StepsIf O.tells O.seen O.rest (daemon_rules O.view) outside.old daemon.old now id out.new outside.new daemon.new) }
-    ensures err { OnErr result (IdlesIf O.tells O.seen O.rest outside.old outside.new) }
+    ensures kept { ToldBefore O.told outside.old outside.new }
+    ensures ok { OnOk result (StepsIf O.told (daemon_rules O.store.view) (machine_state outside.old daemon.old) (step_at now id out.new) (machine_state outside.new daemon.new)) }
+    ensures err { OnErr result (IdlesIf O.told outside.old outside.new) }
     ensures lacks { OnErr result (LacksFor daemon.old id daemon.new) }
 {
     if is_over(fit) {
@@ -360,9 +361,9 @@ pub fn step_once<O: StoreAccess>(
     out: &mut Octets,
 ) -> Result<(), AllocError>
     requires { out.old ≡ [] }
-    ensures kept { IsTrue (O.tells outside.new) → IsTrue (O.tells outside.old) }
-    ensures ok { OnOk result (StepsIf O.tells O.seen O.rest (daemon_rules O.view) outside.old daemon.old now id out.new outside.new daemon.new) }
-    ensures err { OnErr result (IdlesIf O.tells O.seen O.rest outside.old outside.new) }
+    ensures kept { ToldBefore O.told outside.old outside.new }
+    ensures ok { OnOk result (StepsIf O.told (daemon_rules O.store.view) (machine_state outside.old daemon.old) (step_at now id out.new) (machine_state outside.new daemon.new)) }
+    ensures err { OnErr result (IdlesIf O.told outside.old outside.new) }
     ensures lacks { OnErr result (LacksFor daemon.old id daemon.new) }
 {
     let Some(place) = daemon.places.get(&id) else {

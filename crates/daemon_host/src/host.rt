@@ -5,7 +5,7 @@ ghost use Rattle.store_engine.specs.Hosts.{IsGivenUp, SessionMap};
 ghost use Rattle.store_engine.specs.Terms.{terms};
 ghost use Rattle.store_accounts.specs.Cells.{borrowed_octets};
 ghost use Rattle.sieve_exec.specs.declared.when.When.{When};
-ghost use Rattle.daemon_core.specs.StoreAccess.{delivery_of};
+ghost use Rattle.daemon_core.specs.StoreAccess.{access_state, delivery_of};
 ghost use Rattle.net_loop.specs.Told.{IsLoopAct};
 ghost use Rattle.daemon_host.specs.Events as events;
 ghost use Rattle.daemon_host.specs.Held as held;
@@ -236,7 +236,7 @@ impl<'a, N: Net + time::Clock, E: Write + Drop, K: Keeper + Drop, T: MailSink + 
     /// Applies an event to the store, if that may be asked and is available.
     fn try_apply_event(&mut self, id: u32, clients: &mut Clients, event: &Event) -> Option<Answer>
         requires { ¬ IsGivenUp event.now }
-        ensures { HostBrings K.S.Store K.tells K.holds event.now result self.old.held clients.old.sessions self.new.held clients.new.sessions }
+        ensures { HostBrings K.S.Store K.tells K.holds event.now result (access_state self.old.held clients.old.sessions) (access_state self.new.held clients.new.sessions) }
     {
         if !self.may_ask(id) {
             return None;
@@ -295,8 +295,7 @@ impl<'a, N: Net + time::Clock, E: Write + Drop, K: Keeper + Drop, T: MailSink + 
 
     /// Delivers a message at the moment that the clock shows, if the store may be asked and is available.
     fn try_deliver(&mut self, id: u32, parcel: &StoreDelivery) -> Option<Answer>
-        ensures { (when : When) × ((kept : SessionMap) → HostBrings K.S.Store K.tells K.holds (delivery_of parcel.now (terms when self.old.default)) result
-            self.old.held kept self.new.held kept) }
+        ensures { (when : When) × ((kept : SessionMap) → HostBrings K.S.Store K.tells K.holds (delivery_of parcel.now (terms when self.old.default)) result (access_state self.old.held kept) (access_state self.new.held kept)) }
     {
         let when = when_in(self.system, &self.zone);
         if !self.may_ask(id) {
@@ -531,12 +530,8 @@ impl<N: Net + time::Clock, E: Write + Drop, K: Keeper + Drop, T: MailSink + Drop
 
     type Rest = HostStore<K, T>;
 
-    ghost tells = { λ _. false };
-
-    // Any, since it tells none.
-    ghost seen = { λ _. [] };
-
-    ghost rest = { λ host. host.held };
+    // It tells no acts, so `seen` may be any.
+    ghost told = { record { tells = λ _. false; seen = λ _. []; rest = λ host. host.held } };
 
     ghost broken = { λ host. host.broken };
 }
@@ -629,11 +624,12 @@ impl<N: Net + time::Clock, E: Write + Drop, K: Keeper + Drop, T: MailSink + Drop
     for Host<'_, N, E, K, T> {
     ghost use Rattle.store_lock.specs.Laws.{never_told};
 
-    ghost view = { host_view K.S.Store K.tells K.holds };
-
-    ghost clean = { IsClean K.S.Store K.tells };
-
-    ghost default = { λ host. host.default };
+    ghost store = { record {
+      view = host_view K.S.Store K.tells K.holds;
+      clean = IsClean K.S.Store K.tells;
+      default = λ host. host.default;
+      has = SinkHasMail T.tells T.kept;
+    } };
 
     fn apply_event(&mut self, id: u32, clients: &mut Clients, event: &Event) -> Option<Answer> {
         match self.try_apply_event(id, clients, event) {
@@ -689,8 +685,6 @@ impl<N: Net + time::Clock, E: Write + Drop, K: Keeper + Drop, T: MailSink + Drop
         }
     }
 
-    ghost has = { SinkHasMail T.tells T.kept };
-
     fn move_next(&mut self, _clients: &mut Clients, now: u64, fresh: bool) -> Option<u64> {
         match self.try_move_next(now, fresh) {
             Some(moving) => Some(span_behind(&moving)),
@@ -716,5 +710,5 @@ impl<N: Net + time::Clock, E: Write + Drop, K: Keeper + Drop, T: MailSink + Drop
         gives
     }
 
-    ghost sure = { λ desk told. never_told told };
+    ghost sure = { λ host told. never_told told };
 }

@@ -3,7 +3,7 @@ ghost use Rattle.std.specs.Prelude.{◌≡◌, None, IsTrue, IfErr, IfOk, IfSome
 ghost use Rattle.lmtp_connections.specs.Connections.{IsFinding};
 ghost use Rattle.store_engine.specs.Hosts.{IsGivenUp, SessionMap};
 ghost use Rattle.store_engine.specs.Terms.{terms_of};
-ghost use Rattle.daemon_core.specs.StoreAccess.{delivery_of};
+ghost use Rattle.daemon_core.specs.StoreAccess.{access_state, delivery_of};
 ghost use Rattle.daemon_host.specs.Held.{IsClean, StillShown, HostBrings, DeniesAtOnce, GivesAtOnce, HostMovesNext, SinkHasMail, Seeks};
 ghost use Rattle.daemon_core.specs.Moves.{HasKept};
 
@@ -114,7 +114,7 @@ impl<K: Keeper + Drop, T: MailSink + Drop> HostStore<K, T> {
     /// Applies an event to the store and the sessions, and answers it; none if the store isn't held.
     pub fn apply_event(&mut self, clients: &mut Clients, event: &Event) -> Option<Answer>
         requires { ¬ IsGivenUp event.now }
-        ensures { HostBrings K.S.Store K.tells K.holds event.now result self.old clients.old.sessions self.new clients.new.sessions }
+        ensures { HostBrings K.S.Store K.tells K.holds event.now result (access_state self.old clients.old.sessions) (access_state self.new clients.new.sessions) }
     {
         let Some(store) = &mut self.store else {
             return None;
@@ -145,7 +145,7 @@ impl<K: Keeper + Drop, T: MailSink + Drop> HostStore<K, T> {
         when: When,
         default: Option<&[u8]>,
     ) -> Option<Answer>
-        ensures { (kept : SessionMap) → HostBrings K.S.Store K.tells K.holds (delivery_of parcel.now (terms_of when default.entry)) result self.old kept self.new kept }
+        ensures { (kept : SessionMap) → HostBrings K.S.Store K.tells K.holds (delivery_of parcel.now (terms_of when default.entry)) result (access_state self.old kept) (access_state self.new kept) }
     {
         let Ok(envelope) = envelope_of(alloc, parcel) else {
             return None;

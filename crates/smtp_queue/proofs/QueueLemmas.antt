@@ -19,7 +19,7 @@ use Rattle.smtp_send.specs.declared.queue.TakenOut.{TakenOut}
 use Rattle.smtp_send.specs.declared.queue.TakenOut.TheVariants.{Removed, Gone, Changed}
 use Rattle.store_lock.specs.declared.keeper.StoreUnavailable.{StoreUnavailable}
 use Rattle.smtp_queue.specs.DueRows.{HasRow, IsRowGone, IsDueRowFound, TakesSent}
-use Rattle.smtp_queue.specs.Queues.{content, row_in, rows_in, IsDueRowIn, QueueShows, ShowsRows, QueueFinds, QueueRemoves, TurnsShown, QueueStillShows, IsRowTold}
+use Rattle.smtp_queue.specs.Queues.{content, row_in, rows_in, IsDueRowIn, QueueShows, ShowsRows, QueueFinds, QueueRemoves, TurnsShown, QueueStillShows, IsRowTold, store_and_keeper}
 use Rattle.smtp_queue.specs.declared.due_row.DueRow.{DueRow}
 use Rattle.smtp_queue.specs.Waits as wait
 use Rattle.smtp_queue.specs.Waits.{row_key}
@@ -167,12 +167,12 @@ module _ {S : Type 0} (g : Ghosts S) (tells : Bool) (waits : RowWaits) (now : �
   Has rows = ShowsRows g tells waits now (holds after) later rows
 
   -- no account changed
-  pub rows_still : QueueStillShows g tells holds store keeper later after → (rows : Rows) → Had rows → Has rows
+  pub rows_still : QueueStillShows g tells holds (store_and_keeper store keeper) (store_and_keeper later after) → (rows : Rows) → Had rows → Has rows
   rows_still still rows shows = record { told = shows.told; accounts = shows.accounts; shown = still shows.told shows.accounts shows.shown; are = shows.are }
 
   -- a row was looked for
-  module _ (at : QueueKey) (r : Result (Option DueRow) StoreUnavailable) (finds : TurnsShown g tells holds (QueueFinds waits now at r) store keeper later after) where
-    pub rows_found : QueueStillShows g tells holds store keeper later after
+  module _ (at : QueueKey) (r : Result (Option DueRow) StoreUnavailable) (finds : TurnsShown g tells holds (QueueFinds waits now at r) (store_and_keeper store keeper) (store_and_keeper later after)) where
+    pub rows_found : QueueStillShows g tells holds (store_and_keeper store keeper) (store_and_keeper later after)
     rows_found told accounts shown = let h = finds told accounts shown in subst (QueueShows g (holds after) later) h.1.0 h.2
 
     pub found_there : (found : Option DueRow) → r ≡ Ok found → (row : Option DueMessage) → IsRowTold found row → IfSome row (λ row. (rows : Rows) → Had rows → IsThere row rows)
@@ -183,8 +183,8 @@ module _ {S : Type 0} (g : Ghosts S) (tells : Bool) (waits : RowWaits) (now : �
         shows.are row.user row.id ∙ say waits now shows.accounts (found_in waits now at shows.accounts found there)
 
   -- a row was taken out, or not
-  module _ (at : QueueKey) (sent : DueMessage) (r : Result TakenOut StoreUnavailable) (takes : TurnsShown g tells holds (QueueRemoves at sent r) store keeper later after) where
-    pub rows_kept : (denial : StoreUnavailable) → r ≡ Err denial → QueueStillShows g tells holds store keeper later after
+  module _ (at : QueueKey) (sent : DueMessage) (r : Result TakenOut StoreUnavailable) (takes : TurnsShown g tells holds (QueueRemoves at sent r) (store_and_keeper store keeper) (store_and_keeper later after)) where
+    pub rows_kept : (denial : StoreUnavailable) → r ≡ Err denial → QueueStillShows g tells holds (store_and_keeper store keeper) (store_and_keeper later after)
     rows_kept denial is told accounts shown =
         let h = takes told accounts shown in
         let same : h.0 ≡ accounts = subst (λ o. QueueRemoves at sent o accounts h.0) is h.1 in

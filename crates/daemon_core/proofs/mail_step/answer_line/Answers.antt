@@ -10,7 +10,7 @@ returns-then-refused-clause-ok g c =
     let does : ConnectionDoes c.args.now (Declined c.args.spare) c.refuse.new.out c.args.post.now c.refuse.new.self =
     subst (λ did. ConnectionRefuses c.args.now c.args.spare c.refuse.new.out did c.args.post.now c.refuse.new.self) c.if-refused.true c.in_ok-refused.ensures.ok in
     λ daemon.
-    declined g.O.Outside.tells g.O.Outside.seen g.O.Outside.rest g.O.StoreAccess.view g.O.StoreAccess.clean g.met.O.StoreAccess.sure c.args.outside.now c.tell_answered.new.self daemon daemon.clients c.args.now c.args.id c.refuse.new.out
+    declined g.O.Outside.told g.O.StoreAccess.store g.met.O.StoreAccess.sure c.args.outside.now c.tell_answered.new.self daemon daemon.clients c.args.now c.args.id c.refuse.new.out
     c.args.post.now c.refuse.new.self c.args.spare c.refuse.ensures.held does c.tell_answered.ensures.told c.tell_answered.ensures.shown
 
 pub answer-requires-clause-line : goal.answer-requires-clause-line
@@ -31,5 +31,5 @@ returns-clause-ok g c =
     subst (λ did. ConnectionRefuses c.args.now c.args.spare c.refuse.new.out did c.args.post.now c.refuse.new.self) c.if-refused.false c.in_ok-refused.ensures.ok in
     let does : ConnectionDoes c.args.now Answered c.answer.new.out c.args.post.now c.answer.new.self = subst (λ x. ConnectionDoes c.args.now Answered c.answer.new.out x c.answer.new.self) none.1 c.in_ok-answer.ensures.does in
     λ daemon.
-    answered g.O.Outside.tells g.O.Outside.seen g.O.Outside.rest g.O.StoreAccess.view g.O.StoreAccess.clean g.met.O.StoreAccess.sure c.args.outside.now c.tell_answered-2.new.self daemon daemon.clients c.args.now c.args.id
+    answered g.O.Outside.told g.O.StoreAccess.store g.met.O.StoreAccess.sure c.args.outside.now c.tell_answered-2.new.self daemon daemon.clients c.args.now c.args.id
     c.answer.new.out c.args.post.now c.answer.new.self c.args.spare (less_then c.args.post.now c.refuse.new.self c.answer.new.self c.refuse.ensures.held c.answer.ensures.held) does c.tell_answered-2.ensures.told c.tell_answered-2.ensures.shown

@@ -11,9 +11,9 @@ returns-in-Ok-clause-ok g c = λ tell.
     let one = c.in-Ok.ensures.ok tell in
     let was : post_at c.args.mail.now c.args.id ≡ Some c.in-Some.post.now = search rules in
     let put : tree.Updates nat_cmp c.args.mail.now.posts (c.get_mut.follows.lender c.do_next.new.post) c.args.id (Some c.do_next.new.post) = search rules in
-    let does : DoesOne g.O.StoreAccess.view (octet_room c.args.mail.now) c.args.mail.now.daemon (g.O.Outside.rest c.args.outside.now) c.in-Some.post.now c.args.now one.0 c.do_next.new.out c.do_next.new.daemon
-    (g.O.Outside.rest c.do_next.new.outside) c.do_next.new.post =
-    subst (λ n. DoesOne g.O.StoreAccess.view n c.args.mail.now.daemon (g.O.Outside.rest c.args.outside.now) c.in-Some.post.now c.args.now one.0 c.do_next.new.out c.do_next.new.daemon (g.O.Outside.rest c.do_next.new.outside) c.do_next.new.post)
+    let does : DoesOne g.O.StoreAccess.store.view (octet_room c.args.mail.now) c.args.mail.now.daemon (g.O.Outside.told.rest c.args.outside.now) c.in-Some.post.now c.args.now one.0 c.do_next.new.out c.do_next.new.daemon
+    (g.O.Outside.told.rest c.do_next.new.outside) c.do_next.new.post =
+    subst (λ n. DoesOne g.O.StoreAccess.store.view n c.args.mail.now.daemon (g.O.Outside.told.rest c.args.outside.now) c.in-Some.post.now c.args.now one.0 c.do_next.new.out c.do_next.new.daemon (g.O.Outside.told.rest c.do_next.new.outside) c.do_next.new.post)
     c.room-spare.ensures one.2 in
     record {
       note = one.0;

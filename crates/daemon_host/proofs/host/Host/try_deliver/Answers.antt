@@ -3,7 +3,7 @@ use Rattle.std.proofs.Common.{◌≡◌, [], Some, ◌∙◌, subst, sym}
 use Rattle.store_engine.specs.Hosts.{SessionMap}
 use Rattle.store_engine.specs.Terms.{terms, terms_of}
 use Rattle.store_accounts.specs.Cells.{borrowed_octets}
-use Rattle.daemon_core.specs.StoreAccess.{IsEventDone, delivery_of}
+use Rattle.daemon_core.specs.StoreAccess.{IsEventDone, access_state, delivery_of}
 use Rattle.daemon_core.proofs.StillLemmas.{still_then}
 use Rattle.daemon_host.specs.Held.{host_view, HostBrings, IsClean}
 use Rattle.daemon_host.proofs.HeldLemmas.{done_behind, nothing_behind}
@@ -17,7 +17,7 @@ returns-in-Some g c =
     let told = c.tell_delivery.result in
     let same : borrowed_octets c.slice_of.result ≡ c.args.self.now.default = c.slice_of.ensures ∙ c.reach.ensures.default ∙ c.may_ask.ensures.default in (
       when,
-      subst (λ default. (kept : SessionMap) → HostBrings g.K.S.Store g.K.Keeper.tells g.K.Keeper.holds (delivery_of c.args.parcel.now (terms when default)) (Some told) c.args.self.now.held kept c.tell_delivery.new.self.held kept) same
+      subst (λ default. (kept : SessionMap) → HostBrings g.K.S.Store g.K.Keeper.tells g.K.Keeper.holds (delivery_of c.args.parcel.now (terms when default)) (Some told) (access_state c.args.self.now.held kept) (access_state c.tell_delivery.new.self.held kept)) same
           (λ kept clean.
           let here = c.is_kept-kept.ensures.kept (subst (IsClean g.K.S.Store g.K.Keeper.tells) c.tell_delivery.ensures.same clean) in
           let is = c.tell_delivery.ensures.same ∙ here.1 in
