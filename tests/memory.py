@@ -16,7 +16,7 @@ makes them takes memory to tell what came.
 
 A line for a trial says how many requests there were, at how many the answer was the refusal and at how many the full one; the last
 line counts the trials, and the status is 1 where one failed. `tests/run` runs it, with --quick: some forty requests of each, spread
-over all. It needs python3 and cc; what crates/test_runs tries needs its program, crates/test_runs/out/cases.
+over all. It needs python3 and cc; what crates/test_runs tries needs its program, crates/test_runs/out/test_runs.
 """
 import contextlib, io, os, re, shutil, sqlite3, struct, subprocess, tempfile
 import managesieve, stops, trials
