@@ -1,7 +1,7 @@
 #!/usr/bin/env python3
 """Tries the documents: every command of README as it stands, the limits of their lines, their links, those of the package and its
-version, the form of decisions, the completion for bash, that scripts can be run, and that names of crates, types and definitions are
-of one thing each.
+version, the form of decisions, the completion for bash, that scripts can be run, that names of crates, types and definitions
+are of one thing each, and that those of DEFINITIONS are there.
 
   tests/documents.py [--sieved SIEVED] [TRIAL ..]
 """
@@ -251,7 +251,23 @@ def names():
     return f"{len(places)} names"
 
 
-TRIALS = {"modes": modes, "readme": readme, "lines": lines, "links": links, "decisions": decisions, "version": version, "package": package, "completion": completion, "names": names}
+def definitions():
+    """Each name in the first cell of a row of DEFINITIONS stands in a definition or a type of the crate that the row or its heading names."""
+    words = {crate: {word for part in ("src", "specs") for _, text in sources(crate, part) for word in re.findall(r"\w+", text)} for crate in crates()}
+    section, lost, count = [], [], 0
+    for number, line in enumerate(lines_of("docs/DEFINITIONS.md"), 1):
+        if line.startswith("#"):
+            section = [word for word in re.findall(r"\w+", line) if word in words]
+        if line.startswith("| `"):
+            there = [name for name in re.findall(r"crates/(\w+)/", line) if name in words] + section or list(words)
+            found = re.findall(r"`([A-Za-z_]\w+)`", line.split("|")[1])
+            count += len(found)
+            lost += [f"{number}: {name}" for name in found if not any(name in words[crate] for crate in there)]
+    assert count and not lost, f"not there: {lost}"
+    return f"{count} names"
+
+
+TRIALS = {"modes": modes, "readme": readme, "lines": lines, "links": links, "decisions": decisions, "version": version, "package": package, "completion": completion, "names": names, "definitions": definitions}
 
 
 def program(path):
