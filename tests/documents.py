@@ -128,7 +128,7 @@ def links_below(root, pages):
 
 
 def links():
-    return f"{links_below(TOP, pages())} links"
+    return f"{links_below(TOP, pages() + [f'crates/{crate}/README.md' for crate in crates()])} links"
 
 
 def make():
