@@ -1,7 +1,8 @@
 #!/usr/bin/env python3
 """Measures `sieved daemon` beside Dovecot in one run, on one disk, and prints a table of docs/PERFORMANCE.md.
 
-  bench/beside_dovecot.py [SIEVED]       SIEVED: the program, crates/sieved/out/sieved where none is named
+  bench/beside_dovecot.py [--sync MS] [SIEVED]   SIEVED: the program, crates/sieved/out/sieved where none is named
+                                                 MS: so many milliseconds more each sync of both takes
 
 It needs root and Debian's dovecot-lmtpd, dovecot-managesieved and dovecot-sieve. Each server has one user with one active script,
 which files what has `[list]` in its subject. Dovecot's processes are kept between connections (`service_count = 0`), and its mail
@@ -12,14 +13,14 @@ import base64, os, re, shutil, socket, subprocess, sys, tempfile, threading, tim
 
 HERE = os.path.dirname(os.path.abspath(__file__))
 sys.path.insert(0, f"{HERE}/../tests")
-import managesieve
+import managesieve, slow_disk
 
 TURNS, SECONDS = 3, 3.0
 SCRIPT = b'require "fileinto";\r\nif header :contains "subject" "[list]" { fileinto "lists"; }\r\n'
 LONG = b"# %s\r\n" % (b"x" * 70) * (28_000 // 74)
 HEAD = b"From: bob@example.net\r\nTo: alice@example.org\r\nSubject: [list] %d\r\nMessage-ID: <%d@example.net>\r\n\r\n"
 BODY = b"The quick brown fox jumps over the lazy dog, and goes on to do so for a while.\r\n" * 100
-CONF = """
+CONF = """{imported}
 protocols = lmtp sieve
 listen = 127.0.0.1
 ssl = no
@@ -94,7 +95,7 @@ def urgent(pid):
 class Dovecot:
     name, user = "Dovecot", "alice"
 
-    def __init__(self, room):
+    def __init__(self, room, millis=0):
         self.room, self.lmtp, self.sieve = f"{room}/dovecot", free_port(), free_port()
         os.makedirs(f"{self.room}/mail/alice")
         os.makedirs(f"{self.room}/run")
@@ -103,8 +104,8 @@ class Dovecot:
         subprocess.run(["chown", "-R", "nobody:nogroup", f"{self.room}/mail"], check=True)
         conf = f"{self.room}/dovecot.conf"
         with open(conf, "w") as file:
-            file.write(CONF.format(room=self.room, lmtp=self.lmtp, sieve=self.sieve))
-        self.process = subprocess.Popen(["dovecot", "-F", "-c", conf], stdin=subprocess.DEVNULL)
+            file.write(CONF.format(room=self.room, lmtp=self.lmtp, sieve=self.sieve, imported=slow_disk.dovecot(millis)))
+        self.process = subprocess.Popen(["dovecot", "-F", "-c", conf], stdin=subprocess.DEVNULL, env={**os.environ, **slow_disk.environment(millis)})
         urgent(self.process.pid)
         wait_for(self.lmtp), wait_for(self.sieve)
 
@@ -115,7 +116,7 @@ class Dovecot:
 class Sieved:
     name, user = "sieved", "alice"
 
-    def __init__(self, room, program):
+    def __init__(self, room, program, millis=0):
         self.room, self.lmtp, self.sieve = f"{room}/sieved", free_port(), free_port()
         os.makedirs(self.room)
         self.file = f"{self.room}/mail.db"
@@ -123,7 +124,8 @@ class Sieved:
         words = [program, "adduser", "--db", self.file, "--salt", os.urandom(16).hex(), "alice", "alice@example.org"]
         subprocess.run(words, input=b"secret\n", check=True, stdout=subprocess.DEVNULL)
         words = [program, "daemon", "--db", self.file, "--managesieve", str(self.sieve), "--lmtp", str(self.lmtp), "--quiet"]
-        self.process = subprocess.Popen(words, stdin=subprocess.DEVNULL, stdout=subprocess.DEVNULL, stderr=subprocess.DEVNULL)
+        env = {**os.environ, **slow_disk.environment(millis)}
+        self.process = subprocess.Popen(words, stdin=subprocess.DEVNULL, stdout=subprocess.DEVNULL, stderr=subprocess.DEVNULL, env=env)
         urgent(self.process.pid)
         wait_for(self.lmtp), wait_for(self.sieve)
 
@@ -226,9 +228,12 @@ def memory(server):
 
 
 def main(words):
+    millis = 0
+    if words[:1] == ["--sync"]:
+        millis, words = float(words[1]), words[2:]
     program = os.path.abspath(words[0]) if words else managesieve.SIEVED
     with tempfile.TemporaryDirectory() as room:
-        servers = [Sieved(room, program), Dovecot(room)]
+        servers = [Sieved(room, program, millis), Dovecot(room, millis)]
         try:
             for server in servers:
                 first = client(server)

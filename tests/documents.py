@@ -1,19 +1,22 @@
 #!/usr/bin/env python3
 """Tries the documents: every command of README as it stands, the limits of their lines, their links, those of the package and its
 version, the form of decisions, the completion for bash, that scripts can be run, that names of crates, types and definitions
-are of one thing each, and that those of DEFINITIONS are there.
+are of one thing each, that DEFINITIONS is what tests/definitions.py prints, and that the wrong bodies of planted.rows can be planted.
 
   tests/documents.py [--sieved SIEVED] [TRIAL ..]
 """
 import contextlib, importlib.machinery, importlib.util, io, os, re, subprocess, tempfile
+import definitions as definitions_page
 import trials
 
 TOP = os.path.dirname(os.path.dirname(os.path.abspath(__file__)))
 SIEVED = f"{TOP}/crates/sieved/out/sieved"
-# A row of a table and indented code are left out; in these files a cell has no more octets than a line may have.
-WIDE = {"docs/DEFINITIONS.md": 160, "docs/DECISIONS.md": 160, "docs/CONTRIBUTING.md": 160}
+# A row of a table and indented code are left out; in these files a cell has no more octets than a line may have, or few words.
 NARROW_CELLS = ["README.md", "docs/OPERATING.md", "docs/VARIANTS.md", "docs/REFERENCE.md"]
+SHORT_CELLS, WORDS = ["docs/CONTRIBUTING.md"], 25
 LINE, README_LINES = 130, 130
+# So many edits the gate may have: each costs some 38 seconds of a processor.
+EDITS = 75
 FAMILIES = {"cli", "daemon", "lmtp", "mail", "maildir", "managesieve", "net", "sasl", "sieve", "smtp", "store", "test"}
 # These are the same thing in each crate that has them: a limit, a list or a question which crates side by side both need.
 SAME = {"after_span", "day_names", "is_visible", "month_names"}
@@ -81,8 +84,10 @@ def lines():
             if is_code(line):
                 continue
             row = line.lstrip().startswith("|")
-            parts = line.split("|") if row and page in NARROW_CELLS else [] if row else [line]
-            wrong += [f"{page}:{number}" for part in parts if len(part.encode()) > WIDE.get(page, LINE)]
+            cells = re.split(r"(?<!\\)\|", line) if row else []
+            parts = cells if page in NARROW_CELLS else [] if row else [line]
+            wrong += [f"{page}:{number}" for part in parts if len(part.encode()) > LINE]
+            wrong += [f"{page}:{number}" for part in cells if page in SHORT_CELLS and len(part.split()) > WORDS]
     if len(lines_of("README.md")) - 1 > README_LINES:
         wrong.append("README.md is too long")
     if wrong:
@@ -252,22 +257,34 @@ def names():
 
 
 def definitions():
-    """Each name in the first cell of a row of DEFINITIONS stands in a definition or a type of the crate that the row or its heading names."""
-    words = {crate: {word for part in ("src", "specs") for _, text in sources(crate, part) for word in re.findall(r"\w+", text)} for crate in crates()}
-    section, lost, count = [], [], 0
-    for number, line in enumerate(lines_of("docs/DEFINITIONS.md"), 1):
-        if line.startswith("#"):
-            section = [word for word in re.findall(r"\w+", line) if word in words]
-        if line.startswith("| `"):
-            there = [name for name in re.findall(r"crates/(\w+)/", line) if name in words] + section or list(words)
-            found = re.findall(r"`([A-Za-z_]\w+)`", line.split("|")[1])
-            count += len(found)
-            lost += [f"{number}: {name}" for name in found if not any(name in words[crate] for crate in there)]
-    assert count and not lost, f"not there: {lost}"
-    return f"{count} names"
+    """DEFINITIONS is what its script prints."""
+    printed, kept = definitions_page.page().split("\n"), lines_of("docs/DEFINITIONS.md")
+    if printed != kept:
+        at = next(at for at, (one, other) in enumerate(zip(printed + [None], kept + [None])) if one != other)
+        raise Exception(f"line {at + 1}: run tests/definitions.py > docs/DEFINITIONS.md")
+    return f"{len(kept) - 1} lines"
 
 
-TRIALS = {"modes": modes, "readme": readme, "lines": lines, "links": links, "decisions": decisions, "version": version, "package": package, "completion": completion, "names": names, "definitions": definitions}
+def planted():
+    """Each wrong body of planted.rows stands once in its file, and has a name that no other has in its crate."""
+    rows = planted_rows()
+    faults = [f"{row.crate} {row.name}: {fault}" for row in rows.read_rows(rows.ROWS) if (fault := rows.fault_of(row))]
+    names = [f"{row.crate}/{row.name}" for row in rows.read_rows(rows.ROWS)]
+    edits = [f"{crate}/{name.removesuffix('.edit')}" for crate in crates() if os.path.isdir(f"{TOP}/crates/{crate}/must-fail") for name in os.listdir(f"{TOP}/crates/{crate}/must-fail")]
+    double = sorted(name for name in set(names + edits) if (names + edits).count(name) > 1)
+    assert not faults and not double and len(edits) <= EDITS, f"faults: {faults}; double: {double}; edits: {len(edits)}"
+    return f"{len(names)} wrong bodies, beside {len(edits)} edits of the gate"
+
+
+def planted_rows():
+    loader = importlib.machinery.SourceFileLoader("planted", f"{TOP}/tests/planted")
+    spec = importlib.util.spec_from_loader("planted", loader)
+    module = importlib.util.module_from_spec(spec)
+    loader.exec_module(module)
+    return module
+
+
+TRIALS = {"modes": modes, "readme": readme, "lines": lines, "links": links, "decisions": decisions, "version": version, "package": package, "completion": completion, "names": names, "definitions": definitions, "planted": planted}
 
 
 def program(path):

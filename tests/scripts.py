@@ -6,7 +6,7 @@
 Prints a line for each trial, a last one that counts them, and ends with 1 where one failed. `tests/run` runs it. A trial whose
 tool (awk, flock, mkswap, shellcheck, strace) or right (root, to mount a small disk, to limit memory) isn't there is left out.
 """
-import collections, hashlib, os, random, re, shutil, signal, sqlite3, subprocess, time
+import collections, hashlib, itertools, os, random, re, shutil, signal, sqlite3, subprocess, time
 import mailboxes, managesieve, trials
 from contextlib import contextmanager
 
@@ -15,6 +15,7 @@ DOCS = os.environ.get("SIEVED_DOCS", f"{TOP}/docs")
 PACKAGING = os.environ.get("SIEVED_PACKAGING", f"{TOP}/packaging")
 PROGRAM = [managesieve.SIEVED]
 MAIL = b"From: bob@example.net\r\nTo: alice@example.org\r\nSubject: %s\r\n\r\nHi\r\n"
+NUMBERS = itertools.count(1)
 STAND_IN = """#!/bin/sh
 cat > /dev/null
 printf '%s' "$PRINTS"
@@ -58,8 +59,9 @@ class Host(managesieve.Store):
         printed, said = process.communicate(data, timeout=120)
         return process.returncode, printed, said
 
-    def deliver(self, *words, data=MAIL % b"x", **env):
-        return self.call("sieved-deliver", *words, data=data, **env)
+    def deliver(self, *words, data=None, **env):
+        """A message with a body of its own, where none is given, for one is sent on once."""
+        return self.call("sieved-deliver", *words, data=data or MAIL % b"x" + b"%d\r\n" % next(NUMBERS), **env)
 
     def script(self, user, text):
         process, client = self.session("--wait")
@@ -321,17 +323,17 @@ def queue_by_hand():
     host = Host("alice")
     host.script("alice", b'redirect "far@example.com";')
     for sender in "x, victim@example.com,@evil.example", "a'$(touch x)`touch y`;\x1b[2J b@evil.example":
-        assert host.deliver("--no-drain", "--from", sender, "--to", "alice@example.org", "alice", data=MAIL % b"\x1b[2J")[0] == 0
+        assert host.deliver("--no-drain", "--from", sender, "--to", "alice@example.org", "alice", data=MAIL % b"\x1b[2J" + sender.encode())[0] == 0
     with open(f"{DOCS}/OPERATING.md") as file:
         lines = [line[4:] for line in file.read().split("**A row that can't go.**")[1].split("\n## ")[0].split("\n") if line.startswith("    ")]
     ours = "\n".join(lines).replace("runuser -u sieved -- sieved", f"'{host.sieved}'").replace("/var/lib/sieved/mail.db", host.file)
     ours = ours.replace("sendmail -i", "'%s' -i" % host.env["SENDMAIL"])
-    (_, _, message), *_ = host.rows("alice").values()
+    messages = [message for _, _, message in host.rows("alice").values()]
     for number, (sender, target) in enumerate([("alice@example.org", "far@example.com"), ("<>", "\"$(touch x)`touch y`;'\"@example.com")], 1):
         done = subprocess.run(["sh", "-e", "-c", ours.replace("alice 3", f"alice {number}").replace("row-3", f"row-{number}")], env=host.env, cwd=host.room,
                               input=f"{sender}\n{target}\n".encode(), capture_output=True)
         assert (done.returncode, done.stderr) == (0, b"") and b"\x1b" not in done.stdout, done
-        assert host.runs()[-1] == ([b"-i", b"-f", sender.encode(), b"--", target.encode()], message), host.runs()
+        assert host.runs()[-1] == ([b"-i", b"-f", sender.encode(), b"--", target.encode()], messages[number - 1]), host.runs()
         assert os.stat(f"{host.room}/row-{number}.eml").st_mode & 0o777 == 0o600
     assert not host.rows("alice") and len(host.runs()) == 2 and {"x", "y"}.isdisjoint(os.listdir(host.room))
     return "two rows looked at, sent on and taken off; each address was one word"

@@ -3,10 +3,11 @@
 
   tests/store_files.py [--sieved SIEVED] [TRIAL ..]       SIEVED: the program, crates/sieved/out/sieved where none is named
 
-The trials: made, kept, traced, sessions, failing, large, log, full; without a word, all. Prints a line for each; the last one counts them, and the
-status is 1 where one failed. `tests/run` runs it. It needs python3 on Linux; `traced` and `failing` need strace, `full` the right to mount a tmpfs.
+The trials: made, kept, traced, sessions, failing, large, log, full, slow; without a word, all. Prints a line for each; the last one counts them, and the
+status is 1 where one failed. `tests/run` runs it. It needs python3 on Linux; `traced` and `failing` need strace, `full` the right to
+mount a tmpfs, `slow` needs cc.
 """
-import os, re, resource, shutil, signal, socket, sqlite3, stat, subprocess, sys, tempfile
+import os, re, resource, shutil, signal, slow_disk, socket, sqlite3, stat, subprocess, sys, tempfile, time
 from contextlib import closing
 from managesieve import SIEVED
 
@@ -308,7 +309,7 @@ def logged(place):
 def full(new):
     place = new()
     if os.geteuid() != 0 or subprocess.run(["mount", "-t", "tmpfs", "-o", "size=2m", "tmpfs", place.folder], stderr=subprocess.DEVNULL).returncode:
-        raise LeftOut("the right to mount a tmpfs")
+        raise LeftOut("right to mount a tmpfs")
     try:
         return filled(place)
     finally:
@@ -339,6 +340,20 @@ def filled(place):
     return f"a disk that is full after {count} deliveries is told, with what helps; without the reserve file the next one is delivered"
 
 
+def slow(new):
+    """On a disk that holds each sync a delivery takes as much longer as it has syncs, and answers the same."""
+    if not shutil.which("cc"):
+        raise LeftOut("cc")
+    place, spans = new().make(), []
+    for millis in 0, 100:
+        began = time.monotonic()
+        status, said, told = place.deliver(env={**os.environ, **slow_disk.environment(millis)})
+        spans.append(time.monotonic() - began)
+        assert (status, said, told) == (0, b"file INBOX\n", b""), (status, said, told)
+    assert spans[1] - spans[0] > 0.1, spans
+    return f"{1000 * spans[0]:.0f} ms, and {1000 * spans[1]:.0f} ms where each sync takes 100 ms more"
+
+
 def strace():
     path = shutil.which("strace")
     if path is None:
@@ -346,7 +361,7 @@ def strace():
     return path
 
 
-TRIALS = [made, kept, traced, sessions, failing, large, log, full]
+TRIALS = [made, kept, traced, sessions, failing, large, log, full, slow]
 
 
 def tried(trial):

@@ -9,7 +9,7 @@ Prints a line for each trial, a last one that counts them, and ends with 1 where
 roundcube-core, roundcube-plugins, roundcube-sqlite3, php-cli, sqlite3, dovecot-imapd, chromium and chromium-driver, else its trials are left
 out. The lines of docs/OPERATING.md for Roundcube's plugin are those that it takes. All files are in a folder that goes with the trial.
 """
-import calendar, json, os, re, shutil, sqlite3, subprocess, tempfile, time, urllib.request
+import calendar, itertools, json, os, re, shutil, sqlite3, subprocess, tempfile, time, urllib.request
 import managesieve, scripts, trials
 from contextlib import closing, contextmanager, suppress
 from postfix import free_port, wait_for
@@ -83,6 +83,7 @@ FLAGGING = ["setflag", "addflag"]
 DATED = (b"From: bob@example.net\nTo: alice+food@example.org\nCc: alice@example.org\nSubject: Lunch\nX-Kind: meal\nX-Count: 042 Eggs\n"
          b"Date: Sat, 29 Aug 2026 10:00:00 +0200\n\nHi\n")
 MESSAGE = b"From: bob@example.net\nTo: alice@example.org\nSubject: Lunch\n\nHi\n"
+NUMBERS = itertools.count(1)
 
 
 class Host:
@@ -210,6 +211,8 @@ def log_in(browser, password="secret"):
 
 
 def deliver(host, moment, message=MESSAGE):
+    """A message with a Message-ID of its own, for one is sent on once."""
+    message = b"Message-ID: <%d@example.net>\n" % next(NUMBERS) + message
     said = host.sieved("deliver", "--wait", "--from", "bob@example.net", "--to", "alice@example.org", "--at", str(moment), "alice", text=message)
     return said.splitlines()
 
