@@ -181,6 +181,7 @@ patience_of d = least_patience (patience_by d.holding) d.places.entries
 
 -- ---- all of it
 
+-- what the daemon makes of what happens to a client of ManageSieve
 abbrev pub daemon_rules : {R : Type 0} → View R → Rules Daemon Note R
 daemon_rules view = record {
   limit = limit_of;

@@ -234,6 +234,7 @@ pub record ClosesBy (d : MailDaemon) (id : ℕ) (e : MailDaemon) : Type 0 where
   pub posts : ChangesPost d id None e
   pub host : SameHost d e
 
+-- the same for any client
 abbrev pub mail_rules : {R : Type 0} → View R → Rules MailDaemon Note R
 mail_rules view = record {
   limit = limit_for;

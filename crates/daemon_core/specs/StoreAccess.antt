@@ -119,6 +119,7 @@ abbrev pub IsAccountAsked : {R : Type 0} → View R → List Event → List ℕ 
 IsAccountAsked view others user lookup r before q after =
     (w : World) → IsWorld view r before w → (next : World) × FindsAt others user lookup w next × ComesTo view r w none_tried q after next
 
+-- an account was looked for after others' events, and this was found; or nothing was asked
 abbrev pub FindsAccount : {O R : Type 0} → (O → Bool) → (O → List (Act Note)) → (O → R) → View R → (R → Type 0) → ℕ → List ℕ → O → SessionMap → Option Lookup → O → SessionMap → Type 0
 FindsAccount tells seen rest view clean id user old before (Some lookup) new after =
     (others : List Event) × (clean (rest new) → IsAccountAsked view others user lookup (rest old) before (rest new) after)

@@ -14,11 +14,12 @@ use net_loop::machine::{Claim, Want};
 use std::collections::BTreeMap;
 use store_engine::Clients;
 
-/// For so many milliseconds after it came a ManageSieve client that isn't logged in isn't closed for another, nor an LMTP client before
-/// its LHLO while many are: a client on the same machine answers its greeting within one or two, and 300 that say nothing have gone by within a second.
+/// The span in milliseconds, from when it came, in which a ManageSieve client that isn't logged in makes no room for another; the same
+/// for an LMTP client before its LHLO while many others haven't said theirs. A client on the same machine answers its greeting within
+/// one or two, and 300 silent ones have gone by within a second.
 const FIRST_SPAN: u64 = 50;
 
-/// For how many milliseconds any other client of LMTP is left alone while no recipient of its is taken.
+/// For how many milliseconds any other client of LMTP is left alone before one of its recipients is accepted.
 const SENDER_SPAN: u64 = 1000;
 
 /// How many clients of LMTP that haven't said LHLO are many: three quarters of the places.
@@ -91,7 +92,7 @@ fn want_claim(now: u64, want: Want, rank: u32, since: u64) -> Option<Claim>
     }
 }
 
-/// What one claims that waits so.
+/// The claim of a client in this wait.
 fn waits_claim(now: u64, place: &ClientState, session: &Session) -> Option<Claim>
     ensures { result ≡ room.waits_claim now place.now.waits place.now session.now.client }
 {
@@ -125,7 +126,7 @@ pub fn claim_of_guest(daemon: &Daemon, now: u64, id: u32) -> Option<Claim>
     }
 }
 
-/// What a client of LMTP claims: nothing while a recipient of its is taken. `flooded`, if many haven't said LHLO.
+/// What a client of LMTP claims: nothing while one of its recipients is accepted. `flooded`, if many haven't said LHLO.
 pub fn claim_of_sender(
     clients: &Clients,
     now: u64,
@@ -163,7 +164,7 @@ fn span_by(hello: bool, flooded: bool) -> u64
     }
 }
 
-/// Whether many clients of LMTP haven't said LHLO. Time is linear in them.
+/// Whether at least 15 LMTP clients haven't said LHLO yet. Time is linear in all LMTP connections.
 pub fn is_flooded(posts: &BTreeMap<u32, LmtpConnection>) -> bool
     ensures { result ≡ room.is_flooded posts.now.entries }
 {

@@ -158,7 +158,7 @@ fn asked_since(daemon: &Daemon, now: u64, id: u32) -> u64
     }
 }
 
-/// The same if the store answered: it is held then.
+/// As `settle`, when the store answered: it is held then.
 fn settle_done(daemon: &mut Daemon, now: u64, id: u32, answer: Answer, out: &mut Octets)
     requires { out.old ≡ [] }
     ensures renews { DaemonRenews (had_at now daemon.old) now id (waits_after now answer) (places.is_out answer) daemon.new }

@@ -35,7 +35,7 @@ impl Pause {
         now < self.until
     }
 
-    /// It failed: it is left alone for a second, and for twice as long after each further failure, up to a minute.
+    /// The store failed: it is left alone for a second, and for twice as long after each further failure, up to a minute.
     pub fn begin(&mut self, now: u64)
         ensures { PauseBegins now self.old self.new }
     {

@@ -11,6 +11,7 @@ pub record Pair : Type 0 where
 abbrev pub pair : List ℕ → List ℕ → Pair
 pair name value = record { name = name; value = value }
 
+-- a blank, the name, `=` and the value
 abbrev pub pair_text : List ℕ → List ℕ → List ℕ
 pair_text name value = 32 ∷ (name ++ 61 ∷ spelled value)
 
@@ -22,6 +23,7 @@ abbrev pub with_pairs : List ℕ → List Pair → List ℕ
 with_pairs front [] = front
 with_pairs front (p ∷ pairs) = with_pairs (front ++ pair_text p.name p.value) pairs
 
+-- the line of a word and pairs
 abbrev pub log_line_of : List ℕ → List Pair → List ℕ
 log_line_of word pairs = with_pairs (line_start word) pairs ++ 10 ∷ []
 

@@ -3,6 +3,7 @@ use Rattle.std.specs.Prelude.{◌≡◌, ℕ, ◌==◌, Bool, ◌&&◌, List, []
 use Rattle.daemon_log.specs.declared.tally.EventCounts.{EventCounts}
 use Rattle.daemon_log.specs.Lines.{Pair, pair}
 
+-- nothing was counted
 abbrev pub is_no_count : EventCounts → Bool
 is_no_count c = (c.delivered == 0) && (c.refused == 0) && (c.moved == 0) && (c.logins_failed == 0) && (c.commands == 0)
 

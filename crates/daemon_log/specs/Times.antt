@@ -56,5 +56,6 @@ abbrev pub IsPercentileOf : Bool → Times → ℕ → ℕ → Type 0
 IsPercentileOf true times percent micros = micros ≡ 0
 IsPercentileOf false times percent micros = (slot : ℕ) × IsFirstWith times.counts (percent_of times.total percent) slot × (micros ≡ bound_of slot)
 
+-- the bound of the first slot up to which that many of a hundred events were counted; 0 if there were none
 abbrev pub IsPercentile : Times → ℕ → ℕ → Type 0
 IsPercentile times percent micros = IsPercentileOf (times.total == 0) times percent micros

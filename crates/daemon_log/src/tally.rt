@@ -1,4 +1,4 @@
-//! What happened since the last line `status`.
+//! What happened since the last line `status`, which is logged each minute.
 ghost use Rattle.std.specs.Prelude.{IfOk, OnOk, ◌≡◌, true, codes};
 ghost use Rattle.daemon_log.specs.Lines.{with_pairs, log_line_of};
 ghost use Rattle.daemon_log.specs.Tallies.{mail_pairs, client_pairs, time_pairs, pairs_of, is_no_count};

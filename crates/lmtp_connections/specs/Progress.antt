@@ -39,6 +39,7 @@ waited now t = min (t.spent + away_for now t.waits) max_delivery_wait
 abbrev pub MayAskStore : ℕ → LmtpProgress → Type 0
 MayAskStore now t = waited now t < max_delivery_wait
 
+-- the store was waited for as long as a message may wait
 abbrev pub HasWaited : ℕ → LmtpProgress → Type 0
 HasWaited now t = max_delivery_wait ≤ waited now t
 
@@ -73,6 +74,7 @@ abbrev pub lmtp_due_by : StoreWait → ℕ → ℕ
 lmtp_due_by Nothing since = after_span since max_lmtp_silence
 lmtp_due_by (Store first again) since = 2 ^ 64 - 1
 
+-- the moment at which the client is late
 abbrev pub due : LmtpProgress → ℕ
 due t = lmtp_due_by t.waits t.since
 
@@ -81,5 +83,6 @@ abbrev pub wanted_by : Wanted → StoreWait → Wanted
 wanted_by comes Nothing = comes
 wanted_by comes (Store since again) = Until again
 
+-- what is wanted of it
 abbrev pub wanted : Wanted → LmtpProgress → Wanted
 wanted comes t = wanted_by comes t.waits

@@ -116,9 +116,11 @@ abbrev pub NotesBecame : DeliveryResult → Code → Code → Type 0
 NotesBecame became c e =
     (before after : List Addressee) (it : Addressee) → c.addressees.items ≡ before ++ it ∷ after → length before ≡ c.tally.told → e.addressees.items ≡ before ++ record it { became = Some became } ∷ after
 
+-- it stands for the same connection
 abbrev pub ConnectionKeeps : Code → Code → Type 0
 ConnectionKeeps c e = (p : LmtpState) → ConnectionStands c p → ConnectionStands e p
 
+-- for one that heard these octets
 abbrev pub ConnectionHears : ℕ → List ℕ → Code → Code → Type 0
 ConnectionHears now piece c e = (p : LmtpState) → ConnectionStands c p → ConnectionStands e (lmtp_state_heard now piece p)
 
@@ -159,6 +161,7 @@ IsDemand now p (demand.Reply became) =
 IsDemand now p (demand.Delivery parcel) =
     MayAskStore now p.tally × ((before : List Addressee) × (it : Addressee) × (after : List Addressee) × (text : List ℕ) × IsStoreDelivery p before it after text parcel)
 
+-- what is to be done next, whatever connection it stands for
 abbrev pub Demands : ℕ → Code → Demand → Type 0
 Demands now c demand = (p : LmtpState) → ConnectionStands c p → IsDemand now p demand
 

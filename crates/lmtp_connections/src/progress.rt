@@ -45,7 +45,7 @@ pub struct LmtpProgress {
     pub spent: u64,
     /// The moment from which on the client's silence is counted.
     pub since: u64,
-    /// From this moment on its claim counts: its last step with an accepted recipient, else when it came.
+    /// The moment from which its claim counts: its last step with an accepted recipient, else when it came.
     pub guest: u64,
 }
 

@@ -20,6 +20,7 @@ pub data DialoguePhase : Type 0 where
   -- the client has said QUIT
   Over : DialoguePhase
 
+-- a dialogue: what goes on in it, and the octets that came after what was answered
 pub record Dialogue : Type 0 where
   pub phase : DialoguePhase
   -- the octets that came after the items that were answered

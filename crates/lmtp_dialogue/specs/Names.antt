@@ -57,6 +57,7 @@ abbrev pub forms_by : Names → List ℕ → List ℕ → List (List ℕ)
 forms_by Local local tail = local_forms local
 forms_by Whole local tail = whole_forms local tail
 
+-- the names of a recipient in the order in which an account is looked for
 abbrev pub AreForms : Names → List ℕ → List (List ℕ) → Type 0
 AreForms names address forms = (local tail : List ℕ) × SplitsAddress address local tail × (forms ≡ forms_by names local tail)
 

@@ -30,6 +30,7 @@ MisArgues line =
     ⊎ (SaysCommand line verb.Data Something ⊎ (SaysCommand line verb.Rset Something ⊎ (SaysCommand line verb.Quit Something
     ⊎ (SaysCommand line verb.Mail (λ a. ReadsMail a (Err Syntax)) ⊎ SaysCommand line verb.Rcpt (λ a. ReadsRecipient a (Err Syntax))))))
 
+-- how it is refused, whatever came before it
 abbrev pub IsCommandRefused : List ℕ → LmtpReply → Type 0
 IsCommandRefused line reply.UnknownCommand = (word : LmtpVerb) (argument : List ℕ) → IsCommandLine line word argument → ⊥
 IsCommandRefused line reply.NotSmtp = SaysCommand line verb.Helo Anything ⊎ SaysCommand line verb.Ehlo Anything
@@ -39,6 +40,7 @@ IsCommandRefused line reply.BadRecipient = SaysCommand line verb.Rcpt (λ a. Rea
 IsCommandRefused line reply.BadParameter = SaysCommand line verb.Mail (λ a. ReadsMail a (Err Parameter)) ⊎ SaysCommand line verb.Rcpt (λ a. ReadsRecipient a (Err Parameter))
 IsCommandRefused line other = ⊥
 
+-- what a command line asks for
 abbrev pub ReadsLmtpCommand : List ℕ → LmtpCommand → Type 0
 ReadsLmtpCommand line (order.Lhlo name) = IsCommandLine line verb.Lhlo name.now × Something name.now
 ReadsLmtpCommand line (order.Mail mail) = SaysCommand line verb.Mail (λ a. ReadsMail a (Ok (record { from = mail.from.now; size = mail.size })))

@@ -95,6 +95,7 @@ pub record GoesFrom (Is : Dialogue → List ℕ → Dialogue → Type 0) (d : Di
   pub written : after ≡ before ++ said
   pub stands : StandsIn s next
 
+-- what a call makes of a receiver, whatever dialogue it stands for
 abbrev pub ReceiverGoes : (Dialogue → List ℕ → Dialogue → Type 0) → Receiver → Receiver → List ℕ → List ℕ → Type 0
 ReceiverGoes Is r s before after = (d : Dialogue) → StandsIn r d → GoesFrom Is d s before after
 
@@ -164,6 +165,7 @@ pub record IsDelivery (d : Dialogue) (delivery : Delivery) : Type 0 where
   pub first : IsNextItem d (Message text) rest
   pub kept : IsKept text delivery.text
 
+-- what comes next: more octets, a line, a recipient to look up, a delivery
 abbrev pub ComesNext : Dialogue → Next → Type 0
 ComesNext d next.Need = (is_heard d.phase ≡ true) × DialogueWaits d
 ComesNext d next.Line = (item : Item) × (rest : List ℕ) × IsNextItem d item rest × (is_line item ≡ true)

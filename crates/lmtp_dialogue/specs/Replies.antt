@@ -118,6 +118,7 @@ RepliesAreLines = (outcome : DeliveryOutcome) → IsOneReplyLine (outcome_line o
 abbrev pub max_host : ℕ
 max_host = 255
 
+-- the greeting, with the host's name
 abbrev pub lmtp_greeting : List ℕ → List ℕ
 lmtp_greeting host = codes "220 " ++ (lmtp_shown max_host host ++ (codes " LMTP" ++ line_end))
 
@@ -131,5 +132,6 @@ abbrev pub announced : List (List ℕ)
 announced =
     codes "PIPELINING" ∷ codes "SIZE 33552232" ∷ codes "8BITMIME" ∷ codes "SMTPUTF8" ∷ codes "ENHANCEDSTATUSCODES" ∷ []
 
+-- the answer to LHLO
 abbrev pub lmtp_capabilities : List ℕ → List ℕ
 lmtp_capabilities host = lmtp_lines_of (codes "250") (lmtp_shown max_host host) announced

@@ -9,7 +9,7 @@ use Rattle.jiff_tz.specs.PosixText.{TzText}
 abbrev pub IsWhole : ℤ → Type 0
 IsWhole seconds = IsBetween (neg_ℤ (pos 86399)) (pos 86399) seconds × (int_rem seconds (pos 60) ≡ pos 0)
 
--- so is each offset that a rule says
+-- each offset that a rule says is a whole number of minutes, and less than a day either way
 abbrev pub AreWhole : TzText → Type 0
 AreWhole read = IsWhole read.std_seconds × ForSome read.dst (λ dst. IsWhole dst.seconds)
 

@@ -29,6 +29,6 @@ is_system name = list_any (λ system. are_same (flag_name_of system) name) all_s
 abbrev pub max_flag_len : ℕ
 max_flag_len = 128
 
--- the name of a flag that a user may set
+-- the name of a flag that a user may set: a system flag or an atom, of at most 128 octets
 abbrev pub is_flag : List ℕ → Bool
 is_flag name = nat_le (length name) max_flag_len && (is_keyword name || is_system name)

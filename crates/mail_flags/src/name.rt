@@ -36,7 +36,7 @@ fn are_of_atoms(name: &[u8]) -> bool
     name.iter().all(|octet| is_of_atoms(*octet))
 }
 
-/// Whether an atom may have the octet: it is none of `(`, `)`, `{`, `%`, `*`, `"`, `\`, `]`, no blank and no control octet.
+/// Whether an atom may have the octet: printable ASCII but the blank, `(`, `)`, `{`, `%`, `*`, `"`, `\` and `]`.
 fn is_of_atoms(octet: u8) -> bool
     ensures { result ≡ names.is_of_atoms octet }
 {

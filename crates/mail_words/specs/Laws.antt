@@ -20,6 +20,6 @@ IsReadBack text value = IsHeaderText text value → decoded_text (unfold_of valu
 abbrev pub said_by : List ℕ → List ℕ
 said_by text = cond (has_written_words text) (decoded_text text) text
 
--- the value of a header field that was written so, unfolded and decoded, is that
+-- the value of a header field that was written so, unfolded and decoded, is what the text says (`said_by`)
 abbrev pub IsSaid : List ℕ → List ℕ → Type 0
 IsSaid text value = IsWrittenText text value → decoded_text (unfold_of value) ≡ said_by text

@@ -44,7 +44,7 @@ AreValues [] octets = octets ≡ []
 AreValues (piece ∷ more) octets =
     (first : ℕ) × ((rest : List ℕ) × ((octets ≡ first ∷ rest) × ((q_piece_value piece ≡ Some first) × AreValues more rest)))
 
--- a text in Q and its octets
+-- a text in Q and its octets: each as it is, `_` for a space, or `=` and two hexadecimal digits
 pub record IsQEncoded (text octets : List ℕ) : Type 0 where
   pub pieces : List QPiece
   pub spelled : text ≡ q_text pieces

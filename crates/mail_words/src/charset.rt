@@ -9,7 +9,7 @@ use std::alloc::{AllocError, Global};
 /// A character set that encoded words may have.
 #[derive(Clone, Copy)]
 pub enum Charset {
-    /// US-ASCII, and of ISO-8859-2 to ISO-8859-16 the part that is the same: octets below 128.
+    /// US-ASCII, and the ASCII half of ISO-8859-2 to ISO-8859-16: octets below 128.
     Ascii,
     /// ISO-8859-1: each octet is the character with its number.
     Latin1,

@@ -14,7 +14,7 @@ pub enum Mode {
     AfterDigit(u8),
 }
 
-/// The octets of a text in Q, if it is one.
+/// The octets that a text in the Q encoding stands for; `None` if it isn't valid.
 pub(crate) fn from_quoted(alloc: Global, text: &[u8]) -> Result<Option<Vec<u8>>, AllocError>
     ensures { IfOk result (λ octets. option_map (λ v. v.items) octets ≡ quoted.quoted_of text.now) }
 {

@@ -55,7 +55,7 @@ digest_form name = codes ".sha256-" ++ encode_lower (sha256 name)
 abbrev pub directory_named : Separator → List ℕ → List ℕ
 directory_named separator name = cond (has_form separator name) (spelled_directory separator name) (digest_form name)
 
--- the directory of the folder with this name
+-- the directory of the folder with this name: `.` for INBOX, otherwise as Maildir++ spells it, or by its digest
 abbrev pub directory : Separator → List ℕ → List ℕ
 directory separator name = cond (is_inbox name) (codes ".") (directory_named separator (with_inbox_folded separator name))
 

@@ -53,6 +53,7 @@ abbrev pub TriedMoving : Moving → World → Trees → Type 0
 TriedMoving (moving.Kept mail answer) w trees = ShowsTried (TakeMail mail.user mail.folder) answer w trees
 TriedMoving other w trees = ⊥
 
+-- what became of a message: it was the first of its folder, with its flags there, and was taken out with this answer; or no account changed
 abbrev pub MovesNext : Moving → State → State → Type 0
 MovesNext result old new =
     HasCleanDisk new → (w : World) → HasAccounts old w.accounts

@@ -13,7 +13,7 @@ use store_engine::{Answer, first_message};
 /// What became of a message that was to move on.
 #[derive(Drop)]
 pub enum Moving {
-    /// No folder that doesn't rest has a message.
+    /// Every folder that has a message rests.
     Nothing,
     /// A folder that rests is passed over, or the round over all folders begins anew.
     Passed,

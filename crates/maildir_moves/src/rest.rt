@@ -90,13 +90,13 @@ impl Rests {
         many.count() as u64
     }
 
-    /// Forgets those users between the one who had the last turn and this one, who have no mail.
+    /// Forgets the users between the one who had the last turn and this one: they have no mail.
     pub fn forget_between(&mut self, last: &Option<Octets>, user: &[u8]) {
         self.entries
             .retain(|rest| !is_between(last, user, rest.user.as_slice()));
     }
 
-    /// Forgets those users after the one who had the last turn, who have no mail.
+    /// Forgets the users after the one who had the last turn: they have no mail.
     pub fn forget_behind(&mut self, last: &Option<Octets>) {
         self.entries
             .retain(|rest| !is_behind(last, rest.user.as_slice()));

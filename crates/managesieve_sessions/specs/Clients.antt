@@ -6,6 +6,7 @@ use Rattle.managesieve_protocol.specs.declared.items.ItemExtent.TheVariants as r
 use Rattle.managesieve_protocol.specs.Scanning.{extent_of, is_reached}
 use Rattle.managesieve_protocol.specs.Values.{item_of}
 
+-- one client's session, without its store
 pub record Client : Type 0 where
   -- who is logged in, if anybody is
   pub user : Option (List ℕ)

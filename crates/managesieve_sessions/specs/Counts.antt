@@ -8,6 +8,7 @@ use Rattle.managesieve_sessions.specs.Clients.{Client, new_client, reach_in, is_
 abbrev pub greatest : ℕ
 greatest = 2 ^ 64 - 1
 
+-- a session: its client, and how many octets came and were scanned
 pub record SessionView : Type 0 where
   pub client : Client
   -- how many octets came in pieces

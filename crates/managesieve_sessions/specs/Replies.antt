@@ -73,5 +73,6 @@ capability_lines user =
     ∷ line.Capability (codes "VERSION") (Some (codes "1.0"))
     ∷ owner_line user
 
+-- the reply to `CAPABILITY`, and the greeting
 abbrev pub capability_reply : Option (List ℕ) → ServerReply
 capability_reply user = listed (capability_lines user)

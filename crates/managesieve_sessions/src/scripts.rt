@@ -153,7 +153,7 @@ fn lines_of(
     Ok(lines)
 }
 
-// `SETACTIVE` (RFC 5804, 2.8): the empty name makes none active.
+// `SETACTIVE` (RFC 5804, 2.8): the empty name makes none active. A text that can't be a script's name is one that no script has.
 fn set_active<'a>(
     alloc: Global,
     names: &[Octets],

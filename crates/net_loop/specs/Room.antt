@@ -68,5 +68,6 @@ abbrev pub RoomChoice : {M N R : Type 0} → Rules M N R → M → Service → �
 RoomChoice rules m s kind (Some id) = MakesRoom rules m s kind id
 RoomChoice rules m s kind None = NobodyGoes rules m s kind
 
+-- whatever machine, service and kind: the one that makes room is the first that claims; there is none if nobody that may go claims
 abbrev pub FirstGoes : {M N R : Type 0} → Rules M N R → Type 0
 FirstGoes {M = M} rules = (m : M) (s : Service) (kind : ℕ) → RoomChoice rules m s kind (makes_room rules m s kind)

@@ -26,6 +26,7 @@ TellsIf tells seen old act new = IsTrue (tells new) → TellsAct (seen old) act 
 abbrev pub LeavesIf : {O R : Type 0} → (O → Bool) → (O → R) → O → O → Type 0
 LeavesIf tells rest old new = IsTrue (tells new) → rest new ≡ rest old
 
+-- accepting: a connection came, or none did
 abbrev pub AfterAccept : {N : Type 0} → List (Act N) → ℕ → ℕ → Accepted → List (Act N) → Type 0
 AfterAccept seen kind id accepted.Came later = TellsAct seen (Came id kind) later
 AfterAccept seen kind id accepted.Nobody later = TellsAct seen (NoneCame kind) later
@@ -37,12 +38,14 @@ AfterRead seen id buffer input.Nothing later = TellsAct seen (ReadBlocked id) la
 AfterRead seen id buffer input.Over later = TellsAct seen (Over id) later
 AfterRead seen id buffer input.Lost later = TellsAct seen (Lost id) later
 
+-- octets were dropped
 abbrev pub AfterDiscard : {N : Type 0} → List (Act N) → ℕ → Input → List (Act N) → Type 0
 AfterDiscard seen id (input.Got count) later = TellsAct seen (Dropped id count) later
 AfterDiscard seen id input.Nothing later = TellsAct seen (ReadBlocked id) later
 AfterDiscard seen id input.Over later = TellsAct seen (Over id) later
 AfterDiscard seen id input.Lost later = TellsAct seen (Lost id) later
 
+-- sent, or nothing happened, or the connection is over or lost
 abbrev pub AfterWrite : {N : Type 0} → List (Act N) → ℕ → List ℕ → Output → List (Act N) → Type 0
 AfterWrite seen id octets (output.Taken count) later = TellsAct seen (Sent id (take count octets)) later
 AfterWrite seen id octets output.Nothing later = TellsAct seen (WriteBlocked id) later
@@ -66,12 +69,14 @@ ReadFits buffer input.Nothing = Unit {0}
 ReadFits buffer input.Over = Unit {0}
 ReadFits buffer input.Lost = Unit {0}
 
+-- the count is within what may be dropped
 abbrev pub DiscardFits : Input → Type 0
 DiscardFits (input.Got count) = (0 < count) × (count ≤ largest_piece)
 DiscardFits input.Nothing = Unit {0}
 DiscardFits input.Over = Unit {0}
 DiscardFits input.Lost = Unit {0}
 
+-- within the octets, and not zero
 abbrev pub WriteFits : List ℕ → Output → Type 0
 WriteFits octets (output.Taken count) = (0 < count) × (count ≤ length octets)
 WriteFits octets output.Nothing = Unit {0}

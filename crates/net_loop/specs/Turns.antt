@@ -48,7 +48,7 @@ numbers_between first id = (id + (2 ^ 32 - first)) % 2 ^ 32
 abbrev pub came_among : ℕ → ℕ → ℕ → List Client → Bool
 came_among kind since next clients = list_any (λ (c : Client). (c.kind == kind) && nat_lt (numbers_between since c.id) (numbers_between since next)) clients
 
--- whether one of that kind came since the last wait
+-- whether one of that kind came since the last wait; a knock that this wait told counts no more
 abbrev pub came_since : ℕ → Service → Bool
 came_since kind s = came_among kind s.since s.next (tree.values s.clients)
 
@@ -66,6 +66,7 @@ abbrev pub is_runnable : Task → Bool
 is_runnable Rest = false
 is_runnable _ = true
 
+-- of those who wait, the first that has something to do
 abbrev pub first_resumable : {M N R : Type 0} → Rules M N R → M → Service → Option ℕ
 first_resumable rules m s = find (λ id. is_runnable (task rules m s.moment 0 id (client_of s id))) s.waiting.items
 

@@ -123,7 +123,7 @@ pub trait Clock: Outside {
         ensures left { LeavesIf Self.tells Self.rest self.old self.new }
         ensures kept { IsTrue (Self.tells self.new) → IsTrue (Self.tells self.old) };
 
-    /// Whether the machine's last step took so long that another connection is to have its turn. It is no act.
+    /// Whether the machine's last step took so long that another connection is to have its turn. Asking this is no act.
     fn was_long(&mut self) -> bool
         ensures seen { IsTrue (Self.tells self.new) → Self.seen self.new ≡ Self.seen self.old }
         ensures left { LeavesIf Self.tells Self.rest self.old self.new }

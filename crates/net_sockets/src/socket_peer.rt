@@ -11,7 +11,7 @@ use std::time::Duration;
 /// For how many seconds a connection is waited for.
 const CONNECTING: u64 = 120;
 
-/// How often a read or a write that a signal interrupts is made again.
+/// How many times an interrupted read or write is retried.
 const TRIES: u32 = 1_000;
 
 /// A connection, or none.

@@ -90,6 +90,6 @@ LeadsForward place len (jump_if target) = (place < target) × (target ≤ len)
 LeadsForward place len (jump_unless target) = (place < target) × (target ≤ len)
 LeadsForward place len _ = Unit {0}
 
--- each jump leads forward
+-- each jump leads past its own place, and at most to the end of the code
 abbrev pub IsForward : List Instruction → Type 0
 IsForward code = (place : ℕ) (instr : Instruction) → slice_get code place ≡ Some instr → LeadsForward place (length code) instr

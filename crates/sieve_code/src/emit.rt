@@ -50,7 +50,7 @@ fn emit_all<'a>(rows: &mut Vec<Instr<'a>>, tests: &'a [Test]) -> Result<(), Allo
     Ok(())
 }
 
-/// Puts the code of tests before the code: it sets the flag to whether some test holds.
+/// Puts before the code what sets the flag to whether some test holds.
 #[cycle(tests)]
 fn emit_any<'a>(rows: &mut Vec<Instr<'a>>, tests: &'a [Test]) -> Result<(), AllocError>
     ensures { OnOk result (instructions_of rows.new.items ≡ test_code (any_of (tests_view tests.now)) (instructions_of rows.old.items)) }

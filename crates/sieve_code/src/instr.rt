@@ -28,7 +28,8 @@ impl<'a> Instr<'a> {
     ghost use Rattle.sieve_code.specs.Instructions.{instr_view};
     ghost use Rattle.sieve_code.specs.Layout.{forward};
 
-    /// The same instruction in code of this length, if its target was counted from the end.
+    /// The same instruction in code of this length, if its target was counted from the end. No target is further from the end than
+    /// the code is long, so that nothing saturates.
     pub(crate) fn forward(self, len: usize) -> Instr<'a>
         ensures { instr_view result ≡ forward len (instr_view self.entry) }
     {

@@ -30,7 +30,7 @@ pub(crate) enum PackedKind {
 
 /// The tokens of a text, in order: what they are and what they say, without their positions.
 ///
-/// A token takes a few octets for its kind, 8 more if it isn't a mark, and the octets that it says.
+/// A token takes a few octets for its kind, 8 more if it isn't a mark, and the octets that it says. In a list each token takes 56.
 #[derive(Drop)]
 pub struct Packed {
     pub(crate) kinds: Vec<PackedKind>,

@@ -92,7 +92,7 @@ pub(crate) fn next<'a>(
     }))
 }
 
-/// The same without its line: lines are counted when there is a fault, not token by token.
+/// The next token without its line: lines are counted when there is a fault, not token by token.
 #[inline(always)]
 pub(crate) fn next_piece<'a>(
     alloc: Global,

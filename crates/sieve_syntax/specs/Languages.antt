@@ -95,6 +95,7 @@ cancels_before (D.SetFlag texts) = false
 cancels_before (D.AddFlag texts) = false
 cancels_before (D.RemoveFlag texts) = false
 
+-- the language before `:copy` and `:seconds` (RFC 3894; RFC 6131): fifteen tags and five capabilities
 abbrev pub language_before_copy : Language
 language_before_copy = record { has = is_tag_before; knows = is_capability_before; decodes = false; cancels = cancels_before }
 
@@ -122,7 +123,8 @@ is_former_capability name =
     || (is_capability_named (codes "copy") name
     || is_capability_named (codes "vacation-seconds") name)))))
 
--- actions cancelled what they cancel today
+-- the language before `subaddress`, `relational`, `encoded-character` and `mailbox` (RFC 5233; RFC 5231; RFC 5228; RFC 5490): actions
+-- cancelled what they cancel today
 abbrev pub former : Language
 former = record { has = is_former_tag; knows = is_former_capability; decodes = false; cancels = cancels_today }
 
@@ -149,7 +151,7 @@ is_undated_capability name =
     || (is_capability_named (codes "encoded-character") name
     || is_capability_named (codes "mailbox") name))))))))))
 
--- strings were decoded, and actions cancelled what they cancel today
+-- the language before `date` (RFC 5260): strings were decoded, and actions cancelled what they cancel today
 abbrev pub undated : Language
 undated = record { has = is_undated_tag; knows = is_undated_capability; decodes = true; cancels = cancels_today }
 
@@ -175,6 +177,6 @@ is_unflagged_capability name =
     || (is_capability_named (codes "mailbox") name
     || is_capability_named (codes "date") name)))))))))))
 
--- strings were decoded, and actions cancelled what they cancel today
+-- the language before `imap4flags` (RFC 5232): strings were decoded, and actions cancelled what they cancel today
 abbrev pub unflagged : Language
 unflagged = record { has = is_unflagged_tag; knows = is_unflagged_capability; decodes = true; cancels = cancels_today }

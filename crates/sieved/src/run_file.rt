@@ -11,7 +11,7 @@ use std::{format, fs, io};
 use store_accounts::Refusal;
 use store_lock::cause::file_cause;
 
-/// The permissions of these files: their owner reads and writes them.
+/// The permissions of these files: only their owner may read and write them.
 const OWNER_ALONE: u32 = 0o600;
 
 /// Takes the lock of a run, which is held until the file is dropped.

@@ -15,6 +15,7 @@ pub record SmtpMail : Type 0 where
   pub target : List ℕ
   pub text : List ℕ
 
+-- from the value of the code
 abbrev pub smtp_mail_of : SmtpMessage → SmtpMail
 smtp_mail_of letter = record { sender = letter.sender.now; target = letter.target.now; text = letter.text.now }
 
@@ -32,6 +33,7 @@ LeavesPath message text =
 abbrev pub IsSender : List ℕ → Type 0
 IsSender sender = (sender ≡ []) ⊎ IsSmtpMailbox sender
 
+-- its sender, unless it is empty, and its recipient are mailboxes
 abbrev pub IsMailAddressed : SmtpMail → Type 0
 IsMailAddressed mail = IsSender mail.sender × IsSmtpMailbox mail.target
 

@@ -20,7 +20,7 @@ pub struct SmtpMessage<'a> {
 }
 
 impl<'a> SmtpMessage<'a> {
-    /// Whether its addresses are mailboxes; the sender may be empty. One for which this isn't so is never sent.
+    /// Whether its addresses are mailboxes; the sender may be empty. Otherwise it is never sent.
     ///
     /// Time is linear in the addresses' octets; no memory is taken.
     pub fn is_addressed(&self) -> bool

@@ -18,6 +18,7 @@ wait_body entry = decimal entry.1.due ++ 32 ∷ (decimal entry.1.tries ++ 32 ∷
 abbrev pub wait_line : RowKey × Wait → List ℕ
 wait_line entry = wait_body entry ++ 10 ∷ []
 
+-- a line for each wait: the moment, the tries, the number and the user
 abbrev pub waits_text : List (RowKey × Wait) → List ℕ
 waits_text entries = flat_map wait_line entries
 

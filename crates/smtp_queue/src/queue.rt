@@ -66,7 +66,7 @@ fn place_of(alloc: Global, user: &[u8], id: u64) -> Result<QueueKey, AllocError>
     })
 }
 
-/// A row as it is told.
+/// The due message that a row holds, if one was found.
 fn due_message_of(found: Option<DueRow>) -> Option<DueMessage>
     ensures { IsRowTold found result }
 {

@@ -39,7 +39,7 @@ impl<K: Keeper + Drop> QueueStore<K> {
         }
     }
 
-    /// The keeper, which has the store back.
+    /// Gives the store back, and returns the keeper.
     pub(crate) fn into_keeper(mut self) -> K
         ensures { QueueStillShows K.S.Store K.tells K.holds self.store self.keeper None result }
     {

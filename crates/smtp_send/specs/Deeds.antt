@@ -27,6 +27,7 @@ pub record SendDeed : Type 0 where
   -- what became of the row if it was to be taken out
   pub taken : Option TakenOut
 
+-- the rows of all queues, and what passed over the connection
 pub record SendState : Type 0 where
   pub rows : Rows
   pub talk : SendTalk

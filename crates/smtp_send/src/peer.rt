@@ -62,7 +62,7 @@ pub trait SmtpPeer {
         ensures ok { IfOk result (λ count. (sent came : List ℕ) → passed self.old sent came → passed self.new sent (came ++ take count piece.new)) }
         ensures err { OnErr result ((sent came : List ℕ) → passed self.old sent came → passed self.new sent came) };
 
-    /// Takes octets as [`receive`](Peer::receive) does, if some come at once; none if none do.
+    /// Takes octets as [`receive`](SmtpPeer::receive) does, if some come at once; none if none do.
     fn receive_at_once(&mut self, piece: &mut [u8]) -> Result<Option<usize>, Lost>
         ensures within { IfOk result (λ found. IfSome found (λ count. count ≤ length piece.new)) }
         ensures some { IfOk result (λ found. IfSome found (λ count. (sent came : List ℕ) → passed self.old sent came → passed self.new sent (came ++ take count piece.new))) }

@@ -54,9 +54,11 @@ pub record Account : Type 0 where
   -- the number of the next message on its way out
   pub next_out : ℕ
 
+-- the accounts, by the names of their users
 abbrev pub Accounts : Type 0
 Accounts = FinMap bytes_cmp Account
 
+-- there is no account
 abbrev pub no_accounts : Accounts
 no_accounts = empty
 

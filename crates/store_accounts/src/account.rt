@@ -79,7 +79,7 @@ fn first_counters(rows: &[Row]) -> Result<Counters, Refusal>
     }
 }
 
-/// The account that the row shows.
+/// The account that the row shows. More than 2^32 - 1 rounds, which this store never writes, are an error.
 fn profile_in(row: &Row) -> Result<Profile, Error>
     ensures address { IfOk result (λ p. column row.now 0 ≡ Blob p.address) }
     ensures salt { IfOk result (λ p. column row.now 1 ≡ Blob p.salt) }

@@ -122,7 +122,7 @@ impl<S: Alter> Store<S> {
         self.last_reply_of(user, handle, sender)
     }
 
-    /// The same of an account that was entered.
+    /// The same for an account that was entered.
     fn last_reply_of(
         &mut self,
         user: &[u8],
@@ -158,7 +158,7 @@ impl<S: Alter> Store<S> {
         self.replies_of(user, sender)
     }
 
-    /// The same of an account that was entered.
+    /// The same for an account that was entered.
     pub fn replies_of(&mut self, user: &[u8], sender: &[u8]) -> Result<List<KeptReply>, Refusal>
         ensures { ReadsEntered user.now (AreKeptReplies sender.now) (state S.Store self.old) (state S.Store self.new) result }
     {

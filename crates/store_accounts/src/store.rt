@@ -55,8 +55,8 @@ impl<S: Alter + Drop> Drop for Store<S> {
 impl<S: Alter> Store<S> {
     /// Makes the tables in an empty database.
     ///
-    /// `NotOurs` if a table of the database has one of our names, else `Store` if the database isn't empty. With a
-    /// refusal the connection comes back, with its tables as they are.
+    /// `NotOurs` if a table of the database has one of our names, else `Store` if the database isn't empty, or if a transaction is
+    /// open on the connection. With a refusal the connection comes back, with its tables as they are.
     pub fn create(
         alloc: Global,
         mut conn: Connection<S>,

@@ -46,6 +46,7 @@ abbrev pub script_or_default : Option (List ℕ) → Option (List ℕ) → Optio
 script_or_default None default = default
 script_or_default (Some text) default = Some text
 
+-- the text of the active script, or the host's default; an active name that no script has counts as none
 abbrev pub deciding_text : Option (List ℕ) → Account → Option (List ℕ)
 deciding_text default a = script_or_default (active_text a) default
 
@@ -79,6 +80,7 @@ abbrev pub DeliversUnder : Option Refusal → Accounts → List ℕ → Terms �
 DeliversUnder (Some refusal) accounts user terms envelope message answer later = MachineRefuses refusal accounts answer later
 DeliversUnder None accounts user terms envelope message answer later = DeliversIn accounts user terms envelope message (open_account_of accounts user) answer later
 
+-- a message comes: a limit refuses it, NoUser, AccountClosed, or it is delivered to the account and no other changes
 abbrev pub Delivery : Accounts → List ℕ → Envelope → List ℕ → Terms → Answer → Accounts → Type 0
 Delivery accounts user envelope message terms answer later =
     DeliversUnder (limit_refusal envelope message terms.when.moment) accounts user terms envelope message answer later
@@ -144,6 +146,7 @@ abbrev pub ImportsUnder : Accounts → AccountHead → List Part → Option Acco
 ImportsUnder accounts head parts None answer later = Imports accounts head parts answer later
 ImportsUnder accounts head parts (Some a) answer later = ImportsOver accounts head parts a answer later
 
+-- an account comes as a text: BadAccount, UserExists, UserHasMail, or the account of the text
 abbrev pub Importing : Accounts → AccountHead → List Part → Answer → Accounts → Type 0
 Importing accounts head parts answer later =
     IfElse (IsImportable head parts) (ImportsUnder accounts head parts (get accounts head.owner.name) answer later)
@@ -164,6 +167,7 @@ abbrev pub TakesFromQueue : Accounts → List ℕ → ℕ → Option Account →
 TakesFromQueue accounts user id None answer later = MachineRefuses NoUser accounts answer later
 TakesFromQueue accounts user id (Some a) answer later = TakesQueueRow accounts user (row_with id a.queue) answer later
 
+-- a row
 abbrev pub Taking : Accounts → List ℕ → ℕ → Answer → Accounts → Type 0
 Taking accounts user id answer later = TakesFromQueue accounts user id (open_account_of accounts user) answer later
 
@@ -183,5 +187,6 @@ abbrev pub TakesMailIn : Accounts → List ℕ → List ℕ → Option Account �
 TakesMailIn accounts user folder None answer later = MachineRefuses NoUser accounts answer later
 TakesMailIn accounts user folder (Some a) answer later = TakesFirst accounts user folder (messages_in a.folders folder) answer later
 
+-- a folder's first message is taken out: NoUser, NoRow, or it leaves
 abbrev pub MailTaking : Accounts → List ℕ → List ℕ → Answer → Accounts → Type 0
 MailTaking accounts user folder answer later = TakesMailIn accounts user folder (open_account_of accounts user) answer later

@@ -61,6 +61,7 @@ host store sessions = record { store = store; sessions = sessions }
 abbrev pub host_with : {S : Type 0} → Ghosts S → Held S → Sessions → Host
 host_with g store clients = host (state g store) clients.sessions
 
+-- from the values of the code
 abbrev pub host_of : {S : Type 0} → Ghosts S → Machine S → Host
 host_of g machine = host_with g machine.store machine.clients
 

@@ -4,6 +4,7 @@ use Rattle.std.specs.Borrow.{Bor}
 use Rattle.store_tables.specs.Cells.{borrowed_octets}
 use Rattle.sieve_exec.specs.declared.when.When.{When}
 
+-- when a message is delivered, and the host's default script, if it has one
 pub record Terms : Type 0 where
   pub when : When
   -- the text of the host's default script, if there is one

@@ -25,6 +25,7 @@ use Rattle.store_engine.specs.Upkeep.{Keeping, IsFit, MayLackFor}
 abbrev pub Clients : Type 0
 Clients = FinMap nat_cmp Client
 
+-- the accounts by the names of their users, and the sessions by their numbers
 pub record World : Type 0 where
   pub accounts : Accounts
   pub sessions : Clients

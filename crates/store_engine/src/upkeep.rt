@@ -34,7 +34,7 @@ pub enum Upkeep {
         /// The user's own address, an addr-spec (RFC 5322, 3.4.1).
         address: Octets,
     },
-    /// Stores a script, as PUTSCRIPT does it (RFC 5804, 2.6).
+    /// Stores a script, as PUTSCRIPT does (RFC 5804, 2.6).
     StoreScript {
         /// The script's name.
         name: Octets,
@@ -141,7 +141,7 @@ fn set_address<S: Alter>(
     changed.and(Ok(Answer::Changed))
 }
 
-/// Stores a script, as PUTSCRIPT does it (RFC 5804, 2.6).
+/// Stores a script, as PUTSCRIPT does (RFC 5804, 2.6).
 fn store_script<S: Alter>(
     alloc: Global,
     store: &mut Store<S>,

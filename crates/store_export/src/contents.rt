@@ -28,7 +28,7 @@ pub struct Contents {
 ///
 /// # Errors
 ///
-/// `NoUser` without an account and if it is closed; `Memory`; `Store`, also if the account can't have a text: a counter is past
+/// `NoUser` if there is no account or it is closed; `Memory`; `Store`, also if the account can't have a text: a counter is past
 /// 2^63 - 1, or the active script isn't there.
 pub fn list_contents<S: Alter>(
     alloc: Global,

@@ -11,7 +11,7 @@ const NO_ROOM: &str = "disk is full: remove the reserve file beside the store";
 /// A file that isn't the one that was opened at its path any more.
 pub const FILE_IS_GONE: &str = "file was removed or replaced";
 
-/// A log that belongs to a file that was replaced by this one.
+/// A log of the database file that this one replaced.
 pub(crate) const LOG_OF_ANOTHER: &str =
     "log is that of a file that was replaced: move FILE-wal away";
 

@@ -68,7 +68,7 @@ pub trait Keeper {
     /// took its store at that path.
     ghost gives: { Self → List ℕ → Type 0 } = { λ _ _. ⊤ };
 
-    /// What is true of a keeper that refused the lock, which wasn't out, or the store at a path, and why. Only the refusals of `lock`
+    /// What holds of a keeper that refused a path for this cause: the lock, while it wasn't out, or the store. Only the refusals of `lock`
     /// and `take` say it, so whoever can say it of any keeper asked it for that path, and was refused with that cause.
     ghost refuses: { Self → List ℕ → StoreUnavailable → Type 0 } = { λ _ _ _. ⊤ };
 
@@ -148,7 +148,8 @@ pub trait Keeper {
         ensures told { IfSome store.old (λ given. closes self.old given (unclosed self.new)) }
         ensures named { IfSome (unclosed self.new) IsTransient };
 
-    /// Hands a taken store back, as `put_back` does.
+    /// Hands a taken store back, as `put_back` does. It is the trait's own, since the toolchain doesn't prove an impl whose method
+    /// takes the store by value.
     final fn hand_back(&mut self, store: Store<Self::S>)
         ensures held { IsTrue tells → holds self.new ≡ (state Self.S.Store store).now }
         ensures back { is_out self.new ≡ false }

@@ -9,6 +9,7 @@ use Rattle.sqlite_value.specs.declared.value.Value.TheVariants.{Null, Int, Blob}
 use Rattle.sqlite_value.specs.Order.{Row, column}
 use Rattle.store_tables.specs.Forms.{needed, maybe, keyed}
 
+-- the number of its tree
 abbrev pub account_tree : ℕ
 account_tree = 2
 
@@ -47,6 +48,7 @@ account = keyed (codes "account") account_tree (1 ∷ []) []
 abbrev pub account_reference : Reference
 account_reference = record { columns = 1 ∷ []; parent = codes "account"; parent_columns = codes "name" ∷ []; on_delete = NoAction; on_update = NoAction; is_deferred = false }
 
+-- the references of a table whose rows have an owner
 abbrev pub to_account : List Reference
 to_account = account_reference ∷ []
 

@@ -9,6 +9,7 @@ use Rattle.sqlite_trees.specs.Tree.{Trees}
 use Rattle.store_tables.specs.Forms.{needed, keyed}
 use Rattle.store_tables.specs.Rows.{has_key_from}
 
+-- the number of its tree
 abbrev pub meta_tree : ℕ
 meta_tree = 0
 
@@ -28,9 +29,11 @@ insert_version = codes "INSERT INTO meta (item, value) VALUES ('version', 3)"
 abbrev pub select_version : List ℕ
 select_version = codes "SELECT value FROM meta WHERE item = ?1"
 
+-- the key of the row of the version
 abbrev pub version_key : Row
 version_key = value.Text (codes "version") ∷ []
 
+-- the row of version 3
 abbrev pub version_row : Row
 version_row = value.Text (codes "version") ∷ value.Int (pos 3) ∷ []
 

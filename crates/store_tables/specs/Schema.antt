@@ -22,9 +22,11 @@ use Rattle.store_tables.specs.NoticeTable.{notice_tree, notice}
 use Rattle.store_tables.specs.MessageTable.{message_tree, message}
 use Rattle.store_tables.specs.CopyTable.{copy_tree, copy, copy_message, to_message}
 
+-- the tables, in the order in which `create` makes them
 abbrev pub the_tables : List Table
 the_tables = meta ∷ account ∷ script ∷ outgoing ∷ reply ∷ notice ∷ message ∷ copy ∷ []
 
+-- the schema of an empty database
 abbrev pub no_schema : Schema
 no_schema = record { tables = []; indexes = []; views = [] }
 
@@ -39,6 +41,7 @@ the_keys =
 abbrev pub the_indexes : List Index
 the_indexes = the_keys ++ copy_message ∷ []
 
+-- the schema of version 3
 abbrev pub mail_schema : Schema
 mail_schema = record { tables = the_tables; indexes = the_indexes; views = [] }
 
@@ -62,6 +65,7 @@ schema_4 = created schema_3 (record outgoing { tree = 0 })
 abbrev pub schema_5 : Schema
 schema_5 = created schema_4 (record reply { tree = 0 })
 
+-- the schema after the six tables that version 1 has too
 abbrev pub schema_6 : Schema
 schema_6 = created schema_5 (record notice { tree = 0 })
 

@@ -40,7 +40,7 @@ pub fn has_no_tables(schema: &Schema) -> bool
         && schema.views.as_slice().is_empty()
 }
 
-/// Makes the first three tables, inside a transaction.
+/// Makes the tables `meta`, `account` and `script`, inside a transaction.
 fn make_first<S: Alter>(tx: &mut Transaction<'_, S>) -> Result<(), Error>
     ensures { MakesTables S.Store no_schema schema_3 tx.old tx.new result }
 {

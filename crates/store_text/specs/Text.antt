@@ -28,6 +28,7 @@ pub record IsAccount (head : AccountHead) (parts : List Part) : Type 0 where
 
 -- ---- its spelling
 
+-- a part as a line
 abbrev pub part_line : Part → List ℕ
 part_line part = line (part_fields part)
 

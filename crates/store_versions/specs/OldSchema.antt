@@ -28,6 +28,7 @@ create_old_copy =
 abbrev pub old_copy_tree : ℕ
 old_copy_tree = 12
 
+-- the schema of version 1 with the copies last
 abbrev pub old_schema : Schema
 old_schema = created schema_6 (old_copy 0)
 
@@ -44,6 +45,7 @@ oldest_5 = created oldest_4 (record outgoing { tree = 0 })
 abbrev pub oldest_6 : Schema
 oldest_6 = created oldest_5 (record reply { tree = 0 })
 
+-- the schema of version 1 with the copies fourth
 abbrev pub oldest_schema : Schema
 oldest_schema = created oldest_6 (record notice { tree = 0 })
 

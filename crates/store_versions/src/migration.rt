@@ -105,7 +105,7 @@ pub(crate) fn refill<S: Alter>(tx: &mut Transaction<'_, S>, rows: &[Row]) -> Res
     renew_version(tx)
 }
 
-/// Migrates version 1, with the copies last, to version 3, inside a transaction. Takes memory for all copies.
+/// Migrates a version 1 database whose table of copies comes last to version 3, inside a transaction. Takes memory for all copies.
 pub(crate) fn migrate_last<S: Alter>(tx: &mut Transaction<'_, S>) -> Result<(), Error>
     ensures { RunsInside S.Store (Makes TurnsNew) tx.old tx.new result }
 {

@@ -148,7 +148,7 @@ impl<S: Shelf + Drop> FakeAccess<S> {
         Some(answer)
     }
 
-    /// Lets all events of others happen that wait, each if there is room to tell it, and tells which did.
+    /// Lets all waiting events of others happen, each if it can be recorded, and returns those that did.
     fn let_others(&mut self) -> List<Event>
         ensures still { StillHas S.has self.old.stage.fake.rest self.new.stage.fake.rest }
         ensures others { LetsOthers S.view result self.old.stage.fake.rest self.new.stage.fake.rest }

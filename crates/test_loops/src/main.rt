@@ -183,7 +183,7 @@ fn try_text(
     Ok(())
 }
 
-/// Plays a schedule that comes after this many lines.
+/// Plays a schedule; `before` lines precede it in its file.
 fn try_part(
     alloc: Global,
     server: Server,

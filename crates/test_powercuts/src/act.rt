@@ -94,7 +94,7 @@ impl CutAct {
         }
     }
 
-    /// What happens in the store before: two scripts, one of them active, and mail. A store of an older version is as it was made.
+    /// What happened in the store before the act: two scripts, one of them active, and mail. A store of an older version is as it was made.
     pub fn earlier(self, alloc: Global) -> Result<Vec<Event>, AllocError> {
         match self {
             CutAct::OpenSecond | CutAct::OpenLast | CutAct::OpenFourth => Ok(Vec::new(alloc)),

@@ -31,7 +31,7 @@ INSERT INTO meta (item, value) VALUES ('version', 3);
 COMMIT;
 INSERT INTO account (name, address, salt, rounds, digest, active, next_copy, next_out, next_notice) VALUES (X'616c696365', X'616c696365406578616d706c652e6f7267', X'73616c74', 1, X'6b54881dd86e5502ea660c8a4ef2805229d71a6311efcabd5de0bec4ff4e5136', NULL, 1, 1, 1);";
 
-/// The account alice with a script, which is active, one message in two folders and another one, two rows of the queue, a reply
+/// The account alice with a script, which is active, one message in two folders, a second message in one, two rows of the queue, a reply
 /// and a notice.
 const OLD_ACCOUNT: &str = "
 INSERT INTO meta (item, value) VALUES ('version', 1);

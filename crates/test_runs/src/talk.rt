@@ -14,7 +14,7 @@ use test_files::add_parts;
 /// The greeting's last line.
 const GREETED: &[u8] = b"OK\r\n";
 
-/// What alice's client sends first, whose password is `secret`.
+/// What alice's client sends first; her password is `secret`.
 const LOGIN: &[u8] = b"AUTHENTICATE \"PLAIN\" \"AGFsaWNlAHNlY3JldA==\"\r\n";
 
 /// What it is told then.

@@ -61,7 +61,7 @@ impl FakePeer {
         !self.closed && self.id == Some(id)
     }
 
-    /// Whether it knocks there.
+    /// Whether it knocks at the listener of this kind.
     pub fn knocks_at(&self, kind: u32) -> bool {
         self.kind == kind && self.id.is_none()
     }

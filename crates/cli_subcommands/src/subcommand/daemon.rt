@@ -54,7 +54,7 @@ pub struct DaemonArgs<'a> {
     pub memory: Option<&'a str>,
     /// Whether deliveries that were made aren't logged.
     pub quiet: bool,
-    /// Whether it is only checked what would go wrong.
+    /// Whether to check only what would go wrong.
     pub check: bool,
 }
 
