@@ -15,7 +15,7 @@ use Rattle.lmtp_dialogue.specs.declared.receiver.Lookup.{Lookup}
 use Rattle.store_accounts.specs.declared.refusal.Refusal.{Refusal}
 use Rattle.store_accounts.specs.declared.report.Report.{Report}
 use Rattle.sieve_exec.specs.declared.envelope.Envelope.{Envelope}
-use Rattle.lmtp_connections.specs.declared.demand.StoreDelivery.{StoreDelivery}
+use Rattle.lmtp_connections.specs.declared.demand.DeliveryRequest.{DeliveryRequest}
 use Rattle.sqlite.specs.State.{State, HasCleanDisk}
 use Rattle.store_engine.specs.AccountEvents.{Delivery}
 use Rattle.store_engine.specs.World.{World}
@@ -112,30 +112,30 @@ asked_alone view r q user lookup kept finds = λ w at.
     (w, record { strangers = tt; told = []; theirs = refl; apart = refl; found = seen.0 }, record { is = record { shown = seen.1; sessions = at.sessions }; left = seen.2 })
 
 -- a delivery is an event, whatever sessions there are
-delivery_acts : (parcel : StoreDelivery) (terms : Terms) (user message : List ℕ) (envelope : Envelope) (old new : State) (r : Result Report Refusal)
-    → user ≡ parcel.user → envelope ≡ record { from = parcel.sender; to = parcel.recipient } → message ≡ parcel.message → ActsDelivery user envelope message terms old new r
-    → ActsDelivery parcel.user (record { from = parcel.sender; to = parcel.recipient }) parcel.message terms old new r
-delivery_acts parcel terms user message envelope old new r is_user is_envelope is_message acts =
-    let own : Envelope = record { from = parcel.sender; to = parcel.recipient } in
-    subst (λ u. ActsDelivery u own parcel.message terms old new r) is_user
-    (subst (λ e. ActsDelivery user e parcel.message terms old new r) is_envelope (subst (λ m. ActsDelivery user envelope m terms old new r) is_message acts))
+delivery_acts : (request : DeliveryRequest) (terms : Terms) (user message : List ℕ) (envelope : Envelope) (old new : State) (r : Result Report Refusal)
+    → user ≡ request.user → envelope ≡ record { from = request.sender; to = request.recipient } → message ≡ request.message → ActsDelivery user envelope message terms old new r
+    → ActsDelivery request.user (record { from = request.sender; to = request.recipient }) request.message terms old new r
+delivery_acts request terms user message envelope old new r is_user is_envelope is_message acts =
+    let own : Envelope = record { from = request.sender; to = request.recipient } in
+    subst (λ u. ActsDelivery u own request.message terms old new r) is_user
+    (subst (λ e. ActsDelivery user e request.message terms old new r) is_envelope (subst (λ m. ActsDelivery user envelope m terms old new r) is_message acts))
 
-pub delivered_as : (parcel : StoreDelivery) (terms : Terms) (user message : List ℕ) (envelope : Envelope) (old new : State) (kept : SessionMap) (r : Result Report Refusal)
-    → user ≡ parcel.user → envelope ≡ record { from = parcel.sender; to = parcel.recipient } → message ≡ parcel.message → ActsDelivery user envelope message terms old new r
-    → IsEvent (delivery_of parcel terms) (answer_by Delivered r) (host old kept) (host new kept)
-delivered_as parcel terms user message envelope old new kept r is_user is_envelope is_message acts =
-    let own : Envelope = record { from = parcel.sender; to = parcel.recipient } in
-    account_event (delivery_of parcel terms) (λ accounts. Delivery accounts parcel.user own parcel.message terms) (MayRefuseDelivery own parcel.message terms.when.moment) (λ w answer next done. done)
-    (delivery_may parcel.user parcel.message own terms.when terms.default) old new kept Delivered r (delivery_acts parcel terms user message envelope old new r is_user is_envelope is_message acts)
+pub delivered_as : (request : DeliveryRequest) (terms : Terms) (user message : List ℕ) (envelope : Envelope) (old new : State) (kept : SessionMap) (r : Result Report Refusal)
+    → user ≡ request.user → envelope ≡ record { from = request.sender; to = request.recipient } → message ≡ request.message → ActsDelivery user envelope message terms old new r
+    → IsEvent (delivery_of request terms) (answer_by Delivered r) (host old kept) (host new kept)
+delivered_as request terms user message envelope old new kept r is_user is_envelope is_message acts =
+    let own : Envelope = record { from = request.sender; to = request.recipient } in
+    account_event (delivery_of request terms) (λ accounts. Delivery accounts request.user own request.message terms) (MayRefuseDelivery own request.message terms.when.moment) (λ w answer next done. done)
+    (delivery_may request.user request.message own terms.when terms.default) old new kept Delivered r (delivery_acts request terms user message envelope old new r is_user is_envelope is_message acts)
 
 -- and what a crash leaves of it
-pub delivered_crash : (parcel : StoreDelivery) (terms : Terms) (user message : List ℕ) (envelope : Envelope) (old new : State) (kept : SessionMap) (r : Result Report Refusal)
-    → user ≡ parcel.user → envelope ≡ record { from = parcel.sender; to = parcel.recipient } → message ≡ parcel.message → ActsDelivery user envelope message terms old new r
-    → SurvivesEvent (delivery_of parcel terms) (host old kept) (host new kept)
-delivered_crash parcel terms user message envelope old new kept r is_user is_envelope is_message acts =
-    let own : Envelope = record { from = parcel.sender; to = parcel.recipient } in
-    account_crash (delivery_of parcel terms) (λ accounts. Delivery accounts parcel.user own parcel.message terms) (MayRefuseDelivery own parcel.message terms.when.moment) (λ w answer next done. done)
-    (delivery_may parcel.user parcel.message own terms.when terms.default) old new kept r (answer_by Delivered r) (delivery_acts parcel terms user message envelope old new r is_user is_envelope is_message acts)
+pub delivered_crash : (request : DeliveryRequest) (terms : Terms) (user message : List ℕ) (envelope : Envelope) (old new : State) (kept : SessionMap) (r : Result Report Refusal)
+    → user ≡ request.user → envelope ≡ record { from = request.sender; to = request.recipient } → message ≡ request.message → ActsDelivery user envelope message terms old new r
+    → SurvivesEvent (delivery_of request terms) (host old kept) (host new kept)
+delivered_crash request terms user message envelope old new kept r is_user is_envelope is_message acts =
+    let own : Envelope = record { from = request.sender; to = request.recipient } in
+    account_crash (delivery_of request terms) (λ accounts. Delivery accounts request.user own request.message terms) (MayRefuseDelivery own request.message terms.when.moment) (λ w answer next done. done)
+    (delivery_may request.user request.message own terms.when terms.default) old new kept r (answer_by Delivered r) (delivery_acts request terms user message envelope old new r is_user is_envelope is_message acts)
 
 -- what a sink keeps, as the daemon sees it
 pub has_kept : {K S T : Type 0} (tells : Bool) (kept : T → List KeptMail) (r q : HostStore K T S) (m : Moving) → KeepsIt tells (kept r.sink) (kept q.sink) m → HasKept (SinkHasMail tells kept) m r q

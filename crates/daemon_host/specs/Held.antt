@@ -21,7 +21,7 @@ use Rattle.store_engine.specs.declared.answer.Answer.TheVariants.{Refused}
 use Rattle.store_accounts.specs.declared.refusal.Refusal.TheVariants.{Memory, Store}
 use Rattle.store_engine.specs.declared.event.Event.{Event}
 use Rattle.store_lock.specs.declared.keeper.StoreUnavailable.{StoreUnavailable}
-use Rattle.daemon_core.specs.StoreAccess.{View, ViewStillShows, IsEventDone, NothingDone, IsFoundIn}
+use Rattle.daemon_core.specs.StoreAccess.{View, AccessState, ViewStillShows, IsEventDone, NothingDone, IsFoundIn}
 use Rattle.daemon_host.specs.Events.{is_full}
 use Rattle.daemon_host.specs.declared.host_store.HostStore.{HostStore}
 
@@ -59,8 +59,9 @@ Changes view clean event (Some answer) r before q after = clean q → IsEventDon
 Changes view clean event None r before q after = NothingDone view r before q after
 
 -- an event was answered over the store; or it isn't held, and nothing was done
-abbrev pub HostBrings : {K S T : Type 0} → Ghosts S → Bool → (K → Database) → Event → Option Answer → HostStore K T S → SessionMap → HostStore K T S → SessionMap → Type 0
-HostBrings g tells holds event answer held before later after = Changes (host_view g tells holds) (IsClean g tells) event answer held before later after
+abbrev pub HostBrings : {K S T : Type 0} → Ghosts S → Bool → (K → Database) → Event → Option Answer → AccessState (HostStore K T S) → AccessState (HostStore K T S) → Type 0
+HostBrings g tells holds event answer before after =
+    Changes (host_view g tells holds) (IsClean g tells) event answer before.outside before.sessions after.outside after.sessions
 
 -- a store whose disk is full refuses as one that lacks memory
 abbrev pub lacking : Answer → Answer

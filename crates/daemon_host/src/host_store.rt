@@ -3,12 +3,12 @@ ghost use Rattle.std.specs.Prelude.{◌≡◌, None, IsTrue, IfErr, IfOk, IfSome
 ghost use Rattle.lmtp_connections.specs.Connections.{IsFinding};
 ghost use Rattle.store_engine.specs.Hosts.{IsGivenUp, SessionMap};
 ghost use Rattle.store_engine.specs.Terms.{terms_of};
-ghost use Rattle.daemon_core.specs.StoreAccess.{delivery_of};
+ghost use Rattle.daemon_core.specs.StoreAccess.{access_state, delivery_of};
 ghost use Rattle.daemon_host.specs.Held.{IsClean, StillShown, HostBrings, DeniesAtOnce, GivesAtOnce, HostMovesNext, SinkHasMail, Seeks};
 ghost use Rattle.daemon_core.specs.Moves.{HasKept};
 
-use daemon_core::account::find_account;
-use lmtp_connections::StoreDelivery;
+use daemon_core::recipient_account::find_account;
+use lmtp_connections::DeliveryRequest;
 use lmtp_dialogue::Lookup;
 use maildir_files::MailSink;
 use maildir_moves::{Moving, Route, move_next};
@@ -114,7 +114,7 @@ impl<K: Keeper + Drop, T: MailSink + Drop> HostStore<K, T> {
     /// Applies an event to the store and the sessions, and answers it; none if the store isn't held.
     pub fn apply_event(&mut self, clients: &mut Clients, event: &Event) -> Option<Answer>
         requires { ¬ IsGivenUp event.now }
-        ensures { HostBrings K.S.Store K.tells K.holds event.now result self.old clients.old.sessions self.new clients.new.sessions }
+        ensures { HostBrings K.S.Store K.tells K.holds event.now result (access_state self.old clients.old.sessions) (access_state self.new clients.new.sessions) }
     {
         let Some(store) = &mut self.store else {
             return None;
@@ -141,19 +141,19 @@ impl<K: Keeper + Drop, T: MailSink + Drop> HostStore<K, T> {
     pub fn deliver(
         &mut self,
         alloc: Global,
-        parcel: &StoreDelivery,
+        request: &DeliveryRequest,
         when: When,
         default: Option<&[u8]>,
     ) -> Option<Answer>
-        ensures { (kept : SessionMap) → HostBrings K.S.Store K.tells K.holds (delivery_of parcel.now (terms_of when default.entry)) result self.old kept self.new kept }
+        ensures { (kept : SessionMap) → HostBrings K.S.Store K.tells K.holds (delivery_of request.now (terms_of when default.entry)) result (access_state self.old kept) (access_state self.new kept) }
     {
-        let Ok(envelope) = envelope_of(alloc, parcel) else {
+        let Ok(envelope) = envelope_of(alloc, request) else {
             return None;
         };
         let Some(store) = &mut self.store else {
             return None;
         };
-        let (user, message) = (parcel.user.as_slice(), parcel.message.as_slice());
+        let (user, message) = (request.user.as_slice(), request.message.as_slice());
         match deliver(alloc, store, user, envelope, message, when, default) {
             Ok(report) => Some(Answer::Delivered(report)),
             Err(refusal) => Some(Answer::Refused(refusal)),
@@ -172,11 +172,11 @@ impl<K: Keeper + Drop, T: MailSink + Drop> HostStore<K, T> {
     }
 }
 
-fn envelope_of(alloc: Global, parcel: &StoreDelivery) -> Result<Envelope, AllocError>
-    ensures { IfOk result (λ envelope. envelope ≡ record { from = parcel.now.sender; to = parcel.now.recipient }) }
+fn envelope_of(alloc: Global, request: &DeliveryRequest) -> Result<Envelope, AllocError>
+    ensures { IfOk result (λ envelope. envelope ≡ record { from = request.now.sender; to = request.now.recipient }) }
 {
     Ok(Envelope {
-        from: parcel.sender.try_clone(alloc)?,
-        to: parcel.recipient.try_clone(alloc)?,
+        from: request.sender.try_clone(alloc)?,
+        to: request.recipient.try_clone(alloc)?,
     })
 }

@@ -14,7 +14,7 @@ use Rattle.store_accounts.specs.declared.refusal.Refusal.{Refusal}
 use Rattle.store_lock.specs.declared.keeper.StoreUnavailable.{StoreUnavailable}
 use Rattle.store_lock.specs.Taken.{IsStoreTaken}
 use Rattle.smtp_queue.specs.DueRows.{IsDueRowFound, QueueReads, QueueTakesRow, QueueWorks}
-use Rattle.smtp_queue.specs.Queues.{QueueFinds, QueueRemoves, QueueShows, QueueStillShows, TurnsShown}
+use Rattle.smtp_queue.specs.Queues.{QueueFinds, QueueRemoves, QueueShows, QueueStillShows, TurnsShown, store_and_keeper}
 use Rattle.smtp_queue.specs.declared.due_row.DueRow.{DueRow}
 use Rattle.smtp_queue.specs.declared.waits.RowWaits.{RowWaits}
 
@@ -24,10 +24,10 @@ presented db accounts shown = inl shown
 
 module _ {S : Type 0} (g : Ghosts S) (tells : Bool) {K : Type 0} (holds : K → Database) where
   abbrev Still : Option (Held S) → K → Option (Held S) → K → Type 0
-  Still store keeper later after = QueueStillShows g tells holds store keeper later after
+  Still store keeper later after = QueueStillShows g tells holds (store_and_keeper store keeper) (store_and_keeper later after)
 
   abbrev Turns : (Accounts → Accounts → Type 0) → Option (Held S) → K → Option (Held S) → K → Type 0
-  Turns Turn store keeper later after = TurnsShown g tells holds Turn store keeper later after
+  Turns Turn store keeper later after = TurnsShown g tells holds Turn (store_and_keeper store keeper) (store_and_keeper later after)
 
   -- the keeper tells the same
   pub shown_same : (store later : Option (Held S)) (keeper after : K) → later ≡ store → (IsTrue tells → holds after ≡ holds keeper) → Still store keeper later after

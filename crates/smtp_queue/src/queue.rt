@@ -1,6 +1,6 @@
 //! The queues of the store that a keeper has.
 ghost use Rattle.std.specs.Prelude.{◌≡◌, None, IfOk};
-ghost use Rattle.smtp_queue.specs.Queues.{IsRowTold, QueueStillShows};
+ghost use Rattle.smtp_queue.specs.Queues.{IsRowTold, QueueStillShows, store_and_keeper};
 
 use crate::due_row::DueRow;
 use crate::queue_store::{QueueStore, Search};
@@ -43,7 +43,7 @@ impl<'a, K: Keeper + Drop> StoreQueue<'a, K> {
 
     /// The keeper, which has the store back.
     pub fn into_keeper(self) -> K
-        ensures { QueueStillShows K.S.Store K.tells K.holds self.entry.held.store self.entry.held.keeper None result }
+        ensures { QueueStillShows K.S.Store K.tells K.holds (store_and_keeper self.entry.held.store self.entry.held.keeper) (store_and_keeper None result) }
     {
         let StoreQueue {
             alloc: _,

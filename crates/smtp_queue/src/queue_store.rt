@@ -1,9 +1,9 @@
 //! A keeper, and its store while that is held.
 ghost use Rattle.std.specs.Prelude.{◌≡◌, None};
-ghost use Rattle.smtp_queue.specs.Queues.{QueueFinds, QueueRemoves, QueueStillShows, TurnsShown};
+ghost use Rattle.smtp_queue.specs.Queues.{QueueFinds, QueueRemoves, QueueStillShows, TurnsShown, store_and_keeper};
 
 use crate::RowWaits;
-use crate::due_row::{DueRow, find_post, take_row};
+use crate::due_row::{DueRow, find_due_row, take_row};
 use smtp_send::{DueMessage, TakenOut};
 use std::alloc::Global;
 use store_accounts::{QueueKey, Store};
@@ -41,7 +41,7 @@ impl<K: Keeper + Drop> QueueStore<K> {
 
     /// Gives the store back, and returns the keeper.
     pub(crate) fn into_keeper(mut self) -> K
-        ensures { QueueStillShows K.S.Store K.tells K.holds self.store self.keeper None result }
+        ensures { QueueStillShows K.S.Store K.tells K.holds (store_and_keeper self.store self.keeper) (store_and_keeper None result) }
     {
         self.give_back();
         let QueueStore { keeper, store: _ } = self;
@@ -55,14 +55,14 @@ impl<K: Keeper + Drop> QueueStore<K> {
 
     /// Whether somebody waits for the store.
     pub(crate) fn is_awaited(&mut self, path: &str) -> bool
-        ensures { QueueStillShows K.S.Store K.tells K.holds self.old.store self.old.keeper self.new.store self.new.keeper }
+        ensures { QueueStillShows K.S.Store K.tells K.holds (store_and_keeper self.old.store self.old.keeper) (store_and_keeper self.new.store self.new.keeper) }
     {
         self.keeper.is_awaited(path)
     }
 
     /// Takes the store, if it isn't held; a lock that another process has is waited for, without an end.
     pub(crate) fn take(&mut self, path: &str) -> Result<(), StoreUnavailable>
-        ensures { QueueStillShows K.S.Store K.tells K.holds self.old.store self.old.keeper self.new.store self.new.keeper }
+        ensures { QueueStillShows K.S.Store K.tells K.holds (store_and_keeper self.old.store self.old.keeper) (store_and_keeper self.new.store self.new.keeper) }
     {
         if self.store.is_some() {
             return Ok(());
@@ -75,7 +75,7 @@ impl<K: Keeper + Drop> QueueStore<K> {
 
     /// Gives the store back, if it is held.
     pub(crate) fn give_back(&mut self)
-        ensures shown { QueueStillShows K.S.Store K.tells K.holds self.old.store self.old.keeper self.new.store self.new.keeper }
+        ensures shown { QueueStillShows K.S.Store K.tells K.holds (store_and_keeper self.old.store self.old.keeper) (store_and_keeper self.new.store self.new.keeper) }
         ensures emptied { self.new.store ≡ None }
     {
         if let Some(store) = self.store.take() {
@@ -90,13 +90,13 @@ impl<K: Keeper + Drop> QueueStore<K> {
         search: Search<'_>,
         start: QueueKey,
     ) -> Result<Option<DueRow>, StoreUnavailable>
-        ensures { TurnsShown K.S.Store K.tells K.holds (QueueFinds search.entry.waits.now search.entry.now start result) self.old.store self.old.keeper self.new.store self.new.keeper }
+        ensures { TurnsShown K.S.Store K.tells K.holds (QueueFinds search.entry.waits.now search.entry.now start result) (store_and_keeper self.old.store self.old.keeper) (store_and_keeper self.new.store self.new.keeper) }
     {
         self.take(search.path)?;
         let Some(store) = &mut self.store else {
             return Err(StoreUnavailable::Busy);
         };
-        match find_post(alloc, store, start, search.waits, search.now) {
+        match find_due_row(alloc, store, start, search.waits, search.now) {
             Ok(found) => Ok(found),
             Err(refusal) => Err(StoreUnavailable::Refused(refusal)),
         }
@@ -109,7 +109,7 @@ impl<K: Keeper + Drop> QueueStore<K> {
         place: &QueueKey,
         sent: &DueMessage,
     ) -> Result<TakenOut, StoreUnavailable>
-        ensures { TurnsShown K.S.Store K.tells K.holds (QueueRemoves place.now sent.now result) self.old.store self.old.keeper self.new.store self.new.keeper }
+        ensures { TurnsShown K.S.Store K.tells K.holds (QueueRemoves place.now sent.now result) (store_and_keeper self.old.store self.old.keeper) (store_and_keeper self.new.store self.new.keeper) }
     {
         self.take(path)?;
         let Some(store) = &mut self.store else {

@@ -17,9 +17,9 @@ returns-in_default g c =
 pub returns-in-Ok : goal.returns-in-Ok
 returns-in-Ok g c =
     find_made g.K.S.Store g.K.Keeper.tells g.K.Keeper.holds g.met.K.Keeper.sure c.args.search.waits.now c.args.search.now c.args.start c.args.self.now.store c.take.new.self.store c.args.self.now.keeper c.take.new.self.keeper
-    c.in-Some.store c.find_post.new.store c.take.ensures c.in-Some.is c.find_post.result c.find_post.ensures (Ok c.in-Ok.found) (λ accounts has. subst (λ o. IfOk o (IsDueRowFound c.args.search.waits.now c.args.search.now c.args.start accounts)) c.in-Ok.is has)
+    c.in-Some.store c.find_due_row.new.store c.take.ensures c.in-Some.is c.find_due_row.result c.find_due_row.ensures (Ok c.in-Ok.found) (λ accounts has. subst (λ o. IfOk o (IsDueRowFound c.args.search.waits.now c.args.search.now c.args.start accounts)) c.in-Ok.is has)
 
 pub returns-in-Err : goal.returns-in-Err
 returns-in-Err g c =
     find_made g.K.S.Store g.K.Keeper.tells g.K.Keeper.holds g.met.K.Keeper.sure c.args.search.waits.now c.args.search.now c.args.start c.args.self.now.store c.take.new.self.store c.args.self.now.keeper c.take.new.self.keeper
-    c.in-Some.store c.find_post.new.store c.take.ensures c.in-Some.is c.find_post.result c.find_post.ensures (Err (Refused c.in-Err.refusal)) (λ accounts has. tt)
+    c.in-Some.store c.find_due_row.new.store c.take.ensures c.in-Some.is c.find_due_row.result c.find_due_row.ensures (Err (Refused c.in-Err.refusal)) (λ accounts has. tt)
