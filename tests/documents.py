@@ -85,7 +85,7 @@ def lines():
                 continue
             row = line.lstrip().startswith("|")
             cells = re.split(r"(?<!\\)\|", line) if row else []
-            parts = cells if page in NARROW_CELLS else [] if row else [line]
+            parts = [line] if not row else cells if page in NARROW_CELLS else []
             wrong += [f"{page}:{number}" for part in parts if len(part.encode()) > LINE]
             wrong += [f"{page}:{number}" for part in cells if page in SHORT_CELLS and len(part.split()) > WORDS]
     if len(lines_of("README.md")) - 1 > README_LINES:

@@ -2,8 +2,8 @@
 """Writes crates/test_runs/data/events.cases: 300 events of three users and five sessions, then each user's events alone in a world of its own.
 
 What is wanted comes from the model below, which is written from RFC 5804, RFC 5228 and RFC 5230, and for what an administrator does from
-docs/DEFINITIONS.md. It knows nothing of the program: scripts stand in it by what they mean, messages by their fields. It also asserts that
-each user's answers and possessions are the same alone.
+crates/store_engine/specs/Upkeep.antt. It knows nothing of the program: scripts stand in it by what they mean, messages by their fields. It
+also asserts that each user's answers and possessions are the same alone.
 
     python3 tests/cases/events.py > crates/test_runs/data/events.cases
 """
@@ -108,7 +108,7 @@ def answer(acc, sender, message, vacation, moment):
 
 
 def keep(acc, kind, *rest):
-    """What an administrator does to an account: each word's row in docs/DEFINITIONS.md."""
+    """What an administrator does to an account: each word's row in crates/store_engine/specs/Upkeep.antt."""
     if kind == "password" and not rest[0] or kind == "address" and "@" not in rest[0]:
         return ["refused: bad user"]
     if kind in ("store", "storeactive") and rest[0] == "":

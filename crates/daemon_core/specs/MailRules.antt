@@ -234,7 +234,7 @@ pub record ClosesBy (d : MailDaemon) (id : ℕ) (e : MailDaemon) : Type 0 where
   pub posts : ChangesPost d id None e
   pub host : SameHost d e
 
--- the same for any client
+-- what the daemon makes of what happens to any client, of ManageSieve or of LMTP
 abbrev pub mail_rules : {R : Type 0} → View R → Rules MailDaemon Note R
 mail_rules view = record {
   limit = limit_for;

@@ -45,7 +45,7 @@ IsCleanBy g tells None = IsTrue tells
 abbrev pub host_view : {K S T : Type 0} → Ghosts S → Bool → (K → Database) → View (HostStore K T S)
 host_view g tells holds = record { shows = λ held accounts. ShowsBy g tells (holds held.keeper) held.store accounts; leaves = λ held trees. LeavesBy g held.store trees }
 
--- the disk returned what was written; while the store isn't held only a keeper that tells its tables knows
+-- the disk returned what was written: of a store that isn't held, a keeper that tells its tables says so
 abbrev pub IsClean : {K S T : Type 0} → Ghosts S → Bool → HostStore K T S → Type 0
 IsClean g tells held = IsCleanBy g tells held.store
 
@@ -58,7 +58,7 @@ abbrev pub Changes : {R : Type 0} → View R → (R → Type 0) → Event → Op
 Changes view clean event (Some answer) r before q after = clean q → IsEventDone view [] event answer r before q after
 Changes view clean event None r before q after = NothingDone view r before q after
 
--- an event was answered over the store; or it isn't held, and nothing was done
+-- an event was done over the host's store, with this answer; or nothing was
 abbrev pub HostBrings : {K S T : Type 0} → Ghosts S → Bool → (K → Database) → Event → Option Answer → HostStore K T S → SessionMap → HostStore K T S → SessionMap → Type 0
 HostBrings g tells holds event answer held before later after = Changes (host_view g tells holds) (IsClean g tells) event answer held before later after
 
@@ -90,7 +90,7 @@ HostFinds view clean user (Some lookup) r q =
     → IsFoundIn accounts user lookup × view.shows q accounts × MayLeave (view.leaves r) accounts (view.leaves q) accounts none_tried
 HostFinds view clean user None r q = ViewStillShows view r q
 
--- an account was looked for in it; or it isn't held
+-- an account was looked for in the host's store; or nothing was asked
 abbrev pub Seeks : {K S T : Type 0} → Ghosts S → Bool → (K → Database) → List ℕ → Option Lookup → HostStore K T S → HostStore K T S → Type 0
 Seeks g tells holds user lookup held later = HostFinds (host_view g tells holds) (IsClean g tells) user lookup held later
 
@@ -101,7 +101,7 @@ MovesBy view clean (Some moving) r q =
     → (later : Accounts) × MovesMessage moving w.accounts later × view.shows q later × MayLeave (view.leaves r) w.accounts (view.leaves q) later (TriedMoving moving w)
 MovesBy view clean None r q = ViewStillShows view r q
 
--- a message moved on, or the store isn't held
+-- a message moved on from the host's store; or nothing was asked
 abbrev pub HostMovesNext : {K S T : Type 0} → Ghosts S → Bool → (K → Database) → Option Moving → HostStore K T S → HostStore K T S → Type 0
 HostMovesNext g tells holds moving held later = MovesBy (host_view g tells holds) (IsClean g tells) moving held later
 

@@ -120,7 +120,7 @@ NotesBecame became c e =
 abbrev pub ConnectionKeeps : Code → Code → Type 0
 ConnectionKeeps c e = (p : LmtpState) → ConnectionStands c p → ConnectionStands e p
 
--- for one that heard these octets
+-- it stands for the connection that heard these octets
 abbrev pub ConnectionHears : ℕ → List ℕ → Code → Code → Type 0
 ConnectionHears now piece c e = (p : LmtpState) → ConnectionStands c p → ConnectionStands e (lmtp_state_heard now piece p)
 

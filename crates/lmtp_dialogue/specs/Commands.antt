@@ -37,7 +37,7 @@ pub record Splits (line word argument : List ℕ) : Type 0 where
   pub unspaced : list_all is_unspaced word ≡ true
   pub argues : HasArgument tail argument
 
--- a line that begins with a command's word, and what it is about; the word in upper or lower case, and what follows it without blanks at its ends
+-- a line that begins with a command's word, in upper or lower case, and what follows it, without blanks at its ends
 pub record IsCommandLine (line : List ℕ) (verb : LmtpVerb) (argument : List ℕ) : Type 0 where
   pub word : List ℕ
   pub is : IsSameWord (verb_word verb) word

@@ -29,7 +29,7 @@ abbrev pub added_fields : List ℕ → List ℕ → List ℕ
 added_fields sender recipient =
     codes "Return-Path: <" ++ (sender ++ (codes ">" ++ (line_end ++ (codes "Delivered-To: " ++ (recipient ++ line_end)))))
 
--- one recipient's copy of a text; two fields at its start, and fields `Return-Path` at the text's start left out
+-- one recipient's copy of a text: two fields before it, and without the fields `Return-Path` at its start
 abbrev pub IsCopy : List ℕ → List ℕ → List ℕ → List ℕ → Type 0
 IsCopy sender recipient text copy = (rest : List ℕ) × LeavesPaths text rest × (copy ≡ added_fields sender recipient ++ rest)
 

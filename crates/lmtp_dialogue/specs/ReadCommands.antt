@@ -30,7 +30,7 @@ MisArgues line =
     ⊎ (SaysCommand line verb.Data Something ⊎ (SaysCommand line verb.Rset Something ⊎ (SaysCommand line verb.Quit Something
     ⊎ (SaysCommand line verb.Mail (λ a. ReadsMail a (Err Syntax)) ⊎ SaysCommand line verb.Rcpt (λ a. ReadsRecipient a (Err Syntax))))))
 
--- how it is refused, whatever came before it
+-- how a command line is refused, whatever came before it
 abbrev pub IsCommandRefused : List ℕ → LmtpReply → Type 0
 IsCommandRefused line reply.UnknownCommand = (word : LmtpVerb) (argument : List ℕ) → IsCommandLine line word argument → ⊥
 IsCommandRefused line reply.NotSmtp = SaysCommand line verb.Helo Anything ⊎ SaysCommand line verb.Ehlo Anything

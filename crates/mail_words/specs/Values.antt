@@ -49,6 +49,6 @@ abbrev pub given_from : Bool → List (List ℕ) → List ℕ
 given_from after_word [] = []
 given_from after_word (run ∷ more) = given_by after_word run more ++ given_from (is_encoded_word run) more
 
--- the text of a value: the one that is in IsDecodedText with it
+-- the text of a value, as `IsDecodedText` has it
 abbrev pub decoded_text : List ℕ → List ℕ
 decoded_text value = given_from false (runs_of value)

@@ -59,7 +59,7 @@ pub struct Kept {
 }
 
 /// Moves the first message of a user's folder: the sink keeps it, at the place that is open, and only then it leaves the store, in a
-/// transaction of its own.
+/// transaction of its own. A crash in between leaves the message in both.
 ///
 /// The message is read once: memory is in proportion to it.
 ///

@@ -136,8 +136,8 @@ abbrev pub takes_more : Option Client → Bool
 takes_more (Some c) = is_nothing c.behind
 takes_more None = true
 
--- what is to be done on a connection after this many acts of its turn; first what waits is sent; then what the machine wants, or the
--- hang-up, or octets are dropped
+-- what is to be done on a connection after this many acts of its turn: first what waits is sent; then comes what the machine wants, the
+-- hang-up, or octets to drop
 abbrev pub task : {M N R : Type 0} → Rules M N R → M → ℕ → ℕ → ℕ → Option Client → Task
 task rules m now count id (Some c) = task_by (waits c) (gathers c count) c.phase now (rules.wants m id)
 task rules m now count id None = Nothing

@@ -38,14 +38,14 @@ AfterRead seen id buffer input.Nothing later = TellsAct seen (ReadBlocked id) la
 AfterRead seen id buffer input.Over later = TellsAct seen (Over id) later
 AfterRead seen id buffer input.Lost later = TellsAct seen (Lost id) later
 
--- octets were dropped
+-- dropping: octets were dropped, or none had come, or the connection is over or lost
 abbrev pub AfterDiscard : {N : Type 0} → List (Act N) → ℕ → Input → List (Act N) → Type 0
 AfterDiscard seen id (input.Got count) later = TellsAct seen (Dropped id count) later
 AfterDiscard seen id input.Nothing later = TellsAct seen (ReadBlocked id) later
 AfterDiscard seen id input.Over later = TellsAct seen (Over id) later
 AfterDiscard seen id input.Lost later = TellsAct seen (Lost id) later
 
--- sent, or nothing happened, or the connection is over or lost
+-- sending: the first octets were sent, or none could be, or the connection is lost
 abbrev pub AfterWrite : {N : Type 0} → List (Act N) → ℕ → List ℕ → Output → List (Act N) → Type 0
 AfterWrite seen id octets (output.Taken count) later = TellsAct seen (Sent id (take count octets)) later
 AfterWrite seen id octets output.Nothing later = TellsAct seen (WriteBlocked id) later
@@ -69,14 +69,14 @@ ReadFits buffer input.Nothing = Unit {0}
 ReadFits buffer input.Over = Unit {0}
 ReadFits buffer input.Lost = Unit {0}
 
--- the count is within what may be dropped
+-- a count is within what may be dropped at once, and not zero
 abbrev pub DiscardFits : Input → Type 0
 DiscardFits (input.Got count) = (0 < count) × (count ≤ largest_piece)
 DiscardFits input.Nothing = Unit {0}
 DiscardFits input.Over = Unit {0}
 DiscardFits input.Lost = Unit {0}
 
--- within the octets, and not zero
+-- a count is within the octets, and not zero
 abbrev pub WriteFits : List ℕ → Output → Type 0
 WriteFits octets (output.Taken count) = (0 < count) × (count ≤ length octets)
 WriteFits octets output.Nothing = Unit {0}

@@ -48,7 +48,7 @@ numbers_between first id = (id + (2 ^ 32 - first)) % 2 ^ 32
 abbrev pub came_among : ℕ → ℕ → ℕ → List Client → Bool
 came_among kind since next clients = list_any (λ (c : Client). (c.kind == kind) && nat_lt (numbers_between since c.id) (numbers_between since next)) clients
 
--- whether one of that kind came since the last wait; a knock that this wait told counts no more
+-- whether one of that kind came since the last wait
 abbrev pub came_since : ℕ → Service → Bool
 came_since kind s = came_among kind s.since s.next (tree.values s.clients)
 

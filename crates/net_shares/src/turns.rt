@@ -97,7 +97,8 @@ impl Scheduler {
     /// Chooses, of the new wakes in `ready` and of those that waited, who goes on now: all whose accounts used little time recently, or if
     /// there are none, the first of the others. All others wait for the next call.
     ///
-    /// Lack of memory is the only error; they aren't told apart then, and all go on, or all of the new ones.
+    /// Lack of memory is the only error; then accounts aren't compared: either all go on, or only the new ones
+    /// while the others keep waiting.
     pub fn order(&mut self, now: u64, ready: &mut VecDeque<Wake>) -> Result<(), AllocError>
         ensures ok { OnOk result (Orders now self.old ready.old.items self.new ready.new.items) }
         ensures err { OnErr result (Unordered self.old.put_off.items ready.old.items self.new.put_off.items ready.new.items) }

@@ -102,8 +102,8 @@ abbrev pub DisposesUnlessLong : Bool → Option (List ℕ) → MailSpec → Disp
 DisposesUnlessLong true text mail disposition = disposition ≡ Tells long_text
 DisposesUnlessLong false text mail disposition = DisposesUnlessLooping (is_looping mail) text mail disposition
 
--- what becomes of a message under the active text: a long header goes first, then more than 100 Received fields, a text without a tree, a
--- run that failed; without a text the implicit keep
+-- what becomes of a message under the active text, if there is one: a notice for a long header, else for more than 100 Received fields,
+-- else for a text that means no tree, or a run that failed; else the run's actions, and without a text the implicit keep
 abbrev pub Disposes : Option (List ℕ) → MailSpec → Disposition → Type 0
 Disposes text mail disposition = DisposesUnlessLong (has_long_header mail.octets) text mail disposition
 
@@ -171,7 +171,7 @@ pub record LeavesNotice (moment : ℕ) (mail : MailSpec) (text : List ℕ) (a : 
   pub reported : report ≡ notice_report text
   pub changed : a2 ≡ adds_notice moment text (files_copies (unflagged_copy inbox ∷ []) mail.octets a)
 
--- a delivery of a message that this becomes of
+-- a delivery that comes to this: the actions are carried out, or a notice is left
 abbrev pub DeliversAs : Addr → ℕ → MailSpec → Disposition → Account → Report → Account → Type 0
 DeliversAs own moment mail (Acts deeds) a report a2 = CarriesOut own moment mail deeds a report a2
 DeliversAs own moment mail (Tells text) a report a2 = LeavesNotice moment mail text a report a2

@@ -143,7 +143,7 @@ pub record CutsLocal (text host : List ℕ) : Type 0 where
   pub written : text ≡ local ++ 64 ∷ host
   pub is : IsLocal local
 
--- Mailbox: a local part, `@` and a host; of any length; what a literal has after another tag than `IPv6` isn't looked at
+-- Mailbox: a local part, `@` and a host, of any length. What a literal has after another tag than `IPv6` isn't looked at
 pub record IsSmtpMailbox (text : List ℕ) : Type 0 where
   pub host : List ℕ
   pub cut : CutsLocal text host

@@ -167,7 +167,7 @@ abbrev pub TakesFromQueue : Accounts → List ℕ → ℕ → Option Account →
 TakesFromQueue accounts user id None answer later = MachineRefuses NoUser accounts answer later
 TakesFromQueue accounts user id (Some a) answer later = TakesQueueRow accounts user (row_with id a.queue) answer later
 
--- a row
+-- a row is taken out of the queue: NoUser, NoRow, or it leaves
 abbrev pub Taking : Accounts → List ℕ → ℕ → Answer → Accounts → Type 0
 Taking accounts user id answer later = TakesFromQueue accounts user id (open_account_of accounts user) answer later
 

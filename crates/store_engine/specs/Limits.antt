@@ -54,7 +54,7 @@ is_envelope envelope = is_envelope_address envelope.from && is_envelope_address 
 abbrev pub moment_limit : ℕ
 moment_limit = 253402300799
 
--- why a delivery is refused before anything is looked up: the first cause in this order; TooLarge past 33,554,432 octets, BadEnvelope
+-- why a delivery is refused before anything is looked up: the first cause in this order: TooLarge past 33,554,432 octets, BadEnvelope
 -- past 1,024 octets or with NUL, LF or CR, BadMoment past 253402300799
 abbrev pub limit_refusal : Envelope → List ℕ → ℕ → Option Refusal
 limit_refusal envelope message moment =

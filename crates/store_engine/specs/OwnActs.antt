@@ -248,7 +248,7 @@ event_acts user w (TakeMail name folder) answer = when_of user (Some name) (Take
 event_acts user w (Keep name upkeep) answer = when_of user (Some name) (IsKept upkeep answer)
 event_acts user w event answer = []
 
--- the acts of a user along a run, without those that were refused
+-- the acts of the user in one event; none if it was lost, which changes nothing
 abbrev pub acts_in : List ℕ → World → Event → Answer → List UserAct
 acts_in user w event answer = cond (is_lost answer) [] (event_acts user w event answer)
 

@@ -9,7 +9,7 @@ use Rattle.sqlite_value.specs.declared.value.Value.TheVariants.{Null, Int, Blob}
 use Rattle.sqlite_value.specs.Order.{Row, column}
 use Rattle.store_tables.specs.Forms.{needed, maybe, keyed}
 
--- the number of its tree
+-- the number of the table's tree
 abbrev pub account_tree : ℕ
 account_tree = 2
 

@@ -11,7 +11,7 @@ use Rattle.sqlite_value.specs.Order.{Row}
 use Rattle.store_tables.specs.Forms.{needed, keyed}
 use Rattle.store_tables.specs.AccountTable.{account_reference}
 
--- the number of its tree
+-- the number of the table's tree
 abbrev pub copy_tree : ℕ
 copy_tree = 14
 

@@ -9,7 +9,7 @@ use Rattle.sqlite_trees.specs.Tree.{Trees}
 use Rattle.store_tables.specs.Forms.{needed, keyed}
 use Rattle.store_tables.specs.Rows.{has_key_from}
 
--- the number of its tree
+-- the number of the table's tree
 abbrev pub meta_tree : ℕ
 meta_tree = 0
 

@@ -8,7 +8,7 @@ use Rattle.store_tables.specs.Forms.{needed, keyed}
 use Rattle.store_tables.specs.Rows.{has_key, at_most}
 use Rattle.store_tables.specs.AccountTable.{to_account}
 
--- the number of its tree
+-- the number of the table's tree
 abbrev pub notice_tree : ℕ
 notice_tree = 10
 

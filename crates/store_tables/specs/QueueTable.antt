@@ -9,7 +9,7 @@ use Rattle.store_tables.specs.declared.queue.QueuedKind.{QueuedKind}
 use Rattle.store_tables.specs.declared.queue.QueuedKind.TheVariants.{Redirect, Reply}
 use Rattle.store_tables.specs.AccountTable.{to_account}
 
--- the number of its tree
+-- the number of the table's tree
 abbrev pub outgoing_tree : ℕ
 outgoing_tree = 6
 

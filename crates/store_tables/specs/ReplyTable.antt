@@ -7,7 +7,7 @@ use Rattle.sqlite_value.specs.Order.{Row}
 use Rattle.store_tables.specs.Forms.{needed, keyed}
 use Rattle.store_tables.specs.AccountTable.{to_account}
 
--- the number of its tree
+-- the number of the table's tree
 abbrev pub reply_tree : ℕ
 reply_tree = 8
 

@@ -26,8 +26,8 @@ pub trait Shelf {
         ensures applied { IsApplied view event.now result self.old clients.old.sessions self.new clients.new.sessions }
         ensures still { StillHas has self.old self.new };
 
-    /// Lets another holder of the store apply one event of accounts. Returns whether it happened; if it is refused, or memory is
-    /// lacking, all is as it was.
+    /// Lets another holder of the store apply one event of accounts, alone with the store meanwhile. Returns whether it happened; if it
+    /// is refused, or memory is lacking, all is as it was.
     fn let_other(&mut self, alloc: Global, event: &Event) -> bool
         requires { is_of_accounts event.now ≡ true }
         ensures lets { IsLet view event.now result self.old self.new }
