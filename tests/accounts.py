@@ -254,7 +254,7 @@ def wrote(store, word, *more, data=b""):
 def way(number, kind):
     """The sender of a message, and its octets."""
     sender = f"s{number}@example.net"
-    return sender, f"From: {sender}\r\nTo: alice@example.org\r\nSubject: {number}\r\nX-Way: {kind}\r\n\r\n{'A line.' * (number % 50)}\r\n".encode()
+    return sender, f"From: {sender}\r\nTo: alice@example.org\r\nSubject: {number}\r\nMessage-ID: <way{number}@example.net>\r\nX-Way: {kind}\r\n\r\n{'A line.' * (number % 50)}\r\n".encode()
 
 
 def quick_store(users):

@@ -14,6 +14,8 @@ import random
 import accounttexts
 
 DAY = 86400
+HALF_DAY = 43200
+MOST_WAITING = 1000
 SESSIONS = {1: "uma", 2: "uma", 3: "vic", 4: "vic", 5: "wes"}
 RECEIVED = "Received: x\r\n" * 101
 PASSWORDS = {"uma": "secret", "vic": "secret", "wes": "pass word"}
@@ -40,11 +42,11 @@ WRONG = {'fileinto "x";': "line 1: extension not required", 'keep;\r\nfrob;': "l
 
 def account(user):
     return {"address": user + "@example.org", "password": PASSWORDS[user], "state": "open", "scripts": {}, "active": None, "folders": {},
-            "queue": [], "ids": 1, "notices": [], "kept": {}, "rounds": 10_000}
+            "queue": [], "ids": 1, "notices": [], "kept": {}, "sent": {}, "rounds": 10_000}
 
 
 def emptied(acc):
-    """What a removed account still has: its address, the moments of its replies, and its numbers."""
+    """What a removed account still has: its address, the moments of its replies and of what was sent on, and its numbers."""
     return {**acc, "password": None, "scripts": {}, "active": None, "folders": {}, "queue": [], "notices": []}
 
 
@@ -66,7 +68,7 @@ def octets_of(message):
             f"{id_line}{message['more']}\r\n{message['text']}\r\n")
 
 
-def deliver(acc, sender, message, moment, default):
+def deliver(acc, sender, message, moment, default=None):
     """The lines of the report (RFC 5228, 2.10; RFC 5230, 4); the host's default script decides where none is active."""
     octets = octets_of(message)
     script = acc["scripts"][acc["active"]] if acc["active"] else default
@@ -78,26 +80,56 @@ def deliver(acc, sender, message, moment, default):
         acc["notices"].append((moment, meaning))
         return ["file INBOX", "notice " + meaning]
     folders, targets, vacation = meaning
+    fresh = [target for target in targets if not was_sent(acc, message, target, moment)]
+    going = fresh[:MOST_WAITING - len(acc["queue"])]
+    if len(going) < len(targets) and "INBOX" not in folders:
+        folders = folders + ["INBOX"]
     lines = []
     for name in folders:
         acc["folders"].setdefault(name, []).append(octets)
         lines.append("file " + name)
-    for target in targets:
+    for target in going:
         acc["queue"].append((acc["ids"], "redirect", sender, target, len(octets)))
         acc["ids"] += 1
         lines.append("send " + target)
+    if targets:
+        remember(acc, message, going, moment)
     if vacation:
         lines.append(answer(acc, sender, message, vacation, moment))
+    if len(going) < len(targets):
+        notice = "queue is full" if len(going) < len(fresh) else "sent on before"
+        acc["notices"].append((moment, notice))
+        lines.append("notice " + notice)
     return lines or ["discard"]
+
+
+def name_of(message):
+    """A message that is sent on is the same by its Message-ID, or without one by its body."""
+    return ("id", message["id"]) if message["id"] else ("body", message["text"] + "\r\n")
+
+
+def was_sent(acc, message, target, moment):
+    """The message was sent to the target less than 12 hours from this moment, whichever comes first."""
+    return any(key[1:] == (target, name_of(message)) and abs(moment - kept) < HALF_DAY for key, kept in acc["sent"].items())
+
+
+def remember(acc, message, going, moment):
+    """What was sent on is kept by its half day; of half days before the last one 32 are forgotten, the oldest first."""
+    half = moment // HALF_DAY
+    for key in sorted(key for key in acc["sent"] if key[0] < half - 1)[:32]:
+        del acc["sent"][key]
+    for target in going:
+        acc["sent"][(half, target, name_of(message))] = moment
 
 
 def answer(acc, sender, message, vacation, moment):
     days, subject, handle, reason = vacation
     key = (("named", handle) if handle else (subject, reason), sender.lower())
     kept = acc["kept"].get(key)
+    full = len(acc["queue"]) >= MOST_WAITING
     quiet = 1 if not sender else 3 if sender.startswith("owner-") else 4 if sender.lower() == acc["address"] else \
         7 if "Precedence: bulk" in message["more"] else 8 if acc["address"] not in message["to"].split(", ") else \
-        9 if kept is not None and moment < kept + days * DAY else 0
+        9 if kept is not None and moment < kept + days * DAY else 10 if full else 0
     if quiet:
         return f"vacation quiet {quiet}"
     acc["kept"][key] = moment
@@ -228,7 +260,7 @@ class Model:
             return ["refused: user exists"]
         if acc and (acc["folders"] or acc["queue"]):
             return ["refused: user has mail"]
-        kept = {name: acc[name] for name in ("kept", "ids")} if acc else {}
+        kept = {name: acc[name] for name in ("kept", "sent", "ids")} if acc else {}
         self.accounts[user] = {**account(user), **kept}
         return ["added"]
 
@@ -241,7 +273,7 @@ class Model:
         if acc and (acc["folders"] or acc["queue"]):
             return ["refused: user has mail"]
         new = {**account(user), **{name: drawn[name] for name in ("address", "state", "scripts", "active", "ids")}}
-        new.update(scripts=dict(drawn["scripts"]), notices=list(drawn["notices"]), kept=later(acc["kept"] if acc else {}, drawn["kept"]))
+        new.update(scripts=dict(drawn["scripts"]), notices=list(drawn["notices"]), kept=later(acc["kept"] if acc else {}, drawn["kept"]), sent=dict(acc["sent"]) if acc else {})
         new["queue"] = [(id, "redirect", sender, target, len(octets)) for id, sender, target, octets in drawn["letters"]]
         for folders, octets in drawn["messages"]:
             for folder in folders:
@@ -482,8 +514,8 @@ def chosen_keeping(rng, user, moment):
 
 
 def events_of(seed):
-    """The list: what comes for a session that isn't open is lost, so its client begins anew."""
-    rng, clock, open_numbers = random.Random(seed), [1700000000], set()
+    """The list: what comes for a session that isn't open is lost, so its client begins anew. Some messages come again, within 12 hours or then."""
+    rng, again, clock, open_numbers = random.Random(seed), random.Random(seed), [1700000000], set()
     streams = {number: Stream(rng, user) for number, user in SESSIONS.items()}
     events = []
     while len(events) < 300:
@@ -494,6 +526,8 @@ def events_of(seed):
             open_numbers.discard(event[1])
             streams[event[1]] = Stream(rng, SESSIONS[event[1]])
         events.append(event)
+        if event[0] == "deliver" and len(events) < 300 and again.random() < 0.5:
+            events.append((*event[:4], event[4] + again.choice([0, 60, HALF_DAY - 1, HALF_DAY]), event[5]))
     return events
 
 
@@ -566,7 +600,7 @@ def world(note, events, users):
 
 def main():
     print(HEAD)
-    events = events_of(7978)
+    events = events_of(8157)
     users = ["uma", "vic", "wes"]
     model, answers = world("all events", events, users)
     for user in users:

@@ -120,7 +120,18 @@ SCRIPT = b'require ["fileinto", "copy", "vacation"]; fileinto "b"; fileinto "a";
 
 
 def letter(subject):
-    return f"From: bob@example.net\r\nTo: alice@example.org\r\nSubject: {subject}\r\n\r\nhi\r\n".encode()
+    return f"From: bob@example.net\r\nTo: alice@example.org\r\nSubject: {subject}\r\n\r\n{body_of(subject)}".encode()
+
+
+def body_of(subject):
+    return f"hi {subject}\r\n"
+
+
+def sent(subject, target=b"carol@example.com", moment=CLOCK):
+    """What is kept of a letter without a Message-ID that is sent on (docs/STORE.md): octet 3, the half day in four octets, and the address;
+    the SHA-256 of octet 2 and the body."""
+    key = b"\x03" + (moment // 43_200).to_bytes(4, "big") + target
+    return (b"reply", key, hashlib.sha256(b"\x02" + body_of(subject).encode()).digest(), moment)
 
 
 def vacation(subject, moment=CLOCK, address="alice@example.org", sender="bob@example.net"):
@@ -143,6 +154,7 @@ said(DELIVER, FILED + b"vacation sent\n", [letter("one")])
 said(DELIVER, FILED + b"vacation quiet 9\n", [letter("two")])
 said(DELIVER, b"file INBOX\nnotice more than 100 Received fields\n", LOOPING)
 parts = [(b"script", b"main", SCRIPT), (b"script", b"other", b"keep;"), (b"reply", b"\x01h", b"bob@example.net", CLOCK)]
+parts += sorted([sent("one"), sent("two")])
 for first, subject in (1, "one"), (4, "two"):
     parts += [(b"mail", first, b"b", letter(subject)), (b"copy", first + 1, b"a", first), (b"copy", first + 2, b"INBOX", first)]
 parts += [(b"mail", 7, b"INBOX", LOOPING)]
@@ -275,7 +287,7 @@ new_store()
 whole = b"".join(account(**FULL))
 body, end = whole[:whole.rindex(b"3:sum,")], whole[whole.rindex(b"3:sum,"):]
 wrong = [b"", b"\n", b"alice", whole[:-1], body, whole[:1], whole[1:], whole + b"\n", whole + whole, whole[:-3] + bytes([whole[-3] ^ 1]) + b",\n", b"X" + whole[1:], body + b"".join(EMPTY)[b"".join(EMPTY).rindex(b"3:sum,"):],
-         b"".join(account(version=b"2", **FULL)), b"".join(account(owner=owner(), active=b"main")), b"".join(account(owner=owner(), parts=[parts[3]])), end, letter("x")]
+         b"".join(account(version=b"2", **FULL)), b"".join(account(owner=owner(), active=b"main")), b"".join(account(owner=owner(), parts=[parts[5]])), end, letter("x")]
 for text in wrong:
     refused("import --db F", BAD, [text])
 title("what is no account of ours: a name, an address, a password, a script's name, text or number that can't be; all with the right sum")

@@ -33,7 +33,7 @@ action_lines filed sent answers = map (λ copy. file_line copy.mailbox) filed ++
 
 -- the lines of the actions; for a failure the one line that reports it
 abbrev pub outcome_lines : Outcome → List (List ℕ)
-outcome_lines (Done deeds) = action_lines deeds.filed deeds.sent (is_some deeds.reply)
+outcome_lines (Done done) = action_lines done.filed done.sent (is_some done.reply)
 outcome_lines (Failed failure) = (codes "failed: " ++ failure_text failure) ∷ []
 
 -- `discard` if there is no other line

@@ -23,7 +23,7 @@ pub fn report_outcome(alloc: Global, outcome: &Outcome) -> Result<Octets, AllocE
 {
     match outcome {
         Outcome::Failed(failure) => of_failure(alloc, *failure),
-        Outcome::Done { filed, sent, reply } => of_deeds(
+        Outcome::Done { filed, sent, reply } => of_done(
             alloc,
             filed.as_slice(),
             sent.as_slice(),
@@ -33,7 +33,7 @@ pub fn report_outcome(alloc: Global, outcome: &Outcome) -> Result<Octets, AllocE
 }
 
 /// The lines of the actions, or `discard`.
-fn of_deeds(
+fn of_done(
     alloc: Global,
     filed: &[Placement],
     sent: &[Addr],

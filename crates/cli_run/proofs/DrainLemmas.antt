@@ -15,10 +15,11 @@ use Rattle.cli_run.specs.declared.fault.RunFault.{RunFault}
 use Rattle.cli_run.specs.declared.fault.RunFault.TheVariants.{Stream, NoMaildir}
 use Rattle.cli_subcommands.specs.declared.subcommand.drain.DrainArgs.{DrainArgs}
 use Rattle.cli_run.specs.Faults.{no_user, status_of, sink_fault, IsPrinted, IsSudden, IsHindered}
-use Rattle.cli_run.specs.Draining.{mail_in, GrowsBy, StoppedShort, MovesMail, BrokeOff, Drained, Drains, IsUnkept, TurnsTables, MovesTables, IsMost, StopsDraining, WordDrained, HasDrained, drained_line}
+use Rattle.cli_run.specs.Draining.{mail_in, GrowsBy, StoppedShort, MovesMail, BrokeOff, Drained, Drains, IsUnkept, TurnsTables, MovesTables, IsMost, StopsDraining, WordDrained, HasDrained, drained_line, sink_mails}
 use Rattle.cli_run.specs.Values.{HasNoNumber}
 use Rattle.cli_run.proofs.LeaveLemmas.{grown_none}
 use Rattle.cli_run.proofs.WordLemmas.{carried_turned, stays_turned, turned_wider, no_memory, broken, denied, sudden_hinders, kept_same}
+use Rattle.cli_run.specs.Transitions.{from_to}
 
 -- ---- over tables
 
@@ -48,7 +49,7 @@ stops Sunk Denied user (Err fault) named accounts free = elim named [
 -- a store was taken for the word, drained, and handed back
 pub drained_turned : (Sunk : SinkError → Type 0) (Denied : RunFault → Type 0) (asked : DrainArgs) (user folder : List ℕ) → user ≡ asked.user.now → folder ≡ asked.folder.now → (tells : Bool) (had has : List KeptMail) (most : ℕ) (q r : Result ℕ RunFault) → q ≡ r
     → IfErr q (λ fault. IsSudden (IsUnkept Sunk) fault ⊎ (fault ≡ no_user)) → (held new : Database) (taken given : State) → OpensAs held taken.now → IsKnown held → HasCleanDisk given → IsTrue given.is_open → new ≡ given.now
-    → Drains user folder tells had has most q taken given → MovesTables Sunk Denied asked tells had has most r held new
+    → Drains user folder (sink_mails tells had has) most q taken given → MovesTables Sunk Denied asked (sink_mails tells had has) most r (from_to held new)
 drained_turned Sunk Denied asked user folder user_is folder_is tells had has most q r same named held new taken given opens ours clean live back moves =
     let Grew = GrowsBy user folder tells had has in
     let Became : Accounts → Accounts → Type 0 = λ accounts later. Drained user folder Grew most q accounts later × (q ≡ Err no_user → HasNoOpen user accounts) in
@@ -59,9 +60,9 @@ drained_turned Sunk Denied asked user folder user_is folder_is tells had has mos
 
 -- no store was given out
 pub drained_denied : (Sunk : SinkError → Type 0) (Denied : RunFault → Type 0) (asked : DrainArgs) (tells : Bool) (kept : List KeptMail) (most : ℕ) (fault : RunFault) (r : Result ℕ RunFault) → r ≡ Err fault → Denied fault → (held new : Database) → new ≡ held
-    → MovesTables Sunk Denied asked tells kept kept most r held new
+    → MovesTables Sunk Denied asked (sink_mails tells kept kept) most r (from_to held new)
 drained_denied Sunk Denied asked tells kept most fault r is why held new same =
-    subst (λ o. MovesTables Sunk Denied asked tells kept kept most o held new) (sym is)
+    subst (λ o. MovesTables Sunk Denied asked (sink_mails tells kept kept) most o (from_to held new)) (sym is)
     (stays_turned (λ accounts later. Drained asked.user.now asked.folder.now (GrowsBy asked.user.now asked.folder.now tells kept kept) most (Err fault) accounts later × StopsDraining Sunk ⊥ Denied asked.user.now fault accounts) held new same
     (λ accounts. (nothing_drained asked.user.now asked.folder.now (GrowsBy asked.user.now asked.folder.now tells kept kept) most fault accounts (grown_none asked.user.now asked.folder.now tells kept), inl (denied (IsUnkept Sunk) ⊥ Denied fault why (λ no. no)))))
 
@@ -86,7 +87,7 @@ module _ (user folder : List ℕ) (One Other : List (List ℕ) → Type 0) (told
 
 -- the word: the sink was opened, the store was drained, and the line was written
 module _ (Sunk : SinkError → Type 0) (Denied : RunFault → Type 0) (asked : DrainArgs) (tells : Bool) (had opened has : List KeptMail) (same : IsTrue tells → opened ≡ had) (most : ℕ) (digits : IsMost (option_copied asked.most) most) (right : HasNoNumber (option_copied asked.most) → ⊥) (q : Result ℕ RunFault) (held new : Database)
-    (drained : MovesTables Sunk Denied asked tells opened has most q held new) where
+    (drained : MovesTables Sunk Denied asked (sink_mails tells opened has) most q (from_to held new)) where
   abbrev Gained : List (List ℕ) → Type 0
   Gained = GrowsBy asked.user.now asked.folder.now tells had has
 
@@ -94,7 +95,7 @@ module _ (Sunk : SinkError → Type 0) (Denied : RunFault → Type 0) (asked : D
   NoMost = HasNoNumber (option_copied asked.most)
 
   abbrev Did : Option (List ℕ) → Option (List ℕ) → Result (Unit {0}) RunFault → Database → Database → Type 0
-  Did = HasDrained Sunk Denied asked tells had has
+  Did old out r held new = HasDrained Sunk Denied asked (sink_mails tells had has) (from_to old out) r (from_to held new)
 
   as_told : (messages : List (List ℕ)) → GrowsBy asked.user.now asked.folder.now tells opened has messages → Gained messages
   as_told messages h told = let g = h told in (g.0, g.1 ∙ ap (λ l. l ++ g.0) (same told), g.2)
@@ -142,7 +143,7 @@ module _ (Sunk : SinkError → Type 0) (Denied : RunFault → Type 0) (asked : D
 -- before the store was taken
 pub word_refused : (Sunk : SinkError → Type 0) (Denied : RunFault → Type 0) (asked : DrainArgs) (tells : Bool) (had has : List KeptMail) (same : IsTrue tells → has ≡ had) (fault : RunFault)
     → IsHindered (IsUnkept Sunk) (HasNoNumber (option_copied asked.most)) Denied fault ⊎ ((fault ≡ NoMaildir) × Sunk sink.NoMaildir × (HasNoNumber (option_copied asked.most) → ⊥))
-    → (out : Option (List ℕ)) (held : Database) → HasDrained Sunk Denied asked tells had has out out (Err fault) held held
+    → (out : Option (List ℕ)) (held : Database) → HasDrained Sunk Denied asked (sink_mails tells had has) (from_to out out) (Err fault) (from_to held held)
 word_refused Sunk Denied asked tells had has same fault cause out held =
     stays_turned (WordDrained Sunk Denied asked (GrowsBy asked.user.now asked.folder.now tells had has) out out (Err fault)) held held refl
     (λ accounts.

@@ -143,13 +143,13 @@ module _ (here there : StoreLocation) (a : here.path.now ≡ codes "a.db") (b : 
   given_at_once : here.waits ≡ true → HasGiven GivesA waits_never here → ⊥
   given_at_once waits h = let no : false ≡ true = h.2 ∙ waits in cc
 
--- a trouble is told by its line, and by the one on its cause; nothing tells of one, where no write failed
+-- a fault is told by its line, and by the one on its cause; nothing tells of one, where no write failed
 told_so : IsTold (Some []) (Some (run_fault_line store_failed))
 told_so = (record { fault = store_failed; cause = None }, inl refl)
 
 told_silently : IsTold (Some []) (Some []) → WriteFailed (Some [])
-told_silently (trouble, written) = elim written [
-  | inl all ↦ absurd (let is : [] ≡ run_fault_line trouble.fault ++ cause_line (option_copied trouble.cause) = all in let never : ⊥ = cc in never)
+told_silently (fault, written) = elim written [
+  | inl all ↦ absurd (let is : [] ≡ run_fault_line fault.fault ++ cause_line (option_copied fault.cause) = all in let never : ⊥ = cc in never)
   | inr cut ↦ cut.1
 ]
 

@@ -39,6 +39,7 @@ use Rattle.cli_run.proofs.StreamLemmas.{front_of, front_on, printed_then, put_cu
 use Rattle.cli_run.proofs.TakeLemmas.{store_turned, undenied, undenied_sudden}
 use Rattle.cli_run.proofs.UpkeepLemmas.{kept_put}
 use Rattle.cli_run.proofs.WordLemmas.{denied, kept_same, stays_turned, sudden_refusal, turned_wider}
+use Rattle.cli_run.specs.Transitions.{from_to}
 
 -- ---- a front of the text
 
@@ -123,7 +124,7 @@ module _ (user : List ℕ) (s0 s1 : State) (q : Result Contents Refusal) (reads 
           (inr (there.0, there.1, cut_in contents user named s0.now accounts there.0 p (has_it accounts there) [] there.2 old new fault (inr (put_cut old new (head_text contents.head) [] fault (Err fault) refl cut))));
     }
 
-    module _ (s2 : State) (count : ℕ) (w1 w2 : Writer) (o0 o1 o2 : Option (List ℕ)) (begun : Appends o0 o1 (head_text contents.head)) (x : Result (Unit {0}) RunFault) (put : PutsParts contents 0 count w1 w2 o1 o2 s1 s2 x) where
+    module _ (s2 : State) (count : ℕ) (w1 w2 : Writer) (o0 o1 o2 : Option (List ℕ)) (begun : Appends o0 o1 (head_text contents.head)) (x : Result (Unit {0}) RunFault) (put : PutsParts contents 0 count (from_to w1 w2) (from_to o1 o2) (from_to s1 s2) x) where
       before : HasCleanDisk s2 → HasCleanDisk s1
       before clean = clean_before s1 s2 _ put.keeps.crash clean
 
@@ -217,9 +218,9 @@ module _ (user : List ℕ) (closes : Bool) (s0 s1 : State) (old new : Option (Li
 
 module _ (Denied : RunFault → Type 0) (closes : Bool) (user : List ℕ) where
   -- no store was given out
-  pub export_denied : (out : Option (List ℕ)) (fault : RunFault) (r : Result (Unit {0}) RunFault) → r ≡ Err fault → Denied fault → (held new : Database) → new ≡ held → DoesExport Denied out out closes user r held new
+  pub export_denied : (out : Option (List ℕ)) (fault : RunFault) (r : Result (Unit {0}) RunFault) → r ≡ Err fault → Denied fault → (held new : Database) → new ≡ held → DoesExport Denied closes user (from_to out out) r (from_to held new)
   export_denied out fault r is why held new same =
       stays_turned _ held new same (λ accounts. inl (subst (λ o. IsKeptFrom ⊥ Denied out out o accounts accounts) (sym is) (denied ⊥ ⊥ Denied fault why (λ no. no), refl, kept_same out)))
 
-  pub export_done : (old out : Option (List ℕ)) (r : Result (Unit {0}) RunFault) (held new : Database) → TurnsTables (Exports closes user old out r) held new → DoesExport Denied old out closes user r held new
+  pub export_done : (old out : Option (List ℕ)) (r : Result (Unit {0}) RunFault) (held new : Database) → TurnsTables (Exports closes user old out r) held new → DoesExport Denied closes user (from_to old out) r (from_to held new)
   export_done old out r held new turned = turned_wider (Exports closes user old out r) _ held new (λ accounts later h. inr h) turned

@@ -20,6 +20,7 @@ use Rattle.cli_run.specs.Promise.{world_of_accounts}
 use Rattle.cli_run.specs.Streams.{InputFailed}
 use Rattle.cli_run.specs.Subcommands.{IsImportEvent, DoesEvent, DoesImport, IsNotRead, Puts}
 use Rattle.cli_run.proofs.WordLemmas.{broken, event_hindered, kept_same, next_by, refused_by, stays_turned, turned_wider}
+use Rattle.cli_run.specs.Transitions.{from_to}
 
 -- where the machine refuses it, no account changes
 imports_kept : (head : AccountHead) (parts : List Part) (accounts later : Accounts) (refusal : Refusal) → Importing accounts head parts (answer.Refused refusal) later → later ≡ accounts
@@ -53,11 +54,11 @@ module _ (Denied : RunFault → Type 0) (file : AccountFile) where
 
 module _ (Denied : RunFault → Type 0) (given : Option (List ℕ)) where
   -- the word ended as one that is an event does
-  pub import_as_event : (old out : Option (List ℕ)) (held new : Database) (r : Result (Unit {0}) RunFault) → DoesEvent InputFailed ⊥ Denied (IsImportEvent given) old out r held new → DoesImport Denied given old out r held new
+  pub import_as_event : (old out : Option (List ℕ)) (held new : Database) (r : Result (Unit {0}) RunFault) → DoesEvent InputFailed ⊥ Denied (IsImportEvent given) (from_to old out) r (from_to held new) → DoesImport Denied given (from_to old out) r (from_to held new)
   import_as_event old out held new r does = turned_wider _ _ held new (λ accounts later h. inl h) does
 
   -- no account was read
-  pub import_unread : (out : Option (List ℕ)) (held : Database) (fault : RunFault) (r : Result (Unit {0}) RunFault) → r ≡ Err fault → IsNotRead given fault → DoesImport Denied given out out r held held
+  pub import_unread : (out : Option (List ℕ)) (held : Database) (fault : RunFault) (r : Result (Unit {0}) RunFault) → r ≡ Err fault → IsNotRead given fault → DoesImport Denied given (from_to out out) r (from_to held held)
   import_unread out held fault r is (inl lacks) = import_as_event out out held held r (event_hindered InputFailed ⊥ Denied (IsImportEvent given) out held fault r is (inl lacks))
   import_unread out held fault r is (inr (inl failed)) =
       import_as_event out out held held r (event_hindered InputFailed ⊥ Denied (IsImportEvent given) out held fault r is (broken InputFailed ⊥ Denied fault failed.0 failed.1))

@@ -26,6 +26,7 @@ use Rattle.cli_run.specs.declared.fault.RunFault.{RunFault}
 use Rattle.cli_run.specs.declared.fault.RunFault.TheVariants.{Refused}
 use Rattle.cli_run.proofs.StreamLemmas.{front_on, nothing_written, put_then, written_on}
 use Rattle.cli_run.proofs.WordLemmas.{sudden_refusal}
+use Rattle.cli_run.specs.Transitions.{from_to}
 
 -- ---- texts
 
@@ -51,7 +52,7 @@ module _ (contents : Contents) (at until : ℕ) (begun ended : Writer) (out : Op
   none_more : PartsGoOn contents at [] old
   none_more accounts p a has early first are = subst (λ l. AreRead contents l old.now a) (sym (append-nil early)) are
 
-  none_parts : (r : Result (Unit {0}) RunFault) (fault : RunFault) → r ≡ Err fault → IsSudden ⊥ fault → KeepsTables old new r → PutsParts contents at until begun ended out out old new r
+  none_parts : (r : Result (Unit {0}) RunFault) (fault : RunFault) → r ≡ Err fault → IsSudden ⊥ fault → KeepsTables old new r → PutsParts contents at until (from_to begun ended) (from_to out out) (from_to old new) r
   none_parts r fault is sudden keeps = record {
     keeps = keeps;
     parts = [];
@@ -62,19 +63,19 @@ module _ (contents : Contents) (at until : ℕ) (begun ended : Writer) (out : Op
   }
 
   -- it couldn't be read
-  pub part_unread : (user : List ℕ) (P : Part → Account → Type 0) (q : Result Part Refusal) (e : Refusal) → q ≡ Err e → ReadsEntered user P old new q → (r : Result (Unit {0}) RunFault) → r ≡ Err (Refused e) → PutsParts contents at until begun ended out out old new r
+  pub part_unread : (user : List ℕ) (P : Part → Account → Type 0) (q : Result Part Refusal) (e : Refusal) → q ≡ Err e → ReadsEntered user P old new q → (r : Result (Unit {0}) RunFault) → r ≡ Err (Refused e) → PutsParts contents at until (from_to begun ended) (from_to out out) (from_to old new) r
   part_unread user P q e is reads r told =
       none_parts r (Refused e) told (sudden_refusal ⊥ e (subst (λ o. IfErr o IsTransient) is reads.named)) (keeps_refused old new q (Refused e) r told reads.keeps)
 
   -- there was no memory for its line
-  pub part_unput : (user : List ℕ) (P : Part → Account → Type 0) (q : Result Part Refusal) (part : Part) → q ≡ Ok part → ReadsEntered user P old new q → (r : Result (Unit {0}) RunFault) → r ≡ Err memory → PutsParts contents at until begun ended out out old new r
+  pub part_unput : (user : List ℕ) (P : Part → Account → Type 0) (q : Result Part Refusal) (part : Part) → q ≡ Ok part → ReadsEntered user P old new q → (r : Result (Unit {0}) RunFault) → r ≡ Err memory → PutsParts contents at until (from_to begun ended) (from_to out out) (from_to old new) r
   part_unput user P q part is reads r told = none_parts r memory told (inl refl) (keeps_ok old new q part r is reads.keeps)
 
 -- its line was put, or cut
 module _ (contents : Contents) (at : ℕ) (begun ended : Writer) (out_old out_new : Option (List ℕ)) (old new : State) where
   pub part_put : (q : Result Part Refusal) (part : Part) → q ≡ Ok part → ReadsEntered contents.head.owner.name (λ p a. IsNextPart contents at p old.now a) old new q
       → (line : List ℕ) → line ≡ part_line part → ((text : List ℕ) → HasWritten begun text → HasWritten ended (text ++ part_line part))
-      → (r : Result (Unit {0}) RunFault) → IsTextPut r out_old out_new line → PutsParts contents at (at + 1) begun ended out_old out_new old new r
+      → (r : Result (Unit {0}) RunFault) → IsTextPut r out_old out_new line → PutsParts contents at (at + 1) (from_to begun ended) (from_to out_old out_new) (from_to old new) r
   part_put q part is reads line spelled hashed r put = record {
     keeps = keeps_ok old new q part r is reads.keeps;
     parts = part ∷ [];
@@ -91,7 +92,7 @@ module _ (contents : Contents) (at : ℕ) (begun ended : Writer) (out_old out_ne
 
 module _ (contents : Contents) where
   -- none yet, over a connection that is open
-  pub no_parts : (writer : Writer) (out : Option (List ℕ)) (s : State) → (HasCleanDisk s → IsTrue s.is_open) → PutsParts contents 0 0 writer writer out out s s (Ok tt)
+  pub no_parts : (writer : Writer) (out : Option (List ℕ)) (s : State) → (HasCleanDisk s → IsTrue s.is_open) → PutsParts contents 0 0 (from_to writer writer) (from_to out out) (from_to s s) (Ok tt)
   no_parts writer out s live =
       let stays = no_glance s in
       record {
@@ -103,7 +104,7 @@ module _ (contents : Contents) where
         hashed = λ text h. subst (HasWritten writer) (sym (append-nil text)) h;
       }
 
-  module _ (from mid until : ℕ) (w0 w1 w2 : Writer) (o0 o1 o2 : Option (List ℕ)) (s0 s1 s2 : State) (early : PutsParts contents from mid w0 w1 o0 o1 s0 s1 (Ok tt)) (r : Result (Unit {0}) RunFault) (late : PutsParts contents mid until w1 w2 o1 o2 s1 s2 r) where
+  module _ (from mid until : ℕ) (w0 w1 w2 : Writer) (o0 o1 o2 : Option (List ℕ)) (s0 s1 s2 : State) (early : PutsParts contents from mid (from_to w0 w1) (from_to o0 o1) (from_to s0 s1) (Ok tt)) (r : Result (Unit {0}) RunFault) (late : PutsParts contents mid until (from_to w1 w2) (from_to o1 o2) (from_to s1 s2) r) where
     abbrev all_parts : List Part
     all_parts = early.parts ++ late.parts
 
@@ -129,7 +130,7 @@ module _ (contents : Contents) where
         subst (λ l. AreRead contents l s0.now a) (append_assoc first early.parts late.parts) (subst (λ db. AreRead contents ((first ++ early.parts) ++ late.parts) db a) now two)
 
     -- more of them
-    pub parts_then : PutsParts contents from until w0 w2 o0 o2 s0 s2 r
+    pub parts_then : PutsParts contents from until (from_to w0 w2) (from_to o0 o2) (from_to s0 s2) r
     parts_then = record {
       keeps = keeps_then s0 s1 s2 (Ok tt) tt refl r early.keeps late.keeps;
       parts = all_parts;
@@ -140,7 +141,7 @@ module _ (contents : Contents) where
     }
 
     -- it broke off there, wherever it was to end
-    pub parts_stopped : (end : ℕ) (fault : RunFault) → r ≡ Err fault → (q : Result (Unit {0}) RunFault) → q ≡ Err fault → PutsParts contents from end w0 w2 o0 o2 s0 s2 q
+    pub parts_stopped : (end : ℕ) (fault : RunFault) → r ≡ Err fault → (q : Result (Unit {0}) RunFault) → q ≡ Err fault → PutsParts contents from end (from_to w0 w2) (from_to o0 o2) (from_to s0 s2) q
     parts_stopped end fault is q told =
-        let h = subst (PutsParts contents from until w0 w2 o0 o2 s0 s2) is parts_then in
-        subst (PutsParts contents from end w0 w2 o0 o2 s0 s2) (sym told) (record { keeps = h.keeps; parts = h.parts; all = tt; read = h.read; put = h.put; hashed = tt })
+        let h = subst (PutsParts contents from until (from_to w0 w2) (from_to o0 o2) (from_to s0 s2)) is parts_then in
+        subst (PutsParts contents from end (from_to w0 w2) (from_to o0 o2) (from_to s0 s2)) (sym told) (record { keeps = h.keeps; parts = h.parts; all = tt; read = h.read; put = h.put; hashed = tt })

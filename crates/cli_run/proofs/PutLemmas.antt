@@ -10,7 +10,7 @@ use Rattle.managesieve_sessions.specs.Scripts.{IfElse, IsValidScript}
 use Rattle.store_engine.specs.declared.answer.Answer.{Answer}
 use Rattle.store_engine.specs.declared.answer.Answer.TheVariants as answer
 use Rattle.store_engine.specs.declared.event.Event.{Event}
-use Rattle.store_engine.specs.declared.event.Event.TheVariants.{Keep}
+use Rattle.store_engine.specs.declared.event.Event.TheVariants.{DoUpkeep}
 use Rattle.store_engine.specs.declared.upkeep.Upkeep.{Upkeep}
 use Rattle.store_engine.specs.declared.upkeep.Upkeep.TheVariants as upkeep
 use Rattle.store_engine.specs.Hosts.{TurnsBy, MayRefuseKeeping}
@@ -25,6 +25,7 @@ use Rattle.cli_run.specs.Promise.{world_of_accounts}
 use Rattle.cli_run.specs.Streams.{InputFailed}
 use Rattle.cli_run.specs.Subcommands.{DoesEvent, DoesPut, FinishesPrinted, IsStoredBy, MakesEvent, Puts, PutsScript, RefusesScript, TellsVerdict, script_of}
 use Rattle.cli_run.proofs.WordLemmas.{event_made, next_by, refused_by, turned_wider, put_denied, stays_turned, denied}
+use Rattle.cli_run.specs.Transitions.{from_to}
 
 -- it was stored; or the answer is a fault of the text, or a refusal, with which nothing changes
 abbrev Comes : Answer → Option Account → Type 0
@@ -82,20 +83,20 @@ module _ (Denied : RunFault → Type 0) (user name text : List ℕ) (activate : 
       elim (comes name text activate (get accounts user) said row.0 row.1) [ inl is ↦ is | inr more ↦ elim more [ inl told ↦ absurd (valid told.0 told.1) | inr is ↦ absurd (unrefused is.0 is.1) ] ]
   stored_so accounts later said unrefused valid (inr h) = absurd (unrefused h.0 h.2)
 
-  next : (said : Answer) (accounts later : Accounts) → TurnsBy StoreRow StoreMay said accounts later → Next (world_of_accounts accounts) (Keep user act) said (world_of_accounts later)
-  next said accounts later turned = next_by (Keep user act) StoreRow StoreMay (λ all then answered row. (then, row, refl)) (λ all. keeping_may user act (world_of_accounts all)) kept_same said accounts later turned
+  next : (said : Answer) (accounts later : Accounts) → TurnsBy StoreRow StoreMay said accounts later → Next (world_of_accounts accounts) (DoUpkeep user act) said (world_of_accounts later)
+  next said accounts later turned = next_by (DoUpkeep user act) StoreRow StoreMay (λ all then answered row. (then, row, refl)) (λ all. keeping_may user act (world_of_accounts all)) kept_same said accounts later turned
 
   -- the script, put to the machine
   pub stored_put : (said : Answer) (r : Result (Option ScriptFault) RunFault) → IsStoredBy said r → (accounts later : Accounts) → TurnsBy StoreRow StoreMay said accounts later → PutsScript Denied user act r accounts later
   stored_put (answer.Refused refusal) r is accounts later turned =
       subst (λ o. PutsScript Denied user act o accounts later) (sym is)
-      (refused_by (Keep user act) StoreRow StoreMay (λ all then said row. (then, row, refl)) (λ all. keeping_may user act (world_of_accounts all)) kept_same {X = Unit {0}} Denied (λ done. answer.Stored) refusal accounts later turned)
+      (refused_by (DoUpkeep user act) StoreRow StoreMay (λ all then said row. (then, row, refl)) (λ all. keeping_may user act (world_of_accounts all)) kept_same {X = Unit {0}} Denied (λ done. answer.Stored) refusal accounts later turned)
   stored_put (answer.Invalid fault) r is accounts later turned =
       let same = fault_same accounts later fault turned in
-      subst (λ o. PutsScript Denied user act o accounts later) (sym is) (same, subst (λ all. Next (world_of_accounts accounts) (Keep user act) (answer.Invalid fault) (world_of_accounts all)) same (next (answer.Invalid fault) accounts later turned))
+      subst (λ o. PutsScript Denied user act o accounts later) (sym is) (same, subst (λ all. Next (world_of_accounts accounts) (DoUpkeep user act) (answer.Invalid fault) (world_of_accounts all)) same (next (answer.Invalid fault) accounts later turned))
   stored_put said r is accounts later turned =
       subst (λ o. PutsScript Denied user act o accounts later) (sym is)
-      (subst (λ a. Next (world_of_accounts accounts) (Keep user act) a (world_of_accounts later)) (stored_so accounts later said (λ refusal e. let no = e in cc) (λ fault e. let no = e in cc) turned) (next said accounts later turned))
+      (subst (λ a. Next (world_of_accounts accounts) (DoUpkeep user act) a (world_of_accounts later)) (stored_so accounts later said (λ refusal e. let no = e in cc) (λ fault e. let no = e in cc) turned) (next said accounts later turned))
 
 -- no store was given out
 pub script_denied : (Denied : RunFault → Type 0) (user : List ℕ) (act : Upkeep) (fault : RunFault) (r : Result (Option ScriptFault) RunFault) → r ≡ Err fault → Denied fault → (held new : Database) → new ≡ held → TurnsTables (PutsScript Denied user act r) held new
@@ -104,14 +105,14 @@ script_denied Denied user act fault r is why held new same =
 
 module _ (Denied : RunFault → Type 0) (Own : Event → Type 0) (old out : Option (List ℕ)) (held new : Database) where
   -- the word ended as one that is an event does
-  pub put_as_event : (r : Result (Unit {0}) RunFault) → DoesEvent InputFailed ⊥ Denied Own old out r held new → DoesPut Denied Own old out r held new
+  pub put_as_event : (r : Result (Unit {0}) RunFault) → DoesEvent InputFailed ⊥ Denied Own (from_to old out) r (from_to held new) → DoesPut Denied Own (from_to old out) r (from_to held new)
   put_as_event r does = turned_wider _ _ held new (λ accounts later h. inl h) does
 
   -- it was put, and what came of that is told
-  pub put_told : (Kept : RunFault → Type 0) (user name text : List ℕ) (activate : Bool) → Own (Keep user (upkeep.StoreScript name text activate)) → (verdict : Option ScriptFault) → TurnsTables (PutsScript Kept user (upkeep.StoreScript name text activate) (Ok verdict)) held new
-      → (r : Result (Unit {0}) RunFault) → TellsVerdict name verdict old out r → DoesPut Denied Own old out r held new
+  pub put_told : (Kept : RunFault → Type 0) (user name text : List ℕ) (activate : Bool) → Own (DoUpkeep user (upkeep.StoreScript name text activate)) → (verdict : Option ScriptFault) → TurnsTables (PutsScript Kept user (upkeep.StoreScript name text activate) (Ok verdict)) held new
+      → (r : Result (Unit {0}) RunFault) → TellsVerdict name verdict old out r → DoesPut Denied Own (from_to old out) r (from_to held new)
   put_told Kept user name text activate own None put r told =
-      put_as_event r (event_made InputFailed ⊥ Denied Own {X = Unit {0}} (Keep user (upkeep.StoreScript name text activate)) own (λ done. answer.Stored) held new tt (ended_line (codes "stored " ++ name)) refl put old out r told)
+      put_as_event r (event_made InputFailed ⊥ Denied Own {X = Unit {0}} (DoUpkeep user (upkeep.StoreScript name text activate)) own (λ done. answer.Stored) held new tt (ended_line (codes "stored " ++ name)) refl put old out r told)
   put_told Kept user name text activate own (Some fault) put r told =
       turned_wider (PutsScript Kept user (upkeep.StoreScript name text activate) (Ok (Some fault))) _ held new
-      (λ accounts later h. inr (record { event = Keep user (upkeep.StoreScript name text activate); own = own; fault = fault; next = h.1; stays = h.0; told = told })) put
+      (λ accounts later h. inr (record { event = DoUpkeep user (upkeep.StoreScript name text activate); own = own; fault = fault; next = h.1; stays = h.0; told = told })) put

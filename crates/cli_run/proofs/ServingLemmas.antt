@@ -28,24 +28,25 @@ use Rattle.cli_run.specs.Serving.{Round, IsDenied, IsDeniedBy, IsDenialNoted, Ke
 use Rattle.cli_run.specs.Faults.{IsPrinted, cause_line, run_fault_line}
 use Rattle.cli_run.specs.Streams.{AppendsFront, IsWritten}
 use Rattle.cli_run.proofs.StreamLemmas.{front_on, nothing_read, nothing_written, read_on, written_on}
+use Rattle.cli_run.specs.Transitions.{from_to}
 
 -- ---- a step over a store that presents what was seen, open and over a disk that keeps what is written
 
 module _ (Given : Type 0) (Seen : Accounts → Type 0) (taken given : State) (opens : PresentsSeen Given Seen taken.now) (clean : HasCleanDisk given) (live : IsTrue given.is_open) (c d : Client) (before after : List ℕ) where
-  pub step_made : (progress : Progress) (r : Result Progress Refusal) → r ≡ Ok progress → TurnsAccounts (SessionStepsTo c d r before after) taken given → (accounts : Accounts) → Seen accounts → StepsOrStays Given accounts c before after d (λ a. Given × Presents given.now a) true
+  pub step_made : (progress : Progress) (r : Result Progress Refusal) → r ≡ Ok progress → TurnsAccounts (SessionStepsTo c d r before after) taken given → (accounts : Accounts) → Seen accounts → StepsOrStays Given accounts (from_to c d) (from_to before after) (λ a. Given × Presents given.now a) true
   step_made progress r is carries accounts shown =
       let carried = carries clean accounts (λ _. (opens accounts shown).1) in
       let turn = subst (λ x. SessionStepsTo c d x before after accounts carried.0) is carried.1 in
       let got = (opens accounts shown).0 in
       (progress, turn.0, carried.0, turn.1, turn.2, (got, carried.2 live), inr got)
 
-  pub step_refused : (refusal : Refusal) (r : Result Progress Refusal) → r ≡ Err refusal → TurnsAccounts (SessionStepsTo c d r before after) taken given → d ≡ c → after ≡ before → (accounts : Accounts) → Seen accounts → StepsOrStays Given accounts c before after d (λ a. Given × Presents given.now a) false
+  pub step_refused : (refusal : Refusal) (r : Result Progress Refusal) → r ≡ Err refusal → TurnsAccounts (SessionStepsTo c d r before after) taken given → d ≡ c → after ≡ before → (accounts : Accounts) → Seen accounts → StepsOrStays Given accounts (from_to c d) (from_to before after) (λ a. Given × Presents given.now a) false
   step_refused refusal r is carries same silent accounts shown =
       let carried = carries clean accounts (λ _. (opens accounts shown).1) in
       let turn : carried.0 ≡ accounts = subst (λ x. SessionStepsTo c d x before after accounts carried.0) is carried.1 in
       (same, silent, ((opens accounts shown).0, subst (λ a. Presents given.now a) turn (carried.2 live)))
 
-pub steps_as : (Before Given : Type 0) (accounts : Accounts) (c : Client) (waited waits : List ℕ) (d : Client) (Shown : Accounts → Type 0) → (Before → Given) → StepsOrStays Before accounts c waited waits d Shown true → StepsOrStays Given accounts c waited waits d Shown true
+pub steps_as : (Before Given : Type 0) (accounts : Accounts) (c : Client) (waited waits : List ℕ) (d : Client) (Shown : Accounts → Type 0) → (Before → Given) → StepsOrStays Before accounts (from_to c d) (from_to waited waits) Shown true → StepsOrStays Given accounts (from_to c d) (from_to waited waits) Shown true
 steps_as Before Given accounts c waited waits d Shown gives (progress, octets, later, joins, step, shown, reach) = (progress, octets, later, joins, step, shown, elim reach [ inl asks ↦ inl asks | inr given ↦ inr (gives given) ])
 
 -- ---- what came of closing a store
@@ -81,31 +82,31 @@ pub busy_by : {X K : Type 0} (refuses : K → List ℕ → StoreUnavailable → 
 busy_by refuses waits keeper location r denied asked is = (keeper, subst (λ q. IfErr q (refuses keeper location.path.now)) is denied, asked)
 
 -- it was noted, or another process had the store
-pub noted_or_busy : (Denied : StoreUnavailable → Type 0) (noted : FirstFault) (denial : StoreUnavailable) → (denial ≢ Busy → IsTrue (is_some noted.trouble)) → (denial ≡ Busy → Denied Busy) → IsDenialNoted Denied noted
+pub noted_or_busy : (Denied : StoreUnavailable → Type 0) (noted : FirstFault) (denial : StoreUnavailable) → (denial ≢ Busy → IsTrue (is_some noted.fault)) → (denial ≡ Busy → Denied Busy) → IsDenialNoted Denied noted
 noted_or_busy Denied noted Busy told was = inr (was refl)
 noted_or_busy Denied noted (Refused refusal) told was = inl (told (λ e. cc))
 
--- ---- the first trouble
+-- ---- the first fault
 
 pub kept_same : (a : FirstFault) → KeepsFirst a a
-kept_same a = (refl, some_same a.trouble)
+kept_same a = (refl, some_same a.fault)
   where
     some_same : (o : Option FaultWithCause) → IfSome o (λ first. o ≡ Some first)
     some_same None = tt
     some_same (Some first) = refl
 
 pub kept_then : (a b c : FirstFault) → KeepsFirst a b → KeepsFirst b c → KeepsFirst a c
-kept_then a b c one two = (two.0 ∙ one.0, some_then a.trouble one.1)
+kept_then a b c one two = (two.0 ∙ one.0, some_then a.fault one.1)
   where
-    some_then : (o : Option FaultWithCause) → IfSome o (λ first. b.trouble ≡ Some first) → IfSome o (λ first. c.trouble ≡ Some first)
+    some_then : (o : Option FaultWithCause) → IfSome o (λ first. b.fault ≡ Some first) → IfSome o (λ first. c.fault ≡ Some first)
     some_then None one = tt
-    some_then (Some first) one = subst (λ o. IfSome o (λ first. c.trouble ≡ Some first)) one two.1
+    some_then (Some first) one = subst (λ o. IfSome o (λ first. c.fault ≡ Some first)) one two.1
 
 -- what was noted stays so
-pub noted_then : (Denied : StoreUnavailable → Type 0) (a b : FirstFault) → IfSome a.trouble (λ first. b.trouble ≡ Some first) → IsDenialNoted Denied a → IsDenialNoted Denied b
-noted_then Denied a b later noted = elim noted [ inl some ↦ inl (some_then a.trouble later some) | inr busy ↦ inr busy ]
+pub noted_then : (Denied : StoreUnavailable → Type 0) (a b : FirstFault) → IfSome a.fault (λ first. b.fault ≡ Some first) → IsDenialNoted Denied a → IsDenialNoted Denied b
+noted_then Denied a b later noted = elim noted [ inl some ↦ inl (some_then a.fault later some) | inr busy ↦ inr busy ]
   where
-    some_then : (o : Option FaultWithCause) → IfSome o (λ first. b.trouble ≡ Some first) → IsTrue (is_some o) → HasNoted b
+    some_then : (o : Option FaultWithCause) → IfSome o (λ first. b.fault ≡ Some first) → IsTrue (is_some o) → HasNoted b
     some_then None is some = absurd (let h = some in cc)
     some_then (Some first) is some = subst (λ o. IsTrue (is_some o)) (sym is) some
 
@@ -116,59 +117,59 @@ pub reads_out : {X E : Type 0} (r : Result X E) (ToEnd Closed On : Type 0) → O
 reads_out (Ok x) ToEnd Closed On read = elim read [ inl all ↦ inl all | inr on ↦ inr on.1 ]
 reads_out (Err e) ToEnd Closed On read = tt
 
--- ---- what is told of a trouble
+-- ---- what is told of a fault
 
 -- so far: nothing, where none was noted; or it was told
 abbrev pub ToldSoFar : Option (List ℕ) → Option (List ℕ) → FirstFault → Type 0
-ToldSoFar old new first = ((first.is_told ≡ false) × (first.trouble ≡ None) × (new ≡ old)) ⊎ (IsTrue first.is_told × IsTrue (is_some first.trouble) × IsTold old new)
+ToldSoFar old new first = ((first.is_told ≡ false) × (first.fault ≡ None) × (new ≡ old)) ⊎ (IsTrue first.is_told × IsTrue (is_some first.fault) × IsTold old new)
 
 pub told_one : (old new : Option (List ℕ)) (first : FirstFault) → ToldSoFar old new first → TellsOne old new
 told_one old new first so = elim so [ inl none ↦ inl none.2 | inr told ↦ inr told.2 ]
 
 -- one that was noted stays so
 pub noted_still : (a b : FirstFault) → KeepsFirst a b → HasNoted a → HasNoted b
-noted_still a b kept = some_still a.trouble kept.1
+noted_still a b kept = some_still a.fault kept.1
   where
-    some_still : (o : Option FaultWithCause) → IfSome o (λ first. b.trouble ≡ Some first) → IsTrue (is_some o) → IsTrue (is_some b.trouble)
+    some_still : (o : Option FaultWithCause) → IfSome o (λ first. b.fault ≡ Some first) → IsTrue (is_some o) → IsTrue (is_some b.fault)
     some_still None is some = absurd (let h = some in cc)
     some_still (Some first) is some = subst (λ o. IsTrue (is_some o)) (sym is) some
 
 -- one was noted or not, and then told where it wasn't yet
-module _ (old before after : Option (List ℕ)) (a b c : FirstFault) (kept : KeepsFirst a b) (once : IsTrue b.is_told → after ≡ before) (none : b.trouble ≡ None → after ≡ before)
-    (tells : b.is_told ≡ false → IfSome b.trouble (λ trouble. IsWritten before after (run_fault_line trouble.fault ++ cause_line (option_copied trouble.cause))))
-    (same : c.trouble ≡ b.trouble) (told : IfSome b.trouble (λ trouble. IsTrue c.is_told)) (untold : b.trouble ≡ None → c.is_told ≡ b.is_told) where
-  told_first : a.is_told ≡ false → before ≡ old → (o : Option FaultWithCause) → b.trouble ≡ o → ToldSoFar old after c
+module _ (old before after : Option (List ℕ)) (a b c : FirstFault) (kept : KeepsFirst a b) (once : IsTrue b.is_told → after ≡ before) (none : b.fault ≡ None → after ≡ before)
+    (tells : b.is_told ≡ false → IfSome b.fault (λ fault. IsWritten before after (run_fault_line fault.fault ++ cause_line (option_copied fault.cause))))
+    (same : c.fault ≡ b.fault) (told : IfSome b.fault (λ fault. IsTrue c.is_told)) (untold : b.fault ≡ None → c.is_told ≡ b.is_told) where
+  told_first : a.is_told ≡ false → before ≡ old → (o : Option FaultWithCause) → b.fault ≡ o → ToldSoFar old after c
   told_first not is None none_there = inl (untold none_there ∙ kept.0 ∙ not, same ∙ none_there, none none_there ∙ is)
-  told_first not is (Some trouble) there =
-      let written : IsWritten before after (run_fault_line trouble.fault ++ cause_line (option_copied trouble.cause)) =
+  told_first not is (Some fault) there =
+      let written : IsWritten before after (run_fault_line fault.fault ++ cause_line (option_copied fault.cause)) =
       subst (λ (o : Option FaultWithCause). IfSome o (λ t. IsWritten before after (run_fault_line t.fault ++ cause_line (option_copied t.cause)))) there (tells (kept.0 ∙ not)) in
       inr (
         subst (λ (o : Option FaultWithCause). IfSome o (λ t. IsTrue c.is_told)) there told,
         subst (λ (o : Option FaultWithCause). IsTrue (is_some o)) (sym (same ∙ there)) refl,
-        (trouble, subst (λ o. IsWritten o after (run_fault_line trouble.fault ++ cause_line (option_copied trouble.cause))) is written),
+        (fault, subst (λ o. IsWritten o after (run_fault_line fault.fault ++ cause_line (option_copied fault.cause))) is written),
       )
 
-  some_told : (o : Option FaultWithCause) → b.trouble ≡ o → IsTrue (is_some o) → IsTrue c.is_told
+  some_told : (o : Option FaultWithCause) → b.fault ≡ o → IsTrue (is_some o) → IsTrue c.is_told
   some_told None there some = absurd (let h = some in cc)
-  some_told (Some trouble) there some = subst (λ (o : Option FaultWithCause). IfSome o (λ t. IsTrue c.is_told)) there told
+  some_told (Some fault) there some = subst (λ (o : Option FaultWithCause). IfSome o (λ t. IsTrue c.is_told)) there told
 
   pub told_on : ToldSoFar old before a → ToldSoFar old after c
   told_on so = elim so [
-    | inl first ↦ told_first first.0 first.2 b.trouble refl
+    | inl first ↦ told_first first.0 first.2 b.fault refl
     | inr was ↦
         let some = noted_still a b kept was.1 in
-        inr (some_told b.trouble refl some, subst (λ (o : Option FaultWithCause). IsTrue (is_some o)) (sym same) some, subst (λ o. IsTold old o) (sym (once (kept.0 ∙ was.0))) was.2)
+        inr (some_told b.fault refl some, subst (λ (o : Option FaultWithCause). IsTrue (is_some o)) (sym same) some, subst (λ o. IsTold old o) (sym (once (kept.0 ∙ was.0))) was.2)
   ]
 
-  pub told_now : ToldSoFar old before a → IsTrue (is_some b.trouble) → IsTold old after
+  pub told_now : ToldSoFar old before a → IsTrue (is_some b.fault) → IsTold old after
   told_now so some = elim (told_on so) [
-    | inl none ↦ absurd (let h : is_some c.trouble ≡ false = ap is_some none.1 in let k : is_some c.trouble ≡ true = ap is_some same ∙ some in cc)
+    | inl none ↦ absurd (let h : is_some c.fault ≡ false = ap is_some none.1 in let k : is_some c.fault ≡ true = ap is_some same ∙ some in cc)
     | inr now ↦ now.2
   ]
 
   pub told_still : ToldSoFar old before a → IsTold old before → IsTold old after
   told_still so was = elim so [
-    | inl first ↦ elim (told_first first.0 first.2 b.trouble refl) [
+    | inl first ↦ elim (told_first first.0 first.2 b.fault refl) [
       | inl none ↦ subst (λ o. IsTold old o) (sym (none.2 ∙ sym first.2)) was
       | inr now ↦ now.2
     ]
@@ -207,23 +208,23 @@ module _ (First Stopped : Client → Type 0) (Before Given : Type 0) (so : (c : 
   passes_as : (accounts : Accounts) (c : Client) (rounds : List Round) (d : Client) (Shown : Accounts → Type 0) → RoundsPass First Before accounts c rounds d Shown → RoundsPass Stopped Given accounts c rounds d Shown
   passes_as accounts c rounds d Shown p = record { later = p.later; leads = leads_as accounts c rounds p.later d p.leads; shown = p.shown }
 
-  pub answered_as : (accounts : Accounts) (c : Client) (waited waits : List ℕ) (d : Client) (Shown : Accounts → Type 0) → RoundsAnswer First Before accounts c waited waits d Shown → RoundsAnswer Stopped Given accounts c waited waits d Shown
+  pub answered_as : (accounts : Accounts) (c : Client) (waited waits : List ℕ) (d : Client) (Shown : Accounts → Type 0) → RoundsAnswer First Before accounts (from_to c d) (from_to waited waits) Shown → RoundsAnswer Stopped Given accounts (from_to c d) (from_to waited waits) Shown
   answered_as accounts c waited waits d Shown a = record { rounds = a.rounds; passes = passes_as accounts c a.rounds d Shown a.passes; none = a.none; joins = a.joins }
 
-  pub writes_as : (accounts : Accounts) (c : Client) (out out2 : Option (List ℕ)) (d : Client) (new : Database) → RoundsWrite First Before accounts c out out2 d new → RoundsWrite Stopped Given accounts c out out2 d new
+  pub writes_as : (accounts : Accounts) (c : Client) (out out2 : Option (List ℕ)) (d : Client) (new : Database) → RoundsWrite First Before accounts (from_to c d) (from_to out out2) new → RoundsWrite Stopped Given accounts (from_to c d) (from_to out out2) new
   writes_as accounts c out out2 d new a = record { rounds = a.rounds; passes = passes_as accounts c a.rounds d (OffersAccounts new) a.passes; none = a.none; written = a.written }
 
-  pub interrupted_as : (accounts : Accounts) (c : Client) (out out2 : Option (List ℕ)) (new : Database) → Interrupted First Before accounts c out out2 new → Interrupted Stopped Given accounts c out out2 new
+  pub interrupted_as : (accounts : Accounts) (c : Client) (out out2 : Option (List ℕ)) (new : Database) → Interrupted First Before accounts c (from_to out out2) new → Interrupted Stopped Given accounts c (from_to out out2) new
   interrupted_as accounts c out out2 new a = record { rounds = a.rounds; client = a.client; passes = passes_as accounts c a.rounds a.client (OffersAccounts new) a.passes; none = a.none; written = a.written }
 
-  pub served_as : (accounts : Accounts) (in_old in_new out out2 : Option (List ℕ)) (c : Client) (new : Database) → Served First Before accounts in_old in_new out out2 c new → Served Stopped Given accounts in_old in_new out out2 c new
+  pub served_as : (accounts : Accounts) (in_old in_new out out2 : Option (List ℕ)) (c : Client) (new : Database) → Served First Before accounts (from_to in_old in_new) (from_to out out2) c new → Served Stopped Given accounts (from_to in_old in_new) (from_to out out2) c new
   served_as accounts in_old in_new out out2 c new s = record { rounds = s.rounds; passes = passes_as accounts new_client s.rounds c (OffersAccounts new) s.passes; read = s.read; written = s.written; answered = s.answered }
 
-  converses_as : (accounts : Accounts) (in_old in_new out out2 : Option (List ℕ)) (new : Database) (r : Result (Unit {0}) RunFault) → Converses First Before accounts in_old in_new out out2 new r → Converses Stopped Given accounts in_old in_new out out2 new r
+  converses_as : (accounts : Accounts) (in_old in_new out out2 : Option (List ℕ)) (new : Database) (r : Result (Unit {0}) RunFault) → Converses First Before accounts (from_to in_old in_new) (from_to out out2) new r → Converses Stopped Given accounts (from_to in_old in_new) (from_to out out2) new r
   converses_as accounts in_old in_new out out2 new (Ok done) e = record { client = e.client; served = served_as accounts in_old in_new out out2 e.client new e.served; over = e.over }
   converses_as accounts in_old in_new out out2 new (Err fault) b = record { rounds = b.rounds; client = b.client; passes = passes_as accounts new_client b.rounds b.client (OffersAccounts new) b.passes; read = b.read; written = b.written }
 
-  pub serves_as : (in_old in_new out out2 : Option (List ℕ)) (old new : Database) (r : Result (Unit {0}) RunFault) → ServesTables First Before in_old in_new out out2 old new r → ServesTables Stopped Given in_old in_new out out2 old new r
+  pub serves_as : (in_old in_new out out2 : Option (List ℕ)) (old new : Database) (r : Result (Unit {0}) RunFault) → ServesTables First Before (from_to in_old in_new) (from_to out out2) (from_to old new) r → ServesTables Stopped Given (from_to in_old in_new) (from_to out out2) (from_to old new) r
   serves_as in_old in_new out out2 old new r s = record { talks = λ accounts shown. converses_as accounts in_old in_new out out2 new r (s.talks accounts shown); none = s.none }
 
 -- where what is given up has such a cause, and a store was given so
@@ -258,11 +259,11 @@ module _ (Stopped : Client → Type 0) (Given : Type 0) where
 
   -- ---- what was answered, and waits
 
-  pub answered_none : (accounts : Accounts) (c : Client) (waits : List ℕ) (Shown : Accounts → Type 0) → Shown accounts → RoundsAnswer Stopped Given accounts c waits waits c Shown
+  pub answered_none : (accounts : Accounts) (c : Client) (waits : List ℕ) (Shown : Accounts → Type 0) → Shown accounts → RoundsAnswer Stopped Given accounts (from_to c c) (from_to waits waits) Shown
   answered_none accounts c waits Shown shown = record { rounds = []; passes = passes_none accounts c Shown shown; none = refl; joins = sym (append-nil waits) }
 
-  pub answered_on : (accounts : Accounts) (c m d : Client) (waits waits2 waits3 : List ℕ) (Mid Shown : Accounts → Type 0) → RoundsAnswer Stopped Given accounts c waits waits2 m Mid
-      → ((a : Accounts) → Mid a → RoundsAnswer Stopped Given a m waits2 waits3 d Shown) → RoundsAnswer Stopped Given accounts c waits waits3 d Shown
+  pub answered_on : (accounts : Accounts) (c m d : Client) (waits waits2 waits3 : List ℕ) (Mid Shown : Accounts → Type 0) → RoundsAnswer Stopped Given accounts (from_to c m) (from_to waits waits2) Mid
+      → ((a : Accounts) → Mid a → RoundsAnswer Stopped Given a (from_to m d) (from_to waits2 waits3) Shown) → RoundsAnswer Stopped Given accounts (from_to c d) (from_to waits waits3) Shown
   answered_on accounts c m d waits waits2 waits3 Mid Shown first then =
       let second = then first.passes.later first.passes.shown in
       record {
@@ -273,7 +274,7 @@ module _ (Stopped : Client → Type 0) (Given : Type 0) where
       }
 
   -- a step answers what comes first
-  pub first_stepped : (accounts : Accounts) (c d : Client) (waits waits2 : List ℕ) (Shown : Accounts → Type 0) → is_ready c ≡ true → StepsOrStays Given accounts c waits waits2 d Shown true → RoundsAnswer Stopped Given accounts c waits waits2 d Shown
+  pub first_stepped : (accounts : Accounts) (c d : Client) (waits waits2 : List ℕ) (Shown : Accounts → Type 0) → is_ready c ≡ true → StepsOrStays Given accounts (from_to c d) (from_to waits waits2) Shown true → RoundsAnswer Stopped Given accounts (from_to c d) (from_to waits waits2) Shown
   first_stepped accounts c d waits waits2 Shown ready step =
       let r : Round = record { came = []; said = step.1; accounts = step.2; client = d } in
       record {
@@ -284,14 +285,14 @@ module _ (Stopped : Client → Type 0) (Given : Type 0) where
       }
 
   -- or nothing changed
-  pub step_answers : (accounts : Accounts) (c d : Client) (waits waits2 : List ℕ) (Shown : Accounts → Type 0) (made : Bool) → is_ready c ≡ true → StepsOrStays Given accounts c waits waits2 d Shown made → RoundsAnswer Stopped Given accounts c waits waits2 d Shown
+  pub step_answers : (accounts : Accounts) (c d : Client) (waits waits2 : List ℕ) (Shown : Accounts → Type 0) (made : Bool) → is_ready c ≡ true → StepsOrStays Given accounts (from_to c d) (from_to waits waits2) Shown made → RoundsAnswer Stopped Given accounts (from_to c d) (from_to waits waits2) Shown
   step_answers accounts c d waits waits2 Shown true ready step = first_stepped accounts c d waits waits2 Shown ready step
   step_answers accounts c d waits waits2 Shown false ready (same, silent, shown) =
-      subst (λ x. RoundsAnswer Stopped Given accounts c waits waits2 x Shown) (sym same) (subst (λ w. RoundsAnswer Stopped Given accounts c waits w c Shown) (sym silent) (answered_none accounts c waits Shown shown))
+      subst (λ x. RoundsAnswer Stopped Given accounts (from_to c x) (from_to waits waits2) Shown) (sym same) (subst (λ w. RoundsAnswer Stopped Given accounts (from_to c c) (from_to waits w) Shown) (sym silent) (answered_none accounts c waits Shown shown))
 
   -- what was seen is given back
   pub answered_back : {X : Type 0} (Gave : Type 0) (sees : X → Database) (held new : Database) (store : Option X) → new ≡ database_seen sees held store → (accounts : Accounts) (c d : Client) (waits waits2 : List ℕ)
-      → RoundsAnswer Stopped Given accounts c waits waits2 d (AreSeen Gave sees held store) → RoundsAnswer Stopped Given accounts c waits waits2 d (OffersAccounts new)
+      → RoundsAnswer Stopped Given accounts (from_to c d) (from_to waits waits2) (AreSeen Gave sees held store) → RoundsAnswer Stopped Given accounts (from_to c d) (from_to waits waits2) (OffersAccounts new)
   answered_back Gave sees held new store is accounts c d waits waits2 a = record {
     rounds = a.rounds;
     passes = record { later = a.passes.later; leads = a.passes.leads; shown = offers_seen Gave sees held new store is a.passes.later a.passes.shown };
@@ -301,11 +302,11 @@ module _ (Stopped : Client → Type 0) (Given : Type 0) where
 
   -- ---- what was answered and written
 
-  pub writes_none : (accounts : Accounts) (c : Client) (out : Option (List ℕ)) (new : Database) → OffersAccounts new accounts → RoundsWrite Stopped Given accounts c out out c new
+  pub writes_none : (accounts : Accounts) (c : Client) (out : Option (List ℕ)) (new : Database) → OffersAccounts new accounts → RoundsWrite Stopped Given accounts (from_to c c) (from_to out out) new
   writes_none accounts c out new shown = record { rounds = []; passes = passes_none accounts c (OffersAccounts new) shown; none = refl; written = nothing_written out }
 
-  pub writes_on : (accounts : Accounts) (c m d : Client) (out out2 out3 : Option (List ℕ)) (mid new : Database) → RoundsWrite Stopped Given accounts c out out2 m mid
-      → ((a : Accounts) → OffersAccounts mid a → RoundsWrite Stopped Given a m out2 out3 d new) → RoundsWrite Stopped Given accounts c out out3 d new
+  pub writes_on : (accounts : Accounts) (c m d : Client) (out out2 out3 : Option (List ℕ)) (mid new : Database) → RoundsWrite Stopped Given accounts (from_to c m) (from_to out out2) mid
+      → ((a : Accounts) → OffersAccounts mid a → RoundsWrite Stopped Given a (from_to m d) (from_to out2 out3) new) → RoundsWrite Stopped Given accounts (from_to c d) (from_to out out3) new
   writes_on accounts c m d out out2 out3 mid new first then =
       let second = then first.passes.later first.passes.shown in
       record {
@@ -315,8 +316,8 @@ module _ (Stopped : Client → Type 0) (Given : Type 0) where
         written = subst (Appends out out3) (sym (said_on first.rounds second.rounds)) (written_on out out2 out3 (said_in first.rounds) (said_in second.rounds) first.written second.written);
       }
 
-  pub interrupted_on : (accounts : Accounts) (c m : Client) (out out2 out3 : Option (List ℕ)) (mid new : Database) → RoundsWrite Stopped Given accounts c out out2 m mid
-      → ((a : Accounts) → OffersAccounts mid a → Interrupted Stopped Given a m out2 out3 new) → Interrupted Stopped Given accounts c out out3 new
+  pub interrupted_on : (accounts : Accounts) (c m : Client) (out out2 out3 : Option (List ℕ)) (mid new : Database) → RoundsWrite Stopped Given accounts (from_to c m) (from_to out out2) mid
+      → ((a : Accounts) → OffersAccounts mid a → Interrupted Stopped Given a m (from_to out2 out3) new) → Interrupted Stopped Given accounts c (from_to out out3) new
   interrupted_on accounts c m out out2 out3 mid new first then =
       let second = then first.passes.later first.passes.shown in
       record {
@@ -328,7 +329,7 @@ module _ (Stopped : Client → Type 0) (Given : Type 0) where
       }
 
   -- what was written counts as interrupted, where no more is
-  pub interrupted_so : (accounts : Accounts) (c d : Client) (out out2 : Option (List ℕ)) (new : Database) → RoundsWrite Stopped Given accounts c out out2 d new → Interrupted Stopped Given accounts c out out2 new
+  pub interrupted_so : (accounts : Accounts) (c d : Client) (out out2 : Option (List ℕ)) (new : Database) → RoundsWrite Stopped Given accounts (from_to c d) (from_to out out2) new → Interrupted Stopped Given accounts c (from_to out out2) new
   interrupted_so accounts c d out out2 new a = record {
     rounds = a.rounds;
     client = d;
@@ -340,14 +341,14 @@ module _ (Stopped : Client → Type 0) (Given : Type 0) where
   -- ---- what comes first
 
   -- the answers are written, or that fails
-  pub first_written : (accounts : Accounts) (c d : Client) (out out2 : Option (List ℕ)) (waits : List ℕ) (new : Database) → RoundsAnswer Stopped Given accounts c [] waits d (OffersAccounts new)
-      → (r : Result (Unit {0}) RunFault) → IsPrinted r out out2 waits → WritesFirst Stopped Given accounts c out out2 d new r
+  pub first_written : (accounts : Accounts) (c d : Client) (out out2 : Option (List ℕ)) (waits : List ℕ) (new : Database) → RoundsAnswer Stopped Given accounts (from_to c d) (from_to [] waits) (OffersAccounts new)
+      → (r : Result (Unit {0}) RunFault) → IsPrinted r out out2 waits → WritesFirst Stopped Given accounts (from_to c d) (from_to out out2) new r
   first_written accounts c d out out2 waits new a (Ok done) printed = record { rounds = a.rounds; passes = a.passes; none = a.none; written = subst (Appends out out2) a.joins printed.0 }
   first_written accounts c d out out2 waits new a (Err fault) printed = record { rounds = a.rounds; client = d; passes = a.passes; none = a.none; written = subst (AppendsFront out out2) a.joins printed.1.0 }
 
   -- it is given up, or that can't be written
   pub first_given_up : (accounts : Accounts) (c d : Client) (out out2 : Option (List ℕ)) (text : List ℕ) (new : Database) → is_ready c ≡ true → Stopped c → OffersAccounts new accounts → text ≡ text_given_up c → d ≡ client_given_up c
-      → (r : Result (Unit {0}) RunFault) → IsPrinted r out out2 text → WritesFirst Stopped Given accounts c out out2 d new r
+      → (r : Result (Unit {0}) RunFault) → IsPrinted r out out2 text → WritesFirst Stopped Given accounts (from_to c d) (from_to out out2) new r
   first_given_up accounts c d out out2 text new ready cause shown told drops (Ok done) printed =
       let r : Round = record { came = []; said = text; accounts = accounts; client = d } in
       record {
@@ -367,13 +368,13 @@ module _ (Stopped : Client → Type 0) (Given : Type 0) where
       }
 
   -- what comes first is answered, or breaks off, after what was answered
-  pub first_on : (accounts : Accounts) (c m d : Client) (out out2 out3 : Option (List ℕ)) (mid new : Database) → RoundsWrite Stopped Given accounts c out out2 m mid
-      → (r : Result (Unit {0}) RunFault) → ((a : Accounts) → OffersAccounts mid a → WritesFirst Stopped Given a m out2 out3 d new r) → WritesFirst Stopped Given accounts c out out3 d new r
+  pub first_on : (accounts : Accounts) (c m d : Client) (out out2 out3 : Option (List ℕ)) (mid new : Database) → RoundsWrite Stopped Given accounts (from_to c m) (from_to out out2) mid
+      → (r : Result (Unit {0}) RunFault) → ((a : Accounts) → OffersAccounts mid a → WritesFirst Stopped Given a (from_to m d) (from_to out2 out3) new r) → WritesFirst Stopped Given accounts (from_to c d) (from_to out out3) new r
   first_on accounts c m d out out2 out3 mid new first (Ok done) then = writes_on accounts c m d out out2 out3 mid new first then
   first_on accounts c m d out out2 out3 mid new first (Err fault) then = interrupted_on accounts c m out out2 out3 mid new first then
 
   -- a step that asks no store answers it
-  pub free_stepped : (c d : Client) (progress : Progress) (waits waits2 : List ℕ) (Shown : Accounts → Type 0) → StepsOver c d progress waits waits2 → (accounts : Accounts) → Shown accounts → StepsOrStays Given accounts c waits waits2 d Shown true
+  pub free_stepped : (c d : Client) (progress : Progress) (waits waits2 : List ℕ) (Shown : Accounts → Type 0) → StepsOver c d progress waits waits2 → (accounts : Accounts) → Shown accounts → StepsOrStays Given accounts (from_to c d) (from_to waits waits2) Shown true
   free_stepped c d progress waits waits2 Shown over accounts shown = (progress, over.octets, accounts, over.written, over.step accounts, shown, inl (progress, over.step))
 
   -- what was taken off a reader stood first
@@ -386,7 +387,7 @@ module _ (Stopped : Client → Type 0) (Given : Type 0) where
 
   -- the greeting is written
   pub served_first : (accounts : Accounts) (input out out2 : Option (List ℕ)) (c : Client) (greeting : List ℕ) (new : Database) → OffersAccounts new accounts → c ≡ new_client → greeting ≡ reply_octets (capability_reply None) → Appends out out2 greeting
-      → Served Stopped Given accounts input input out out2 c new
+      → Served Stopped Given accounts (from_to input input) (from_to out out2) c new
   unfolding rows
   served_first accounts input out out2 c greeting new shown is told written = record {
     rounds = [];
@@ -397,7 +398,7 @@ module _ (Stopped : Client → Type 0) (Given : Type 0) where
   }
 
   -- a front of it is written, or none
-  pub broken_first : (accounts : Accounts) (input out out2 : Option (List ℕ)) (greeting : List ℕ) (new : Database) → OffersAccounts new accounts → greeting ≡ reply_octets (capability_reply None) → AppendsFront out out2 greeting → BreaksOff Stopped Given accounts input out out2 new
+  pub broken_first : (accounts : Accounts) (input out out2 : Option (List ℕ)) (greeting : List ℕ) (new : Database) → OffersAccounts new accounts → greeting ≡ reply_octets (capability_reply None) → AppendsFront out out2 greeting → BreaksOff Stopped Given accounts input (from_to out out2) new
   broken_first accounts input out out2 greeting new shown told front = record {
     rounds = [];
     client = new_client;
@@ -407,7 +408,7 @@ module _ (Stopped : Client → Type 0) (Given : Type 0) where
   }
 
   -- nothing more comes of a session that was served so far
-  pub broken_served : (accounts : Accounts) (in_old in_new out out2 : Option (List ℕ)) (c : Client) (new : Database) → Served Stopped Given accounts in_old in_new out out2 c new → BreaksOff Stopped Given accounts in_old out out2 new
+  pub broken_served : (accounts : Accounts) (in_old in_new out out2 : Option (List ℕ)) (c : Client) (new : Database) → Served Stopped Given accounts (from_to in_old in_new) (from_to out out2) c new → BreaksOff Stopped Given accounts in_old (from_to out out2) new
   broken_served accounts in_old in_new out out2 c new s = record {
     rounds = s.rounds;
     client = c;
@@ -417,7 +418,7 @@ module _ (Stopped : Client → Type 0) (Given : Type 0) where
   }
 
   -- the end of the input was read
-  pub served_at_end : (accounts : Accounts) (in_old in_mid in_new out out2 : Option (List ℕ)) (c : Client) (new : Database) → Served Stopped Given accounts in_old in_mid out out2 c new → Consumes in_mid in_new [] → Served Stopped Given accounts in_old in_new out out2 c new
+  pub served_at_end : (accounts : Accounts) (in_old in_mid in_new out out2 : Option (List ℕ)) (c : Client) (new : Database) → Served Stopped Given accounts (from_to in_old in_mid) (from_to out out2) c new → Consumes in_mid in_new [] → Served Stopped Given accounts (from_to in_old in_new) (from_to out out2) c new
   served_at_end accounts in_old in_mid in_new out out2 c new s nothing = record {
     rounds = s.rounds;
     passes = s.passes;
@@ -427,7 +428,7 @@ module _ (Stopped : Client → Type 0) (Given : Type 0) where
   }
 
   -- a piece came, and all that is whole was answered
-  module _ (accounts : Accounts) (in_old in_mid in_new out out2 out3 : Option (List ℕ)) (piece : List ℕ) (c m d : Client) (mid new : Database) (s : Served Stopped Given accounts in_old in_mid out out2 c mid)
+  module _ (accounts : Accounts) (in_old in_mid in_new out out2 out3 : Option (List ℕ)) (piece : List ℕ) (c m d : Client) (mid new : Database) (s : Served Stopped Given accounts (from_to in_old in_mid) (from_to out out2) c mid)
       (took : Consumes in_mid in_new piece) (live : c.closed ≡ false) (short : length piece ≤ max_client_piece) (joins : m ≡ client_given piece c) where
     abbrev heard : Round
     heard = record { came = piece; said = []; accounts = s.passes.later; client = m }
@@ -447,7 +448,7 @@ module _ (Stopped : Client → Type 0) (Given : Type 0) where
         let inner = flat_map-append (λ (r : Round). r.said) s.rounds (heard ∷ []) in
         append_assoc (reply_octets (capability_reply None)) (said_in s.rounds) (said_in more) ∙ ap (λ l. reply_octets (capability_reply None) ++ l) (sym (outer ∙ ap (λ l. l ++ said_in more) (inner ∙ append-nil (said_in s.rounds))))
 
-    pub served_on : ((a : Accounts) → OffersAccounts mid a → RoundsWrite Stopped Given a m out2 out3 d new × (is_ready d ≡ false)) → Served Stopped Given accounts in_old in_new out out3 d new
+    pub served_on : ((a : Accounts) → OffersAccounts mid a → RoundsWrite Stopped Given a (from_to m d) (from_to out2 out3) new × (is_ready d ≡ false)) → Served Stopped Given accounts (from_to in_old in_new) (from_to out out3) d new
     served_on then =
         let (more, idle) = then came.later came.shown in
         record {
@@ -458,7 +459,7 @@ module _ (Stopped : Client → Type 0) (Given : Type 0) where
           answered = idle;
         }
 
-    pub broken_on : ((a : Accounts) → OffersAccounts mid a → Interrupted Stopped Given a m out2 out3 new) → BreaksOff Stopped Given accounts in_old out out3 new
+    pub broken_on : ((a : Accounts) → OffersAccounts mid a → Interrupted Stopped Given a m (from_to out2 out3) new) → BreaksOff Stopped Given accounts in_old (from_to out out3) new
     broken_on then =
         let more = then came.later came.shown in
         record {

@@ -21,10 +21,10 @@ read_whole = record { mid = []; reads = (1, one_more 0 (codes "ab") [] none_yet 
 ends_there : (WasInterrupted {X = List ℕ} [] [] → ⊥) → ReadGoesOn left [] [] → ⊥
 ends_there never goes = elim goes [ inl read ↦ read.1 (sym (read.2 ∙ append-nil read.0)) | inr signal ↦ never signal ]
 
--- of two troubles the first is kept, and whether it was told
+-- of two faults the first is kept, and whether it was told
 module _ (first second : FaultWithCause) where
   abbrev noted : FaultWithCause → FirstFault
-  noted trouble = record { trouble = Some trouble; is_told = false }
+  noted fault = record { fault = Some fault; is_told = false }
 
   first_kept : KeepsFirst (noted first) (noted first)
   first_kept = (refl, refl)
@@ -33,9 +33,9 @@ module _ (first second : FaultWithCause) where
   second_kept h = let is : Some second ≡ Some first = h.1 in cc
 
   -- and it isn't told once more
-  told_again : KeepsFirst (record { trouble = Some first; is_told = true }) (noted first) → ⊥
+  told_again : KeepsFirst (record { fault = Some first; is_told = true }) (noted first) → ⊥
   told_again h = let is : false ≡ true = h.0 in cc
 
 -- what isn't noted comes of another process that had the store
-unnoted : (Denied : StoreUnavailable → Type 0) → IsDenialNoted Denied (record { trouble = None; is_told = false }) → Denied Busy
+unnoted : (Denied : StoreUnavailable → Type 0) → IsDenialNoted Denied (record { fault = None; is_told = false }) → Denied Busy
 unnoted Denied h = elim h [ inl some ↦ let no : false ≡ true = some in absurd (let never : ⊥ = cc in never) | inr busy ↦ busy ]

@@ -24,6 +24,7 @@ use Rattle.cli_run.specs.Values.{IsNoUntil}
 use Rattle.cli_run.specs.Subcommands.{IsDoneBy, IsKeptFrom, Puts, TakesListed, TakesNotices, TurnsStore, notices_until, upkeep_answer, taking}
 use Rattle.cli_run.proofs.UpkeepLemmas.{kept_put}
 use Rattle.cli_run.proofs.WordLemmas.{kept_same, stays_turned, sudden_refusal, turned_wider, ours_not_none}
+use Rattle.cli_run.specs.Transitions.{from_to}
 
 abbrev AreNotices : List Notice → Account → Type 0
 AreNotices notices a = notices ≡ a.notices
@@ -94,9 +95,9 @@ store_turned held new taken given opened ours clean live back Became turns = rec
 
 module _ (Denied : RunFault → Type 0) (user digits : List ℕ) where
   -- the word was kept from it
-  pub taking_hindered : (out : Option (List ℕ)) (fault : RunFault) (r : Result (Unit {0}) RunFault) → r ≡ Err fault → IsHindered ⊥ (IsNoUntil digits) Denied fault → (held new : Database) → new ≡ held → TakesNotices Denied out out user digits r held new
+  pub taking_hindered : (out : Option (List ℕ)) (fault : RunFault) (r : Result (Unit {0}) RunFault) → r ≡ Err fault → IsHindered ⊥ (IsNoUntil digits) Denied fault → (held new : Database) → new ≡ held → TakesNotices Denied user digits (from_to out out) r (from_to held new)
   taking_hindered out fault r is hindered held new same =
       stays_turned _ held new same (λ accounts. inl (subst (λ o. IsKeptFrom (IsNoUntil digits) Denied out out o accounts accounts) (sym is) (hindered, refl, kept_same out)))
 
-  pub taking_done : (until : ℕ) → Writes digits until → (old out : Option (List ℕ)) (r : Result (Unit {0}) RunFault) (held new : Database) → TurnsTables (TakesListed user until old out r) held new → TakesNotices Denied old out user digits r held new
+  pub taking_done : (until : ℕ) → Writes digits until → (old out : Option (List ℕ)) (r : Result (Unit {0}) RunFault) (held new : Database) → TurnsTables (TakesListed user until old out r) held new → TakesNotices Denied user digits (from_to old out) r (from_to held new)
   taking_done until writes old out r held new turned = turned_wider (TakesListed user until old out r) _ held new (λ accounts later h. inr (until, writes, h)) turned

@@ -6,7 +6,7 @@ use Rattle.store_accounts.specs.declared.refusal.Refusal.{Refusal}
 use Rattle.store_accounts.specs.declared.refusal.Refusal.TheVariants.{NoUser, BadUser, UserIsOpen, UserHasMail}
 use Rattle.store_engine.specs.declared.answer.Answer.{Answer}
 use Rattle.store_engine.specs.declared.answer.Answer.TheVariants as answer
-use Rattle.store_engine.specs.declared.event.Event.TheVariants.{Keep}
+use Rattle.store_engine.specs.declared.event.Event.TheVariants.{DoUpkeep}
 use Rattle.store_engine.specs.declared.upkeep.Upkeep.{Upkeep}
 use Rattle.store_engine.specs.declared.upkeep.Upkeep.TheVariants as upkeep
 use Rattle.store_engine.specs.Hosts.{TurnsBy, MayRefuseKeeping}
@@ -78,11 +78,11 @@ module _ (Denied : RunFault → Type 0) (user : List ℕ) (act : Upkeep) (plain 
   done_so accounts later said other (inr h) = absurd (other h.0 h.2)
 
   -- the act, put to the machine
-  pub kept_put : (said : Answer) (r : Result (Unit {0}) RunFault) → IsDoneBy said r → (accounts later : Accounts) → TurnsBy KeepRow KeepMay said accounts later → Puts Denied (Keep user act) (λ done. upkeep_answer act) r accounts later
+  pub kept_put : (said : Answer) (r : Result (Unit {0}) RunFault) → IsDoneBy said r → (accounts later : Accounts) → TurnsBy KeepRow KeepMay said accounts later → Puts Denied (DoUpkeep user act) (λ done. upkeep_answer act) r accounts later
   kept_put (answer.Refused refusal) r is accounts later turned =
-      subst (λ o. Puts Denied (Keep user act) (λ done. upkeep_answer act) o accounts later) (sym is)
-      (refused_by (Keep user act) KeepRow KeepMay (λ all then said row. (then, row, refl)) (λ all. keeping_may user act (world_of_accounts all)) kept_same {X = Unit {0}} Denied (λ done. upkeep_answer act) refusal accounts later turned)
+      subst (λ o. Puts Denied (DoUpkeep user act) (λ done. upkeep_answer act) o accounts later) (sym is)
+      (refused_by (DoUpkeep user act) KeepRow KeepMay (λ all then said row. (then, row, refl)) (λ all. keeping_may user act (world_of_accounts all)) kept_same {X = Unit {0}} Denied (λ done. upkeep_answer act) refusal accounts later turned)
   kept_put said r is accounts later turned =
-      subst (λ o. Puts Denied (Keep user act) (λ done. upkeep_answer act) o accounts later) (sym is)
-      (subst (λ a. Next (world_of_accounts accounts) (Keep user act) a (world_of_accounts later)) (done_so accounts later said (λ refusal e. let no = e in cc) turned)
-      (next_by (Keep user act) KeepRow KeepMay (λ all then said row. (then, row, refl)) (λ all. keeping_may user act (world_of_accounts all)) kept_same said accounts later turned))
+      subst (λ o. Puts Denied (DoUpkeep user act) (λ done. upkeep_answer act) o accounts later) (sym is)
+      (subst (λ a. Next (world_of_accounts accounts) (DoUpkeep user act) a (world_of_accounts later)) (done_so accounts later said (λ refusal e. let no = e in cc) turned)
+      (next_by (DoUpkeep user act) KeepRow KeepMay (λ all then said row. (then, row, refl)) (λ all. keeping_may user act (world_of_accounts all)) kept_same said accounts later turned))

@@ -19,6 +19,7 @@ use Rattle.cli_run.specs.Draining.{TurnsTables}
 use Rattle.cli_run.specs.Faults.{IsHindered, IsPrinted}
 use Rattle.cli_run.specs.Subcommands.{AddsUser, DoesUsers, FinishesPrinted, FindsUsers, ListsUsers, found_line, user_line_at, user_line, user_listing}
 use Rattle.cli_run.proofs.WordLemmas.{denied, kept_same, ours_not_none, stays_turned, transient_hinders, turned_wider}
+use Rattle.cli_run.specs.Transitions.{from_to}
 
 -- ---- one user
 
@@ -45,8 +46,8 @@ user_added name old new a b c r found was reads added q late =
 -- ---- one after the other
 
 -- an answer
-abbrev pub had : {X : Type 0} → X → Result X Refusal
-had x = Ok x
+abbrev pub ok_of : {X : Type 0} → X → Result X Refusal
+ok_of x = Ok x
 
 abbrev pub Listed : List ℕ → Option (List ℕ) → Accounts → Type 0
 Listed = AreLinesTo user_line
@@ -55,7 +56,7 @@ added_where : (name old new : List ℕ) (next : Option (List ℕ)) (accounts : A
 added_where name old new next accounts h = h.added ∙ ap (λ l. old ++ l) (line_same name (get accounts name))
 
 -- the first one
-pub listed_first : (text : List ℕ) (a b : State) (next : Option (List ℕ)) (r : Result (Option (List ℕ)) Refusal) → r ≡ Ok next → FindsOver (AddsUser [] [] text) a b r → FindsOver (Listed text) a b (had next)
+pub listed_first : (text : List ℕ) (a b : State) (next : Option (List ℕ)) (r : Result (Option (List ℕ)) Refusal) → r ≡ Ok next → FindsOver (AddsUser [] [] text) a b r → FindsOver (Listed text) a b (ok_of next)
 listed_first text a b next r was h = record {
   found = λ clean accounts p.
       let adds = subst (λ o. IfOk o (λ n. AddsUser [] [] text n accounts)) was (h.found clean accounts p) in
@@ -63,15 +64,15 @@ listed_first text a b next r was h = record {
   keeps = (subst (λ o. FindsOver (AddsUser [] [] text) a b o) was h).keeps;
 }
 
-module _ (a b c : State) (name old : List ℕ) (early : FindsOver (Listed old) a b (had (Some name))) where
+module _ (a b c : State) (name old : List ℕ) (early : FindsOver (Listed old) a b (ok_of (Some name))) where
   -- one more
-  pub listed_more : (new : List ℕ) (next : Option (List ℕ)) (q : Result (Option (List ℕ)) Refusal) → q ≡ Ok next → FindsOver (AddsUser name old new) b c q → FindsOver (Listed new) a c (had next)
+  pub listed_more : (new : List ℕ) (next : Option (List ℕ)) (q : Result (Option (List ℕ)) Refusal) → q ≡ Ok next → FindsOver (AddsUser name old new) b c q → FindsOver (Listed new) a c (ok_of next)
   listed_more new next q was late =
-      over_then (Listed old) (Listed new) a b (had (Some name)) early c (Some name) refl (AddsUser name old new) (had next) (subst (λ o. FindsOver (AddsUser name old new) b c o) was late)
+      over_then (Listed old) (Listed new) a b (ok_of (Some name)) early c (Some name) refl (AddsUser name old new) (ok_of next) (subst (λ o. FindsOver (AddsUser name old new) b c o) was late)
       (λ accounts n so adds. line_more user_line accounts name old new (added_where name old new n accounts adds) n so adds.follows)
 
 -- none is left
-pub listed_all : (a b : State) (text : List ℕ) → FindsOver (Listed text) a b (had None) → FindsOver (λ whole accounts. whole ≡ user_listing (entries accounts)) a b (had text)
+pub listed_all : (a b : State) (text : List ℕ) → FindsOver (Listed text) a b (ok_of None) → FindsOver (λ whole accounts. whole ≡ user_listing (entries accounts)) a b (ok_of text)
 listed_all a b text h = record { found = h.found; keeps = record { same = h.keeps.same; live = h.keeps.live; shut = h.keeps.shut; crash = h.keeps.crash } }
 
 abbrev pub AreAll : List ℕ → Accounts → Type 0
@@ -81,8 +82,8 @@ AreAll text accounts = text ≡ user_listing (entries accounts)
 pub listed_failed : {X : Type 0} (Q : X → Accounts → Type 0) (a b : State) (q : Result X Refusal) → FindsOver Q a b q → (r : Result (List ℕ) Refusal) → OnOk r ⊥ → FindsOver AreAll a b r
 listed_failed Q a b q h r none = over_failed Q AreAll a b q h r none
 
-pub listed_stopped : {X : Type 0} (old : List ℕ) (next : Option (List ℕ)) (a b c : State) → FindsOver (Listed old) a b (had next) → (Q : X → Accounts → Type 0) (q : Result X Refusal) → FindsOver Q b c q → (r : Result (List ℕ) Refusal) → OnOk r ⊥ → FindsOver AreAll a c r
-listed_stopped old next a b c early Q q late r none = over_then_failed (Listed old) Q a b (had next) early c next refl Q q late AreAll r none
+pub listed_stopped : {X : Type 0} (old : List ℕ) (next : Option (List ℕ)) (a b c : State) → FindsOver (Listed old) a b (ok_of next) → (Q : X → Accounts → Type 0) (q : Result X Refusal) → FindsOver Q b c q → (r : Result (List ℕ) Refusal) → OnOk r ⊥ → FindsOver AreAll a c r
+listed_stopped old next a b c early Q q late r none = over_then_failed (Listed old) Q a b (ok_of next) early c next refl Q q late AreAll r none
 
 -- ---- over tables
 
@@ -119,14 +120,14 @@ module _ (Denied : RunFault → Type 0) (held new : Database) where
   Ends old out r = FinishesPrinted ListsUsers (λ fault accounts. IsHindered ⊥ ⊥ Denied fault) old out r
 
   -- nothing was found
-  pub users_refused : (out : Option (List ℕ)) (fault : RunFault) (r : Result (Unit {0}) RunFault) → r ≡ Err fault → TurnsTables (Found (Err fault)) held new → DoesUsers Denied out out r held new
+  pub users_refused : (out : Option (List ℕ)) (fault : RunFault) (r : Result (Unit {0}) RunFault) → r ≡ Err fault → TurnsTables (Found (Err fault)) held new → DoesUsers Denied (from_to out out) r (from_to held new)
   users_refused out fault r is found =
       turned_wider (Found (Err fault)) (Ends out out r) held new (λ accounts later h. subst (λ o. Ends out out o accounts later) (sym is) (inl (record { cause = h.1; stays = h.0; silent = kept_same out }))) found
 
   -- all was found, and a write of it was tried
-  pub users_shown : (text : List ℕ) → TurnsTables (Found (Ok text)) held new → (old out : Option (List ℕ)) (r : Result (Unit {0}) RunFault) → IsPrinted r old out text → DoesUsers Denied old out r held new
+  pub users_shown : (text : List ℕ) → TurnsTables (Found (Ok text)) held new → (old out : Option (List ℕ)) (r : Result (Unit {0}) RunFault) → IsPrinted r old out text → DoesUsers Denied (from_to old out) r (from_to held new)
   users_shown text found old out r printed = turned_wider (Found (Ok text)) (Ends old out r) held new (λ accounts later h. by r printed accounts later h) found
     where
       by : (r : Result (Unit {0}) RunFault) → IsPrinted r old out text → (accounts later : Accounts) → Found (Ok text) accounts later → Ends old out r accounts later
-      by (Ok done) printed accounts later h = record { text = text; deed = record { stays = h.0; listed = h.1 }; printed = printed }
-      by (Err fault) printed accounts later h = inr (record { text = text; deed = record { stays = h.0; listed = h.1 }; printed = printed })
+      by (Ok done) printed accounts later h = record { text = text; effect = record { stays = h.0; listed = h.1 }; printed = printed }
+      by (Err fault) printed accounts later h = inr (record { text = text; effect = record { stays = h.0; listed = h.1 }; printed = printed })

@@ -12,13 +12,13 @@ use Rattle.store_accounts.specs.declared.queue.QueuedMessage.{QueuedMessage}
 use Rattle.store_accounts.specs.declared.refusal.Refusal.{Refusal}
 use Rattle.store_accounts.specs.declared.refusal.Refusal.TheVariants.{Memory}
 use Rattle.store_engine.specs.declared.answer.Answer.TheVariants as answer
-use Rattle.store_engine.specs.declared.event.Event.TheVariants.{Deliver, AddUser, TakeOut, Keep}
+use Rattle.store_engine.specs.declared.event.Event.TheVariants.{Deliver, AddUser, TakeOut, DoUpkeep}
 use Rattle.store_engine.specs.declared.upkeep.Upkeep.TheVariants.{SetPassword, SetAddress, StoreScript}
 use Rattle.store_accounts.specs.declared.notice.Notice.{Notice}
 use Rattle.sieve_lex.specs.declared.fault.ScriptFault.{ScriptFault}
 use Rattle.cli_run.specs.declared.fault.RunFault.TheVariants.{Refused, Stream, NoMessage, NoMaildir, Invalid, Busy}
 use Rattle.cli_run.specs.Draining.{IsUnkept, StopsDraining}
-use Rattle.cli_run.specs.Faults.{memory, no_user, store_failed, cause_of, run_fault_lines, troubles, IsHindered}
+use Rattle.cli_run.specs.Faults.{memory, no_user, store_failed, cause_of, run_fault_lines, faults_told, IsHindered}
 use Rattle.cli_run.specs.Streams.{IsWritten, WriteFailed}
 use Rattle.cli_run.specs.declared.fault.RunFault.{RunFault}
 use Rattle.cli_run.specs.Values.{WritesSalt, IsSalt, IsGivenMoment, IsWhen, IsSeparator, envelope_with}
@@ -96,15 +96,15 @@ salt-ignored other h = cc
 salt-none : (other : List ℕ) → IsSalt None None other → ⊥
 salt-none other h = cc
 
-guarded : IsPasswdEvent None (Some salt) alice (Some (codes "secret\nmore")) (Keep alice (SetPassword salt (codes "secret")))
+guarded : IsPasswdEvent None (Some salt) alice (Some (codes "secret\nmore")) (DoUpkeep alice (SetPassword salt (codes "secret")))
 guarded = record { octets = codes "secret\nmore"; read = refl; salt = salt; salted = refl; same = refl }
 
 -- near misses: another user's; all that was read
-guarded-other : IsPasswdEvent None (Some salt) alice (Some (codes "secret")) (Keep home (SetPassword salt (codes "secret"))) → ⊥
+guarded-other : IsPasswdEvent None (Some salt) alice (Some (codes "secret")) (DoUpkeep home (SetPassword salt (codes "secret"))) → ⊥
 guarded-other h = let e = h.same in cc
 
 -- what is done to an account is told as done
-changed-told : TellsEvent (Keep alice (SetAddress home)) answer.Changed (codes "changed alice\n")
+changed-told : TellsEvent (DoUpkeep alice (SetAddress home)) answer.Changed (codes "changed alice\n")
 changed-told = refl
 
 -- near miss: a refusal of the machine
@@ -112,16 +112,16 @@ refused-done : IsDoneBy (answer.Refused Memory) (Ok tt) → ⊥
 refused-done h = cc
 
 -- all that was read is the script's text, and near misses: another name; the active script, where that isn't asked for
-offered : IsPutEvent alice (codes "m") false (Some (codes "keep;")) (Keep alice (StoreScript (codes "m") (codes "keep;") false))
+offered : IsPutEvent alice (codes "m") false (Some (codes "keep;")) (DoUpkeep alice (StoreScript (codes "m") (codes "keep;") false))
 offered = record { text = codes "keep;"; read = refl; same = refl }
 
-offered-other : (text : List ℕ) → IsPutEvent alice (codes "m") false (Some text) (Keep alice (StoreScript alice text false)) → ⊥
+offered-other : (text : List ℕ) → IsPutEvent alice (codes "m") false (Some text) (DoUpkeep alice (StoreScript alice text false)) → ⊥
 offered-other text h = let e = h.same in cc
 
-offered-active : (text : List ℕ) → IsPutEvent alice (codes "m") false (Some text) (Keep alice (StoreScript (codes "m") text true)) → ⊥
+offered-active : (text : List ℕ) → IsPutEvent alice (codes "m") false (Some text) (DoUpkeep alice (StoreScript (codes "m") text true)) → ⊥
 offered-active text h = let e = h.same in cc
 
-stored-told : TellsEvent (Keep alice (StoreScript (codes "m") [] false)) answer.Stored (codes "stored m\n")
+stored-told : TellsEvent (DoUpkeep alice (StoreScript (codes "m") [] false)) answer.Stored (codes "stored m\n")
 stored-told = refl
 
 -- near misses: no script, told as stored; and without a fault
@@ -147,22 +147,22 @@ notices-before h = cc
 added-swapped : (password : List ℕ) → IsAddUserEvent (Some digits) None alice home (Some (codes "secret\nmore")) (AddUser home alice salt password) → ⊥
 added-swapped password h = let e = h.same in cc
 
-posted : (clock : Option ℕ) (default : Option (List ℕ)) (when : When) → IsWhen (Some (codes "5")) None clock when
-    → IsDeliverEvent [] home (Some (codes "5")) None alice clock default (Some (codes "M")) (Deliver alice (envelope_with [] home) (codes "M") when default)
-posted clock default when is = record { message = codes "M"; read = refl; when = when; dated = is; same = refl }
+is_deliver_event : (clock : Option ℕ) (default : Option (List ℕ)) (when : When) → IsWhen (Some (codes "5")) None clock when
+    → IsDeliverEvent (envelope_with [] home) (Some (codes "5")) None alice clock default (Some (codes "M")) (Deliver alice (envelope_with [] home) (codes "M") when default)
+is_deliver_event clock default when is = record { message = codes "M"; read = refl; when = when; dated = is; same = refl }
 
 -- near misses: for the recipient's name in place of the user's; at the clock's moment; with another message; without the host's default script
-posted-elsewhere : (clock : Option ℕ) (default : Option (List ℕ)) (when : When) → IsDeliverEvent [] home (Some (codes "5")) None alice clock default (Some (codes "M")) (Deliver home (envelope_with [] home) (codes "M") when default) → ⊥
-posted-elsewhere clock default when h = let e = h.same in cc
+is_deliver_event-elsewhere : (clock : Option ℕ) (default : Option (List ℕ)) (when : When) → IsDeliverEvent (envelope_with [] home) (Some (codes "5")) None alice clock default (Some (codes "M")) (Deliver home (envelope_with [] home) (codes "M") when default) → ⊥
+is_deliver_event-elsewhere clock default when h = let e = h.same in cc
 
-posted-late : (default : Option (List ℕ)) (when : When) → when.moment ≡ 7 → IsDeliverEvent [] home (Some (codes "5")) None alice (Some 7) default (Some (codes "M")) (Deliver alice (envelope_with [] home) (codes "M") when default) → ⊥
-posted-late default when late h = let same : when ≡ h.when = let e = h.same in cc in moment-ignored (subst (Writes (codes "5")) (sym (ap (λ (w : When). w.moment) same) ∙ late) h.dated.0)
+is_deliver_event-late : (default : Option (List ℕ)) (when : When) → when.moment ≡ 7 → IsDeliverEvent (envelope_with [] home) (Some (codes "5")) None alice (Some 7) default (Some (codes "M")) (Deliver alice (envelope_with [] home) (codes "M") when default) → ⊥
+is_deliver_event-late default when late h = let same : when ≡ h.when = let e = h.same in cc in moment-ignored (subst (Writes (codes "5")) (sym (ap (λ (w : When). w.moment) same) ∙ late) h.dated.0)
 
-posted-other : (clock : Option ℕ) (default : Option (List ℕ)) (when : When) → IsDeliverEvent [] home (Some (codes "5")) None alice clock default (Some (codes "M")) (Deliver alice (envelope_with [] home) (codes "MM") when default) → ⊥
-posted-other clock default when h = let same : codes "MM" ≡ h.message = let e = h.same in cc in let no : codes "MM" ≡ codes "M" = same ∙ h.read in cc
+is_deliver_event-other : (clock : Option ℕ) (default : Option (List ℕ)) (when : When) → IsDeliverEvent (envelope_with [] home) (Some (codes "5")) None alice clock default (Some (codes "M")) (Deliver alice (envelope_with [] home) (codes "MM") when default) → ⊥
+is_deliver_event-other clock default when h = let same : codes "MM" ≡ h.message = let e = h.same in cc in let no : codes "MM" ≡ codes "M" = same ∙ h.read in cc
 
-posted-bare : (clock : Option ℕ) (default : List ℕ) (when : When) → IsDeliverEvent [] home (Some (codes "5")) None alice clock (Some default) (Some (codes "M")) (Deliver alice (envelope_with [] home) (codes "M") when None) → ⊥
-posted-bare clock default when h = let same : None ≡ Some default = let e = h.same in cc in cc
+is_deliver_event-bare : (clock : Option ℕ) (default : List ℕ) (when : When) → IsDeliverEvent (envelope_with [] home) (Some (codes "5")) None alice clock (Some default) (Some (codes "M")) (Deliver alice (envelope_with [] home) (codes "M") when None) → ⊥
+is_deliver_event-bare clock default when h = let same : None ≡ Some default = let e = h.same in cc in cc
 
 dequeued : IsDoneEvent alice (codes "5") (TakeOut alice 5)
 dequeued = record { id = 5; written = five; same = refl }
@@ -172,11 +172,11 @@ dequeued-other : IsDoneEvent alice (codes "5") (TakeOut alice 6) → ⊥
 dequeued-other h = let same : 6 ≡ h.id = let e = h.same in cc in not_five 6 (λ e. cc) (subst (Writes (codes "5")) (sym same) h.written)
 
 -- what is printed of an event, and near misses: another name; an event that wasn't made
-told : TellsEvent (AddUser alice home salt []) answer.Added (codes "added alice\n")
-told = refl
+added_told : TellsEvent (AddUser alice home salt []) answer.Added (codes "added alice\n")
+added_told = refl
 
-told-other : TellsEvent (AddUser alice home salt []) answer.Added (codes "added bob\n") → ⊥
-told-other h = cc
+added_told-other : TellsEvent (AddUser alice home salt []) answer.Added (codes "added bob\n") → ⊥
+added_told-other h = cc
 
 told-refused : (refusal : Refusal) (text : List ℕ) → TellsEvent (TakeOut alice 5) (answer.Refused refusal) text → ⊥
 told-refused refusal text h = h
@@ -303,18 +303,18 @@ busy-untold (inl more) = let no = more in cc
 busy-untold (inr cut) = cut.1
 
 -- a script that isn't valid is told on the output alone; near miss: so is a store that is busy
-invalid-untold : troubles None (Err Invalid) ≡ []
+invalid-untold : faults_told None (Err Invalid) ≡ []
 invalid-untold = refl
 
-busy-silent : troubles None (Err Busy) ≡ [] → ⊥
+busy-silent : faults_told None (Err Busy) ≡ [] → ⊥
 busy-silent h = cc
 
 -- why the store couldn't be closed comes before why there is no answer, and where the store failed that tells of both
-both-troubles : troubles (Some Memory) (Err Busy) ≡ Refused Memory ∷ Busy ∷ []
-both-troubles = refl
+both-faults_told : faults_told (Some Memory) (Err Busy) ≡ Refused Memory ∷ Busy ∷ []
+both-faults_told = refl
 
-one-trouble : troubles (Some Memory) (Err store_failed) ≡ store_failed ∷ []
-one-trouble = refl
+one-fault : faults_told (Some Memory) (Err store_failed) ≡ store_failed ∷ []
+one-fault = refl
 
 -- ---- `users`
 

@@ -36,7 +36,8 @@ use Rattle.cli_run.specs.Faults.{memory, status_of, IsFailure, IsSudden, IsHinde
 use Rattle.cli_run.specs.Promise.{world_of_accounts}
 use Rattle.sieve_exec.specs.declared.when.When.{When}
 use Rattle.store_engine.specs.Terms.{terms}
-use Rattle.cli_run.specs.Subcommands.{FinishesPrinted, DeniedAtEnd, TellsEvent, MakesEvent, RefusesEvent, Puts, DoesEvent, Shows, FindsIn, ShowsNothing, DoesRead, HasMessage, DoesInit, LacksNothing}
+use Rattle.cli_run.specs.Subcommands.{FinishesPrinted, DeniedAtEnd, TellsEvent, MakesEvent, RefusesEvent, Puts, DoesEvent, Shows, FindsIn, ShowsNothing, DoesRead, HasMessage, DoesInit, LacksNothing, account_part}
+use Rattle.cli_run.specs.Transitions.{from_to}
 
 -- ---- the output
 
@@ -305,7 +306,7 @@ module _ (Broken Wrong : Type 0) (Denied : RunFault → Type 0) (Own : Event →
   Cause fault accounts = IsHindered Broken Wrong Denied fault ⊎ RefusesEvent Own fault accounts
 
   -- it didn't come to the event
-  pub event_hindered : (out : Option (List ℕ)) (held : Database) (fault : RunFault) (r : Result (Unit {0}) RunFault) → r ≡ Err fault → IsHindered Broken Wrong Denied fault → DoesEvent Broken Wrong Denied Own out out r held held
+  pub event_hindered : (out : Option (List ℕ)) (held : Database) (fault : RunFault) (r : Result (Unit {0}) RunFault) → r ≡ Err fault → IsHindered Broken Wrong Denied fault → DoesEvent Broken Wrong Denied Own (from_to out out) r (from_to held held)
   event_hindered out held fault r is hindered =
       stays_turned (FinishesPrinted (MakesEvent Own) Cause out out r) held held refl
       (λ accounts. subst (λ o. FinishesPrinted (MakesEvent Own) Cause out out o accounts accounts) (sym is) (inl (record { cause = inl hindered; stays = refl; silent = kept_same out })))
@@ -315,7 +316,7 @@ module _ (Broken Wrong : Type 0) (Denied : RunFault → Type 0) (Own : Event →
     own_refused fault accounts h = record { event = h.event; own = subst Own (sym h.own) own; refusal = h.refusal; told = h.told; next = h.next }
 
     -- it was put, and wasn't made
-    pub event_unmade : (out : Option (List ℕ)) (right : Wrong → ⊥) (fault : RunFault) (r : Result (Unit {0}) RunFault) → r ≡ Err fault → TurnsTables (Puts Denied event told (Err fault)) held new → DoesEvent Broken Wrong Denied Own out out r held new
+    pub event_unmade : (out : Option (List ℕ)) (right : Wrong → ⊥) (fault : RunFault) (r : Result (Unit {0}) RunFault) → r ≡ Err fault → TurnsTables (Puts Denied event told (Err fault)) held new → DoesEvent Broken Wrong Denied Own (from_to out out) r (from_to held new)
     event_unmade out right fault r is put =
         turned_wider (Puts Denied event told (Err fault)) (FinishesPrinted (MakesEvent Own) Cause out out r) held new
         (λ accounts later h.
@@ -328,17 +329,17 @@ module _ (Broken Wrong : Type 0) (Denied : RunFault → Type 0) (Own : Event →
 
     -- it was made, and this was printed
     pub event_made : (x : X) (text : List ℕ) → TellsEvent event (told x) text → TurnsTables (Puts Denied event told (Ok x)) held new → (old out : Option (List ℕ)) (r : Result (Unit {0}) RunFault)
-        → IsPrinted r old out text → DoesEvent Broken Wrong Denied Own old out r held new
+        → IsPrinted r old out text → DoesEvent Broken Wrong Denied Own (from_to old out) r (from_to held new)
     event_made x text tells put old out r printed =
         turned_wider (Puts Denied event told (Ok x)) (FinishesPrinted (MakesEvent Own) Cause old out r) held new (λ accounts later h. by r printed accounts later h) put
       where
-        deed : (accounts later : Accounts) → Next (world_of_accounts accounts) event (told x) (world_of_accounts later) → MakesEvent Own accounts later text
-        deed accounts later h = record { event = event; own = own; answer = told x; next = h; tells = tells }
+        effect : (accounts later : Accounts) → Next (world_of_accounts accounts) event (told x) (world_of_accounts later) → MakesEvent Own accounts later text
+        effect accounts later h = record { event = event; own = own; answer = told x; next = h; tells = tells }
 
         by : (r : Result (Unit {0}) RunFault) → IsPrinted r old out text → (accounts later : Accounts) → Next (world_of_accounts accounts) event (told x) (world_of_accounts later)
             → FinishesPrinted (MakesEvent Own) Cause old out r accounts later
-        by (Ok done) printed accounts later h = record { text = text; deed = deed accounts later h; printed = printed }
-        by (Err fault) printed accounts later h = inr (record { text = text; deed = deed accounts later h; printed = printed })
+        by (Ok done) printed accounts later h = record { text = text; effect = effect accounts later h; printed = printed }
+        by (Err fault) printed accounts later h = inr (record { text = text; effect = effect accounts later h; printed = printed })
 
 -- ---- a word that reads
 
@@ -415,7 +416,7 @@ module _ (Wrong : Type 0) (Denied : RunFault → Type 0) (user : List ℕ) (IsSh
   Ends = FinishesPrinted (Shows user IsShown) (ShowsNothing Wrong Denied user Lacks)
 
   -- nothing was read
-  pub read_hindered : (out : Option (List ℕ)) (held : Database) (fault : RunFault) (r : Result (Unit {0}) RunFault) → r ≡ Err fault → IsHindered ⊥ Wrong Denied fault → DoesRead Wrong Denied user IsShown Lacks out out r held held
+  pub read_hindered : (out : Option (List ℕ)) (held : Database) (fault : RunFault) (r : Result (Unit {0}) RunFault) → r ≡ Err fault → IsHindered ⊥ Wrong Denied fault → DoesRead Wrong Denied (account_part user IsShown Lacks) (from_to out out) r (from_to held held)
   read_hindered out held fault r is hindered =
       stays_turned (Ends out out r) held held refl (λ accounts. subst (λ o. Ends out out o accounts accounts) (sym is) (inl (record { cause = inl hindered; stays = refl; silent = kept_same out })))
 
@@ -424,7 +425,7 @@ module _ (Wrong : Type 0) (Denied : RunFault → Type 0) (user : List ℕ) (IsSh
     Found q accounts later = (later ≡ accounts) × FindsIn Denied user Part q accounts
 
     -- it couldn't be read
-    pub read_refused : (right : Wrong → ⊥) (out : Option (List ℕ)) (fault : RunFault) (r : Result (Unit {0}) RunFault) → r ≡ Err fault → TurnsTables (Found (Err fault)) held new → DoesRead Wrong Denied user IsShown Lacks out out r held new
+    pub read_refused : (right : Wrong → ⊥) (out : Option (List ℕ)) (fault : RunFault) (r : Result (Unit {0}) RunFault) → r ≡ Err fault → TurnsTables (Found (Err fault)) held new → DoesRead Wrong Denied (account_part user IsShown Lacks) (from_to out out) r (from_to held new)
     read_refused right out fault r is found =
         turned_wider (Found (Err fault)) (Ends out out r) held new
         (λ accounts later h.
@@ -437,13 +438,13 @@ module _ (Wrong : Type 0) (Denied : RunFault → Type 0) (user : List ℕ) (IsSh
 
     -- it was found, and there was no memory to show it
     pub read_failed : (x : X) (fault : RunFault) → IsHindered ⊥ Wrong Denied fault → TurnsTables (Found (Ok x)) held new → (out : Option (List ℕ)) (r : Result (Unit {0}) RunFault) → r ≡ Err fault
-        → DoesRead Wrong Denied user IsShown Lacks out out r held new
+        → DoesRead Wrong Denied (account_part user IsShown Lacks) (from_to out out) r (from_to held new)
     read_failed x fault hindered found out r is =
         turned_wider (Found (Ok x)) (Ends out out r) held new (λ accounts later h. subst (λ o. Ends out out o accounts later) (sym is) (inl (record { cause = inl hindered; stays = h.0; silent = kept_same out }))) found
 
     -- what was asked for isn't there
     pub read_lacks : (x : X) (fault : RunFault) → ((a : Account) → Part x a → Lacks fault a) → TurnsTables (Found (Ok x)) held new → (out : Option (List ℕ)) (r : Result (Unit {0}) RunFault) → r ≡ Err fault
-        → DoesRead Wrong Denied user IsShown Lacks out out r held new
+        → DoesRead Wrong Denied (account_part user IsShown Lacks) (from_to out out) r (from_to held new)
     read_lacks x fault lacks found out r is =
         turned_wider (Found (Ok x)) (Ends out out r) held new
         (λ accounts later h.
@@ -452,19 +453,19 @@ module _ (Wrong : Type 0) (Denied : RunFault → Type 0) (user : List ℕ) (IsSh
 
     -- it was shown
     pub read_shown : (x : X) (text : List ℕ) → ((a : Account) → Part x a → IsShown a text) → TurnsTables (Found (Ok x)) held new → (old out : Option (List ℕ)) (r : Result (Unit {0}) RunFault)
-        → IsPrinted r old out text → DoesRead Wrong Denied user IsShown Lacks old out r held new
+        → IsPrinted r old out text → DoesRead Wrong Denied (account_part user IsShown Lacks) (from_to old out) r (from_to held new)
     read_shown x text shows found old out r printed = turned_wider (Found (Ok x)) (Ends old out r) held new (λ accounts later h. by r printed accounts later h) found
       where
-        deed : (accounts later : Accounts) → Found (Ok x) accounts later → Shows user IsShown accounts later text
-        deed accounts later h = record { stays = h.0; shown = (h.1.0, h.1.1, shows h.1.0 h.1.2) }
+        effect : (accounts later : Accounts) → Found (Ok x) accounts later → Shows user IsShown accounts later text
+        effect accounts later h = record { stays = h.0; shown = (h.1.0, h.1.1, shows h.1.0 h.1.2) }
 
         by : (r : Result (Unit {0}) RunFault) → IsPrinted r old out text → (accounts later : Accounts) → Found (Ok x) accounts later → Ends old out r accounts later
-        by (Ok done) printed accounts later h = record { text = text; deed = deed accounts later h; printed = printed }
-        by (Err fault) printed accounts later h = inr (record { text = text; deed = deed accounts later h; printed = printed })
+        by (Ok done) printed accounts later h = record { text = text; effect = effect accounts later h; printed = printed }
+        by (Err fault) printed accounts later h = inr (record { text = text; effect = effect accounts later h; printed = printed })
 
 -- what is shown is told by another name, and another value of the words may be wrong
 pub read_told : (Wrong : Type 0) (Denied : RunFault → Type 0) → (Wrong → ⊥) → (user : List ℕ) (IsShown Wider : Account → List ℕ → Type 0) → ((a : Account) (text : List ℕ) → IsShown a text → Wider a text) → (old out : Option (List ℕ)) (r : Result (Unit {0}) RunFault) (held new : Database)
-    → DoesRead ⊥ Denied user IsShown LacksNothing old out r held new → DoesRead Wrong Denied user Wider LacksNothing old out r held new
+    → DoesRead ⊥ Denied (account_part user IsShown LacksNothing) (from_to old out) r (from_to held new) → DoesRead Wrong Denied (account_part user Wider LacksNothing) (from_to old out) r (from_to held new)
 read_told Wrong Denied right user IsShown Wider wider old out r held new does =
     turned_wider (FinishesPrinted (Shows user IsShown) (ShowsNothing ⊥ Denied user LacksNothing) old out r) (FinishesPrinted (Shows user Wider) (ShowsNothing Wrong Denied user LacksNothing) old out r) held new (by r) does
   where
@@ -475,19 +476,19 @@ read_told Wrong Denied right user IsShown Wider wider old out r held new does =
     shows accounts later text h = record { stays = h.stays; shown = (h.shown.0, h.shown.1, wider h.shown.0 text h.shown.2) }
 
     by : (r : Result (Unit {0}) RunFault) (accounts later : Accounts) → FinishesPrinted (Shows user IsShown) (ShowsNothing ⊥ Denied user LacksNothing) old out r accounts later → FinishesPrinted (Shows user Wider) (ShowsNothing Wrong Denied user LacksNothing) old out r accounts later
-    by (Ok done) accounts later h = record { text = h.text; deed = shows accounts later h.text h.deed; printed = h.printed }
+    by (Ok done) accounts later h = record { text = h.text; effect = shows accounts later h.text h.effect; printed = h.printed }
     by (Err fault) accounts later h = elim h [
       | inl undone ↦ inl (record { cause = elim undone.cause [ inl hindered ↦ inl (still fault hindered) | inr more ↦ elim more [ inl free ↦ inr (inl (free.0, free.1, right)) | inr lacks ↦ inr (inr lacks) ] ]; stays = undone.stays; silent = undone.silent })
-      | inr did ↦ inr (record { text = did.text; deed = shows accounts later did.text did.deed; printed = did.printed })
+      | inr did ↦ inr (record { text = did.text; effect = shows accounts later did.text did.effect; printed = did.printed })
     ]
 
 -- ---- `init`
 
-pub init_denied : (Denied : RunFault → Type 0) (out : Option (List ℕ)) (fault : RunFault) (r : Result (Unit {0}) RunFault) → r ≡ Err fault → Denied fault → (held new : Database) → new ≡ held → DoesInit Denied out out r held new
-init_denied Denied out fault r is why held new same = subst (λ o. DoesInit Denied out out o held new) (sym is) (inl (denied ⊥ ⊥ Denied fault why (λ no. no), same, kept_same out))
+pub init_denied : (Denied : RunFault → Type 0) (out : Option (List ℕ)) (fault : RunFault) (r : Result (Unit {0}) RunFault) → r ≡ Err fault → Denied fault → (held new : Database) → new ≡ held → DoesInit Denied (from_to out out) r (from_to held new)
+init_denied Denied out fault r is why held new same = subst (λ o. DoesInit Denied (from_to out out) o (from_to held new)) (sym is) (inl (denied ⊥ ⊥ Denied fault why (λ no. no), same, kept_same out))
 
 -- a store was made and handed back
 pub init_made : (Denied : RunFault → Type 0) (old out : Option (List ℕ)) (r : Result (Unit {0}) RunFault) → IsPrinted r old out (codes "ready\n")
-    → (held seen new : Database) → held.schema ≡ no_schema → Presents seen no_accounts → new ≡ seen → DoesInit Denied old out r held new
+    → (held seen new : Database) → held.schema ≡ no_schema → Presents seen no_accounts → new ≡ seen → DoesInit Denied (from_to old out) r (from_to held new)
 init_made Denied old out (Ok done) printed held seen new blank made back = (blank, subst (λ db. Presents db no_accounts) (sym back) made, printed)
 init_made Denied old out (Err fault) printed held seen new blank made back = inr (blank, subst (λ db. Presents db no_accounts) (sym back) made, printed)

@@ -24,6 +24,7 @@ use Rattle.cli_run.specs.declared.fault.RunFault.{RunFault}
 use Rattle.cli_run.specs.declared.fault.RunFault.TheVariants.{NoMaildir}
 use Rattle.cli_run.specs.Faults.{no_user, status_of, IsHindered, IsPrinted}
 use Rattle.cli_run.specs.Promise.{world_of_accounts}
+use Rattle.cli_run.specs.Transitions.{StreamMove, TablesMove}
 use Rattle.cli_run.specs.Values.{HasNoNumber}
 
 -- the messages of an account's folder; none if there is no account
@@ -129,16 +130,29 @@ module _ (user folder : List ℕ) (Grew : List (List ℕ) → Type 0) where
 
 -- ---- a call over a store, and a sink that tells what it keeps or doesn't, before and afterwards
 
-abbrev pub DrainsFirst : List ℕ → List ℕ → Bool → List KeptMail → List KeptMail → Result Bool RunFault → State → State → Type 0
-DrainsFirst user folder tells had has result = MovesMail user folder (GrowsBy user folder tells had has) (is_ok result) (FirstMoved user folder (GrowsBy user folder tells had has) result)
+-- whether a sink tells what it keeps, and what it kept before and afterwards
+pub record SinkMails : Type 0 where
+  pub tells : Bool
+  pub had : List KeptMail
+  pub has : List KeptMail
 
-abbrev pub MovesAll : List ℕ → List ℕ → Bool → List KeptMail → List KeptMail → ℕ → Result ℕ RunFault → State → State → Type 0
-MovesAll user folder tells had has most result = MovesMail user folder (GrowsBy user folder tells had has) (is_ok result) (AnyMoved user folder (GrowsBy user folder tells had has) most result)
+abbrev pub sink_mails : Bool → List KeptMail → List KeptMail → SinkMails
+sink_mails tells had has = record { tells = tells; had = had; has = has }
+
+-- it grew by such messages of the user's folder
+abbrev pub SinkGrew : List ℕ → List ℕ → SinkMails → List (List ℕ) → Type 0
+SinkGrew user folder sink = GrowsBy user folder sink.tells sink.had sink.has
+
+abbrev pub DrainsFirst : List ℕ → List ℕ → SinkMails → Result Bool RunFault → State → State → Type 0
+DrainsFirst user folder sink result = MovesMail user folder (SinkGrew user folder sink) (is_ok result) (FirstMoved user folder (SinkGrew user folder sink) result)
+
+abbrev pub MovesAll : List ℕ → List ℕ → SinkMails → ℕ → Result ℕ RunFault → State → State → Type 0
+MovesAll user folder sink most result = MovesMail user folder (SinkGrew user folder sink) (is_ok result) (AnyMoved user folder (SinkGrew user folder sink) most result)
 
 -- and there is no such user if that is the fault
-abbrev pub Drains : List ℕ → List ℕ → Bool → List KeptMail → List KeptMail → ℕ → Result ℕ RunFault → State → State → Type 0
-Drains user folder tells had has most result =
-    MovesMail user folder (GrowsBy user folder tells had has) (is_ok result) (λ accounts later. Drained user folder (GrowsBy user folder tells had has) most result accounts later × (result ≡ Err no_user → HasNoOpen user accounts))
+abbrev pub Drains : List ℕ → List ℕ → SinkMails → ℕ → Result ℕ RunFault → State → State → Type 0
+Drains user folder sink most result =
+    MovesMail user folder (SinkGrew user folder sink) (is_ok result) (λ accounts later. Drained user folder (SinkGrew user folder sink) most result accounts later × (result ≡ Err no_user → HasNoOpen user accounts))
 
 -- ---- the subcommand
 
@@ -165,9 +179,10 @@ StopsDraining Sunk Wrong Denied user fault accounts =
     IsHindered (IsUnkept Sunk) Wrong Denied fault ⊎ ((fault ≡ NoMaildir) × Sunk sink.NoMaildir × (Wrong → ⊥)) ⊎ ((fault ≡ no_user) × HasNoOpen user accounts × (Wrong → ⊥))
 
 -- over tables: their store was drained, and if it wasn't to its end the cause is reported
-abbrev pub MovesTables : (SinkError → Type 0) → (RunFault → Type 0) → DrainArgs → Bool → List KeptMail → List KeptMail → ℕ → Result ℕ RunFault → Database → Database → Type 0
-MovesTables Sunk Denied asked tells had has most result =
-    TurnsTables (λ accounts later. Drained asked.user.now asked.folder.now (GrowsBy asked.user.now asked.folder.now tells had has) most result accounts later × IfErr result (λ fault. StopsDraining Sunk ⊥ Denied asked.user.now fault accounts))
+abbrev pub MovesTables : (SinkError → Type 0) → (RunFault → Type 0) → DrainArgs → SinkMails → ℕ → Result ℕ RunFault → TablesMove → Type 0
+MovesTables Sunk Denied asked sink most result tables =
+    TurnsTables (λ accounts later. Drained asked.user.now asked.folder.now (SinkGrew asked.user.now asked.folder.now sink) most result accounts later × IfErr result (λ fault. StopsDraining Sunk ⊥ Denied asked.user.now fault accounts))
+    tables.old tables.new
 
 -- after Ok the subcommand did what it was asked for, and printed how many messages moved; after a fault those that moved stay moved,
 -- nothing is printed, and the cause is reported; or that line wasn't printed whole
@@ -179,5 +194,6 @@ WordDrained Sunk Denied asked Grew old new (Err fault) accounts later =
     × ((Keeps old new × StopsDraining Sunk (HasNoNumber (option_copied asked.most)) Denied asked.user.now fault accounts) ⊎ IsPrinted (Err fault) old new (drained_line broke.0))
 
 -- and over tables
-abbrev pub HasDrained : (SinkError → Type 0) → (RunFault → Type 0) → DrainArgs → Bool → List KeptMail → List KeptMail → Option (List ℕ) → Option (List ℕ) → Result (Unit {0}) RunFault → Database → Database → Type 0
-HasDrained Sunk Denied asked tells had has old new result = TurnsTables (WordDrained Sunk Denied asked (GrowsBy asked.user.now asked.folder.now tells had has) old new result)
+abbrev pub HasDrained : (SinkError → Type 0) → (RunFault → Type 0) → DrainArgs → SinkMails → StreamMove → Result (Unit {0}) RunFault → TablesMove → Type 0
+HasDrained Sunk Denied asked sink output result tables =
+    TurnsTables (WordDrained Sunk Denied asked (SinkGrew asked.user.now asked.folder.now sink) output.old output.new result) tables.old tables.new

@@ -16,6 +16,7 @@ use Rattle.store_accounts.specs.Promises.{KeepsTables, OverAccounts}
 use Rattle.store_accounts.specs.Whole.{whole}
 use Rattle.cli_run.specs.Faults.{IsPrinted, IsTextPut, IsSudden}
 use Rattle.cli_run.specs.Streams.{AppendsFront}
+use Rattle.cli_run.specs.Transitions.{StreamMove, Transition}
 use Rattle.cli_run.specs.declared.fault.RunFault.{RunFault}
 
 -- ---- the text of an account, if writing broke off
@@ -50,10 +51,10 @@ PartsGoOn contents at parts old =
     → (early : List Part) → length early ≡ at → AreRead contents early old.now a → AreRead contents (early ++ parts) old.now a)
 
 -- the parts from one place to another were read and written; after a fault the first ones of them
-pub record PutsParts (contents : Contents) (from until : ℕ) (begun ended : Writer) (out_old out_new : Option (List ℕ)) (old new : State) (result : Result (Unit {0}) RunFault) : Type 0 where
-  pub keeps : KeepsTables old new result
+pub record PutsParts (contents : Contents) (from until : ℕ) (writer : Transition Writer) (output : StreamMove) (store : Transition State) (result : Result (Unit {0}) RunFault) : Type 0 where
+  pub keeps : KeepsTables store.old store.new result
   pub parts : List Part
   pub all : OnOk result (from + length parts ≡ until)
-  pub read : HasCleanDisk new → PartsGoOn contents from parts old
-  pub put : PutsSome result out_old out_new (flat_map part_line parts)
-  pub hashed : OnOk result ((text : List ℕ) → HasWritten begun text → HasWritten ended (text ++ flat_map part_line parts))
+  pub read : HasCleanDisk store.new → PartsGoOn contents from parts store.old
+  pub put : PutsSome result output.old output.new (flat_map part_line parts)
+  pub hashed : OnOk result ((text : List ℕ) → HasWritten writer.old text → HasWritten writer.new (text ++ flat_map part_line parts))

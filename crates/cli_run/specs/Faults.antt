@@ -139,14 +139,14 @@ IsPrinted (Err fault) old new text = (fault ≡ Stream) × IsWriteCut old new te
 
 -- what is reported at the end: why the store couldn't be closed, and why there is no answer; if a call was refused since the store failed,
 -- that says both; that a script isn't valid is said on the output alone
-abbrev pub troubles : Option Refusal → Result (Unit {0}) RunFault → List RunFault
-troubles None (Ok done) = []
-troubles (Some refusal) (Ok done) = Refused refusal ∷ []
-troubles unclosed (Err (Refused refusal.Store)) = store_failed ∷ []
-troubles None (Err Invalid) = []
-troubles (Some refusal) (Err Invalid) = Refused refusal ∷ []
-troubles None (Err fault) = fault ∷ []
-troubles (Some refusal) (Err fault) = Refused refusal ∷ fault ∷ []
+abbrev pub faults_told : Option Refusal → Result (Unit {0}) RunFault → List RunFault
+faults_told None (Ok done) = []
+faults_told (Some refusal) (Ok done) = Refused refusal ∷ []
+faults_told unclosed (Err (Refused refusal.Store)) = store_failed ∷ []
+faults_told None (Err Invalid) = []
+faults_told (Some refusal) (Err Invalid) = Refused refusal ∷ []
+faults_told None (Err fault) = fault ∷ []
+faults_told (Some refusal) (Err fault) = Refused refusal ∷ fault ∷ []
 
 -- what the system said of a sink's last failure, as a text; none if it said nothing
 abbrev pub text_said : Option ErrorKind → Option (List ℕ)

@@ -7,6 +7,7 @@ pub mod KeptInputs
 pub mod Promise
 pub mod Serving
 pub mod Streams
+pub mod Transitions
 pub mod TryScript
 pub mod Values
 pub mod Subcommands

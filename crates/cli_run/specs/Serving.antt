@@ -21,6 +21,7 @@ use Rattle.cli_subcommands.specs.declared.location.StoreLocation.{StoreLocation}
 use Rattle.cli_run.specs.declared.fault.RunFault.{RunFault}
 use Rattle.cli_run.specs.Faults.{cause_line, denial_fault, run_fault_line}
 use Rattle.cli_run.specs.Streams.{AppendsFront, InTurn, IsWritten}
+use Rattle.cli_run.specs.Transitions.{StreamMove, TablesMove, Transition}
 use Rattle.cli_run.specs.declared.fault_with_cause.FirstFault.{FirstFault}
 use Rattle.cli_run.specs.declared.fault_with_cause.FaultWithCause.{FaultWithCause}
 
@@ -100,23 +101,23 @@ StoodReady c d = is_ready c ≡ true
 abbrev pub StopsAt : Client → List ℕ → Client → Type 0
 StopsAt c waits d = (is_ready d ≡ false) ⊎ (largest_wait ≤ length waits) ⊎ InTurn StoodReady c 18446744073709551615 d
 
--- of the troubles of a connection the first is kept, and whether it was reported
+-- of the faults of a connection the first is kept, and whether it was reported
 abbrev pub KeepsFirst : FirstFault → FirstFault → Type 0
-KeepsFirst old new = (new.is_told ≡ old.is_told) × IfSome old.trouble (λ first. new.trouble ≡ Some first)
+KeepsFirst old new = (new.is_told ≡ old.is_told) × IfSome old.fault (λ first. new.fault ≡ Some first)
 
--- a trouble is noted
+-- a fault is noted
 abbrev pub HasNoted : FirstFault → Type 0
-HasNoted noted = IsTrue (is_some noted.trouble)
+HasNoted noted = IsTrue (is_some noted.fault)
 
--- the same; or another process had the store, which is no trouble
+-- the same; or another process had the store, which is no fault
 abbrev pub IsDenialNoted : (StoreUnavailable → Type 0) → FirstFault → Type 0
 IsDenialNoted Denied noted = HasNoted noted ⊎ Denied Busy
 
--- a trouble was reported this far: its lines were written, or writing broke off in them
+-- a fault was reported this far: its lines were written, or writing broke off in them
 abbrev pub IsTold : Option (List ℕ) → Option (List ℕ) → Type 0
-IsTold old new = (trouble : FaultWithCause) × IsWritten old new (run_fault_line trouble.fault ++ cause_line (option_copied trouble.cause))
+IsTold old new = (fault : FaultWithCause) × IsWritten old new (run_fault_line fault.fault ++ cause_line (option_copied fault.cause))
 
--- at most one trouble was reported
+-- at most one fault was reported
 abbrev pub TellsOne : Option (List ℕ) → Option (List ℕ) → Type 0
 TellsOne old new = (new ≡ old) ⊎ IsTold old new
 
@@ -169,36 +170,36 @@ pub record RoundsPass (Stopped : Client → Type 0) (Given : Type 0) (accounts :
   pub shown : Shown later
 
 -- rounds in which nothing came led here: what waits to be written grew by what was said
-pub record RoundsAnswer (Stopped : Client → Type 0) (Given : Type 0) (accounts : Accounts) (c : Client) (waited waits : List ℕ) (d : Client) (Shown : Accounts → Type 0) : Type 0 where
+pub record RoundsAnswer (Stopped : Client → Type 0) (Given : Type 0) (accounts : Accounts) (client : Transition Client) (waits : Transition (List ℕ)) (Shown : Accounts → Type 0) : Type 0 where
   pub rounds : List Round
-  pub passes : RoundsPass Stopped Given accounts c rounds d Shown
+  pub passes : RoundsPass Stopped Given accounts client.old rounds client.new Shown
   pub none : came_in rounds ≡ []
-  pub joins : waits ≡ waited ++ said_in rounds
+  pub joins : waits.new ≡ waits.old ++ said_in rounds
 
 -- rounds in which nothing came led here, the tables offer the accounts, and what was said is written
-pub record RoundsWrite (Stopped : Client → Type 0) (Given : Type 0) (accounts : Accounts) (c : Client) (out_old out_new : Option (List ℕ)) (d : Client) (new : Database) : Type 0 where
+pub record RoundsWrite (Stopped : Client → Type 0) (Given : Type 0) (accounts : Accounts) (client : Transition Client) (output : StreamMove) (new : Database) : Type 0 where
   pub rounds : List Round
-  pub passes : RoundsPass Stopped Given accounts c rounds d (OffersAccounts new)
+  pub passes : RoundsPass Stopped Given accounts client.old rounds client.new (OffersAccounts new)
   pub none : came_in rounds ≡ []
-  pub written : Appends out_old out_new (said_in rounds)
+  pub written : Appends output.old output.new (said_in rounds)
 
 -- the same if a write failed: a prefix is written
-pub record Interrupted (Stopped : Client → Type 0) (Given : Type 0) (accounts : Accounts) (c : Client) (out_old out_new : Option (List ℕ)) (new : Database) : Type 0 where
+pub record Interrupted (Stopped : Client → Type 0) (Given : Type 0) (accounts : Accounts) (c : Client) (output : StreamMove) (new : Database) : Type 0 where
   pub rounds : List Round
   pub client : Client
   pub passes : RoundsPass Stopped Given accounts c rounds client (OffersAccounts new)
   pub none : came_in rounds ≡ []
-  pub written : AppendsFront out_old out_new (said_in rounds)
+  pub written : AppendsFront output.old output.new (said_in rounds)
 
 -- the first item was answered and the answer written, or a write failed
-abbrev pub WritesFirst : (Client → Type 0) → Type 0 → Accounts → Client → Option (List ℕ) → Option (List ℕ) → Client → Database → Result (Unit {0}) RunFault → Type 0
-WritesFirst Stopped Given accounts c out_old out_new d new (Ok done) = RoundsWrite Stopped Given accounts c out_old out_new d new
-WritesFirst Stopped Given accounts c out_old out_new d new (Err fault) = Interrupted Stopped Given accounts c out_old out_new new
+abbrev pub WritesFirst : (Client → Type 0) → Type 0 → Accounts → Transition Client → StreamMove → Database → Result (Unit {0}) RunFault → Type 0
+WritesFirst Stopped Given accounts client output new (Ok done) = RoundsWrite Stopped Given accounts client output new
+WritesFirst Stopped Given accounts client output new (Err fault) = Interrupted Stopped Given accounts client.old output new
 
 -- all complete items were answered and the answers written, or a write failed
-abbrev pub WritesAll : (Client → Type 0) → Type 0 → Accounts → Client → Option (List ℕ) → Option (List ℕ) → Client → Database → Result (Unit {0}) RunFault → Type 0
-WritesAll Stopped Given accounts c out_old out_new d new (Ok done) = RoundsWrite Stopped Given accounts c out_old out_new d new × (is_ready d ≡ false)
-WritesAll Stopped Given accounts c out_old out_new d new (Err fault) = Interrupted Stopped Given accounts c out_old out_new new
+abbrev pub WritesAll : (Client → Type 0) → Type 0 → Accounts → Transition Client → StreamMove → Database → Result (Unit {0}) RunFault → Type 0
+WritesAll Stopped Given accounts client output new (Ok done) = RoundsWrite Stopped Given accounts client output new × (is_ready client.new ≡ false)
+WritesAll Stopped Given accounts client output new (Err fault) = Interrupted Stopped Given accounts client.old output new
 
 -- what is seen: what an open store sees, or else what is held
 abbrev pub database_seen : {X : Type 0} → (X → Database) → Database → Option X → Database
@@ -215,46 +216,40 @@ abbrev pub PresentsSeen : Type 0 → (Accounts → Type 0) → Database → Type
 PresentsSeen Given Seen now = (accounts : Accounts) → Seen accounts → Given × Presents now accounts
 
 -- a step of the session was made, over a store that was given if it asks one, and its answer waits after those before; or nothing changed
-abbrev pub StepsOrStays : Type 0 → Accounts → Client → List ℕ → List ℕ → Client → (Accounts → Type 0) → Bool → Type 0
-StepsOrStays Given accounts c waited waits d Shown true =
-    (progress : Progress) × (octets : List ℕ) × (later : Accounts) × (waits ≡ waited ++ octets) × IsStep accounts c progress octets d later × Shown later × (AsksNothing c octets d ⊎ Given)
-StepsOrStays Given accounts c waited waits d Shown false = (d ≡ c) × (waits ≡ waited) × Shown accounts
+abbrev pub StepsOrStays : Type 0 → Accounts → Transition Client → Transition (List ℕ) → (Accounts → Type 0) → Bool → Type 0
+StepsOrStays Given accounts client waits Shown true =
+    (progress : Progress) × (octets : List ℕ) × (later : Accounts) × (waits.new ≡ waits.old ++ octets) × IsStep accounts client.old progress octets client.new later × Shown later
+    × (AsksNothing client.old octets client.new ⊎ Given)
+StepsOrStays Given accounts client waits Shown false = (client.new ≡ client.old) × (waits.new ≡ waits.old) × Shown accounts
 
 -- a session led here from the greeting on: all that came was read and all that was said is written, and nothing that came is left to be answered
-pub record Served (Stopped : Client → Type 0) (Given : Type 0) (accounts : Accounts) (in_old in_new out_old out_new : Option (List ℕ)) (c : Client) (new : Database) : Type 0 where
+pub record Served (Stopped : Client → Type 0) (Given : Type 0) (accounts : Accounts) (input output : StreamMove) (c : Client) (new : Database) : Type 0 where
   pub rounds : List Round
   pub passes : RoundsPass Stopped Given accounts new_client rounds c (OffersAccounts new)
-  pub read : Consumes in_old in_new (came_in rounds)
-  pub written : Appends out_old out_new (reply_octets (capability_reply None) ++ said_in rounds)
+  pub read : Consumes input.old input.new (came_in rounds)
+  pub written : Appends output.old output.new (reply_octets (capability_reply None) ++ said_in rounds)
   pub answered : is_ready c ≡ false
 
 -- the session ended: it is closed, or the input is at its end
-pub record Ends (Stopped : Client → Type 0) (Given : Type 0) (accounts : Accounts) (in_old in_new out_old out_new : Option (List ℕ)) (new : Database) : Type 0 where
+pub record Ends (Stopped : Client → Type 0) (Given : Type 0) (accounts : Accounts) (input output : StreamMove) (new : Database) : Type 0 where
   pub client : Client
-  pub served : Served Stopped Given accounts in_old in_new out_old out_new client new
-  pub over : (client.closed ≡ true) ⊎ IsAtEnd in_new
+  pub served : Served Stopped Given accounts input output client new
+  pub over : (client.closed ≡ true) ⊎ IsAtEnd input.new
 
 -- the session broke off, for lack of memory, or by a read or a write that failed: a prefix of what was said is written
-pub record BreaksOff (Stopped : Client → Type 0) (Given : Type 0) (accounts : Accounts) (in_old out_old out_new : Option (List ℕ)) (new : Database) : Type 0 where
+pub record BreaksOff (Stopped : Client → Type 0) (Given : Type 0) (accounts : Accounts) (came : Option (List ℕ)) (output : StreamMove) (new : Database) : Type 0 where
   pub rounds : List Round
   pub client : Client
   pub passes : RoundsPass Stopped Given accounts new_client rounds client (OffersAccounts new)
-  pub read : LeftBeginsWith in_old (came_in rounds)
-  pub written : AppendsFront out_old out_new (reply_octets (capability_reply None) ++ said_in rounds)
+  pub read : LeftBeginsWith came (came_in rounds)
+  pub written : AppendsFront output.old output.new (reply_octets (capability_reply None) ++ said_in rounds)
 
 -- one whole session over accounts
-abbrev pub Converses : (Client → Type 0) → Type 0 → Accounts → Option (List ℕ) → Option (List ℕ) → Option (List ℕ) → Option (List ℕ) → Database → Result (Unit {0}) RunFault → Type 0
-Converses Stopped Given accounts in_old in_new out_old out_new new (Ok done) = Ends Stopped Given accounts in_old in_new out_old out_new new
-Converses Stopped Given accounts in_old in_new out_old out_new new (Err fault) = BreaksOff Stopped Given accounts in_old out_old out_new new
+abbrev pub Converses : (Client → Type 0) → Type 0 → Accounts → StreamMove → StreamMove → Database → Result (Unit {0}) RunFault → Type 0
+Converses Stopped Given accounts input output new (Ok done) = Ends Stopped Given accounts input output new
+Converses Stopped Given accounts input output new (Err fault) = BreaksOff Stopped Given accounts input.old output new
 
 -- the same over tables: accounts that they offered were served; a database without tables stays so
-pub record ServesTables (Stopped : Client → Type 0) (Given : Type 0) (in_old in_new out_old out_new : Option (List ℕ)) (old new : Database) (result : Result (Unit {0}) RunFault) : Type 0 where
-  pub talks : (accounts : Accounts) → OffersAccounts old accounts → Converses Stopped Given accounts in_old in_new out_old out_new new result
-  pub none : old.schema ≡ no_schema → new.schema ≡ no_schema
-
--- the same over a reader, a writer and a keeper, in terms of what is still to be read from the one, what was written to the other, and the tables
--- of the third, which says by `refuses` that it refused the lock or the store at the path, by `gives` that it gave the store out there, by `waits`
--- whether it waited, and by `closes` how closing it ended. Of what was given up, and of a store that couldn't be closed, this holds
-abbrev pub ServesBy : {A B C S : Type 0} → (A → Option (List ℕ)) → A → A → (B → Option (List ℕ)) → B → B → (C → List ℕ → StoreUnavailable → Type 0) → (C → List ℕ → Type 0) → (C → Bool) → (C → S → Option Refusal → Type 0) → StoreLocation → (C → Database) → C → C → Type 0 → Result (Unit {0}) RunFault → Type 0
-ServesBy remaining in_old in_new contents out_old out_new refuses gives waits closes location holds old new Told result =
-    ServesTables (StopsServing refuses waits location Told) (WasOut gives waits closes location Told) (remaining in_old) (remaining in_new) (contents out_old) (contents out_new) (holds old) (holds new) result
+pub record ServesTables (Stopped : Client → Type 0) (Given : Type 0) (input output : StreamMove) (tables : TablesMove) (result : Result (Unit {0}) RunFault) : Type 0 where
+  pub talks : (accounts : Accounts) → OffersAccounts tables.old accounts → Converses Stopped Given accounts input output tables.new result
+  pub none : tables.old.schema ≡ no_schema → tables.new.schema ≡ no_schema

@@ -11,9 +11,7 @@ use Rattle.store_text.specs.declared.part.Part.{Part}
 use Rattle.octets.specs.Decimal.{Writes}
 use Rattle.maildir_files.specs.Directory.{directory}
 use Rattle.maildir_files.specs.declared.separator.Separator.{Separator}
-use Rattle.sqlite.specs.Effect.{Database}
 use Rattle.sqlite.specs.State.{State, HasCleanDisk}
-use Rattle.maildir_files.specs.declared.kept.KeptMail.{KeptMail}
 use Rattle.maildir_files.specs.declared.sink.SinkError.{SinkError}
 use Rattle.store_accounts.specs.Account.{Account, Accounts, is_closed_account, is_removed, no_accounts, messages_in, row_with}
 use Rattle.store_accounts.specs.HeadRows.{queued_envelope}
@@ -30,7 +28,7 @@ use Rattle.store_engine.specs.World.{Next}
 use Rattle.store_engine.specs.declared.answer.Answer.{Answer}
 use Rattle.store_engine.specs.declared.answer.Answer.TheVariants as answer
 use Rattle.store_engine.specs.declared.event.Event.{Event}
-use Rattle.store_engine.specs.declared.event.Event.TheVariants.{Deliver, AddUser, Import, TakeOut, Keep}
+use Rattle.store_engine.specs.declared.event.Event.TheVariants.{Deliver, AddUser, Import, TakeOut, DoUpkeep}
 use Rattle.store_engine.specs.declared.upkeep.Upkeep.{Upkeep}
 use Rattle.store_engine.specs.declared.upkeep.Upkeep.TheVariants as upkeep
 use Rattle.store_accounts.specs.declared.notice.Notice.{Notice}
@@ -51,23 +49,25 @@ use Rattle.cli_subcommands.specs.declared.reading.ArgsError.{ArgsError}
 use Rattle.cli_subcommands.specs.declared.reading.ArgsError.TheVariants.{Said, NotText, Unknown}
 use Rattle.cli_subcommands.specs.declared.subcommand.Subcommand.{Subcommand}
 use Rattle.cli_subcommands.specs.declared.subcommand.Subcommand.TheVariants as word
-use Rattle.cli_run.specs.Draining.{StaysAsItWas, TurnsTables, HasDrained}
+use Rattle.cli_run.specs.Draining.{SinkMails, StaysAsItWas, TurnsTables, HasDrained}
 use Rattle.cli_run.specs.Exports.{IsCutOff}
-use Rattle.cli_run.specs.Faults.{memory, no_user, status_of, run_fault_line, troubles, AreTold, IsSudden, IsHindered, IsPrinted}
+use Rattle.cli_run.specs.Faults.{memory, no_user, status_of, run_fault_line, faults_told, AreTold, IsSudden, IsHindered, IsPrinted}
 use Rattle.cli_run.specs.Promise.{first_line, world_of_accounts, status_after}
 use Rattle.cli_run.specs.Streams.{ReadsAll, AppendsSome, InputFailed, IsWritten}
+use Rattle.cli_run.specs.Transitions.{StreamMove, TablesMove}
 use Rattle.cli_run.specs.TryScript.{Tries}
 use Rattle.cli_run.specs.Values.{IsNoNumber, IsNoUntil, IsSalt, HasNoSalt, IsWhen, HasNoWhen, IsSeparator, HasNoSeparator, envelope_with}
 use Rattle.cli_run.specs.declared.fault.RunFault.{RunFault}
+use Rattle.sieve_exec.specs.declared.envelope.Envelope.{Envelope}
 use Rattle.sieve_exec.specs.declared.when.When.{When}
 use Rattle.cli_run.specs.declared.fault.RunFault.TheVariants.{Refused, Stream, NoMessage, NoScript, Invalid, BadInput, BadArgument}
 
 -- ---- how a subcommand ends, whatever it does
 
 -- it was done: the accounts became these, and the text that reports it is printed like this
-pub record IsDoneAndPrinted (Deed : Accounts → Accounts → List ℕ → Type 0) (IsPrinted : List ℕ → Type 0) (accounts later : Accounts) : Type 0 where
+pub record IsDoneAndPrinted (Effect : Accounts → Accounts → List ℕ → Type 0) (IsPrinted : List ℕ → Type 0) (accounts later : Accounts) : Type 0 where
   pub text : List ℕ
-  pub deed : Deed accounts later text
+  pub effect : Effect accounts later text
   pub printed : IsPrinted text
 
 -- nothing was done and nothing printed, for a cause
@@ -78,8 +78,8 @@ pub record IsUndone (Cause : RunFault → Accounts → Type 0) (old new : Option
 
 -- after Ok it was done, and all of the text is printed; after a fault it wasn't, or it was, and a write of the text failed
 abbrev pub FinishesPrinted : (Accounts → Accounts → List ℕ → Type 0) → (RunFault → Accounts → Type 0) → Option (List ℕ) → Option (List ℕ) → Result (Unit {0}) RunFault → Accounts → Accounts → Type 0
-FinishesPrinted Deed Cause old new (Ok done) accounts later = IsDoneAndPrinted Deed (IsPrinted (Ok tt) old new) accounts later
-FinishesPrinted Deed Cause old new (Err fault) accounts later = IsUndone Cause old new fault accounts later ⊎ IsDoneAndPrinted Deed (IsPrinted (Err fault) old new) accounts later
+FinishesPrinted Effect Cause old new (Ok done) accounts later = IsDoneAndPrinted Effect (IsPrinted (Ok tt) old new) accounts later
+FinishesPrinted Effect Cause old new (Err fault) accounts later = IsUndone Cause old new fault accounts later ⊎ IsDoneAndPrinted Effect (IsPrinted (Err fault) old new) accounts later
 
 -- ---- subcommands that are an event of the machine
 
@@ -97,11 +97,11 @@ pub record IsPasswdEvent (digits random : Option (List ℕ)) (user : List ℕ) (
   pub read : ReadsAll given octets
   pub salt : List ℕ
   pub salted : IsSalt digits random salt
-  pub same : event ≡ Keep user (upkeep.SetPassword salt (first_line octets))
+  pub same : event ≡ DoUpkeep user (upkeep.SetPassword salt (first_line octets))
 
 -- `address`, `open`, `remove`: this is done to the user's account
 abbrev pub IsUpkeepEvent : List ℕ → Upkeep → Event → Type 0
-IsUpkeepEvent user upkeep event = event ≡ Keep user upkeep
+IsUpkeepEvent user upkeep event = event ≡ DoUpkeep user upkeep
 
 -- no text is checked, so it is done or refused
 abbrev pub IsPlainUpkeep : Upkeep → Type 0
@@ -125,18 +125,18 @@ upkeep_answer (upkeep.TakeNotices until) = answer.NoticesTaken
 
 -- `deliver`: all that was read is for the user, with these addresses, at the moment in the arguments or of the clock and in the zone of the
 -- arguments, by a host with this default script
-pub record IsDeliverEvent (from to : List ℕ) (at zone : Option (List ℕ)) (user : List ℕ) (clock : Option ℕ) (default given : Option (List ℕ)) (event : Event) : Type 0 where
+pub record IsDeliverEvent (envelope : Envelope) (at zone : Option (List ℕ)) (user : List ℕ) (clock : Option ℕ) (default given : Option (List ℕ)) (event : Event) : Type 0 where
   pub message : List ℕ
   pub read : ReadsAll given message
   pub when : When
   pub dated : IsWhen at zone clock when
-  pub same : event ≡ Deliver user (envelope_with from to) message when default
+  pub same : event ≡ Deliver user envelope message when default
 
 -- `put`: all that was read is the text of the user's script with this name
 pub record IsPutEvent (user name : List ℕ) (activate : Bool) (given : Option (List ℕ)) (event : Event) : Type 0 where
   pub text : List ℕ
   pub read : ReadsAll given text
-  pub same : event ≡ Keep user (upkeep.StoreScript name text activate)
+  pub same : event ≡ DoUpkeep user (upkeep.StoreScript name text activate)
 
 -- it was stored, or is no script, or the machine's refusal is the fault
 abbrev pub IsStoredBy : Answer → Result (Option ScriptFault) RunFault → Type 0
@@ -169,10 +169,10 @@ TellsEvent (AddUser name address salt password) answer.Added text = text ≡ end
 TellsEvent (Deliver user envelope message when default) (answer.Delivered report) text = text ≡ delivery_report report
 TellsEvent (Import file) answer.Imported text = text ≡ ended_line (codes "imported " ++ file.head.owner.name)
 TellsEvent (TakeOut user id) (answer.Taken row) text = text ≡ ended_line (codes "taken " ++ decimal id)
-TellsEvent (Keep user upkeep) answer.Changed text = text ≡ ended_line (codes "changed " ++ user)
-TellsEvent (Keep user upkeep) answer.Stored text = text ≡ ended_line (codes "stored " ++ script_of upkeep)
-TellsEvent (Keep user upkeep) answer.Opened text = text ≡ ended_line (codes "opened " ++ user)
-TellsEvent (Keep user upkeep) answer.Removed text = text ≡ ended_line (codes "removed " ++ user)
+TellsEvent (DoUpkeep user upkeep) answer.Changed text = text ≡ ended_line (codes "changed " ++ user)
+TellsEvent (DoUpkeep user upkeep) answer.Stored text = text ≡ ended_line (codes "stored " ++ script_of upkeep)
+TellsEvent (DoUpkeep user upkeep) answer.Opened text = text ≡ ended_line (codes "opened " ++ user)
+TellsEvent (DoUpkeep user upkeep) answer.Removed text = text ≡ ended_line (codes "removed " ++ user)
 TellsEvent event answer text = ⊥
 
 -- an event of the subcommand's own was made, and this reports it
@@ -198,16 +198,18 @@ Puts Denied event told (Ok x) accounts later = Next (world_of_accounts accounts)
 Puts Denied event told (Err fault) accounts later = (later ≡ accounts) × (IsHindered ⊥ ⊥ Denied fault ⊎ RefusesEvent (λ e. e ≡ event) fault accounts)
 
 -- the subcommand over tables: an event of its own
-abbrev pub DoesEvent : Type 0 → Type 0 → (RunFault → Type 0) → (Event → Type 0) → Option (List ℕ) → Option (List ℕ) → Result (Unit {0}) RunFault → Database → Database → Type 0
-DoesEvent Broken Wrong Denied Own old new result = TurnsTables (FinishesPrinted (MakesEvent Own) (λ fault accounts. IsHindered Broken Wrong Denied fault ⊎ RefusesEvent Own fault accounts) old new result)
+abbrev pub DoesEvent : Type 0 → Type 0 → (RunFault → Type 0) → (Event → Type 0) → StreamMove → Result (Unit {0}) RunFault → TablesMove → Type 0
+DoesEvent Broken Wrong Denied Own output result tables =
+    TurnsTables (FinishesPrinted (MakesEvent Own) (λ fault accounts. IsHindered Broken Wrong Denied fault ⊎ RefusesEvent Own fault accounts) output.old output.new result)
+    tables.old tables.new
 
 -- ---- `put`, whose text may be no script
 
 -- a script was given to the machine: it was stored; or its text is none, and no account changed; or it is refused, or the subcommand was hindered
 abbrev pub PutsScript : (RunFault → Type 0) → List ℕ → Upkeep → Result (Option ScriptFault) RunFault → Accounts → Accounts → Type 0
-PutsScript Denied user upkeep (Ok None) accounts later = Next (world_of_accounts accounts) (Keep user upkeep) answer.Stored (world_of_accounts later)
-PutsScript Denied user upkeep (Ok (Some fault)) accounts later = (later ≡ accounts) × Next (world_of_accounts accounts) (Keep user upkeep) (answer.Invalid fault) (world_of_accounts accounts)
-PutsScript Denied user upkeep (Err fault) accounts later = (later ≡ accounts) × (IsHindered ⊥ ⊥ Denied fault ⊎ RefusesEvent (λ e. e ≡ Keep user upkeep) fault accounts)
+PutsScript Denied user upkeep (Ok None) accounts later = Next (world_of_accounts accounts) (DoUpkeep user upkeep) answer.Stored (world_of_accounts later)
+PutsScript Denied user upkeep (Ok (Some fault)) accounts later = (later ≡ accounts) × Next (world_of_accounts accounts) (DoUpkeep user upkeep) (answer.Invalid fault) (world_of_accounts accounts)
+PutsScript Denied user upkeep (Err fault) accounts later = (later ≡ accounts) × (IsHindered ⊥ ⊥ Denied fault ⊎ RefusesEvent (λ e. e ≡ DoUpkeep user upkeep) fault accounts)
 
 -- the line on a script's fault is printed whole, and the subcommand's fault is that the script isn't valid; or there was no memory for the line, or
 -- a write of it failed
@@ -233,10 +235,12 @@ pub record RefusesScript (Own : Event → Type 0) (old new : Option (List ℕ)) 
   pub told : TellsInvalid fault old new result
 
 -- the subcommand over tables
-abbrev pub DoesPut : (RunFault → Type 0) → (Event → Type 0) → Option (List ℕ) → Option (List ℕ) → Result (Unit {0}) RunFault → Database → Database → Type 0
-DoesPut Denied Own old new result =
+abbrev pub DoesPut : (RunFault → Type 0) → (Event → Type 0) → StreamMove → Result (Unit {0}) RunFault → TablesMove → Type 0
+DoesPut Denied Own output result tables =
     TurnsTables (λ accounts later.
-    FinishesPrinted (MakesEvent Own) (λ fault all. IsHindered InputFailed ⊥ Denied fault ⊎ RefusesEvent Own fault all) old new result accounts later ⊎ RefusesScript Own old new result accounts later)
+    FinishesPrinted (MakesEvent Own) (λ fault all. IsHindered InputFailed ⊥ Denied fault ⊎ RefusesEvent Own fault all) output.old output.new result accounts later
+    ⊎ RefusesScript Own output.old output.new result accounts later)
+    tables.old tables.new
 
 -- ---- `import`, whose text may not be that of an account
 
@@ -256,10 +260,12 @@ pub record RefusesText (given old new : Option (List ℕ)) (result : Result (Uni
   pub silent : Keeps old new
 
 -- the subcommand over tables
-abbrev pub DoesImport : (RunFault → Type 0) → Option (List ℕ) → Option (List ℕ) → Option (List ℕ) → Result (Unit {0}) RunFault → Database → Database → Type 0
-DoesImport Denied given old new result =
+abbrev pub DoesImport : (RunFault → Type 0) → Option (List ℕ) → StreamMove → Result (Unit {0}) RunFault → TablesMove → Type 0
+DoesImport Denied given output result tables =
     TurnsTables (λ accounts later.
-    FinishesPrinted (MakesEvent (IsImportEvent given)) (λ fault all. IsHindered InputFailed ⊥ Denied fault ⊎ RefusesEvent (IsImportEvent given) fault all) old new result accounts later ⊎ RefusesText given old new result accounts later)
+    FinishesPrinted (MakesEvent (IsImportEvent given)) (λ fault all. IsHindered InputFailed ⊥ Denied fault ⊎ RefusesEvent (IsImportEvent given) fault all) output.old output.new result accounts later
+    ⊎ RefusesText given output.old output.new result accounts later)
+    tables.old tables.new
 
 -- ---- subcommands that only read
 
@@ -278,9 +284,19 @@ FindsIn Denied user Finds (Err fault) accounts = IsHindered ⊥ ⊥ Denied fault
 abbrev pub ShowsNothing : Type 0 → (RunFault → Type 0) → List ℕ → (RunFault → Account → Type 0) → RunFault → Accounts → Type 0
 ShowsNothing Wrong Denied user Lacks fault accounts = IsHindered ⊥ Wrong Denied fault ⊎ ((fault ≡ no_user) × HasNoOpen user accounts × (Wrong → ⊥)) ⊎ OfOpen accounts user (Lacks fault)
 
+-- what is asked of a user's account: this text shows it, and this fault says that it isn't there
+pub record AccountPart : Type 1 where
+  pub user : List ℕ
+  pub shows : Account → List ℕ → Type 0
+  pub lacks : RunFault → Account → Type 0
+
+abbrev pub account_part : List ℕ → (Account → List ℕ → Type 0) → (RunFault → Account → Type 0) → AccountPart
+account_part user shows lacks = record { user = user; shows = shows; lacks = lacks }
+
 -- the subcommand over tables: it shows a part of the user's account
-abbrev pub DoesRead : Type 0 → (RunFault → Type 0) → List ℕ → (Account → List ℕ → Type 0) → (RunFault → Account → Type 0) → Option (List ℕ) → Option (List ℕ) → Result (Unit {0}) RunFault → Database → Database → Type 0
-DoesRead Wrong Denied user IsShown Lacks old new result = TurnsTables (FinishesPrinted (Shows user IsShown) (ShowsNothing Wrong Denied user Lacks) old new result)
+abbrev pub DoesRead : Type 0 → (RunFault → Type 0) → AccountPart → StreamMove → Result (Unit {0}) RunFault → TablesMove → Type 0
+DoesRead Wrong Denied part output result tables =
+    TurnsTables (FinishesPrinted (Shows part.user part.shows) (ShowsNothing Wrong Denied part.user part.lacks) output.old output.new result) tables.old tables.new
 
 -- a folder's name and the number of its messages, in a line
 abbrev pub folder_line : List ℕ × ℕ → List ℕ
@@ -382,8 +398,8 @@ pub record ListsUsers (accounts later : Accounts) (text : List ℕ) : Type 0 whe
   pub listed : text ≡ user_listing (entries accounts)
 
 -- the subcommand over tables: the users are listed, or it was hindered
-abbrev pub DoesUsers : (RunFault → Type 0) → Option (List ℕ) → Option (List ℕ) → Result (Unit {0}) RunFault → Database → Database → Type 0
-DoesUsers Denied old new result = TurnsTables (FinishesPrinted ListsUsers (λ fault accounts. IsHindered ⊥ ⊥ Denied fault) old new result)
+abbrev pub DoesUsers : (RunFault → Type 0) → StreamMove → Result (Unit {0}) RunFault → TablesMove → Type 0
+DoesUsers Denied output result tables = TurnsTables (FinishesPrinted ListsUsers (λ fault accounts. IsHindered ⊥ ⊥ Denied fault) output.old output.new result) tables.old tables.new
 
 -- what was read of all accounts: they are listed, or the subcommand was hindered
 abbrev pub FindsUsers : (RunFault → Type 0) → Result (List ℕ) RunFault → Accounts → Type 0
@@ -416,7 +432,7 @@ ListsUntil until a text = text ≡ notice_listing (notices_until until a.notices
 
 -- the event that takes them
 abbrev pub taking : List ℕ → ℕ → Event
-taking user until = Keep user (upkeep.TakeNotices until)
+taking user until = DoUpkeep user (upkeep.TakeNotices until)
 
 -- nothing could be shown, and nothing is printed: memory was refused, the store failed, or there is no open account of the name
 abbrev pub IsUnlisted : List ℕ → Option (List ℕ) → Option (List ℕ) → RunFault → Accounts → Type 0
@@ -440,15 +456,17 @@ IsKeptFrom Wrong Denied old new (Ok done) accounts later = ⊥
 IsKeptFrom Wrong Denied old new (Err fault) accounts later = IsHindered ⊥ Wrong Denied fault × (later ≡ accounts) × Keeps old new
 
 -- `notices --until` over tables: those up to the moment that these digits write
-abbrev pub TakesNotices : (RunFault → Type 0) → Option (List ℕ) → Option (List ℕ) → List ℕ → List ℕ → Result (Unit {0}) RunFault → Database → Database → Type 0
-TakesNotices Denied old new user digits result =
-    TurnsTables (λ accounts later. IsKeptFrom (IsNoUntil digits) Denied old new result accounts later ⊎ ((until : ℕ) × Writes digits until × TakesListed user until old new result accounts later))
+abbrev pub TakesNotices : (RunFault → Type 0) → List ℕ → List ℕ → StreamMove → Result (Unit {0}) RunFault → TablesMove → Type 0
+TakesNotices Denied user digits output result tables =
+    TurnsTables (λ accounts later. IsKeptFrom (IsNoUntil digits) Denied output.old output.new result accounts later
+    ⊎ ((until : ℕ) × Writes digits until × TakesListed user until output.old output.new result accounts later))
+    tables.old tables.new
 
 -- ---- `export`, which may close the account whose text it printed
 
 -- the event that closes it
 abbrev pub closing : List ℕ → Event
-closing user = Keep user upkeep.CloseAccount
+closing user = DoUpkeep user upkeep.CloseAccount
 
 -- the text of the user's open account is written whole, and flushed
 abbrev pub HasExported : List ℕ → Option (List ℕ) → Option (List ℕ) → Accounts → Type 0
@@ -481,47 +499,50 @@ Exports closes user old new (Err fault) accounts later =
     (later ≡ accounts) × (IsUnprinted user old new fault accounts ⊎ IsCloseFailed closes user old new fault accounts)
 
 -- the subcommand over tables
-abbrev pub DoesExport : (RunFault → Type 0) → Option (List ℕ) → Option (List ℕ) → Bool → List ℕ → Result (Unit {0}) RunFault → Database → Database → Type 0
-DoesExport Denied old new closes user result = TurnsTables (λ accounts later. IsKeptFrom ⊥ Denied old new result accounts later ⊎ Exports closes user old new result accounts later)
+abbrev pub DoesExport : (RunFault → Type 0) → Bool → List ℕ → StreamMove → Result (Unit {0}) RunFault → TablesMove → Type 0
+DoesExport Denied closes user output result tables =
+    TurnsTables (λ accounts later. IsKeptFrom ⊥ Denied output.old output.new result accounts later ⊎ Exports closes user output.old output.new result accounts later)
+    tables.old tables.new
 
 -- ---- `init`
 
 -- if there was no table, there is a store without accounts then; after a fault only if the output failed
-abbrev pub DoesInit : (RunFault → Type 0) → Option (List ℕ) → Option (List ℕ) → Result (Unit {0}) RunFault → Database → Database → Type 0
-DoesInit Denied out_old out_new (Ok done) old new = (old.schema ≡ no_schema) × Presents new no_accounts × IsPrinted (Ok tt) out_old out_new (codes "ready\n")
-DoesInit Denied out_old out_new (Err fault) old new =
-    (IsHindered ⊥ ⊥ Denied fault × (new ≡ old) × Keeps out_old out_new) ⊎ ((old.schema ≡ no_schema) × Presents new no_accounts × IsPrinted (Err fault) out_old out_new (codes "ready\n"))
+abbrev pub DoesInit : (RunFault → Type 0) → StreamMove → Result (Unit {0}) RunFault → TablesMove → Type 0
+DoesInit Denied output (Ok done) tables = (tables.old.schema ≡ no_schema) × Presents tables.new no_accounts × IsPrinted (Ok tt) output.old output.new (codes "ready\n")
+DoesInit Denied output (Err fault) tables =
+    (IsHindered ⊥ ⊥ Denied fault × (tables.new ≡ tables.old) × Keeps output.old output.new)
+    ⊎ ((tables.old.schema ≡ no_schema) × Presents tables.new no_accounts × IsPrinted (Err fault) output.old output.new (codes "ready\n"))
 
 -- ---- the subcommands
 
 -- nothing is done here
-abbrev pub DoesNothing : Option (List ℕ) → Option (List ℕ) → Result (Unit {0}) RunFault → Database → Database → Type 0
-DoesNothing out_old out_new result old new = (result ≡ Err BadArgument) × (new ≡ old) × Keeps out_old out_new
+abbrev pub DoesNothing : StreamMove → Result (Unit {0}) RunFault → TablesMove → Type 0
+DoesNothing output result tables = (result ≡ Err BadArgument) × (tables.new ≡ tables.old) × Keeps output.old output.new
 
 -- `folders`: directories in a Maildir are shown if they are asked for, and only then may a separator of levels be given
-abbrev pub DoesFolders : (RunFault → Type 0) → Option (List ℕ) → Option (List ℕ) → List ℕ → Bool → Option (List ℕ) → Result (Unit {0}) RunFault → Database → Database → Type 0
-DoesFolders Denied out_old out_new user true levels result = DoesRead (HasNoSeparator levels) Denied user (ListsDirectories levels) LacksNothing out_old out_new result
-DoesFolders Denied out_old out_new user false None result = DoesRead ⊥ Denied user (ListsFolders folder_line) LacksNothing out_old out_new result
-DoesFolders Denied out_old out_new user false (Some levels) result = DoesNothing out_old out_new result
+abbrev pub DoesFolders : (RunFault → Type 0) → List ℕ → Bool → Option (List ℕ) → StreamMove → Result (Unit {0}) RunFault → TablesMove → Type 0
+DoesFolders Denied user true levels output result tables = DoesRead (HasNoSeparator levels) Denied (account_part user (ListsDirectories levels) LacksNothing) output result tables
+DoesFolders Denied user false None output result tables = DoesRead ⊥ Denied (account_part user (ListsFolders folder_line) LacksNothing) output result tables
+DoesFolders Denied user false (Some levels) output result tables = DoesNothing output result tables
 
 -- `queue`: all that is on its way out, or one message of it
-abbrev pub DoesQueue : (RunFault → Type 0) → Option (List ℕ) → Option (List ℕ) → List ℕ → Option (List ℕ) → Result (Unit {0}) RunFault → Database → Database → Type 0
-DoesQueue Denied out_old out_new user None result = DoesRead ⊥ Denied user ListsQueue LacksNothing out_old out_new result
-DoesQueue Denied out_old out_new user (Some digits) result = DoesRead (IsNoNumber digits) Denied user (ShowsOutgoing digits) (LacksOutgoing digits) out_old out_new result
+abbrev pub DoesQueue : (RunFault → Type 0) → List ℕ → Option (List ℕ) → StreamMove → Result (Unit {0}) RunFault → TablesMove → Type 0
+DoesQueue Denied user None output result tables = DoesRead ⊥ Denied (account_part user ListsQueue LacksNothing) output result tables
+DoesQueue Denied user (Some digits) output result tables = DoesRead (IsNoNumber digits) Denied (account_part user (ShowsOutgoing digits) (LacksOutgoing digits)) output result tables
 
 -- `scripts`: all, or one of them
-abbrev pub DoesScripts : (RunFault → Type 0) → Option (List ℕ) → Option (List ℕ) → List ℕ → Option (List ℕ) → Result (Unit {0}) RunFault → Database → Database → Type 0
-DoesScripts Denied out_old out_new user None result = DoesRead ⊥ Denied user ListsScripts LacksNothing out_old out_new result
-DoesScripts Denied out_old out_new user (Some name) result = DoesRead ⊥ Denied user (ShowsScript name) (LacksScript name) out_old out_new result
+abbrev pub DoesScripts : (RunFault → Type 0) → List ℕ → Option (List ℕ) → StreamMove → Result (Unit {0}) RunFault → TablesMove → Type 0
+DoesScripts Denied user None output result tables = DoesRead ⊥ Denied (account_part user ListsScripts LacksNothing) output result tables
+DoesScripts Denied user (Some name) output result tables = DoesRead ⊥ Denied (account_part user (ShowsScript name) (LacksScript name)) output result tables
 
 -- `notices`: all are listed; or those up to a moment are, and taken
-abbrev pub DoesNotices : (RunFault → Type 0) → Option (List ℕ) → Option (List ℕ) → List ℕ → Option (List ℕ) → Result (Unit {0}) RunFault → Database → Database → Type 0
-DoesNotices Denied out_old out_new user None result = DoesRead ⊥ Denied user ListsNotices LacksNothing out_old out_new result
-DoesNotices Denied out_old out_new user (Some digits) result = TakesNotices Denied out_old out_new user digits result
+abbrev pub DoesNotices : (RunFault → Type 0) → List ℕ → Option (List ℕ) → StreamMove → Result (Unit {0}) RunFault → TablesMove → Type 0
+DoesNotices Denied user None output result tables = DoesRead ⊥ Denied (account_part user ListsNotices LacksNothing) output result tables
+DoesNotices Denied user (Some digits) output result tables = TakesNotices Denied user digits output result tables
 
 -- what `deliver` reads broke: its input, or the clock, whose moment it takes if the arguments have none
-abbrev pub PostFailed : Option (List ℕ) → Option ℕ → Type 0
-PostFailed at clock = InputFailed ⊎ ((at ≡ None) × (clock ≡ None))
+abbrev pub DeliverInputFailed : Option (List ℕ) → Option ℕ → Type 0
+DeliverInputFailed at clock = InputFailed ⊎ ((at ≡ None) × (clock ≡ None))
 
 -- what `adduser` and `passwd` read broke: their input, or the system's random octets, which are the salt if the arguments have none
 abbrev pub SaltFailed : Option (List ℕ) → Option (List ℕ) → Type 0
@@ -531,47 +552,58 @@ SaltFailed digits random = InputFailed ⊎ ((digits ≡ None) × (random ≡ Non
 abbrev pub DeniedAtEnd : (RunFault → Type 0) → Option (List ℕ) → RunFault → Type 0
 DeniedAtEnd Denied left fault = Denied fault × IsAtEnd left
 
--- who denies the store at a place, why a sink refused, the clock, the system's random octets, what was to be read and what is left of it, whether a
--- sink tells what it keeps and what that was and is, and the output before and after
-module _ (Denied : StoreLocation → RunFault → Type 0) (Sunk : SinkError → Type 0) (clock : Option ℕ) (random default : Option (List ℕ)) (given left : Option (List ℕ)) (tells : Bool) (had has : List KeptMail) (out_old out_new : Option (List ℕ)) where
+-- what surrounds a run: why the store at a place is denied, why a sink refuses, the clock, the system's random octets, and the text of the
+-- script for accounts without an active one
+pub record Surroundings : Type 1 where
+  pub denied : StoreLocation → RunFault → Type 0
+  pub sunk : SinkError → Type 0
+  pub clock : Option ℕ
+  pub random : Option (List ℕ)
+  pub default : Option (List ℕ)
+
+abbrev pub surroundings : (StoreLocation → RunFault → Type 0) → (SinkError → Type 0) → Option ℕ → Option (List ℕ) → Option (List ℕ) → Surroundings
+surroundings denied sunk clock random default = record { denied = denied; sunk = sunk; clock = clock; random = random; default = default }
+
+-- what was to be read and what is left of it, what the sink kept, and the output
+module _ (around : Surroundings) (input : StreamMove) (sink : SinkMails) (output : StreamMove) where
   -- no message came to the sink, and nothing of the input was read
   abbrev pub Idle : Type 0
-  Idle = StaysAsItWas tells had has × (left ≡ given)
+  Idle = StaysAsItWas sink.tells sink.had sink.has × (input.new ≡ input.old)
 
   -- each subcommand does its own work; only `init` makes a store, only `drain` moves messages into the sink, and only `adduser`, `passwd`, `put`,
   -- `import` and `deliver` read
-  abbrev pub DoesSubcommand : Subcommand → Result (Unit {0}) RunFault → Database → Database → Type 0
-  DoesSubcommand (word.Init a) result old new = Idle × DoesInit (Denied a.location) out_old out_new result old new
-  DoesSubcommand (word.AddUser a) result old new =
-      StaysAsItWas tells had has × DoesEvent (SaltFailed (option_copied a.salt) random) (HasNoSalt (option_copied a.salt)) (DeniedAtEnd (Denied a.location) left) (IsAddUserEvent (option_copied a.salt) random a.name.now a.address.now given) out_old out_new result old new
-  DoesSubcommand (word.Users a) result old new = Idle × DoesUsers (Denied a.location) out_old out_new result old new
-  DoesSubcommand (word.Passwd a) result old new =
-      StaysAsItWas tells had has
-      × DoesEvent (SaltFailed (option_copied a.salt) random) (HasNoSalt (option_copied a.salt)) (DeniedAtEnd (Denied a.location) left) (IsPasswdEvent (option_copied a.salt) random a.user.now given) out_old out_new result old new
-  DoesSubcommand (word.Address a) result old new = Idle × DoesEvent ⊥ ⊥ (Denied a.location) (IsUpkeepEvent a.user.now (upkeep.SetAddress a.address.now)) out_old out_new result old new
-  DoesSubcommand (word.Scripts a) result old new = Idle × DoesScripts (Denied a.location) out_old out_new a.user.now (option_copied a.script) result old new
-  DoesSubcommand (word.Put a) result old new = StaysAsItWas tells had has × DoesPut (DeniedAtEnd (Denied a.location) left) (IsPutEvent a.user.now a.script.now a.activate given) out_old out_new result old new
-  DoesSubcommand (word.Open a) result old new = Idle × DoesEvent ⊥ ⊥ (Denied a.location) (IsUpkeepEvent a.user.now upkeep.OpenAccount) out_old out_new result old new
-  DoesSubcommand (word.Remove a) result old new = Idle × DoesEvent ⊥ ⊥ (Denied a.location) (IsUpkeepEvent a.user.now (upkeep.RemoveAccount a.mail)) out_old out_new result old new
-  DoesSubcommand (word.Export a) result old new = Idle × DoesExport (Denied a.location) out_old out_new a.and_close a.user.now result old new
-  DoesSubcommand (word.Import a) result old new = StaysAsItWas tells had has × DoesImport (DeniedAtEnd (Denied a.location) left) given out_old out_new result old new
-  DoesSubcommand (word.Deliver a) result old new =
-      StaysAsItWas tells had has
-      × DoesEvent (PostFailed (option_copied a.at) clock) (HasNoWhen (option_copied a.at) (option_copied a.zone)) (DeniedAtEnd (Denied a.location) left)
-      (IsDeliverEvent a.from.now a.to.now (option_copied a.at) (option_copied a.zone) a.user.now clock default given) out_old out_new result old new
-  DoesSubcommand (word.Done a) result old new = Idle × DoesEvent ⊥ (IsNoNumber a.id.now) (Denied a.location) (IsDoneEvent a.user.now a.id.now) out_old out_new result old new
-  DoesSubcommand (word.Drain a) result old new = (left ≡ given) × HasDrained Sunk (Denied a.location) a tells had has out_old out_new result old new
-  DoesSubcommand (word.Folders a) result old new = Idle × DoesFolders (Denied a.location) out_old out_new a.user.now a.directories (option_copied a.separator) result old new
-  DoesSubcommand (word.Show a) result old new =
-      Idle × DoesRead (IsNoNumber a.number.now) (Denied a.location) a.user.now (ShowsMessage a.folder.now a.number.now) (LacksMessage a.folder.now a.number.now) out_old out_new result old new
-  DoesSubcommand (word.Queue a) result old new = Idle × DoesQueue (Denied a.location) out_old out_new a.user.now (option_copied a.id) result old new
-  DoesSubcommand (word.Notices a) result old new = Idle × DoesNotices (Denied a.location) out_old out_new a.user.now (option_copied a.until) result old new
-  DoesSubcommand (word.Try a) result old new = Idle × DoesNothing out_old out_new result old new
-  DoesSubcommand (word.Send a) result old new = Idle × DoesNothing out_old out_new result old new
-  DoesSubcommand (word.Serve a) result old new = Idle × DoesNothing out_old out_new result old new
-  DoesSubcommand (word.Session a) result old new = Idle × DoesNothing out_old out_new result old new
-  DoesSubcommand (word.Daemon a) result old new = Idle × DoesNothing out_old out_new result old new
-  DoesSubcommand (word.Check a) result old new = Idle × DoesNothing out_old out_new result old new
+  abbrev pub DoesSubcommand : Subcommand → Result (Unit {0}) RunFault → TablesMove → Type 0
+  DoesSubcommand (word.Init a) result tables = Idle × DoesInit (around.denied a.location) output result tables
+  DoesSubcommand (word.AddUser a) result tables =
+      StaysAsItWas sink.tells sink.had sink.has × DoesEvent (SaltFailed (option_copied a.salt) around.random) (HasNoSalt (option_copied a.salt)) (DeniedAtEnd (around.denied a.location) input.new) (IsAddUserEvent (option_copied a.salt) around.random a.name.now a.address.now input.old) output result tables
+  DoesSubcommand (word.Users a) result tables = Idle × DoesUsers (around.denied a.location) output result tables
+  DoesSubcommand (word.Passwd a) result tables =
+      StaysAsItWas sink.tells sink.had sink.has
+      × DoesEvent (SaltFailed (option_copied a.salt) around.random) (HasNoSalt (option_copied a.salt)) (DeniedAtEnd (around.denied a.location) input.new) (IsPasswdEvent (option_copied a.salt) around.random a.user.now input.old) output result tables
+  DoesSubcommand (word.Address a) result tables = Idle × DoesEvent ⊥ ⊥ (around.denied a.location) (IsUpkeepEvent a.user.now (upkeep.SetAddress a.address.now)) output result tables
+  DoesSubcommand (word.Scripts a) result tables = Idle × DoesScripts (around.denied a.location) a.user.now (option_copied a.script) output result tables
+  DoesSubcommand (word.Put a) result tables = StaysAsItWas sink.tells sink.had sink.has × DoesPut (DeniedAtEnd (around.denied a.location) input.new) (IsPutEvent a.user.now a.script.now a.activate input.old) output result tables
+  DoesSubcommand (word.Open a) result tables = Idle × DoesEvent ⊥ ⊥ (around.denied a.location) (IsUpkeepEvent a.user.now upkeep.OpenAccount) output result tables
+  DoesSubcommand (word.Remove a) result tables = Idle × DoesEvent ⊥ ⊥ (around.denied a.location) (IsUpkeepEvent a.user.now (upkeep.RemoveAccount a.mail)) output result tables
+  DoesSubcommand (word.Export a) result tables = Idle × DoesExport (around.denied a.location) a.and_close a.user.now output result tables
+  DoesSubcommand (word.Import a) result tables = StaysAsItWas sink.tells sink.had sink.has × DoesImport (DeniedAtEnd (around.denied a.location) input.new) input.old output result tables
+  DoesSubcommand (word.Deliver a) result tables =
+      StaysAsItWas sink.tells sink.had sink.has
+      × DoesEvent (DeliverInputFailed (option_copied a.at) around.clock) (HasNoWhen (option_copied a.at) (option_copied a.zone)) (DeniedAtEnd (around.denied a.location) input.new)
+      (IsDeliverEvent (envelope_with a.from.now a.to.now) (option_copied a.at) (option_copied a.zone) a.user.now around.clock around.default input.old) output result tables
+  DoesSubcommand (word.Done a) result tables = Idle × DoesEvent ⊥ (IsNoNumber a.id.now) (around.denied a.location) (IsDoneEvent a.user.now a.id.now) output result tables
+  DoesSubcommand (word.Drain a) result tables = (input.new ≡ input.old) × HasDrained around.sunk (around.denied a.location) a sink output result tables
+  DoesSubcommand (word.Folders a) result tables = Idle × DoesFolders (around.denied a.location) a.user.now a.directories (option_copied a.separator) output result tables
+  DoesSubcommand (word.Show a) result tables =
+      Idle × DoesRead (IsNoNumber a.number.now) (around.denied a.location) (account_part a.user.now (ShowsMessage a.folder.now a.number.now) (LacksMessage a.folder.now a.number.now)) output result tables
+  DoesSubcommand (word.Queue a) result tables = Idle × DoesQueue (around.denied a.location) a.user.now (option_copied a.id) output result tables
+  DoesSubcommand (word.Notices a) result tables = Idle × DoesNotices (around.denied a.location) a.user.now (option_copied a.until) output result tables
+  DoesSubcommand (word.Try a) result tables = Idle × DoesNothing output result tables
+  DoesSubcommand (word.Send a) result tables = Idle × DoesNothing output result tables
+  DoesSubcommand (word.Serve a) result tables = Idle × DoesNothing output result tables
+  DoesSubcommand (word.Session a) result tables = Idle × DoesNothing output result tables
+  DoesSubcommand (word.Daemon a) result tables = Idle × DoesNothing output result tables
+  DoesSubcommand (word.Check a) result tables = Idle × DoesNothing output result tables
 
 -- the store that a subcommand works on, and for `drain` the Maildir, are those that it names, and the store was waited for as it says
 abbrev pub ReachesStore : (StoreLocation → Type 0) → (List ℕ → Type 0) → Subcommand → Type 0
@@ -603,8 +635,8 @@ ReachesStore Given At (word.Check a) = Unit {0}
 -- ---- a run of the program
 
 -- no table changed, and no message came to the sink
-abbrev pub TouchesNothing : Bool → List KeptMail → List KeptMail → Database → Database → Type 0
-TouchesNothing tells had has old new = StaysAsItWas tells had has × (new ≡ old)
+abbrev pub TouchesNothing : SinkMails → TablesMove → Type 0
+TouchesNothing sink tables = StaysAsItWas sink.tells sink.had sink.has × (tables.new ≡ tables.old)
 
 -- `clap` says that the arguments are wrong; else it shows help or a version
 abbrev pub IsMistake : Error → Type 0
@@ -651,16 +683,36 @@ pub record RunsSubcommand (Did : Result (Unit {0}) RunFault → Type 0) (Reached
   pub ending : Result (Unit {0}) RunFault
   pub ended : status ≡ status_after ending
   pub unclosed : Option Refusal
-  pub told : AreTold err_old err_new cause (troubles unclosed ending)
+  pub told : AreTold err_old err_new cause (faults_told unclosed ending)
   pub did : Did ending
   pub reached : OnOk ending Reached
 
-module _ (Denied : StoreLocation → RunFault → Type 0) (Sunk : SinkError → Type 0) (Given : StoreLocation → Type 0) (At : List ℕ → Type 0) (cause : RunFault → Option (List ℕ)) (clock : Option ℕ) (random default : Option (List ℕ)) (given left : Option (List ℕ)) (tells : Bool) (had has : List KeptMail) (out_old out_new err_old err_new : Option (List ℕ)) (status : ℕ) (old new : Database) where
+-- what a run came to: the store that it was given, the place of its sink, and the cause of a fault
+pub record Reached : Type 1 where
+  pub given : StoreLocation → Type 0
+  pub at : List ℕ → Type 0
+  pub cause : RunFault → Option (List ℕ)
+
+abbrev pub run_reached : (StoreLocation → Type 0) → (List ℕ → Type 0) → (RunFault → Option (List ℕ)) → Reached
+run_reached given at cause = record { given = given; at = at; cause = cause }
+
+-- what was to be read and what is left of it, and what was written
+pub record RunStreams : Type 0 where
+  pub input : StreamMove
+  pub output : StreamMove
+  pub errors : StreamMove
+
+abbrev pub run_streams : StreamMove → StreamMove → StreamMove → RunStreams
+run_streams input output errors = record { input = input; output = output; errors = errors }
+
+module _ (around : Surroundings) (end : Reached) (streams : RunStreams) (sink : SinkMails) (status : ℕ) (tables : TablesMove) where
   -- what arguments that were read like this do: a script was tried; a subcommand did its work; or they ask for nothing, which is reported
   abbrev pub RunsAs : Result Subcommand ArgsError → Type 0
-  RunsAs (Ok (word.Try a)) = Tries (option_copied a.at) (option_copied a.zone) clock (envelope_with a.from.now a.to.now) given out_old out_new err_old err_new status × TouchesNothing tells had has old new
-  RunsAs (Ok asked) = RunsSubcommand (λ ending. DoesSubcommand Denied Sunk clock random default given left tells had has out_old out_new asked ending old new) (ReachesStore Given At asked) cause err_old err_new status
-  RunsAs (Err error) = TellsArgsError error out_old out_new err_old err_new status × TouchesNothing tells had has old new × (left ≡ given)
+  RunsAs (Ok (word.Try a)) = Tries a around.clock streams.input.old streams.output streams.errors status × TouchesNothing sink tables
+  RunsAs (Ok asked) =
+      RunsSubcommand (λ ending. DoesSubcommand around streams.input sink streams.output asked ending tables) (ReachesStore end.given end.at asked) end.cause streams.errors.old streams.errors.new status
+  RunsAs (Err error) =
+      TellsArgsError error streams.output.old streams.output.new streams.errors.old streams.errors.new status × TouchesNothing sink tables × (streams.input.new ≡ streams.input.old)
 
   -- a run of the program with these arguments
   abbrev pub RunsWords : RawArgs → Type 0

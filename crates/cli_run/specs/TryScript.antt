@@ -1,5 +1,5 @@
 -- What a run on an input leaves on the output.
-use Rattle.std.specs.Prelude.{◌≡◌, ℕ, ◌+◌, ◌≤◌, ◌⊎◌, List, Option, Some, None, Result, Ok, Err}
+use Rattle.std.specs.Prelude.{◌≡◌, ℕ, ◌+◌, ◌≤◌, ◌⊎◌, List, Option, Some, None, option_copied, Result, Ok, Err}
 use Rattle.std.specs.Io.KnownBytes.{Keeps}
 use Rattle.sieve_lex.specs.declared.fault.FaultKind.{FaultKind}
 use Rattle.sieve_lex.specs.Faults.{fault_line}
@@ -8,6 +8,7 @@ use Rattle.store_engine.specs.Tree.{Commands}
 use Rattle.store_engine.specs.Means.{Means}
 use Rattle.sieve_exec.specs.declared.envelope.Envelope.{Envelope}
 use Rattle.sieve_exec.specs.declared.when.When.{When}
+use Rattle.cli_subcommands.specs.declared.subcommand.try_script.TryArgs.{TryArgs}
 use Rattle.sieve_exec.specs.Mails.{mail_spec_of}
 use Rattle.sieve_exec.specs.Outcomes.{outcome_at}
 use Rattle.cli_run.specs.declared.fault.RunFault.{RunFault}
@@ -17,7 +18,8 @@ use Rattle.cli_run.specs.declared.answer.TryAnswer.{TryAnswer}
 use Rattle.cli_run.specs.declared.answer.TryAnswer.TheVariants.{Report, Refusal}
 use Rattle.cli_run.specs.Faults.{status_of, run_fault_line, memory, IsPrinted}
 use Rattle.cli_run.specs.Framing.{IsFramed}
-use Rattle.cli_run.specs.Values.{IsWhen, HasNoWhen}
+use Rattle.cli_run.specs.Transitions.{StreamMove}
+use Rattle.cli_run.specs.Values.{IsWhen, HasNoWhen, envelope_with}
 use Rattle.cli_run.specs.Streams.{InputFailed, IsWriteCut, IsWritten}
 use Rattle.cli_reports.specs.Reports.{ended_line, outcome_report}
 
@@ -86,21 +88,20 @@ LeavesErrors old new (Ok _) = Keeps old new
 LeavesErrors old new (Err fault) = IsWritten old new (run_fault_line fault)
 
 -- a whole run: how it ended, its status, and what it left on the output and on the errors
-pub record RunsTry (envelope : Envelope) (when : When) (given : Option (List ℕ)) (output_old output_new errors_old errors_new : Option (List ℕ)) (status : ℕ) : Type 0 where
+pub record RunsTry (envelope : Envelope) (when : When) (given : Option (List ℕ)) (output errors : StreamMove) (status : ℕ) : Type 0 where
   pub ending : Result TryAnswer RunFault
   pub told : status ≡ status_at ending
-  pub output : LeavesOutput envelope when given output_old output_new ending
-  pub errors : LeavesErrors errors_old errors_new ending
+  pub left_output : LeavesOutput envelope when given output.old output.new ending
+  pub left_errors : LeavesErrors errors.old errors.new ending
 
 -- nothing was tried or printed, and this fault is reported
-abbrev pub TriesNothing : RunFault → Option (List ℕ) → Option (List ℕ) → Option (List ℕ) → Option (List ℕ) → ℕ → Type 0
-TriesNothing fault output_old output_new errors_old errors_new status =
-    (status ≡ status_of fault) × (output_new ≡ output_old) × IsWritten errors_old errors_new (run_fault_line fault)
+abbrev pub TriesNothing : RunFault → StreamMove → StreamMove → ℕ → Type 0
+TriesNothing fault output errors status = (status ≡ status_of fault) × (output.new ≡ output.old) × IsWritten errors.old errors.new (run_fault_line fault)
 
 -- `try` with these arguments: a whole run at their moment, or else the clock's, and in their zone, or in UTC; or one of them is wrong;
 -- or they have no moment, and the clock has none
-abbrev pub Tries : Option (List ℕ) → Option (List ℕ) → Option ℕ → Envelope → Option (List ℕ) → Option (List ℕ) → Option (List ℕ) → Option (List ℕ) → Option (List ℕ) → ℕ → Type 0
-Tries at zone clock envelope given output_old output_new errors_old errors_new status =
-    ((when : When) × IsWhen at zone clock when × RunsTry envelope when given output_old output_new errors_old errors_new status)
-    ⊎ (HasNoWhen at zone × TriesNothing BadArgument output_old output_new errors_old errors_new status)
-    ⊎ ((at ≡ None) × (clock ≡ None) × TriesNothing Stream output_old output_new errors_old errors_new status)
+abbrev pub Tries : TryArgs → Option ℕ → Option (List ℕ) → StreamMove → StreamMove → ℕ → Type 0
+Tries asked clock given output errors status =
+    ((when : When) × IsWhen (option_copied asked.at) (option_copied asked.zone) clock when × RunsTry (envelope_with asked.from.now asked.to.now) when given output errors status)
+    ⊎ (HasNoWhen (option_copied asked.at) (option_copied asked.zone) × TriesNothing BadArgument output errors status)
+    ⊎ ((option_copied asked.at ≡ None) × (clock ≡ None) × TriesNothing Stream output errors status)

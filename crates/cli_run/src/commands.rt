@@ -9,8 +9,9 @@ ghost use Rattle.cli_run.specs.Draining.{TurnsTables};
 ghost use Rattle.cli_run.specs.Promise.{status_after};
 ghost use Rattle.cli_run.specs.Serving.{HasDenied, HasGiven};
 ghost use Rattle.cli_run.specs.Streams.{ReadsToEnd};
-ghost use Rattle.cli_run.specs.Values.{IsNoNumber, HasNoWhen, HasNoSalt};
-ghost use Rattle.cli_run.specs.Subcommands.{IsAddUserEvent, IsDeliverEvent, PostFailed, SaltFailed, DeniedAtEnd, Puts, DoesEvent, DoesRead, DoesInit, ShowsMessage, LacksMessage};
+ghost use Rattle.cli_run.specs.Values.{IsNoNumber, HasNoWhen, HasNoSalt, envelope_with};
+ghost use Rattle.cli_run.specs.Subcommands.{IsAddUserEvent, IsDeliverEvent, DeliverInputFailed, SaltFailed, DeniedAtEnd, Puts, DoesEvent, DoesRead, DoesInit, ShowsMessage, LacksMessage, account_part};
+ghost use Rattle.cli_run.specs.Transitions.{from_to};
 
 use crate::account_read::{MessageOf, read_once};
 use crate::fault::RunFault;
@@ -32,8 +33,8 @@ pub fn run_init<W: Write, K: Keeper>(
     keeper: &mut K,
 ) -> Result<(), RunFault>
     ensures back { K.is_out keeper.old ≡ false → K.is_out keeper.new ≡ false }
-    ensures does { IsTrue K.tells → DoesInit (HasDenied K.refuses K.will_wait asked.entry.location) (W.contents output.old) (W.contents output.new) result
-        (K.holds keeper.old) (K.holds keeper.new) }
+    ensures does { IsTrue K.tells → DoesInit (HasDenied K.refuses K.will_wait asked.entry.location) (from_to (W.contents output.old) (W.contents output.new))
+        result (from_to (K.holds keeper.old) (K.holds keeper.new)) }
     ensures given { OnOk result (HasGiven K.gives K.will_wait asked.entry.location) }
 {
     let store = take_store(asked.location, true, keeper)?;
@@ -56,7 +57,7 @@ pub fn run_adduser<R: Read, W: Write, K: Keeper>(
     ensures does { IsTrue K.tells → DoesEvent (SaltFailed (option_copied asked.entry.salt) random) (HasNoSalt (option_copied asked.entry.salt))
         (DeniedAtEnd (HasDenied K.refuses K.will_wait asked.entry.location) (R.remaining input.new))
         (IsAddUserEvent (option_copied asked.entry.salt) random asked.entry.name.now asked.entry.address.now (R.remaining input.old))
-        (W.contents output.old) (W.contents output.new) result (K.holds keeper.old) (K.holds keeper.new) }
+        (from_to (W.contents output.old) (W.contents output.new)) result (from_to (K.holds keeper.old) (K.holds keeper.new)) }
     ensures given { OnOk result (HasGiven K.gives K.will_wait asked.entry.location) }
 {
     let salt = given_salt(asked.salt, random)?;
@@ -113,17 +114,18 @@ pub fn run_deliver<R: Read, W: Write, K: Keeper>(
     ensures unread { status_after result ≡ 64 → input.new ≡ input.old }
     ensures reads { OnOk result (ReadsToEnd R.remaining input.old input.new) }
     ensures back { K.is_out keeper.old ≡ false → K.is_out keeper.new ≡ false }
-    ensures does { IsTrue K.tells → DoesEvent (PostFailed (option_copied asked.entry.at) clock) (HasNoWhen (option_copied asked.entry.at) (option_copied asked.entry.zone))
+    ensures does { IsTrue K.tells → DoesEvent (DeliverInputFailed (option_copied asked.entry.at) clock)
+        (HasNoWhen (option_copied asked.entry.at) (option_copied asked.entry.zone))
         (DeniedAtEnd (HasDenied K.refuses K.will_wait asked.entry.location) (R.remaining input.new))
-        (IsDeliverEvent asked.entry.from.now asked.entry.to.now (option_copied asked.entry.at) (option_copied asked.entry.zone) asked.entry.user.now clock (borrowed_octets default.entry)
-        (R.remaining input.old))
-        (W.contents output.old) (W.contents output.new) result (K.holds keeper.old) (K.holds keeper.new) }
+        (IsDeliverEvent (envelope_with asked.entry.from.now asked.entry.to.now) (option_copied asked.entry.at) (option_copied asked.entry.zone)
+        asked.entry.user.now clock (borrowed_octets default.entry) (R.remaining input.old))
+        (from_to (W.contents output.old) (W.contents output.new)) result (from_to (K.holds keeper.old) (K.holds keeper.new)) }
     ensures given { OnOk result (HasGiven K.gives K.will_wait asked.entry.location) }
 {
     let when = when_of(asked.at, asked.zone, clock)?;
     let envelope = envelope_of(alloc, asked.from, asked.to)?;
     let message = read_all(alloc, input)?;
-    let report = post(
+    let report = deliver_in_store(
         alloc,
         asked.location,
         asked.user.as_bytes(),
@@ -137,7 +139,7 @@ pub fn run_deliver<R: Read, W: Write, K: Keeper>(
 }
 
 /// Delivers the message, in a store that is taken and handed back.
-fn post<K: Keeper>(
+fn deliver_in_store<K: Keeper>(
     alloc: Global,
     location: StoreLocation<'_>,
     user: &[u8],
@@ -167,9 +169,9 @@ pub fn run_show<W: Write, K: Keeper>(
     keeper: &mut K,
 ) -> Result<(), RunFault>
     ensures back { K.is_out keeper.old ≡ false → K.is_out keeper.new ≡ false }
-    ensures does { IsTrue K.tells → DoesRead (IsNoNumber asked.entry.number.now) (HasDenied K.refuses K.will_wait asked.entry.location) asked.entry.user.now
-        (ShowsMessage asked.entry.folder.now asked.entry.number.now) (LacksMessage asked.entry.folder.now asked.entry.number.now)
-        (W.contents output.old) (W.contents output.new) result (K.holds keeper.old) (K.holds keeper.new) }
+    ensures does { IsTrue K.tells → DoesRead (IsNoNumber asked.entry.number.now) (HasDenied K.refuses K.will_wait asked.entry.location)
+        (account_part asked.entry.user.now (ShowsMessage asked.entry.folder.now asked.entry.number.now) (LacksMessage asked.entry.folder.now asked.entry.number.now))
+        (from_to (W.contents output.old) (W.contents output.new)) result (from_to (K.holds keeper.old) (K.holds keeper.new)) }
     ensures given { OnOk result (HasGiven K.gives K.will_wait asked.entry.location) }
 {
     let number = decimal(asked.number)?;

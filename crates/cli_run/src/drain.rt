@@ -1,10 +1,11 @@
 //! The subcommand that empties a folder: its messages go into a sink, and then out of the store.
 ghost use Rattle.std.specs.Prelude.{◌≡◌, ◌≢◌, ◌⊎◌, ℕ, List, false, IfErr, IfOk, OnOk, IsTrue, option_copied};
 ghost use Rattle.sqlite.specs.Held.{state};
-ghost use Rattle.cli_run.specs.Draining.{IsMost, DrainsFirst, MovesAll, Drains, MovesTables, HasDrained, HasRefused, IsUnkept};
+ghost use Rattle.cli_run.specs.Draining.{IsMost, DrainsFirst, MovesAll, Drains, MovesTables, HasDrained, HasRefused, IsUnkept, sink_mails};
 ghost use Rattle.cli_run.specs.Faults.{memory, no_user, store_failed, IsFailure, IsSudden};
 ghost use Rattle.cli_run.specs.Serving.{HasDenied, HasGiven};
 ghost use Rattle.cli_run.specs.Values.{HasNoNumber};
+ghost use Rattle.cli_run.specs.Transitions.{from_to};
 
 use crate::commands::take_store;
 use crate::fault::RunFault;
@@ -28,7 +29,8 @@ pub fn run_drain<W: Write, K: Keeper, T: MailSink>(
 ) -> Result<(), RunFault>
     ensures back { K.is_out keeper.old ≡ false → K.is_out keeper.new ≡ false }
     ensures drains { IsTrue K.tells → HasDrained (HasRefused T.refuses) (HasDenied K.refuses K.will_wait asked.entry.location) asked.entry
-        T.tells (T.kept sink.old) (T.kept sink.new) (W.contents output.old) (W.contents output.new) result (K.holds keeper.old) (K.holds keeper.new) }
+        (sink_mails T.tells (T.kept sink.old) (T.kept sink.new)) (from_to (W.contents output.old) (W.contents output.new)) result
+        (from_to (K.holds keeper.old) (K.holds keeper.new)) }
     ensures given { OnOk result (HasGiven K.gives K.will_wait asked.entry.location) }
     ensures placed { OnOk result (T.is_at sink.new asked.entry.maildir.now) }
 {
@@ -60,7 +62,7 @@ fn drain_store<K: Keeper, T: MailSink>(
 ) -> Result<u64, RunFault>
     ensures back { K.is_out keeper.old ≡ false → K.is_out keeper.new ≡ false }
     ensures moves { IsTrue K.tells → MovesTables (HasRefused T.refuses) (HasDenied K.refuses K.will_wait asked.entry.location) asked.entry
-        T.tells (T.kept sink.old) (T.kept sink.new) most result (K.holds keeper.old) (K.holds keeper.new) }
+        (sink_mails T.tells (T.kept sink.old) (T.kept sink.new)) most result (from_to (K.holds keeper.old) (K.holds keeper.new)) }
     ensures given { OnOk result (HasGiven K.gives K.will_wait asked.entry.location) }
     ensures stays { (path : List ℕ) → T.is_at sink.old path → T.is_at sink.new path }
 {
@@ -84,7 +86,7 @@ fn move_first<S: Alter, T: MailSink>(
     folder: &[u8],
     sink: &mut T,
 ) -> Result<bool, RunFault>
-    ensures moves { DrainsFirst user.now folder.now T.tells (T.kept sink.old) (T.kept sink.new) result (state S.Store store.old) (state S.Store store.new) }
+    ensures moves { DrainsFirst user.now folder.now (sink_mails T.tells (T.kept sink.old) (T.kept sink.new)) result (state S.Store store.old) (state S.Store store.new) }
     ensures stays { (path : List ℕ) → T.is_at sink.old path → T.is_at sink.new path }
     ensures fault { IfErr result (IsSudden (IsUnkept (HasRefused T.refuses))) }
 {
@@ -138,7 +140,7 @@ fn move_all<S: Alter, T: MailSink>(
     most: u64,
     sink: &mut T,
 ) -> Result<u64, RunFault>
-    ensures moves { MovesAll user.now folder.now T.tells (T.kept sink.old) (T.kept sink.new) most result (state S.Store store.old) (state S.Store store.new) }
+    ensures moves { MovesAll user.now folder.now (sink_mails T.tells (T.kept sink.old) (T.kept sink.new)) most result (state S.Store store.old) (state S.Store store.new) }
     ensures stays { (path : List ℕ) → T.is_at sink.old path → T.is_at sink.new path }
     ensures fault { IfErr result (IsSudden (IsUnkept (HasRefused T.refuses))) }
 {
@@ -164,7 +166,7 @@ fn drain<S: Alter, T: MailSink>(
     most: u64,
     sink: &mut T,
 ) -> Result<u64, RunFault>
-    ensures moves { Drains user.now folder.now T.tells (T.kept sink.old) (T.kept sink.new) most result (state S.Store store.old) (state S.Store store.new) }
+    ensures moves { Drains user.now folder.now (sink_mails T.tells (T.kept sink.old) (T.kept sink.new)) most result (state S.Store store.old) (state S.Store store.new) }
     ensures stays { (path : List ℕ) → T.is_at sink.old path → T.is_at sink.new path }
     ensures fault { IfErr result (λ fault. IsSudden (IsUnkept (HasRefused T.refuses)) fault ⊎ (fault ≡ no_user)) }
 {

@@ -7,6 +7,7 @@ ghost use Rattle.cli_run.specs.Exports.{PutsParts};
 ghost use Rattle.cli_run.specs.Faults.{IsTextPut};
 ghost use Rattle.cli_run.specs.Serving.{HasDenied, HasGiven};
 ghost use Rattle.cli_run.specs.Subcommands.{DoesExport, Exports, PrintsText, TurnsStore};
+ghost use Rattle.cli_run.specs.Transitions.{from_to};
 
 use crate::commands::take_store;
 use crate::fault::RunFault;
@@ -34,8 +35,8 @@ pub fn run_export<W: Write, K: Keeper>(
     keeper: &mut K,
 ) -> Result<(), RunFault>
     ensures back { K.is_out keeper.old ≡ false → K.is_out keeper.new ≡ false }
-    ensures does { IsTrue K.tells → DoesExport (HasDenied K.refuses K.will_wait asked.entry.location) (W.contents output.old) (W.contents output.new)
-        asked.entry.and_close asked.entry.user.now result (K.holds keeper.old) (K.holds keeper.new) }
+    ensures does { IsTrue K.tells → DoesExport (HasDenied K.refuses K.will_wait asked.entry.location) asked.entry.and_close asked.entry.user.now
+        (from_to (W.contents output.old) (W.contents output.new)) result (from_to (K.holds keeper.old) (K.holds keeper.new)) }
     ensures given { OnOk result (HasGiven K.gives K.will_wait asked.entry.location) }
 {
     let mut store = take_store(asked.location, false, keeper)?;
@@ -93,8 +94,8 @@ fn put_parts<S: Alter, W: Write>(
     output: &mut W,
 ) -> Result<(), RunFault>
     requires live { HasCleanDisk (state S.Store store.old) → IsTrue (state S.Store store.old).is_open }
-    ensures { PutsParts contents.now 0 (length contents.now.places) writer.old writer.new (W.contents output.old) (W.contents output.new)
-        (state S.Store store.old) (state S.Store store.new) result }
+    ensures { PutsParts contents.now 0 (length contents.now.places) (from_to writer.old writer.new) (from_to (W.contents output.old) (W.contents output.new))
+        (from_to (state S.Store store.old) (state S.Store store.new)) result }
 {
     for at in 0..contents.places.len() {
         put_part(alloc, store, contents, at, writer, output)?;
@@ -112,8 +113,8 @@ fn put_part<S: Alter, W: Write>(
     output: &mut W,
 ) -> Result<(), RunFault>
     requires { at < length contents.now.places }
-    ensures { PutsParts contents.now at (at + 1) writer.old writer.new (W.contents output.old) (W.contents output.new)
-        (state S.Store store.old) (state S.Store store.new) result }
+    ensures { PutsParts contents.now at (at + 1) (from_to writer.old writer.new) (from_to (W.contents output.old) (W.contents output.new))
+        (from_to (state S.Store store.old) (state S.Store store.new)) result }
 {
     let part = read_part(alloc, store, contents, at)?;
     let line = writer.part(alloc, &part)?;

@@ -8,6 +8,7 @@ ghost use Rattle.cli_run.specs.Promise.{status_after};
 ghost use Rattle.cli_run.specs.Serving.{HasDenied, HasGiven};
 ghost use Rattle.cli_run.specs.Streams.{ReadsToEnd};
 ghost use Rattle.cli_run.specs.Subcommands.{IsImportEvent, DeniedAtEnd, DoesImport, IsNotRead, Puts};
+ghost use Rattle.cli_run.specs.Transitions.{from_to};
 
 use crate::commands::take_store;
 use crate::fault::RunFault;
@@ -32,8 +33,8 @@ pub fn run_import<R: Read, W: Write, K: Keeper>(
     ensures unread { status_after result ≡ 64 → input.new ≡ input.old }
     ensures reads { OnOk result (ReadsToEnd R.remaining input.old input.new) }
     ensures back { K.is_out keeper.old ≡ false → K.is_out keeper.new ≡ false }
-    ensures does { IsTrue K.tells → DoesImport (DeniedAtEnd (HasDenied K.refuses K.will_wait asked.entry.location) (R.remaining input.new)) (R.remaining input.old)
-        (W.contents output.old) (W.contents output.new) result (K.holds keeper.old) (K.holds keeper.new) }
+    ensures does { IsTrue K.tells → DoesImport (DeniedAtEnd (HasDenied K.refuses K.will_wait asked.entry.location) (R.remaining input.new))
+        (R.remaining input.old) (from_to (W.contents output.old) (W.contents output.new)) result (from_to (K.holds keeper.old) (K.holds keeper.new)) }
     ensures given { OnOk result (HasGiven K.gives K.will_wait asked.entry.location) }
 {
     let file = read_file(alloc, input)?;

@@ -4,7 +4,8 @@ ghost use Rattle.store_accounts.specs.Account.{Account};
 ghost use Rattle.store_accounts.specs.Tally.{folder_count};
 ghost use Rattle.cli_reports.specs.Reports.{ended_line};
 ghost use Rattle.cli_run.specs.Serving.{HasDenied, HasGiven};
-ghost use Rattle.cli_run.specs.Subcommands.{DoesFolders, DoesRead, LacksNothing, folder_line, directory_line, folder_listing};
+ghost use Rattle.cli_run.specs.Subcommands.{DoesFolders, DoesRead, LacksNothing, folder_line, directory_line, folder_listing, account_part};
+ghost use Rattle.cli_run.specs.Transitions.{from_to};
 
 use crate::account_read::{AccountRead, DirectoriesOf, FoldersOf, QueueOf, read_once};
 use crate::fault::RunFault;
@@ -117,8 +118,9 @@ pub fn run_listing<Q: Listing, W: Write, K: Keeper>(
     keeper: &mut K,
 ) -> Result<(), RunFault>
     ensures back { K.is_out keeper.old ≡ false → K.is_out keeper.new ≡ false }
-    ensures does { IsTrue K.tells → DoesRead ⊥ (HasDenied K.refuses K.will_wait location.entry) (Q.user wanted.now) (Q.shows wanted.now) LacksNothing
-        (W.contents output.old) (W.contents output.new) result (K.holds keeper.old) (K.holds keeper.new) }
+    ensures does { IsTrue K.tells → DoesRead ⊥ (HasDenied K.refuses K.will_wait location.entry)
+        (account_part (Q.user wanted.now) (Q.shows wanted.now) LacksNothing) (from_to (W.contents output.old) (W.contents output.new)) result
+        (from_to (K.holds keeper.old) (K.holds keeper.new)) }
     ensures given { OnOk result (HasGiven K.gives K.will_wait location.entry) }
 {
     let found = read_once(location, wanted, keeper)?;
@@ -135,8 +137,9 @@ pub fn run_folders<W: Write, K: Keeper>(
     keeper: &mut K,
 ) -> Result<(), RunFault>
     ensures back { K.is_out keeper.old ≡ false → K.is_out keeper.new ≡ false }
-    ensures does { IsTrue K.tells → DoesFolders (HasDenied K.refuses K.will_wait asked.entry.location) (W.contents output.old) (W.contents output.new)
-        asked.entry.user.now asked.entry.directories (option_copied asked.entry.separator) result (K.holds keeper.old) (K.holds keeper.new) }
+    ensures does { IsTrue K.tells → DoesFolders (HasDenied K.refuses K.will_wait asked.entry.location) asked.entry.user.now asked.entry.directories
+        (option_copied asked.entry.separator) (from_to (W.contents output.old) (W.contents output.new)) result
+        (from_to (K.holds keeper.old) (K.holds keeper.new)) }
     ensures given { OnOk result (HasGiven K.gives K.will_wait asked.entry.location) }
 {
     if asked.directories {

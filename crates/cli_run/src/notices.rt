@@ -5,6 +5,7 @@ ghost use Rattle.cli_reports.specs.Listings.{notice_listing};
 ghost use Rattle.cli_run.specs.Promise.{status_after};
 ghost use Rattle.cli_run.specs.Serving.{HasDenied, HasGiven};
 ghost use Rattle.cli_run.specs.Subcommands.{DoesNotices, TakesListed, TakesNotices, TurnsStore, notices_until};
+ghost use Rattle.cli_run.specs.Transitions.{from_to};
 
 use crate::account_read::NoticesOf;
 use crate::commands::take_store;
@@ -41,8 +42,8 @@ pub fn run_notices<W: Write, K: Keeper>(
     keeper: &mut K,
 ) -> Result<(), RunFault>
     ensures back { K.is_out keeper.old ≡ false → K.is_out keeper.new ≡ false }
-    ensures does { IsTrue K.tells → DoesNotices (HasDenied K.refuses K.will_wait asked.entry.location) (W.contents output.old) (W.contents output.new)
-        asked.entry.user.now (option_copied asked.entry.until) result (K.holds keeper.old) (K.holds keeper.new) }
+    ensures does { IsTrue K.tells → DoesNotices (HasDenied K.refuses K.will_wait asked.entry.location) asked.entry.user.now (option_copied asked.entry.until)
+        (from_to (W.contents output.old) (W.contents output.new)) result (from_to (K.holds keeper.old) (K.holds keeper.new)) }
     ensures given { OnOk result (HasGiven K.gives K.will_wait asked.entry.location) }
 {
     match asked.until {
@@ -67,8 +68,8 @@ fn run_taking<W: Write, K: Keeper>(
     keeper: &mut K,
 ) -> Result<(), RunFault>
     ensures back { K.is_out keeper.old ≡ false → K.is_out keeper.new ≡ false }
-    ensures does { IsTrue K.tells → TakesNotices (HasDenied K.refuses K.will_wait location.entry) (W.contents output.old) (W.contents output.new)
-        user.now until.now result (K.holds keeper.old) (K.holds keeper.new) }
+    ensures does { IsTrue K.tells → TakesNotices (HasDenied K.refuses K.will_wait location.entry) user.now until.now
+        (from_to (W.contents output.old) (W.contents output.new)) result (from_to (K.holds keeper.old) (K.holds keeper.new)) }
     ensures given { OnOk result (HasGiven K.gives K.will_wait location.entry) }
 {
     let until = until_of(until)?;

@@ -6,7 +6,8 @@ ghost use Rattle.cli_run.specs.Draining.{TurnsTables};
 ghost use Rattle.cli_run.specs.Promise.{status_after};
 ghost use Rattle.cli_run.specs.Serving.{HasDenied, HasGiven};
 ghost use Rattle.cli_run.specs.Values.{IsNoNumber};
-ghost use Rattle.cli_run.specs.Subcommands.{IsDoneEvent, Puts, DoesEvent, DoesQueue, DoesRead, ShowsOutgoing, LacksOutgoing};
+ghost use Rattle.cli_run.specs.Subcommands.{IsDoneEvent, Puts, DoesEvent, DoesQueue, DoesRead, ShowsOutgoing, LacksOutgoing, account_part};
+ghost use Rattle.cli_run.specs.Transitions.{from_to};
 
 use crate::account_read::{OutgoingOf, QueueOf, read_once};
 use crate::commands::take_store;
@@ -29,8 +30,8 @@ pub fn run_queue<W: Write, K: Keeper>(
     keeper: &mut K,
 ) -> Result<(), RunFault>
     ensures back { K.is_out keeper.old ≡ false → K.is_out keeper.new ≡ false }
-    ensures does { IsTrue K.tells → DoesQueue (HasDenied K.refuses K.will_wait asked.entry.location) (W.contents output.old) (W.contents output.new)
-        asked.entry.user.now (option_copied asked.entry.id) result (K.holds keeper.old) (K.holds keeper.new) }
+    ensures does { IsTrue K.tells → DoesQueue (HasDenied K.refuses K.will_wait asked.entry.location) asked.entry.user.now (option_copied asked.entry.id)
+        (from_to (W.contents output.old) (W.contents output.new)) result (from_to (K.holds keeper.old) (K.holds keeper.new)) }
     ensures given { OnOk result (HasGiven K.gives K.will_wait asked.entry.location) }
 {
     match asked.id {
@@ -48,8 +49,9 @@ fn run_queued<W: Write, K: Keeper>(
     keeper: &mut K,
 ) -> Result<(), RunFault>
     ensures back { K.is_out keeper.old ≡ false → K.is_out keeper.new ≡ false }
-    ensures does { IsTrue K.tells → DoesRead (IsNoNumber id.now) (HasDenied K.refuses K.will_wait location.entry) user.now (ShowsOutgoing id.now) (LacksOutgoing id.now)
-        (W.contents output.old) (W.contents output.new) result (K.holds keeper.old) (K.holds keeper.new) }
+    ensures does { IsTrue K.tells → DoesRead (IsNoNumber id.now) (HasDenied K.refuses K.will_wait location.entry)
+        (account_part user.now (ShowsOutgoing id.now) (LacksOutgoing id.now)) (from_to (W.contents output.old) (W.contents output.new)) result
+        (from_to (K.holds keeper.old) (K.holds keeper.new)) }
     ensures given { OnOk result (HasGiven K.gives K.will_wait location.entry) }
 {
     let id = decimal(id)?;
@@ -67,8 +69,8 @@ pub fn run_done<W: Write, K: Keeper>(
 ) -> Result<(), RunFault>
     ensures back { K.is_out keeper.old ≡ false → K.is_out keeper.new ≡ false }
     ensures does { IsTrue K.tells → DoesEvent ⊥ (IsNoNumber asked.entry.id.now) (HasDenied K.refuses K.will_wait asked.entry.location)
-        (IsDoneEvent asked.entry.user.now asked.entry.id.now)
-        (W.contents output.old) (W.contents output.new) result (K.holds keeper.old) (K.holds keeper.new) }
+        (IsDoneEvent asked.entry.user.now asked.entry.id.now) (from_to (W.contents output.old) (W.contents output.new)) result
+        (from_to (K.holds keeper.old) (K.holds keeper.new)) }
     ensures given { OnOk result (HasGiven K.gives K.will_wait asked.entry.location) }
 {
     let id = decimal(asked.id)?;

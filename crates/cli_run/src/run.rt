@@ -1,14 +1,14 @@
 //! A run of the program: reads the arguments and does what they ask for.
-ghost use Rattle.std.specs.Prelude.{◌≡◌, false, None, IsTrue, IfSome, OnOk, option_copied};
+ghost use Rattle.std.specs.Prelude.{◌≡◌, false, None, IsTrue, IfSome, Ok, OnOk, option_copied};
 ghost use Rattle.store_accounts.specs.Cells.{borrowed_octets};
-ghost use Rattle.cli_run.specs.Draining.{HasRefused};
-ghost use Rattle.cli_run.specs.Faults.{cause_of, status_of, text_said, run_fault_lines, troubles, AreTold};
+ghost use Rattle.cli_run.specs.Draining.{HasRefused, sink_mails};
+ghost use Rattle.cli_run.specs.Faults.{cause_of, status_of, text_said, run_fault_lines, faults_told, AreTold};
 ghost use Rattle.cli_run.specs.Promise.{status_after};
 ghost use Rattle.cli_run.specs.Serving.{HasDenied, HasGiven};
 ghost use Rattle.cli_run.specs.Streams.{IsWritten, ReadsAllOrNone, ReadsToEnd};
 ghost use Rattle.cli_run.specs.TryScript.{Tries};
-ghost use Rattle.cli_run.specs.Values.{envelope_with};
-ghost use Rattle.cli_run.specs.Subcommands.{DoesSubcommand, TellsClapText, TellsArgsError, ReachesStore, RunsWords};
+ghost use Rattle.cli_run.specs.Subcommands.{DoesSubcommand, TellsClapText, TellsArgsError, ReachesStore, RunsAs, RunsWords, surroundings, run_reached, run_streams};
+ghost use Rattle.cli_run.specs.Transitions.{from_to};
 
 use crate::commands::{run_adduser, run_deliver, run_init, run_show};
 use crate::drain::run_drain;
@@ -61,16 +61,46 @@ pub fn run_program<R: Read, W: Write, E: Write, K: Keeper, T: MailSink>(
     ensures unread { result ≡ 64 → input.new ≡ input.old }
     ensures reads { result ≡ 0 → ReadsAllOrNone R.remaining input.old input.new }
     ensures back { K.is_out keeper.old ≡ false → K.is_out keeper.new ≡ false }
-    ensures runs { IsTrue K.tells → RunsWords (HasDenied K.refuses K.will_wait) (HasRefused T.refuses) (HasGiven K.gives K.will_wait) (T.is_at sink.new)
-        (cause_of (K.said keeper.new) (text_said (T.said sink.new))) clock random (borrowed_octets default.entry)
-        (R.remaining input.old) (R.remaining input.new) T.tells (T.kept sink.old) (T.kept sink.new) (W.contents output.old) (W.contents output.new)
-        (E.contents errors.old) (E.contents errors.new) result (K.holds keeper.old) (K.holds keeper.new) words.now }
+    ensures runs { IsTrue K.tells → RunsWords
+        (surroundings (HasDenied K.refuses K.will_wait) (HasRefused T.refuses) clock random (borrowed_octets default.entry))
+        (run_reached (HasGiven K.gives K.will_wait) (T.is_at sink.new) (cause_of (K.said keeper.new) (text_said (T.said sink.new))))
+        (run_streams (from_to (R.remaining input.old) (R.remaining input.new)) (from_to (W.contents output.old) (W.contents output.new))
+        (from_to (E.contents errors.old) (E.contents errors.new)))
+        (sink_mails T.tells (T.kept sink.old) (T.kept sink.new)) result (from_to (K.holds keeper.old) (K.holds keeper.new)) words.now }
     ensures asked { K.unclosed keeper.old ≡ None → K.unclosed keeper.new ≡ None }
 {
-    let asked = match read_command_line(alloc, words) {
-        Ok(asked) => asked,
-        Err(error) => return tell_unread(alloc, error, output, errors),
-    };
+    match read_command_line(alloc, words) {
+        Ok(asked) => run_subcommand(
+            alloc, asked, input, output, errors, keeper, clock, random, default, sink,
+        ),
+        Err(error) => tell_unread(alloc, error, output, errors),
+    }
+}
+
+/// Runs what arguments ask for that were read, as [`run_program`] does, and returns the exit status.
+pub fn run_subcommand<R: Read, W: Write, E: Write, K: Keeper, T: MailSink>(
+    alloc: Global,
+    asked: Subcommand<'_>,
+    input: &mut R,
+    output: &mut W,
+    errors: &mut E,
+    keeper: &mut K,
+    clock: Option<u64>,
+    random: Option<[u8; 16]>,
+    default: Option<&[u8]>,
+    sink: &mut T,
+) -> u8
+    ensures unread { result ≡ 64 → input.new ≡ input.old }
+    ensures reads { result ≡ 0 → ReadsAllOrNone R.remaining input.old input.new }
+    ensures back { K.is_out keeper.old ≡ false → K.is_out keeper.new ≡ false }
+    ensures runs { IsTrue K.tells → RunsAs
+        (surroundings (HasDenied K.refuses K.will_wait) (HasRefused T.refuses) clock random (borrowed_octets default.entry))
+        (run_reached (HasGiven K.gives K.will_wait) (T.is_at sink.new) (cause_of (K.said keeper.new) (text_said (T.said sink.new))))
+        (run_streams (from_to (R.remaining input.old) (R.remaining input.new)) (from_to (W.contents output.old) (W.contents output.new))
+        (from_to (E.contents errors.old) (E.contents errors.new)))
+        (sink_mails T.tells (T.kept sink.old) (T.kept sink.new)) result (from_to (K.holds keeper.old) (K.holds keeper.new)) (Ok asked.entry) }
+    ensures asked { K.unclosed keeper.old ≡ None → K.unclosed keeper.new ≡ None }
+{
     match asked {
         Subcommand::Try(asked) => try_script(alloc, asked, clock, input, output, errors),
         _ => {
@@ -94,8 +124,8 @@ fn try_script<R: Read, W: Write, E: Write>(
 ) -> u8
     ensures unread { result ≡ 64 → input.new ≡ input.old }
     ensures reads { result ≡ 0 → ReadsToEnd R.remaining input.old input.new }
-    ensures runs { Tries (option_copied asked.entry.at) (option_copied asked.entry.zone) clock (envelope_with asked.entry.from.now asked.entry.to.now)
-        (R.remaining input.old) (W.contents output.old) (W.contents output.new) (E.contents errors.old) (E.contents errors.new) result }
+    ensures runs { Tries asked.entry clock (R.remaining input.old) (from_to (W.contents output.old) (W.contents output.new))
+        (from_to (E.contents errors.old) (E.contents errors.new)) result }
 {
     let when = match when_of(asked.at, asked.zone, clock) {
         Ok(when) => when,
@@ -122,10 +152,10 @@ fn act<R: Read, W: Write, K: Keeper, T: MailSink>(
     ensures unread { status_after result ≡ 64 → input.new ≡ input.old }
     ensures reads { OnOk result (ReadsAllOrNone R.remaining input.old input.new) }
     ensures back { K.is_out keeper.old ≡ false → K.is_out keeper.new ≡ false }
-    ensures does { IsTrue K.tells → DoesSubcommand (HasDenied K.refuses K.will_wait) (HasRefused T.refuses) clock random (borrowed_octets default.entry) (R.remaining input.old)
-        (R.remaining input.new)
-        T.tells (T.kept sink.old) (T.kept sink.new) (W.contents output.old) (W.contents output.new) asked.entry result
-        (K.holds keeper.old) (K.holds keeper.new) }
+    ensures does { IsTrue K.tells → DoesSubcommand
+        (surroundings (HasDenied K.refuses K.will_wait) (HasRefused T.refuses) clock random (borrowed_octets default.entry))
+        (from_to (R.remaining input.old) (R.remaining input.new)) (sink_mails T.tells (T.kept sink.old) (T.kept sink.new))
+        (from_to (W.contents output.old) (W.contents output.new)) asked.entry result (from_to (K.holds keeper.old) (K.holds keeper.new)) }
     ensures reaches { OnOk result (ReachesStore (HasGiven K.gives K.will_wait) (T.is_at sink.new) asked.entry) }
 {
     match asked {
@@ -169,7 +199,7 @@ fn conclude<E: Write, K: Keeper, T: MailSink>(
 ) -> u8
     ensures status { result ≡ status_after done }
     ensures told { AreTold (E.contents errors.old) (E.contents errors.new) (cause_of (K.said keeper.new) (text_said (T.said sink.now)))
-        (troubles (K.unclosed keeper.old) done) }
+        (faults_told (K.unclosed keeper.old) done) }
     ensures asked { K.unclosed keeper.new ≡ None }
     ensures same { IsTrue K.tells → K.holds keeper.new ≡ K.holds keeper.old }
     ensures kept { K.is_out keeper.new ≡ K.is_out keeper.old }
@@ -220,12 +250,12 @@ fn tell_fault<E: Write, K: Keeper, T: MailSink>(
     ensures status { result ≡ status_of fault }
     ensures line { IsWritten (E.contents errors.old) (E.contents errors.new) (run_fault_lines (cause_of (K.said keeper.now) (text_said (T.said sink.now))) fault) }
 {
-    trouble_of(fault, keeper, sink).tell(errors);
+    fault_of(fault, keeper, sink).tell(errors);
     fault.status()
 }
 
 /// A fault with what the keeper or the sink knows of it.
-fn trouble_of<K: Keeper, T: MailSink>(fault: RunFault, keeper: &K, sink: &T) -> FaultWithCause
+fn fault_of<K: Keeper, T: MailSink>(fault: RunFault, keeper: &K, sink: &T) -> FaultWithCause
     ensures fault { result.fault ≡ fault }
     ensures cause { option_copied result.cause ≡ cause_of (K.said keeper.now) (text_said (T.said sink.now)) fault }
 {
@@ -245,8 +275,8 @@ fn sink_cause<T: MailSink>(sink: &T) -> Option<&'static str>
     file_cause(sink.cause()?)
 }
 
-/// Reports why the arguments ask for nothing.
-fn tell_unread<W: Write, E: Write>(
+/// Reports why the arguments ask for nothing, and returns the exit status.
+pub fn tell_unread<W: Write, E: Write>(
     alloc: Global,
     error: ArgsError,
     output: &mut W,

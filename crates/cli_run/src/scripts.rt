@@ -9,7 +9,8 @@ ghost use Rattle.cli_run.specs.Draining.{TurnsTables};
 ghost use Rattle.cli_run.specs.Promise.{status_after};
 ghost use Rattle.cli_run.specs.Serving.{HasDenied, HasGiven};
 ghost use Rattle.cli_run.specs.Streams.{ReadsToEnd};
-ghost use Rattle.cli_run.specs.Subcommands.{DeniedAtEnd, DoesPut, DoesRead, DoesScripts, IsStoredBy, LacksScript, ListsScripts, IsPutEvent, PutsScript, ShowsScript, TellsVerdict};
+ghost use Rattle.cli_run.specs.Subcommands.{DeniedAtEnd, DoesPut, DoesRead, DoesScripts, IsStoredBy, LacksScript, ListsScripts, IsPutEvent, PutsScript, ShowsScript, TellsVerdict, account_part};
+ghost use Rattle.cli_run.specs.Transitions.{from_to};
 
 use crate::account_read::{ScriptNames, ScriptOf, ScriptsOf, read_once};
 use crate::commands::take_store;
@@ -75,8 +76,8 @@ pub fn run_scripts<W: Write, K: Keeper>(
     keeper: &mut K,
 ) -> Result<(), RunFault>
     ensures back { K.is_out keeper.old ≡ false → K.is_out keeper.new ≡ false }
-    ensures does { IsTrue K.tells → DoesScripts (HasDenied K.refuses K.will_wait asked.entry.location) (W.contents output.old) (W.contents output.new)
-        asked.entry.user.now (option_copied asked.entry.script) result (K.holds keeper.old) (K.holds keeper.new) }
+    ensures does { IsTrue K.tells → DoesScripts (HasDenied K.refuses K.will_wait asked.entry.location) asked.entry.user.now (option_copied asked.entry.script)
+        (from_to (W.contents output.old) (W.contents output.new)) result (from_to (K.holds keeper.old) (K.holds keeper.new)) }
     ensures given { OnOk result (HasGiven K.gives K.will_wait asked.entry.location) }
 {
     match asked.script {
@@ -100,8 +101,9 @@ fn run_script<W: Write, K: Keeper>(
     keeper: &mut K,
 ) -> Result<(), RunFault>
     ensures back { K.is_out keeper.old ≡ false → K.is_out keeper.new ≡ false }
-    ensures does { IsTrue K.tells → DoesRead ⊥ (HasDenied K.refuses K.will_wait location.entry) user.now (ShowsScript name.now) (LacksScript name.now)
-        (W.contents output.old) (W.contents output.new) result (K.holds keeper.old) (K.holds keeper.new) }
+    ensures does { IsTrue K.tells → DoesRead ⊥ (HasDenied K.refuses K.will_wait location.entry)
+        (account_part user.now (ShowsScript name.now) (LacksScript name.now)) (from_to (W.contents output.old) (W.contents output.new)) result
+        (from_to (K.holds keeper.old) (K.holds keeper.new)) }
     ensures given { OnOk result (HasGiven K.gives K.will_wait location.entry) }
 {
     let Some(text) = read_once(location, &ScriptOf(user, name), keeper)? else {
@@ -124,7 +126,7 @@ pub fn run_put<R: Read, W: Write, K: Keeper>(
     ensures back { K.is_out keeper.old ≡ false → K.is_out keeper.new ≡ false }
     ensures does { IsTrue K.tells → DoesPut (DeniedAtEnd (HasDenied K.refuses K.will_wait asked.entry.location) (R.remaining input.new))
         (IsPutEvent asked.entry.user.now asked.entry.script.now asked.entry.activate (R.remaining input.old))
-        (W.contents output.old) (W.contents output.new) result (K.holds keeper.old) (K.holds keeper.new) }
+        (from_to (W.contents output.old) (W.contents output.new)) result (from_to (K.holds keeper.old) (K.holds keeper.new)) }
     ensures given { OnOk result (HasGiven K.gives K.will_wait asked.entry.location) }
 {
     let octets = read_all(alloc, input)?;

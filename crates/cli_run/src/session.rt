@@ -13,9 +13,10 @@ ghost use Rattle.cli_run.specs.declared.fault.RunFault.TheVariants.{Stream};
 ghost use Rattle.cli_run.specs.Faults.{IsCutShort, store_failed};
 ghost use Rattle.cli_run.specs.Promise.{status_after};
 ghost use Rattle.cli_run.specs.Serving.{RoundsAnswer, AreSeen, Converses, HasGiven, HasNoted, HasOpenStore, Hinders, IsDenied, IsDeniedBy, IsDenialNoted, IsTold, KeepsFirst};
-ghost use Rattle.cli_run.specs.Serving.{PresentsSeen, Served, ServesBy, StepsOrStays, StopsServing, StopsAt, TellsEnding, TellsOne, Unstopped, WasOut, WritesAll};
+ghost use Rattle.cli_run.specs.Serving.{PresentsSeen, Served, ServesTables, StepsOrStays, StopsServing, StopsAt, TellsEnding, TellsOne, Unstopped, WasOut, WritesAll};
 ghost use Rattle.cli_run.specs.Serving.{WritesFirst, database_seen};
 ghost use Rattle.cli_run.specs.Streams.{OutputFailed, ReadsOn, ReadsToEnd};
+ghost use Rattle.cli_run.specs.Transitions.{from_to};
 
 use crate::fault::{RunFault, refuse};
 use crate::fault_with_cause::{FaultWithCause, FirstFault};
@@ -55,9 +56,9 @@ pub fn serve_one<R: Read, W: Write, K: Keeper>(
     keeper: &mut K,
 ) -> Result<(), RunFault>
     ensures back { K.is_out keeper.old ≡ false → K.is_out keeper.new ≡ false }
-    ensures serves { IsTrue K.tells → K.is_out keeper.old ≡ false
-        → ServesBy R.remaining input.old input.new W.contents output.old output.new K.refuses K.gives K.will_wait K.closes
-        location.entry K.holds keeper.old keeper.new (Unit {0}) result }
+    ensures serves { IsTrue K.tells → K.is_out keeper.old ≡ false → ServesTables (StopsServing K.refuses K.will_wait location.entry (Unit {0}))
+        (WasOut K.gives K.will_wait K.closes location.entry (Unit {0})) (from_to (R.remaining input.old) (R.remaining input.new))
+        (from_to (W.contents output.old) (W.contents output.new)) (from_to (K.holds keeper.old) (K.holds keeper.new)) result }
     ensures reads { OnOk result (ReadsToEnd R.remaining input.old input.new ⊎ ReadsOn R.remaining input.old input.new) }
     ensures fault { IfErr result IsCutShort }
 {
@@ -65,8 +66,8 @@ pub fn serve_one<R: Read, W: Write, K: Keeper>(
     serve_client(alloc, location, input, output, &mut errors, keeper)
 }
 
-/// Serves one client as `serve_one` does, with the same errors. The first trouble with the store is reported on the errors: why
-/// it can't be taken, refused a step or couldn't be closed. That another process has it is no trouble, and passes.
+/// Serves one client as `serve_one` does, with the same errors. The first fault of the store is reported on the errors: why
+/// it can't be taken, refused a step or couldn't be closed. That another process has it is no fault, and passes.
 pub fn serve_client<R: Read, W: Write, E: Write, K: Keeper>(
     alloc: Global,
     location: StoreLocation<'_>,
@@ -76,9 +77,11 @@ pub fn serve_client<R: Read, W: Write, E: Write, K: Keeper>(
     keeper: &mut K,
 ) -> Result<(), RunFault>
     ensures back { K.is_out keeper.old ≡ false → K.is_out keeper.new ≡ false }
-    ensures serves { IsTrue K.tells → K.is_out keeper.old ≡ false
-        → ServesBy R.remaining input.old input.new W.contents output.old output.new K.refuses K.gives K.will_wait K.closes
-        location.entry K.holds keeper.old keeper.new (IsTold (E.contents errors.old) (E.contents errors.new)) result }
+    ensures serves { IsTrue K.tells → K.is_out keeper.old ≡ false → ServesTables
+        (StopsServing K.refuses K.will_wait location.entry (IsTold (E.contents errors.old) (E.contents errors.new)))
+        (WasOut K.gives K.will_wait K.closes location.entry (IsTold (E.contents errors.old) (E.contents errors.new)))
+        (from_to (R.remaining input.old) (R.remaining input.new)) (from_to (W.contents output.old) (W.contents output.new))
+        (from_to (K.holds keeper.old) (K.holds keeper.new)) result }
     ensures told { TellsOne (E.contents errors.old) (E.contents errors.new) }
     ensures reads { OnOk result (ReadsToEnd R.remaining input.old input.new ⊎ ReadsOn R.remaining input.old input.new) }
     ensures fault { IfErr result IsCutShort }
@@ -100,10 +103,11 @@ pub fn run_session<R: Read, W: Write, E: Write, K: Keeper>(
 ) -> u8
     ensures back { K.is_out keeper.old ≡ false → K.is_out keeper.new ≡ false }
     ensures reads { result ≡ 0 → ReadsToEnd R.remaining input.old input.new ⊎ ReadsOn R.remaining input.old input.new }
-    ensures serves { IsTrue K.tells → K.is_out keeper.old ≡ false → (ending : Result (Unit {0}) RunFault) × (told : Option (List ℕ))
-        × (result ≡ status_after ending) × IfErr ending IsCutShort × TellsOne (E.contents errors.old) told × TellsEnding ending told (E.contents errors.new)
-        × ServesBy R.remaining input.old input.new W.contents output.old output.new K.refuses K.gives K.will_wait K.closes
-        location.entry K.holds keeper.old keeper.new (IsTold (E.contents errors.old) told) ending }
+    ensures serves { IsTrue K.tells → K.is_out keeper.old ≡ false → (ending : Result (Unit {0}) RunFault) × (told : Option (List ℕ)) ×
+        (result ≡ status_after ending) × IfErr ending IsCutShort × TellsOne (E.contents errors.old) told × TellsEnding ending told (E.contents errors.new) ×
+        ServesTables (StopsServing K.refuses K.will_wait location.entry (IsTold (E.contents errors.old) told))
+        (WasOut K.gives K.will_wait K.closes location.entry (IsTold (E.contents errors.old) told)) (from_to (R.remaining input.old) (R.remaining input.new))
+        (from_to (W.contents output.old) (W.contents output.new)) (from_to (K.holds keeper.old) (K.holds keeper.new)) ending }
 {
     match serve_client(alloc, location, input, output, errors, keeper) {
         Ok(()) => 0,
@@ -125,26 +129,24 @@ fn converse<R: Read, W: Write, E: Write, K: Keeper>(
     ensures reads { OnOk result (ReadsToEnd R.remaining input.old input.new
         ⊎ ((session.new.client.closed ≡ true) × ReadsOn R.remaining input.old input.new)) }
     ensures back { K.is_out keeper.old ≡ false → K.is_out keeper.new ≡ false }
-    ensures serves { IsTrue K.tells → K.is_out keeper.old ≡ false → (accounts : Accounts) (first_in first_out : Option (List ℕ))
-        → Served Unstopped ⊥ accounts first_in (R.remaining input.old) first_out
-        (W.contents output.old) session.old.client
-        (K.holds keeper.old)
-        → Converses (StopsServing K.refuses K.will_wait location.entry (IsTold (E.contents errors.old) (E.contents errors.new)))
-        (WasOut K.gives K.will_wait K.closes location.entry (IsTold (E.contents errors.old) (E.contents errors.new)))
-        accounts first_in (R.remaining input.new) first_out (W.contents output.new) (K.holds keeper.new) result }
+    ensures serves { IsTrue K.tells → K.is_out keeper.old ≡ false → (accounts : Accounts) (first_in first_out : Option (List ℕ)) → Served Unstopped ⊥ accounts
+        (from_to first_in (R.remaining input.old)) (from_to first_out (W.contents output.old)) session.old.client (K.holds keeper.old) → Converses
+        (StopsServing K.refuses K.will_wait location.entry (IsTold (E.contents errors.old) (E.contents errors.new)))
+        (WasOut K.gives K.will_wait K.closes location.entry (IsTold (E.contents errors.old) (E.contents errors.new))) accounts
+        (from_to first_in (R.remaining input.new)) (from_to first_out (W.contents output.new)) (K.holds keeper.new) result }
     ensures told { TellsOne (E.contents errors.old) (E.contents errors.new) }
     ensures none { IsTrue K.tells → (K.holds keeper.old).schema ≡ no_schema → (K.holds keeper.new).schema ≡ no_schema }
     ensures fault { IfErr result IsCutShort }
 {
     let mut piece = [0u8; PIECE];
-    let mut trouble = FirstFault::none();
+    let mut first_fault = FirstFault::none();
     for _ in 0..MAX_READS {
         let Some(len) = read_at(input, &mut piece, 0)? else {
             return Ok(());
         };
         session.give(&piece[..len])?;
-        let answered = answer_all(alloc, session, location, output, &mut trouble, keeper);
-        trouble.tell(errors);
+        let answered = answer_all(alloc, session, location, output, &mut first_fault, keeper);
+        first_fault.tell(errors);
         answered?;
         let is_over = session.is_closed();
         if is_over {
@@ -160,15 +162,14 @@ fn answer_all<W: Write, K: Keeper>(
     session: &mut Session,
     location: StoreLocation<'_>,
     output: &mut W,
-    trouble: &mut FirstFault,
+    first_fault: &mut FirstFault,
     keeper: &mut K,
 ) -> Result<(), RunFault>
-    ensures kept { KeepsFirst trouble.old trouble.new }
+    ensures kept { KeepsFirst first_fault.old first_fault.new }
     ensures back { K.is_out keeper.old ≡ false → K.is_out keeper.new ≡ false }
-    ensures answers { IsTrue K.tells → K.is_out keeper.old ≡ false → (accounts : Accounts) → OffersAccounts (K.holds keeper.old) accounts
-        → WritesAll (StopsServing K.refuses K.will_wait location.entry (HasNoted trouble.new))
-        (WasOut K.gives K.will_wait K.closes location.entry (HasNoted trouble.new))
-        accounts session.old.client (W.contents output.old) (W.contents output.new) session.new.client (K.holds keeper.new) result }
+    ensures answers { IsTrue K.tells → K.is_out keeper.old ≡ false → (accounts : Accounts) → OffersAccounts (K.holds keeper.old) accounts → WritesAll
+        (StopsServing K.refuses K.will_wait location.entry (HasNoted first_fault.new)) (WasOut K.gives K.will_wait K.closes location.entry (HasNoted first_fault.new))
+        accounts (from_to session.old.client session.new.client) (from_to (W.contents output.old) (W.contents output.new)) (K.holds keeper.new) result }
     ensures none { IsTrue K.tells → (K.holds keeper.old).schema ≡ no_schema → (K.holds keeper.new).schema ≡ no_schema }
     ensures fault { IfErr result (λ fault. (fault ≡ Stream) × OutputFailed) }
 {
@@ -176,7 +177,7 @@ fn answer_all<W: Write, K: Keeper>(
         if !session.ready() {
             return Ok(());
         }
-        answer_some(alloc, session, location, output, trouble, keeper)?;
+        answer_some(alloc, session, location, output, first_fault, keeper)?;
     }
     Err(RunFault::Stream)
 }
@@ -188,21 +189,20 @@ fn answer_some<W: Write, K: Keeper>(
     session: &mut Session,
     location: StoreLocation<'_>,
     output: &mut W,
-    trouble: &mut FirstFault,
+    first_fault: &mut FirstFault,
     keeper: &mut K,
 ) -> Result<(), RunFault>
     requires { is_ready session.old.client ≡ true }
-    ensures kept { KeepsFirst trouble.old trouble.new }
+    ensures kept { KeepsFirst first_fault.old first_fault.new }
     ensures back { K.is_out keeper.old ≡ false → K.is_out keeper.new ≡ false }
-    ensures answers { IsTrue K.tells → K.is_out keeper.old ≡ false → (accounts : Accounts) → OffersAccounts (K.holds keeper.old) accounts
-        → WritesFirst (StopsServing K.refuses K.will_wait location.entry (HasNoted trouble.new))
-        (WasOut K.gives K.will_wait K.closes location.entry (HasNoted trouble.new))
-        accounts session.old.client (W.contents output.old) (W.contents output.new) session.new.client (K.holds keeper.new) result }
+    ensures answers { IsTrue K.tells → K.is_out keeper.old ≡ false → (accounts : Accounts) → OffersAccounts (K.holds keeper.old) accounts → WritesFirst
+        (StopsServing K.refuses K.will_wait location.entry (HasNoted first_fault.new)) (WasOut K.gives K.will_wait K.closes location.entry (HasNoted first_fault.new))
+        accounts (from_to session.old.client session.new.client) (from_to (W.contents output.old) (W.contents output.new)) (K.holds keeper.new) result }
     ensures none { IsTrue K.tells → (K.holds keeper.old).schema ≡ no_schema → (K.holds keeper.new).schema ≡ no_schema }
     ensures fault { IfErr result (λ fault. (fault ≡ Stream) × OutputFailed) }
 {
     let mut answers = Octets::new(alloc);
-    let answered = answer_under_lock(session, location, &mut answers, trouble, keeper);
+    let answered = answer_under_lock(session, location, &mut answers, first_fault, keeper);
     write_all(output, answers.as_slice())?;
     if answered {
         return Ok(());
@@ -216,26 +216,25 @@ fn answer_under_lock<K: Keeper>(
     session: &mut Session,
     location: StoreLocation<'_>,
     answers: &mut Octets,
-    trouble: &mut FirstFault,
+    first_fault: &mut FirstFault,
     keeper: &mut K,
 ) -> bool
     requires { is_ready session.old.client ≡ true }
     ensures back { K.is_out keeper.old ≡ false → K.is_out keeper.new ≡ false }
-    ensures answers { IsTrue K.tells → (accounts : Accounts) → OffersAccounts (K.holds keeper.old) accounts
-        → RoundsAnswer Unstopped (WasOut K.gives K.will_wait K.closes location.entry (HasNoted trouble.new))
-        accounts session.old.client answers.old answers.new session.new.client
-        (OffersAccounts (K.holds keeper.new)) }
+    ensures answers { IsTrue K.tells → (accounts : Accounts) → OffersAccounts (K.holds keeper.old) accounts → RoundsAnswer Unstopped
+        (WasOut K.gives K.will_wait K.closes location.entry (HasNoted first_fault.new)) accounts (from_to session.old.client session.new.client)
+        (from_to answers.old answers.new) (OffersAccounts (K.holds keeper.new)) }
     ensures whole { IsTrue result → StopsAt session.old.client answers.new session.new.client }
     ensures stopped { result ≡ false → is_ready session.new.client ≡ true }
-    ensures noted { result ≡ false → K.is_out keeper.old ≡ false → IsDenialNoted (IsDeniedBy K.refuses K.will_wait location.entry) trouble.new }
-    ensures kept { KeepsFirst trouble.old trouble.new }
+    ensures noted { result ≡ false → K.is_out keeper.old ≡ false → IsDenialNoted (IsDeniedBy K.refuses K.will_wait location.entry) first_fault.new }
+    ensures kept { KeepsFirst first_fault.old first_fault.new }
     ensures cause { result ≡ false → K.is_out keeper.old ≡ false → Hinders (IsDenied K.refuses K.will_wait location.entry) session.new.client }
     ensures none { IsTrue K.tells → (K.holds keeper.old).schema ≡ no_schema → (K.holds keeper.new).schema ≡ no_schema }
     ensures asked { K.unclosed keeper.old ≡ None → K.unclosed keeper.new ≡ None }
 {
     keeper.wait_for_lock(location.waits);
     if let Err(denial) = keeper.lock(location.path) {
-        note_denial(trouble, denial, keeper);
+        note_denial(first_fault, denial, keeper);
         return false;
     }
     let mut store = None;
@@ -243,12 +242,12 @@ fn answer_under_lock<K: Keeper>(
     let unclosed = give_back(store, keeper);
     match answered {
         Ok(()) => {
-            note_refusal(trouble, unclosed, keeper);
+            note_refusal(first_fault, unclosed, keeper);
             true
         }
         Err(denial) => {
-            note_denial(trouble, denial, keeper);
-            note_refusal(trouble, unclosed, keeper);
+            note_denial(first_fault, denial, keeper);
+            note_refusal(first_fault, unclosed, keeper);
             false
         }
     }
@@ -283,9 +282,9 @@ fn answer_ready<K: Keeper>(
     store: &mut Option<Store<K::S>>,
     keeper: &mut K,
 ) -> Result<(), StoreUnavailable>
-    ensures answers { IsTrue K.tells → (accounts : Accounts)
-        → AreSeen (HasGiven K.gives K.will_wait location.entry) (λ s. (state K.S.Store s).now) (K.holds keeper.old) store.old accounts
-        → RoundsAnswer Unstopped (HasOpenStore K.gives K.will_wait location.entry store.new) accounts session.old.client answers.old answers.new session.new.client
+    ensures answers { IsTrue K.tells → (accounts : Accounts) → AreSeen (HasGiven K.gives K.will_wait location.entry) (λ s. (state K.S.Store s).now)
+        (K.holds keeper.old) store.old accounts → RoundsAnswer Unstopped (HasOpenStore K.gives K.will_wait location.entry store.new) accounts
+        (from_to session.old.client session.new.client) (from_to answers.old answers.new)
         (AreSeen (HasGiven K.gives K.will_wait location.entry) (λ s. (state K.S.Store s).now) (K.holds keeper.new) store.new) }
     ensures whole { OnOk result (StopsAt session.old.client answers.new session.new.client) }
     ensures stopped { OnErr result (is_ready session.new.client ≡ true) }
@@ -313,9 +312,9 @@ fn answer_first<K: Keeper>(
     store: &mut Option<Store<K::S>>,
     keeper: &mut K,
 ) -> Result<(), StoreUnavailable>
-    ensures steps { IsTrue K.tells → (accounts : Accounts)
-        → AreSeen (HasGiven K.gives K.will_wait location.entry) (λ s. (state K.S.Store s).now) (K.holds keeper.old) store.old accounts
-        → StepsOrStays (HasOpenStore K.gives K.will_wait location.entry store.new) accounts session.old.client answers.old answers.new session.new.client
+    ensures steps { IsTrue K.tells → (accounts : Accounts) → AreSeen (HasGiven K.gives K.will_wait location.entry) (λ s. (state K.S.Store s).now)
+        (K.holds keeper.old) store.old accounts → StepsOrStays (HasOpenStore K.gives K.will_wait location.entry store.new) accounts
+        (from_to session.old.client session.new.client) (from_to answers.old answers.new)
         (AreSeen (HasGiven K.gives K.will_wait location.entry) (λ s. (state K.S.Store s).now) (K.holds keeper.new) store.new) (is_ok result) }
     ensures same { OnErr result ((session.new ≡ session.old) × (answers.new ≡ answers.old)) }
     ensures open { IsTrue (is_some store.old) → IsTrue (is_some store.new) }
@@ -327,8 +326,8 @@ fn answer_first<K: Keeper>(
 {
     match session.step_free(answers) {
         Ok(FreeStep::Made(_)) => Ok(()),
-        Ok(FreeStep::Asks(order)) => answer_over_store(
-            session, location, &order, answers, store, keeper,
+        Ok(FreeStep::Asks(command)) => answer_over_store(
+            session, location, &command, answers, store, keeper,
         ),
         Err(AllocError) => Err(StoreUnavailable::Refused(Refusal::Memory)),
     }
@@ -338,15 +337,15 @@ fn answer_first<K: Keeper>(
 fn answer_over_store<K: Keeper>(
     session: &mut Session,
     location: StoreLocation<'_>,
-    order: &StoreCommand,
+    command: &StoreCommand,
     answers: &mut Octets,
     store: &mut Option<Store<K::S>>,
     keeper: &mut K,
 ) -> Result<(), StoreUnavailable>
-    requires { Asked session.old.client order.now }
-    ensures steps { IsTrue K.tells → (accounts : Accounts)
-        → AreSeen (HasGiven K.gives K.will_wait location.entry) (λ s. (state K.S.Store s).now) (K.holds keeper.old) store.old accounts
-        → StepsOrStays (HasOpenStore K.gives K.will_wait location.entry store.new) accounts session.old.client answers.old answers.new session.new.client
+    requires { Asked session.old.client command.now }
+    ensures steps { IsTrue K.tells → (accounts : Accounts) → AreSeen (HasGiven K.gives K.will_wait location.entry) (λ s. (state K.S.Store s).now)
+        (K.holds keeper.old) store.old accounts → StepsOrStays (HasOpenStore K.gives K.will_wait location.entry store.new) accounts
+        (from_to session.old.client session.new.client) (from_to answers.old answers.new)
         (AreSeen (HasGiven K.gives K.will_wait location.entry) (λ s. (state K.S.Store s).now) (K.holds keeper.new) store.new) (is_ok result) }
     ensures same { OnErr result ((session.new ≡ session.old) × (answers.new ≡ answers.old)) }
     ensures open { IsTrue (is_some store.old) → IsTrue (is_some store.new) }
@@ -357,7 +356,7 @@ fn answer_over_store<K: Keeper>(
     ensures closed { K.unclosed keeper.new ≡ K.unclosed keeper.old }
 {
     let mut opened = open_store(location, store, keeper)?;
-    let made = session.step_asked(&mut opened, order, answers);
+    let made = session.step_asked(&mut opened, command, answers);
     *store = Some(opened);
     match made {
         Ok(_) => Ok(()),
@@ -390,28 +389,28 @@ fn open_store<K: Keeper>(
 }
 
 /// Notes why no store is given out, unless another process has it.
-fn note_denial<K: Keeper>(trouble: &mut FirstFault, denial: StoreUnavailable, keeper: &K)
-    ensures busy { denial ≡ Busy → trouble.new ≡ trouble.old }
-    ensures noted { denial ≢ Busy → IsTrue (is_some trouble.new.trouble) }
-    ensures later { IfSome trouble.old.trouble (λ first. trouble.new.trouble ≡ Some first) }
-    ensures told { trouble.new.is_told ≡ trouble.old.is_told }
+fn note_denial<K: Keeper>(first_fault: &mut FirstFault, denial: StoreUnavailable, keeper: &K)
+    ensures busy { denial ≡ Busy → first_fault.new ≡ first_fault.old }
+    ensures noted { denial ≢ Busy → IsTrue (is_some first_fault.new.fault) }
+    ensures later { IfSome first_fault.old.fault (λ first. first_fault.new.fault ≡ Some first) }
+    ensures told { first_fault.new.is_told ≡ first_fault.old.is_told }
 {
     if let StoreUnavailable::Refused(refusal) = denial {
-        note_refusal(trouble, Some(refusal), keeper);
+        note_refusal(first_fault, Some(refusal), keeper);
     }
 }
 
 /// Notes the refusal of a store, if there is one.
-fn note_refusal<K: Keeper>(trouble: &mut FirstFault, refusal: Option<Refusal>, keeper: &K)
-    ensures none { refusal ≡ None → trouble.new ≡ trouble.old }
-    ensures noted { IfSome refusal (λ refusal. IsTrue (is_some trouble.new.trouble)) }
-    ensures first { trouble.old.trouble ≡ None → IfSome refusal (λ refusal. IfSome trouble.new.trouble (λ t. t.fault ≡ RunFault.Refused refusal)) }
-    ensures cause { trouble.old.trouble ≡ None → IfSome refusal (λ refusal. RunFault.Refused refusal ≡ store_failed
-        → IfSome trouble.new.trouble (λ t. option_copied t.cause ≡ K.said keeper.now)) }
-    ensures later { IfSome trouble.old.trouble (λ first. trouble.new.trouble ≡ Some first) }
-    ensures told { trouble.new.is_told ≡ trouble.old.is_told }
+fn note_refusal<K: Keeper>(first_fault: &mut FirstFault, refusal: Option<Refusal>, keeper: &K)
+    ensures none { refusal ≡ None → first_fault.new ≡ first_fault.old }
+    ensures noted { IfSome refusal (λ refusal. IsTrue (is_some first_fault.new.fault)) }
+    ensures first { first_fault.old.fault ≡ None → IfSome refusal (λ refusal. IfSome first_fault.new.fault (λ t. t.fault ≡ RunFault.Refused refusal)) }
+    ensures cause { first_fault.old.fault ≡ None → IfSome refusal (λ refusal. RunFault.Refused refusal ≡ store_failed
+        → IfSome first_fault.new.fault (λ t. option_copied t.cause ≡ K.said keeper.now)) }
+    ensures later { IfSome first_fault.old.fault (λ first. first_fault.new.fault ≡ Some first) }
+    ensures told { first_fault.new.is_told ≡ first_fault.old.is_told }
 {
     if let Some(refusal) = refusal {
-        trouble.note(FaultWithCause::of_store(RunFault::Refused(refusal), keeper));
+        first_fault.note(FaultWithCause::of_store(RunFault::Refused(refusal), keeper));
     }
 }

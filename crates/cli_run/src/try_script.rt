@@ -2,6 +2,7 @@
 ghost use Rattle.std.specs.Prelude.{◌≡◌, IfErr, IfOk, OnOk};
 ghost use Rattle.cli_run.specs.Streams.{ReadsToEnd};
 ghost use Rattle.cli_run.specs.TryScript.{AnswersInput, HasNoAnswer, LeavesOutput, OfInput, RunsTry};
+ghost use Rattle.cli_run.specs.Transitions.{from_to};
 
 use crate::answer::{TryAnswer, answer_to};
 use crate::fault::{RunFault, refuse};
@@ -25,8 +26,8 @@ pub fn try_run<R: Read, W: Write, E: Write>(
     errors: &mut E,
 ) -> u8
     ensures reads { result ≡ 0 → ReadsToEnd R.remaining input.old input.new }
-    ensures runs { RunsTry envelope when (R.remaining input.old) (W.contents output.old) (W.contents output.new)
-        (E.contents errors.old) (E.contents errors.new) result }
+    ensures runs { RunsTry envelope when (R.remaining input.old) (from_to (W.contents output.old) (W.contents output.new))
+        (from_to (E.contents errors.old) (E.contents errors.new)) result }
 {
     match print_answer(alloc, envelope, when, input, output) {
         Ok(TryAnswer::Report(_)) => 0,

@@ -1,7 +1,7 @@
 //! The subcommands with which an administrator maintains an account: each is one event of the engine.
 ghost use Rattle.std.specs.Prelude.{◌≡◌, ◌≢◌, false, IsTrue, OnOk, option_copied};
 ghost use Rattle.store_engine.specs.Hosts.{answer_of};
-ghost use Rattle.store_engine.specs.declared.event.Event.TheVariants.{Keep};
+ghost use Rattle.store_engine.specs.declared.event.Event.TheVariants.{DoUpkeep};
 ghost use Rattle.store_engine.specs.declared.upkeep.Upkeep.TheVariants as upkeep;
 ghost use Rattle.cli_run.specs.Draining.{TurnsTables};
 ghost use Rattle.cli_run.specs.Promise.{status_after};
@@ -9,6 +9,7 @@ ghost use Rattle.cli_run.specs.Serving.{HasDenied, HasGiven};
 ghost use Rattle.cli_run.specs.Streams.{ReadsToEnd};
 ghost use Rattle.cli_run.specs.Values.{HasNoSalt};
 ghost use Rattle.cli_run.specs.Subcommands.{DeniedAtEnd, DoesEvent, IsPasswdEvent, IsDoneBy, IsUpkeepEvent, IsPlainUpkeep, Puts, SaltFailed, upkeep_answer};
+ghost use Rattle.cli_run.specs.Transitions.{from_to};
 
 use crate::commands::take_store;
 use crate::fault::RunFault;
@@ -37,7 +38,7 @@ pub fn run_passwd<R: Read, W: Write, K: Keeper>(
     ensures does { IsTrue K.tells → DoesEvent (SaltFailed (option_copied asked.entry.salt) random) (HasNoSalt (option_copied asked.entry.salt))
         (DeniedAtEnd (HasDenied K.refuses K.will_wait asked.entry.location) (R.remaining input.new))
         (IsPasswdEvent (option_copied asked.entry.salt) random asked.entry.user.now (R.remaining input.old))
-        (W.contents output.old) (W.contents output.new) result (K.holds keeper.old) (K.holds keeper.new) }
+        (from_to (W.contents output.old) (W.contents output.new)) result (from_to (K.holds keeper.old) (K.holds keeper.new)) }
     ensures given { OnOk result (HasGiven K.gives K.will_wait asked.entry.location) }
 {
     let salt = given_salt(asked.salt, random)?;
@@ -63,8 +64,8 @@ pub fn run_address<W: Write, K: Keeper>(
 ) -> Result<(), RunFault>
     ensures back { K.is_out keeper.old ≡ false → K.is_out keeper.new ≡ false }
     ensures does { IsTrue K.tells → DoesEvent ⊥ ⊥ (HasDenied K.refuses K.will_wait asked.entry.location)
-        (IsUpkeepEvent asked.entry.user.now (upkeep.SetAddress asked.entry.address.now))
-        (W.contents output.old) (W.contents output.new) result (K.holds keeper.old) (K.holds keeper.new) }
+        (IsUpkeepEvent asked.entry.user.now (upkeep.SetAddress asked.entry.address.now)) (from_to (W.contents output.old) (W.contents output.new)) result
+        (from_to (K.holds keeper.old) (K.holds keeper.new)) }
     ensures given { OnOk result (HasGiven K.gives K.will_wait asked.entry.location) }
 {
     let address = Octets::from_slice(alloc, asked.address.as_bytes())?;
@@ -88,8 +89,8 @@ pub fn run_open<W: Write, K: Keeper>(
 ) -> Result<(), RunFault>
     ensures back { K.is_out keeper.old ≡ false → K.is_out keeper.new ≡ false }
     ensures does { IsTrue K.tells → DoesEvent ⊥ ⊥ (HasDenied K.refuses K.will_wait asked.entry.location)
-        (IsUpkeepEvent asked.entry.user.now upkeep.OpenAccount)
-        (W.contents output.old) (W.contents output.new) result (K.holds keeper.old) (K.holds keeper.new) }
+        (IsUpkeepEvent asked.entry.user.now upkeep.OpenAccount) (from_to (W.contents output.old) (W.contents output.new)) result
+        (from_to (K.holds keeper.old) (K.holds keeper.new)) }
     ensures given { OnOk result (HasGiven K.gives K.will_wait asked.entry.location) }
 {
     let user = asked.user.as_bytes();
@@ -106,8 +107,8 @@ pub fn run_remove<W: Write, K: Keeper>(
 ) -> Result<(), RunFault>
     ensures back { K.is_out keeper.old ≡ false → K.is_out keeper.new ≡ false }
     ensures does { IsTrue K.tells → DoesEvent ⊥ ⊥ (HasDenied K.refuses K.will_wait asked.entry.location)
-        (IsUpkeepEvent asked.entry.user.now (upkeep.RemoveAccount asked.entry.mail))
-        (W.contents output.old) (W.contents output.new) result (K.holds keeper.old) (K.holds keeper.new) }
+        (IsUpkeepEvent asked.entry.user.now (upkeep.RemoveAccount asked.entry.mail)) (from_to (W.contents output.old) (W.contents output.new)) result
+        (from_to (K.holds keeper.old) (K.holds keeper.new)) }
     ensures given { OnOk result (HasGiven K.gives K.will_wait asked.entry.location) }
 {
     let user = asked.user.as_bytes();
@@ -128,7 +129,7 @@ fn keep_up<K: Keeper>(
     ensures late { status_after result ≢ 64 }
     ensures back { K.is_out keeper.old ≡ false → K.is_out keeper.new ≡ false }
     ensures puts { IsTrue K.tells → TurnsTables
-        (Puts (HasDenied K.refuses K.will_wait location.entry) (Keep user.now upkeep.now) (λ done. upkeep_answer upkeep.now) result) (K.holds keeper.old) (K.holds keeper.new) }
+        (Puts (HasDenied K.refuses K.will_wait location.entry) (DoUpkeep user.now upkeep.now) (λ done. upkeep_answer upkeep.now) result) (K.holds keeper.old) (K.holds keeper.new) }
     ensures given { OnOk result (HasGiven K.gives K.will_wait location.entry) }
 {
     let mut store = take_store(location, false, keeper)?;

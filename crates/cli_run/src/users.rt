@@ -8,6 +8,7 @@ ghost use Rattle.cli_run.specs.Draining.{TurnsTables};
 ghost use Rattle.cli_run.specs.Promise.{status_after};
 ghost use Rattle.cli_run.specs.Serving.{HasDenied, HasGiven};
 ghost use Rattle.cli_run.specs.Subcommands.{AddsUser, DoesUsers, FindsUsers, found_line, open_line, profile_line, user_listing};
+ghost use Rattle.cli_run.specs.Transitions.{from_to};
 
 use crate::commands::take_store;
 use crate::fault::RunFault;
@@ -31,8 +32,8 @@ pub fn run_users<W: Write, K: Keeper>(
 ) -> Result<(), RunFault>
     ensures late { status_after result ≢ 64 }
     ensures back { K.is_out keeper.old ≡ false → K.is_out keeper.new ≡ false }
-    ensures does { IsTrue K.tells → DoesUsers (HasDenied K.refuses K.will_wait asked.entry.location) (W.contents output.old) (W.contents output.new)
-        result (K.holds keeper.old) (K.holds keeper.new) }
+    ensures does { IsTrue K.tells → DoesUsers (HasDenied K.refuses K.will_wait asked.entry.location) (from_to (W.contents output.old) (W.contents output.new))
+        result (from_to (K.holds keeper.old) (K.holds keeper.new)) }
     ensures given { OnOk result (HasGiven K.gives K.will_wait asked.entry.location) }
 {
     let text = list_users(alloc, asked.location, keeper)?;

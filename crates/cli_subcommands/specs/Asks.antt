@@ -268,9 +268,9 @@ AsksIn line m s =
 abbrev pub arg_texts : ArgMatches → List ℕ → List (List ℕ)
 arg_texts m id = unwrap_or (option_map raw_values (matched_of (found_of m) id)) []
 
--- `clap` found `check` in these arguments, and these are the files that were given to it, in their order
-abbrev pub NamesFiles : RawArgs → List (List ℕ) → Type 0
-NamesFiles line files = (m : ArgMatches) × (given : ArgMatches) × WasMatched line (Ok m) × EntersSubcommand m (codes "check") given × (files ≡ arg_texts given (codes "file"))
+-- `clap` found `check`, and these are the files that were given to it, in their order
+abbrev pub NamesFiles : ArgMatches → List (List ℕ) → Type 0
+NamesFiles m files = (given : ArgMatches) × EntersSubcommand m (codes "check") given × (files ≡ arg_texts given (codes "file"))
 
 -- what these arguments ask for; or why they ask for nothing: `clap` refused them, or has a text to show; an argument isn't UTF-8
 abbrev pub WasRead : RawArgs → Result Subcommand ArgsError → Type 0

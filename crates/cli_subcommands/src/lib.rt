@@ -13,7 +13,7 @@ mod subcommand_row;
 pub use location::StoreLocation;
 pub use program::VERSION;
 pub use raw_args::RawArgs;
-pub use reading::{ArgsError, read_command_line, read_files};
+pub use reading::{ArgsError, match_command_line, read_command_line, read_files, read_matches};
 pub use subcommand::Subcommand;
 pub use subcommand::address::AddressArgs;
 pub use subcommand::adduser::AddUserArgs;

@@ -36,11 +36,6 @@ impl RawArgs {
         })
     }
 
-    /// The first argument, if it is UTF-8.
-    pub fn first(&self) -> Option<&str> {
-        str::from_utf8(self.octets.first()?.as_slice()).ok()
-    }
-
     /// What `clap` reads, a text for each argument.
     pub(crate) fn texts(&self) -> &[String] {
         &self.texts

@@ -1,5 +1,5 @@
 //! Reads what the arguments ask for.
-ghost use Rattle.std.specs.Prelude.{◌≡◌, false, map, IfOk};
+ghost use Rattle.std.specs.Prelude.{◌≡◌, false, map, IfOk, IfErr, Ok, Err};
 ghost use Rattle.cli_subcommands.specs.Asks.{HasNoText, NamesFiles, WasMatched, WasRead};
 
 use crate::argument::CliArgument;
@@ -24,19 +24,38 @@ pub enum ArgsError {
     Unknown,
 }
 
-/// Reads the arguments after the program's name; without any it is `try` with an empty envelope.
+/// What `clap` finds in the arguments after the program's name.
 ///
 /// # Errors
 ///
-/// Those of `ArgsError`. If an argument isn't UTF-8, the text of `clap` isn't printed, since it has read a stand-in.
-pub fn read_command_line<'a>(alloc: Global, words: &'a RawArgs) -> Result<Subcommand<'a>, ArgsError>
+/// [`ArgsError::Said`] and [`ArgsError::NotText`]. If an argument isn't UTF-8, the text of `clap` isn't printed, since it has read a
+/// stand-in.
+pub fn match_command_line<'a>(
+    alloc: Global,
+    words: &'a RawArgs,
+) -> Result<ArgMatches<'a>, ArgsError>
+    ensures ok { IfOk result (λ matches. WasMatched words.now (Ok matches)) }
+    ensures err { IfErr result (λ error. WasRead words.now (Err error)) }
+{
+    match match_words(alloc, words) {
+        Ok(matches) => Ok(matches),
+        Err(error) if is_said(words, &error) => Err(ArgsError::Said(error)),
+        Err(_) => Err(ArgsError::NotText),
+    }
+}
+
+/// Reads what arguments ask for that `clap` matched like this; without any it is `try` with an empty envelope.
+///
+/// # Errors
+///
+/// [`ArgsError::NotText`] and [`ArgsError::Unknown`].
+pub fn read_matches<'a>(
+    words: &'a RawArgs,
+    matches: &ArgMatches<'a>,
+) -> Result<Subcommand<'a>, ArgsError>
+    requires { WasMatched words.now (Ok matches.now) }
     ensures { WasRead words.now result }
 {
-    let matches = match match_words(alloc, words) {
-        Ok(matches) => matches,
-        Err(error) if is_said(words, &error) => return Err(ArgsError::Said(error)),
-        Err(_) => return Err(ArgsError::NotText),
-    };
     let Some((name, found)) = matches.subcommand() else {
         return Ok(Subcommand::Try(TryArgs {
             from: b"",
@@ -59,19 +78,29 @@ pub fn read_command_line<'a>(alloc: Global, words: &'a RawArgs) -> Result<Subcom
     }
 }
 
+/// Reads the arguments after the program's name: [`match_command_line`], and then [`read_matches`].
+///
+/// # Errors
+///
+/// Those of `ArgsError`.
+pub fn read_command_line<'a>(alloc: Global, words: &'a RawArgs) -> Result<Subcommand<'a>, ArgsError>
+    ensures { WasRead words.now result }
+{
+    match match_command_line(alloc, words) {
+        Ok(matches) => read_matches(words, &matches),
+        Err(error) => Err(error),
+    }
+}
+
 /// The paths of the files in arguments that ask for `check`, in their order; none for standard input. Time and memory are linear
 /// in the arguments.
 ///
 /// # Errors
 ///
-/// Those of `read_command_line`; [`ArgsError::Unknown`] if the arguments ask for something else.
-pub fn read_files<'a>(alloc: Global, words: &'a RawArgs) -> Result<Vec<&'a str>, ArgsError>
-    ensures { IfOk result (λ files. NamesFiles words.now (map (λ file. file.now) files.items)) }
+/// [`ArgsError::Unknown`] if the arguments ask for something else; [`ArgsError::Said`] for lack of memory.
+pub fn read_files<'a>(alloc: Global, matches: &ArgMatches<'a>) -> Result<Vec<&'a str>, ArgsError>
+    ensures { IfOk result (λ files. NamesFiles matches.now (map (λ file. file.now) files.items)) }
 {
-    let matches = match match_words(alloc, words) {
-        Ok(matches) => matches,
-        Err(error) => return Err(ArgsError::Said(error)),
-    };
     let Some((name, found)) = matches.subcommand() else {
         return Err(ArgsError::Unknown);
     };

@@ -15,7 +15,7 @@ use Rattle.store_engine.proofs.HostLemmas.{clients_are}
 use Rattle.managesieve_sessions.specs.declared.progress.Progress.{Progress}
 use Rattle.net_loop.specs.Talk.{is_same_id}
 use Rattle.store_engine.specs.declared.clients.Clients.{Clients as CodeClients}
-use Rattle.daemon_core.specs.DaemonRules.{Places, place_at}
+use Rattle.daemon_core.specs.DaemonRules.{ChangesClientState, client_state_at}
 use Rattle.daemon_core.specs.ClientStates.{is_out}
 use Rattle.daemon_core.specs.declared.daemon.Daemon.{Daemon}
 use Rattle.daemon_core.specs.declared.client_state.ClientState.{ClientState}
@@ -155,8 +155,8 @@ pub twice_by : {A : Type 0} → (b : Bool) (one two o : A) → cond b two (cond 
 twice_by true one two o = refl
 twice_by false one two o = refl
 
-pub known_twice : (d mid e : Daemon) (id : ℕ) (one two : Option ClientState) → Places d id one mid → Places mid id two e → Places d id two e
-known_twice d mid e id one two first then = λ k. then k ∙ ap (λ o. cond (is_same_id id k) two o) (first k) ∙ twice_by (is_same_id id k) one two (place_at d k)
+pub known_twice : (d mid e : Daemon) (id : ℕ) (one two : Option ClientState) → ChangesClientState d id one mid → ChangesClientState mid id two e → ChangesClientState d id two e
+known_twice d mid e id one two first then = λ k. then k ∙ ap (λ o. cond (is_same_id id k) two o) (first k) ∙ twice_by (is_same_id id k) one two (client_state_at d k)
 
 pub keeps_same : (a : SessionMap) (b c : CodeClients) → KeepsClients a b.sessions → c ≡ b → KeepsClients a c.sessions
 keeps_same a b c keeps is = subst (λ (x : CodeClients). KeepsClients a x.sessions) (sym is) keeps

@@ -16,7 +16,7 @@ use Rattle.net_loop.specs.declared.act.Act.{Act}
 use Rattle.net_loop.specs.declared.act.Act.TheVariants.{Timed, Sent, Noted, Full, ReadBlocked}
 use Rattle.daemon_core.specs.Acts.{no_line, line_after_acts, AreRight, LeadsBy, IsMadeOr}
 use Rattle.daemon_core.specs.StoreAccess.{AreOthers}
-use Rattle.daemon_core.specs.ClientStates.{new_place, session_due_by, never}
+use Rattle.daemon_core.specs.ClientStates.{new_client_state, session_due_by, never}
 use Rattle.daemon_core.specs.Eviction.{silent_rank, kept_rank, want_claim, kept_claim, since_claim, silence_span}
 use Rattle.net_loop.specs.declared.machine.Want.TheVariants as wants
 use Rattle.daemon_core.specs.Waiting.{Allows, said_at_once, is_failure}
@@ -144,12 +144,12 @@ not_ours sessions c there is = let never : Some c ≡ None = sym there ∙ is.0 
 
 -- ---- deadlines
 
-never_late_while_it_waits : (c : Client) → session_due_by (waits.Store 0 5) (new_place 0) c ≡ never
+never_late_while_it_waits : (c : Client) → session_due_by (waits.Store 0 5) (new_client_state 0) c ≡ never
 never_late_while_it_waits c = refl
 
 -- ---- who makes room
 
--- a guest of 50 ms claims that, and one of 49 doesn't
+-- who isn't logged in after 50 ms claims that, and one of 49 doesn't
 claims_then : want_claim 50 wants.More silent_rank 0 ≡ Some (record { rank = silent_rank; moment = 0 })
 claims_then = refl
 

@@ -9,7 +9,6 @@ use Rattle.store_accounts.specs.Account.{Accounts}
 use Rattle.store_accounts.specs.Shows.{ShowsIn}
 use Rattle.std.proofs.lemmas.List.{append-nil}
 use Rattle.store_engine.specs.World.{World, Next, Runs}
-use Rattle.maildir_moves.specs.Enduring.{ShowsMade}
 use Rattle.maildir_moves.specs.declared.moving.Moving.{Moving}
 use Rattle.maildir_moves.specs.declared.moving.Moving.TheVariants as moving
 use Rattle.store_engine.specs.declared.answer.Answer.{Answer}
@@ -24,22 +23,21 @@ use Rattle.net_loop.specs.declared.turn.Turn.TheVariants.{OutOfMemory}
 use Rattle.net_loop.specs.Life.{Move, acts_of, PassesMoves, Fresh, IsPrefixOf}
 use Rattle.net_loop.specs.Moves.{Moment, LoopMoves}
 use Rattle.net_loop.specs.Talk.{client_of}
-use Rattle.daemon_core.specs.Acts.{SessionLine, no_line, LeadsBy, LacksThen, LeadsIn, ActLeads, LeadsOn, RestsOn, opened_by, events_by, events_at, events_in, AnswersBy, AnswersAt, AnswersIn, moment_after, tell_line, line_after_acts, IsRight, AreRight}
-use Rattle.daemon_core.specs.DaemonRules.{lmtp, place_at}
-use Rattle.daemon_core.specs.StoreAccess.{View, IsWorld, ComesTo}
+use Rattle.daemon_core.specs.Acts.{SessionLine, no_line, LeadsBy, LacksThen, LeadsIn, ActLeads, LeadsOn, opened_by, events_by, events_at, events_in, AnswersBy, AnswersAt, AnswersIn, moment_after, tell_line, line_after_acts, IsRight, AreRight}
+use Rattle.daemon_core.specs.DaemonRules.{lmtp, client_state_at}
+use Rattle.daemon_core.specs.StoreAccess.{View, IsWorld}
 use Rattle.daemon_core.specs.Headline.{world_of, HoldsAfter, Headline, IsNewDaemon}
-use Rattle.daemon_core.specs.Holding.{firm_client, firm_post, firm_at, IsBounded}
+use Rattle.daemon_core.specs.Holding.{firm_client, firm_connection, firm_at, IsBounded}
 use Rattle.daemon_core.specs.MailActs.{MailLine, LmtpTells, TellsOn}
-use Rattle.daemon_core.specs.MailRules.{mail_rules, post_at}
+use Rattle.daemon_core.specs.MailRules.{mail_rules, lmtp_connection_at}
 use Rattle.daemon_core.specs.ClientStates.{client_at}
-use Rattle.daemon_core.specs.Tried.{TriesAt, TriedIn, LeavesTried, IsLeftByCrash}
 use Rattle.daemon_core.specs.Moves.{LetAt, MovedAt, takes_of, answers_of}
 use Rattle.daemon_core.specs.declared.mail.MailDaemon.{MailDaemon}
 use Rattle.daemon_core.specs.declared.note.Note.{Note}
 use Rattle.daemon_core.specs.declared.note.Note.TheVariants.{Did, Away, Freed, Spoke, Answered, Asked, Looked, Moved}
 use Rattle.daemon_core.proofs.EventLemmas.{runs_then, runs_one, none_open}
 use Rattle.daemon_core.proofs.HoldingLemmas.{grown, bounded_then}
-use Rattle.daemon_core.proofs.LeadLemmas.{Led, TriedHere, leads}
+use Rattle.daemon_core.proofs.LeadLemmas.{Led, leads}
 use Rattle.daemon_core.proofs.TriedLemmas.{LeavesOn, left_on, left_here, is_left}
 use Rattle.daemon_core.proofs.LineLemmas.{TiedBy, moment_is, tied_after, right_at}
 use Rattle.daemon_core.proofs.MailLemmas.{IsSetUp, stays_set_up, BoundBy, FitsBy as MailFits, words_of as mail_words, mail_after}
@@ -246,18 +244,18 @@ module _ {R : Type 0} (view : View R) where
     no_client : (id : ℕ) → client_of m.service id ≡ None
     no_client id = ap (λ es. lookup (tree.is_at (nat_cmp id)) es) fresh.none
 
-    no_place : (id : ℕ) → place_at m.machine.daemon id ≡ None
-    no_place id = ap (λ es. lookup (tree.is_at (nat_cmp id)) es) new.places
+    no_state : (id : ℕ) → client_state_at m.machine.daemon id ≡ None
+    no_state id = ap (λ es. lookup (tree.is_at (nat_cmp id)) es) new.states
 
-    no_post : (id : ℕ) → post_at m.machine id ≡ None
-    no_post id = ap (λ es. lookup (tree.is_at (nat_cmp id)) es) new.posts
+    no_connection : (id : ℕ) → lmtp_connection_at m.machine id ≡ None
+    no_connection id = ap (λ es. lookup (tree.is_at (nat_cmp id)) es) new.lmtp_connections
 
     stands : Stands m (world_of start)
     stands = record { shown = shown; sessions = none_open m.machine.daemon.clients.sessions new.sessions }
 
     line_begins : (id : ℕ) → Line_at id m (Some no_line)
     line_begins id = (
-      record { none = no_post id; waits = λ place at. let never : ⊥ = let is : None ≡ Some place = sym (no_place id) ∙ at in cc in absurd never },
+      record { none = no_connection id; waits = λ state at. let never : ⊥ = let is : None ≡ Some state = sym (no_state id) ∙ at in cc in absurd never },
       none_sent id (client_of m.service id) m.service.turn (no_client id),
     )
 
@@ -265,7 +263,7 @@ module _ {R : Type 0} (view : View R) where
     mail_begins id = record { set_up = record { named = refl; hosted = refl }; bound = tt; fits = tt }
 
     nothing_firm : (id : ℕ) → firm_at m.machine id ≡ 0
-    nothing_firm id = omega (arith, ap (λ o. firm_client o (client_at m.machine.daemon.clients.sessions id)) (no_place id), ap firm_post (no_post id))
+    nothing_firm id = omega (arith, ap (λ o. firm_client o (client_at m.machine.daemon.clients.sessions id)) (no_state id), ap firm_connection (no_connection id))
 
     bounded_begins : IsBounded m.machine
     bounded_begins count = omega (arith, sums_nothing count (firm_at m.machine) nothing_firm)

@@ -5,12 +5,11 @@ use Rattle.std.specs.FinMap.{get, get-insert}
 use Rattle.std.specs.Ordering.{nat_cmp}
 use Rattle.std.specs.BTreeMap as tree
 use Rattle.lmtp_dialogue.specs.Receivers.{held_by}
-use Rattle.store_accounts.specs.Account.{Accounts}
 use Rattle.store_engine.specs.Hosts.{HasClients}
 use Rattle.store_engine.specs.World.{World, Clients, Next, OpensSession}
 use Rattle.store_engine.specs.declared.answer.Answer.{Answer}
 use Rattle.store_engine.specs.declared.event.Event.{Event}
-use Rattle.store_engine.specs.declared.event.Event.TheVariants.{Open, Give, Step as StepOf, GiveUp, Close, Deliver, AddUser, Import, TakeOut, TakeMail, Keep}
+use Rattle.store_engine.specs.declared.event.Event.TheVariants.{Open, Give, Step as StepOf, GiveUp, Close, Deliver, AddUser, Import, TakeOut, TakeMail, DoUpkeep}
 use Rattle.maildir_moves.specs.declared.moving.Moving.{Moving}
 use Rattle.maildir_moves.specs.declared.moving.Moving.TheVariants as moving
 use Rattle.lmtp_connections.specs.Connections.{LmtpStep}
@@ -33,13 +32,13 @@ use Rattle.net_loop.specs.Turns.{TurnAllows, Tasks, StepsTurn, HeardOrLacking as
 use Rattle.net_loop.proofs.TalkLemmas.{one_number}
 use Rattle.daemon_core.specs.Acts.{LeadsBy, LeadsIn, ActLeads}
 use Rattle.daemon_core.specs.Bounds.{unread_of, held, bound, own}
-use Rattle.daemon_core.specs.DaemonRules.{lmtp, place_at}
+use Rattle.daemon_core.specs.DaemonRules.{lmtp, client_state_at}
 use Rattle.daemon_core.specs.LmtpSteps.{IsLmtpStep}
 use Rattle.daemon_core.specs.StoreAccess.{View, IsWorld}
-use Rattle.daemon_core.specs.Holding.{firm_by, firm_client, firm_post, firm_at, IsBounded}
-use Rattle.daemon_core.specs.MailRules.{mail_rules, post_at, wants_by, HasOctetRoom, KeepsText, FitsAs, OpensBy, PostGives, SessionGives, GivesBy, PostGoes, SessionGoes, GoesBy, DaemonWorks, LacksBy}
+use Rattle.daemon_core.specs.Holding.{firm_by, firm_client, firm_connection, firm_at, IsBounded}
+use Rattle.daemon_core.specs.MailRules.{mail_rules, lmtp_connection_at, wants_by, HasOctetRoom, KeepsText, FitsAs, OpensBy, LmtpClientGives, SessionGives, GivesBy, LmtpClientGoes, SessionGoes, GoesBy, DaemonWorks, LacksBy}
 use Rattle.daemon_core.specs.Moves.{MovedAt}
-use Rattle.daemon_core.specs.ClientStates.{client_at, session_want_by, want_of, is_out, new_place, place_given, place_behind, fit_behind}
+use Rattle.daemon_core.specs.ClientStates.{client_at, session_want_by, want_of, is_out, new_client_state, state_given, state_behind, fit_behind}
 use Rattle.daemon_core.specs.Waiting.{Allows, IsDue}
 use Rattle.daemon_core.specs.declared.daemon.Daemon.{Daemon}
 use Rattle.daemon_core.specs.declared.mail.MailDaemon.{MailDaemon}
@@ -50,8 +49,8 @@ use Rattle.daemon_core.specs.declared.client_state.Fit.TheVariants as fit
 use Rattle.daemon_core.specs.declared.client_state.ClientState.{ClientState}
 use Rattle.daemon_core.specs.declared.client_state.SessionWait.{SessionWait as Waiting}
 use Rattle.daemon_core.specs.declared.client_state.SessionWait.TheVariants as waits
-use Rattle.daemon_core.proofs.LineLemmas.{Touches, touch_same, touch_post, due_at}
-use Rattle.daemon_core.proofs.SumLemmas.{sums_less, sums_one, full_client, full_post, full_at, full_sum}
+use Rattle.daemon_core.proofs.LineLemmas.{Touches, touch_same, touch_connection, due_at}
+use Rattle.daemon_core.proofs.SumLemmas.{sums_less, sums_one, full_client, full_connection, full_at, full_sum}
 use Rattle.daemon_core.proofs.TurnLemmas.{wanted_at}
 use Rattle.daemon_core.proofs.UnreadLemmas.{gained, Grows, none_grows, event_grows}
 
@@ -168,9 +167,9 @@ fit_wanted (waits.Store since again) whether c is = let never : ⊥ = cc in absu
 fit_wanted waits.Refused whether c is = let never : ⊥ = cc in absurd never
 fit_wanted (waits.Reply until text) whether c is = let never : ⊥ = cc in absurd never
 
-place_wanted : (place : ClientState) (o : Option Session) → want_of (Some place) o ≡ want.More → place.fit ≡ fit.Fits
-place_wanted place None is = let never : ⊥ = cc in absurd never
-place_wanted place (Some c) is = fit_wanted place.waits place.fit c is
+state_wanted : (state : ClientState) (o : Option Session) → want_of (Some state) o ≡ want.More → state.fit ≡ fit.Fits
+state_wanted state None is = let never : ⊥ = cc in absurd never
+state_wanted state (Some c) is = fit_wanted state.waits state.fit c is
 
 -- ---- parts of what is held
 
@@ -199,7 +198,7 @@ client_less o p x y is less = subst (λ (t : Option ClientState). firm_client t 
   where
     by : (o : Option ClientState) → firm_client o y ≤ firm_client o x
     by None = omega arith
-    by (Some place) = firm_less place.fit (unread_of y) (unread_of x) less
+    by (Some state) = firm_less state.fit (unread_of y) (unread_of x) less
 
 full_less : (o p : Option ClientState) (x y : Option Session) → p ≡ o → unread_of y ≤ unread_of x → firm_client p y ≤ full_client o x
 full_less o p x y is less = subst (λ (t : Option ClientState). firm_client t y ≤ full_client o x) (sym is) (by o)
@@ -211,11 +210,11 @@ full_less o p x y is less = subst (λ (t : Option ClientState). firm_client t y 
 
     by : (o : Option ClientState) → firm_client o y ≤ full_client o x
     by None = omega arith
-    by (Some place) = fits place.fit
+    by (Some state) = fits state.fit
 
-post_full : (o : Option LmtpConnection) → firm_post o ≤ full_post o
-post_full None = omega arith
-post_full (Some post) = omega arith
+connection_full : (o : Option LmtpConnection) → firm_connection o ≤ full_connection o
+connection_full None = omega arith
+connection_full (Some connection) = omega arith
 
 -- ---- from one moment to the next
 
@@ -228,55 +227,55 @@ bounded_heard d e id count memory fits others its n = omega (arith, ap (λ m. m 
 itself : (n : ℕ) → is_same_id n n ≡ true
 itself n = (eq_by_cmp_equiv nat_cmp_total).refl n
 
-module _ (d e : MailDaemon) (n : ℕ) (post : Option LmtpConnection) (place : Option ClientState) (t : Touches d n post place e)
+module _ (d e : MailDaemon) (n : ℕ) (connection : Option LmtpConnection) (state : Option ClientState) (t : Touches d n connection state e)
     (grows : (k : ℕ) → is_same_id n k ≡ false → unread_of (client_at e.daemon.clients.sessions k) ≤ unread_of (client_at d.daemon.clients.sessions k)) where
-  place_is : place_at e.daemon n ≡ place
-  place_is = t.places n ∙ ap (λ b. cond b place (place_at d.daemon n)) (itself n)
+  state_is : client_state_at e.daemon n ≡ state
+  state_is = t.states n ∙ ap (λ b. cond b state (client_state_at d.daemon n)) (itself n)
 
-  post_is : post_at e n ≡ post
-  post_is = t.posts n ∙ ap (λ b. cond b post (post_at d n)) (itself n)
+  connection_is : lmtp_connection_at e n ≡ connection
+  connection_is = t.lmtp_connections n ∙ ap (λ b. cond b connection (lmtp_connection_at d n)) (itself n)
 
-  other_place : (k : ℕ) → is_same_id n k ≡ false → place_at e.daemon k ≡ place_at d.daemon k
-  other_place k is = t.places k ∙ ap (λ b. cond b place (place_at d.daemon k)) is
+  other_state : (k : ℕ) → is_same_id n k ≡ false → client_state_at e.daemon k ≡ client_state_at d.daemon k
+  other_state k is = t.states k ∙ ap (λ b. cond b state (client_state_at d.daemon k)) is
 
-  other_post : (k : ℕ) → is_same_id n k ≡ false → post_at e k ≡ post_at d k
-  other_post k is = t.posts k ∙ ap (λ b. cond b post (post_at d k)) is
+  other_connection : (k : ℕ) → is_same_id n k ≡ false → lmtp_connection_at e k ≡ lmtp_connection_at d k
+  other_connection k is = t.lmtp_connections k ∙ ap (λ b. cond b connection (lmtp_connection_at d k)) is
 
   others_less : (k : ℕ) → is_same_id n k ≡ false → firm_at e k ≤ firm_at d k
   others_less k is =
-      omega (arith, client_less (place_at d.daemon k) (place_at e.daemon k) (client_at d.daemon.clients.sessions k) (client_at e.daemon.clients.sessions k) (other_place k is) (grows k is), ap firm_post (other_post k is))
+      omega (arith, client_less (client_state_at d.daemon k) (client_state_at e.daemon k) (client_at d.daemon.clients.sessions k) (client_at e.daemon.clients.sessions k) (other_state k is) (grows k is), ap firm_connection (other_connection k is))
 
   others_full : (k : ℕ) → is_same_id n k ≡ false → firm_at e k ≤ full_at d k
   others_full k is =
-      omega (arith, full_less (place_at d.daemon k) (place_at e.daemon k) (client_at d.daemon.clients.sessions k) (client_at e.daemon.clients.sessions k) (other_place k is) (grows k is), ap firm_post (other_post k is), post_full (post_at d k))
+      omega (arith, full_less (client_state_at d.daemon k) (client_state_at e.daemon k) (client_at d.daemon.clients.sessions k) (client_at e.daemon.clients.sessions k) (other_state k is) (grows k is), ap firm_connection (other_connection k is), connection_full (lmtp_connection_at d k))
 
-  touched : firm_client place (client_at e.daemon.clients.sessions n) ≤ firm_client (place_at d.daemon n) (client_at d.daemon.clients.sessions n) → firm_post post ≤ firm_post (post_at d n)
+  touched : firm_client state (client_at e.daemon.clients.sessions n) ≤ firm_client (client_state_at d.daemon n) (client_at d.daemon.clients.sessions n) → firm_connection connection ≤ firm_connection (lmtp_connection_at d n)
       → (k : ℕ) → firm_at e k ≤ firm_at d k
-  touched client posts k = by (is_same_id n k) refl
+  touched client lmtp_connections k = by (is_same_id n k) refl
     where
       its : firm_at e n ≤ firm_at d n
-      its = omega (arith, ap (λ o. firm_client o (client_at e.daemon.clients.sessions n)) place_is, ap firm_post post_is, client, posts)
+      its = omega (arith, ap (λ o. firm_client o (client_at e.daemon.clients.sessions n)) state_is, ap firm_connection connection_is, client, lmtp_connections)
 
       by : (b : Bool) → is_same_id n k ≡ b → firm_at e k ≤ firm_at d k
       by true is = subst (λ j. firm_at e j ≤ firm_at d j) (one_number n k is) its
       by false is = others_less k is
 
   full_touched : (count : ℕ) → e.memory ≡ d.memory → held d + count ≤ bound d
-      → firm_client place (client_at e.daemon.clients.sessions n) + firm_post post ≤ full_at d n + count → IsBounded e
+      → firm_client state (client_at e.daemon.clients.sessions n) + firm_connection connection ≤ full_at d n + count → IsBounded e
   full_touched count memory fits its =
-      bounded_heard d e n count memory fits others_full (omega (arith, ap (λ o. firm_client o (client_at e.daemon.clients.sessions n)) place_is, ap firm_post post_is, its))
+      bounded_heard d e n count memory fits others_full (omega (arith, ap (λ o. firm_client o (client_at e.daemon.clients.sessions n)) state_is, ap firm_connection connection_is, its))
 
 -- ---- each act
 
-deed_gains : (note : Note) (deed : LmtpStep) → IsLmtpStep note deed → (k : ℕ) → gained_by note k ≡ 0
-deed_gains (Did others event answer) deed is k = ap (λ (x : Event). gained x k) is.3
-deed_gains Answered deed is k = refl
-deed_gains (Asked others user lookup) deed is k = refl
-deed_gains Away deed is k = refl
-deed_gains (Freed event answer) deed is k = absurd is
-deed_gains Spoke deed is k = absurd is
-deed_gains (Looked wanted) deed is k = absurd is
-deed_gains (Moved others moving) deed is k = absurd is
+step_gains : (note : Note) (lmtp_step : LmtpStep) → IsLmtpStep note lmtp_step → (k : ℕ) → gained_by note k ≡ 0
+step_gains (Did others event answer) lmtp_step is k = ap (λ (x : Event). gained x k) is.3
+step_gains Answered lmtp_step is k = refl
+step_gains (Asked others user lookup) lmtp_step is k = refl
+step_gains Away lmtp_step is k = refl
+step_gains (Freed event answer) lmtp_step is k = absurd is
+step_gains Spoke lmtp_step is k = absurd is
+step_gains (Looked wanted) lmtp_step is k = absurd is
+step_gains (Moved others moving) lmtp_step is k = absurd is
 
 freed_gains : (now : ℕ) (w : Waiting) (id : ℕ) (event : Event) (answer : Answer) → Allows now w id (Freed event answer) → (k : ℕ) → gained event k ≡ 0
 freed_gains now w id (Open n) answer is k = refl
@@ -289,7 +288,7 @@ freed_gains now w id (AddUser name address salt password) answer is k = refl
 freed_gains now w id (Import file) answer is k = refl
 freed_gains now w id (TakeOut user row) answer is k = refl
 freed_gains now w id (TakeMail user folder) answer is k = refl
-freed_gains now w id (Keep user upkeep) answer is k = refl
+freed_gains now w id (DoUpkeep user upkeep) answer is k = refl
 
 allowed_gains : (now : ℕ) (w : Waiting) (id : ℕ) (note : Note) → Allows now w id note → (k : ℕ) → gained_by note k ≡ 0
 allowed_gains now w id (Did others event answer) is k = ap (λ (x : Event). gained x k) is.1
@@ -315,17 +314,17 @@ module _ {R : Type 0} (view : View R) (d e : MailDaemon) (r q : R) (s u : Servic
   none n more k is = omega (arith, more k)
 
   lost : (n : ℕ) → LacksBy d n e → ((k : ℕ) → is_same_id n k ≡ false → unread_of (client_at e.daemon.clients.sessions k) ≤ unread_of (client_at d.daemon.clients.sessions k)) → Kept_on
-  lost n lacks grows = bounded_same d e lacks.host.memory (touched d e n None None (record { posts = lacks.posts; places = lacks.lacks.place.places }) grows (omega arith) (omega arith))
+  lost n lacks grows = bounded_same d e lacks.host.memory (touched d e n None None (record { lmtp_connections = lacks.lmtp_connections; states = lacks.lacks.state.states }) grows (omega arith) (omega arith))
 
   -- one comes
   opened : (b : Bool) (n : ℕ) (said : List ℕ) → OpensBy b d s.moment n said e → Grown d e (λ k. 0) → (w : World) → IsWorld view r d.daemon.clients.sessions w → Kept_on
   opened true n said o more w is =
-      bounded_same d e o.host.memory (touched d e n (Some o.post) None (record { posts = o.posts; places = o.daemon.place.places }) (none n more) (omega arith) (omega (arith, o.empty)))
+      bounded_same d e o.host.memory (touched d e n (Some o.connection) None (record { lmtp_connections = o.lmtp_connections; states = o.daemon.state.states }) (none n more) (omega arith) (omega (arith, o.empty)))
   opened false n said o more w is =
       let h = o.opens.event in
       let made = h.2 w is.sessions in
       bounded_same d e o.host.memory
-      (touched d e n None (Some (new_place s.moment)) (record { posts = o.posts; places = o.opens.place.places }) (none n more)
+      (touched d e n None (Some (new_client_state s.moment)) (record { lmtp_connections = o.lmtp_connections; states = o.opens.state.states }) (none n more)
       (omega (arith, ap unread_of (made.2 n), next_empty w (record { accounts = w.accounts; sessions = made.0 }) n h.0 made.1 h.1)) (omega arith))
 
   came : (n kind : ℕ) (said : List ℕ) → Enters (mail_rules view) d s.moment n kind said e u → Grown d e (λ k. 0) → (w : World) → IsWorld view r d.daemon.clients.sessions w → Kept_on
@@ -337,7 +336,7 @@ module _ {R : Type 0} (view : View R) (d e : MailDaemon) (r q : R) (s u : Servic
       by (inr lacks) = lost n lacks (none n more)
 
   -- octets come of a client of LMTP
-  module _ (n : ℕ) (piece said : List ℕ) (g : PostGives d s.moment n piece said e) where
+  module _ (n : ℕ) (piece said : List ℕ) (g : LmtpClientGives d s.moment n piece said e) where
     same_daemon : (k : ℕ) → unread_of (client_at e.daemon.clients.sessions k) ≤ unread_of (client_at d.daemon.clients.sessions k)
     same_daemon k = omega (arith, ap (λ (x : Daemon). unread_of (client_at x.clients.sessions k)) g.daemon)
 
@@ -348,44 +347,44 @@ module _ {R : Type 0} (view : View R) (d e : MailDaemon) (r q : R) (s u : Servic
     fitted_memory (inl is) = ap (λ (x : MailDaemon). x.memory) is.1
     fitted_memory (inr is) = is.1.host.memory
 
-    its_place : firm_client (place_at g.fitted.daemon n) (client_at e.daemon.clients.sessions n) ≤ full_client (place_at g.fitted.daemon n) (client_at g.fitted.daemon.clients.sessions n)
-    its_place = full_less (place_at g.fitted.daemon n) (place_at g.fitted.daemon n) (client_at g.fitted.daemon.clients.sessions n) (client_at e.daemon.clients.sessions n) refl (same_fitted n)
+    its_state : firm_client (client_state_at g.fitted.daemon n) (client_at e.daemon.clients.sessions n) ≤ full_client (client_state_at g.fitted.daemon n) (client_at g.fitted.daemon.clients.sessions n)
+    its_state = full_less (client_state_at g.fitted.daemon n) (client_state_at g.fitted.daemon n) (client_at g.fitted.daemon.clients.sessions n) (client_at e.daemon.clients.sessions n) refl (same_fitted n)
 
-    after_is : full_post (post_at e n) ≡ held_by g.after.receiver
-    after_is = ap full_post (g.posts n ∙ ap (λ b. cond b (Some g.after) (post_at d n)) (itself n))
+    after_is : full_connection (lmtp_connection_at e n) ≡ held_by g.after.receiver
+    after_is = ap full_connection (g.lmtp_connections n ∙ ap (λ b. cond b (Some g.after) (lmtp_connection_at d n)) (itself n))
 
-    taken_is : full_post (post_at e n) ≡ held_by g.takes.after.receiver
-    taken_is = ap full_post (g.takes.posts n ∙ ap (λ b. cond b (Some g.takes.after) (post_at g.fitted n)) (itself n))
+    taken_is : full_connection (lmtp_connection_at e n) ≡ held_by g.takes.after.receiver
+    taken_is = ap full_connection (g.takes.lmtp_connections n ∙ ap (λ b. cond b (Some g.takes.after) (lmtp_connection_at g.fitted n)) (itself n))
 
-    post_given : HasOctetRoom g.fitted n (length piece) → Kept_on
-    post_given (inl fits) was =
-        full_touched g.fitted e n (Some g.takes.after) (place_at g.fitted.daemon n) (touch_post g.fitted e n (Some g.takes.after) g.takes.posts (λ other. ap (λ (x : Daemon). place_at x other) g.takes.daemon)) (λ k no. same_fitted k)
-        (length piece) g.takes.host.memory fits (omega (arith, its_place, g.takes.held, ap full_post g.takes.was))
-    post_given (inr its) was =
+    connection_given : HasOctetRoom g.fitted n (length piece) → Kept_on
+    connection_given (inl fits) was =
+        full_touched g.fitted e n (Some g.takes.after) (client_state_at g.fitted.daemon n) (touch_connection g.fitted e n (Some g.takes.after) g.takes.lmtp_connections (λ other. ap (λ (x : Daemon). client_state_at x other) g.takes.daemon)) (λ k no. same_fitted k)
+        (length piece) g.takes.host.memory fits (omega (arith, its_state, g.takes.held, ap full_connection g.takes.was))
+    connection_given (inr its) was =
         bounded_same d e g.host.memory
-        (touched d e n (Some g.after) (place_at d.daemon n) (touch_post d e n (Some g.after) g.posts (λ other. ap (λ (x : Daemon). place_at x other) g.daemon)) (λ k no. same_daemon k)
-        (client_less (place_at d.daemon n) (place_at d.daemon n) (client_at d.daemon.clients.sessions n) (client_at e.daemon.clients.sessions n) refl (same_daemon n))
-        (omega (arith, after_is, taken_is, g.takes.held, ap full_post g.takes.was, ap full_post its.1, its.2))) was
+        (touched d e n (Some g.after) (client_state_at d.daemon n) (touch_connection d e n (Some g.after) g.lmtp_connections (λ other. ap (λ (x : Daemon). client_state_at x other) g.daemon)) (λ k no. same_daemon k)
+        (client_less (client_state_at d.daemon n) (client_state_at d.daemon n) (client_at d.daemon.clients.sessions n) (client_at e.daemon.clients.sessions n) refl (same_daemon n))
+        (omega (arith, after_is, taken_is, g.takes.held, ap full_connection g.takes.was, ap full_connection its.1, its.2))) was
 
   -- of one of ManageSieve, for whose octets there was room so far
   module _ (n : ℕ) (piece said : List ℕ) (g : SessionGives d s.moment n piece said e) (more : Grown d e (λ k. cond (is_same_id n k) (length piece) 0)) (short : length piece ≤ largest_piece) (fitted : g.gives.before.fit ≡ fit.Fits) where
     abbrev new : ClientState
-    new = place_given s.moment g.gives.before g.gives.client g.whether
+    new = state_given s.moment g.gives.before g.gives.client g.whether
 
     its_more : unread_of (client_at e.daemon.clients.sessions n) ≤ unread_of (client_at d.daemon.clients.sessions n) + length piece
     its_more = omega (arith, more n, ap (λ b. cond b (length piece) 0) (itself n))
 
     session_given : (whether : Fit) → g.whether ≡ whether → FitsAs d n (length piece) whether → Kept_on
     session_given fit.Fits is (inl fits) was =
-        full_touched d e n None (Some new) (touch_same d e n (Some new) g.other g.same.posts g.gives.place.places) (few n (length piece) more) (length piece) g.same.host.memory fits.all
+        full_touched d e n None (Some new) (touch_same d e n (Some new) g.other g.same.lmtp_connections g.gives.state.states) (few n (length piece) more) (length piece) g.same.host.memory fits.all
         (omega (arith, its_more, ap (λ f. firm_by f (unread_of (client_at e.daemon.clients.sessions n))) is, ap (λ o. full_client o (client_at d.daemon.clients.sessions n)) g.gives.was))
     session_given fit.Fits is (inr small) was =
         bounded_same d e g.same.host.memory
-        (touched d e n None (Some new) (touch_same d e n (Some new) g.other g.same.posts g.gives.place.places) (few n (length piece) more)
+        (touched d e n None (Some new) (touch_same d e n (Some new) g.other g.same.lmtp_connections g.gives.state.states) (few n (length piece) more)
         (omega (arith, its_more, small, ap (λ f. firm_by f (unread_of (client_at e.daemon.clients.sessions n))) is)) (omega arith)) was
     session_given fit.Over is passes was =
         bounded_same d e g.same.host.memory
-        (touched d e n None (Some new) (touch_same d e n (Some new) g.other g.same.posts g.gives.place.places) (few n (length piece) more)
+        (touched d e n None (Some new) (touch_same d e n (Some new) g.other g.same.lmtp_connections g.gives.state.states) (few n (length piece) more)
         (omega (
           arith,
           its_more,
@@ -401,38 +400,38 @@ module _ {R : Type 0} (view : View R) (d e : MailDaemon) (r q : R) (s u : Servic
   heard n count piece said (inr lacks) tasks short more = lost n lacks.0 (few n (length piece) more)
   heard n count piece said (inl went) tasks short more = by went.0
     where
-      wanted : wants_by (post_at d n) (want_of (place_at d.daemon n) (client_at d.daemon.clients.sessions n)) ≡ want.More
+      wanted : wants_by (lmtp_connection_at d n) (want_of (client_state_at d.daemon n) (client_at d.daemon.clients.sessions n)) ≡ want.More
       wanted = hear_wanted (mail_rules view) d s.moment count n (client_of s n) tasks.task
 
       by : GivesBy d s.moment n piece said e → Kept_on
-      by (inl g) = post_given n piece said g g.fits.room
+      by (inl g) = connection_given n piece said g g.fits.room
       by (inr g) =
-          let its : want_of (place_at d.daemon n) (client_at d.daemon.clients.sessions n) ≡ want.More =
-          subst (λ o. wants_by o (want_of (place_at d.daemon n) (client_at d.daemon.clients.sessions n)) ≡ want.More) g.other wanted in
+          let its : want_of (client_state_at d.daemon n) (client_at d.daemon.clients.sessions n) ≡ want.More =
+          subst (λ o. wants_by o (want_of (client_state_at d.daemon n) (client_at d.daemon.clients.sessions n)) ≡ want.More) g.other wanted in
           session_given n piece said g more short
-          (place_wanted g.gives.before (client_at d.daemon.clients.sessions n) (subst (λ o. want_of o (client_at d.daemon.clients.sessions n) ≡ want.More) g.gives.was its)) g.whether refl g.fits
+          (state_wanted g.gives.before (client_at d.daemon.clients.sessions n) (subst (λ o. want_of o (client_at d.daemon.clients.sessions n) ≡ want.More) g.gives.was its)) g.whether refl g.fits
 
   -- a step
-  post_goes : (n : ℕ) (note : Note) (said : List ℕ) → PostGoes view d r s.moment n note said e q → Grown d e (gained_by note) → Kept_on
-  post_goes n note said g more =
-      let still : (k : ℕ) → unread_of (client_at e.daemon.clients.sessions k) ≤ unread_of (client_at d.daemon.clients.sessions k) = λ k. omega (arith, more k, deed_gains note g.does.deed g.does.is k) in
+  lmtp_goes : (n : ℕ) (note : Note) (said : List ℕ) → LmtpClientGoes view d r s.moment n note said e q → Grown d e (gained_by note) → Kept_on
+  lmtp_goes n note said g more =
+      let still : (k : ℕ) → unread_of (client_at e.daemon.clients.sessions k) ≤ unread_of (client_at d.daemon.clients.sessions k) = λ k. omega (arith, more k, step_gains note g.does.lmtp_step g.does.is k) in
       bounded_same d e g.host.memory
-      (touched d e n (Some g.after) (place_at d.daemon n) (touch_post d e n (Some g.after) g.posts (λ other. ap (λ places. place_at (record d.daemon { places = places }) other) g.does.places)) (λ k no. still k)
-      (client_less (place_at d.daemon n) (place_at d.daemon n) (client_at d.daemon.clients.sessions n) (client_at e.daemon.clients.sessions n) refl (still n))
-      (omega (arith, g.does.held, ap firm_post g.was)))
+      (touched d e n (Some g.after) (client_state_at d.daemon n) (touch_connection d e n (Some g.after) g.lmtp_connections (λ other. ap (λ states. client_state_at (record d.daemon { states = states }) other) g.does.states)) (λ k no. still k)
+      (client_less (client_state_at d.daemon n) (client_state_at d.daemon n) (client_at d.daemon.clients.sessions n) (client_at e.daemon.clients.sessions n) refl (still n))
+      (omega (arith, g.does.held, ap firm_connection g.was)))
 
   session_goes : (n : ℕ) (note : Note) (said : List ℕ) → SessionGoes view d r s.moment n note said e q → StepsTurn (mail_rules view) d s n u.turn → Grown d e (gained_by note) → Kept_on
   session_goes n note said g on more =
-      let wants : Want = want_of (place_at d.daemon n) (client_at d.daemon.clients.sessions n) in
-      let wanted : task_wanted s.moment (wants_by (post_at d n) wants) ≡ Step = wanted_at (mail_rules view) d s.moment on.count n (client_of s n) on.wanted.task in
+      let wants : Want = want_of (client_state_at d.daemon n) (client_at d.daemon.clients.sessions n) in
+      let wanted : task_wanted s.moment (wants_by (lmtp_connection_at d n) wants) ≡ Step = wanted_at (mail_rules view) d s.moment on.count n (client_of s n) on.wanted.task in
       let its : task_wanted s.moment wants ≡ Step = subst (λ o. task_wanted s.moment (wants_by o wants) ≡ Step) g.other wanted in
       let due : IsDue s.moment g.goes.before.waits =
       due_at s.moment g.goes.before (client_at d.daemon.clients.sessions n) (subst (λ o. task_wanted s.moment (want_of o (client_at d.daemon.clients.sessions n)) ≡ Step) g.goes.was its) in
       let still : (k : ℕ) → unread_of (client_at e.daemon.clients.sessions k) ≤ unread_of (client_at d.daemon.clients.sessions k) =
       λ k. omega (arith, more k, allowed_gains s.moment g.goes.before.waits n note (g.goes.allows due) k) in
-      let later : ClientState = place_behind s.moment g.goes.before note (client_at e.daemon.clients.sessions n) in
+      let later : ClientState = state_behind s.moment g.goes.before note (client_at e.daemon.clients.sessions n) in
       bounded_same d e g.same.host.memory
-      (touched d e n None (Some later) (touch_same d e n (Some later) g.other g.same.posts g.goes.place) (λ k no. still k)
+      (touched d e n None (Some later) (touch_same d e n (Some later) g.other g.same.lmtp_connections g.goes.state) (λ k no. still k)
       (omega (
         arith,
         behind_less g.goes.before.fit note (unread_of (client_at e.daemon.clients.sessions n)),
@@ -442,7 +441,7 @@ module _ {R : Type 0} (view : View R) (d e : MailDaemon) (r q : R) (s u : Servic
       (omega arith))
 
   goes : (n : ℕ) (note : Note) (said : List ℕ) → GoesBy view d r s.moment n note said e q → StepsTurn (mail_rules view) d s n u.turn → Grown d e (gained_by note) → Kept_on
-  goes n note said (inl g) on more = post_goes n note said g more
+  goes n note said (inl g) on more = lmtp_goes n note said g more
   goes n note said (inr g) on more = session_goes n note said g on more
 
   -- work of its own
@@ -460,8 +459,8 @@ module _ {R : Type 0} (view : View R) (d e : MailDaemon) (r q : R) (s u : Servic
   rested note work more =
       bounded_same d e work.same.host.memory (λ k. omega (
         arith,
-        client_less (place_at d.daemon k) (place_at e.daemon k) (client_at d.daemon.clients.sessions k) (client_at e.daemon.clients.sessions k) (ap (λ places. tree.get nat_cmp places k) work.does.places) (omega (arith, more k, work_gains note work k)),
-        ap (λ posts. firm_post (tree.get nat_cmp posts k)) work.same.posts,
+        client_less (client_state_at d.daemon k) (client_state_at e.daemon k) (client_at d.daemon.clients.sessions k) (client_at e.daemon.clients.sessions k) (ap (λ states. tree.get nat_cmp states k) work.does.states) (omega (arith, more k, work_gains note work k)),
+        ap (λ lmtp_connections. firm_connection (tree.get nat_cmp lmtp_connections k)) work.same.lmtp_connections,
       ))
 
   late : (n : ℕ) (said : List ℕ) → Parting (mail_rules view) d s n said e u → Grown d e (λ k. 0) → Kept_on
@@ -480,7 +479,7 @@ module _ {R : Type 0} (view : View R) (d e : MailDaemon) (r q : R) (s u : Servic
   bounded_then (Noted n note) said t more w is = goes n note said t.0 t.1 more
   bounded_then (Worked note) said t more w is = rested note t.0 more
   bounded_then (Ended n) said t more w is =
-      bounded_same d e t.0.host.memory (touched d e n None None (record { posts = t.0.posts; places = t.0.closes.place.places }) (none n more) (omega arith) (omega arith))
+      bounded_same d e t.0.host.memory (touched d e n None None (record { lmtp_connections = t.0.lmtp_connections; states = t.0.closes.state.states }) (none n more) (omega arith) (omega arith))
   bounded_then (Late n) said t more w is = late n said t.2 more
   bounded_then (Displaced n) said t more w is = late n said t.1 more
   bounded_then (Full n) said t more w is = lacked n t.1 more

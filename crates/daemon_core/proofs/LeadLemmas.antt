@@ -1,5 +1,5 @@
 -- What a move of the daemon makes of accounts and sessions.
-use Rattle.std.proofs.Common.{◌≡◌, ◌⊎◌, inl, inr, ℕ, ◌==◌, Bool, true, false, List, Option, Some, None, is_some, IfSome, refl, sym, ◌∙◌, ap, subst, if◌then◌else◌}
+use Rattle.std.proofs.Common.{◌≡◌, ◌⊎◌, inl, inr, ℕ, ◌==◌, Bool, true, false, List, Option, Some, None, is_some, IfSome, refl, sym, ◌∙◌, ap, subst}
 use Rattle.std.specs.FinMap.{get}
 use Rattle.managesieve_sessions.specs.Clients.{Client}
 use Rattle.sqlite_trees.specs.Tree.{Trees}
@@ -26,11 +26,11 @@ use Rattle.maildir_moves.specs.Enduring.{MayLeave, ShowsMade, ShowsTried, none_t
 use Rattle.maildir_moves.specs.declared.moving.Moving.{Moving}
 use Rattle.maildir_moves.specs.declared.moving.Moving.TheVariants as moving
 use Rattle.maildir_moves.proofs.EnduringLemmas.{left_alone, left_weaker}
-use Rattle.daemon_core.specs.Acts.{LeadsBy, LeadsIn, ActLeads, LacksThen, IsMadeOr, IsGuest}
-use Rattle.daemon_core.specs.DaemonRules.{lmtp, place_at, Happened, Made, NoteMakes, WorksBy}
+use Rattle.daemon_core.specs.Acts.{LeadsBy, LeadsIn, ActLeads, LacksThen, IsMadeOr, IsUnauthenticated}
+use Rattle.daemon_core.specs.DaemonRules.{lmtp, client_state_at, Happened, Made, NoteMakes, WorksBy}
 use Rattle.daemon_core.specs.LmtpSteps.{IsLmtpStep, StepStores}
 use Rattle.daemon_core.specs.StoreAccess.{View, DoneAt, IsWorld, ComesTo, IsEventDone, NothingDone, ViewStillShows}
-use Rattle.daemon_core.specs.MailRules.{mail_rules, post_at, OpensBy, GivesBy, GoesBy, LacksBy}
+use Rattle.daemon_core.specs.MailRules.{mail_rules, lmtp_connection_at, OpensBy, GivesBy, GoesBy, LacksBy}
 use Rattle.daemon_core.specs.Moves.{MovedAt, TriedAt}
 use Rattle.daemon_core.specs.ClientStates.{client_at, has_login}
 use Rattle.daemon_core.specs.Eviction.{is_flooded}
@@ -42,9 +42,9 @@ use Rattle.daemon_core.specs.declared.note.Note.{Note}
 use Rattle.daemon_core.specs.declared.note.Note.TheVariants.{Did, Away, Freed, Spoke, Answered, Asked, Looked, Moved}
 use Rattle.daemon_core.proofs.EventLemmas.{clients_one, open_refused, give_refused, give_unheard}
 
-guest_of : (o : Option Client) → has_login o ≡ false → IfSome o (λ c. c.user ≡ None)
-guest_of None is = tt
-guest_of (Some c) is = by c.user is
+unauthenticated_of : (o : Option Client) → has_login o ≡ false → IfSome o (λ c. c.user ≡ None)
+unauthenticated_of None is = tt
+unauthenticated_of (Some c) is = by c.user is
   where
     by : (user : Option (List ℕ)) → is_some user ≡ false → user ≡ None
     by None none = refl
@@ -149,18 +149,18 @@ module _ {R : Type 0} (view : View R) (d e : MailDaemon) (r q : R) where
   noted (Moved others moving) w is makes = absurd makes
 
   -- what is done for a client of LMTP
-  did : (note : Note) (deed : LmtpStep) (w : World) → IsWorld view r d.daemon.clients.sessions w → IsLmtpStep note deed → StepStores view r d.daemon.clients.sessions note q e.daemon.clients.sessions → LedBy w note
-  did (Did others event answer) deed w is told stores = done_so others event answer w is stores
-  did (Asked others user lookup) deed w is told stores = let it = stores w is in (it.0, it.1, record { is = it.2.is; left = untried _ w.accounts it.0.accounts it.2.left })
-  did Away deed w is told stores = (w, refl, nothing w is stores)
-  did Answered deed w is told stores = (w, refl, nothing w is stores)
-  did (Freed event answer) deed w is told stores = absurd told
-  did Spoke deed w is told stores = absurd told
-  did (Looked wanted) deed w is told stores = absurd told
-  did (Moved others moving) deed w is told stores = absurd told
+  did : (note : Note) (lmtp_step : LmtpStep) (w : World) → IsWorld view r d.daemon.clients.sessions w → IsLmtpStep note lmtp_step → StepStores view r d.daemon.clients.sessions note q e.daemon.clients.sessions → LedBy w note
+  did (Did others event answer) lmtp_step w is told stores = done_so others event answer w is stores
+  did (Asked others user lookup) lmtp_step w is told stores = let it = stores w is in (it.0, it.1, record { is = it.2.is; left = untried _ w.accounts it.0.accounts it.2.left })
+  did Away lmtp_step w is told stores = (w, refl, nothing w is stores)
+  did Answered lmtp_step w is told stores = (w, refl, nothing w is stores)
+  did (Freed event answer) lmtp_step w is told stores = absurd told
+  did Spoke lmtp_step w is told stores = absurd told
+  did (Looked wanted) lmtp_step w is told stores = absurd told
+  did (Moved others moving) lmtp_step w is told stores = absurd told
 
   goes : (now id : ℕ) (note : Note) (said : List ℕ) (w : World) → IsWorld view r d.daemon.clients.sessions w → GoesBy view d r now id note said e q → LedBy w note
-  goes now id note said w is (inl g) = did note g.does.deed w is g.does.is g.does.stores
+  goes now id note said w is (inl g) = did note g.does.lmtp_step w is g.does.is g.does.stores
   goes now id note said w is (inr g) = noted note w is g.goes.makes
 
   -- what the daemon does by itself
@@ -178,12 +178,12 @@ module _ {R : Type 0} (view : View R) (d e : MailDaemon) (r q : R) where
   worked now Answered w is works = absurd works
   worked now (Asked others user lookup) w is works = absurd works
 
-  -- who makes room is a guest
-  guest_goes : (s : Service) (kind id : ℕ) → makes_room (mail_rules view) d s kind ≡ Some id → (w : World) → IsWorld view r d.daemon.clients.sessions w → IsGuest w id
-  guest_goes s kind id room w is =
+  -- who makes room isn't logged in
+  unauthenticated_goes : (s : Service) (kind id : ℕ) → makes_room (mail_rules view) d s kind ≡ Some id → (w : World) → IsWorld view r d.daemon.clients.sessions w → IsUnauthenticated w id
+  unauthenticated_goes s kind id room w is =
       let its = claims_one (mail_rules view) d s kind id room in
-      let nobody = no_user_goes s.moment (is_flooded d.posts.entries) (post_at d id) (place_at d.daemon id) (client_at d.daemon.clients.sessions id) its.0 its.1 in
-      guest_of (get w.sessions id) (subst (λ c. has_login c ≡ false) (is.sessions id) nobody)
+      let nobody = no_user_goes s.moment (is_flooded d.lmtp_connections.entries) (lmtp_connection_at d id) (client_state_at d.daemon id) (client_at d.daemon.clients.sessions id) its.0 its.1 in
+      unauthenticated_of (get w.sessions id) (subst (λ c. has_login c ≡ false) (is.sessions id) nobody)
 
   -- where memory was lacking for a connection, that is what follows says
   module _ (s u : Service) (more : List (Act Note)) (lacks_then : (id kind : ℕ) → u.turn ≡ OutOfMemory id kind → LacksThen id more) where
@@ -232,7 +232,7 @@ module _ {R : Type 0} (view : View R) (d e : MailDaemon) (r q : R) where
     leads (Noted id note) said w turns left is = goes s.moment id note said w is turns.0
     leads (Worked note) said w turns left is = worked s.moment note w is turns.0.does.works
     leads (Late id) said w turns left is = (w, refl, same w is (late id said turns.2) left)
-    leads (Displaced id) said w turns left is = (w, (refl, guest_goes s turns.0.0 id turns.0.2 w is), same w is (late id said turns.1) left)
+    leads (Displaced id) said w turns left is = (w, (refl, unauthenticated_goes s turns.0.0 id turns.0.2 w is), same w is (late id said turns.1) left)
     leads (Listened kind) said w turns left is = (w, refl, same w is (kept turns.0.0) left)
     leads (Full id) said w turns left is = (w, refl, same w is (lacked id turns.1) left)
     leads (Woke within wakes) said w turns left is = (w, refl, same w is (kept turns.0.0) left)

@@ -1,5 +1,5 @@
 pub mod BoundLemmas
-pub mod DeedLemmas
+pub mod LmtpStepLemmas
 pub mod EventLemmas
 pub mod Examples
 pub mod HeadlineLemmas

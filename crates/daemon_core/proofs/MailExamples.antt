@@ -19,11 +19,11 @@ use Rattle.net_loop.specs.Life.{IsPrefixOf}
 use Rattle.net_loop.specs.declared.act.Act.{Act}
 use Rattle.net_loop.specs.declared.act.Act.TheVariants.{Came, Sent}
 use Rattle.daemon_core.specs.Acts.{LeadsBy}
-use Rattle.daemon_core.specs.Bounds.{unread_of, held, bound, own, guests, share, IsGuestAt}
-use Rattle.daemon_core.specs.MailRules.{post_at, HasOctetRoom, KeepsText, Fits, FitsAs}
+use Rattle.daemon_core.specs.Bounds.{unread_of, held, bound, own, unauthenticated_held, share, IsUnauthenticatedAt}
+use Rattle.daemon_core.specs.MailRules.{lmtp_connection_at, HasOctetRoom, KeepsText, Fits, FitsAs}
 use Rattle.daemon_core.specs.ClientStates.{client_at}
 use Rattle.daemon_core.specs.declared.client_state.Fit.TheVariants as fit
-use Rattle.daemon_core.proofs.SumLemmas.{full_post}
+use Rattle.daemon_core.proofs.SumLemmas.{full_connection}
 use Rattle.daemon_core.specs.declared.mail.MailDaemon.{MailDaemon}
 use Rattle.daemon_core.specs.LmtpSteps.{IsLmtpStep, IsDeliveryResult, one_line, refusal_reply}
 use Rattle.daemon_core.specs.MailActs.{MailLine, new_mail, sent_more, TellsOn}
@@ -53,12 +53,12 @@ not_bounced is = let never : Refused NoSuchUser ≡ Refused LocalFault = is in c
 away_is : IsLmtpStep note.Away Away
 away_is = refl
 
--- near misses: the step of a session is no deed for a client of LMTP, nor is an event that asks no store
-not_a_step : (told : Answer) (deed : LmtpStep) → IsLmtpStep (note.Did [] (Step 1) told) deed → ⊥
-not_a_step told deed is = let never : Step 1 ≡ Deliver is.0.user (record { from = is.0.sender; to = is.0.recipient }) is.0.message is.1.when is.1.default = is.3 in cc
+-- near misses: the step of a session is no step for a client of LMTP, nor is an event that asks no store
+not_a_step : (told : Answer) (lmtp_step : LmtpStep) → IsLmtpStep (note.Did [] (Step 1) told) lmtp_step → ⊥
+not_a_step told lmtp_step is = let never : Step 1 ≡ Deliver is.0.user (record { from = is.0.sender; to = is.0.recipient }) is.0.message is.1.when is.1.default = is.3 in cc
 
-not_freed : (told : Answer) (deed : LmtpStep) → IsLmtpStep (note.Freed (Step 1) told) deed → ⊥
-not_freed told deed is = is
+not_freed : (told : Answer) (lmtp_step : LmtpStep) → IsLmtpStep (note.Freed (Step 1) told) lmtp_step → ⊥
+not_freed told lmtp_step is = is
 
 -- ---- what was found of an account
 
@@ -103,16 +103,16 @@ not_over : (d : MailDaemon) (id count : ℕ) → bound d < held d + count → ow
 not_over d id count over more (inl keeps) = omega (arith, over, keeps.all)
 not_over d id count over more (inr small) = omega (arith, more, small)
 
-no_guest_over : (d : MailDaemon) (id count : ℕ) → IsGuestAt d id → share d < guests d + count → own < unread_of (client_at d.daemon.clients.sessions id) + count → FitsAs d id count fit.Fits → ⊥
-no_guest_over d id count guest over more (inl keeps) = omega (arith, over, keeps.guests guest)
-no_guest_over d id count guest over more (inr small) = omega (arith, more, small)
+no_unauthenticated_over : (d : MailDaemon) (id count : ℕ) → IsUnauthenticatedAt d id → share d < unauthenticated_held d + count → own < unread_of (client_at d.daemon.clients.sessions id) + count → FitsAs d id count fit.Fits → ⊥
+no_unauthenticated_over d id count unauthenticated over more (inl keeps) = omega (arith, over, keeps.unauthenticated_held unauthenticated)
+no_unauthenticated_over d id count unauthenticated over more (inr small) = omega (arith, more, small)
 
-no_text_over : (d e : MailDaemon) (id count : ℕ) (post : LmtpConnection) → post_at e id ≡ Some post → bound e < held e + count → own < held_by post.receiver + count → Fits d id count e → ⊥
-no_text_over d e id count post at over more fits = by fits.room
+no_text_over : (d e : MailDaemon) (id count : ℕ) (connection : LmtpConnection) → lmtp_connection_at e id ≡ Some connection → bound e < held e + count → own < held_by connection.receiver + count → Fits d id count e → ⊥
+no_text_over d e id count connection at over more fits = by fits.room
   where
     by : HasOctetRoom e id count → ⊥
     by (inl room) = omega (arith, over, room)
-    by (inr its) = omega (arith, more, its.2, ap full_post (sym at ∙ its.1))
+    by (inr its) = omega (arith, more, its.2, ap full_connection (sym at ∙ its.1))
 
 -- a MAIL is told as answered, and what it lacked is one number
 refused_for : IsLmtpStep note.Answered (Declined 1000)

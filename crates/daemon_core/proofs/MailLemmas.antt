@@ -5,8 +5,6 @@ use Rattle.std.specs.BTreeMap as tree
 use Rattle.lmtp_dialogue.specs.Replies.{lmtp_greeting, lmtp_line_of}
 use Rattle.lmtp_dialogue.specs.declared.name.Names.{Names}
 use Rattle.lmtp_dialogue.specs.declared.reply.LmtpReply.TheVariants.{Idle}
-use Rattle.store_accounts.specs.Account.{Accounts}
-use Rattle.store_engine.specs.declared.event.Event.{Event}
 use Rattle.lmtp_connections.specs.Connections.{LmtpState, new_lmtp_state, lmtp_state_heard}
 use Rattle.lmtp_connections.specs.Stands.{ConnectionStands}
 use Rattle.lmtp_connections.specs.declared.connection.LmtpConnection.{LmtpConnection as Code}
@@ -19,14 +17,14 @@ use Rattle.net_loop.specs.Talk.{is_same_id, client_of, client_kind, ClientTalks}
 use Rattle.net_loop.specs.Turns.{TurnAllows, HeardOrLacking as Went, Lacks, Parting, ServiceOpens as Enters}
 use Rattle.net_loop.proofs.TalkLemmas.{one_number}
 use Rattle.daemon_core.specs.StoreAccess.{View}
-use Rattle.daemon_core.specs.DaemonRules.{lmtp, place_at}
+use Rattle.daemon_core.specs.DaemonRules.{lmtp, client_state_at}
 use Rattle.daemon_core.specs.MailActs.{MailLine, new_mail, mail_came, says_more, sent_more, IsLmtpNoted, Its, TellsOf, LmtpTells}
-use Rattle.daemon_core.specs.MailRules.{mail_rules, post_at, OpensBy, GivesBy, GoesBy, SameHost, IsFarewell, SaysLast, DaemonWorks, LacksBy}
+use Rattle.daemon_core.specs.MailRules.{mail_rules, lmtp_connection_at, OpensBy, GivesBy, GoesBy, SameHost, IsFarewell, SaysLast, DaemonWorks, LacksBy}
 use Rattle.daemon_core.specs.declared.daemon.Daemon.{Daemon}
 use Rattle.daemon_core.specs.declared.mail.MailDaemon.{MailDaemon}
 use Rattle.daemon_core.specs.declared.note.Note.{Note}
 use Rattle.daemon_core.specs.declared.client_state.ClientState.{ClientState}
-use Rattle.daemon_core.proofs.LineLemmas.{Touches, touch_same, touch_post}
+use Rattle.daemon_core.proofs.LineLemmas.{Touches, touch_same, touch_connection}
 use Rattle.daemon_core.proofs.SentLemmas.{Words, spells, Fits, words_after, fits_new, fits_after}
 
 -- ---- how the daemon is set up stays
@@ -110,41 +108,41 @@ module _ {R : Type 0} (view : View R) (names : Names) (host : List ℕ) (d e : M
 
 -- nothing of a client of ManageSieve has its number
 pub record Bound (d : MailDaemon) (id : ℕ) (p : LmtpState) : Type 0 where
-  pub none : place_at d.daemon id ≡ None
-  pub stands : (c : Code) → post_at d id ≡ Some c → ConnectionStands c p
+  pub none : client_state_at d.daemon id ≡ None
+  pub stands : (c : Code) → lmtp_connection_at d id ≡ Some c → ConnectionStands c p
 
 abbrev pub BoundBy : MailDaemon → ℕ → Option MailLine → Type 0
 BoundBy d id None = Unit {0}
-BoundBy d id (Some l) = Bound d id l.post
+BoundBy d id (Some l) = Bound d id l.connection
 
 -- a connection n of which this is known now
-pub record Keeps (post : Option Code) (place : Option ClientState) (p : LmtpState) : Type 0 where
-  pub none : place ≡ None
-  pub stands : (c : Code) → post ≡ Some c → ConnectionStands c p
+pub record Keeps (connection : Option Code) (state : Option ClientState) (p : LmtpState) : Type 0 where
+  pub none : state ≡ None
+  pub stands : (c : Code) → connection ≡ Some c → ConnectionStands c p
 
-bound_put : (d e : MailDaemon) (id : ℕ) (post : Option Code) (place : Option ClientState) (b : Bool) (k l : LmtpState) → post_at e id ≡ cond b post (post_at d id) → place_at e.daemon id ≡ cond b place (place_at d.daemon id)
-    → (b ≡ true → Keeps post place k) → Bound d id l → Bound e id (cond b k l)
-bound_put d e id post place true k l posts places put bound =
-    let new = put refl in record { none = places ∙ new.none; stands = λ c at. new.stands c (sym posts ∙ at) }
-bound_put d e id post place false k l posts places put bound = record { none = places ∙ bound.none; stands = λ c at. bound.stands c (sym posts ∙ at) }
+bound_put : (d e : MailDaemon) (id : ℕ) (connection : Option Code) (state : Option ClientState) (b : Bool) (k l : LmtpState) → lmtp_connection_at e id ≡ cond b connection (lmtp_connection_at d id) → client_state_at e.daemon id ≡ cond b state (client_state_at d.daemon id)
+    → (b ≡ true → Keeps connection state k) → Bound d id l → Bound e id (cond b k l)
+bound_put d e id connection state true k l lmtp_connections states put bound =
+    let new = put refl in record { none = states ∙ new.none; stands = λ c at. new.stands c (sym lmtp_connections ∙ at) }
+bound_put d e id connection state false k l lmtp_connections states put bound = record { none = states ∙ bound.none; stands = λ c at. bound.stands c (sym lmtp_connections ∙ at) }
 
 -- none is kept
 none_kept : (p : LmtpState) → Keeps None None p
 none_kept p = record { none = refl; stands = λ c at. let never : ⊥ = let is : ◌≡◌ {A = Option Code} None (Some c) = at in cc in absurd never }
 
 -- this one is
-one_kept : (code : Code) (p : LmtpState) → ConnectionStands code p → (place : Option ClientState) → place ≡ None → Keeps (Some code) place p
-one_kept code p stands place none = record { none = none; stands = λ c at. let one : code ≡ c = cc in subst (λ x. ConnectionStands x p) one stands }
+one_kept : (code : Code) (p : LmtpState) → ConnectionStands code p → (state : Option ClientState) → state ≡ None → Keeps (Some code) state p
+one_kept code p stands state none = record { none = none; stands = λ c at. let one : code ≡ c = cc in subst (λ x. ConnectionStands x p) one stands }
 
-same_post : (b : Bool) (p : LmtpState) → cond b p p ≡ p
-same_post true p = refl
-same_post false p = refl
+same_connection : (b : Bool) (p : LmtpState) → cond b p p ≡ p
+same_connection true p = refl
+same_connection false p = refl
 
 -- what is said last to it
 farewell_by : (o : Option Code) (p : Option ClientState) (said : List ℕ) → p ≡ None → IsFarewell o p said → said ≡ lmtp_line_of Idle
 farewell_by (Some code) p said none is = is
 farewell_by None None said none is = absurd is
-farewell_by None (Some place) said none is = let never : ⊥ = cc in absurd never
+farewell_by None (Some state) said none is = let never : ⊥ = cc in absurd never
 
 idle_some : [] ≡ lmtp_line_of Idle → ⊥
 idle_some is = cc
@@ -157,124 +155,124 @@ FitsBy id None o turn = Unit {0}
 FitsBy id (Some l) o turn = Fits id (words_of l) o turn
 
 module _ {R : Type 0} (view : View R) (names : Names) (host : List ℕ) (d e : MailDaemon) (r q : R) (s u : Service) (id : ℕ) (is_set_up : IsSetUp names host d) where
-  touched : (n : ℕ) (post : Option Code) (place : Option ClientState) → Touches d n post place e → (k l : LmtpState) → (is_same_id n id ≡ true → Keeps post place k) → Bound d id l → Bound e id (cond (is_same_id n id) k l)
-  touched n post place t k l put bound = bound_put d e id post place (is_same_id n id) k l (t.posts id) (t.places id) put bound
+  touched : (n : ℕ) (connection : Option Code) (state : Option ClientState) → Touches d n connection state e → (k l : LmtpState) → (is_same_id n id ≡ true → Keeps connection state k) → Bound d id l → Bound e id (cond (is_same_id n id) k l)
+  touched n connection state t k l put bound = bound_put d e id connection state (is_same_id n id) k l (t.lmtp_connections id) (t.states id) put bound
 
-  touched_still : (n : ℕ) (post : Option Code) (place : Option ClientState) → Touches d n post place e → (l : LmtpState) → (is_same_id n id ≡ true → Keeps post place l) → Bound d id l → Bound e id l
-  touched_still n post place t l put bound = subst (λ k. Bound e id k) (same_post (is_same_id n id) l) (touched n post place t l l put bound)
+  touched_still : (n : ℕ) (connection : Option Code) (state : Option ClientState) → Touches d n connection state e → (l : LmtpState) → (is_same_id n id ≡ true → Keeps connection state l) → Bound d id l → Bound e id l
+  touched_still n connection state t l put bound = subst (λ k. Bound e id k) (same_connection (is_same_id n id) l) (touched n connection state t l l put bound)
 
   lost : (n : ℕ) → LacksBy d n e → Touches d n None None e
-  lost n lacks = record { posts = lacks.posts; places = lacks.lacks.place.places }
+  lost n lacks = record { lmtp_connections = lacks.lmtp_connections; states = lacks.lacks.state.states }
 
   gone : (n : ℕ) → LacksBy d n e → (k l : LmtpState) → Bound d id l → Bound e id (cond (is_same_id n id) k l)
   gone n lacks k l bound = touched n None None (lost n lacks) k l (λ is. none_kept k) bound
 
   -- behind an act of one that came
-  module _ (l : MailLine) (bound : Bound d id l.post) where
+  module _ (l : MailLine) (bound : Bound d id l.connection) where
     -- what an act makes of it
     abbrev Then : Act Note → Type 0
-    Then act = (k : MailLine) × TellsOf id s.moment l act k × Bound e id k.post × Fits id (words_of k) (client_of u id) u.turn
+    Then act = (k : MailLine) × TellsOf id s.moment l act k × Bound e id k.connection × Fits id (words_of k) (client_of u id) u.turn
 
-    still : e ≡ d → Bound e id l.post
-    still is = subst (λ (x : MailDaemon). Bound x id l.post) (sym is) bound
+    still : e ≡ d → Bound e id l.connection
+    still is = subst (λ (x : MailDaemon). Bound x id l.connection) (sym is) bound
 
     -- no place of a client of ManageSieve is its own
-    no_place : (n : ℕ) (place : ClientState) → place_at d.daemon n ≡ Some place → is_same_id n id ≡ true → ⊥
-    no_place n place was is = let never : None ≡ Some place = sym bound.none ∙ ap (λ k. place_at d.daemon k) (sym (one_number n id is)) ∙ was in cc
+    no_state : (n : ℕ) (state : ClientState) → client_state_at d.daemon n ≡ Some state → is_same_id n id ≡ true → ⊥
+    no_state n state was is = let never : None ≡ Some state = sym bound.none ∙ ap (λ k. client_state_at d.daemon k) (sym (one_number n id is)) ∙ was in cc
 
-    stood : (n : ℕ) (code : Code) → post_at d n ≡ Some code → is_same_id n id ≡ true → ConnectionStands code l.post
-    stood n code was is = bound.stands code (ap (λ k. post_at d k) (sym (one_number n id is)) ∙ was)
+    stood : (n : ℕ) (code : Code) → lmtp_connection_at d n ≡ Some code → is_same_id n id ≡ true → ConnectionStands code l.connection
+    stood n code was is = bound.stands code (ap (λ k. lmtp_connection_at d k) (sym (one_number n id is)) ∙ was)
 
-    place_none : (n : ℕ) → is_same_id n id ≡ true → place_at d.daemon n ≡ None
-    place_none n is = ap (λ k. place_at d.daemon k) (one_number n id is) ∙ bound.none
+    state_none : (n : ℕ) → is_same_id n id ≡ true → client_state_at d.daemon n ≡ None
+    state_none n is = ap (λ k. client_state_at d.daemon k) (one_number n id is) ∙ bound.none
 
     heard_to : ℕ → List ℕ → MailLine
-    heard_to n piece = record l { post = cond (is_same_id n id) (lmtp_state_heard s.moment piece l.post) l.post }
+    heard_to n piece = record l { connection = cond (is_same_id n id) (lmtp_state_heard s.moment piece l.connection) l.connection }
 
-    given : (n : ℕ) (piece said : List ℕ) → GivesBy d s.moment n piece said e → Bound e id (cond (is_same_id n id) (lmtp_state_heard s.moment piece l.post) l.post)
+    given : (n : ℕ) (piece said : List ℕ) → GivesBy d s.moment n piece said e → Bound e id (cond (is_same_id n id) (lmtp_state_heard s.moment piece l.connection) l.connection)
     given n piece said (inl g) =
-        touched n (Some g.after) (place_at d.daemon n) (touch_post d e n (Some g.after) g.posts (λ other. ap (λ (k : Daemon). place_at k other) g.daemon)) (lmtp_state_heard s.moment piece l.post) l.post
-        (λ is. one_kept g.after (lmtp_state_heard s.moment piece l.post) (g.hears l.post (stood n g.before g.was is)) (place_at d.daemon n) (place_none n is)) bound
+        touched n (Some g.after) (client_state_at d.daemon n) (touch_connection d e n (Some g.after) g.lmtp_connections (λ other. ap (λ (k : Daemon). client_state_at k other) g.daemon)) (lmtp_state_heard s.moment piece l.connection) l.connection
+        (λ is. one_kept g.after (lmtp_state_heard s.moment piece l.connection) (g.hears l.connection (stood n g.before g.was is)) (client_state_at d.daemon n) (state_none n is)) bound
     given n piece said (inr g) =
-        touched n None _ (touch_same d e n _ g.other g.same.posts g.gives.place.places) (lmtp_state_heard s.moment piece l.post) l.post (λ is. absurd (no_place n g.gives.before g.gives.was is)) bound
+        touched n None _ (touch_same d e n _ g.other g.same.lmtp_connections g.gives.state.states) (lmtp_state_heard s.moment piece l.connection) l.connection (λ is. absurd (no_state n g.gives.before g.gives.was is)) bound
 
-    heard : (n count : ℕ) (piece said : List ℕ) → Went (GivesBy d s.moment n piece said e) (LacksBy d n e) n (client_kind (client_of s n)) count said u.turn → Bound e id (cond (is_same_id n id) (lmtp_state_heard s.moment piece l.post) l.post)
+    heard : (n count : ℕ) (piece said : List ℕ) → Went (GivesBy d s.moment n piece said e) (LacksBy d n e) n (client_kind (client_of s n)) count said u.turn → Bound e id (cond (is_same_id n id) (lmtp_state_heard s.moment piece l.connection) l.connection)
     heard n count piece said (inl g) = given n piece said g.0
-    heard n count piece said (inr g) = gone n g.0 (lmtp_state_heard s.moment piece l.post) l.post bound
+    heard n count piece said (inr g) = gone n g.0 (lmtp_state_heard s.moment piece l.connection) l.connection bound
 
-    heard_then : (b : Bool) (piece : List ℕ) → Bound e id (cond b (lmtp_state_heard s.moment piece l.post) l.post) → Fits id (words_of l) (client_of u id) u.turn
-        → (k : MailLine) × Its b (k ≡ record l { post = lmtp_state_heard s.moment piece l.post }) (k ≡ l) × Bound e id k.post × Fits id (words_of k) (client_of u id) u.turn
-    heard_then true piece now_bound fits = (record l { post = lmtp_state_heard s.moment piece l.post }, refl, now_bound, fits)
+    heard_then : (b : Bool) (piece : List ℕ) → Bound e id (cond b (lmtp_state_heard s.moment piece l.connection) l.connection) → Fits id (words_of l) (client_of u id) u.turn
+        → (k : MailLine) × Its b (k ≡ record l { connection = lmtp_state_heard s.moment piece l.connection }) (k ≡ l) × Bound e id k.connection × Fits id (words_of k) (client_of u id) u.turn
+    heard_then true piece now_bound fits = (record l { connection = lmtp_state_heard s.moment piece l.connection }, refl, now_bound, fits)
     heard_then false piece now_bound fits = (l, refl, now_bound, fits)
 
-    -- a deed for it, or a note of another
+    -- a step for it, or a note of another
     done : (n : ℕ) (note : Note) (said : List ℕ) → is_same_id n id ≡ true → GoesBy view d r s.moment n note said e q → Fits id (spells said (words_of l)) (client_of u id) u.turn
-        → (k : MailLine) × IsLmtpNoted s.moment l note k × Bound e id k.post × Fits id (words_of k) (client_of u id) u.turn
+        → (k : MailLine) × IsLmtpNoted s.moment l note k × Bound e id k.connection × Fits id (words_of k) (client_of u id) u.turn
     done n note said is (inl g) fits =
-        let did = g.does.does l.post (stood n g.before g.was is) in
-        let post : post_at e id ≡ Some g.after = g.posts id ∙ ap (λ b. cond b (Some g.after) (post_at d id)) is in
-        let place : place_at e.daemon id ≡ None = ap (λ places. place_at (record d.daemon { places = places }) id) g.does.places ∙ bound.none in (
-          record { post = did.0; spelled = l.spelled ++ said; sent = l.sent },
-          record { deed = g.does.deed; told = g.does.is; said = said; after = did.0; goes = did.1; leaves = refl },
-          record { none = place; stands = λ c at. let one : g.after ≡ c = let both : Some g.after ≡ Some c = sym post ∙ at in cc in subst (λ x. ConnectionStands x did.0) one did.2 },
+        let did = g.does.does l.connection (stood n g.before g.was is) in
+        let connection : lmtp_connection_at e id ≡ Some g.after = g.lmtp_connections id ∙ ap (λ b. cond b (Some g.after) (lmtp_connection_at d id)) is in
+        let state : client_state_at e.daemon id ≡ None = ap (λ states. client_state_at (record d.daemon { states = states }) id) g.does.states ∙ bound.none in (
+          record { connection = did.0; spelled = l.spelled ++ said; sent = l.sent },
+          record { lmtp_step = g.does.lmtp_step; told = g.does.is; said = said; after = did.0; goes = did.1; leaves = refl },
+          record { none = state; stands = λ c at. let one : g.after ≡ c = let both : Some g.after ≡ Some c = sym connection ∙ at in cc in subst (λ x. ConnectionStands x did.0) one did.2 },
           fits,
         )
-    done n note said is (inr g) fits = absurd (no_place n g.goes.before g.goes.was is)
+    done n note said is (inr g) fits = absurd (no_state n g.goes.before g.goes.was is)
 
-    done_elsewhere : (n : ℕ) (note : Note) (said : List ℕ) → is_same_id n id ≡ false → GoesBy view d r s.moment n note said e q → Bound e id l.post
+    done_elsewhere : (n : ℕ) (note : Note) (said : List ℕ) → is_same_id n id ≡ false → GoesBy view d r s.moment n note said e q → Bound e id l.connection
     done_elsewhere n note said other (inl g) =
-        touched_still n (Some g.after) (place_at d.daemon n) (touch_post d e n (Some g.after) g.posts (λ k. ap (λ places. place_at (record d.daemon { places = places }) k) g.does.places)) l.post
+        touched_still n (Some g.after) (client_state_at d.daemon n) (touch_connection d e n (Some g.after) g.lmtp_connections (λ k. ap (λ states. client_state_at (record d.daemon { states = states }) k) g.does.states)) l.connection
         (λ is. let never : ⊥ = let both : true ≡ false = sym is ∙ other in cc in absurd never) bound
     done_elsewhere n note said other (inr g) =
-        touched_still n None _ (touch_same d e n _ g.other g.same.posts g.goes.place) l.post (λ is. let never : ⊥ = let both : true ≡ false = sym is ∙ other in cc in absurd never) bound
+        touched_still n None _ (touch_same d e n _ g.other g.same.lmtp_connections g.goes.state) l.connection (λ is. let never : ⊥ = let both : true ≡ false = sym is ∙ other in cc in absurd never) bound
 
     noted_then : (b : Bool) (n : ℕ) (note : Note) (said : List ℕ) → is_same_id n id ≡ b → GoesBy view d r s.moment n note said e q → Fits id (cond b (spells said (words_of l)) (words_of l)) (client_of u id) u.turn
-        → (k : MailLine) × Its b (IsLmtpNoted s.moment l note k) (k ≡ l) × Bound e id k.post × Fits id (words_of k) (client_of u id) u.turn
+        → (k : MailLine) × Its b (IsLmtpNoted s.moment l note k) (k ≡ l) × Bound e id k.connection × Fits id (words_of k) (client_of u id) u.turn
     noted_then true n note said is g fits = done n note said is g fits
     noted_then false n note said is g fits = (l, refl, done_elsewhere n note said is g, fits)
 
     -- it was late
-    late_bound : (n : ℕ) (said : List ℕ) → Parting (mail_rules view) d s n said e u → Bound e id l.post
+    late_bound : (n : ℕ) (said : List ℕ) → Parting (mail_rules view) d s n said e u → Bound e id l.connection
     late_bound n said (inl p) = still p.1.stays
     late_bound n said (inr (inl p)) = still p.2.0
-    late_bound n said (inr (inr p)) = subst (λ k. Bound e id k) (same_post (is_same_id n id) l.post) (gone n p.2 l.post l.post bound)
+    late_bound n said (inr (inr p)) = subst (λ k. Bound e id k) (same_connection (is_same_id n id) l.connection) (gone n p.2 l.connection l.connection bound)
 
-    late_then : (b : Bool) → Bound e id l.post → Fits id (cond b (spells (lmtp_line_of Idle) (words_of l)) (words_of l)) (client_of u id) u.turn
-        → (k : MailLine) × Its b (k ≡ says_more (lmtp_line_of Idle) l) (k ≡ l) × Bound e id k.post × Fits id (words_of k) (client_of u id) u.turn
+    late_then : (b : Bool) → Bound e id l.connection → Fits id (cond b (spells (lmtp_line_of Idle) (words_of l)) (words_of l)) (client_of u id) u.turn
+        → (k : MailLine) × Its b (k ≡ says_more (lmtp_line_of Idle) l) (k ≡ l) × Bound e id k.connection × Fits id (words_of k) (client_of u id) u.turn
     late_then true now_bound fits = (says_more (lmtp_line_of Idle) l, refl, now_bound, fits)
     late_then false now_bound fits = (l, refl, now_bound, fits)
 
-    sent_then : (b : Bool) (octets : List ℕ) → Bound e id l.post → Fits id (cond b (words_of (sent_more octets l)) (words_of l)) (client_of u id) u.turn
-        → (k : MailLine) × Its b (k ≡ sent_more octets l) (k ≡ l) × Bound e id k.post × Fits id (words_of k) (client_of u id) u.turn
+    sent_then : (b : Bool) (octets : List ℕ) → Bound e id l.connection → Fits id (cond b (words_of (sent_more octets l)) (words_of l)) (client_of u id) u.turn
+        → (k : MailLine) × Its b (k ≡ sent_more octets l) (k ≡ l) × Bound e id k.connection × Fits id (words_of k) (client_of u id) u.turn
     sent_then true octets now_bound fits = (sent_more octets l, refl, now_bound, fits)
     sent_then false octets now_bound fits = (l, refl, now_bound, fits)
 
-    lacked : (n : ℕ) → Lacks (mail_rules view) d s n e u → Bound e id l.post
+    lacked : (n : ℕ) → Lacks (mail_rules view) d s n e u → Bound e id l.connection
     lacked n (inl t) = still t.2
-    lacked n (inr (inl t)) = subst (λ k. Bound e id k) (same_post (is_same_id n id) l.post) (gone n t.0 l.post l.post bound)
+    lacked n (inr (inl t)) = subst (λ k. Bound e id k) (same_connection (is_same_id n id) l.connection) (gone n t.0 l.connection l.connection bound)
     lacked n (inr (inr t)) = still t.0
 
-    rested : (note : Note) → DaemonWorks view d r s.moment note e q → Bound e id l.post
+    rested : (note : Note) → DaemonWorks view d r s.moment note e q → Bound e id l.connection
     rested note work =
-        let post : post_at e id ≡ post_at d id = ap (λ posts. post_at (record d { posts = posts }) id) work.same.posts in
-        let place : place_at e.daemon id ≡ place_at d.daemon id = ap (λ places. tree.get nat_cmp places id) work.does.places in
-        record { none = place ∙ bound.none; stands = λ c at. bound.stands c (sym post ∙ at) }
+        let connection : lmtp_connection_at e id ≡ lmtp_connection_at d id = ap (λ lmtp_connections. lmtp_connection_at (record d { lmtp_connections = lmtp_connections }) id) work.same.lmtp_connections in
+        let state : client_state_at e.daemon id ≡ client_state_at d.daemon id = ap (λ states. tree.get nat_cmp states id) work.does.states in
+        record { none = state ∙ bound.none; stands = λ c at. bound.stands c (sym connection ∙ at) }
 
-    ended : (n : ℕ) → Touches d n None None e → Bound e id l.post
-    ended n t = touched_still n None None t l.post (λ is. none_kept l.post) bound
+    ended : (n : ℕ) → Touches d n None None e → Bound e id l.connection
+    ended n t = touched_still n None None t l.connection (λ is. none_kept l.connection) bound
 
     -- another came
-    opened : (b : Bool) (n : ℕ) (said : List ℕ) → is_same_id n id ≡ false → OpensBy b d s.moment n said e → Bound e id l.post
+    opened : (b : Bool) (n : ℕ) (said : List ℕ) → is_same_id n id ≡ false → OpensBy b d s.moment n said e → Bound e id l.connection
     opened true n said other o =
-        touched_still n (Some o.post) None (record { posts = o.posts; places = o.daemon.place.places }) l.post (λ is. let never : ⊥ = let both : true ≡ false = sym is ∙ other in cc in absurd never) bound
+        touched_still n (Some o.connection) None (record { lmtp_connections = o.lmtp_connections; states = o.daemon.state.states }) l.connection (λ is. let never : ⊥ = let both : true ≡ false = sym is ∙ other in cc in absurd never) bound
     opened false n said other o =
-        touched_still n None _ (record { posts = o.posts; places = o.opens.place.places }) l.post (λ is. let never : ⊥ = let both : true ≡ false = sym is ∙ other in cc in absurd never) bound
+        touched_still n None _ (record { lmtp_connections = o.lmtp_connections; states = o.opens.state.states }) l.connection (λ is. let never : ⊥ = let both : true ≡ false = sym is ∙ other in cc in absurd never) bound
 
-    came_elsewhere : (n kind : ℕ) (said : List ℕ) → is_same_id n id ≡ false → Enters (mail_rules view) d s.moment n kind said e u → Bound e id l.post
+    came_elsewhere : (n kind : ℕ) (said : List ℕ) → is_same_id n id ≡ false → Enters (mail_rules view) d s.moment n kind said e u → Bound e id l.connection
     came_elsewhere n kind said other (inl o) = opened (kind == lmtp) n said other o.0
     came_elsewhere n kind said other (inr o) = by o.2
       where
-        by : OpensBy (kind == lmtp) d s.moment n said e ⊎ LacksBy d n e → Bound e id l.post
+        by : OpensBy (kind == lmtp) d s.moment n said e ⊎ LacksBy d n e → Bound e id l.connection
         by (inl opens) = opened (kind == lmtp) n said other opens
         by (inr lacks) = ended n (lost n lacks)
 
@@ -283,7 +281,7 @@ module _ {R : Type 0} (view : View R) (names : Names) (host : List ℕ) (d e : M
     silent piece said (inr g) = g.gives.silent
 
     farewell : (said : List ℕ) → SaysLast d id said e → said ≡ lmtp_line_of Idle
-    farewell said p = farewell_by (post_at d id) (place_at d.daemon id) said bound.none p.says
+    farewell said p = farewell_by (lmtp_connection_at d id) (client_state_at d.daemon id) said bound.none p.says
 
     abbrev IsOther : Act Note → Type 0
     IsOther (Came n kind) = is_same_id n id ≡ false
@@ -300,7 +298,7 @@ module _ {R : Type 0} (view : View R) (names : Names) (host : List ℕ) (d e : M
     mail_then (Late n) said other t fits = late_then (is_same_id n id) (late_bound n said t.2) fits
     mail_then (Displaced n) said other t fits = late_then (is_same_id n id) (late_bound n said t.1) fits
     mail_then (Sent n octets) said other t fits = sent_then (is_same_id n id) octets (still t.0.0) fits
-    mail_then (Ended n) said other t fits = (l, refl, ended n (record { posts = t.0.posts; places = t.0.closes.place.places }), fits)
+    mail_then (Ended n) said other t fits = (l, refl, ended n (record { lmtp_connections = t.0.lmtp_connections; states = t.0.closes.state.states }), fits)
     mail_then (Full n) said other t fits = (l, refl, lacked n t.1, fits)
     mail_then (Worked note) said other t fits = (l, refl, rested note t.0, fits)
     mail_then (Listened kind) said other t fits = (l, refl, still t.0.0, fits)
@@ -331,17 +329,17 @@ module _ {R : Type 0} (view : View R) (names : Names) (host : List ℕ) (d e : M
 
   begun : (n : ℕ) (said : List ℕ) → is_same_id n id ≡ true → OpensBy true d s.moment n said e → Bound e id (new_lmtp_state names host s.moment)
   begun n said is o =
-      let post : post_at e id ≡ Some o.post = o.posts id ∙ ap (λ b. cond b (Some o.post) (post_at d id)) is in
-      let place : place_at e.daemon id ≡ None = o.daemon.place.places id ∙ ap (λ b. cond b None (place_at d.daemon id)) is in
-      let stands : ConnectionStands o.post (new_lmtp_state names host s.moment) =
-      subst (λ h. ConnectionStands o.post (new_lmtp_state names h s.moment)) is_set_up.hosted (subst (λ x. ConnectionStands o.post (new_lmtp_state x d.host s.moment)) is_set_up.named o.begins) in
-      record { none = place; stands = λ c at. let one : o.post ≡ c = let both : Some o.post ≡ Some c = sym post ∙ at in cc in subst (λ x. ConnectionStands x (new_lmtp_state names host s.moment)) one stands }
+      let connection : lmtp_connection_at e id ≡ Some o.connection = o.lmtp_connections id ∙ ap (λ b. cond b (Some o.connection) (lmtp_connection_at d id)) is in
+      let state : client_state_at e.daemon id ≡ None = o.daemon.state.states id ∙ ap (λ b. cond b None (client_state_at d.daemon id)) is in
+      let stands : ConnectionStands o.connection (new_lmtp_state names host s.moment) =
+      subst (λ h. ConnectionStands o.connection (new_lmtp_state names h s.moment)) is_set_up.hosted (subst (λ x. ConnectionStands o.connection (new_lmtp_state x d.host s.moment)) is_set_up.named o.begins) in
+      record { none = state; stands = λ c at. let one : o.connection ≡ c = let both : Some o.connection ≡ Some c = sym connection ∙ at in cc in subst (λ x. ConnectionStands x (new_lmtp_state names host s.moment)) one stands }
 
   gone_new : (n : ℕ) (p : LmtpState) → is_same_id n id ≡ true → LacksBy d n e → Bound e id p
   gone_new n p is lacks =
-      let post : post_at e id ≡ None = lacks.posts id ∙ ap (λ b. cond b None (post_at d id)) is in
-      let place : place_at e.daemon id ≡ None = lacks.lacks.place.places id ∙ ap (λ b. cond b None (place_at d.daemon id)) is in
-      record { none = place; stands = λ c at. let never : ⊥ = let both : None ≡ Some c = sym post ∙ at in cc in absurd never }
+      let connection : lmtp_connection_at e id ≡ None = lacks.lmtp_connections id ∙ ap (λ b. cond b None (lmtp_connection_at d id)) is in
+      let state : client_state_at e.daemon id ≡ None = lacks.lacks.state.states id ∙ ap (λ b. cond b None (client_state_at d.daemon id)) is in
+      record { none = state; stands = λ c at. let never : ⊥ = let both : None ≡ Some c = sym connection ∙ at in cc in absurd never }
 
   new_bound : (n kind : ℕ) (said : List ℕ) → is_same_id n id ≡ true → kind == lmtp ≡ true → Enters (mail_rules view) d s.moment n kind said e u → Bound e id (new_lmtp_state names host s.moment)
   new_bound n kind said is by_lmtp (inl o) = begun n said is (subst (λ b. OpensBy b d s.moment n said e) by_lmtp o.0)
@@ -366,8 +364,8 @@ module _ {R : Type 0} (view : View R) (names : Names) (host : List ℕ) (d e : M
   abbrev After : Option MailLine → Act Note → Type 0
   After o act = (p : Option MailLine) × LmtpTells names host id s.moment o act p × BoundBy e id p × FitsBy id p (client_of u id) u.turn
 
-  of_one : (l : MailLine) (bound : Bound d id l.post) → Fits id (words_of l) (client_of s id) s.turn → (act : Act Note) (said : List ℕ) → IsOther l bound act → TurnAllows (mail_rules view) d r s act said e q u
-      → ClientTalks s.moment id (client_of s id) act said (client_of u id) → (k : MailLine) × TellsOf id s.moment l act k × Bound e id k.post × Fits id (words_of k) (client_of u id) u.turn
+  of_one : (l : MailLine) (bound : Bound d id l.connection) → Fits id (words_of l) (client_of s id) s.turn → (act : Act Note) (said : List ℕ) → IsOther l bound act → TurnAllows (mail_rules view) d r s act said e q u
+      → ClientTalks s.moment id (client_of s id) act said (client_of u id) → (k : MailLine) × TellsOf id s.moment l act k × Bound e id k.connection × Fits id (words_of k) (client_of u id) u.turn
   of_one l bound fits act said other t talks = mail_then l bound act said other t (fit l bound act said other fits t talks)
 
   came_by : (b : Bool) (o : Option MailLine) → BoundBy d id o → FitsBy id o (client_of s id) s.turn → (n kind : ℕ) (said : List ℕ) → is_same_id n id ≡ b → TurnAllows (mail_rules view) d r s (Came n kind) said e q u
@@ -377,9 +375,9 @@ module _ {R : Type 0} (view : View R) (names : Names) (host : List ℕ) (d e : M
   came_by false None bound fits n kind said is t talks = (None, refl, tt, tt)
   came_by false (Some l) bound fits n kind said is t talks =
       let it = of_one l bound fits (Came n kind) said is t talks in
-      (Some l, refl, subst (λ (k : MailLine). Bound e id k.post) it.1 it.2, subst (λ (k : MailLine). Fits id (words_of k) (client_of u id) u.turn) it.1 it.3)
+      (Some l, refl, subst (λ (k : MailLine). Bound e id k.connection) it.1 it.2, subst (λ (k : MailLine). Fits id (words_of k) (client_of u id) u.turn) it.1 it.3)
 
-  mail_some : (l : MailLine) → Bound d id l.post → Fits id (words_of l) (client_of s id) s.turn → (act : Act Note) (said : List ℕ) → TurnAllows (mail_rules view) d r s act said e q u
+  mail_some : (l : MailLine) → Bound d id l.connection → Fits id (words_of l) (client_of s id) s.turn → (act : Act Note) (said : List ℕ) → TurnAllows (mail_rules view) d r s act said e q u
       → ClientTalks s.moment id (client_of s id) act said (client_of u id) → After (Some l) act
   mail_some l bound fits (Came n kind) said t talks = came_by (is_same_id n id) (Some l) bound fits n kind said refl t talks
   mail_some l bound fits (Heard n piece) said t talks = let it = of_one l bound fits (Heard n piece) said tt t talks in (Some it.0, (it.0, it.1, refl), it.2, it.3)

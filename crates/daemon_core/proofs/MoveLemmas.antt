@@ -1,7 +1,6 @@
 -- A message that moves on, behind what others did.
-use Rattle.std.proofs.Common.{◌≡◌, inl, inr, ℕ, Bool, true, List, [], Option, Some, None, IsTrue, refl, ◌∙◌, ap, subst}
+use Rattle.std.proofs.Common.{◌≡◌, inl, inr, ℕ, true, List, [], Option, Some, None, IsTrue, refl, ◌∙◌, ap, subst}
 use Rattle.sqlite_trees.specs.Tree.{Trees}
-use Rattle.maildir_files.specs.declared.kept.KeptMail.{KeptMail}
 use Rattle.store_accounts.specs.Account.{Accounts}
 use Rattle.store_engine.specs.Hosts.{SessionMap, HasClients}
 use Rattle.store_engine.specs.World.{World, Next}
@@ -15,10 +14,10 @@ use Rattle.maildir_moves.specs.Moving.{MovesMessage, TakesFirstMail, TriedMoving
 use Rattle.maildir_moves.proofs.EnduringLemmas.{left_then}
 use Rattle.maildir_moves.specs.declared.moving.Moving.{Moving}
 use Rattle.maildir_moves.specs.declared.moving.Moving.TheVariants as moving
-use Rattle.net_loop.specs.declared.act.Act.{Act}
-use Rattle.net_loop.specs.Rules.{WorksIf}
+use Rattle.net_loop.specs.Rules.{WorksIf, machine_state}
+use Rattle.net_loop.specs.Told.{Telling}
 use Rattle.daemon_core.specs.DaemonRules.{daemon_rules}
-use Rattle.daemon_core.specs.StoreAccess.{View, ComesTo}
+use Rattle.daemon_core.specs.StoreAccess.{View, StoreFacts, access_state, ComesTo}
 use Rattle.daemon_core.specs.Holds.{is_move_due, holding_moved}
 use Rattle.daemon_core.specs.Moves.{LetAt, MovedAt, TriedAt, MovesNextMessage}
 use Rattle.daemon_core.specs.declared.daemon.Daemon.{Daemon}
@@ -75,17 +74,17 @@ module _ {R : Type 0} (view : View R) (others : List Event) (r q : R) (after : S
   moved_then (moving.Stays stay) later moves shown left = nothing_then later moves shown left
 
 -- what the daemon does by itself
-module _ {O R : Type 0} (tells : O → Bool) (seen : O → List (Act Note)) (rest : O → R) (view : View R) (has : R → List KeptMail → Type 0) (clean : R → Type 0) (sure : (o : O) → IsTrue (tells o) → clean (rest o))
+module _ {O R : Type 0} (told : Telling O Note R) (store : StoreFacts O R) (sure : (o : O) → IsTrue (told.tells o) → store.clean (told.rest o))
     (o p : O) (d : Daemon) (now : ℕ) where
-  pub works_move : (c : Clients) (span : Option ℕ) (h : Holding) → is_move_due d.holding now ≡ true → MovesNextMessage tells seen rest view has clean o d.clients.sessions span p c.sessions → h ≡ holding_moved d.holding now span
-      → WorksIf tells seen rest (daemon_rules view) o d now p (record d { clients = c; holding = h })
+  pub works_move : (c : Clients) (span : Option ℕ) (h : Holding) → is_move_due d.holding now ≡ true → MovesNextMessage told store (access_state o d.clients.sessions) span (access_state p c.sessions) → h ≡ holding_moved d.holding now span
+      → WorksIf told (daemon_rules store.view) (machine_state o d) now (machine_state p (record d { clients = c; holding = h }))
   works_move c (Some span) h due moves had = λ tell. record {
     note = note.Moved moves.0 moves.1;
     grows = moves.5 tell;
-    works = record { works = (due, moves.3 (sure p tell), had ∙ ap (λ s. holding_moved d.holding now (Some s)) moves.2); places = refl };
+    works = record { works = (due, moves.3 (sure p tell), had ∙ ap (λ s. holding_moved d.holding now (Some s)) moves.2); states = refl };
   }
   works_move c None h due moves had = λ tell. record {
     note = note.Away;
     grows = moves.1 tell;
-    works = record { works = (due, moves.0 (sure p tell), had); places = refl };
+    works = record { works = (due, moves.0 (sure p tell), had); states = refl };
   }

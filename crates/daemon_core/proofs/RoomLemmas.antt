@@ -5,22 +5,22 @@ use Rattle.lmtp_connections.specs.declared.connection.LmtpConnection.{LmtpConnec
 use Rattle.net_loop.specs.declared.machine.Claim.{Claim}
 use Rattle.daemon_core.specs.ClientStates.{has_login}
 use Rattle.lmtp_connections.specs.Stands.{has_said_hello}
-use Rattle.daemon_core.specs.Eviction.{waits_claim, guest_claim, silent_by, silent_in, claim_by_kind}
+use Rattle.daemon_core.specs.Eviction.{waits_claim, unauthenticated_claim, silent_by, silent_in, claim_by_kind}
 use Rattle.daemon_core.specs.declared.client_state.ClientState.{ClientState}
 
 no_user : (test : Bool) (o : Option Claim) (its : Claim) → (if test then None else o) ≡ Some its → test ≡ false
 no_user true o its is = let never : ◌≡◌ {A = Option Claim} None (Some its) = is in cc
 no_user false o its is = refl
 
-no_guest : (now : ℕ) (place : Option ClientState) (o : Option Client) (its : Claim) → guest_claim now place o ≡ Some its → has_login o ≡ false
-no_guest now None None its is = refl
-no_guest now (Some place) None its is = refl
-no_guest now None (Some c) its is = let never : ◌≡◌ {A = Option Claim} None (Some its) = is in cc
-no_guest now (Some place) (Some c) its is = no_user (is_some c.user) (waits_claim now place.waits place c) its is
+no_unauthenticated : (now : ℕ) (state : Option ClientState) (o : Option Client) (its : Claim) → unauthenticated_claim now state o ≡ Some its → has_login o ≡ false
+no_unauthenticated now None None its is = refl
+no_unauthenticated now (Some state) None its is = refl
+no_unauthenticated now None (Some c) its is = let never : ◌≡◌ {A = Option Claim} None (Some its) = is in cc
+no_unauthenticated now (Some state) (Some c) its is = no_user (is_some c.user) (waits_claim now state.waits state c) its is
 
-pub no_user_goes : (now : ℕ) (flooded : Bool) (post : Option LmtpConnection) (place : Option ClientState) (o : Option Client) (its : Claim) → claim_by_kind now flooded post place o ≡ Some its → has_login o ≡ false
-no_user_goes now flooded None place o its is = no_guest now place o its is
-no_user_goes now flooded (Some post) place o its is = no_user (has_login o) _ its is
+pub no_user_goes : (now : ℕ) (flooded : Bool) (connection : Option LmtpConnection) (state : Option ClientState) (o : Option Client) (its : Claim) → claim_by_kind now flooded connection state o ≡ Some its → has_login o ≡ false
+no_user_goes now flooded None state o its is = no_unauthenticated now state o its is
+no_user_goes now flooded (Some connection) state o its is = no_user (has_login o) _ its is
 
 abbrev pub less_silent : ℕ → List (ℕ × LmtpConnection) → ℕ
 less_silent left [] = left

@@ -1,6 +1,5 @@
 -- Steps of a connection, put together from what is brought, told and known.
 use Rattle.std.proofs.Common.{◌≡◌, ◌∙◌, ℕ, Bool, true, false, List, [], Some, None, IsTrue, refl, sym, subst}
-use Rattle.store_accounts.specs.Account.{Accounts}
 use Rattle.store_engine.specs.Hosts.{SessionMap, KeepsClients, IsMade, EventAsksStore, IsSessionEvent, clients_of}
 use Rattle.store_engine.proofs.HostLemmas.{clients_are}
 use Rattle.store_engine.specs.World.{if_open}
@@ -10,14 +9,13 @@ use Rattle.store_engine.specs.declared.answer.Answer.TheVariants.{Out, Delivered
 use Rattle.store_engine.specs.declared.clients.Clients.{Clients as CodeClients}
 use Rattle.store_engine.specs.declared.event.Event.{Event}
 use Rattle.store_engine.specs.declared.event.Event.TheVariants.{Step, GiveUp}
-use Rattle.net_loop.specs.declared.act.Act.{Act}
 use Rattle.net_loop.specs.declared.act.Act.TheVariants.{Noted}
-use Rattle.net_loop.specs.Rules.{StepsIf}
-use Rattle.net_loop.specs.Told.{TellsIf}
-use Rattle.daemon_core.specs.DaemonRules.{daemon_rules, place_at, AtPlace, NoteAsksFor, NoteMakes, Places, DaemonRenews}
+use Rattle.net_loop.specs.Rules.{StepsIf, machine_state, step_at}
+use Rattle.net_loop.specs.Told.{Telling, TellsIf}
+use Rattle.daemon_core.specs.DaemonRules.{daemon_rules, client_state_at, AtClientState, NoteAsksFor, NoteMakes, ChangesClientState, DaemonRenews}
 use Rattle.daemon_core.specs.Holds.{asked_at}
-use Rattle.daemon_core.specs.StoreAccess.{View, AppliesEvent, IsEventDone, NothingDone, StillShowsIf}
-use Rattle.daemon_core.specs.ClientStates.{client_at, state_renewed, place_told, is_out, has_login}
+use Rattle.daemon_core.specs.StoreAccess.{View, StoreFacts, access_state, AppliesEvent, IsEventDone, NothingDone, StillShowsIf}
+use Rattle.daemon_core.specs.ClientStates.{client_at, state_renewed, state_told, is_out, has_login}
 use Rattle.daemon_core.specs.Waiting.{Allows, SessionMayAsk, MayGiveUp, said_at_once, too_much, waits_after, waits_behind}
 use Rattle.daemon_core.specs.declared.daemon.Daemon.{Daemon}
 use Rattle.daemon_core.specs.declared.daemon.Holding.{Holding}
@@ -63,16 +61,16 @@ abbrev mid_of : Daemon → CodeClients → Holding → Daemon
 mid_of d c h = record d { clients = c; holding = h }
 
 -- what is known of the connection, with the session that is there then
-place_by : (d e : Daemon) (c : CodeClients) (h : Holding) (now id : ℕ) (w : SessionWait) (answered : Bool) (before : ClientState) → DaemonRenews (mid_of d c h) now id w answered e → place_at d id ≡ Some before
-    → Places d id (Some (state_renewed now before w answered (has_login (client_at e.clients.sessions id)))) e
-place_by d e c h now id w answered before r was =
-    subst (λ (k : CodeClients). Places d id (Some (state_renewed now before w answered (has_login (client_at k.sessions id)))) e) (sym r.clients) (r.place before was)
+state_by : (d e : Daemon) (c : CodeClients) (h : Holding) (now id : ℕ) (w : SessionWait) (answered : Bool) (before : ClientState) → DaemonRenews (mid_of d c h) now id w answered e → client_state_at d id ≡ Some before
+    → ChangesClientState d id (Some (state_renewed now before w answered (has_login (client_at e.clients.sessions id)))) e
+state_by d e c h now id w answered before r was =
+    subst (λ (k : CodeClients). ChangesClientState d id (Some (state_renewed now before w answered (has_login (client_at k.sessions id)))) e) (sym r.clients) (r.state before was)
 
-module _ {O R : Type 0} (tells : O → Bool) (seen : O → List (Act Note)) (rest : O → R) (view : View R) (clean : R → Type 0) (sure : (o : O) → IsTrue (tells o) → clean (rest o))
+module _ {O R : Type 0} (told : Telling O Note R) (store : StoreFacts O R) (sure : (o : O) → IsTrue (told.tells o) → store.clean (told.rest o))
     (o p : O) (d e : Daemon) (c : CodeClients) (now id : ℕ) (said : List ℕ) where
   -- an event was done by the store
-  pub did : (answer : Answer) → AppliesEvent tells seen rest view clean id (Step id) o d.clients.sessions (Some answer) p c.sessions → EventAsksStore (Step id) d.clients.sessions
-      → AtPlace d id (λ place. SessionMayAsk now place.waits) → DaemonRenews (mid_of d c (asked_at now d.holding)) now id (waits_after now answer) (is_out answer) e → said ≡ said_at_once answer → StepsIf tells seen rest (daemon_rules view) o d now id said p e
+  pub did : (answer : Answer) → AppliesEvent told store id (Step id) (access_state o d.clients.sessions) (Some answer) (access_state p c.sessions) → EventAsksStore (Step id) d.clients.sessions
+      → AtClientState d id (λ state. SessionMayAsk now state.waits) → DaemonRenews (mid_of d c (asked_at now d.holding)) now id (waits_after now answer) (is_out answer) e → said ≡ said_at_once answer → StepsIf told (daemon_rules store.view) (machine_state o d) (step_at now id said) (machine_state p e)
   did answer carries asks may r says tell = record {
     note = Did carries.0 (Step id) answer;
     grows = carries.2 tell;
@@ -82,16 +80,16 @@ module _ {O R : Type 0} (tells : O → Bool) (seen : O → List (Act Note)) (res
       allows = λ due. (may.2, refl);
       cause = tt;
       asks = asks;
-      makes = subst (λ (k : CodeClients). IsEventDone view carries.0 (Step id) answer (rest o) d.clients.sessions (rest p) k.sessions) (sym r.clients) (carries.1 (sure p tell));
+      makes = subst (λ (k : CodeClients). IsEventDone store.view carries.0 (Step id) answer (told.rest o) d.clients.sessions (told.rest p) k.sessions) (sym r.clients) (carries.1 (sure p tell));
       says = says;
-      place = place_by d e c (asked_at now d.holding) now id (waits_after now answer) (is_out answer) may.0 r may.1;
+      state = state_by d e c (asked_at now d.holding) now id (waits_after now answer) (is_out answer) may.0 r may.1;
       holding = r.holding;
     };
   }
 
   -- it was away
-  pub away : AppliesEvent tells seen rest view clean id (Step id) o d.clients.sessions None p c.sessions → EventAsksStore (Step id) d.clients.sessions
-      → (may : AtPlace d id (λ place. SessionMayAsk now place.waits)) → DaemonRenews (mid_of d c d.holding) now id (waits_behind now may.0.waits Away) false e → said ≡ [] → StepsIf tells seen rest (daemon_rules view) o d now id said p e
+  pub away : AppliesEvent told store id (Step id) (access_state o d.clients.sessions) None (access_state p c.sessions) → EventAsksStore (Step id) d.clients.sessions
+      → (may : AtClientState d id (λ state. SessionMayAsk now state.waits)) → DaemonRenews (mid_of d c d.holding) now id (waits_behind now may.0.waits Away) false e → said ≡ [] → StepsIf told (daemon_rules store.view) (machine_state o d) (step_at now id said) (machine_state p e)
   away carries asks may r says tell = record {
     note = Away;
     grows = carries.1 tell;
@@ -101,20 +99,20 @@ module _ {O R : Type 0} (tells : O → Bool) (seen : O → List (Act Note)) (res
       allows = λ due. may.2;
       cause = tt;
       asks = asks;
-      makes = subst (λ (k : CodeClients). NothingDone view (rest o) d.clients.sessions (rest p) k.sessions) (sym r.clients) (carries.0 (sure p tell));
+      makes = subst (λ (k : CodeClients). NothingDone store.view (told.rest o) d.clients.sessions (told.rest p) k.sessions) (sym r.clients) (carries.0 (sure p tell));
       says = says;
-      place = place_by d e c d.holding now id (waits_behind now may.0.waits Away) false may.0 r may.1;
+      state = state_by d e c d.holding now id (waits_behind now may.0.waits Away) false may.0 r may.1;
       holding = r.holding;
     };
   }
 
   -- an event was answered that asks no store
-  pub freed : (event : Event) (answer : Answer) → ((place : ClientState) → place_at d id ≡ Some place → Allows now place.waits id (Freed event answer)) → (before : ClientState) → place_at d id ≡ Some before
-      → IsSessionEvent event answer d.clients.sessions c.sessions → TellsIf tells seen o (Noted id (Freed event answer)) p → StillShowsIf tells rest view o p
-      → DaemonRenews (mid_of d c d.holding) now id (waits_after now answer) (is_out answer) e → said ≡ said_at_once answer → StepsIf tells seen rest (daemon_rules view) o d now id said p e
-  freed event answer allows before was made told still r says tell = record {
+  pub freed : (event : Event) (answer : Answer) → ((state : ClientState) → client_state_at d id ≡ Some state → Allows now state.waits id (Freed event answer)) → (before : ClientState) → client_state_at d id ≡ Some before
+      → IsSessionEvent event answer d.clients.sessions c.sessions → TellsIf told o (Noted id (Freed event answer)) p → StillShowsIf told store.view o p
+      → DaemonRenews (mid_of d c d.holding) now id (waits_after now answer) (is_out answer) e → said ≡ said_at_once answer → StepsIf told (daemon_rules store.view) (machine_state o d) (step_at now id said) (machine_state p e)
+  freed event answer allows before was made noted still r says tell = record {
     note = Freed event answer;
-    grows = told tell;
+    grows = noted tell;
     steps = record {
       before = before;
       was = was;
@@ -123,13 +121,13 @@ module _ {O R : Type 0} (tells : O → Bool) (seen : O → List (Act Note)) (res
       asks = tt;
       makes = (still tell, subst (λ (k : CodeClients). IsSessionEvent event answer d.clients.sessions k.sessions) (sym r.clients) made);
       says = says;
-      place = place_by d e c d.holding now id (waits_after now answer) (is_out answer) before r was;
+      state = state_by d e c d.holding now id (waits_after now answer) (is_out answer) before r was;
       holding = r.holding;
     };
   }
 
   -- a step from sessions that are as they were
-  kept_makes : (note : Note) → KeepsClients d.clients.sessions c.sessions → NoteMakes view (rest o) (mid_of d c d.holding) note (rest p) e → NoteMakes view (rest o) d note (rest p) e
+  kept_makes : (note : Note) → KeepsClients d.clients.sessions c.sessions → NoteMakes store.view (told.rest o) (mid_of d c d.holding) note (told.rest p) e → NoteMakes store.view (told.rest o) d note (told.rest p) e
   kept_makes (Did others event answer) keeps makes = λ w stands. makes w (record { shown = stands.shown; sessions = keeps w.sessions stands.sessions })
   kept_makes Away keeps makes = record { shown = makes.shown; kept = λ clients has. makes.kept clients (keeps clients has) }
   kept_makes Spoke keeps makes = record { shown = makes.shown; kept = λ clients has. makes.kept clients (keeps clients has) }
@@ -149,24 +147,24 @@ module _ {O R : Type 0} (tells : O → Bool) (seen : O → List (Act Note)) (res
   kept_asks (Looked wanted) keeps asks = tt
   kept_asks (Moved others moving) keeps asks = tt
 
-  pub behind : KeepsClients d.clients.sessions c.sessions → StepsIf tells seen rest (daemon_rules view) o (mid_of d c d.holding) now id said p e → StepsIf tells seen rest (daemon_rules view) o d now id said p e
+  pub behind : KeepsClients d.clients.sessions c.sessions → StepsIf told (daemon_rules store.view) (machine_state o (mid_of d c d.holding)) (step_at now id said) (machine_state p e) → StepsIf told (daemon_rules store.view) (machine_state o d) (step_at now id said) (machine_state p e)
   behind keeps steps tell =
       let s = steps tell in
       let g = s.steps in
       record {
         note = s.note;
         grows = s.grows;
-        steps = record { before = g.before; was = g.was; allows = g.allows; cause = g.cause; asks = kept_asks s.note keeps g.asks; makes = kept_makes s.note keeps g.makes; says = g.says; place = g.place; holding = g.holding };
+        steps = record { before = g.before; was = g.was; allows = g.allows; cause = g.cause; asks = kept_asks s.note keeps g.asks; makes = kept_makes s.note keeps g.makes; says = g.says; state = g.state; holding = g.holding };
       }
 
 -- it was told that there was no room
-pub refused : {O R : Type 0} (tells : O → Bool) (seen : O → List (Act Note)) (rest : O → R) (view : View R) (o p : O) (d e : Daemon) (now id : ℕ) (said : List ℕ)
-    → AtPlace d id (λ place. (place.waits ≡ waits.Nothing) × (place.fit ≡ fit.Over)) → TellsIf tells seen o (Noted id Answered) p → StillShowsIf tells rest view o p → said ≡ too_much
-    → ((before : ClientState) → place_at d id ≡ Some before → Places d id (Some (place_told now before (has_login (client_at d.clients.sessions id)))) e) → e.clients ≡ d.clients → e.holding ≡ d.holding
-    → StepsIf tells seen rest (daemon_rules view) o d now id said p e
-refused tells seen rest view o p d e now id said may told still says places clients holding tell = record {
+pub refused : {O R : Type 0} (told : Telling O Note R) (view : View R) (o p : O) (d e : Daemon) (now id : ℕ) (said : List ℕ)
+    → AtClientState d id (λ state. (state.waits ≡ waits.Nothing) × (state.fit ≡ fit.Over)) → TellsIf told o (Noted id Answered) p → StillShowsIf told view o p → said ≡ too_much
+    → ((before : ClientState) → client_state_at d id ≡ Some before → ChangesClientState d id (Some (state_told now before (has_login (client_at d.clients.sessions id)))) e) → e.clients ≡ d.clients → e.holding ≡ d.holding
+    → StepsIf told (daemon_rules view) (machine_state o d) (step_at now id said) (machine_state p e)
+refused told view o p d e now id said may noted still says states clients holding tell = record {
   note = Answered;
-  grows = told tell;
+  grows = noted tell;
   steps = record {
     before = may.0;
     was = may.1;
@@ -175,22 +173,22 @@ refused tells seen rest view o p d e now id said may told still says places clie
     asks = tt;
     makes = record { shown = still tell; kept = subst (λ (k : CodeClients). KeepsClients d.clients.sessions k.sessions) (sym clients) (λ all has. has) };
     says = says;
-    place = subst (λ (k : CodeClients). Places d id (Some (place_told now may.0 (has_login (client_at k.sessions id)))) e) (sym clients) (places may.0 may.1);
+    state = subst (λ (k : CodeClients). ChangesClientState d id (Some (state_told now may.0 (has_login (client_at k.sessions id)))) e) (sym clients) (states may.0 may.1);
     holding = holding;
   };
 }
 
 -- given up, or stepped at once
-pub gives_up : (d : Daemon) (now id : ℕ) (answer : Answer) → AtPlace d id (λ place. MayGiveUp now place.waits) → (place : ClientState) → place_at d id ≡ Some place → Allows now place.waits id (Freed (GiveUp id) answer)
-gives_up d now id answer may place was =
-    let one : may.0 ≡ place = some_one may.0 place (sym may.1 ∙ was) in
-    by place.waits (subst (λ (x : ClientState). MayGiveUp now x.waits) one may.2)
+pub gives_up : (d : Daemon) (now id : ℕ) (answer : Answer) → AtClientState d id (λ state. MayGiveUp now state.waits) → (state : ClientState) → client_state_at d id ≡ Some state → Allows now state.waits id (Freed (GiveUp id) answer)
+gives_up d now id answer may state was =
+    let one : may.0 ≡ state = some_one may.0 state (sym may.1 ∙ was) in
+    by state.waits (subst (λ (x : ClientState). MayGiveUp now x.waits) one may.2)
   where
     by : (w : SessionWait) → MayGiveUp now w → Allows now w id (Freed (GiveUp id) answer)
     by w may = (may, refl)
 
-pub steps_free : (d : Daemon) (now id : ℕ) (answer : Answer) → is_out answer ≡ true → AtPlace d id (λ place. SessionMayAsk now place.waits) → (place : ClientState) → place_at d id ≡ Some place
-    → Allows now place.waits id (Freed (Step id) answer)
-steps_free d now id answer out may place was =
-    let one : may.0 ≡ place = some_one may.0 place (sym may.1 ∙ was) in
+pub steps_free : (d : Daemon) (now id : ℕ) (answer : Answer) → is_out answer ≡ true → AtClientState d id (λ state. SessionMayAsk now state.waits) → (state : ClientState) → client_state_at d id ≡ Some state
+    → Allows now state.waits id (Freed (Step id) answer)
+steps_free d now id answer out may state was =
+    let one : may.0 ≡ state = some_one may.0 state (sym may.1 ∙ was) in
     (subst (λ (x : ClientState). SessionMayAsk now x.waits) one may.2, refl, made_out answer out)

@@ -1,5 +1,4 @@
 -- What a store still shows, call by call.
-use Rattle.store_accounts.specs.Account.{Accounts}
 use Rattle.maildir_moves.specs.Enduring.{none_tried}
 use Rattle.maildir_moves.proofs.EnduringLemmas.{left_alone, left_then}
 use Rattle.daemon_core.specs.StoreAccess.{View, ViewStillShows}

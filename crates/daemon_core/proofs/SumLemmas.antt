@@ -11,9 +11,9 @@ use Rattle.managesieve_sessions.specs.Clients.{Client}
 use Rattle.net_loop.specs.Talk.{is_same_id}
 use Rattle.net_loop.proofs.TalkLemmas.{one_number}
 use Rattle.daemon_core.specs.Bounds.{unread_of, unread_in, held_in, held}
-use Rattle.daemon_core.specs.DaemonRules.{place_at}
+use Rattle.daemon_core.specs.DaemonRules.{client_state_at}
 use Rattle.daemon_core.specs.Holding.{sum_below}
-use Rattle.daemon_core.specs.MailRules.{post_at}
+use Rattle.daemon_core.specs.MailRules.{lmtp_connection_at}
 use Rattle.daemon_core.specs.ClientStates.{client_at}
 use Rattle.daemon_core.specs.declared.mail.MailDaemon.{MailDaemon}
 use Rattle.daemon_core.specs.declared.client_state.ClientState.{ClientState}
@@ -69,14 +69,14 @@ same_turned n s = (eq_by_cmp_equiv nat_cmp_total).symm n s
 
 abbrev pub full_client : Option ClientState → Option Client → ℕ
 full_client None o = 0
-full_client (Some place) o = unread_of o
+full_client (Some state) o = unread_of o
 
-abbrev pub full_post : Option LmtpConnection → ℕ
-full_post None = 0
-full_post (Some post) = held_by post.receiver
+abbrev pub full_connection : Option LmtpConnection → ℕ
+full_connection None = 0
+full_connection (Some connection) = held_by connection.receiver
 
 abbrev pub full_at : MailDaemon → ℕ → ℕ
-full_at d id = full_client (place_at d.daemon id) (client_at d.daemon.clients.sessions id) + full_post (post_at d id)
+full_at d id = full_client (client_state_at d.daemon id) (client_at d.daemon.clients.sessions id) + full_connection (lmtp_connection_at d id)
 
 abbrev client_in : SessionMap → List (ℕ × ClientState) → ℕ → ℕ
 client_in sessions entries id = full_client (lookup (tree.is_at (nat_cmp id)) entries) (client_at sessions id)
@@ -92,23 +92,23 @@ clients_sum n sessions (it ∷ entries) =
 
     its : (o : Option ClientState) → full_client o (client_at sessions it.0) ≤ client_in sessions entries it.0 + unread_of (client_at sessions it.0)
     its None = omega arith
-    its (Some place) = omega arith
+    its (Some state) = omega arith
 
-abbrev post_in : List (ℕ × LmtpConnection) → ℕ → ℕ
-post_in entries id = full_post (lookup (tree.is_at (nat_cmp id)) entries)
+abbrev connection_in : List (ℕ × LmtpConnection) → ℕ → ℕ
+connection_in entries id = full_connection (lookup (tree.is_at (nat_cmp id)) entries)
 
-posts_sum : (n : ℕ) (entries : List (ℕ × LmtpConnection)) → sum_below n (post_in entries) ≤ held_in entries
-posts_sum n [] = omega (arith, sums_nothing n (post_in []) (λ k. refl))
-posts_sum n (it ∷ entries) =
-    omega (arith, sums_one n (post_in (it ∷ entries)) (post_in entries) it.0 (held_by it.1.receiver) others its, posts_sum n entries)
+connections_sum : (n : ℕ) (entries : List (ℕ × LmtpConnection)) → sum_below n (connection_in entries) ≤ held_in entries
+connections_sum n [] = omega (arith, sums_nothing n (connection_in []) (λ k. refl))
+connections_sum n (it ∷ entries) =
+    omega (arith, sums_one n (connection_in (it ∷ entries)) (connection_in entries) it.0 (held_by it.1.receiver) others its, connections_sum n entries)
   where
-    others : (k : ℕ) → is_same_id it.0 k ≡ false → post_in (it ∷ entries) k ≤ post_in entries k
-    others k other = subst (λ b. full_post (cond b (Some it.1) (lookup (tree.is_at (nat_cmp k)) entries)) ≤ post_in entries k) (sym (same_turned k it.0 ∙ other)) (omega arith)
+    others : (k : ℕ) → is_same_id it.0 k ≡ false → connection_in (it ∷ entries) k ≤ connection_in entries k
+    others k other = subst (λ b. full_connection (cond b (Some it.1) (lookup (tree.is_at (nat_cmp k)) entries)) ≤ connection_in entries k) (sym (same_turned k it.0 ∙ other)) (omega arith)
 
-    its : post_in (it ∷ entries) it.0 ≤ post_in entries it.0 + held_by it.1.receiver
-    its = subst (λ b. full_post (cond b (Some it.1) (lookup (tree.is_at (nat_cmp it.0)) entries)) ≤ post_in entries it.0 + held_by it.1.receiver) (sym ((eq_by_cmp_equiv nat_cmp_total).refl it.0)) (omega arith)
+    its : connection_in (it ∷ entries) it.0 ≤ connection_in entries it.0 + held_by it.1.receiver
+    its = subst (λ b. full_connection (cond b (Some it.1) (lookup (tree.is_at (nat_cmp it.0)) entries)) ≤ connection_in entries it.0 + held_by it.1.receiver) (sym ((eq_by_cmp_equiv nat_cmp_total).refl it.0)) (omega arith)
 
 -- all that is held is counted
 pub full_sum : (n : ℕ) (d : MailDaemon) → sum_below n (full_at d) ≤ held d
 full_sum n d =
-    omega (arith, sum_plus n (client_in d.daemon.clients.sessions d.daemon.places.entries) (post_in d.posts.entries), clients_sum n d.daemon.clients.sessions d.daemon.places.entries, posts_sum n d.posts.entries)
+    omega (arith, sum_plus n (client_in d.daemon.clients.sessions d.daemon.states.entries) (connection_in d.lmtp_connections.entries), clients_sum n d.daemon.clients.sessions d.daemon.states.entries, connections_sum n d.lmtp_connections.entries)

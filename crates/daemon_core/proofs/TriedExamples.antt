@@ -1,5 +1,5 @@
 -- What a crash may leave at the end of acts, and near misses.
-use Rattle.std.proofs.Common.{◌≡◌, ◌⊎◌, ℕ, List, [], ◌∷◌, ◌++◌, Option, Some, None, refl, sym, ◌∙◌, ap, subst, inl, inr}
+use Rattle.std.proofs.Common.{◌≡◌, List, [], ◌∷◌, ◌++◌, None, refl, sym, ◌∙◌, ap, subst, inl, inr}
 use Rattle.std.specs.FinMap.{get}
 use Rattle.sqlite_trees.specs.Tree.{Trees}
 use Rattle.store_accounts.specs.Shows.{ShowsIn}
@@ -13,11 +13,11 @@ use Rattle.store_engine.specs.declared.event.Event.TheVariants.{Step}
 use Rattle.maildir_moves.specs.Enduring.{ShowsMade}
 use Rattle.net_loop.specs.declared.act.Act.{Act}
 use Rattle.net_loop.specs.declared.act.Act.TheVariants.{Noted}
-use Rattle.daemon_core.specs.Acts.{LeadsOn, RestsOn}
-use Rattle.daemon_core.specs.Tried.{RefusedAt, TriesAt, TriedIn, LeavesTried, IsLeftByCrash}
+use Rattle.daemon_core.specs.Acts.{LeadsOn}
+use Rattle.daemon_core.specs.Tried.{TriesAt, LeavesTried, IsLeftByCrash}
 use Rattle.daemon_core.specs.declared.note.Note.{Note}
 use Rattle.daemon_core.specs.declared.note.Note.TheVariants.{Did}
-use Rattle.daemon_core.proofs.TriedLemmas.{refused_stays, tried_same}
+use Rattle.daemon_core.proofs.TriedLemmas.{tried_same}
 
 -- the step of a session was refused
 abbrev refused : Act Note

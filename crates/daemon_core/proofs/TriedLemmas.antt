@@ -7,12 +7,12 @@ use Rattle.store_engine.specs.declared.answer.Answer.{Answer}
 use Rattle.store_engine.specs.declared.answer.Answer.TheVariants.{Refused}
 use Rattle.store_engine.specs.declared.event.Event.{Event}
 use Rattle.store_engine.specs.declared.event.Event.TheVariants.{TakeMail}
-use Rattle.maildir_moves.specs.Enduring.{MayLeave, ShowsMade}
+use Rattle.maildir_moves.specs.Enduring.{MayLeave}
 use Rattle.maildir_moves.specs.declared.moving.Moving.TheVariants as moving
 use Rattle.maildir_moves.proofs.RefusedLemmas.{refused_same}
 use Rattle.net_loop.specs.declared.act.Act.{Act}
 use Rattle.net_loop.specs.declared.act.Act.TheVariants.{Displaced, Came, Heard, Noted, Worked, Full, Ended}
-use Rattle.daemon_core.specs.Acts.{LacksThen, IsMadeOr, IsHeardOr, LeadsIn, ActLeads, LeadsOn, RestsOn}
+use Rattle.daemon_core.specs.Acts.{LacksThen, IsMadeOr, IsHeardOr, LeadsIn, ActLeads, RestsOn}
 use Rattle.daemon_core.specs.DaemonRules.{lmtp}
 use Rattle.daemon_core.specs.Tried.{RefusedAt, TriesBy, TriesAt, TriedIn, LeavesTried, IsLeftByCrash}
 use Rattle.daemon_core.specs.declared.note.Note.{Note}

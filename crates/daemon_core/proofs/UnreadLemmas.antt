@@ -21,7 +21,7 @@ use Rattle.store_engine.specs.World.{World, Clients, Next, OpensSession, InSessi
 use Rattle.store_engine.specs.declared.answer.Answer.{Answer}
 use Rattle.store_engine.specs.declared.answer.Answer.TheVariants.{Out}
 use Rattle.store_engine.specs.declared.event.Event.{Event}
-use Rattle.store_engine.specs.declared.event.Event.TheVariants.{Open, Give, Step, GiveUp, Close, Deliver, AddUser, Import, TakeOut, TakeMail, Keep}
+use Rattle.store_engine.specs.declared.event.Event.TheVariants.{Open, Give, Step, GiveUp, Close, Deliver, AddUser, Import, TakeOut, TakeMail, DoUpkeep}
 use Rattle.net_loop.specs.Talk.{is_same_id}
 use Rattle.net_loop.proofs.TalkLemmas.{one_number}
 use Rattle.daemon_core.specs.Bounds.{unread_of}
@@ -191,4 +191,4 @@ event_grows w v (AddUser name address salt password) answer (inl made) = none_gr
 event_grows w v (Import file) answer (inl made) = none_grows w.sessions v.sessions _ (ap (λ (x : World). x.sessions) made.2)
 event_grows w v (TakeOut user id) answer (inl made) = none_grows w.sessions v.sessions _ (ap (λ (x : World). x.sessions) made.2)
 event_grows w v (TakeMail user folder) answer (inl made) = none_grows w.sessions v.sessions _ (ap (λ (x : World). x.sessions) made.2)
-event_grows w v (Keep user upkeep) answer (inl made) = none_grows w.sessions v.sessions _ (ap (λ (x : World). x.sessions) made.2)
+event_grows w v (DoUpkeep user upkeep) answer (inl made) = none_grows w.sessions v.sessions _ (ap (λ (x : World). x.sessions) made.2)

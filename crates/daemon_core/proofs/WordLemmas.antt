@@ -1,7 +1,5 @@
 -- What was sent to a client of ManageSieve is a front of what its acts spell.
 use Rattle.std.proofs.Common.{◌≡◌, inl, inr, ℕ, ◌==◌, Bool, true, false, cond, List, [], ◌++◌, Option, Some, None, refl, sym, ◌∙◌, ap, subst}
-use Rattle.store_accounts.specs.Account.{Accounts}
-use Rattle.store_engine.specs.declared.event.Event.{Event}
 use Rattle.lmtp_connections.specs.declared.connection.LmtpConnection.{LmtpConnection as Code}
 use Rattle.net_loop.specs.declared.act.Act.{Act}
 use Rattle.net_loop.specs.declared.act.Act.TheVariants.{Woke, Began, Timed, Late, Waits, Resumed, Worked, Came, NoneCame, Crowded, Displaced, Listened, InUse, Heard, ReadBlocked, Over, Sent, WriteBlocked, Lost, Noted, Full, Again, Shut, Dropped, Ended}
@@ -13,8 +11,8 @@ use Rattle.net_loop.specs.Turns.{TurnAllows, ServiceOpens as Enters}
 use Rattle.net_loop.proofs.TalkLemmas.{one_number}
 use Rattle.daemon_core.specs.Acts.{SessionLine, no_line, line_came, line_noted, line_after_act, tell_line}
 use Rattle.daemon_core.specs.StoreAccess.{View}
-use Rattle.daemon_core.specs.DaemonRules.{lmtp, place_at}
-use Rattle.daemon_core.specs.MailRules.{mail_rules, post_at, OpensBy, GivesBy, GoesBy, IsFarewell, SaysLast}
+use Rattle.daemon_core.specs.DaemonRules.{lmtp, client_state_at}
+use Rattle.daemon_core.specs.MailRules.{mail_rules, lmtp_connection_at, OpensBy, GivesBy, GoesBy, IsFarewell, SaysLast}
 use Rattle.daemon_core.specs.Waiting.{said_with, session_greeting, idle}
 use Rattle.daemon_core.specs.declared.mail.MailDaemon.{MailDaemon}
 use Rattle.daemon_core.specs.declared.note.Note.{Note}
@@ -31,7 +29,7 @@ FitsBy id (Some l) o turn = Fits id (words_of l) o turn
 
 -- what is said last to it
 farewell_by : (o : Option Code) (p : Option ClientState) (said : List ℕ) → o ≡ None → IsFarewell o p said → said ≡ idle
-farewell_by None (Some place) said none is = is
+farewell_by None (Some state) said none is = is
 farewell_by None None said none is = absurd is
 farewell_by (Some code) p said none is = let never : ⊥ = cc in absurd never
 
@@ -53,7 +51,7 @@ module _ {R : Type 0} (view : View R) (d e : MailDaemon) (r q : R) (s u : Servic
     silent piece said (inr g) = g.gives.silent
 
     farewell : (said : List ℕ) → SaysLast d id said e → said ≡ idle
-    farewell said p = farewell_by (post_at d id) (place_at d.daemon id) said tied.none p.says
+    farewell said p = farewell_by (lmtp_connection_at d id) (client_state_at d.daemon id) said tied.none p.says
 
     abbrev IsOther : Act Note → Type 0
     IsOther (Came n kind) = is_same_id n id ≡ false
@@ -65,9 +63,9 @@ module _ {R : Type 0} (view : View R) (d e : MailDaemon) (r q : R) (s u : Servic
 
     -- what is said with a note of it
     says : (n : ℕ) (note : Note) (said : List ℕ) → is_same_id n id ≡ true → GoesBy view d r s.moment n note said e q → said ≡ said_with l.waits note
-    says n note said is (inl g) = let never : ⊥ = let both : None ≡ Some g.before = sym tied.none ∙ ap (λ k. post_at d k) (sym (one_number n id is)) ∙ g.was in cc in absurd never
+    says n note said is (inl g) = let never : ⊥ = let both : None ≡ Some g.before = sym tied.none ∙ ap (λ k. lmtp_connection_at d k) (sym (one_number n id is)) ∙ g.was in cc in absurd never
     says n note said is (inr g) =
-        let waits = tied.waits g.goes.before (ap (λ k. place_at d.daemon k) (sym (one_number n id is)) ∙ g.goes.was) in
+        let waits = tied.waits g.goes.before (ap (λ k. client_state_at d.daemon k) (sym (one_number n id is)) ∙ g.goes.was) in
         g.goes.says ∙ ap (λ w. said_with w note) waits
 
     noted_words : (b : Bool) (n : ℕ) (note : Note) (said : List ℕ) → is_same_id n id ≡ b → GoesBy view d r s.moment n note said e q → cond b (spells said (words_of l)) (words_of l) ≡ words_of (cond b (line_noted s.moment l note) l)

@@ -32,8 +32,8 @@ LeadsBy w (Moved others moving) v = MovedAt others moving w v
 LeadsBy w _ v = v ≡ w
 
 -- nobody is logged in there
-abbrev pub IsGuest : World → ℕ → Type 0
-IsGuest w id = IfSome (get w.sessions id) (λ c. c.user ≡ None)
+abbrev pub IsUnauthenticated : World → ℕ → Type 0
+IsUnauthenticated w id = IfSome (get w.sessions id) (λ c. c.user ≡ None)
 
 -- memory was lacking for a connection: what follows says so at once, if something follows
 abbrev pub LacksThen : ℕ → List (Act Note) → Type 0
@@ -55,14 +55,14 @@ LeadsIn true w id more v = v ≡ w
 LeadsIn false w id more v = (answer : Answer) × IsMadeOr answer id more × Next w (Open id) answer v
 
 -- who comes opens a session, what is heard is given to it, who goes closes it: each is an event, and none is passed over, except when
--- memory was lacking, and then that connection ends. Only a guest makes room. `more` follows
+-- memory was lacking, and then that connection ends. Only who isn't logged in makes room. `more` follows
 abbrev pub ActLeads : World → Act Note → List (Act Note) → World → Type 0
 ActLeads w (Came id kind) more v = LeadsIn (kind == lmtp) w id more v
 ActLeads w (Heard id piece) more v = (answer : Answer) × IsHeardOr answer id more × Next w (Give id piece) answer v
 ActLeads w (Ended id) more v = (answer : Answer) × Next w (Close id) answer v
 ActLeads w (Noted id note) more v = LeadsBy w note v
 ActLeads w (Worked note) more v = LeadsBy w note v
-ActLeads w (Displaced id) more v = (v ≡ w) × IsGuest w id
+ActLeads w (Displaced id) more v = (v ≡ w) × IsUnauthenticated w id
 ActLeads w _ more v = v ≡ w
 
 abbrev pub LeadsOn : World → List (Act Note) → World → Type 0

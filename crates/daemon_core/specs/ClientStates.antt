@@ -41,7 +41,7 @@ session_want_by waits.Refused whether c = Step
 session_want_by (waits.Reply until text) whether c = Until until
 
 abbrev pub want_of : Option ClientState → Option Client → Want
-want_of (Some place) (Some c) = session_want_by place.waits place.fit c
+want_of (Some state) (Some c) = session_want_by state.waits state.fit c
 want_of _ _ = Done
 
 -- ---- when it is late
@@ -66,35 +66,35 @@ abbrev pub due_of_user : ℕ → List ℕ → ℕ
 due_of_user since unread = if length unread == 0 then after_span since max_user_silence else after_span since max_command
 
 abbrev pub due_of_session : ClientState → Option (List ℕ) → List ℕ → ℕ
-due_of_session place None unread = after_span place.guest max_login
-due_of_session place (Some user) unread = due_of_user place.since unread
+due_of_session state None unread = after_span state.unauthenticated_since max_login
+due_of_session state (Some user) unread = due_of_user state.since unread
 
 abbrev pub session_due_by : SessionWait → ClientState → Client → ℕ
-session_due_by waits.Nothing place c = due_of_session place c.user c.unread
-session_due_by _ place c = never
+session_due_by waits.Nothing state c = due_of_session state c.user c.unread
+session_due_by _ state c = never
 
 abbrev pub due_of : Option ClientState → Option Client → ℕ
-due_of (Some place) (Some c) = session_due_by place.waits place c
+due_of (Some state) (Some c) = session_due_by state.waits state c
 due_of _ _ = never
 
 -- ---- what is known of it
 
 -- one that has just come
-abbrev pub new_place : ℕ → ClientState
-new_place now = record { waits = waits.Nothing; guest = now; since = now; fit = fit.Fits }
+abbrev pub new_client_state : ℕ → ClientState
+new_client_state now = record { waits = waits.Nothing; unauthenticated_since = now; since = now; fit = fit.Fits }
 
 -- octets came: if nothing was unread they begin what comes next; and whether there was room for them
 abbrev pub begun : ℕ → ClientState → Bool → Fit → ClientState
-begun now place begins fits = record { waits = place.waits; guest = place.guest; since = if begins then now else place.since; fit = fits }
+begun now state begins fits = record { waits = state.waits; unauthenticated_since = state.unauthenticated_since; since = if begins then now else state.since; fit = fits }
 
-abbrev pub place_given : ℕ → ClientState → Client → Fit → ClientState
-place_given now place c fits = begun now place (length c.unread == 0) fits
+abbrev pub state_given : ℕ → ClientState → Client → Fit → ClientState
+state_given now state c fits = begun now state (length c.unread == 0) fits
 
--- what is waited for changes: `answered`, if the next command is counted from now on; `user`, if somebody is logged in, who is a
--- guest from now on at the earliest
+-- what is waited for changes: `answered`, if the next command is counted from now on; `user`, if somebody is logged in, who
+-- isn't any more from now on at the earliest
 abbrev pub state_renewed : ℕ → ClientState → SessionWait → Bool → Bool → ClientState
-state_renewed now place w answered user =
-    record { waits = w; guest = if user then now else place.guest; since = if answered then now else place.since; fit = place.fit }
+state_renewed now state w answered user =
+    record { waits = w; unauthenticated_since = if user then now else state.unauthenticated_since; since = if answered then now else state.since; fit = state.fit }
 
 abbrev pub is_out : Answer → Bool
 is_out (Out progress octets) = true
@@ -115,9 +115,9 @@ fit_behind whether Answered = fit.Told
 fit_behind whether _ = whether
 
 -- after a note, with the session that is there then
-abbrev pub place_behind : ℕ → ClientState → Note → Option Client → ClientState
-place_behind now place note c = record (state_renewed now place (waits_behind now place.waits note) (is_answered note) (has_login c)) { fit = fit_behind place.fit note }
+abbrev pub state_behind : ℕ → ClientState → Note → Option Client → ClientState
+state_behind now state note c = record (state_renewed now state (waits_behind now state.waits note) (is_answered note) (has_login c)) { fit = fit_behind state.fit note }
 
 -- after one that says that there was no room
-abbrev pub place_told : ℕ → ClientState → Bool → ClientState
-place_told now place user = record (state_renewed now place waits.Nothing false user) { fit = fit.Told }
+abbrev pub state_told : ℕ → ClientState → Bool → ClientState
+state_told now state user = record (state_renewed now state waits.Nothing false user) { fit = fit.Told }

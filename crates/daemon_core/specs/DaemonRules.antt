@@ -13,8 +13,8 @@ use Rattle.daemon_core.specs.StoreAccess.{View, ViewStillShows, IsEventDone, Not
 use Rattle.maildir_moves.specs.Moving.{span_behind}
 use Rattle.daemon_core.specs.Holds.{asked_at, holding_behind, has_work, is_move_due, is_rested, holding_looked, holding_moved, patience_by}
 use Rattle.daemon_core.specs.Moves.{IsMessageMoved}
-use Rattle.daemon_core.specs.Eviction.{guest_claim}
-use Rattle.daemon_core.specs.ClientStates.{client_at, want_of, due_of, new_place, place_given, place_behind, state_renewed, is_out, has_login}
+use Rattle.daemon_core.specs.Eviction.{unauthenticated_claim}
+use Rattle.daemon_core.specs.ClientStates.{client_at, want_of, due_of, new_client_state, state_given, state_behind, state_renewed, is_out, has_login}
 use Rattle.daemon_core.specs.Waiting.{Allows, IsDue, said_with, session_greeting, idle}
 use Rattle.daemon_core.specs.declared.daemon.Daemon.{Daemon}
 use Rattle.daemon_core.specs.declared.daemon.Holding.{Holding}
@@ -39,20 +39,20 @@ max_clients = 50
 abbrev pub limit_of : ℕ → ℕ
 limit_of kind = if kind == managesieve then max_clients else 0
 
-abbrev pub place_at : Daemon → ℕ → Option ClientState
-place_at d id = tree.get nat_cmp d.places id
+abbrev pub client_state_at : Daemon → ℕ → Option ClientState
+client_state_at d id = tree.get nat_cmp d.states id
 
 -- something is known of a connection, and this holds of it
-abbrev pub AtPlace : Daemon → ℕ → (ClientState → Type 0) → Type 0
-AtPlace d id P = (place : ClientState) × (place_at d id ≡ Some place) × P place
+abbrev pub AtClientState : Daemon → ℕ → (ClientState → Type 0) → Type 0
+AtClientState d id P = (state : ClientState) × (client_state_at d id ≡ Some state) × P state
 
 -- what is known of one connection changes, and of no other
-abbrev pub Places : Daemon → ℕ → Option ClientState → Daemon → Type 0
-Places d id place e = (other : ℕ) → place_at e other ≡ cond (is_same_id id other) place (place_at d other)
+abbrev pub ChangesClientState : Daemon → ℕ → Option ClientState → Daemon → Type 0
+ChangesClientState d id state e = (other : ℕ) → client_state_at e other ≡ cond (is_same_id id other) state (client_state_at d other)
 
 -- the same, and nothing of the store
-pub record Knows (d : Daemon) (id : ℕ) (place : Option ClientState) (e : Daemon) : Type 0 where
-  pub places : Places d id place e
+pub record Knows (d : Daemon) (id : ℕ) (state : Option ClientState) (e : Daemon) : Type 0 where
+  pub states : ChangesClientState d id state e
   pub holding : e.holding ≡ d.holding
 
 -- an event of sessions alone was answered somehow
@@ -69,27 +69,27 @@ Made event d e = (answer : Answer) × (is_out answer ≡ true) × IsSessionEvent
 pub record DaemonOpens (d : Daemon) (now id : ℕ) (said : List ℕ) (e : Daemon) : Type 0 where
   pub says : said ≡ session_greeting
   pub event : Made (Open id) d e
-  pub place : Knows d id (Some (new_place now)) e
+  pub state : Knows d id (Some (new_client_state now)) e
 
 -- octets of one are appended to its session, and nothing is said; whether there was room for them is known then
 pub record DaemonGives (d : Daemon) (now id : ℕ) (piece : List ℕ) (whether : Fit) (said : List ℕ) (e : Daemon) : Type 0 where
   pub silent : said ≡ []
   pub event : Made (Give id piece) d e
   pub before : ClientState
-  pub was : place_at d id ≡ Some before
+  pub was : client_state_at d id ≡ Some before
   pub client : Client
   pub session : client_at d.clients.sessions id ≡ Some client
-  pub place : Knows d id (Some (place_given now before client whether)) e
+  pub state : Knows d id (Some (state_given now before client whether)) e
 
 -- if memory was lacking for one nothing more is known of it, and each session is as it was
 pub record LacksFor (d : Daemon) (id : ℕ) (e : Daemon) : Type 0 where
   pub kept : KeepsClients d.clients.sessions e.clients.sessions
-  pub place : Knows d id None e
+  pub state : Knows d id None e
 
 -- one is gone, and its session
 pub record DaemonCloses (d : Daemon) (id : ℕ) (e : Daemon) : Type 0 where
   pub event : Happened (Close id) d e
-  pub place : Knows d id None e
+  pub state : Knows d id None e
 
 -- ---- the daemon continues with one
 
@@ -114,19 +114,19 @@ abbrev pub HasCause : Note → Fit → Type 0
 HasCause Answered whether = whether ≡ fit.Over
 HasCause note whether = Unit {0}
 
-abbrev pub had_at : ℕ → Daemon → Daemon
-had_at now d = record d { holding = asked_at now d.holding }
+abbrev pub held_at : ℕ → Daemon → Daemon
+held_at now d = record d { holding = asked_at now d.holding }
 
 -- what its connection waits for allows the note, which says what is done, what is said, and what is waited for then
 pub record DaemonGoes {R : Type 0} (view : View R) (d : Daemon) (r : R) (now id : ℕ) (note : Note) (said : List ℕ) (e : Daemon) (q : R) : Type 0 where
   pub before : ClientState
-  pub was : place_at d id ≡ Some before
+  pub was : client_state_at d id ≡ Some before
   pub allows : IsDue now before.waits → Allows now before.waits id note
   pub cause : HasCause note before.fit
   pub asks : NoteAsksFor id note d.clients.sessions
   pub makes : NoteMakes view r d note q e
   pub says : said ≡ said_with before.waits note
-  pub place : Places d id (Some (place_behind now before note (client_at e.clients.sessions id))) e
+  pub state : ChangesClientState d id (Some (state_behind now before note (client_at e.clients.sessions id))) e
   pub holding : e.holding ≡ holding_behind now note d.holding
 
 -- ---- parts of that
@@ -134,13 +134,13 @@ pub record DaemonGoes {R : Type 0} (view : View R) (d : Daemon) (r : R) (now id 
 -- nothing more is known of a connection, and all else is as it was
 pub record Forgets (d : Daemon) (id : ℕ) (e : Daemon) : Type 0 where
   pub clients : e.clients ≡ d.clients
-  pub place : Knows d id None e
+  pub state : Knows d id None e
 
 -- what a connection waits for changes, whatever it was, and all else is as it was
 pub record DaemonRenews (d : Daemon) (now id : ℕ) (w : SessionWait) (answered : Bool) (e : Daemon) : Type 0 where
   pub clients : e.clients ≡ d.clients
   pub holding : e.holding ≡ d.holding
-  pub place : (before : ClientState) → place_at d id ≡ Some before → Places d id (Some (state_renewed now before w answered (has_login (client_at d.clients.sessions id)))) e
+  pub state : (before : ClientState) → client_state_at d id ≡ Some before → ChangesClientState d id (Some (state_renewed now before w answered (has_login (client_at d.clients.sessions id)))) e
 
 -- ---- work of its own: the store is given back, or mail moves on
 
@@ -157,7 +157,7 @@ WorksBy view d r now _ after h q = ⊥
 -- nothing else changes
 pub record DoesWork {R : Type 0} (view : View R) (d : Daemon) (r : R) (now : ℕ) (note : Note) (e : Daemon) (q : R) : Type 0 where
   pub works : WorksBy view d r now note e.clients.sessions e.holding q
-  pub places : e.places ≡ d.places
+  pub states : e.states ≡ d.states
 
 -- ---- for how long it may rest
 
@@ -177,7 +177,7 @@ least_patience span (it ∷ entries) = least_patience (least span (session_patie
 
 -- the least of those of all connections, and of that by the store
 abbrev pub patience_of : Daemon → ℕ
-patience_of d = least_patience (patience_by d.holding) d.places.entries
+patience_of d = least_patience (patience_by d.holding) d.states.entries
 
 -- ---- all of it
 
@@ -185,11 +185,11 @@ patience_of d = least_patience (patience_by d.holding) d.places.entries
 abbrev pub daemon_rules : {R : Type 0} → View R → Rules Daemon Note R
 daemon_rules view = record {
   limit = limit_of;
-  claim = λ d now id. guest_claim now (place_at d id) (client_at d.clients.sessions id);
-  wants = λ d id. want_of (place_at d id) (client_at d.clients.sessions id);
+  claim = λ d now id. unauthenticated_claim now (client_state_at d id) (client_at d.clients.sessions id);
+  wants = λ d id. want_of (client_state_at d id) (client_at d.clients.sessions id);
   has_work = λ d now. has_work d.holding now;
   patience = patience_of;
-  deadline = λ d id. due_of (place_at d id) (client_at d.clients.sessions id);
+  deadline = λ d id. due_of (client_state_at d id) (client_at d.clients.sessions id);
   opens = λ d now kind id said e. DaemonOpens d now id said e;
   gives = λ d now id piece said e. (whether : Fit) × DaemonGives d now id piece whether said e;
   steps = λ d r now id note said e q. DaemonGoes view d r now id note said e q;

@@ -1,5 +1,5 @@
 -- Who claims to go when another one of its kind wants its place, and all are taken.
-use Rattle.std.specs.Prelude.{◌≡◌, ℕ, ◌+◌, ◌-◌, ◌==◌, nat_le, Bool, true, false, if◌then◌else◌, List, [], ◌∷◌, Option, Some, None, is_some}
+use Rattle.std.specs.Prelude.{ℕ, ◌+◌, ◌-◌, ◌==◌, nat_le, Bool, true, false, if◌then◌else◌, List, [], ◌∷◌, Option, Some, None, is_some}
 use Rattle.managesieve_sessions.specs.Clients.{Client, has_failed}
 use Rattle.lmtp_connections.specs.Stands.{owed_since, has_said_hello}
 use Rattle.lmtp_connections.specs.declared.connection.LmtpConnection.{LmtpConnection}
@@ -15,7 +15,7 @@ use Rattle.daemon_core.specs.declared.client_state.SessionWait.TheVariants as wa
 
 -- ---- for how long one is left alone, in milliseconds
 
--- a guest of ManageSieve since it came, and a client of LMTP that hasn't said LHLO, when many haven't
+-- a client of ManageSieve that isn't logged in since it came, and a client of LMTP that hasn't said LHLO, when many haven't
 abbrev pub first_span : ℕ
 first_span = 50
 
@@ -53,8 +53,8 @@ abbrev pub kept_claim : ℕ → ℕ → Option Claim
 kept_claim now until =
     if nat_le until (after_span now (login_delay - kept_span)) then Some (record { rank = kept_rank; moment = never - until }) else None
 
-abbrev pub guest_rank : Client → ℕ
-guest_rank c = if has_failed c then failed_rank else silent_rank
+abbrev pub unauthenticated_rank : Client → ℕ
+unauthenticated_rank c = if has_failed c then failed_rank else silent_rank
 
 -- to any other an answer is owed
 abbrev pub want_claim : ℕ → Want → ℕ → ℕ → Option Claim
@@ -65,13 +65,13 @@ want_claim now (Until moment) rank since = None
 want_claim now Done rank since = None
 
 abbrev pub waits_claim : ℕ → SessionWait → ClientState → Client → Option Claim
-waits_claim now (waits.Reply until text) place c = kept_claim now until
-waits_claim now w place c = want_claim now (session_want_by place.waits place.fit c) (guest_rank c) place.guest
+waits_claim now (waits.Reply until text) state c = kept_claim now until
+waits_claim now w state c = want_claim now (session_want_by state.waits state.fit c) (unauthenticated_rank c) state.unauthenticated_since
 
--- a guest of ManageSieve; who is logged in stays
-abbrev pub guest_claim : ℕ → Option ClientState → Option Client → Option Claim
-guest_claim now (Some place) (Some c) = if is_some c.user then None else waits_claim now place.waits place c
-guest_claim now _ _ = None
+-- a client of ManageSieve; who is logged in stays
+abbrev pub unauthenticated_claim : ℕ → Option ClientState → Option Client → Option Claim
+unauthenticated_claim now (Some state) (Some c) = if is_some c.user then None else waits_claim now state.waits state c
+unauthenticated_claim now _ _ = None
 
 -- how many clients of LMTP haven't said LHLO
 abbrev pub silent_by : Bool → ℕ
@@ -95,9 +95,9 @@ since_claim now span (Some since) = owed_claim now span silent_rank since
 
 -- a client of LMTP that owes octets while no recipient of its is taken; none that has a session
 abbrev pub sender_claim : ℕ → Bool → Option Client → LmtpConnection → Option Claim
-sender_claim now flooded o post = if has_login o then None else since_claim now (silence_span (has_said_hello post) flooded) (owed_since post)
+sender_claim now flooded o connection = if has_login o then None else since_claim now (silence_span (has_said_hello connection) flooded) (owed_since connection)
 
 -- either, by what is known of it
 abbrev pub claim_by_kind : ℕ → Bool → Option LmtpConnection → Option ClientState → Option Client → Option Claim
-claim_by_kind now flooded (Some post) place o = sender_claim now flooded o post
-claim_by_kind now flooded None place o = guest_claim now place o
+claim_by_kind now flooded (Some connection) state o = sender_claim now flooded o connection
+claim_by_kind now flooded None state o = unauthenticated_claim now state o

@@ -1,5 +1,5 @@
 -- What is true of a daemon's life.
-use Rattle.std.specs.Prelude.{◌≡◌, ℕ, List, [], ◌++◌, Bool, Option, Some, None, IfSome, IsTrue}
+use Rattle.std.specs.Prelude.{◌≡◌, ℕ, List, [], ◌++◌, Option, Some, None, IfSome, IsTrue}
 use Rattle.std.specs.FinMap.{empty}
 use Rattle.sqlite_trees.specs.Tree.{Trees}
 use Rattle.lmtp_dialogue.specs.declared.name.Names.{Names}
@@ -12,7 +12,8 @@ use Rattle.store_engine.specs.World.{World, Runs}
 use Rattle.store_engine.specs.declared.answer.Answer.{Answer}
 use Rattle.net_loop.specs.Life.{Fresh, IsPrefixOf}
 use Rattle.net_loop.specs.declared.act.Act.{Act}
-use Rattle.net_loop.specs.declared.service.Service.{Service}
+use Rattle.net_loop.specs.Moves.{LoopState}
+use Rattle.net_loop.specs.Told.{Telling}
 use Rattle.daemon_core.specs.Acts.{LeadsOn, events_in, AnswersIn, no_line, line_after_acts, AreRight}
 use Rattle.daemon_core.specs.StoreAccess.{View, IsWorld}
 use Rattle.daemon_core.specs.Holding.{IsBounded}
@@ -61,12 +62,14 @@ pub record Headline {R : Type 0} (view : View R) (names : Names) (host : List �
 -- a daemon that knows no connection
 pub record IsNewDaemon (d : MailDaemon) : Type 0 where
   pub sessions : d.daemon.clients.sessions.entries ≡ []
-  pub places : d.daemon.places.entries ≡ []
-  pub posts : d.posts.entries ≡ []
+  pub states : d.daemon.states.entries ≡ []
+  pub lmtp_connections : d.lmtp_connections.entries ≡ []
 
 -- of a life, if it is told, that begins with a store that shows these accounts, and of which a crash leaves nothing else: the acts
 -- that were added
-abbrev pub DaemonServes : {O R : Type 0} → (O → Bool) → (O → List (Act Note)) → (O → R) → View R → O → MailDaemon → Service → O → MailDaemon → Type 0
-DaemonServes tells seen rest view o d s p e =
-    IsTrue (tells p) → IsNewDaemon d → Fresh s → (start : Accounts) → view.shows (rest o) start → ((trees : Trees) → view.leaves (rest o) trees → ShowsIn trees start)
-    → (acts : List (Act Note)) × (seen p ≡ seen o ++ acts) × Headline view d.names d.host start s.moment acts (rest p) e
+abbrev pub DaemonServes : {O R : Type 0} → Telling O Note R → View R → LoopState O MailDaemon → LoopState O MailDaemon → Type 0
+DaemonServes told view before after =
+    IsTrue (told.tells after.outside) → IsNewDaemon before.machine → Fresh before.service
+    → (start : Accounts) → view.shows (told.rest before.outside) start → ((trees : Trees) → view.leaves (told.rest before.outside) trees → ShowsIn trees start)
+    → (acts : List (Act Note)) × (told.seen after.outside ≡ told.seen before.outside ++ acts)
+    × Headline view before.machine.names before.machine.host start before.service.moment acts (told.rest after.outside) after.machine

@@ -5,8 +5,8 @@ use Rattle.lmtp_connections.specs.declared.connection.LmtpConnection.{LmtpConnec
 use Rattle.managesieve_sessions.specs.Clients.{Client}
 use Rattle.net_loop.specs.Told.{largest_piece}
 use Rattle.daemon_core.specs.Bounds.{unread_of, bound, own}
-use Rattle.daemon_core.specs.DaemonRules.{place_at}
-use Rattle.daemon_core.specs.MailRules.{post_at}
+use Rattle.daemon_core.specs.DaemonRules.{client_state_at}
+use Rattle.daemon_core.specs.MailRules.{lmtp_connection_at}
 use Rattle.daemon_core.specs.ClientStates.{client_at}
 use Rattle.daemon_core.specs.declared.mail.MailDaemon.{MailDaemon}
 use Rattle.daemon_core.specs.declared.client_state.Fit.{Fit}
@@ -27,16 +27,16 @@ firm_by fit.Told count = count - (own + largest_piece)
 -- of a session for which memory was lacking nothing is counted: it ends next
 abbrev pub firm_client : Option ClientState → Option Client → ℕ
 firm_client None o = 0
-firm_client (Some place) o = firm_by place.fit (unread_of o)
+firm_client (Some state) o = firm_by state.fit (unread_of o)
 
 -- what one of LMTP does
-abbrev pub firm_post : Option LmtpConnection → ℕ
-firm_post None = 0
-firm_post (Some post) = held_by post.receiver - own
+abbrev pub firm_connection : Option LmtpConnection → ℕ
+firm_connection None = 0
+firm_connection (Some connection) = held_by connection.receiver - own
 
 -- what the connection of a number does
 abbrev pub firm_at : MailDaemon → ℕ → ℕ
-firm_at d id = firm_client (place_at d.daemon id) (client_at d.daemon.clients.sessions id) + firm_post (post_at d id)
+firm_at d id = firm_client (client_state_at d.daemon id) (client_at d.daemon.clients.sessions id) + firm_connection (lmtp_connection_at d id)
 
 -- all together hold what they may, but for what each may hold whatever the others do, and a piece of each client of ManageSieve for whose
 -- last octets there was no room

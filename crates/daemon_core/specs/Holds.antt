@@ -11,7 +11,7 @@ counted_events events = if nat_lt events 10 then events + 1 else 10
 
 -- after an event that asked the store it is held, it is looked at once whether somebody waits for it, and it is looked for mail
 abbrev pub asked_at : ℕ → Holding → Holding
-asked_at now h = record { had = true; look = now; asked = now; moves = h.moves; next = now; soon = h.soon; events = counted_events h.events }
+asked_at now h = record { is_held = true; look = now; asked = now; moves = h.moves; next = now; soon = h.soon; events = counted_events h.events }
 
 abbrev pub holding_behind : ℕ → Note → Holding → Holding
 holding_behind now (Did others event answer) h = asked_at now h
@@ -29,7 +29,7 @@ abbrev pub max_rest : ℕ
 max_rest = 10000
 
 abbrev pub is_look_due : Holding → ℕ → Bool
-is_look_due h now = h.had && nat_le h.look now
+is_look_due h now = h.is_held && nat_le h.look now
 
 -- nobody asked for that long
 abbrev pub is_rested : Holding → ℕ → Bool
@@ -43,7 +43,7 @@ abbrev pub look_span_by : Bool → ℕ
 look_span_by rests = if rests then 60000 else again_span
 
 abbrev pub holding_looked : Holding → ℕ → Bool → Bool → Holding
-holding_looked h now rests given = if given then record h { had = false; next = after_span now (look_span_by rests); soon = not rests } else record h { look = after_span now look_span }
+holding_looked h now rests given = if given then record h { is_held = false; next = after_span now (look_span_by rests); soon = not rests } else record h { look = after_span now look_span }
 
 -- ---- a message moves on
 
@@ -56,7 +56,7 @@ is_move_due h now = h.moves && (nat_le h.next now && is_turn h now)
 
 -- one was to move: for how long none is to; or the store wasn't available, and it is asked for 50 ms later
 abbrev pub holding_moved : Holding → ℕ → Option ℕ → Holding
-holding_moved h now (Some span) = record { had = true; look = now; asked = now; moves = h.moves; next = after_span now span; soon = false; events = 0 }
+holding_moved h now (Some span) = record { is_held = true; look = now; asked = now; moves = h.moves; next = after_span now span; soon = false; events = 0 }
 holding_moved h now None = record h { next = after_span now again_span; soon = true }
 
 abbrev pub has_work : Holding → ℕ → Bool
@@ -73,4 +73,4 @@ abbrev pub patience_away : Holding → ℕ
 patience_away h = if h.moves && h.soon then again_span else 1000
 
 abbrev pub patience_by : Holding → ℕ
-patience_by h = if h.had then (if is_moving h then 0 else look_span) else patience_away h
+patience_by h = if h.is_held then (if is_moving h then 0 else look_span) else patience_away h

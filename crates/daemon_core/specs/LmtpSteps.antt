@@ -6,18 +6,18 @@ use Rattle.lmtp_dialogue.specs.declared.reply.LmtpReply.TheVariants.{NoSuchUser,
 use Rattle.store_accounts.specs.declared.refusal.Refusal.{Refusal}
 use Rattle.store_accounts.specs.declared.refusal.Refusal.TheVariants.{Memory, NoUser, AccountClosed as ClosedAccount, TooLarge, BadEnvelope}
 use Rattle.store_engine.specs.Hosts.{SessionMap}
-use Rattle.store_engine.specs.declared.event.Event.{Event}
 use Rattle.store_engine.specs.Limits.{is_envelope_address}
 use Rattle.store_engine.specs.declared.answer.Answer.{Answer}
 use Rattle.store_engine.specs.declared.answer.Answer.TheVariants as answer
 use Rattle.lmtp_connections.specs.Connections.{LmtpStep, Answered, Declined, Asked, Away, Brought}
 use Rattle.lmtp_connections.specs.declared.addressee.DeliveryResult.{DeliveryResult}
 use Rattle.lmtp_connections.specs.declared.addressee.DeliveryResult.TheVariants.{Delivered, Refused}
-use Rattle.lmtp_connections.specs.declared.demand.StoreDelivery.{StoreDelivery}
+use Rattle.lmtp_connections.specs.declared.demand.DeliveryRequest.{DeliveryRequest}
 use Rattle.lmtp_connections.specs.Stands.{ConnectionDoes, ConnectionHoldsNoMore}
 use Rattle.lmtp_connections.specs.declared.connection.LmtpConnection.{LmtpConnection}
 use Rattle.cli_reports.specs.Reports.{delivery_report}
-use Rattle.net_loop.specs.declared.act.Act.{Act}
+use Rattle.net_loop.specs.Rules.{OneStep}
+use Rattle.net_loop.specs.Told.{Telling}
 use Rattle.net_loop.specs.declared.act.Act.TheVariants.{Noted}
 use Rattle.daemon_core.specs.Holds.{holding_behind}
 use Rattle.daemon_core.specs.StoreAccess.{View, IsEventDone, IsAccountAsked, NothingDone, delivery_of}
@@ -55,12 +55,12 @@ IsDeliveryResult sender other became = became ≡ Refused LocalFault
 
 -- the step that a note tells; a MAIL that is refused for lack of room is answered too
 abbrev pub IsLmtpStep : Note → LmtpStep → Type 0
-IsLmtpStep note.Answered deed = (deed ≡ Answered) ⊎ ((size : ℕ) × (deed ≡ Declined size))
-IsLmtpStep (note.Asked others user lookup) deed = deed ≡ Asked user lookup
-IsLmtpStep note.Away deed = deed ≡ Away
-IsLmtpStep (note.Did others event told) deed =
-    (parcel : StoreDelivery) × (terms : Terms) × (became : DeliveryResult) × (event ≡ delivery_of parcel terms) × IsDeliveryResult parcel.sender told became × (deed ≡ Brought parcel became)
-IsLmtpStep other deed = ⊥
+IsLmtpStep note.Answered lmtp_step = (lmtp_step ≡ Answered) ⊎ ((size : ℕ) × (lmtp_step ≡ Declined size))
+IsLmtpStep (note.Asked others user lookup) lmtp_step = lmtp_step ≡ Asked user lookup
+IsLmtpStep note.Away lmtp_step = lmtp_step ≡ Away
+IsLmtpStep (note.Did others event told) lmtp_step =
+    (request : DeliveryRequest) × (terms : Terms) × (became : DeliveryResult) × (event ≡ delivery_of request terms) × IsDeliveryResult request.sender told became × (lmtp_step ≡ Brought request became)
+IsLmtpStep other lmtp_step = ⊥
 
 -- and what it makes of the store
 abbrev pub StepStores : {R : Type 0} → View R → R → SessionMap → Note → R → SessionMap → Type 0
@@ -73,16 +73,27 @@ StepStores view r before other q after = NothingDone view r before q after
 -- its note tells a step for it, of which the store and the sessions have their part; there is room for this many octets. It holds no more
 -- after it
 pub record DoesOne {R : Type 0} (view : View R) (room : ℕ) (d : Daemon) (r : R) (before : LmtpConnection) (now : ℕ) (note : Note) (said : List ℕ) (e : Daemon) (q : R) (after : LmtpConnection) : Type 0 where
-  pub deed : LmtpStep
-  pub is : IsLmtpStep note deed
-  pub does : ConnectionDoes now deed said before after
-  pub spare : (size : ℕ) → deed ≡ Declined size → size ≡ room
+  pub lmtp_step : LmtpStep
+  pub is : IsLmtpStep note lmtp_step
+  pub does : ConnectionDoes now lmtp_step said before after
+  pub spare : (size : ℕ) → lmtp_step ≡ Declined size → size ≡ room
   pub held : ConnectionHoldsNoMore before after
   pub stores : StepStores view r d.clients.sessions note q e.clients.sessions
-  pub places : e.places ≡ d.places
+  pub states : e.states ≡ d.states
   pub holding : e.holding ≡ holding_behind now note d.holding
 
--- the same, if it is told
-abbrev pub DoesOneIf : {O R : Type 0} → (O → Bool) → (O → List (Act Note)) → (O → R) → View R → ℕ → O → Daemon → LmtpConnection → ℕ → ℕ → List ℕ → O → Daemon → LmtpConnection → Type 0
-DoesOneIf tells seen rest view room o d before now id said p e after =
-    IsTrue (tells p) → (note : Note) × (seen p ≡ seen o ++ Noted id note ∷ []) × DoesOne view room d (rest o) before now note said e (rest p) after
+-- the outside, the daemon and one of its connections
+pub record LmtpMoment (O : Type 0) : Type 0 where
+  pub outside : O
+  pub daemon : Daemon
+  pub connection : LmtpConnection
+
+abbrev pub lmtp_moment : {O : Type 0} → O → Daemon → LmtpConnection → LmtpMoment O
+lmtp_moment outside daemon connection = record { outside = outside; daemon = daemon; connection = connection }
+
+-- one step, if it is told
+abbrev pub DoesOneIf : {O R : Type 0} → Telling O Note R → View R → ℕ → LmtpMoment O → OneStep → LmtpMoment O → Type 0
+DoesOneIf told view room before step after =
+    IsTrue (told.tells after.outside)
+    → (note : Note) × (told.seen after.outside ≡ told.seen before.outside ++ Noted step.id note ∷ [])
+    × DoesOne view room before.daemon (told.rest before.outside) before.connection step.now note step.said after.daemon (told.rest after.outside) after.connection

@@ -14,12 +14,12 @@ use Rattle.daemon_core.specs.declared.note.Note.{Note}
 
 -- its state, what its acts spell, and what was sent on it
 pub record MailLine : Type 0 where
-  pub post : LmtpState
+  pub connection : LmtpState
   pub spelled : List ℕ
   pub sent : List ℕ
 
 abbrev pub new_mail : Names → List ℕ → ℕ → MailLine
-new_mail names host now = record { post = new_lmtp_state names host now; spelled = lmtp_greeting host; sent = [] }
+new_mail names host now = record { connection = new_lmtp_state names host now; spelled = lmtp_greeting host; sent = [] }
 
 -- one that came; a client of ManageSieve has no such line
 abbrev pub mail_came : Names → List ℕ → ℕ → Bool → Option MailLine
@@ -34,12 +34,12 @@ sent_more octets l = record l { sent = l.sent ++ octets }
 
 -- a note is a step that it allows, and what is said with that is spelled
 pub record IsLmtpNoted (now : ℕ) (l : MailLine) (note : Note) (k : MailLine) : Type 0 where
-  pub deed : LmtpStep
-  pub told : IsLmtpStep note deed
+  pub lmtp_step : LmtpStep
+  pub told : IsLmtpStep note lmtp_step
   pub said : List ℕ
   pub after : LmtpState
-  pub goes : LmtpGoes now l.post deed said after
-  pub leaves : k ≡ record { post = after; spelled = l.spelled ++ said; sent = l.sent }
+  pub goes : LmtpGoes now l.connection lmtp_step said after
+  pub leaves : k ≡ record { connection = after; spelled = l.spelled ++ said; sent = l.sent }
 
 -- if it is an act of the connection
 abbrev pub Its : Bool → Type 0 → Type 0 → Type 0
@@ -48,7 +48,7 @@ Its false is other = other
 
 -- what an act tells of it, at a moment; others' acts nothing
 abbrev pub TellsOf : ℕ → ℕ → MailLine → Act Note → MailLine → Type 0
-TellsOf id now l (Heard n piece) k = Its (is_same_id n id) (k ≡ record l { post = lmtp_state_heard now piece l.post }) (k ≡ l)
+TellsOf id now l (Heard n piece) k = Its (is_same_id n id) (k ≡ record l { connection = lmtp_state_heard now piece l.connection }) (k ≡ l)
 TellsOf id now l (Noted n note) k = Its (is_same_id n id) (IsLmtpNoted now l note k) (k ≡ l)
 TellsOf id now l (Late n) k = Its (is_same_id n id) (k ≡ says_more (lmtp_line_of Idle) l) (k ≡ l)
 TellsOf id now l (Displaced n) k = Its (is_same_id n id) (k ≡ says_more (lmtp_line_of Idle) l) (k ≡ l)

@@ -16,7 +16,7 @@ use Rattle.net_loop.specs.Talk.{is_same_id}
 use Rattle.net_loop.specs.declared.machine.Want.{Want}
 use Rattle.net_loop.specs.declared.machine.Want.TheVariants as want
 use Rattle.daemon_core.specs.Bounds.{held, bound, own, octet_room, FitsClient, PassesBound}
-use Rattle.daemon_core.specs.DaemonRules.{lmtp, limit_of, place_at, least, patience_of, DaemonOpens, DaemonGives, DaemonGoes, DoesWork, LacksFor, DaemonCloses, Forgets}
+use Rattle.daemon_core.specs.DaemonRules.{lmtp, limit_of, client_state_at, least, patience_of, DaemonOpens, DaemonGives, DaemonGoes, DoesWork, LacksFor, DaemonCloses, Forgets}
 use Rattle.daemon_core.specs.LmtpSteps.{DoesOne}
 use Rattle.daemon_core.specs.StoreAccess.{View}
 use Rattle.daemon_core.specs.Holds.{has_work}
@@ -36,12 +36,12 @@ max_senders = 20
 abbrev pub limit_for : ℕ → ℕ
 limit_for kind = if kind == lmtp then max_senders else limit_of kind
 
-abbrev pub post_at : MailDaemon → ℕ → Option LmtpConnection
-post_at d id = tree.get nat_cmp d.posts id
+abbrev pub lmtp_connection_at : MailDaemon → ℕ → Option LmtpConnection
+lmtp_connection_at d id = tree.get nat_cmp d.lmtp_connections id
 
 -- what is known of one client of LMTP changes, and of no other
-abbrev pub ChangesPost : MailDaemon → ℕ → Option LmtpConnection → MailDaemon → Type 0
-ChangesPost d id post e = (other : ℕ) → post_at e other ≡ cond (is_same_id id other) post (post_at d other)
+abbrev pub ChangesLmtpConnection : MailDaemon → ℕ → Option LmtpConnection → MailDaemon → Type 0
+ChangesLmtpConnection d id connection e = (other : ℕ) → lmtp_connection_at e other ≡ cond (is_same_id id other) connection (lmtp_connection_at d other)
 
 -- how it is set up stays
 pub record SameHost (d e : MailDaemon) : Type 0 where
@@ -50,8 +50,8 @@ pub record SameHost (d e : MailDaemon) : Type 0 where
   pub memory : e.memory ≡ d.memory
 
 -- and what is known of clients of LMTP
-pub record SamePosts (d e : MailDaemon) : Type 0 where
-  pub posts : e.posts ≡ d.posts
+pub record SameLmtpConnections (d e : MailDaemon) : Type 0 where
+  pub lmtp_connections : e.lmtp_connections ≡ d.lmtp_connections
   pub host : SameHost d e
 
 -- ---- what is wanted, and when it is late
@@ -64,11 +64,11 @@ want_for wanted.Done = want.Done
 
 abbrev pub wants_by : Option LmtpConnection → Want → Want
 wants_by None other = other
-wants_by (Some post) other = want_for (wanted post.comes post.tally)
+wants_by (Some connection) other = want_for (wanted connection.comes connection.progress)
 
 abbrev pub due_by_kind : Option LmtpConnection → ℕ → ℕ
 due_by_kind None other = other
-due_by_kind (Some post) other = due post.tally
+due_by_kind (Some connection) other = due connection.progress
 
 -- in milliseconds: if one waits for the store as long as a client of ManageSieve does
 abbrev pub lmtp_patience : Wanted → ℕ
@@ -77,29 +77,29 @@ lmtp_patience other = 1000
 
 abbrev pub least_lmtp_patience : ℕ → List (ℕ × LmtpConnection) → ℕ
 least_lmtp_patience span [] = span
-least_lmtp_patience span (it ∷ entries) = least_lmtp_patience (least span (lmtp_patience (wanted it.1.comes it.1.tally))) entries
+least_lmtp_patience span (it ∷ entries) = least_lmtp_patience (least span (lmtp_patience (wanted it.1.comes it.1.progress))) entries
 
 -- the least of those of all
 abbrev pub patience_for : MailDaemon → ℕ
-patience_for d = least_lmtp_patience (patience_of d.daemon) d.posts.entries
+patience_for d = least_lmtp_patience (patience_of d.daemon) d.lmtp_connections.entries
 
 -- ---- room for octets
 
 -- the text of a client of LMTP isn't kept any more, and nothing else changes: its end is heard, and its recipients are told so
 pub record DropsText (d : MailDaemon) (id : ℕ) (e : MailDaemon) : Type 0 where
   pub before : LmtpConnection
-  pub was : post_at d id ≡ Some before
+  pub was : lmtp_connection_at d id ≡ Some before
   pub after : LmtpConnection
   pub keeps : ConnectionKeeps before after
   pub held : ConnectionHoldsNoMore before after
   pub dropped : IsDropped after.receiver.talk
-  pub posts : ChangesPost d id (Some after) e
+  pub lmtp_connections : ChangesLmtpConnection d id (Some after) e
   pub daemon : e.daemon ≡ d.daemon
   pub host : SameHost d e
 
 -- with this many octets more a client of LMTP holds no more than each may
 abbrev pub IsOwnShare : MailDaemon → ℕ → ℕ → Type 0
-IsOwnShare d id count = (post : LmtpConnection) × (post_at d id ≡ Some post) × (held_by post.receiver + count ≤ own)
+IsOwnShare d id count = (connection : LmtpConnection) × (lmtp_connection_at d id ≡ Some connection) × (held_by connection.receiver + count ≤ own)
 
 -- this many more of it fit: all hold what they may with them, or they are its own
 abbrev pub HasOctetRoom : MailDaemon → ℕ → ℕ → Type 0
@@ -108,24 +108,24 @@ HasOctetRoom d id count = (held d + count ≤ bound d) ⊎ IsOwnShare d id count
 -- neither is so
 pub record LacksRoom (d : MailDaemon) (id count : ℕ) : Type 0 where
   pub all : bound d < held d + count
-  pub its : (post : LmtpConnection) → post_at d id ≡ Some post → own < held_by post.receiver + count
+  pub its : (connection : LmtpConnection) → lmtp_connection_at d id ≡ Some connection → own < held_by connection.receiver + count
 
 -- this many octets of a client of LMTP may come: only if they don't fit its text is dropped
 abbrev pub KeepsText : MailDaemon → ℕ → ℕ → MailDaemon → Type 0
 KeepsText d id count e = (HasOctetRoom d id count × (e ≡ d)) ⊎ (LacksRoom d id count × DropsText d id e)
 
 -- of that client's text something may be dropped, and nothing else changes
-abbrev pub KeepsPosts : MailDaemon → ℕ → MailDaemon → Type 0
-KeepsPosts d id e = (e ≡ d) ⊎ DropsText d id e
+abbrev pub KeepsLmtpConnections : MailDaemon → ℕ → MailDaemon → Type 0
+KeepsLmtpConnections d id e = (e ≡ d) ⊎ DropsText d id e
 
 -- octets of a client of LMTP are appended to its dialogue
 pub record TakesPiece (d : MailDaemon) (now id : ℕ) (piece : List ℕ) (e : MailDaemon) : Type 0 where
   pub before : LmtpConnection
-  pub was : post_at d id ≡ Some before
+  pub was : lmtp_connection_at d id ≡ Some before
   pub after : LmtpConnection
   pub hears : ConnectionHears now piece before after
   pub held : held_by after.receiver ≤ held_by before.receiver + length piece
-  pub posts : ChangesPost d id (Some after) e
+  pub lmtp_connections : ChangesLmtpConnection d id (Some after) e
   pub daemon : e.daemon ≡ d.daemon
   pub host : SameHost d e
 
@@ -136,24 +136,24 @@ pub record Fits (d : MailDaemon) (id count : ℕ) (e : MailDaemon) : Type 0 wher
 
 -- ---- connections come, say something, and go
 
-pub record PostOpens (d : MailDaemon) (now id : ℕ) (said : List ℕ) (e : MailDaemon) : Type 0 where
+pub record LmtpClientOpens (d : MailDaemon) (now id : ℕ) (said : List ℕ) (e : MailDaemon) : Type 0 where
   pub says : said ≡ lmtp_greeting d.host
-  pub post : LmtpConnection
-  pub begins : ConnectionStands post (new_lmtp_state d.names d.host now)
-  pub empty : held_by post.receiver ≡ 0
-  pub posts : ChangesPost d id (Some post) e
+  pub connection : LmtpConnection
+  pub begins : ConnectionStands connection (new_lmtp_state d.names d.host now)
+  pub empty : held_by connection.receiver ≡ 0
+  pub lmtp_connections : ChangesLmtpConnection d id (Some connection) e
   pub daemon : Forgets d.daemon id e.daemon
   pub host : SameHost d e
 
-pub record PostGives (d : MailDaemon) (now id : ℕ) (piece said : List ℕ) (e : MailDaemon) : Type 0 where
+pub record LmtpClientGives (d : MailDaemon) (now id : ℕ) (piece said : List ℕ) (e : MailDaemon) : Type 0 where
   pub silent : said ≡ []
   pub before : LmtpConnection
-  pub was : post_at d id ≡ Some before
+  pub was : lmtp_connection_at d id ≡ Some before
   -- no session has its number
   pub other : client_at d.daemon.clients.sessions id ≡ None
   pub after : LmtpConnection
   pub hears : ConnectionHears now piece before after
-  pub posts : ChangesPost d id (Some after) e
+  pub lmtp_connections : ChangesLmtpConnection d id (Some after) e
   pub daemon : e.daemon ≡ d.daemon
   pub host : SameHost d e
   -- the octets fit: that was so before they came, or its text was dropped for them
@@ -162,12 +162,12 @@ pub record PostGives (d : MailDaemon) (now id : ℕ) (piece said : List ℕ) (e 
   pub takes : TakesPiece fitted now id piece e
 
 -- one step is what the note tells; a MAIL is refused only if it announces more than there is room for
-pub record PostGoes {R : Type 0} (view : View R) (d : MailDaemon) (r : R) (now id : ℕ) (note : Note) (said : List ℕ) (e : MailDaemon) (q : R) : Type 0 where
+pub record LmtpClientGoes {R : Type 0} (view : View R) (d : MailDaemon) (r : R) (now id : ℕ) (note : Note) (said : List ℕ) (e : MailDaemon) (q : R) : Type 0 where
   pub before : LmtpConnection
-  pub was : post_at d id ≡ Some before
+  pub was : lmtp_connection_at d id ≡ Some before
   pub after : LmtpConnection
   pub does : DoesOne view (octet_room d) d.daemon r before now note said e.daemon q after
-  pub posts : ChangesPost d id (Some after) e
+  pub lmtp_connections : ChangesLmtpConnection d id (Some after) e
   pub host : SameHost d e
 
 -- ---- all of it
@@ -175,11 +175,11 @@ pub record PostGoes {R : Type 0} (view : View R) (d : MailDaemon) (r : R) (now i
 -- a client of ManageSieve comes: its session begins, and nothing of a client of LMTP has its number
 pub record SessionOpens (d : MailDaemon) (now id : ℕ) (said : List ℕ) (e : MailDaemon) : Type 0 where
   pub opens : DaemonOpens d.daemon now id said e.daemon
-  pub posts : ChangesPost d id None e
+  pub lmtp_connections : ChangesLmtpConnection d id None e
   pub host : SameHost d e
 
 abbrev pub OpensBy : Bool → MailDaemon → ℕ → ℕ → List ℕ → MailDaemon → Type 0
-OpensBy true d now id said e = PostOpens d now id said e
+OpensBy true d now id said e = LmtpClientOpens d now id said e
 OpensBy false d now id said e = SessionOpens d now id said e
 
 -- whether this many octets of a client of ManageSieve fit: if they don't, it is over with it after them
@@ -190,59 +190,59 @@ FitsAs d id count fit.Told = ⊥
 
 -- octets of one come, and the daemon's own rules say what becomes of them
 pub record SessionGives (d : MailDaemon) (now id : ℕ) (piece said : List ℕ) (e : MailDaemon) : Type 0 where
-  pub other : post_at d id ≡ None
+  pub other : lmtp_connection_at d id ≡ None
   pub whether : Fit
   pub fits : FitsAs d id (length piece) whether
   pub gives : DaemonGives d.daemon now id piece whether said e.daemon
-  pub same : SamePosts d e
+  pub same : SameLmtpConnections d e
 
 abbrev pub GivesBy : MailDaemon → ℕ → ℕ → List ℕ → List ℕ → MailDaemon → Type 0
-GivesBy d now id piece said e = PostGives d now id piece said e ⊎ SessionGives d now id piece said e
+GivesBy d now id piece said e = LmtpClientGives d now id piece said e ⊎ SessionGives d now id piece said e
 
 -- the daemon continues with one, by its own rules
 pub record SessionGoes {R : Type 0} (view : View R) (d : MailDaemon) (r : R) (now id : ℕ) (note : Note) (said : List ℕ) (e : MailDaemon) (q : R) : Type 0 where
-  pub other : post_at d id ≡ None
+  pub other : lmtp_connection_at d id ≡ None
   pub goes : DaemonGoes view d.daemon r now id note said e.daemon q
-  pub same : SamePosts d e
+  pub same : SameLmtpConnections d e
 
 abbrev pub GoesBy : {R : Type 0} → View R → MailDaemon → R → ℕ → ℕ → Note → List ℕ → MailDaemon → R → Type 0
-GoesBy view d r now id note said e q = PostGoes view d r now id note said e q ⊎ SessionGoes view d r now id note said e q
+GoesBy view d r now id note said e q = LmtpClientGoes view d r now id note said e q ⊎ SessionGoes view d r now id note said e q
 
 -- what is said last to one that is late or makes room, by what is known of it (RFC 5321, 4.5.3.2.7; RFC 5804, 1.2)
 abbrev pub IsFarewell : Option LmtpConnection → Option ClientState → List ℕ → Type 0
-IsFarewell (Some post) place said = said ≡ lmtp_line_of Idle
-IsFarewell None (Some place) said = said ≡ idle
+IsFarewell (Some connection) state said = said ≡ lmtp_line_of Idle
+IsFarewell None (Some state) said = said ≡ idle
 IsFarewell None None said = ⊥
 
 pub record SaysLast (d : MailDaemon) (id : ℕ) (said : List ℕ) (e : MailDaemon) : Type 0 where
-  pub says : IsFarewell (post_at d id) (place_at d.daemon id) said
+  pub says : IsFarewell (lmtp_connection_at d id) (client_state_at d.daemon id) said
   pub stays : e ≡ d
 
 -- the daemon does something by itself, by its own rules
 pub record DaemonWorks {R : Type 0} (view : View R) (d : MailDaemon) (r : R) (now : ℕ) (note : Note) (e : MailDaemon) (q : R) : Type 0 where
   pub does : DoesWork view d.daemon r now note e.daemon q
-  pub same : SamePosts d e
+  pub same : SameLmtpConnections d e
 
 -- if memory was lacking for one nothing more is known of it
 pub record LacksBy (d : MailDaemon) (id : ℕ) (e : MailDaemon) : Type 0 where
   pub lacks : LacksFor d.daemon id e.daemon
-  pub posts : ChangesPost d id None e
+  pub lmtp_connections : ChangesLmtpConnection d id None e
   pub host : SameHost d e
 
 pub record ClosesBy (d : MailDaemon) (id : ℕ) (e : MailDaemon) : Type 0 where
   pub closes : DaemonCloses d.daemon id e.daemon
-  pub posts : ChangesPost d id None e
+  pub lmtp_connections : ChangesLmtpConnection d id None e
   pub host : SameHost d e
 
 -- what the daemon makes of what happens to any client, of ManageSieve or of LMTP
 abbrev pub mail_rules : {R : Type 0} → View R → Rules MailDaemon Note R
 mail_rules view = record {
   limit = limit_for;
-  claim = λ d now id. claim_by_kind now (is_flooded d.posts.entries) (post_at d id) (place_at d.daemon id) (client_at d.daemon.clients.sessions id);
-  wants = λ d id. wants_by (post_at d id) (want_of (place_at d.daemon id) (client_at d.daemon.clients.sessions id));
+  claim = λ d now id. claim_by_kind now (is_flooded d.lmtp_connections.entries) (lmtp_connection_at d id) (client_state_at d.daemon id) (client_at d.daemon.clients.sessions id);
+  wants = λ d id. wants_by (lmtp_connection_at d id) (want_of (client_state_at d.daemon id) (client_at d.daemon.clients.sessions id));
   has_work = λ d now. has_work d.daemon.holding now;
   patience = patience_for;
-  deadline = λ d id. due_by_kind (post_at d id) (due_of (place_at d.daemon id) (client_at d.daemon.clients.sessions id));
+  deadline = λ d id. due_by_kind (lmtp_connection_at d id) (due_of (client_state_at d.daemon id) (client_at d.daemon.clients.sessions id));
   opens = λ d now kind id said e. OpensBy (kind == lmtp) d now id said e;
   gives = λ d now id piece said e. GivesBy d now id piece said e;
   steps = λ d r now id note said e q. GoesBy view d r now id note said e q;

@@ -1,5 +1,5 @@
 -- A message that moves on: others' events, then it is kept, and then the event that takes it out.
-use Rattle.std.specs.Prelude.{◌≡◌, ℕ, Bool, List, [], ◌∷◌, ◌++◌, Option, Some, None}
+use Rattle.std.specs.Prelude.{◌≡◌, ℕ, List, [], ◌∷◌, ◌++◌, Option, Some, None}
 use Rattle.sqlite_trees.specs.Tree.{Trees}
 use Rattle.maildir_files.specs.declared.kept.KeptMail.{KeptMail}
 use Rattle.store_engine.specs.Hosts.{SessionMap}
@@ -11,10 +11,9 @@ use Rattle.maildir_moves.specs.Enduring.{ShowsTried}
 use Rattle.maildir_moves.specs.Moving.{IsFirstMail, span_behind}
 use Rattle.maildir_moves.specs.declared.moving.Moving.{Moving}
 use Rattle.maildir_moves.specs.declared.moving.Moving.TheVariants as moving
-use Rattle.net_loop.specs.declared.act.Act.{Act}
 use Rattle.net_loop.specs.declared.act.Act.TheVariants.{Worked}
-use Rattle.net_loop.specs.Told.{TellsIf}
-use Rattle.daemon_core.specs.StoreAccess.{View, AreOthers, DoneAt, IsWorld, ComesTo, NothingDone}
+use Rattle.net_loop.specs.Told.{Telling, TellsIf}
+use Rattle.daemon_core.specs.StoreAccess.{View, StoreFacts, AccessState, AreOthers, DoneAt, IsWorld, ComesTo, NothingDone}
 use Rattle.daemon_core.specs.declared.note.Note.{Note}
 use Rattle.daemon_core.specs.declared.note.Note.TheVariants.{Away, Moved}
 
@@ -60,10 +59,13 @@ abbrev pub answers_of : Moving → List Answer
 answers_of (moving.Kept mail answer) = answer ∷ []
 answers_of other = []
 
--- a call on the store; if something is told, it is that. `clean`: the disk returned what was written
-abbrev pub MovesNextMessage : {O R : Type 0} → (O → Bool) → (O → List (Act Note)) → (O → R) → View R → (R → List KeptMail → Type 0) → (R → Type 0) → O → SessionMap → Option ℕ → O → SessionMap → Type 0
-MovesNextMessage tells seen rest view has clean old before (Some span) new after =
-    (others : List Event) × (moving : Moving) × (span ≡ span_behind moving) × (clean (rest new) → IsMessageMoved view others moving (rest old) before (rest new) after)
-    × HasKept has moving (rest old) (rest new) × TellsIf tells seen old (Worked (Moved others moving)) new
-MovesNextMessage tells seen rest view has clean old before None new after =
-    (clean (rest new) → NothingDone view (rest old) before (rest new) after) × TellsIf tells seen old (Worked Away) new
+-- a call on the store; if something is told, it is that
+abbrev pub MovesNextMessage : {O R : Type 0} → Telling O Note R → StoreFacts O R → AccessState O → Option ℕ → AccessState O → Type 0
+MovesNextMessage told store before (Some span) after =
+    (others : List Event) × (moving : Moving) × (span ≡ span_behind moving)
+    × (store.clean (told.rest after.outside)
+    → IsMessageMoved store.view others moving (told.rest before.outside) before.sessions (told.rest after.outside) after.sessions)
+    × HasKept store.has moving (told.rest before.outside) (told.rest after.outside) × TellsIf told before.outside (Worked (Moved others moving)) after.outside
+MovesNextMessage told store before None after =
+    (store.clean (told.rest after.outside) → NothingDone store.view (told.rest before.outside) before.sessions (told.rest after.outside) after.sessions)
+    × TellsIf told before.outside (Worked Away) after.outside

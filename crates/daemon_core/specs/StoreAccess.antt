@@ -13,12 +13,12 @@ use Rattle.store_engine.specs.World.{World, Clients, Next, Runs}
 use Rattle.store_engine.specs.declared.answer.Answer.{Answer}
 use Rattle.store_engine.specs.declared.event.Event.{Event}
 use Rattle.store_engine.specs.declared.event.Event.TheVariants.{Open, Give, Step, GiveUp, Close, Deliver}
+use Rattle.maildir_files.specs.declared.kept.KeptMail.{KeptMail}
 use Rattle.maildir_moves.specs.Enduring.{Endures, MayLeave, ShowsTried, none_tried}
 use Rattle.managesieve_sessions.specs.Acts.{HasAccounts}
-use Rattle.lmtp_connections.specs.declared.demand.StoreDelivery.{StoreDelivery}
-use Rattle.net_loop.specs.declared.act.Act.{Act}
+use Rattle.lmtp_connections.specs.declared.demand.DeliveryRequest.{DeliveryRequest}
 use Rattle.net_loop.specs.declared.act.Act.TheVariants.{Noted, Worked}
-use Rattle.net_loop.specs.Told.{TellsIf}
+use Rattle.net_loop.specs.Told.{Telling, TellsIf}
 use Rattle.daemon_core.specs.declared.note.Note.{Note}
 use Rattle.daemon_core.specs.declared.note.Note.TheVariants.{Did, Away, Asked, Looked}
 
@@ -27,6 +27,25 @@ use Rattle.daemon_core.specs.declared.note.Note.TheVariants.{Did, Away, Asked, L
 pub record View (R : Type 0) : Type 1 where
   pub shows : R → Accounts → Type 0
   pub leaves : R → Trees → Type 0
+
+-- what is known of a store R that an outside O accesses
+pub record StoreFacts (O R : Type 0) : Type 1 where
+  pub view : View R
+  -- the disk returned what was written
+  pub clean : R → Type 0
+  -- the text of the script by which the host has mail delivered to an account without an active one, if it has one
+  pub default : O → Option (List ℕ)
+  -- which messages the sink has, if mail moves on; of one that doesn't tell them this may be any
+  pub has : R → List KeptMail → Type 0
+
+-- an outside that accesses a store, and the sessions of its clients
+pub record AccessState (O : Type 0) : Type 0 where
+  pub outside : O
+  pub sessions : SessionMap
+
+-- from the values of the code
+abbrev pub access_state : {O : Type 0} → O → SessionMap → AccessState O
+access_state outside sessions = record { outside = outside; sessions = sessions }
 
 -- whatever accounts were shown, they are shown; and a crash leaves them, or what it might leave before
 abbrev pub ViewStillShows : {R : Type 0} → View R → R → R → Type 0
@@ -78,23 +97,26 @@ pub record NothingDone {R : Type 0} (view : View R) (r : R) (before : SessionMap
   pub shown : ViewStillShows view r q
   pub kept : KeepsClients before after
 
--- an event was done and answered, or the store wasn't available and nothing was; if something is told, it is that. `clean`: the disk
--- returned what was written
-abbrev pub AppliesEvent : {O R : Type 0} → (O → Bool) → (O → List (Act Note)) → (O → R) → View R → (R → Type 0) → ℕ → Event → O → SessionMap → Option Answer → O → SessionMap → Type 0
-AppliesEvent tells seen rest view clean id event old before (Some answer) new after =
-    (others : List Event) × (clean (rest new) → IsEventDone view others event answer (rest old) before (rest new) after)
-    × TellsIf tells seen old (Noted id (Did others event answer)) new
-AppliesEvent tells seen rest view clean id event old before None new after =
-    (clean (rest new) → NothingDone view (rest old) before (rest new) after) × TellsIf tells seen old (Noted id Away) new
+-- an event was done and answered, or the store wasn't available and nothing was; if something is told, it is that
+abbrev pub AppliesEvent : {O R : Type 0} → Telling O Note R → StoreFacts O R → ℕ → Event → AccessState O → Option Answer → AccessState O → Type 0
+AppliesEvent told store id event before (Some answer) after =
+    (others : List Event)
+    × (store.clean (told.rest after.outside)
+    → IsEventDone store.view others event answer (told.rest before.outside) before.sessions (told.rest after.outside) after.sessions)
+    × TellsIf told before.outside (Noted id (Did others event answer)) after.outside
+AppliesEvent told store id event before None after =
+    (store.clean (told.rest after.outside) → NothingDone store.view (told.rest before.outside) before.sessions (told.rest after.outside) after.sessions)
+    × TellsIf told before.outside (Noted id Away) after.outside
 
 -- it was looked whether somebody waits; the store was given back if somebody does, or if it `rests`; no account changed
-abbrev pub Looks : {O R : Type 0} → (O → Bool) → (O → List (Act Note)) → (O → R) → View R → (R → Type 0) → O → Bool → Bool → O → Type 0
-Looks tells seen rest view clean old rests gave new =
-    (clean (rest new) → ViewStillShows view (rest old) (rest new)) × ((wanted : Bool) × (gave ≡ (rests || wanted)) × TellsIf tells seen old (Worked (Looked wanted)) new)
+abbrev pub Looks : {O R : Type 0} → Telling O Note R → StoreFacts O R → O → Bool → Bool → O → Type 0
+Looks told store old rests gave new =
+    (store.clean (told.rest new) → ViewStillShows store.view (told.rest old) (told.rest new))
+    × ((wanted : Bool) × (gave ≡ (rests || wanted)) × TellsIf told old (Worked (Looked wanted)) new)
 
 -- the same, if it is told
-abbrev pub StillShowsIf : {O R : Type 0} → (O → Bool) → (O → R) → View R → O → O → Type 0
-StillShowsIf tells rest view old new = IsTrue (tells new) → ViewStillShows view (rest old) (rest new)
+abbrev pub StillShowsIf : {O R : Type 0} → Telling O Note R → View R → O → O → Type 0
+StillShowsIf told view old new = IsTrue (told.tells new) → ViewStillShows view (told.rest old) (told.rest new)
 
 -- what was found of an account of that name, among these; one that was removed isn't there
 abbrev pub IsFoundIn : Accounts → List ℕ → Lookup → Type 0
@@ -120,18 +142,21 @@ IsAccountAsked view others user lookup r before q after =
     (w : World) → IsWorld view r before w → (next : World) × FindsAt others user lookup w next × ComesTo view r w none_tried q after next
 
 -- an account was looked for after others' events, and this was found; or nothing was asked
-abbrev pub FindsAccount : {O R : Type 0} → (O → Bool) → (O → List (Act Note)) → (O → R) → View R → (R → Type 0) → ℕ → List ℕ → O → SessionMap → Option Lookup → O → SessionMap → Type 0
-FindsAccount tells seen rest view clean id user old before (Some lookup) new after =
-    (others : List Event) × (clean (rest new) → IsAccountAsked view others user lookup (rest old) before (rest new) after)
-    × TellsIf tells seen old (Noted id (Asked others user lookup)) new
-FindsAccount tells seen rest view clean id user old before None new after =
-    (clean (rest new) → NothingDone view (rest old) before (rest new) after) × TellsIf tells seen old (Noted id Away) new
+abbrev pub FindsAccount : {O R : Type 0} → Telling O Note R → StoreFacts O R → ℕ → List ℕ → AccessState O → Option Lookup → AccessState O → Type 0
+FindsAccount told store id user before (Some lookup) after =
+    (others : List Event)
+    × (store.clean (told.rest after.outside)
+    → IsAccountAsked store.view others user lookup (told.rest before.outside) before.sessions (told.rest after.outside) after.sessions)
+    × TellsIf told before.outside (Noted id (Asked others user lookup)) after.outside
+FindsAccount told store id user before None after =
+    (store.clean (told.rest after.outside) → NothingDone store.view (told.rest before.outside) before.sessions (told.rest after.outside) after.sessions)
+    × TellsIf told before.outside (Noted id Away) after.outside
 
 -- the event of a message for one recipient, on these terms
-abbrev pub delivery_of : StoreDelivery → Terms → Event
-delivery_of parcel terms = Deliver parcel.user (record { from = parcel.sender; to = parcel.recipient }) parcel.message terms.when terms.default
+abbrev pub delivery_of : DeliveryRequest → Terms → Event
+delivery_of request terms = Deliver request.user (record { from = request.sender; to = request.recipient }) request.message terms.when terms.default
 
 -- the same as `AppliesEvent`, at a moment and in a zone that the call has read, with the default script that the store's host has
-abbrev pub DeliversMessage : {O R : Type 0} → (O → Bool) → (O → List (Act Note)) → (O → R) → View R → (R → Type 0) → (O → Option (List ℕ)) → ℕ → StoreDelivery → O → SessionMap → Option Answer → O → SessionMap → Type 0
-DeliversMessage tells seen rest view clean default id parcel old before answer new after =
-    (when : When) × AppliesEvent tells seen rest view clean id (delivery_of parcel (terms when (default old))) old before answer new after
+abbrev pub DeliversMessage : {O R : Type 0} → Telling O Note R → StoreFacts O R → ℕ → DeliveryRequest → AccessState O → Option Answer → AccessState O → Type 0
+DeliversMessage told store id request before answer after =
+    (when : When) × AppliesEvent told store id (delivery_of request (terms when (store.default before.outside))) before answer after

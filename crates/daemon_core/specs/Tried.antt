@@ -8,13 +8,11 @@ use Rattle.store_engine.specs.declared.answer.Answer.TheVariants.{Refused}
 use Rattle.store_engine.specs.declared.event.Event.{Event}
 use Rattle.store_engine.specs.declared.event.Event.TheVariants.{TakeMail}
 use Rattle.maildir_moves.specs.Enduring.{ShowsMade}
-use Rattle.maildir_moves.specs.declared.moving.Moving.{Moving}
 use Rattle.maildir_moves.specs.declared.moving.Moving.TheVariants as moving
 use Rattle.net_loop.specs.declared.act.Act.{Act}
 use Rattle.net_loop.specs.declared.act.Act.TheVariants.{Worked, Noted}
 use Rattle.daemon_core.specs.Acts.{LeadsOn, RestsOn}
 use Rattle.daemon_core.specs.StoreAccess.{DoneAt}
-use Rattle.daemon_core.specs.Moves.{TakenAt}
 use Rattle.daemon_core.specs.declared.note.Note.{Note}
 use Rattle.daemon_core.specs.declared.note.Note.TheVariants.{Did, Moved}
 

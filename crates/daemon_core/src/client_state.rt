@@ -30,7 +30,7 @@ pub enum Fit {
 pub struct ClientState {
     pub waits: SessionWait,
     /// The moment since which nobody is logged in; if somebody is, that of the last answer.
-    pub guest: u64,
+    pub unauthenticated_since: u64,
     /// The moment of the last answer, or of the first octet after it.
     pub since: u64,
     pub fit: Fit,

@@ -11,7 +11,7 @@ use store_engine::Clients;
 #[derive(Clone, Copy, Debug, PartialEq, Eq)]
 pub struct Holding {
     /// It may be held.
-    pub had: bool,
+    pub is_held: bool,
     /// The moment from which on it is to be checked whether somebody waits for it.
     pub look: u64,
     /// The moment of the last event that asked it.
@@ -31,7 +31,7 @@ pub struct Holding {
 pub struct Daemon {
     pub alloc: Global,
     pub clients: Clients,
-    pub places: BTreeMap<u32, ClientState>,
+    pub states: BTreeMap<u32, ClientState>,
     pub holding: Holding,
 }
 
@@ -41,7 +41,7 @@ impl Holding {
         ensures { result ≡ rules.asked_at now self }
     {
         Holding {
-            had: true,
+            is_held: true,
             look: now,
             asked: now,
             moves: self.moves,
@@ -63,15 +63,15 @@ impl Daemon {
     /// No connections. If `moves`, mail moves on. Takes no memory.
     pub fn new(alloc: Global, moves: bool) -> Daemon
         ensures sessions { result.clients.sessions.entries ≡ [] }
-        ensures places { result.places.entries ≡ [] }
+        ensures states { result.states.entries ≡ [] }
         ensures moves { result.holding.moves ≡ moves }
     {
         Daemon {
             alloc,
             clients: Clients::new(alloc),
-            places: BTreeMap::new(alloc),
+            states: BTreeMap::new(alloc),
             holding: Holding {
-                had: false,
+                is_held: false,
                 look: 0,
                 asked: 0,
                 moves,

@@ -2,7 +2,7 @@
 ghost use Rattle.std.specs.Prelude.{◌≡◌};
 ghost use Rattle.std.specs.List.{list_any};
 ghost use Rattle.store_engine.specs.Limits.{is_envelope_address, is_forbidden_octet};
-ghost use Rattle.daemon_core.specs.LmtpSteps as deeds;
+ghost use Rattle.daemon_core.specs.LmtpSteps as lmtp_steps;
 
 use crate::report::line_of_report;
 use lmtp_connections::DeliveryResult;
@@ -12,7 +12,7 @@ use store_engine::{Answer, Refusal};
 
 /// What became of a message that was to be delivered.
 pub fn result_of(alloc: Global, sender: &[u8], answer: Answer) -> DeliveryResult
-    ensures { deeds.IsDeliveryResult sender.now answer result }
+    ensures { lmtp_steps.IsDeliveryResult sender.now answer result }
 {
     match answer {
         Answer::Delivered(report) => DeliveryResult::Delivered(line_of_report(alloc, &report)),
@@ -23,7 +23,7 @@ pub fn result_of(alloc: Global, sender: &[u8], answer: Answer) -> DeliveryResult
 
 /// How a recipient is told that a delivery was refused.
 fn reply_to(sender: &[u8], refusal: Refusal) -> LmtpReply
-    ensures { result ≡ deeds.refusal_reply sender.now refusal }
+    ensures { result ≡ lmtp_steps.refusal_reply sender.now refusal }
 {
     match refusal {
         Refusal::NoUser => LmtpReply::NoSuchUser,
@@ -36,7 +36,7 @@ fn reply_to(sender: &[u8], refusal: Refusal) -> LmtpReply
 }
 
 fn envelope_reply(sender: &[u8]) -> LmtpReply
-    ensures { result ≡ deeds.envelope_reply (is_envelope_address sender.now) }
+    ensures { result ≡ lmtp_steps.envelope_reply (is_envelope_address sender.now) }
 {
     if is_address(sender) {
         LmtpReply::BadRecipient

@@ -1,9 +1,9 @@
 //! Which connection is closed when all places of its kind are taken and a new one knocks: what each claims.
 ghost use Rattle.std.specs.Prelude.{◌≡◌, ◌-◌};
 ghost use Rattle.daemon_core.specs.DaemonRules as rules;
-ghost use Rattle.daemon_core.specs.ClientStates as places;
+ghost use Rattle.daemon_core.specs.ClientStates as states;
 ghost use Rattle.daemon_core.specs.ClientStates.{client_at};
-ghost use Rattle.daemon_core.specs.Eviction as room;
+ghost use Rattle.daemon_core.specs.Eviction as eviction;
 
 use crate::client_state::{ClientState, SessionWait};
 use crate::daemon::Daemon;
@@ -40,7 +40,7 @@ const KEPT: u32 = 2;
 
 /// Whether somebody is logged in there.
 pub fn is_user(clients: &Clients, id: u32) -> bool
-    ensures { result ≡ places.has_login (client_at clients.now.sessions id) }
+    ensures { result ≡ states.has_login (client_at clients.now.sessions id) }
 {
     match clients.session(id) {
         Some(session) => session.is_logged_in(),
@@ -50,7 +50,7 @@ pub fn is_user(clients: &Clients, id: u32) -> bool
 
 /// What one claims that owes octets, and has done so since that moment.
 fn owed_claim(now: u64, span: u64, rank: u32, since: u64) -> Option<Claim>
-    ensures { result ≡ room.owed_claim now span rank since }
+    ensures { result ≡ eviction.owed_claim now span rank since }
 {
     if since.wrapping_add(span) <= now {
         Some(Claim {
@@ -64,7 +64,7 @@ fn owed_claim(now: u64, span: u64, rank: u32, since: u64) -> Option<Claim>
 
 /// What one claims to whom the answer to a login is said at that moment: who would hear it last goes first.
 fn kept_claim(now: u64, until: u64) -> Option<Claim>
-    ensures { result ≡ room.kept_claim now until }
+    ensures { result ≡ eviction.kept_claim now until }
 {
     if until <= now.wrapping_add(KEPT_LEFT) {
         Some(Claim {
@@ -77,14 +77,14 @@ fn kept_claim(now: u64, until: u64) -> Option<Claim>
 }
 
 fn rank_of(session: &Session) -> u32
-    ensures { result ≡ room.guest_rank session.now.client }
+    ensures { result ≡ eviction.unauthenticated_rank session.now.client }
 {
     if session.has_failed() { FAILED } else { SILENT }
 }
 
 /// The claim of a connection of which the loop wants this.
 fn want_claim(now: u64, want: Want, rank: u32, since: u64) -> Option<Claim>
-    ensures { result ≡ room.want_claim now want rank since }
+    ensures { result ≡ eviction.want_claim now want rank since }
 {
     match want {
         Want::More => owed_claim(now, FIRST_SPAN, rank, since),
@@ -93,31 +93,31 @@ fn want_claim(now: u64, want: Want, rank: u32, since: u64) -> Option<Claim>
 }
 
 /// The claim of a client in this wait.
-fn waits_claim(now: u64, place: &ClientState, session: &Session) -> Option<Claim>
-    ensures { result ≡ room.waits_claim now place.now.waits place.now session.now.client }
+fn waits_claim(now: u64, state: &ClientState, session: &Session) -> Option<Claim>
+    ensures { result ≡ eviction.waits_claim now state.now.waits state.now session.now.client }
 {
-    match &place.waits {
+    match &state.waits {
         SessionWait::Reply(until, _) => kept_claim(now, *until),
         _ => want_claim(
             now,
-            want_by(&place.waits, place.fit, session),
+            want_by(&state.waits, state.fit, session),
             rank_of(session),
-            place.guest,
+            state.unauthenticated_since,
         ),
     }
 }
 
 /// What a client of ManageSieve claims; none if somebody is logged in there.
-pub fn claim_of_guest(daemon: &Daemon, now: u64, id: u32) -> Option<Claim>
-    ensures { result ≡ room.guest_claim now (rules.place_at daemon.now id) (client_at daemon.now.clients.sessions id) }
+pub fn claim_of_unauthenticated(daemon: &Daemon, now: u64, id: u32) -> Option<Claim>
+    ensures { result ≡ eviction.unauthenticated_claim now (rules.client_state_at daemon.now id) (client_at daemon.now.clients.sessions id) }
 {
-    match daemon.places.get(&id) {
-        Some(place) => match daemon.clients.session(id) {
+    match daemon.states.get(&id) {
+        Some(state) => match daemon.clients.session(id) {
             Some(session) => {
                 if session.is_logged_in() {
                     None
                 } else {
-                    waits_claim(now, place, session)
+                    waits_claim(now, state, session)
                 }
             }
             None => None,
@@ -132,19 +132,19 @@ pub fn claim_of_sender(
     now: u64,
     flooded: bool,
     id: u32,
-    post: &LmtpConnection,
+    connection: &LmtpConnection,
 ) -> Option<Claim>
-    ensures { result ≡ room.sender_claim now flooded (client_at clients.now.sessions id) post.now }
+    ensures { result ≡ eviction.sender_claim now flooded (client_at clients.now.sessions id) connection.now }
 {
     if is_user(clients, id) {
         return None;
     }
-    let span = span_by(post.has_said_hello(), flooded);
-    since_claim(now, span, post.owed_since())
+    let span = span_by(connection.has_said_hello(), flooded);
+    since_claim(now, span, connection.owed_since())
 }
 
 fn since_claim(now: u64, span: u64, since: Option<u64>) -> Option<Claim>
-    ensures { result ≡ room.since_claim now span since }
+    ensures { result ≡ eviction.since_claim now span since }
 {
     match since {
         Some(since) => owed_claim(now, span, SILENT, since),
@@ -153,7 +153,7 @@ fn since_claim(now: u64, span: u64, since: Option<u64>) -> Option<Claim>
 }
 
 fn span_by(hello: bool, flooded: bool) -> u64
-    ensures { result ≡ room.silence_span hello flooded }
+    ensures { result ≡ eviction.silence_span hello flooded }
 {
     if hello {
         SENDER_SPAN
@@ -165,25 +165,25 @@ fn span_by(hello: bool, flooded: bool) -> u64
 }
 
 /// Whether at least 15 LMTP clients haven't said LHLO yet. Time is linear in all LMTP connections.
-pub fn is_flooded(posts: &BTreeMap<u32, LmtpConnection>) -> bool
-    ensures { result ≡ room.is_flooded posts.now.entries }
+pub fn is_flooded(lmtp_connections: &BTreeMap<u32, LmtpConnection>) -> bool
+    ensures { result ≡ eviction.is_flooded lmtp_connections.now.entries }
 {
-    less_silent(MANY_SILENT, posts) == 0
+    less_silent(MANY_SILENT, lmtp_connections) == 0
 }
 
 /// `most` less how many of them haven't.
-fn less_silent(most: usize, posts: &BTreeMap<u32, LmtpConnection>) -> usize
-    ensures { result ≡ most - room.silent_in posts.now.entries }
+fn less_silent(most: usize, lmtp_connections: &BTreeMap<u32, LmtpConnection>) -> usize
+    ensures { result ≡ most - eviction.silent_in lmtp_connections.now.entries }
 {
     let mut left = most;
-    for (_, post) in posts.iter() {
-        left = left.saturating_sub(silent_by(post.has_said_hello()));
+    for (_, connection) in lmtp_connections.iter() {
+        left = left.saturating_sub(silent_by(connection.has_said_hello()));
     }
     left
 }
 
 fn silent_by(hello: bool) -> usize
-    ensures { result ≡ room.silent_by hello }
+    ensures { result ≡ eviction.silent_by hello }
 {
     if hello { 0 } else { 1 }
 }

@@ -2,7 +2,6 @@
 //! it is the abstract machine of store_engine, running.
 #![tactic(auto)]
 
-pub mod account;
 pub mod client_state;
 pub mod daemon;
 mod delivery_result;
@@ -16,6 +15,7 @@ mod mail_step;
 mod memory_room;
 pub mod note;
 mod poll_wait;
+pub mod recipient_account;
 mod report;
 mod session;
 mod step;

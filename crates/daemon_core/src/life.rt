@@ -1,6 +1,8 @@
 //! A daemon's life.
 ghost use Rattle.std.specs.Prelude.{IsTrue, OnOk, OnErr};
 ghost use Rattle.net_loop.specs.Life.{AddsIf, LivesIf};
+ghost use Rattle.net_loop.specs.Moves.{loop_state};
+ghost use Rattle.net_loop.specs.Told.{ToldBefore};
 ghost use Rattle.daemon_core.specs.MailRules.{mail_rules};
 ghost use Rattle.daemon_core.specs.Headline.{DaemonServes};
 
@@ -22,10 +24,10 @@ pub fn serve_clients<O: Sockets + Clock + StoreAccess>(
     service: &mut Service,
     acts: u64,
 ) -> Result<(), WaitError>
-    ensures kept { IsTrue (O.tells outside.new) → IsTrue (O.tells outside.old) }
-    ensures passed { OnOk result (AddsIf O.tells O.seen outside.old acts outside.new) }
-    ensures lives { LivesIf O.tells O.seen O.rest (mail_rules O.view) outside.old daemon.old service.old outside.new daemon.new service.new }
-    ensures headline { DaemonServes O.tells O.seen O.rest O.view outside.old daemon.old service.old outside.new daemon.new }
+    ensures kept { ToldBefore O.told outside.old outside.new }
+    ensures passed { OnOk result (AddsIf O.told outside.old acts outside.new) }
+    ensures lives { LivesIf O.told (mail_rules O.store.view) (loop_state outside.old daemon.old service.old) (loop_state outside.new daemon.new service.new) }
+    ensures headline { DaemonServes O.told O.store.view (loop_state outside.old daemon.old service.old) (loop_state outside.new daemon.new service.new) }
     ensures broke { OnErr result (IsTrue (O.broken outside.new)) }
 {
     life::serve(outside, daemon, service, acts)

@@ -1,6 +1,7 @@
 //! What the daemon does by itself: it looks whether somebody waits for the store, and has mail move on.
 ghost use Rattle.std.specs.Prelude.{◌≡◌, true, IsTrue};
-ghost use Rattle.net_loop.specs.Rules.{WorksIf};
+ghost use Rattle.net_loop.specs.Rules.{WorksIf, machine_state};
+ghost use Rattle.net_loop.specs.Told.{ToldBefore};
 ghost use Rattle.daemon_core.specs.DaemonRules.{daemon_rules};
 ghost use Rattle.daemon_core.specs.Holds as rules;
 
@@ -36,7 +37,7 @@ pub fn has_work(daemon: &Daemon, now: u64) -> bool
 fn is_look_due(holding: &Holding, now: u64) -> bool
     ensures { result ≡ rules.is_look_due holding.now now }
 {
-    holding.had && holding.look <= now
+    holding.is_held && holding.look <= now
 }
 
 /// Whether a message is to move on: after ten events, after the last message if no event came since, and if nobody asked the
@@ -49,7 +50,7 @@ fn is_move_due(holding: &Holding, now: u64) -> bool
 
 /// Whether the store isn't held, or since its last event the daemon looked whether another process waits for it, which then comes first.
 fn is_looked(holding: &Holding) -> bool {
-    !holding.had || holding.asked < holding.look
+    !holding.is_held || holding.asked < holding.look
 }
 
 fn is_turn(holding: &Holding, now: u64) -> bool
@@ -62,8 +63,8 @@ fn is_turn(holding: &Holding, now: u64) -> bool
 
 /// Does something by itself.
 pub fn work_by<O: StoreAccess>(daemon: &mut Daemon, outside: &mut O, now: u64)
-    ensures kept { IsTrue (O.tells outside.new) → IsTrue (O.tells outside.old) }
-    ensures works { WorksIf O.tells O.seen O.rest (daemon_rules O.view) outside.old daemon.old now outside.new daemon.new }
+    ensures kept { ToldBefore O.told outside.old outside.new }
+    ensures works { WorksIf O.told (daemon_rules O.store.view) (machine_state outside.old daemon.old) now (machine_state outside.new daemon.new) }
 {
     if is_move_due(&daemon.holding, now) && is_looked(&daemon.holding) {
         move_next(daemon, outside, now)
@@ -74,8 +75,8 @@ pub fn work_by<O: StoreAccess>(daemon: &mut Daemon, outside: &mut O, now: u64)
 
 /// Looks whether somebody waits for the store.
 fn look_for_others<O: StoreAccess>(daemon: &mut Daemon, outside: &mut O, now: u64)
-    ensures kept { IsTrue (O.tells outside.new) → IsTrue (O.tells outside.old) }
-    ensures works { WorksIf O.tells O.seen O.rest (daemon_rules O.view) outside.old daemon.old now outside.new daemon.new }
+    ensures kept { ToldBefore O.told outside.old outside.new }
+    ensures works { WorksIf O.told (daemon_rules O.store.view) (machine_state outside.old daemon.old) now (machine_state outside.new daemon.new) }
 {
     let rests = daemon.holding.asked.wrapping_add(MAX_REST) <= now;
     let gives = outside.look(rests);
@@ -88,7 +89,7 @@ fn looked(holding: Holding, now: u64, rests: bool, gives: bool) -> Holding
 {
     if !gives {
         return Holding {
-            had: holding.had,
+            is_held: holding.is_held,
             look: now.wrapping_add(LOOK_SPAN),
             asked: holding.asked,
             moves: holding.moves,
@@ -98,7 +99,7 @@ fn looked(holding: Holding, now: u64, rests: bool, gives: bool) -> Holding
         };
     }
     Holding {
-        had: false,
+        is_held: false,
         look: holding.look,
         asked: holding.asked,
         moves: holding.moves,
@@ -117,8 +118,8 @@ fn span_behind(rests: bool) -> u64
 /// Has a message move on.
 fn move_next<O: StoreAccess>(daemon: &mut Daemon, outside: &mut O, now: u64)
     requires { rules.is_move_due daemon.old.holding now ≡ true }
-    ensures kept { IsTrue (O.tells outside.new) → IsTrue (O.tells outside.old) }
-    ensures works { WorksIf O.tells O.seen O.rest (daemon_rules O.view) outside.old daemon.old now outside.new daemon.new }
+    ensures kept { ToldBefore O.told outside.old outside.new }
+    ensures works { WorksIf O.told (daemon_rules O.store.view) (machine_state outside.old daemon.old) now (machine_state outside.new daemon.new) }
 {
     let fresh = daemon.holding.events != 0;
     let span = outside.move_next(&mut daemon.clients, now, fresh);
@@ -131,7 +132,7 @@ fn moved(holding: Holding, now: u64, span: Option<u64>) -> Holding
 {
     match span {
         Some(span) => Holding {
-            had: true,
+            is_held: true,
             look: now,
             asked: now,
             moves: holding.moves,
@@ -140,7 +141,7 @@ fn moved(holding: Holding, now: u64, span: Option<u64>) -> Holding
             events: 0,
         },
         None => Holding {
-            had: holding.had,
+            is_held: holding.is_held,
             look: holding.look,
             asked: holding.asked,
             moves: holding.moves,

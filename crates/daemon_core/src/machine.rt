@@ -2,11 +2,11 @@
 ghost use Rattle.std.specs.Prelude.{◌≡◌};
 ghost use Rattle.daemon_core.specs.MailRules as rules;
 
-use crate::eviction::{claim_of_guest, claim_of_sender, is_flooded};
+use crate::eviction::{claim_of_sender, claim_of_unauthenticated, is_flooded};
 use crate::look::{has_work, work_by};
 use crate::mail::MailDaemon;
-use crate::mail_connections::{enter_client, enter_post, hear_by, leave_by, say_last};
-use crate::mail_step::step_post;
+use crate::mail_connections::{enter_client, enter_lmtp, hear_by, leave_by, say_last};
+use crate::mail_step::step_lmtp;
 use crate::poll_wait::patience_for;
 use crate::step::step_once;
 use crate::store_access::StoreAccess;
@@ -31,7 +31,7 @@ pub const MAX_SENDERS: usize = 20;
 impl<O: StoreAccess> Machine<O> for MailDaemon {
     ghost use Rattle.daemon_core.specs.MailRules.{mail_rules};
 
-    ghost rules = { mail_rules O.view };
+    ghost rules = { mail_rules O.store.view };
 
     fn limit(&self, kind: u32) -> usize {
         if kind == LMTP {
@@ -44,25 +44,25 @@ impl<O: StoreAccess> Machine<O> for MailDaemon {
     }
 
     fn claim(&self, now: u64, id: u32) -> Option<Claim> {
-        match self.posts.get(&id) {
-            Some(post) => {
-                let flooded = is_flooded(&self.posts);
-                claim_of_sender(&self.daemon.clients, now, flooded, id, post)
+        match self.lmtp_connections.get(&id) {
+            Some(connection) => {
+                let flooded = is_flooded(&self.lmtp_connections);
+                claim_of_sender(&self.daemon.clients, now, flooded, id, connection)
             }
-            None => claim_of_guest(&self.daemon, now, id),
+            None => claim_of_unauthenticated(&self.daemon, now, id),
         }
     }
 
     fn wants(&self, id: u32) -> Want {
-        match self.posts.get(&id) {
-            Some(post) => want_for(post.wanted()),
+        match self.lmtp_connections.get(&id) {
+            Some(connection) => want_for(connection.wanted()),
             None => want_of(&self.daemon, id),
         }
     }
 
     fn deadline(&self, id: u32) -> u64 {
-        match self.posts.get(&id) {
-            Some(post) => post.due(),
+        match self.lmtp_connections.get(&id) {
+            Some(connection) => connection.due(),
             None => due_of(&self.daemon, id),
         }
     }
@@ -77,7 +77,7 @@ impl<O: StoreAccess> Machine<O> for MailDaemon {
 
     fn open(&mut self, now: u64, kind: u32, id: u32, out: &mut Octets) -> Result<(), AllocError> {
         if kind == LMTP {
-            enter_post(self, now, id, out)
+            enter_lmtp(self, now, id, out)
         } else {
             enter_client(self, now, id, out)
         }
@@ -100,8 +100,8 @@ impl<O: StoreAccess> Machine<O> for MailDaemon {
         id: u32,
         out: &mut Octets,
     ) -> Result<(), AllocError> {
-        if self.posts.contains_key(&id) {
-            step_post(self, outside, now, id, out)
+        if self.lmtp_connections.contains_key(&id) {
+            step_lmtp(self, outside, now, id, out)
         } else {
             step_once(&mut self.daemon, outside, now, id, out)
         }

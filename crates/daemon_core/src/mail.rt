@@ -12,7 +12,7 @@ use std::collections::BTreeMap;
 #[derive(Drop)]
 pub struct MailDaemon {
     pub daemon: Daemon,
-    pub posts: BTreeMap<u32, LmtpConnection>,
+    pub lmtp_connections: BTreeMap<u32, LmtpConnection>,
     /// What names the account of a recipient.
     pub names: Names,
     /// The name with which clients of LMTP are greeted.
@@ -29,8 +29,8 @@ impl MailDaemon {
     /// text is dropped; a client of ManageSieve is told so, and its connection ends.
     pub fn new(alloc: Global, names: Names, host: Octets, moves: bool, memory: u32) -> MailDaemon
         ensures sessions { result.daemon.clients.sessions.entries ≡ [] }
-        ensures places { result.daemon.places.entries ≡ [] }
-        ensures posts { result.posts.entries ≡ [] }
+        ensures states { result.daemon.states.entries ≡ [] }
+        ensures lmtp_connections { result.lmtp_connections.entries ≡ [] }
         ensures names { result.names ≡ names }
         ensures host { result.host ≡ host }
         ensures moves { result.daemon.holding.moves ≡ moves }
@@ -38,7 +38,7 @@ impl MailDaemon {
     {
         MailDaemon {
             daemon: Daemon::new(alloc, moves),
-            posts: BTreeMap::new(alloc),
+            lmtp_connections: BTreeMap::new(alloc),
             names,
             host,
             memory,

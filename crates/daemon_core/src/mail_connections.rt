@@ -1,6 +1,6 @@
 //! Clients that come, say something, and go.
 ghost use Rattle.std.specs.Prelude.{◌≡◌, true, false, None, [], IsErr, IfSome, OnOk, OnErr};
-ghost use Rattle.daemon_core.specs.DaemonRules.{place_at};
+ghost use Rattle.daemon_core.specs.DaemonRules.{client_state_at};
 ghost use Rattle.daemon_core.specs.MailRules as rules;
 
 use crate::client_state::Fit;
@@ -17,22 +17,23 @@ use std::alloc::AllocError;
 const IDLE: &[u8] = b"BYE \"Idle.\"\r\n";
 
 /// A client of LMTP comes: it is greeted.
-pub fn enter_post(
+pub fn enter_lmtp(
     mail: &mut MailDaemon,
     now: u64,
     id: u32,
     out: &mut Octets,
 ) -> Result<(), AllocError>
     requires { out.old ≡ [] }
-    ensures ok { OnOk result (rules.PostOpens mail.old now id out.new mail.new) }
+    ensures ok { OnOk result (rules.LmtpClientOpens mail.old now id out.new mail.new) }
     ensures err { OnErr result (rules.LacksBy mail.old id mail.new) }
 {
     let alloc = mail.daemon.alloc;
-    let Ok(post) = LmtpConnection::new(alloc, mail.names, mail.host.as_slice(), now, out) else {
-        return lack_post(mail, id);
+    let Ok(connection) = LmtpConnection::new(alloc, mail.names, mail.host.as_slice(), now, out)
+    else {
+        return lack_by(mail, id);
     };
-    if mail.posts.insert(id, post).is_err() {
-        return lack_post(mail, id);
+    if mail.lmtp_connections.insert(id, connection).is_err() {
+        return lack_by(mail, id);
     }
     forget(&mut mail.daemon, id);
     Ok(())
@@ -49,17 +50,17 @@ pub fn enter_client(
     ensures ok { OnOk result (rules.SessionOpens mail.old now id out.new mail.new) }
     ensures err { OnErr result (rules.LacksBy mail.old id mail.new) }
 {
-    let _ = mail.posts.remove(&id);
+    let _ = mail.lmtp_connections.remove(&id);
     enter(&mut mail.daemon, now, id, out)
 }
 
 /// Memory is lacking for a connection.
-pub fn lack_post(mail: &mut MailDaemon, id: u32) -> Result<(), AllocError>
+pub fn lack_by(mail: &mut MailDaemon, id: u32) -> Result<(), AllocError>
     ensures err { IsErr result }
     ensures lacks { rules.LacksBy mail.old id mail.new }
 {
     forget(&mut mail.daemon, id);
-    let _ = mail.posts.remove(&id);
+    let _ = mail.lmtp_connections.remove(&id);
     Err(AllocError)
 }
 
@@ -68,8 +69,8 @@ pub fn hear_by(mail: &mut MailDaemon, now: u64, id: u32, piece: &[u8]) -> Result
     ensures ok { OnOk result (rules.GivesBy mail.old now id piece.now [] mail.new) }
     ensures err { OnErr result (rules.LacksBy mail.old id mail.new) }
 {
-    if mail.posts.contains_key(&id) {
-        hear_post(mail, now, id, piece)
+    if mail.lmtp_connections.contains_key(&id) {
+        hear_lmtp(mail, now, id, piece)
     } else {
         hear_client(mail, now, id, piece)
     }
@@ -77,7 +78,7 @@ pub fn hear_by(mail: &mut MailDaemon, now: u64, id: u32, piece: &[u8]) -> Result
 
 /// Takes octets of a client of ManageSieve; if there is no room for them, its connection ends after them.
 fn hear_client(mail: &mut MailDaemon, now: u64, id: u32, piece: &[u8]) -> Result<(), AllocError>
-    requires { rules.post_at mail.old id ≡ None }
+    requires { rules.lmtp_connection_at mail.old id ≡ None }
     ensures ok { OnOk result (rules.SessionGives mail.old now id piece.now [] mail.new) }
     ensures err { OnErr result (rules.LacksBy mail.old id mail.new) }
 {
@@ -98,15 +99,15 @@ fn fit_of(mail: &MailDaemon, id: u32, count: usize) -> Fit
 
 /// Takes octets of a client of LMTP; if there is no room for them beside its text, that is dropped, and if there is none then, its
 /// connection ends.
-fn hear_post(mail: &mut MailDaemon, now: u64, id: u32, piece: &[u8]) -> Result<(), AllocError>
-    ensures ok { OnOk result (rules.PostGives mail.old now id piece.now [] mail.new) }
+fn hear_lmtp(mail: &mut MailDaemon, now: u64, id: u32, piece: &[u8]) -> Result<(), AllocError>
+    ensures ok { OnOk result (rules.LmtpClientGives mail.old now id piece.now [] mail.new) }
     ensures err { OnErr result (rules.LacksBy mail.old id mail.new) }
 {
     if mail.daemon.clients.session(id).is_some() {
-        return lack_post(mail, id);
+        return lack_by(mail, id);
     }
     if !fit(mail, id, piece.len()) {
-        return lack_post(mail, id);
+        return lack_by(mail, id);
     }
     take_piece(mail, now, id, piece)
 }
@@ -115,7 +116,7 @@ fn hear_post(mail: &mut MailDaemon, now: u64, id: u32, piece: &[u8]) -> Result<(
 /// octets of one whose text is dropped and that holds no line.
 fn fit(mail: &mut MailDaemon, id: u32, count: usize) -> bool
     ensures fits { result ≡ true → rules.Fits mail.old id count mail.new }
-    ensures none { result ≡ false → rules.KeepsPosts mail.old id mail.new }
+    ensures none { result ≡ false → rules.KeepsLmtpConnections mail.old id mail.new }
     ensures lacks { result ≡ false → rules.LacksRoom mail.new id count }
 {
     if may_take(mail, id, count) {
@@ -143,10 +144,10 @@ fn drop_text(mail: &mut MailDaemon, id: u32) -> bool
     ensures drops { result ≡ true → rules.DropsText mail.old id mail.new }
     ensures none { result ≡ false → mail.new ≡ mail.old }
 {
-    let Some(post) = mail.posts.get_mut(&id) else {
+    let Some(connection) = mail.lmtp_connections.get_mut(&id) else {
         return false;
     };
-    post.drop_text();
+    connection.drop_text();
     true
 }
 
@@ -155,11 +156,11 @@ fn take_piece(mail: &mut MailDaemon, now: u64, id: u32, piece: &[u8]) -> Result<
     ensures ok { OnOk result (rules.TakesPiece mail.old now id piece.now mail.new) }
     ensures err { OnErr result (rules.LacksBy mail.old id mail.new) }
 {
-    let Some(post) = mail.posts.get_mut(&id) else {
-        return lack_post(mail, id);
+    let Some(connection) = mail.lmtp_connections.get_mut(&id) else {
+        return lack_by(mail, id);
     };
-    if post.hear(now, piece).is_err() {
-        return lack_post(mail, id);
+    if connection.hear(now, piece).is_err() {
+        return lack_by(mail, id);
     }
     Ok(())
 }
@@ -171,21 +172,21 @@ pub fn say_last(mail: &mut MailDaemon, id: u32, out: &mut Octets) -> Result<(), 
     ensures err { OnErr result (rules.LacksBy mail.old id mail.new) }
 {
     let Some(farewell) = farewell_to(mail, id) else {
-        return lack_post(mail, id);
+        return lack_by(mail, id);
     };
     if out.extend_from_slice(farewell).is_err() {
-        return lack_post(mail, id);
+        return lack_by(mail, id);
     }
     Ok(())
 }
 
 /// What is said last, by what is known of the connection; none if nothing is.
 fn farewell_to(mail: &MailDaemon, id: u32) -> Option<&'static [u8]>
-    ensures { IfSome result (λ word. rules.IsFarewell (rules.post_at mail.now id) (place_at mail.now.daemon id) word.now) }
+    ensures { IfSome result (λ word. rules.IsFarewell (rules.lmtp_connection_at mail.now id) (client_state_at mail.now.daemon id) word.now) }
 {
-    match mail.posts.get(&id) {
+    match mail.lmtp_connections.get(&id) {
         Some(_) => Some(LmtpReply::Idle.line()),
-        None => match mail.daemon.places.get(&id) {
+        None => match mail.daemon.states.get(&id) {
             Some(_) => Some(IDLE),
             None => None,
         },
@@ -196,6 +197,6 @@ fn farewell_to(mail: &MailDaemon, id: u32) -> Option<&'static [u8]>
 pub fn leave_by(mail: &mut MailDaemon, id: u32)
     ensures { rules.ClosesBy mail.old id mail.new }
 {
-    let _ = mail.posts.remove(&id);
+    let _ = mail.lmtp_connections.remove(&id);
     leave(&mut mail.daemon, id);
 }

@@ -1,7 +1,8 @@
 //! One step of a client of LMTP.
 ghost use Rattle.std.specs.Prelude.{◌≡◌, ℕ, [], IsTrue, OnOk, OnErr};
-ghost use Rattle.net_loop.specs.Rules.{StepsIf, IdlesIf};
-ghost use Rattle.daemon_core.specs.LmtpSteps as deeds;
+ghost use Rattle.net_loop.specs.Rules.{StepsIf, IdlesIf, machine_state, step_at};
+ghost use Rattle.net_loop.specs.Told.{ToldBefore};
+ghost use Rattle.daemon_core.specs.LmtpSteps as lmtp_steps;
 ghost use Rattle.daemon_core.specs.declared.daemon.Daemon.{Daemon as DaemonOf};
 ghost use Rattle.daemon_core.specs.MailRules.{mail_rules, LacksBy};
 ghost use Rattle.lmtp_connections.specs.Stands.{Demands, HasSlot};
@@ -10,15 +11,15 @@ ghost use Rattle.lmtp_connections.specs.declared.demand.Demand.TheVariants as de
 use crate::daemon::Daemon;
 use crate::delivery_result::result_of;
 use crate::mail::MailDaemon;
-use crate::mail_connections::lack_post;
+use crate::mail_connections::lack_by;
 use crate::memory_room::room;
 use crate::store_access::StoreAccess;
-use lmtp_connections::{Demand, LmtpConnection, Question, ReplyBuffer, StoreDelivery};
+use lmtp_connections::{DeliveryRequest, Demand, LmtpConnection, Question, ReplyBuffer};
 use octets::Octets;
 use std::alloc::{AllocError, Global};
 
 /// One step of a client of LMTP.
-pub fn step_post<O: StoreAccess>(
+pub fn step_lmtp<O: StoreAccess>(
     mail: &mut MailDaemon,
     outside: &mut O,
     now: u64,
@@ -26,19 +27,28 @@ pub fn step_post<O: StoreAccess>(
     out: &mut Octets,
 ) -> Result<(), AllocError>
     requires { out.old ≡ [] }
-    ensures kept { IsTrue (O.tells outside.new) → IsTrue (O.tells outside.old) }
-    ensures ok { OnOk result (StepsIf O.tells O.seen O.rest (mail_rules O.view) outside.old mail.old now id out.new outside.new mail.new) }
-    ensures err { OnErr result (IdlesIf O.tells O.seen O.rest outside.old outside.new) }
+    ensures kept { ToldBefore O.told outside.old outside.new }
+    ensures ok { OnOk result (StepsIf O.told (mail_rules O.store.view) (machine_state outside.old mail.old) (step_at now id out.new) (machine_state outside.new mail.new)) }
+    ensures err { OnErr result (IdlesIf O.told outside.old outside.new) }
     ensures lacks { OnErr result (LacksBy mail.old id mail.new) }
 {
     let alloc = mail.daemon.alloc;
     let spare = room(mail);
-    let Some(post) = mail.posts.get_mut(&id) else {
-        return lack_post(mail, id);
+    let Some(connection) = mail.lmtp_connections.get_mut(&id) else {
+        return lack_by(mail, id);
     };
-    match do_next(alloc, spare, &mut mail.daemon, post, outside, now, id, out) {
+    match do_next(
+        alloc,
+        spare,
+        &mut mail.daemon,
+        connection,
+        outside,
+        now,
+        id,
+        out,
+    ) {
         Ok(()) => Ok(()),
-        Err(AllocError) => lack_post(mail, id),
+        Err(AllocError) => lack_by(mail, id),
     }
 }
 
@@ -47,41 +57,41 @@ fn do_next<O: StoreAccess>(
     alloc: Global,
     spare: usize,
     daemon: &mut Daemon,
-    post: &mut LmtpConnection,
+    connection: &mut LmtpConnection,
     outside: &mut O,
     now: u64,
     id: u32,
     out: &mut Octets,
 ) -> Result<(), AllocError>
     requires { out.old ≡ [] }
-    ensures kept { IsTrue (O.tells outside.new) → IsTrue (O.tells outside.old) }
-    ensures ok { OnOk result (deeds.DoesOneIf O.tells O.seen O.rest O.view spare outside.old daemon.old post.old now id out.new outside.new daemon.new post.new) }
-    ensures err { OnErr result (IdlesIf O.tells O.seen O.rest outside.old outside.new) }
+    ensures kept { ToldBefore O.told outside.old outside.new }
+    ensures ok { OnOk result (lmtp_steps.DoesOneIf O.told O.store.view spare (lmtp_steps.lmtp_moment outside.old daemon.old connection.old) (step_at now id out.new) (lmtp_steps.lmtp_moment outside.new daemon.new connection.new)) }
+    ensures err { OnErr result (IdlesIf O.told outside.old outside.new) }
     ensures lacks { OnErr result (daemon.new ≡ daemon.old) }
 {
-    match post.demand(now)? {
+    match connection.demand(now)? {
         Demand::Nothing => Err(AllocError),
-        Demand::Line => answer_line(spare, post, outside, now, id, out),
+        Demand::Line => answer_line(spare, connection, outside, now, id, out),
         Demand::PutOff => {
-            let line = post.put_off(now)?;
+            let line = connection.put_off(now)?;
             *out = line;
             outside.tell_answered(id);
             Ok(())
         }
         Demand::Reply(became) => {
-            let line = post.reply(now, became)?;
+            let line = connection.reply(now, became)?;
             *out = line;
             outside.tell_answered(id);
             Ok(())
         }
         Demand::Account(question) => {
             let room = ReplyBuffer::new(alloc)?;
-            *out = find_account_for(alloc, daemon, post, outside, now, id, question, room);
+            *out = find_account_for(alloc, daemon, connection, outside, now, id, question, room);
             Ok(())
         }
-        Demand::Delivery(parcel) => {
+        Demand::Delivery(request) => {
             let room = ReplyBuffer::new(alloc)?;
-            *out = deliver(alloc, daemon, post, outside, now, id, parcel, room);
+            *out = deliver(alloc, daemon, connection, outside, now, id, request, room);
             Ok(())
         }
     }
@@ -90,24 +100,24 @@ fn do_next<O: StoreAccess>(
 /// Answers the line that comes next; a MAIL that announces more than there is room for is refused.
 fn answer_line<O: StoreAccess>(
     spare: usize,
-    post: &mut LmtpConnection,
+    connection: &mut LmtpConnection,
     outside: &mut O,
     now: u64,
     id: u32,
     out: &mut Octets,
 ) -> Result<(), AllocError>
-    requires line { Demands now post.old demands.Line }
+    requires line { Demands now connection.old demands.Line }
     requires out { out.old ≡ [] }
-    ensures kept { IsTrue (O.tells outside.new) → IsTrue (O.tells outside.old) }
-    ensures ok { OnOk result ((daemon : DaemonOf) → deeds.DoesOneIf O.tells O.seen O.rest O.view spare outside.old daemon post.old now id out.new outside.new daemon post.new) }
-    ensures err { OnErr result (IdlesIf O.tells O.seen O.rest outside.old outside.new) }
+    ensures kept { ToldBefore O.told outside.old outside.new }
+    ensures ok { OnOk result ((daemon : DaemonOf) → lmtp_steps.DoesOneIf O.told O.store.view spare (lmtp_steps.lmtp_moment outside.old daemon connection.old) (step_at now id out.new) (lmtp_steps.lmtp_moment outside.new daemon connection.new)) }
+    ensures err { OnErr result (IdlesIf O.told outside.old outside.new) }
 {
-    let refused = post.refuse(now, spare as u64, out)?;
+    let refused = connection.refuse(now, spare as u64, out)?;
     if refused {
         outside.tell_answered(id);
         return Ok(());
     }
-    post.answer(now, out)?;
+    connection.answer(now, out)?;
     outside.tell_answered(id);
     Ok(())
 }
@@ -116,25 +126,25 @@ fn answer_line<O: StoreAccess>(
 fn find_account_for<O: StoreAccess>(
     alloc: Global,
     daemon: &mut Daemon,
-    post: &mut LmtpConnection,
+    connection: &mut LmtpConnection,
     outside: &mut O,
     now: u64,
     id: u32,
     question: Question,
     room: ReplyBuffer,
 ) -> Octets
-    requires asked { Demands now post.old (demands.Account question) }
-    requires slot { HasSlot post.old }
-    ensures kept { IsTrue (O.tells outside.new) → IsTrue (O.tells outside.old) }
-    ensures does { (spare : ℕ) → deeds.DoesOneIf O.tells O.seen O.rest O.view spare outside.old daemon.old post.old now id result outside.new daemon.new post.new }
+    requires asked { Demands now connection.old (demands.Account question) }
+    requires slot { HasSlot connection.old }
+    ensures kept { ToldBefore O.told outside.old outside.new }
+    ensures does { (spare : ℕ) → lmtp_steps.DoesOneIf O.told O.store.view spare (lmtp_steps.lmtp_moment outside.old daemon.old connection.old) (step_at now id result) (lmtp_steps.lmtp_moment outside.new daemon.new connection.new) }
 {
     match outside.find_account(id, &mut daemon.clients, question.user.as_slice()) {
         Some(lookup) => {
             daemon.holding = daemon.holding.asked_at(now);
-            post.answer_recipient(now, question, lookup, room)
+            connection.answer_recipient(now, question, lookup, room)
         }
         None => {
-            post.await_store(now);
+            connection.await_store(now);
             Octets::new(alloc)
         }
     }
@@ -144,25 +154,25 @@ fn find_account_for<O: StoreAccess>(
 fn deliver<O: StoreAccess>(
     alloc: Global,
     daemon: &mut Daemon,
-    post: &mut LmtpConnection,
+    connection: &mut LmtpConnection,
     outside: &mut O,
     now: u64,
     id: u32,
-    parcel: StoreDelivery,
+    request: DeliveryRequest,
     room: ReplyBuffer,
 ) -> Octets
-    requires { Demands now post.old (demands.Delivery parcel) }
-    ensures kept { IsTrue (O.tells outside.new) → IsTrue (O.tells outside.old) }
-    ensures does { (spare : ℕ) → deeds.DoesOneIf O.tells O.seen O.rest O.view spare outside.old daemon.old post.old now id result outside.new daemon.new post.new }
+    requires { Demands now connection.old (demands.Delivery request) }
+    ensures kept { ToldBefore O.told outside.old outside.new }
+    ensures does { (spare : ℕ) → lmtp_steps.DoesOneIf O.told O.store.view spare (lmtp_steps.lmtp_moment outside.old daemon.old connection.old) (step_at now id result) (lmtp_steps.lmtp_moment outside.new daemon.new connection.new) }
 {
-    match outside.deliver(id, &mut daemon.clients, &parcel) {
+    match outside.deliver(id, &mut daemon.clients, &request) {
         Some(answer) => {
             daemon.holding = daemon.holding.asked_at(now);
-            let became = result_of(alloc, parcel.sender.as_slice(), answer);
-            post.answer_delivery(now, &parcel, became, room)
+            let became = result_of(alloc, request.sender.as_slice(), answer);
+            connection.answer_delivery(now, &request, became, room)
         }
         None => {
-            post.await_store(now);
+            connection.await_store(now);
             Octets::new(alloc)
         }
     }

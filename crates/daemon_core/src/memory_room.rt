@@ -1,7 +1,7 @@
 //! How many octets all connections hold, and for how many more there is room.
 ghost use Rattle.std.specs.Prelude.{◌≡◌, ◌⊎◌, ◌≤◌, ◌<◌, ◌+◌, ◌-◌, true, false, Some};
 ghost use Rattle.lmtp_dialogue.specs.Receivers.{held_by};
-ghost use Rattle.lmtp_connections.specs.declared.connection.LmtpConnection.{LmtpConnection as PostOf};
+ghost use Rattle.lmtp_connections.specs.declared.connection.LmtpConnection.{LmtpConnection as ConnectionOf};
 ghost use Rattle.daemon_core.specs.Bounds as bounds;
 ghost use Rattle.daemon_core.specs.MailRules as rules;
 ghost use Rattle.daemon_core.specs.ClientStates.{client_at};
@@ -20,7 +20,7 @@ const KIB: usize = 1024;
 const OWN: usize = 8192;
 
 /// How many octets of each KiB clients of ManageSieve may hold who aren't logged in.
-const GUESTS: usize = 128;
+const UNAUTHENTICATED_SHARE: usize = 128;
 
 /// Whether there is room for this many octets more. Time is linear in the connections.
 pub fn has_octet_room(mail: &MailDaemon, count: usize) -> bool
@@ -45,7 +45,7 @@ pub fn has_room_for(mail: &MailDaemon, id: u32, count: usize) -> bool
 /// Whether all hold what they may with this many octets more of a client of ManageSieve.
 fn keeps_bound(mail: &MailDaemon, id: u32, count: usize) -> bool
     ensures has { result ≡ true → bounds.KeepsBound mail.now id count }
-    ensures lacks { result ≡ false → (bounds.bound mail.now < bounds.held mail.now + count) ⊎ (bounds.IsGuestAt mail.now id × (bounds.share mail.now < bounds.guests mail.now + count)) }
+    ensures lacks { result ≡ false → (bounds.bound mail.now < bounds.held mail.now + count) ⊎ (bounds.IsUnauthenticatedAt mail.now id × (bounds.share mail.now < bounds.unauthenticated_held mail.now + count)) }
 {
     if !has_octet_room(mail, count) {
         return false;
@@ -53,7 +53,7 @@ fn keeps_bound(mail: &MailDaemon, id: u32, count: usize) -> bool
     if is_user(&mail.daemon.clients, id) {
         return true;
     }
-    count < left_to_guests(mail)
+    count < left_to_unauthenticated(mail)
 }
 
 /// Whether a client of ManageSieve holds no more with this many octets than each may.
@@ -67,10 +67,10 @@ fn is_small(clients: &Clients, id: u32, count: usize) -> bool
 /// Whether this many octets more of a client of LMTP are within what each may hold, whatever the others do.
 pub fn is_own(mail: &MailDaemon, id: u32, count: usize) -> bool
     ensures has { result ≡ true → rules.IsOwnShare mail.now id count }
-    ensures lacks { result ≡ false → (post : PostOf) → rules.post_at mail.now id ≡ Some post → bounds.own < held_by post.receiver + count }
+    ensures lacks { result ≡ false → (connection : ConnectionOf) → rules.lmtp_connection_at mail.now id ≡ Some connection → bounds.own < held_by connection.receiver + count }
 {
-    match mail.posts.get(&id) {
-        Some(post) => is_within(post.held(), count),
+    match mail.lmtp_connections.get(&id) {
+        Some(connection) => is_within(connection.held(), count),
         None => false,
     }
 }
@@ -95,31 +95,35 @@ fn left(mail: &MailDaemon) -> usize
     ensures { result ≡ bounds.bound mail.now + 1 - bounds.held mail.now }
 {
     let most = mail.memory as usize * KIB + 1;
-    let left = less_unread(most, &mail.daemon.clients, &mail.daemon.places);
-    less_held(left, &mail.posts)
+    let left = less_unread(most, &mail.daemon.clients, &mail.daemon.states);
+    less_held(left, &mail.lmtp_connections)
 }
 
 /// One octet more than what those who aren't logged in may still hold of their share; 0 if they have passed it.
-fn left_to_guests(mail: &MailDaemon) -> usize
-    ensures { result ≡ bounds.share mail.now + 1 - bounds.guests mail.now }
+fn left_to_unauthenticated(mail: &MailDaemon) -> usize
+    ensures { result ≡ bounds.share mail.now + 1 - bounds.unauthenticated_held mail.now }
 {
-    let most = mail.memory as usize * GUESTS + 1;
-    less_guests(most, &mail.daemon.clients, &mail.daemon.places)
+    let most = mail.memory as usize * UNAUTHENTICATED_SHARE + 1;
+    less_unauthenticated(most, &mail.daemon.clients, &mail.daemon.states)
 }
 
 /// `most` less what clients of ManageSieve hold who aren't logged in.
-fn less_guests(most: usize, clients: &Clients, places: &BTreeMap<u32, ClientState>) -> usize
-    ensures { result ≡ most - bounds.guests_in clients.now.sessions places.now.entries }
+fn less_unauthenticated(
+    most: usize,
+    clients: &Clients,
+    states: &BTreeMap<u32, ClientState>,
+) -> usize
+    ensures { result ≡ most - bounds.unauthenticated_in clients.now.sessions states.now.entries }
 {
     let mut left = most;
-    for (id, _) in places.iter() {
-        left = left.saturating_sub(guest_unread(clients, *id));
+    for (id, _) in states.iter() {
+        left = left.saturating_sub(unauthenticated_unread(clients, *id));
     }
     left
 }
 
-fn guest_unread(clients: &Clients, id: u32) -> usize
-    ensures { result ≡ bounds.guest_unread (client_at clients.now.sessions id) }
+fn unauthenticated_unread(clients: &Clients, id: u32) -> usize
+    ensures { result ≡ bounds.unauthenticated_unread (client_at clients.now.sessions id) }
 {
     if is_user(clients, id) {
         0
@@ -129,11 +133,11 @@ fn guest_unread(clients: &Clients, id: u32) -> usize
 }
 
 /// `most` less what clients of ManageSieve hold.
-fn less_unread(most: usize, clients: &Clients, places: &BTreeMap<u32, ClientState>) -> usize
-    ensures { result ≡ most - bounds.unread_in clients.now.sessions places.now.entries }
+fn less_unread(most: usize, clients: &Clients, states: &BTreeMap<u32, ClientState>) -> usize
+    ensures { result ≡ most - bounds.unread_in clients.now.sessions states.now.entries }
 {
     let mut left = most;
-    for (id, _) in places.iter() {
+    for (id, _) in states.iter() {
         left = left.saturating_sub(unread_of(clients, *id));
     }
     left
@@ -149,12 +153,12 @@ fn unread_of(clients: &Clients, id: u32) -> usize
 }
 
 /// `most` less what clients of LMTP hold.
-fn less_held(most: usize, posts: &BTreeMap<u32, LmtpConnection>) -> usize
-    ensures { result ≡ most - bounds.held_in posts.now.entries }
+fn less_held(most: usize, lmtp_connections: &BTreeMap<u32, LmtpConnection>) -> usize
+    ensures { result ≡ most - bounds.held_in lmtp_connections.now.entries }
 {
     let mut left = most;
-    for (_, post) in posts.iter() {
-        left = left.saturating_sub(post.held());
+    for (_, connection) in lmtp_connections.iter() {
+        left = left.saturating_sub(connection.held());
     }
     left
 }

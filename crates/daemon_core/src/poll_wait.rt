@@ -29,8 +29,8 @@ pub fn patience_for(daemon: &MailDaemon) -> u32
     ensures { result ≡ mail.patience_for daemon.now }
 {
     let mut span = patience_of(&daemon.daemon);
-    for (_, post) in daemon.posts.iter() {
-        span = least(span, patience_by(post.wanted()));
+    for (_, connection) in daemon.lmtp_connections.iter() {
+        span = least(span, patience_by(connection.wanted()));
     }
     span
 }
@@ -49,8 +49,8 @@ fn patience_of(daemon: &Daemon) -> u32
     ensures { result ≡ rules.patience_of daemon.now }
 {
     let mut span = patience_by_store(&daemon.holding);
-    for (_, place) in daemon.places.iter() {
-        span = least(span, patience_with(&place.waits));
+    for (_, state) in daemon.states.iter() {
+        span = least(span, patience_with(&state.waits));
     }
     span
 }
@@ -59,7 +59,7 @@ fn patience_of(daemon: &Daemon) -> u32
 fn patience_by_store(holding: &Holding) -> u32
     ensures { result ≡ holds.patience_by holding.now }
 {
-    if !holding.had {
+    if !holding.is_held {
         return while_away(holding);
     }
     if is_moving(holding) {

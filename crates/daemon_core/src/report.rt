@@ -2,7 +2,7 @@
 ghost use Rattle.std.specs.Prelude.{◌≡◌, ◌⊎◌, ◌-◌, [], ◌++◌, codes, decimal, length, map, take, IfOk, OnOk};
 ghost use Rattle.std.specs.List.{flat_map};
 ghost use Rattle.cli_reports.specs.Reports.{delivery_lines, delivery_report, file_line, send_line, notice_lines, vacation_lines, ended_line};
-ghost use Rattle.daemon_core.specs.LmtpSteps as deeds;
+ghost use Rattle.daemon_core.specs.LmtpSteps as lmtp_steps;
 
 use octets::{Octets, write_decimal};
 use std::alloc::{AllocError, Global};
@@ -10,7 +10,7 @@ use store_engine::{Report, VacationReport};
 
 /// What is told of a delivery: its report, or nothing if memory is lacking for that. Linear in the report.
 pub fn line_of_report(alloc: Global, report: &Report) -> Octets
-    ensures { (result ≡ deeds.one_line (delivery_report report.now)) ⊎ (result ≡ []) }
+    ensures { (result ≡ lmtp_steps.one_line (delivery_report report.now)) ⊎ (result ≡ []) }
 {
     match of_report(alloc, report) {
         Ok(lines) => match one_line(alloc, lines.as_slice()) {
@@ -23,7 +23,7 @@ pub fn line_of_report(alloc: Global, report: &Report) -> Octets
 
 // The lines of a report as one line, with a comma between two.
 fn one_line(alloc: Global, lines: &[u8]) -> Result<Octets, AllocError>
-    ensures { IfOk result (λ line. line ≡ deeds.one_line lines.now) }
+    ensures { IfOk result (λ line. line ≡ lmtp_steps.one_line lines.now) }
 {
     let mut line = Octets::new(alloc);
     let rest = without_last(lines);
@@ -43,7 +43,7 @@ fn without_last(lines: &[u8]) -> &[u8]
 }
 
 fn add_joined(line: &mut Octets, octet: u8) -> Result<(), AllocError>
-    ensures { OnOk result (line.new ≡ line.old ++ deeds.joined_octet octet) }
+    ensures { OnOk result (line.new ≡ line.old ++ lmtp_steps.joined_octet octet) }
 {
     if octet == b'\n' {
         line.extend_from_slice(b", ")

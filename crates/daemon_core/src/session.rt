@@ -20,13 +20,13 @@ pub fn enter(daemon: &mut Daemon, now: u64, id: u32, out: &mut Octets) -> Result
     ensures ok { OnOk result (DaemonOpens daemon.old now id out.new daemon.new) }
     ensures err { OnErr result (LacksFor daemon.old id daemon.new) }
 {
-    let place = ClientState {
+    let state = ClientState {
         waits: SessionWait::Nothing,
-        guest: now,
+        unauthenticated_since: now,
         since: now,
         fit: Fit::Fits,
     };
-    if daemon.places.insert(id, place).is_err() {
+    if daemon.states.insert(id, state).is_err() {
         return lack(daemon, id);
     }
     match apply_free(&mut daemon.clients, &Event::Open(id)) {
@@ -67,26 +67,26 @@ pub fn hear(
         return lack(daemon, id);
     };
     let begins = session.unread_len() == 0;
-    if !daemon.places.contains_key(&id) {
+    if !daemon.states.contains_key(&id) {
         return lack(daemon, id);
     }
     if !is_out(&daemon.clients.give(id, piece)) {
         return lack(daemon, id);
     }
-    begin(&mut daemon.places, now, id, begins, fit);
+    begin(&mut daemon.states, now, id, begins, fit);
     Ok(())
 }
 
 /// If the octets that came begin what comes next (`begins`), its time is counted from now on; and whether there was room for them.
-fn begin(places: &mut BTreeMap<u32, ClientState>, now: u64, id: u32, begins: bool, fit: Fit)
-    ensures { (before : ClientState) → tree.get nat_cmp places.old id ≡ Some before → tree.Updates nat_cmp places.old places.new id (Some (begun now before begins fit)) }
+fn begin(states: &mut BTreeMap<u32, ClientState>, now: u64, id: u32, begins: bool, fit: Fit)
+    ensures { (before : ClientState) → tree.get nat_cmp states.old id ≡ Some before → tree.Updates nat_cmp states.old states.new id (Some (begun now before begins fit)) }
 {
-    let Some(place) = places.get_mut(&id) else {
+    let Some(state) = states.get_mut(&id) else {
         return;
     };
-    place.fit = fit;
+    state.fit = fit;
     if begins {
-        place.since = now;
+        state.since = now;
     }
 }
 

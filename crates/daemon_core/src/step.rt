@@ -2,10 +2,11 @@
 ghost use Rattle.std.specs.Prelude.{◌≡◌, [], Some, true, false, IsTrue, IsSome, IsErr, OnOk, OnErr};
 ghost use Rattle.std.specs.Ordering.{nat_cmp};
 ghost use Rattle.std.specs.BTreeMap as tree;
-ghost use Rattle.net_loop.specs.Rules.{StepsIf, IdlesIf};
-ghost use Rattle.daemon_core.specs.DaemonRules.{daemon_rules, place_at, AtPlace, Forgets, DaemonRenews, LacksFor, had_at};
-ghost use Rattle.daemon_core.specs.ClientStates as places;
-ghost use Rattle.daemon_core.specs.ClientStates.{client_at, state_renewed, place_told};
+ghost use Rattle.net_loop.specs.Rules.{StepsIf, IdlesIf, machine_state, step_at};
+ghost use Rattle.net_loop.specs.Told.{ToldBefore};
+ghost use Rattle.daemon_core.specs.DaemonRules.{daemon_rules, client_state_at, AtClientState, Forgets, DaemonRenews, LacksFor, held_at};
+ghost use Rattle.daemon_core.specs.ClientStates as states;
+ghost use Rattle.daemon_core.specs.ClientStates.{client_at, state_renewed, state_told};
 ghost use Rattle.daemon_core.specs.Waiting as waiting;
 ghost use Rattle.daemon_core.specs.Waiting.{SessionMayAsk, MayGiveUp, said_at_once, waits_after, IsReplyKeptBack};
 ghost use Rattle.daemon_core.specs.declared.note.Note.TheVariants.{Away};
@@ -31,7 +32,7 @@ const RETRY_SPAN: u64 = 5;
 /// For how many milliseconds the store is asked for in all.
 const MAX_AWAY: u64 = 5000;
 
-/// What is answered to a login that failed.
+/// What is answered to a login that failed, which is known by these octets: no other answer is spelled so.
 const FAILED: &[u8] = b"NO \"Authentication failed.\"\r\n";
 
 /// The same at the third failure, which ends the session.
@@ -70,7 +71,7 @@ fn take_answer(now: u64, answer: Answer, out: &mut Octets) -> SessionWait
 
 /// Whether an answer is one of a session, and no refusal.
 pub fn is_out(answer: &Answer) -> bool
-    ensures { result ≡ places.is_out answer.now }
+    ensures { result ≡ states.is_out answer.now }
 {
     match answer {
         Answer::Out(_, _) => true,
@@ -82,28 +83,32 @@ pub fn is_out(answer: &Answer) -> bool
 
 /// Replaces what a connection waits for, and returns what it waited for.
 fn replace_waits(
-    places: &mut BTreeMap<u32, ClientState>,
+    states: &mut BTreeMap<u32, ClientState>,
     now: u64,
     id: u32,
     waits: SessionWait,
     answered: bool,
     user: bool,
 ) -> SessionWait
-    ensures changed { (before : ClientState) → tree.get nat_cmp places.old id ≡ Some before → tree.Updates nat_cmp places.old places.new id (Some (state_renewed now before waits answered user)) }
-    ensures before { (before : ClientState) → tree.get nat_cmp places.old id ≡ Some before → result ≡ before.waits }
+    ensures changed { (before : ClientState) → tree.get nat_cmp states.old id ≡ Some before → tree.Updates nat_cmp states.old states.new id (Some (state_renewed now before waits answered user)) }
+    ensures before { (before : ClientState) → tree.get nat_cmp states.old id ≡ Some before → result ≡ before.waits }
 {
-    let Some(place) = places.get_mut(&id) else {
+    let Some(state) = states.get_mut(&id) else {
         return SessionWait::Nothing;
     };
-    let guest = if user { now } else { place.guest };
-    let since = if answered { now } else { place.since };
+    let unauthenticated_since = if user {
+        now
+    } else {
+        state.unauthenticated_since
+    };
+    let since = if answered { now } else { state.since };
     let before = replace(
-        place,
+        state,
         ClientState {
             waits,
-            guest,
+            unauthenticated_since,
             since,
-            fit: place.fit,
+            fit: state.fit,
         },
     );
     before.waits
@@ -112,17 +117,17 @@ fn replace_waits(
 /// From now on a connection waits so; `answered`, if its next command is counted from now on.
 fn renew(daemon: &mut Daemon, now: u64, id: u32, waits: SessionWait, answered: bool) -> SessionWait
     ensures renews { DaemonRenews daemon.old now id waits answered daemon.new }
-    ensures before { (before : ClientState) → place_at daemon.old id ≡ Some before → result ≡ before.waits }
+    ensures before { (before : ClientState) → client_state_at daemon.old id ≡ Some before → result ≡ before.waits }
 {
     let user = is_user(&daemon.clients, id);
-    replace_waits(&mut daemon.places, now, id, waits, answered, user)
+    replace_waits(&mut daemon.states, now, id, waits, answered, user)
 }
 
 /// Forgets a connection.
 pub fn forget(daemon: &mut Daemon, id: u32)
     ensures { Forgets daemon.old id daemon.new }
 {
-    let _ = daemon.places.remove(&id);
+    let _ = daemon.states.remove(&id);
 }
 
 /// Memory is lacking for a connection.
@@ -137,7 +142,7 @@ pub fn lack(daemon: &mut Daemon, id: u32) -> Result<(), AllocError>
 /// What follows from an answer: what is said at once, and what is waited for.
 fn settle(daemon: &mut Daemon, now: u64, id: u32, answer: Answer, out: &mut Octets)
     requires { out.old ≡ [] }
-    ensures renews { DaemonRenews daemon.old now id (waits_after now answer) (places.is_out answer) daemon.new }
+    ensures renews { DaemonRenews daemon.old now id (waits_after now answer) (states.is_out answer) daemon.new }
     ensures said { out.new ≡ said_at_once answer }
 {
     let answered = is_out(&answer);
@@ -147,12 +152,12 @@ fn settle(daemon: &mut Daemon, now: u64, id: u32, answer: Answer, out: &mut Octe
 
 /// Since when the store is asked for, for a connection.
 fn asked_since(daemon: &Daemon, now: u64, id: u32) -> u64
-    ensures { (before : ClientState) → place_at daemon.now id ≡ Some before → result ≡ waiting.session_asked_since now before.waits }
+    ensures { (before : ClientState) → client_state_at daemon.now id ≡ Some before → result ≡ waiting.session_asked_since now before.waits }
 {
-    let Some(place) = daemon.places.get(&id) else {
+    let Some(state) = daemon.states.get(&id) else {
         return now;
     };
-    match &place.waits {
+    match &state.waits {
         SessionWait::Store(since, _) => *since,
         _ => now,
     }
@@ -161,7 +166,7 @@ fn asked_since(daemon: &Daemon, now: u64, id: u32) -> u64
 /// As `settle`, when the store answered: it is held then.
 fn settle_done(daemon: &mut Daemon, now: u64, id: u32, answer: Answer, out: &mut Octets)
     requires { out.old ≡ [] }
-    ensures renews { DaemonRenews (had_at now daemon.old) now id (waits_after now answer) (places.is_out answer) daemon.new }
+    ensures renews { DaemonRenews (held_at now daemon.old) now id (waits_after now answer) (states.is_out answer) daemon.new }
     ensures said { out.new ≡ said_at_once answer }
 {
     daemon.holding = daemon.holding.asked_at(now);
@@ -170,7 +175,7 @@ fn settle_done(daemon: &mut Daemon, now: u64, id: u32, answer: Answer, out: &mut
 
 /// A connection waits for the store.
 fn await_store(daemon: &mut Daemon, now: u64, id: u32)
-    ensures { (before : ClientState) → place_at daemon.old id ≡ Some before → DaemonRenews daemon.old now id (waiting.waits_behind now before.waits Away) false daemon.new }
+    ensures { (before : ClientState) → client_state_at daemon.old id ≡ Some before → DaemonRenews daemon.old now id (waiting.waits_behind now before.waits Away) false daemon.new }
 {
     let since = asked_since(daemon, now, id);
     let waits = SessionWait::Store(since, now.wrapping_add(RETRY_SPAN));
@@ -188,11 +193,11 @@ fn apply_step<O: StoreAccess>(
     out: &mut Octets,
 ) -> Result<(), AllocError>
     requires out { out.old ≡ [] }
-    requires may { AtPlace daemon.old id (λ place. SessionMayAsk now place.waits) }
+    requires may { AtClientState daemon.old id (λ state. SessionMayAsk now state.waits) }
     requires asks { EventAsksStore (Step id) daemon.old.clients.sessions }
-    ensures kept { IsTrue (O.tells outside.new) → IsTrue (O.tells outside.old) }
-    ensures ok { OnOk result (StepsIf O.tells O.seen O.rest (daemon_rules O.view) outside.old daemon.old now id out.new outside.new daemon.new) }
-    ensures err { OnErr result (IdlesIf O.tells O.seen O.rest outside.old outside.new) }
+    ensures kept { ToldBefore O.told outside.old outside.new }
+    ensures ok { OnOk result (StepsIf O.told (daemon_rules O.store.view) (machine_state outside.old daemon.old) (step_at now id out.new) (machine_state outside.new daemon.new)) }
+    ensures err { OnErr result (IdlesIf O.told outside.old outside.new) }
     ensures lacks { OnErr result (LacksFor daemon.old id daemon.new) }
 {
     match outside.apply_event(id, &mut daemon.clients, &Event::Step(id)) {
@@ -216,10 +221,10 @@ fn step_first<O: StoreAccess>(
     out: &mut Octets,
 ) -> Result<(), AllocError>
     requires out { out.old ≡ [] }
-    requires may { AtPlace daemon.old id (λ place. SessionMayAsk now place.waits) }
-    ensures kept { IsTrue (O.tells outside.new) → IsTrue (O.tells outside.old) }
-    ensures ok { OnOk result (StepsIf O.tells O.seen O.rest (daemon_rules O.view) outside.old daemon.old now id out.new outside.new daemon.new) }
-    ensures err { OnErr result (IdlesIf O.tells O.seen O.rest outside.old outside.new) }
+    requires may { AtClientState daemon.old id (λ state. SessionMayAsk now state.waits) }
+    ensures kept { ToldBefore O.told outside.old outside.new }
+    ensures ok { OnOk result (StepsIf O.told (daemon_rules O.store.view) (machine_state outside.old daemon.old) (step_at now id out.new) (machine_state outside.new daemon.new)) }
+    ensures err { OnErr result (IdlesIf O.told outside.old outside.new) }
     ensures lacks { OnErr result (LacksFor daemon.old id daemon.new) }
 {
     let event = Event::Step(id);
@@ -246,10 +251,10 @@ fn give_up<O: StoreAccess>(
     out: &mut Octets,
 ) -> Result<(), AllocError>
     requires out { out.old ≡ [] }
-    requires may { AtPlace daemon.old id (λ place. MayGiveUp now place.waits) }
-    ensures kept { IsTrue (O.tells outside.new) → IsTrue (O.tells outside.old) }
-    ensures ok { OnOk result (StepsIf O.tells O.seen O.rest (daemon_rules O.view) outside.old daemon.old now id out.new outside.new daemon.new) }
-    ensures err { OnErr result (IdlesIf O.tells O.seen O.rest outside.old outside.new) }
+    requires may { AtClientState daemon.old id (λ state. MayGiveUp now state.waits) }
+    ensures kept { ToldBefore O.told outside.old outside.new }
+    ensures ok { OnOk result (StepsIf O.told (daemon_rules O.store.view) (machine_state outside.old daemon.old) (step_at now id out.new) (machine_state outside.new daemon.new)) }
+    ensures err { OnErr result (IdlesIf O.told outside.old outside.new) }
     ensures lacks { OnErr result (LacksFor daemon.old id daemon.new) }
 {
     let event = Event::GiveUp(id);
@@ -267,9 +272,9 @@ fn give_up<O: StoreAccess>(
 /// Says what was kept back.
 fn speak<O: StoreAccess>(daemon: &mut Daemon, outside: &mut O, now: u64, id: u32, out: &mut Octets)
     requires out { out.old ≡ [] }
-    requires may { AtPlace daemon.old id (λ place. IsReplyKeptBack place.waits) }
-    ensures kept { IsTrue (O.tells outside.new) → IsTrue (O.tells outside.old) }
-    ensures ok { StepsIf O.tells O.seen O.rest (daemon_rules O.view) outside.old daemon.old now id out.new outside.new daemon.new }
+    requires may { AtClientState daemon.old id (λ state. IsReplyKeptBack state.waits) }
+    ensures kept { ToldBefore O.told outside.old outside.new }
+    ensures ok { StepsIf O.told (daemon_rules O.store.view) (machine_state outside.old daemon.old) (step_at now id out.new) (machine_state outside.new daemon.new) }
 {
     outside.tell_spoke(id);
     match renew(daemon, now, id, SessionWait::Nothing, true) {
@@ -291,17 +296,17 @@ fn is_over(fit: Fit) -> bool
 }
 
 /// Notes that one is told that there was no room.
-fn note_told(places: &mut BTreeMap<u32, ClientState>, now: u64, id: u32, user: bool)
-    ensures { (before : ClientState) → tree.get nat_cmp places.old id ≡ Some before → tree.Updates nat_cmp places.old places.new id (Some (place_told now before user)) }
+fn note_told(states: &mut BTreeMap<u32, ClientState>, now: u64, id: u32, user: bool)
+    ensures { (before : ClientState) → tree.get nat_cmp states.old id ≡ Some before → tree.Updates nat_cmp states.old states.new id (Some (state_told now before user)) }
 {
-    let Some(place) = places.get_mut(&id) else {
+    let Some(state) = states.get_mut(&id) else {
         return;
     };
     if user {
-        place.guest = now;
+        state.unauthenticated_since = now;
     }
-    place.waits = SessionWait::Nothing;
-    place.fit = Fit::Told;
+    state.waits = SessionWait::Nothing;
+    state.fit = Fit::Told;
 }
 
 /// Tells one that sends what there is no room for so; nothing more is done for it.
@@ -313,10 +318,10 @@ fn refuse<O: StoreAccess>(
     out: &mut Octets,
 ) -> Result<(), AllocError>
     requires out { out.old ≡ [] }
-    requires may { AtPlace daemon.old id (λ place. (place.waits ≡ SessionWait.Nothing) × (place.fit ≡ Fit.Over)) }
-    ensures kept { IsTrue (O.tells outside.new) → IsTrue (O.tells outside.old) }
-    ensures ok { OnOk result (StepsIf O.tells O.seen O.rest (daemon_rules O.view) outside.old daemon.old now id out.new outside.new daemon.new) }
-    ensures err { OnErr result (IdlesIf O.tells O.seen O.rest outside.old outside.new) }
+    requires may { AtClientState daemon.old id (λ state. (state.waits ≡ SessionWait.Nothing) × (state.fit ≡ Fit.Over)) }
+    ensures kept { ToldBefore O.told outside.old outside.new }
+    ensures ok { OnOk result (StepsIf O.told (daemon_rules O.store.view) (machine_state outside.old daemon.old) (step_at now id out.new) (machine_state outside.new daemon.new)) }
+    ensures err { OnErr result (IdlesIf O.told outside.old outside.new) }
     ensures lacks { OnErr result (LacksFor daemon.old id daemon.new) }
 {
     if out.extend_from_slice(TOO_MUCH).is_err() {
@@ -324,7 +329,7 @@ fn refuse<O: StoreAccess>(
     }
     outside.tell_answered(id);
     let user = is_user(&daemon.clients, id);
-    note_told(&mut daemon.places, now, id, user);
+    note_told(&mut daemon.states, now, id, user);
     Ok(())
 }
 
@@ -338,10 +343,10 @@ fn step_free<O: StoreAccess>(
     out: &mut Octets,
 ) -> Result<(), AllocError>
     requires out { out.old ≡ [] }
-    requires may { AtPlace daemon.old id (λ place. (place.waits ≡ SessionWait.Nothing) × (place.fit ≡ fit)) }
-    ensures kept { IsTrue (O.tells outside.new) → IsTrue (O.tells outside.old) }
-    ensures ok { OnOk result (StepsIf O.tells O.seen O.rest (daemon_rules O.view) outside.old daemon.old now id out.new outside.new daemon.new) }
-    ensures err { OnErr result (IdlesIf O.tells O.seen O.rest outside.old outside.new) }
+    requires may { AtClientState daemon.old id (λ state. (state.waits ≡ SessionWait.Nothing) × (state.fit ≡ fit)) }
+    ensures kept { ToldBefore O.told outside.old outside.new }
+    ensures ok { OnOk result (StepsIf O.told (daemon_rules O.store.view) (machine_state outside.old daemon.old) (step_at now id out.new) (machine_state outside.new daemon.new)) }
+    ensures err { OnErr result (IdlesIf O.told outside.old outside.new) }
     ensures lacks { OnErr result (LacksFor daemon.old id daemon.new) }
 {
     if is_over(fit) {
@@ -360,17 +365,17 @@ pub fn step_once<O: StoreAccess>(
     out: &mut Octets,
 ) -> Result<(), AllocError>
     requires { out.old ≡ [] }
-    ensures kept { IsTrue (O.tells outside.new) → IsTrue (O.tells outside.old) }
-    ensures ok { OnOk result (StepsIf O.tells O.seen O.rest (daemon_rules O.view) outside.old daemon.old now id out.new outside.new daemon.new) }
-    ensures err { OnErr result (IdlesIf O.tells O.seen O.rest outside.old outside.new) }
+    ensures kept { ToldBefore O.told outside.old outside.new }
+    ensures ok { OnOk result (StepsIf O.told (daemon_rules O.store.view) (machine_state outside.old daemon.old) (step_at now id out.new) (machine_state outside.new daemon.new)) }
+    ensures err { OnErr result (IdlesIf O.told outside.old outside.new) }
     ensures lacks { OnErr result (LacksFor daemon.old id daemon.new) }
 {
-    let Some(place) = daemon.places.get(&id) else {
+    let Some(state) = daemon.states.get(&id) else {
         return lack(daemon, id);
     };
-    match &place.waits {
+    match &state.waits {
         SessionWait::Nothing => {
-            let fit = place.fit;
+            let fit = state.fit;
             step_free(daemon, outside, now, id, fit, out)
         }
         SessionWait::Store(since, _) => {

@@ -1,16 +1,15 @@
 //! The store, as the daemon sees it.
-ghost use Rattle.std.specs.Prelude.{ℕ, List, Option, IsTrue, IfSome};
+ghost use Rattle.std.specs.Prelude.{IsTrue, IfSome};
 ghost use Rattle.lmtp_connections.specs.Connections.{IsFinding};
 ghost use Rattle.store_engine.specs.Hosts.{IsGivenUp};
 ghost use Rattle.net_loop.specs.declared.act.Act.TheVariants.{Noted};
-ghost use Rattle.net_loop.specs.Told.{TellsIf};
+ghost use Rattle.net_loop.specs.Told.{ToldBefore, TellsIf};
 ghost use Rattle.daemon_core.specs.declared.note.Note.TheVariants.{Answered, Freed, Spoke};
-ghost use Rattle.maildir_files.specs.declared.kept.KeptMail.{KeptMail};
 ghost use Rattle.daemon_core.specs.Moves.{MovesNextMessage};
-ghost use Rattle.daemon_core.specs.StoreAccess.{View, AppliesEvent, DeliversMessage, Looks, FindsAccount, StillShowsIf};
+ghost use Rattle.daemon_core.specs.StoreAccess.{StoreFacts, access_state, AppliesEvent, DeliversMessage, Looks, FindsAccount, StillShowsIf};
 
 use crate::note::Note;
-use lmtp_connections::StoreDelivery;
+use lmtp_connections::DeliveryRequest;
 use lmtp_dialogue::Lookup;
 use net_loop::outside::Outside;
 use store_engine::{Answer, Clients, Event};
@@ -18,69 +17,65 @@ use store_engine::{Answer, Clients, Event};
 /// Access to a store that other processes use too. Each call but those that only tell takes the store if it isn't held, and keeps it
 /// until it is given back.
 pub trait StoreAccess: Outside<Note = Note> {
-    /// Which accounts the store shows, and what an open after a crash at this moment may find, while it is held and no fault of the disk
-    /// has shut it.
-    ghost view: { View Self.Rest };
-
-    /// The disk returned what was written.
-    ghost clean: { Self.Rest → Type 0 };
-
-    /// The text of the script by which the host has mail delivered to an account without an active one, if it has one.
-    ghost default: { Self → Option (List ℕ) };
+    /// What is known of the store: which accounts it shows, what an open after a crash at this moment may find, whether the disk
+    /// returned what was written, the host's default script, and which messages the sink has.
+    ghost store: { StoreFacts Self Self.Rest };
 
     /// Applies an event to the store and its sessions, and answers it once its change is durable. None if the store isn't available now.
     fn apply_event(&mut self, id: u32, clients: &mut Clients, event: &Event) -> Option<Answer>
         requires { ¬ IsGivenUp event.now }
-        ensures kept { IsTrue (Self.tells self.new) → IsTrue (Self.tells self.old) }
-        ensures carries { AppliesEvent Self.tells Self.seen Self.rest view clean id event.now self.old clients.old.sessions result self.new clients.new.sessions };
+        ensures kept { ToldBefore Self.told self.old self.new }
+        ensures carries { AppliesEvent Self.told store id event.now (access_state self.old clients.old.sessions) result (access_state self.new clients.new.sessions) };
 
     /// Tells that an event of a connection was answered that asks no store. Nothing is done.
     fn tell_freed(&mut self, id: u32, event: &Event, answer: &Answer)
-        ensures kept { IsTrue (Self.tells self.new) → IsTrue (Self.tells self.old) }
-        ensures told { TellsIf Self.tells Self.seen self.old (Noted id (Freed event.now answer.now)) self.new }
-        ensures shown { StillShowsIf Self.tells Self.rest view self.old self.new };
+        ensures kept { ToldBefore Self.told self.old self.new }
+        ensures told { TellsIf Self.told self.old (Noted id (Freed event.now answer.now)) self.new }
+        ensures shown { StillShowsIf Self.told store.view self.old self.new };
 
     /// Asks the store whether there is an account of that name; a name that it can't look for now is a fault, or lacks
     /// memory. Nothing is changed. None if the store isn't available now.
     fn find_account(&mut self, id: u32, clients: &mut Clients, user: &[u8]) -> Option<Lookup>
-        ensures kept { IsTrue (Self.tells self.new) → IsTrue (Self.tells self.old) }
+        ensures kept { ToldBefore Self.told self.old self.new }
         ensures found { IfSome result IsFinding }
-        ensures asks { FindsAccount Self.tells Self.seen Self.rest view clean id user.now self.old clients.old.sessions result self.new clients.new.sessions };
+        ensures asks { FindsAccount Self.told store id user.now (access_state self.old clients.old.sessions) result (access_state self.new clients.new.sessions) };
 
     /// Delivers a message to the store, at the moment that the clock shows now, with the host's default script, and answers it once
     /// its change is durable. None if the store isn't available now.
-    fn deliver(&mut self, id: u32, clients: &mut Clients, parcel: &StoreDelivery) -> Option<Answer>
-        ensures kept { IsTrue (Self.tells self.new) → IsTrue (Self.tells self.old) }
-        ensures delivers { DeliversMessage Self.tells Self.seen Self.rest view clean default id parcel.now self.old clients.old.sessions result self.new clients.new.sessions };
+    fn deliver(
+        &mut self,
+        id: u32,
+        clients: &mut Clients,
+        request: &DeliveryRequest,
+    ) -> Option<Answer>
+        ensures kept { ToldBefore Self.told self.old self.new }
+        ensures delivers { DeliversMessage Self.told store id request.now (access_state self.old clients.old.sessions) result (access_state self.new clients.new.sessions) };
 
     /// Tells that a client of LMTP was answered without the store, or one of ManageSieve that there is no room. Nothing is done.
     fn tell_answered(&mut self, id: u32)
-        ensures kept { IsTrue (Self.tells self.new) → IsTrue (Self.tells self.old) }
-        ensures told { TellsIf Self.tells Self.seen self.old (Noted id Answered) self.new }
-        ensures shown { StillShowsIf Self.tells Self.rest view self.old self.new };
+        ensures kept { ToldBefore Self.told self.old self.new }
+        ensures told { TellsIf Self.told self.old (Noted id Answered) self.new }
+        ensures shown { StillShowsIf Self.told store.view self.old self.new };
 
     /// Tells that a connection is told what was kept back. Nothing is done.
     fn tell_spoke(&mut self, id: u32)
-        ensures kept { IsTrue (Self.tells self.new) → IsTrue (Self.tells self.old) }
-        ensures told { TellsIf Self.tells Self.seen self.old (Noted id Spoke) self.new }
-        ensures shown { StillShowsIf Self.tells Self.rest view self.old self.new };
-
-    /// Which messages the sink has, if mail moves on; of one that doesn't tell them this may be any.
-    ghost has: { Self.Rest → List KeptMail → Type 0 };
+        ensures kept { ToldBefore Self.told self.old self.new }
+        ensures told { TellsIf Self.told self.old (Noted id Spoke) self.new }
+        ensures shown { StillShowsIf Self.told store.view self.old self.new };
 
     /// Has the first message of a folder move on, whichever folder that is: the sink keeps it, and then it is taken out of the store,
     /// which is held all the while. `fresh`, if events asked the store since the last call. Returns for how many milliseconds no other
     /// message is to move; none if the store isn't available now.
     fn move_next(&mut self, clients: &mut Clients, now: u64, fresh: bool) -> Option<u64>
-        ensures kept { IsTrue (Self.tells self.new) → IsTrue (Self.tells self.old) }
-        ensures moves { MovesNextMessage Self.tells Self.seen Self.rest view has clean self.old clients.old.sessions result self.new clients.new.sessions };
+        ensures kept { ToldBefore Self.told self.old self.new }
+        ensures moves { MovesNextMessage Self.told store (access_state self.old clients.old.sessions) result (access_state self.new clients.new.sessions) };
 
     /// Looks whether somebody waits for the store, and gives it back if somebody does, or if it `rests`. Returns whether
     /// it was given back.
     fn look(&mut self, rests: bool) -> bool
-        ensures kept { IsTrue (Self.tells self.new) → IsTrue (Self.tells self.old) }
-        ensures looks { Looks Self.tells Self.seen Self.rest view clean self.old rests result self.new };
+        ensures kept { ToldBefore Self.told self.old self.new }
+        ensures looks { Looks Self.told store self.old rests result self.new };
 
     // As long as it tells its acts, its disk doesn't lie.
-    ghost sure: { (desk : Self) → IsTrue (Self.tells desk) → clean (Self.rest desk) };
+    ghost sure: { (access : Self) → IsTrue (Self.told.tells access) → store.clean (Self.told.rest access) };
 }

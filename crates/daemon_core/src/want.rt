@@ -1,7 +1,7 @@
 //! What the daemon wants of a connection, and by which moment it is late.
 ghost use Rattle.std.specs.Prelude.{◌≡◌};
-ghost use Rattle.daemon_core.specs.DaemonRules.{place_at};
-ghost use Rattle.daemon_core.specs.ClientStates as places;
+ghost use Rattle.daemon_core.specs.DaemonRules.{client_state_at};
+ghost use Rattle.daemon_core.specs.ClientStates as states;
 ghost use Rattle.daemon_core.specs.ClientStates.{client_at};
 
 use crate::client_state::{ClientState, Fit, SessionWait};
@@ -20,7 +20,7 @@ const MAX_SILENCE: u64 = 1800000;
 
 /// What is wanted of a connection that waits so, and for whose octets there was room or not.
 pub fn want_by(waits: &SessionWait, fit: Fit, session: &Session) -> Want
-    ensures { result ≡ places.session_want_by waits.now fit session.now.client }
+    ensures { result ≡ states.session_want_by waits.now fit session.now.client }
 {
     match waits {
         SessionWait::Nothing => want_in(fit, session),
@@ -31,7 +31,7 @@ pub fn want_by(waits: &SessionWait, fit: Fit, session: &Session) -> Want
 }
 
 fn want_in(fit: Fit, session: &Session) -> Want
-    ensures { result ≡ places.want_in fit session.now.client }
+    ensures { result ≡ states.want_in fit session.now.client }
 {
     match fit {
         Fit::Fits => want_of_session(session),
@@ -41,7 +41,7 @@ fn want_in(fit: Fit, session: &Session) -> Want
 }
 
 fn want_of_session(session: &Session) -> Want
-    ensures { result ≡ places.want_of_session session.now.client }
+    ensures { result ≡ states.want_of_session session.now.client }
 {
     if session.is_closed() {
         Want::Done
@@ -53,35 +53,35 @@ fn want_of_session(session: &Session) -> Want
 }
 
 /// The moment by which a connection is late.
-pub fn due_by(place: &ClientState, session: &Session) -> u64
-    ensures { result ≡ places.session_due_by place.now.waits place.now session.now.client }
+pub fn due_by(state: &ClientState, session: &Session) -> u64
+    ensures { result ≡ states.session_due_by state.now.waits state.now session.now.client }
 {
-    match &place.waits {
-        SessionWait::Nothing => due_of_session(place, session),
+    match &state.waits {
+        SessionWait::Nothing => due_of_session(state, session),
         _ => u64::MAX,
     }
 }
 
-fn due_of_session(place: &ClientState, session: &Session) -> u64
-    ensures { result ≡ places.due_of_session place.now session.now.client.user session.now.client.unread }
+fn due_of_session(state: &ClientState, session: &Session) -> u64
+    ensures { result ≡ states.due_of_session state.now session.now.client.user session.now.client.unread }
 {
     if !session.is_logged_in() {
-        return place.guest.wrapping_add(MAX_LOGIN);
+        return state.unauthenticated_since.wrapping_add(MAX_LOGIN);
     }
     if session.unread_len() == 0 {
-        place.since.wrapping_add(MAX_SILENCE)
+        state.since.wrapping_add(MAX_SILENCE)
     } else {
-        place.since.wrapping_add(MAX_COMMAND)
+        state.since.wrapping_add(MAX_COMMAND)
     }
 }
 
 /// What is wanted of a client.
 pub fn want_of(daemon: &Daemon, id: u32) -> Want
-    ensures { result ≡ places.want_of (place_at daemon.now id) (client_at daemon.now.clients.sessions id) }
+    ensures { result ≡ states.want_of (client_state_at daemon.now id) (client_at daemon.now.clients.sessions id) }
 {
-    match daemon.places.get(&id) {
-        Some(place) => match daemon.clients.session(id) {
-            Some(session) => want_by(&place.waits, place.fit, session),
+    match daemon.states.get(&id) {
+        Some(state) => match daemon.clients.session(id) {
+            Some(session) => want_by(&state.waits, state.fit, session),
             None => Want::Done,
         },
         None => Want::Done,
@@ -90,11 +90,11 @@ pub fn want_of(daemon: &Daemon, id: u32) -> Want
 
 /// The moment by which a client is late.
 pub fn due_of(daemon: &Daemon, id: u32) -> u64
-    ensures { result ≡ places.due_of (place_at daemon.now id) (client_at daemon.now.clients.sessions id) }
+    ensures { result ≡ states.due_of (client_state_at daemon.now id) (client_at daemon.now.clients.sessions id) }
 {
-    match daemon.places.get(&id) {
-        Some(place) => match daemon.clients.session(id) {
-            Some(session) => due_by(place, session),
+    match daemon.states.get(&id) {
+        Some(state) => match daemon.clients.session(id) {
+            Some(session) => due_by(state, session),
             None => u64::MAX,
         },
         None => u64::MAX,

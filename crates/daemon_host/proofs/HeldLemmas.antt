@@ -1,5 +1,5 @@
 -- What a store shows that is had now and then, from one call to the next.
-use Rattle.std.proofs.Common.{◌≡◌, ℕ, Bool, false, List, [], ◌∷◌, ◌++◌, Option, Some, None, Result, IsTrue, refl, sym, ◌∙◌, ap, subst, inl, inr}
+use Rattle.std.proofs.Common.{◌≡◌, ℕ, Bool, false, List, [], ◌∷◌, ◌++◌, Option, Some, None, Result, IsTrue, IfSome, refl, sym, ◌∙◌, ap, subst, inl, inr}
 use Rattle.sqlite_trees.specs.declared.store.Store.{Ghosts}
 use Rattle.sqlite.specs.Effect.{Database}
 use Rattle.sqlite.specs.Held.{Held, state}
@@ -9,13 +9,15 @@ use Rattle.store_accounts.specs.Connection.{IsSettled}
 use Rattle.sqlite_trees.specs.Tree.{Trees}
 use Rattle.managesieve_sessions.specs.Acts.{HasAccounts}
 use Rattle.store_lock.specs.Taken.{IsStoreTaken}
+use Rattle.store_lock.specs.HeldStores.{GivesStoreBack, TakesStore}
+use Rattle.store_lock.specs.declared.held_store.HeldStore.{HeldStore}
 use Rattle.maildir_moves.specs.Enduring.{MayLeave, ShowsTried, none_tried, leaves_of}
 use Rattle.maildir_moves.proofs.EnduringLemmas.{left_alone, left_then, settled_left, event_endures}
 use Rattle.lmtp_dialogue.specs.declared.receiver.Lookup.{Lookup}
 use Rattle.store_accounts.specs.declared.refusal.Refusal.{Refusal}
 use Rattle.store_accounts.specs.declared.report.Report.{Report}
 use Rattle.sieve_exec.specs.declared.envelope.Envelope.{Envelope}
-use Rattle.lmtp_connections.specs.declared.demand.StoreDelivery.{StoreDelivery}
+use Rattle.lmtp_connections.specs.declared.demand.DeliveryRequest.{DeliveryRequest}
 use Rattle.sqlite.specs.State.{State, HasCleanDisk}
 use Rattle.store_engine.specs.AccountEvents.{Delivery}
 use Rattle.store_engine.specs.World.{World}
@@ -58,6 +60,29 @@ module _ {S : Type 0} (g : Ghosts S) (tells : Bool) where
       → ShowsBy g tells is store accounts × MayLeave (LeavesBy g store) accounts (LeavesBy g store) accounts none_tried
   kept was is (Some store) same accounts shown = (shown, left_alone (LeavesBy g (Some store)) accounts none_tried)
   kept was is None same accounts shown = ((shown.0, subst (λ db. OffersAccounts db accounts) (sym (same shown.0)) shown.1), left_alone (LeavesBy g None) accounts none_tried)
+
+-- what was shown of a keeper, and of its store if that was held, is shown
+module _ {K S : Type 0} (g : Ghosts S) (tells : Bool) (holds : K → Database) where
+  abbrev StillBy : Database → Option (Held S) → Database → Option (Held S) → Type 0
+  StillBy was store is later = (accounts : Accounts) → ShowsBy g tells was store accounts → ShowsBy g tells is later accounts × MayLeave (LeavesBy g store) accounts (LeavesBy g later) accounts none_tried
+
+  pub still_taken : (old new : HeldStore K S) → TakesStore g tells holds old new → StillBy (holds old.keeper) old.store (holds new.keeper) new.store
+  still_taken old new takes = elim takes [
+    | inl same ↦ subst (λ o. StillBy (holds old.keeper) old.store (holds new.keeper) o) (sym same.store) (kept g tells (holds old.keeper) (holds new.keeper) old.store same.tables)
+    | inr took ↦
+        subst (λ o. StillBy (holds old.keeper) o (holds new.keeper) new.store) (sym took.0)
+        (subst (λ o. StillBy (holds old.keeper) None (holds new.keeper) o) (sym took.2) (taken g tells (holds old.keeper) (holds new.keeper) took.1 took.3.seen took.3.settled))
+  ]
+
+  -- one that tells its tables, and whose store nothing shuts, was asked something else after it
+  pub still_given : ((held : Held S) → IsTrue tells → IsTrue (state g held).is_open) → (old new : HeldStore K S) → GivesStoreBack g tells holds old new
+      → (last : K) → (IsTrue tells → holds last ≡ holds new.keeper) → IsTrue tells → StillBy (holds old.keeper) old.store (holds last) new.store
+  still_given sure old new gives last same told = subst (λ o. StillBy (holds old.keeper) old.store (holds last) o) (sym gives.emptied) (by old.store gives.given gives.none)
+    where
+      by : (store : Option (Held S)) → IfSome store (λ held. IsTrue tells → holds new.keeper ≡ (state g held).now) → (store ≡ None → IsTrue tells → holds new.keeper ≡ holds old.keeper)
+          → StillBy (holds old.keeper) store (holds last) None
+      by (Some store) held none = given g tells (holds old.keeper) (holds last) store (sure store) (λ tell. same tell ∙ held tell) told
+      by None held none = kept g tells (holds old.keeper) (holds last) None (λ tell. same tell ∙ none refl tell)
 
 -- an event by one call of `apply`: nobody came between
 pub done_alone : {R S : Type 0} (g : Ghosts S) (view : View R) (r q : R) (event : Event) (answer : Answer) (old new : Held S) (before after : SessionMap)
@@ -112,30 +137,30 @@ asked_alone view r q user lookup kept finds = λ w at.
     (w, record { strangers = tt; told = []; theirs = refl; apart = refl; found = seen.0 }, record { is = record { shown = seen.1; sessions = at.sessions }; left = seen.2 })
 
 -- a delivery is an event, whatever sessions there are
-delivery_acts : (parcel : StoreDelivery) (terms : Terms) (user message : List ℕ) (envelope : Envelope) (old new : State) (r : Result Report Refusal)
-    → user ≡ parcel.user → envelope ≡ record { from = parcel.sender; to = parcel.recipient } → message ≡ parcel.message → ActsDelivery user envelope message terms old new r
-    → ActsDelivery parcel.user (record { from = parcel.sender; to = parcel.recipient }) parcel.message terms old new r
-delivery_acts parcel terms user message envelope old new r is_user is_envelope is_message acts =
-    let own : Envelope = record { from = parcel.sender; to = parcel.recipient } in
-    subst (λ u. ActsDelivery u own parcel.message terms old new r) is_user
-    (subst (λ e. ActsDelivery user e parcel.message terms old new r) is_envelope (subst (λ m. ActsDelivery user envelope m terms old new r) is_message acts))
+delivery_acts : (request : DeliveryRequest) (terms : Terms) (user message : List ℕ) (envelope : Envelope) (old new : State) (r : Result Report Refusal)
+    → user ≡ request.user → envelope ≡ record { from = request.sender; to = request.recipient } → message ≡ request.message → ActsDelivery user envelope message terms old new r
+    → ActsDelivery request.user (record { from = request.sender; to = request.recipient }) request.message terms old new r
+delivery_acts request terms user message envelope old new r is_user is_envelope is_message acts =
+    let own : Envelope = record { from = request.sender; to = request.recipient } in
+    subst (λ u. ActsDelivery u own request.message terms old new r) is_user
+    (subst (λ e. ActsDelivery user e request.message terms old new r) is_envelope (subst (λ m. ActsDelivery user envelope m terms old new r) is_message acts))
 
-pub delivered_as : (parcel : StoreDelivery) (terms : Terms) (user message : List ℕ) (envelope : Envelope) (old new : State) (kept : SessionMap) (r : Result Report Refusal)
-    → user ≡ parcel.user → envelope ≡ record { from = parcel.sender; to = parcel.recipient } → message ≡ parcel.message → ActsDelivery user envelope message terms old new r
-    → IsEvent (delivery_of parcel terms) (answer_by Delivered r) (host old kept) (host new kept)
-delivered_as parcel terms user message envelope old new kept r is_user is_envelope is_message acts =
-    let own : Envelope = record { from = parcel.sender; to = parcel.recipient } in
-    account_event (delivery_of parcel terms) (λ accounts. Delivery accounts parcel.user own parcel.message terms) (MayRefuseDelivery own parcel.message terms.when.moment) (λ w answer next done. done)
-    (delivery_may parcel.user parcel.message own terms.when terms.default) old new kept Delivered r (delivery_acts parcel terms user message envelope old new r is_user is_envelope is_message acts)
+pub delivered_as : (request : DeliveryRequest) (terms : Terms) (user message : List ℕ) (envelope : Envelope) (old new : State) (kept : SessionMap) (r : Result Report Refusal)
+    → user ≡ request.user → envelope ≡ record { from = request.sender; to = request.recipient } → message ≡ request.message → ActsDelivery user envelope message terms old new r
+    → IsEvent (delivery_of request terms) (answer_by Delivered r) (host old kept) (host new kept)
+delivered_as request terms user message envelope old new kept r is_user is_envelope is_message acts =
+    let own : Envelope = record { from = request.sender; to = request.recipient } in
+    account_event (delivery_of request terms) (λ accounts. Delivery accounts request.user own request.message terms) (MayRefuseDelivery own request.message terms.when.moment) (λ w answer next done. done)
+    (delivery_may request.user request.message own terms.when terms.default) old new kept Delivered r (delivery_acts request terms user message envelope old new r is_user is_envelope is_message acts)
 
 -- and what a crash leaves of it
-pub delivered_crash : (parcel : StoreDelivery) (terms : Terms) (user message : List ℕ) (envelope : Envelope) (old new : State) (kept : SessionMap) (r : Result Report Refusal)
-    → user ≡ parcel.user → envelope ≡ record { from = parcel.sender; to = parcel.recipient } → message ≡ parcel.message → ActsDelivery user envelope message terms old new r
-    → SurvivesEvent (delivery_of parcel terms) (host old kept) (host new kept)
-delivered_crash parcel terms user message envelope old new kept r is_user is_envelope is_message acts =
-    let own : Envelope = record { from = parcel.sender; to = parcel.recipient } in
-    account_crash (delivery_of parcel terms) (λ accounts. Delivery accounts parcel.user own parcel.message terms) (MayRefuseDelivery own parcel.message terms.when.moment) (λ w answer next done. done)
-    (delivery_may parcel.user parcel.message own terms.when terms.default) old new kept r (answer_by Delivered r) (delivery_acts parcel terms user message envelope old new r is_user is_envelope is_message acts)
+pub delivered_crash : (request : DeliveryRequest) (terms : Terms) (user message : List ℕ) (envelope : Envelope) (old new : State) (kept : SessionMap) (r : Result Report Refusal)
+    → user ≡ request.user → envelope ≡ record { from = request.sender; to = request.recipient } → message ≡ request.message → ActsDelivery user envelope message terms old new r
+    → SurvivesEvent (delivery_of request terms) (host old kept) (host new kept)
+delivered_crash request terms user message envelope old new kept r is_user is_envelope is_message acts =
+    let own : Envelope = record { from = request.sender; to = request.recipient } in
+    account_crash (delivery_of request terms) (λ accounts. Delivery accounts request.user own request.message terms) (MayRefuseDelivery own request.message terms.when.moment) (λ w answer next done. done)
+    (delivery_may request.user request.message own terms.when terms.default) old new kept r (answer_by Delivered r) (delivery_acts request terms user message envelope old new r is_user is_envelope is_message acts)
 
 -- what a sink keeps, as the daemon sees it
 pub has_kept : {K S T : Type 0} (tells : Bool) (kept : T → List KeptMail) (r q : HostStore K T S) (m : Moving) → KeepsIt tells (kept r.sink) (kept q.sink) m → HasKept (SinkHasMail tells kept) m r q

@@ -14,7 +14,7 @@ use Rattle.store_engine.specs.declared.answer.Answer.{Answer}
 use Rattle.store_engine.specs.declared.answer.Answer.TheVariants.{Refused}
 use Rattle.store_engine.specs.declared.event.Event.{Event}
 use Rattle.store_engine.specs.declared.event.Event.TheVariants.{Deliver}
-use Rattle.lmtp_connections.specs.declared.demand.StoreDelivery.{StoreDelivery}
+use Rattle.lmtp_connections.specs.declared.demand.DeliveryRequest.{DeliveryRequest}
 use Rattle.daemon_core.specs.StoreAccess.{View, IsEventDone, delivery_of}
 use Rattle.daemon_host.specs.Events.{is_full}
 use Rattle.daemon_host.specs.Held.{lacking, answer_told, IsToldAs}
@@ -61,10 +61,10 @@ lacks_next w next user when default envelope message (inr refused) =
     inr (record { refusal = Memory; may = subst (λ r. MayRefuseEvent w (Deliver user envelope message when default) r) same refused.may; refused = refl; stays = refused.stays })
 
 -- so what is told of it is an answer to the same event
-lacking_done : {R : Type 0} (view : View R) (parcel : StoreDelivery) (terms : Terms) (r q : R) (kept : SessionMap) → IsEventDone view [] (delivery_of parcel terms) (Refused Store) r kept q kept → IsEventDone view [] (delivery_of parcel terms) (Refused Memory) r kept q kept
-lacking_done view parcel terms r q kept done = λ w at.
+lacking_done : {R : Type 0} (view : View R) (request : DeliveryRequest) (terms : Terms) (r q : R) (kept : SessionMap) → IsEventDone view [] (delivery_of request terms) (Refused Store) r kept q kept → IsEventDone view [] (delivery_of request terms) (Refused Memory) r kept q kept
+lacking_done view request terms r q kept done = λ w at.
     let it = done w at in
-    let own : Envelope = record { from = parcel.sender; to = parcel.recipient } in (
+    let own : Envelope = record { from = request.sender; to = request.recipient } in (
       it.0,
       record {
         strangers = it.1.strangers;
@@ -72,26 +72,26 @@ lacking_done view parcel terms r q kept done = λ w at.
         between = it.1.between;
         theirs = it.1.theirs;
         apart = it.1.apart;
-        ours = lacks_next it.1.between it.0 parcel.user terms.when terms.default own parcel.message it.1.ours;
+        ours = lacks_next it.1.between it.0 request.user terms.when terms.default own request.message it.1.ours;
       },
       record { is = it.2.is; left = it.2.left },
     )
 
-refused_done : {R : Type 0} (view : View R) (parcel : StoreDelivery) (terms : Terms) (refusal : Refusal) (r q : R) (kept : SessionMap) → IsEventDone view [] (delivery_of parcel terms) (Refused refusal) r kept q kept
-    → IsEventDone view [] (delivery_of parcel terms) (lacking (Refused refusal)) r kept q kept
-refused_done view parcel terms Store r q kept done = lacking_done view parcel terms r q kept done
-refused_done view parcel terms _ r q kept done = done
+refused_done : {R : Type 0} (view : View R) (request : DeliveryRequest) (terms : Terms) (refusal : Refusal) (r q : R) (kept : SessionMap) → IsEventDone view [] (delivery_of request terms) (Refused refusal) r kept q kept
+    → IsEventDone view [] (delivery_of request terms) (lacking (Refused refusal)) r kept q kept
+refused_done view request terms Store r q kept done = lacking_done view request terms r q kept done
+refused_done view request terms _ r q kept done = done
 
-lacking_by : {R : Type 0} (view : View R) (parcel : StoreDelivery) (terms : Terms) (answer : Answer) (r q : R) (kept : SessionMap) → IsEventDone view [] (delivery_of parcel terms) answer r kept q kept → IsEventDone view [] (delivery_of parcel terms) (lacking answer) r kept q kept
-lacking_by view parcel terms (Refused refusal) r q kept done = refused_done view parcel terms refusal r q kept done
-lacking_by view parcel terms _ r q kept done = done
+lacking_by : {R : Type 0} (view : View R) (request : DeliveryRequest) (terms : Terms) (answer : Answer) (r q : R) (kept : SessionMap) → IsEventDone view [] (delivery_of request terms) answer r kept q kept → IsEventDone view [] (delivery_of request terms) (lacking answer) r kept q kept
+lacking_by view request terms (Refused refusal) r q kept done = refused_done view request terms refusal r q kept done
+lacking_by view request terms _ r q kept done = done
 
-told_so : {R : Type 0} (view : View R) (parcel : StoreDelivery) (terms : Terms) (full : Bool) (answer : Answer) (r q : R) (kept : SessionMap) → IsEventDone view [] (delivery_of parcel terms) answer r kept q kept
-    → IsEventDone view [] (delivery_of parcel terms) (answer_told full answer) r kept q kept
-told_so view parcel terms true answer r q kept done = lacking_by view parcel terms answer r q kept done
-told_so view parcel terms false answer r q kept done = done
+told_so : {R : Type 0} (view : View R) (request : DeliveryRequest) (terms : Terms) (full : Bool) (answer : Answer) (r q : R) (kept : SessionMap) → IsEventDone view [] (delivery_of request terms) answer r kept q kept
+    → IsEventDone view [] (delivery_of request terms) (answer_told full answer) r kept q kept
+told_so view request terms true answer r q kept done = lacking_by view request terms answer r q kept done
+told_so view request terms false answer r q kept done = done
 
-pub told_done : {R : Type 0} (view : View R) (parcel : StoreDelivery) (terms : Terms) (answer told : Answer) (code : Option ErrorCode) (r q : R) (kept : SessionMap) → IsToldAs answer code told
-    → IsEventDone view [] (delivery_of parcel terms) answer r kept q kept → IsEventDone view [] (delivery_of parcel terms) told r kept q kept
-told_done view parcel terms answer told code r q kept is done =
-    subst (λ a. IsEventDone view [] (delivery_of parcel terms) a r kept q kept) (sym is) (told_so view parcel terms (is_full code) answer r q kept done)
+pub told_done : {R : Type 0} (view : View R) (request : DeliveryRequest) (terms : Terms) (answer told : Answer) (code : Option ErrorCode) (r q : R) (kept : SessionMap) → IsToldAs answer code told
+    → IsEventDone view [] (delivery_of request terms) answer r kept q kept → IsEventDone view [] (delivery_of request terms) told r kept q kept
+told_done view request terms answer told code r q kept is done =
+    subst (λ a. IsEventDone view [] (delivery_of request terms) a r kept q kept) (sym is) (told_so view request terms (is_full code) answer r q kept done)

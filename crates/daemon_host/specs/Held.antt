@@ -20,8 +20,7 @@ use Rattle.store_engine.specs.declared.answer.Answer.{Answer}
 use Rattle.store_engine.specs.declared.answer.Answer.TheVariants.{Refused}
 use Rattle.store_accounts.specs.declared.refusal.Refusal.TheVariants.{Memory, Store}
 use Rattle.store_engine.specs.declared.event.Event.{Event}
-use Rattle.store_lock.specs.declared.keeper.StoreUnavailable.{StoreUnavailable}
-use Rattle.daemon_core.specs.StoreAccess.{View, ViewStillShows, IsEventDone, NothingDone, IsFoundIn}
+use Rattle.daemon_core.specs.StoreAccess.{View, AccessState, ViewStillShows, IsEventDone, NothingDone, IsFoundIn}
 use Rattle.daemon_host.specs.Events.{is_full}
 use Rattle.daemon_host.specs.declared.host_store.HostStore.{HostStore}
 
@@ -43,11 +42,11 @@ IsCleanBy g tells None = IsTrue tells
 
 -- of a keeper, and its store while it is held
 abbrev pub host_view : {K S T : Type 0} → Ghosts S → Bool → (K → Database) → View (HostStore K T S)
-host_view g tells holds = record { shows = λ held accounts. ShowsBy g tells (holds held.keeper) held.store accounts; leaves = λ held trees. LeavesBy g held.store trees }
+host_view g tells holds = record { shows = λ host accounts. ShowsBy g tells (holds host.held.keeper) host.held.store accounts; leaves = λ host trees. LeavesBy g host.held.store trees }
 
 -- the disk returned what was written: of a store that isn't held, a keeper that tells its tables says so
 abbrev pub IsClean : {K S T : Type 0} → Ghosts S → Bool → HostStore K T S → Type 0
-IsClean g tells held = IsCleanBy g tells held.store
+IsClean g tells host = IsCleanBy g tells host.held.store
 
 -- whatever accounts were shown, they are shown
 abbrev pub StillShown : {K S T : Type 0} → Ghosts S → Bool → (K → Database) → HostStore K T S → HostStore K T S → Type 0
@@ -59,8 +58,9 @@ Changes view clean event (Some answer) r before q after = clean q → IsEventDon
 Changes view clean event None r before q after = NothingDone view r before q after
 
 -- an event was done over the host's store, with this answer; or nothing was
-abbrev pub HostBrings : {K S T : Type 0} → Ghosts S → Bool → (K → Database) → Event → Option Answer → HostStore K T S → SessionMap → HostStore K T S → SessionMap → Type 0
-HostBrings g tells holds event answer held before later after = Changes (host_view g tells holds) (IsClean g tells) event answer held before later after
+abbrev pub HostBrings : {K S T : Type 0} → Ghosts S → Bool → (K → Database) → Event → Option Answer → AccessState (HostStore K T S) → AccessState (HostStore K T S) → Type 0
+HostBrings g tells holds event answer before after =
+    Changes (host_view g tells holds) (IsClean g tells) event answer before.outside before.sessions after.outside after.sessions
 
 -- a store whose disk is full refuses as one that lacks memory
 abbrev pub lacking : Answer → Answer
@@ -74,14 +74,6 @@ answer_told false answer = answer
 
 abbrev pub IsToldAs : Answer → Option ErrorCode → Answer → Type 0
 IsToldAs answer code told = told ≡ answer_told (is_full code) answer
-
--- a keeper that waits for nobody refused the store at this path so
-abbrev pub DeniesAtOnce : {K : Type 0} → (K → List ℕ → StoreUnavailable → Type 0) → (K → Bool) → List ℕ → StoreUnavailable → Type 0
-DeniesAtOnce refuses waits path denial = (keeper : _) × refuses keeper path denial × (waits keeper ≡ false)
-
--- one that waits for nobody gave it out at this path
-abbrev pub GivesAtOnce : {K : Type 0} → (K → List ℕ → Type 0) → (K → Bool) → List ℕ → Type 0
-GivesAtOnce gives waits path = (keeper : _) × gives keeper path × (waits keeper ≡ false)
 
 -- that was found of an account of that name, and the accounts are as they were; or nothing was asked
 abbrev pub HostFinds : {R : Type 0} → View R → (R → Type 0) → List ℕ → Option Lookup → R → R → Type 0

@@ -8,7 +8,7 @@ use Rattle.maildir_moves.specs.declared.moving.Moving.TheVariants.{Stays, Kept, 
 use Rattle.maildir_moves.specs.declared.moving.Stay.{Stay}
 use Rattle.maildir_moves.specs.declared.moving.StayReason.{StayReason}
 use Rattle.maildir_moves.specs.declared.moving.StayReason.TheVariants.{Name, Gone, Store as InStore, Sink as InSink}
-use Rattle.lmtp_connections.specs.declared.demand.StoreDelivery.{StoreDelivery}
+use Rattle.lmtp_connections.specs.declared.demand.DeliveryRequest.{DeliveryRequest}
 use Rattle.maildir_files.specs.declared.kept.KeptMail.{KeptMail}
 use Rattle.maildir_files.specs.declared.sink.SinkError.TheVariants.{Memory as NoMemory}
 use Rattle.store_accounts.specs.declared.refusal.Refusal.{Refusal}
@@ -31,9 +31,9 @@ abbrev pub why_pairs : Answer → List Pair
 why_pairs (Refused refusal) = pair (codes "why") (why_by refusal) ∷ []
 why_pairs _ = []
 
-abbrev pub delivery_line : StoreDelivery → Answer → List ℕ
-delivery_line parcel answer =
-    log_line_of (delivery_word answer) (pair (codes "user") parcel.user ∷ pair (codes "from") parcel.sender ∷ pair (codes "to") parcel.recipient ∷ why_pairs answer)
+abbrev pub delivery_line : DeliveryRequest → Answer → List ℕ
+delivery_line request answer =
+    log_line_of (delivery_word answer) (pair (codes "user") request.user ∷ pair (codes "from") request.sender ∷ pair (codes "to") request.recipient ∷ why_pairs answer)
 
 -- ---- what took long
 

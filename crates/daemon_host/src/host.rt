@@ -3,9 +3,8 @@ ghost use Rattle.std.specs.Prelude.{◌≡◌, ℕ, [], ◌∷◌, ◌++◌, tru
 ghost use Rattle.lmtp_connections.specs.Connections.{IsFinding};
 ghost use Rattle.store_engine.specs.Hosts.{IsGivenUp, SessionMap};
 ghost use Rattle.store_engine.specs.Terms.{terms};
-ghost use Rattle.store_accounts.specs.Cells.{borrowed_octets};
 ghost use Rattle.sieve_exec.specs.declared.when.When.{When};
-ghost use Rattle.daemon_core.specs.StoreAccess.{delivery_of};
+ghost use Rattle.daemon_core.specs.StoreAccess.{access_state, delivery_of};
 ghost use Rattle.net_loop.specs.Told.{IsLoopAct};
 ghost use Rattle.daemon_host.specs.Events as events;
 ghost use Rattle.daemon_host.specs.Held as held;
@@ -19,7 +18,7 @@ use cli_run::fault_with_cause::FaultWithCause;
 use daemon_core::LMTP;
 use daemon_core::note::Note;
 use daemon_core::store_access::StoreAccess;
-use lmtp_connections::StoreDelivery;
+use lmtp_connections::DeliveryRequest;
 use lmtp_dialogue::Lookup;
 use mail_dates::HostZone;
 use maildir_files::MailSink;
@@ -29,7 +28,7 @@ use net_loop::outcome::{self, Accepted, Input, Output, Wake};
 use net_loop::outside::{Clock, Outside, Sockets};
 use net_shares::{Scheduler, TimeAccount};
 use net_sockets::SystemSockets;
-use octets::Octets;
+use octets::{Octets, as_deref};
 use sieve_exec::When;
 use sqlite::ErrorCode;
 use std::alloc::Global;
@@ -128,9 +127,9 @@ impl<'a, N: Net + time::Clock, E: Write + Drop, K: Keeper + Drop, T: MailSink + 
         self.news.begin(version, pid);
     }
 
-    /// Tells of trouble that ends the daemon, and gives its exit status.
-    pub fn refuse(&mut self, trouble: FaultWithCause) -> u8 {
-        self.news.refuse(trouble)
+    /// Tells of the fault that ends the daemon, and gives its exit status.
+    pub fn refuse(&mut self, fault: FaultWithCause) -> u8 {
+        self.news.refuse(fault)
     }
 
     /// Begins an act.
@@ -175,7 +174,7 @@ impl<'a, N: Net + time::Clock, E: Write + Drop, K: Keeper + Drop, T: MailSink + 
     {
         let account = match self.turns.account(id) {
             Some(account) => account.try_clone(self.alloc),
-            None => Ok(TimeAccount::Guests),
+            None => Ok(TimeAccount::Unauthenticated),
         };
         if let Ok(account) = account {
             self.end_act(id, account, b"command");
@@ -189,7 +188,7 @@ impl<'a, N: Net + time::Clock, E: Write + Drop, K: Keeper + Drop, T: MailSink + 
     {
         match user_of(clients, id) {
             Some(user) => self.end_act_of(id, user, b"command"),
-            None => self.end_act(id, TimeAccount::Guests, b"command"),
+            None => self.end_act(id, TimeAccount::Unauthenticated, b"command"),
         }
     }
 
@@ -236,7 +235,7 @@ impl<'a, N: Net + time::Clock, E: Write + Drop, K: Keeper + Drop, T: MailSink + 
     /// Applies an event to the store, if that may be asked and is available.
     fn try_apply_event(&mut self, id: u32, clients: &mut Clients, event: &Event) -> Option<Answer>
         requires { ¬ IsGivenUp event.now }
-        ensures { HostBrings K.S.Store K.tells K.holds event.now result self.old.held clients.old.sessions self.new.held clients.new.sessions }
+        ensures { HostBrings K.S.Store K.tells K.holds event.now result (access_state self.old.held clients.old.sessions) (access_state self.new.held clients.new.sessions) }
     {
         if !self.may_ask(id) {
             return None;
@@ -246,12 +245,12 @@ impl<'a, N: Net + time::Clock, E: Write + Drop, K: Keeper + Drop, T: MailSink + 
         };
         let begun = start(self.system);
         self.reach();
-        let is_guest = user_of(clients, id).is_none();
+        let is_unauthenticated = user_of(clients, id).is_none();
         let answer = self.held.apply_event(clients, event)?;
         self.news.note_answer(&answer, self.held.code());
         note_time(&mut self.news, self.system, begun);
         let kept = self.is_kept();
-        Some(answer_if_kept(answer, kept, is_guest, later))
+        Some(answer_if_kept(answer, kept, is_unauthenticated, later))
     }
 
     /// Whether the store is held, and the file at the path is another one, or none. That is told.
@@ -294,9 +293,8 @@ impl<'a, N: Net + time::Clock, E: Write + Drop, K: Keeper + Drop, T: MailSink + 
     }
 
     /// Delivers a message at the moment that the clock shows, if the store may be asked and is available.
-    fn try_deliver(&mut self, id: u32, parcel: &StoreDelivery) -> Option<Answer>
-        ensures { (when : When) × ((kept : SessionMap) → HostBrings K.S.Store K.tells K.holds (delivery_of parcel.now (terms when self.old.default)) result
-            self.old.held kept self.new.held kept) }
+    fn try_deliver(&mut self, id: u32, request: &DeliveryRequest) -> Option<Answer>
+        ensures { (when : When) × ((kept : SessionMap) → HostBrings K.S.Store K.tells K.holds (delivery_of request.now (terms when self.old.default)) result (access_state self.old.held kept) (access_state self.new.held kept)) }
     {
         let when = when_in(self.system, &self.zone);
         if !self.may_ask(id) {
@@ -306,13 +304,13 @@ impl<'a, N: Net + time::Clock, E: Write + Drop, K: Keeper + Drop, T: MailSink + 
         self.reach();
         match self
             .held
-            .deliver(self.alloc, parcel, when, slice_of(&self.default))
+            .deliver(self.alloc, request, when, as_deref(&self.default))
         {
             Some(answer) => {
                 let code = self.held.code();
                 note_time(&mut self.news, self.system, begun);
                 let kept = self.is_kept();
-                Some(self.tell_delivery(parcel, answer, code, kept))
+                Some(self.tell_delivery(request, answer, code, kept))
             }
             None => None,
         }
@@ -321,7 +319,7 @@ impl<'a, N: Net + time::Clock, E: Write + Drop, K: Keeper + Drop, T: MailSink + 
     /// Tells of a delivery, which is refused if it is no longer in the file at the path.
     fn tell_delivery(
         &mut self,
-        parcel: &StoreDelivery,
+        request: &DeliveryRequest,
         answer: Answer,
         code: Option<ErrorCode>,
         kept: bool,
@@ -330,9 +328,9 @@ impl<'a, N: Net + time::Clock, E: Write + Drop, K: Keeper + Drop, T: MailSink + 
         ensures told { kept ≡ true → IsToldAs answer code result }
     {
         if !kept {
-            return self.news.refuse_delivery(parcel);
+            return self.news.refuse_delivery(request);
         }
-        self.news.note_delivery(parcel, &answer, code);
+        self.news.note_delivery(request, &answer, code);
         tell_answer(answer, code)
     }
 
@@ -394,7 +392,7 @@ impl<'a, N: Net + time::Clock, E: Write + Drop, K: Keeper + Drop, T: MailSink + 
     /// Gives the store back. After a failure it is left alone for a while.
     fn give_back(&mut self)
         ensures shown { IsClean K.S.Store K.tells self.new.held → StillShown K.S.Store K.tells K.holds self.old.held self.new.held }
-        ensures given { self.new.held.store ≡ None }
+        ensures given { self.new.held.held.store ≡ None }
         ensures sink { self.new.held.sink ≡ self.old.held.sink }
     {
         let refusal = self.held.give_back();
@@ -408,7 +406,7 @@ fn account_of(kind: u32) -> TimeAccount {
     if kind == LMTP {
         TimeAccount::Senders
     } else {
-        TimeAccount::Guests
+        TimeAccount::Unauthenticated
     }
 }
 
@@ -420,12 +418,12 @@ fn user_of(clients: &Clients, id: u32) -> Option<&[u8]> {
     }
 }
 
-/// The answer to a command, as it is told. If it is no longer in the file at the path, a user is to try later; what a guest was told of
-/// a login isn't in any.
-fn answer_if_kept(answer: Answer, kept: bool, is_guest: bool, later: Octets) -> Answer
+/// The answer to a command, as it is told. If it is no longer in the file at the path, a user is to try later; what one who isn't logged
+/// in was told of a login isn't in any.
+fn answer_if_kept(answer: Answer, kept: bool, is_unauthenticated: bool, later: Octets) -> Answer
     ensures { kept ≡ true → result ≡ answer }
 {
-    if kept || is_guest {
+    if kept || is_unauthenticated {
         return answer;
     }
     match answer {
@@ -504,16 +502,6 @@ fn when_in<C: time::Clock>(clock: &C, zone: &HostZone) -> When {
     }
 }
 
-/// The text's octets, if there is one.
-fn slice_of(text: &Option<Octets>) -> Option<&[u8]>
-    ensures { borrowed_octets result ≡ text.now }
-{
-    match text {
-        Some(text) => Some(text.as_slice()),
-        None => None,
-    }
-}
-
 /// The seconds since 1970; if the clock can't be read, a moment at which nothing is delivered.
 fn seconds<C: time::Clock>(clock: &C) -> u64 {
     let Ok(now) = SystemTime::now(clock) else {
@@ -531,12 +519,8 @@ impl<N: Net + time::Clock, E: Write + Drop, K: Keeper + Drop, T: MailSink + Drop
 
     type Rest = HostStore<K, T>;
 
-    ghost tells = { λ _. false };
-
-    // Any, since it tells none.
-    ghost seen = { λ _. [] };
-
-    ghost rest = { λ host. host.held };
+    // It tells no acts, so `seen` may be any.
+    ghost told = { record { tells = λ _. false; seen = λ _. []; rest = λ host. host.held } };
 
     ghost broken = { λ host. host.broken };
 }
@@ -629,11 +613,12 @@ impl<N: Net + time::Clock, E: Write + Drop, K: Keeper + Drop, T: MailSink + Drop
     for Host<'_, N, E, K, T> {
     ghost use Rattle.store_lock.specs.Laws.{never_told};
 
-    ghost view = { host_view K.S.Store K.tells K.holds };
-
-    ghost clean = { IsClean K.S.Store K.tells };
-
-    ghost default = { λ host. host.default };
+    ghost store = { record {
+      view = host_view K.S.Store K.tells K.holds;
+      clean = IsClean K.S.Store K.tells;
+      default = λ host. host.default;
+      has = SinkHasMail T.tells T.kept;
+    } };
 
     fn apply_event(&mut self, id: u32, clients: &mut Clients, event: &Event) -> Option<Answer> {
         match self.try_apply_event(id, clients, event) {
@@ -674,12 +659,12 @@ impl<N: Net + time::Clock, E: Write + Drop, K: Keeper + Drop, T: MailSink + Drop
         &mut self,
         id: u32,
         _clients: &mut Clients,
-        parcel: &StoreDelivery,
+        request: &DeliveryRequest,
     ) -> Option<Answer> {
-        match self.try_deliver(id, parcel) {
+        match self.try_deliver(id, request) {
             Some(answer) => {
                 self.queue.leave(id);
-                self.end_act_of(id, parcel.user.as_slice(), b"delivery");
+                self.end_act_of(id, request.user.as_slice(), b"delivery");
                 Some(answer)
             }
             None => {
@@ -688,8 +673,6 @@ impl<N: Net + time::Clock, E: Write + Drop, K: Keeper + Drop, T: MailSink + Drop
             }
         }
     }
-
-    ghost has = { SinkHasMail T.tells T.kept };
 
     fn move_next(&mut self, _clients: &mut Clients, now: u64, fresh: bool) -> Option<u64> {
         match self.try_move_next(now, fresh) {
@@ -716,5 +699,5 @@ impl<N: Net + time::Clock, E: Write + Drop, K: Keeper + Drop, T: MailSink + Drop
         gives
     }
 
-    ghost sure = { λ desk told. never_told told };
+    ghost sure = { λ host told. never_told told };
 }

@@ -11,7 +11,7 @@ use crate::pause::Pause;
 use cli_run::fault::RunFault;
 use cli_run::fault_with_cause::{FaultWithCause, FirstFault};
 use daemon_log::tally::{StatusTally, status_line};
-use lmtp_connections::StoreDelivery;
+use lmtp_connections::DeliveryRequest;
 use lmtp_dialogue::Lookup;
 use maildir_moves::Moving;
 use net_shares::TimeAccount;
@@ -39,8 +39,8 @@ pub struct HostLog<E: Write + Drop> {
     /// The store failed, and is to be given back.
     failed: bool,
     pause: Pause,
-    /// The first trouble with the store since it was taken.
-    trouble: FirstFault,
+    /// The first fault of the store since it was taken.
+    first_fault: FirstFault,
     tally: StatusTally,
     /// The moment of the last line `status`, or of a minute in which nothing happened.
     told: u64,
@@ -55,7 +55,7 @@ impl<E: Write + Drop> HostLog<E> {
             quiet,
             failed: false,
             pause: Pause::none(),
-            trouble: FirstFault::none(),
+            first_fault: FirstFault::none(),
             tally: StatusTally::none(),
             told: 0,
         }
@@ -129,15 +129,15 @@ impl<E: Write + Drop> HostLog<E> {
         self.pause.lasts(now)
     }
 
-    /// Tells of trouble that ends the daemon, and gives its exit status.
-    pub fn refuse(&mut self, trouble: FaultWithCause) -> u8 {
-        trouble.tell(&mut self.errors);
-        trouble.fault.status()
+    /// Tells of the fault that ends the daemon, and gives its exit status.
+    pub fn refuse(&mut self, fault: FaultWithCause) -> u8 {
+        fault.tell(&mut self.errors);
+        fault.fault.status()
     }
 
     /// The store was taken.
     pub fn note_taken(&mut self) {
-        self.trouble = FirstFault::none();
+        self.first_fault = FirstFault::none();
     }
 
     /// The store can't be taken: that is told, and it is left alone for a while.
@@ -178,7 +178,7 @@ impl<E: Write + Drop> HostLog<E> {
     /// The same of a delivery, which is told of.
     pub fn note_delivery(
         &mut self,
-        parcel: &StoreDelivery,
+        request: &DeliveryRequest,
         answer: &Answer,
         code: Option<ErrorCode>,
     )
@@ -190,14 +190,14 @@ impl<E: Write + Drop> HostLog<E> {
         if self.quiet && is_delivered(answer) {
             return;
         }
-        self.tell_line(of_delivery(self.alloc, parcel, answer));
+        self.tell_line(of_delivery(self.alloc, request, answer));
     }
 
     /// Refuses a delivery, since the file at the path is no longer that of the store, and tells so.
-    pub fn refuse_delivery(&mut self, parcel: &StoreDelivery) -> Answer {
+    pub fn refuse_delivery(&mut self, request: &DeliveryRequest) -> Answer {
         let answer = Answer::Refused(Refusal::Store);
         self.count_delivery(&answer);
-        self.tell_line(of_delivery(self.alloc, parcel, &answer));
+        self.tell_line(of_delivery(self.alloc, request, &answer));
         answer
     }
 
@@ -264,11 +264,11 @@ impl<E: Write + Drop> HostLog<E> {
         ensures failed { self.new.failed ≡ events.failed_by true code self.old.failed }
         ensures tally { self.new.tally ≡ self.old.tally }
     {
-        self.trouble.note(FaultWithCause {
+        self.first_fault.note(FaultWithCause {
             fault: RunFault::Refused(Refusal::Store),
             cause: code.and_then(sqlite_cause),
         });
-        self.trouble.tell(&mut self.errors);
+        self.first_fault.tell(&mut self.errors);
         match code {
             Some(ErrorCode::DiskFull) => {}
             _ => {
@@ -282,7 +282,7 @@ impl<E: Write + Drop> HostLog<E> {
 fn user_of(account: &TimeAccount) -> Option<&[u8]> {
     match account {
         TimeAccount::User(name) => Some(name.as_slice()),
-        TimeAccount::Guests | TimeAccount::Senders => None,
+        TimeAccount::Unauthenticated | TimeAccount::Senders => None,
     }
 }
 
@@ -293,7 +293,7 @@ fn count(times: &mut u64)
     *times = times.saturating_add(1);
 }
 
-/// Tells of trouble with the store, and of its cause, if that is known.
+/// Tells of a fault of the store, and of its cause, if that is known.
 fn tell<E: Write>(errors: &mut E, refusal: Refusal, cause: Option<&'static str>) {
     let fault = RunFault::Refused(refusal);
     let cause = match refusal {

@@ -1,14 +1,15 @@
-//! A keeper, and its store while that is held.
-ghost use Rattle.std.specs.Prelude.{◌≡◌, None, IsTrue, IfErr, IfOk, IfSome, OnOk, is_some};
+//! A store that is held now and then, and who keeps the mail that moves on from it.
+ghost use Rattle.std.specs.Prelude.{◌≡◌, None, false, IsTrue, IfErr, IfOk, IfSome, OnOk, is_some};
 ghost use Rattle.lmtp_connections.specs.Connections.{IsFinding};
 ghost use Rattle.store_engine.specs.Hosts.{IsGivenUp, SessionMap};
 ghost use Rattle.store_engine.specs.Terms.{terms_of};
-ghost use Rattle.daemon_core.specs.StoreAccess.{delivery_of};
-ghost use Rattle.daemon_host.specs.Held.{IsClean, StillShown, HostBrings, DeniesAtOnce, GivesAtOnce, HostMovesNext, SinkHasMail, Seeks};
+ghost use Rattle.store_lock.specs.Taken.{DeniesStore, GivesStore};
+ghost use Rattle.daemon_core.specs.StoreAccess.{access_state, delivery_of};
+ghost use Rattle.daemon_host.specs.Held.{IsClean, StillShown, HostBrings, HostMovesNext, SinkHasMail, Seeks};
 ghost use Rattle.daemon_core.specs.Moves.{HasKept};
 
-use daemon_core::account::find_account;
-use lmtp_connections::StoreDelivery;
+use daemon_core::recipient_account::find_account;
+use lmtp_connections::DeliveryRequest;
 use lmtp_dialogue::Lookup;
 use maildir_files::MailSink;
 use maildir_moves::{Moving, Route, move_next};
@@ -16,15 +17,13 @@ use sieve_exec::When;
 use sqlite::ErrorCode;
 use std::alloc::{AllocError, Global};
 use std::io::ErrorKind;
-use store_accounts::Store;
 use store_engine::{Answer, Clients, Envelope, Event, Refusal, apply, deliver};
-use store_lock::{Keeper, StoreUnavailable};
+use store_lock::{HeldStore, Keeper, StoreUnavailable};
 
-/// The keeper of a store, and the store while it is held.
+/// A store that is held now and then, and who keeps the mail that moves on from it.
 #[derive(Drop)]
 pub struct HostStore<K: Keeper + Drop, T: MailSink + Drop> {
-    keeper: K,
-    store: Option<Store<K::S>>,
+    held: HeldStore<K>,
     /// Who keeps the mail that moves on.
     sink: T,
 }
@@ -33,8 +32,7 @@ impl<K: Keeper + Drop, T: MailSink + Drop> HostStore<K, T> {
     /// The store isn't held yet.
     pub fn new(keeper: K, sink: T) -> HostStore<K, T> {
         HostStore {
-            keeper,
-            store: None,
+            held: HeldStore::new(keeper),
             sink,
         }
     }
@@ -46,26 +44,26 @@ impl<K: Keeper + Drop, T: MailSink + Drop> HostStore<K, T> {
 
     /// Whether the store is held.
     pub fn has_store(&self) -> bool
-        ensures { result ≡ is_some self.now.store }
+        ensures { result ≡ is_some self.now.held.store }
     {
-        self.store.is_some()
+        self.held.store.is_some()
     }
 
     /// What the system or SQLite said of the last failure that the keeper answered as `Store`.
     pub fn cause(&self) -> Option<&'static str> {
-        self.keeper.cause()
+        self.held.keeper.cause()
     }
 
     /// What SQLite said of the last change that the store refused.
     pub fn code(&self) -> Option<ErrorCode> {
-        self.store.as_ref()?.cause()
+        self.held.store.as_ref()?.cause()
     }
 
     /// Whether the file at the path is still that of the store that is held: only then others find there what it answers.
     pub fn is_there(&self, path: &str) -> bool
         ensures { IsTrue K.tells → IsTrue result }
     {
-        self.keeper.is_there(path)
+        self.held.keeper.is_there(path)
     }
 
     /// Whether somebody waits for the store.
@@ -73,7 +71,7 @@ impl<K: Keeper + Drop, T: MailSink + Drop> HostStore<K, T> {
         ensures shown { StillShown K.S.Store K.tells K.holds self.old self.new }
         ensures sink { self.new.sink ≡ self.old.sink }
     {
-        self.keeper.is_awaited(path)
+        self.held.keeper.is_awaited(path)
     }
 
     /// Takes the store, if it isn't held. Nobody is waited for.
@@ -82,41 +80,30 @@ impl<K: Keeper + Drop, T: MailSink + Drop> HostStore<K, T> {
     ///
     /// Those of [`Keeper::take`].
     pub fn take(&mut self, path: &str) -> Result<(), StoreUnavailable>
-        ensures denied { IfErr result (DeniesAtOnce K.refuses K.will_wait path.now) }
-        ensures given { OnOk result (self.old.store ≡ None → GivesAtOnce K.gives K.will_wait path.now) }
+        ensures denied { IfErr result (DeniesStore K.refuses K.will_wait path.now false) }
+        ensures given { OnOk result (self.old.held.store ≡ None → GivesStore K.gives K.will_wait path.now false) }
         ensures sink { self.new.sink ≡ self.old.sink }
         ensures shown { StillShown K.S.Store K.tells K.holds self.old self.new }
     {
-        if self.store.is_some() {
-            return Ok(());
-        }
-        self.keeper.wait_for_lock(false);
-        let store = self.keeper.take(path, false)?;
-        self.store = Some(store);
-        Ok(())
+        self.held.take(path, false)
     }
 
     /// Gives the store back, if it is held. Returns why it couldn't be closed, if it couldn't: what was committed stays.
     pub fn give_back(&mut self) -> Option<Refusal>
         ensures shown { IsClean K.S.Store K.tells self.new → StillShown K.S.Store K.tells K.holds self.old self.new }
-        ensures given { self.new.store ≡ None }
+        ensures given { self.new.held.store ≡ None }
         ensures sink { self.new.sink ≡ self.old.sink }
     {
-        match self.store.take() {
-            Some(store) => {
-                self.keeper.hand_back(store);
-                self.keeper.take_close_error()
-            }
-            None => None,
-        }
+        self.held.give_back();
+        self.held.keeper.take_close_error()
     }
 
     /// Applies an event to the store and the sessions, and answers it; none if the store isn't held.
     pub fn apply_event(&mut self, clients: &mut Clients, event: &Event) -> Option<Answer>
         requires { ¬ IsGivenUp event.now }
-        ensures { HostBrings K.S.Store K.tells K.holds event.now result self.old clients.old.sessions self.new clients.new.sessions }
+        ensures { HostBrings K.S.Store K.tells K.holds event.now result (access_state self.old clients.old.sessions) (access_state self.new clients.new.sessions) }
     {
-        let Some(store) = &mut self.store else {
+        let Some(store) = &mut self.held.store else {
             return None;
         };
         match apply(clients, store, event) {
@@ -130,7 +117,7 @@ impl<K: Keeper + Drop, T: MailSink + Drop> HostStore<K, T> {
         ensures found { IfSome result IsFinding }
         ensures seeks { Seeks K.S.Store K.tells K.holds user.now result self.old self.new }
     {
-        let Some(store) = &mut self.store else {
+        let Some(store) = &mut self.held.store else {
             return None;
         };
         Some(find_account(store, user))
@@ -141,19 +128,19 @@ impl<K: Keeper + Drop, T: MailSink + Drop> HostStore<K, T> {
     pub fn deliver(
         &mut self,
         alloc: Global,
-        parcel: &StoreDelivery,
+        request: &DeliveryRequest,
         when: When,
         default: Option<&[u8]>,
     ) -> Option<Answer>
-        ensures { (kept : SessionMap) → HostBrings K.S.Store K.tells K.holds (delivery_of parcel.now (terms_of when default.entry)) result self.old kept self.new kept }
+        ensures { (kept : SessionMap) → HostBrings K.S.Store K.tells K.holds (delivery_of request.now (terms_of when default.entry)) result (access_state self.old kept) (access_state self.new kept) }
     {
-        let Ok(envelope) = envelope_of(alloc, parcel) else {
+        let Ok(envelope) = envelope_of(alloc, request) else {
             return None;
         };
-        let Some(store) = &mut self.store else {
+        let Some(store) = &mut self.held.store else {
             return None;
         };
-        let (user, message) = (parcel.user.as_slice(), parcel.message.as_slice());
+        let (user, message) = (request.user.as_slice(), request.message.as_slice());
         match deliver(alloc, store, user, envelope, message, when, default) {
             Ok(report) => Some(Answer::Delivered(report)),
             Err(refusal) => Some(Answer::Refused(refusal)),
@@ -165,18 +152,18 @@ impl<K: Keeper + Drop, T: MailSink + Drop> HostStore<K, T> {
         ensures moves { HostMovesNext K.S.Store K.tells K.holds result self.old self.new }
         ensures keeps { IfSome result (λ moving. HasKept (SinkHasMail T.tells T.kept) moving self.old self.new) }
     {
-        let Some(store) = &mut self.store else {
+        let Some(store) = &mut self.held.store else {
             return None;
         };
         Some(move_next(store, &mut self.sink, route, now, fresh))
     }
 }
 
-fn envelope_of(alloc: Global, parcel: &StoreDelivery) -> Result<Envelope, AllocError>
-    ensures { IfOk result (λ envelope. envelope ≡ record { from = parcel.now.sender; to = parcel.now.recipient }) }
+fn envelope_of(alloc: Global, request: &DeliveryRequest) -> Result<Envelope, AllocError>
+    ensures { IfOk result (λ envelope. envelope ≡ record { from = request.now.sender; to = request.now.recipient }) }
 {
     Ok(Envelope {
-        from: parcel.sender.try_clone(alloc)?,
-        to: parcel.recipient.try_clone(alloc)?,
+        from: request.sender.try_clone(alloc)?,
+        to: request.recipient.try_clone(alloc)?,
     })
 }

@@ -5,8 +5,8 @@ ghost use Rattle.daemon_host.specs.Log as said;
 ghost use Rattle.daemon_host.specs.Log.{why_by, why_pairs, delivery_line, moved_line, stay_line, IsStayLine, IsStayBy, IsMovingLine, log_first_line, slow_line, user_pairs};
 ghost use Rattle.store_accounts.specs.Cells.{borrowed_octets};
 
-use daemon_log::line::{add_number, add_pair, begin, end};
-use lmtp_connections::StoreDelivery;
+use daemon_log::log_line::{add_number, add_pair, begin, end};
+use lmtp_connections::DeliveryRequest;
 use maildir_files::{KeptMail, SinkError};
 use maildir_moves::{Moving, Stay, StayReason};
 use octets::Octets;
@@ -33,15 +33,15 @@ pub fn of_beginning(alloc: Global, version: &[u8], pid: u32) -> Result<Octets, A
 /// Lack of memory is the only error. Linear in the addresses.
 pub fn of_delivery(
     alloc: Global,
-    parcel: &StoreDelivery,
+    request: &DeliveryRequest,
     answer: &Answer,
 ) -> Result<Octets, AllocError>
-    ensures { IfOk result (λ line. line ≡ delivery_line parcel.now answer.now) }
+    ensures { IfOk result (λ line. line ≡ delivery_line request.now answer.now) }
 {
     let mut line = begin(alloc, word_of(answer))?;
-    add_pair(&mut line, b"user", parcel.user.as_slice())?;
-    add_pair(&mut line, b"from", parcel.sender.as_slice())?;
-    add_pair(&mut line, b"to", parcel.recipient.as_slice())?;
+    add_pair(&mut line, b"user", request.user.as_slice())?;
+    add_pair(&mut line, b"from", request.sender.as_slice())?;
+    add_pair(&mut line, b"to", request.recipient.as_slice())?;
     add_why(&mut line, answer)?;
     end(line)
 }

@@ -2,7 +2,7 @@
 #![tactic(auto)]
 
 pub mod laws;
-pub mod line;
+pub mod log_line;
 pub mod tally;
 pub mod times;
 pub mod value;

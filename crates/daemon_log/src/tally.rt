@@ -3,7 +3,7 @@ ghost use Rattle.std.specs.Prelude.{IfOk, OnOk, ◌≡◌, true, codes};
 ghost use Rattle.daemon_log.specs.Lines.{with_pairs, log_line_of};
 ghost use Rattle.daemon_log.specs.Tallies.{mail_pairs, client_pairs, time_pairs, pairs_of, is_no_count};
 
-use crate::line::{add_number, begin, end};
+use crate::log_line::{add_number, begin, end};
 use crate::times::Times;
 use octets::Octets;
 use std::alloc::{AllocError, Global};

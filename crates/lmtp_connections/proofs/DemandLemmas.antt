@@ -7,10 +7,10 @@ use Rattle.lmtp_dialogue.specs.Dialogues.{Asking, Sending, Dialogue}
 use Rattle.lmtp_dialogue.specs.Names.{AreForms}
 use Rattle.lmtp_dialogue.specs.Receivers.{StandsIn, IsDelivery, IsKept}
 use Rattle.lmtp_dialogue.specs.Turns.{max_text}
-use Rattle.lmtp_dialogue.specs.declared.receiver.Delivery.{Delivery}
+use Rattle.lmtp_dialogue.specs.declared.receiver.ReceivedMessage.{ReceivedMessage}
 use Rattle.lmtp_dialogue.specs.declared.reply.LmtpReply.TheVariants.{HeaderTooLarge, MailLoop, StoreAway}
-use Rattle.lmtp_dialogue.specs.declared.text.TextFault.{TextFault}
-use Rattle.lmtp_dialogue.specs.declared.text.TextFault.TheVariants as trouble
+use Rattle.lmtp_dialogue.specs.declared.message_text.TextFault.{TextFault}
+use Rattle.lmtp_dialogue.specs.declared.message_text.TextFault.TheVariants as fault
 use Rattle.lmtp_connections.specs.Connections.{LmtpState, IsOwed, earlier, IsNewDelivery, BecomesWithoutStore, TooLarge, Lacked, Again, LongHeader, Circles, PutOff, has_long_text_header}
 use Rattle.lmtp_connections.specs.Stands.{reply_for, ConnectionStands, Demands, IsNextForm, FormFollows, told_before, Owes}
 use Rattle.lmtp_connections.specs.Progress.{MayAskStore, HasWaited}
@@ -18,7 +18,7 @@ use Rattle.lmtp_connections.specs.declared.addressee.Addressee.{Addressee}
 use Rattle.lmtp_connections.specs.declared.addressee.DeliveryResult.{DeliveryResult}
 use Rattle.lmtp_connections.specs.declared.addressee.DeliveryResult.TheVariants.{Refused}
 use Rattle.lmtp_connections.specs.declared.demand.Demand.TheVariants as demand
-use Rattle.lmtp_connections.specs.declared.demand.StoreDelivery.{StoreDelivery}
+use Rattle.lmtp_connections.specs.declared.demand.DeliveryRequest.{DeliveryRequest}
 use Rattle.lmtp_connections.specs.declared.demand.Question.{Question}
 use Rattle.lmtp_connections.specs.declared.connection.LmtpConnection.{LmtpConnection as Code}
 use Rattle.lmtp_connections.specs.declared.progress.LmtpProgress.{LmtpProgress}
@@ -40,9 +40,9 @@ around {X = X} xs before after i x is count = ap (λ (l : List X). length l) is 
 abbrev pub AsksFor : Code → List ℕ → Type 0
 AsksFor c address = (d : Dialogue) → StandsIn c.receiver d → (sender : List ℕ) × (taken : List (List ℕ)) × (d.phase ≡ Asking sender taken address)
 
-pub put_off : (now : ℕ) (c : Code) (address : List ℕ) → AsksFor c address → HasWaited now c.tally → Demands now c demand.PutOff
+pub put_off : (now : ℕ) (c : Code) (address : List ℕ) → AsksFor c address → HasWaited now c.progress → Demands now c demand.PutOff
 put_off now c address asks waited = λ p stands.
-    let a = asks p.dialogue stands.holds.dialogue in (subst (HasWaited now) stands.holds.tally waited, (a.0, a.1, address, a.2))
+    let a = asks p.dialogue stands.holds.dialogue in (subst (HasWaited now) stands.holds.progress waited, (a.0, a.1, address, a.2))
 
 next_is : (tried : ℕ) (others : List (List ℕ)) (count : ℕ) (following : Option ℕ) → count ≡ suc tried + length others → FormFollows tried count following → IsNextForm tried following others
 next_is tried [] count None is follows = refl
@@ -51,73 +51,73 @@ next_is tried [] count (Some next) is follows = absurd (omega (arith, is, follow
 next_is tried (form ∷ others) count (Some next) is follows = (follows.0, (form, others, refl))
 
 pub account : (now : ℕ) (c : Code) (question : Question) (forms : List (List ℕ)) → AsksFor c question.address → AreForms c.names question.address forms
-    → slice_get forms c.tally.tried ≡ Some question.user → FormFollows c.tally.tried (length forms) question.next → MayAskStore now c.tally → Demands now c (demand.Account question)
+    → slice_get forms c.progress.tried ≡ Some question.user → FormFollows c.progress.tried (length forms) question.next → MayAskStore now c.progress → Demands now c (demand.Account question)
 account now c question forms asks are there follows may = λ p stands.
     let a = asks p.dialogue stands.holds.dialogue in
-    let at = split forms c.tally.tried question.user there in
-    let tried : c.tally.tried ≡ p.tally.tried = ap (λ (t : LmtpProgress). t.tried) stands.holds.tally in
-    let count : length forms ≡ suc c.tally.tried + length at.0 = around forms (take c.tally.tried forms) at.0 c.tally.tried question.user at.1 at.2 in (
-      subst (MayAskStore now) stands.holds.tally may,
+    let at = split forms c.progress.tried question.user there in
+    let tried : c.progress.tried ≡ p.progress.tried = ap (λ (t : LmtpProgress). t.tried) stands.holds.progress in
+    let count : length forms ≡ suc c.progress.tried + length at.0 = around forms (take c.progress.tried forms) at.0 c.progress.tried question.user at.1 at.2 in (
+      subst (MayAskStore now) stands.holds.progress may,
       (
         at.0,
         record {
           sender = a.0;
           taken = a.1;
           asks = a.2;
-          before = take c.tally.tried forms;
-          forms = subst (λ n. AreForms n question.address (take c.tally.tried forms ++ question.user ∷ at.0)) stands.holds.names (subst (AreForms c.names question.address) at.1 are);
+          before = take c.progress.tried forms;
+          forms = subst (λ n. AreForms n question.address (take c.progress.tried forms ++ question.user ∷ at.0)) stands.holds.names (subst (AreForms c.names question.address) at.1 are);
           count = at.2 ∙ tried;
         },
-        subst (λ n. IsNextForm n question.next at.0) tried (next_is c.tally.tried at.0 (length forms) question.next count follows),
+        subst (λ n. IsNextForm n question.next at.0) tried (next_is c.progress.tried at.0 (length forms) question.next count follows),
       ),
     )
 
 -- ---- a reply is owed
 
-abbrev pub Delivers : Code → Delivery → Type 0
-Delivers c delivery = (d : Dialogue) → StandsIn c.receiver d → IsDelivery d delivery
+abbrev pub Delivers : Code → ReceivedMessage → Type 0
+Delivers c received = (d : Dialogue) → StandsIn c.receiver d → IsDelivery d received
 
 -- to the recipient that stands there
-pub record OwesNext (c : Code) (it : Addressee) (delivery : Delivery) (p : LmtpState) : Type 0 where
+pub record OwesNext (c : Code) (it : Addressee) (received : ReceivedMessage) (p : LmtpState) : Type 0 where
   pub after : List Addressee
   pub text : List ℕ
-  pub is : IsOwed p (told_before c) it after delivery.sender.now text
-  pub kept : IsKept text delivery.text
+  pub is : IsOwed p (told_before c) it after received.sender.now text
+  pub kept : IsKept text received.text
 
-pub owes_next : (c : Code) (it : Addressee) (delivery : Delivery) → Delivers c delivery → slice_get c.addressees.items c.tally.told ≡ Some it → it.address ≡ delivery.recipient.now
-    → (p : LmtpState) → ConnectionStands c p → OwesNext c it delivery p
-owes_next c it delivery delivers there same p stands =
+pub owes_next : (c : Code) (it : Addressee) (received : ReceivedMessage) → Delivers c received → slice_get c.addressees.items c.progress.told ≡ Some it → it.address ≡ received.recipient.now
+    → (p : LmtpState) → ConnectionStands c p → OwesNext c it received p
+owes_next c it received delivers there same p stands =
     let d = delivers p.dialogue stands.holds.dialogue in
-    let at = split c.addressees.items c.tally.told it there in
+    let at = split c.addressees.items c.progress.told it there in
     record {
       after = at.0;
       text = d.text;
       is = record {
         left = d.left;
         rest = d.rest;
-        owed = subst (λ x. p.dialogue.phase ≡ Sending delivery.sender.now (x ∷ d.left)) (sym same) d.owed;
+        owed = subst (λ x. p.dialogue.phase ≡ Sending received.sender.now (x ∷ d.left)) (sym same) d.owed;
         first = d.first;
         addressees = sym stands.holds.addressees ∙ at.1;
-        count = at.2 ∙ ap (λ (t : LmtpProgress). t.told) stands.holds.tally;
+        count = at.2 ∙ ap (λ (t : LmtpProgress). t.told) stands.holds.progress;
       };
       kept = d.kept;
     }
 
-module _ (now : ℕ) (c : Code) (it : Addressee) (delivery : Delivery) (delivers : Delivers c delivery) (there : slice_get c.addressees.items c.tally.told ≡ Some it) (same : it.address ≡ delivery.recipient.now) where
-  pub owes : (text : Bor (List ℕ)) → delivery.text ≡ Ok text → Owes c it delivery.sender.now text.now
+module _ (now : ℕ) (c : Code) (it : Addressee) (received : ReceivedMessage) (delivers : Delivers c received) (there : slice_get c.addressees.items c.progress.told ≡ Some it) (same : it.address ≡ received.recipient.now) where
+  pub owes : (text : Bor (List ℕ)) → received.text ≡ Ok text → Owes c it received.sender.now text.now
   owes text is = λ p stands.
-      let o = owes_next c it delivery delivers there same p stands in
+      let o = owes_next c it received delivers there same p stands in
       let kept : (text.now ≡ o.text) × (length o.text ≤ max_text) = subst (IsKept o.text) is o.kept in
-      (o.after, subst (IsOwed p (told_before c) it o.after delivery.sender.now) (sym kept.0) o.is, subst (λ x. length x ≤ max_text) (sym kept.0) kept.1)
+      (o.after, subst (IsOwed p (told_before c) it o.after received.sender.now) (sym kept.0) o.is, subst (λ x. length x ≤ max_text) (sym kept.0) kept.1)
 
-  becomes : (trouble : TextFault) (p : LmtpState) (text : List ℕ) → IsKept text (Err trouble) → BecomesWithoutStore now p (told_before c) it text (Refused (reply_for trouble))
-  becomes trouble.TooLarge p text kept = TooLarge kept refl
-  becomes trouble.Memory p text kept = Lacked refl
+  becomes : (fault : TextFault) (p : LmtpState) (text : List ℕ) → IsKept text (Err fault) → BecomesWithoutStore now p (told_before c) it text (Refused (reply_for fault))
+  becomes fault.TooLarge p text kept = TooLarge kept refl
+  becomes fault.Memory p text kept = Lacked refl
 
-  pub unkept : (trouble : TextFault) → delivery.text ≡ Err trouble → Demands now c (demand.Reply (Refused (reply_for trouble)))
-  unkept trouble is = λ p stands.
-      let o = owes_next c it delivery delivers there same p stands in
-      (told_before c, it, o.after, delivery.sender.now, o.text, o.is, becomes trouble p o.text (subst (IsKept o.text) is o.kept))
+  pub unkept : (fault : TextFault) → received.text ≡ Err fault → Demands now c (demand.Reply (Refused (reply_for fault)))
+  unkept fault is = λ p stands.
+      let o = owes_next c it received delivers there same p stands in
+      (told_before c, it, o.after, received.sender.now, o.text, o.is, becomes fault p o.text (subst (IsKept o.text) is o.kept))
 
 module _ (now : ℕ) (c : Code) (it : Addressee) (sender text : List ℕ) (owes : Owes c it sender text) where
   pub again : (became : DeliveryResult) → earlier (told_before c) it ≡ Some became → Demands now c (demand.Reply became)
@@ -138,16 +138,16 @@ module _ (now : ℕ) (c : Code) (it : Addressee) (sender text : List ℕ) (owes 
   new_one : earlier (told_before c) it ≡ None → has_long_text_header text ≡ false → was_delivered it.address text ≡ false → (p : LmtpState) → ConnectionStands c p → IsNewDelivery (told_before c) it text
   new_one once headed straight p stands = record { small = (owes p stands).2; once = once; headed = headed; straight = straight }
 
-  pub puts_off : earlier (told_before c) it ≡ None → has_long_text_header text ≡ false → was_delivered it.address text ≡ false → HasWaited now c.tally → Demands now c (demand.Reply (Refused StoreAway))
+  pub puts_off : earlier (told_before c) it ≡ None → has_long_text_header text ≡ false → was_delivered it.address text ≡ false → HasWaited now c.progress → Demands now c (demand.Reply (Refused StoreAway))
   puts_off once headed straight waited = λ p stands.
       let o = owes p stands in
-      (told_before c, it, o.0, sender, text, o.1, PutOff (new_one once headed straight p stands) (subst (HasWaited now) stands.holds.tally waited) refl)
+      (told_before c, it, o.0, sender, text, o.1, PutOff (new_one once headed straight p stands) (subst (HasWaited now) stands.holds.progress waited) refl)
 
-  pub delivery : earlier (told_before c) it ≡ None → has_long_text_header text ≡ false → was_delivered it.address text ≡ false → MayAskStore now c.tally → (parcel : StoreDelivery) → parcel.user ≡ it.user → parcel.sender ≡ sender
-      → parcel.recipient ≡ it.address → IsCopy sender it.address text parcel.message → Demands now c (demand.Delivery parcel)
-  delivery once headed straight may parcel user from to copy = λ p stands.
+  pub delivery : earlier (told_before c) it ≡ None → has_long_text_header text ≡ false → was_delivered it.address text ≡ false → MayAskStore now c.progress → (request : DeliveryRequest) → request.user ≡ it.user → request.sender ≡ sender
+      → request.recipient ≡ it.address → IsCopy sender it.address text request.message → Demands now c (demand.Delivery request)
+  delivery once headed straight may request user from to copy = λ p stands.
       let o = owes p stands in (
-        subst (MayAskStore now) stands.holds.tally may,
+        subst (MayAskStore now) stands.holds.progress may,
         (
           told_before c,
           it,
@@ -157,7 +157,7 @@ module _ (now : ℕ) (c : Code) (it : Addressee) (sender text : List ℕ) (owes 
             is = subst (λ x. IsOwed p (told_before c) it o.0 x text) (sym from) o.1;
             user = user;
             recipient = to;
-            copy = subst (λ x. IsCopy x parcel.recipient text parcel.message) (sym from) (subst (λ x. IsCopy sender x text parcel.message) (sym to) copy);
+            copy = subst (λ x. IsCopy x request.recipient text request.message) (sym from) (subst (λ x. IsCopy sender x text request.message) (sym to) copy);
             new = new_one once headed straight p stands;
           },
         ),

@@ -6,12 +6,12 @@ use Rattle.lmtp_dialogue.specs.Replies.{lmtp_line_of, first_octet}
 use Rattle.lmtp_dialogue.specs.declared.name.Names.TheVariants.{Local}
 use Rattle.lmtp_dialogue.specs.declared.receiver.Lookup.TheVariants.{Known, Unknown, Away}
 use Rattle.lmtp_dialogue.specs.declared.reply.LmtpReply.TheVariants.{NoSuchUser, NoRoom, StoreAway}
-use Rattle.lmtp_connections.specs.Connections.{LmtpState, LookupFinds, IsFinding, IsNewDelivery, BecomesWithoutStore, TooLarge, Lacked, Again, LongHeader, Circles, PutOff, IsStoreDelivery, earlier, has_long_text_header, taken_with, next_form}
+use Rattle.lmtp_connections.specs.Connections.{LmtpState, LookupFinds, IsFinding, IsNewDelivery, BecomesWithoutStore, TooLarge, Lacked, Again, LongHeader, Circles, PutOff, IsDeliveryRequest, earlier, has_long_text_header, taken_with, next_form}
 use Rattle.lmtp_connections.specs.Progress.{new_progress, MayAskStore, HasWaited, progress_done}
 use Rattle.lmtp_connections.specs.declared.addressee.Addressee.{Addressee}
 use Rattle.lmtp_connections.specs.declared.addressee.DeliveryResult.{DeliveryResult}
 use Rattle.lmtp_connections.specs.declared.addressee.DeliveryResult.TheVariants.{Refused}
-use Rattle.lmtp_connections.specs.declared.demand.StoreDelivery.{StoreDelivery}
+use Rattle.lmtp_connections.specs.declared.demand.DeliveryRequest.{DeliveryRequest}
 use Rattle.lmtp_connections.specs.declared.progress.LmtpProgress.{LmtpProgress}
 use Rattle.lmtp_connections.specs.declared.progress.StoreWait.TheVariants.{Nothing, Store}
 
@@ -19,7 +19,7 @@ use Rattle.lmtp_connections.specs.declared.progress.StoreWait.TheVariants.{Nothi
 
 -- it was away for 40 seconds at one recipient, and is for 20 at the next
 abbrev waiting : ℕ → LmtpProgress
-waiting since = record { tried = 0; told = 1; waits = Store since (since + 5); spent = 40000; since = 0; guest = 0 }
+waiting since = record { tried = 0; told = 1; waits = Store since (since + 5); spent = 40000; since = 0; claim_since = 0 }
 
 put_off_then : HasWaited 120000 (waiting 100000)
 put_off_then = omega arith
@@ -39,11 +39,11 @@ asking tried = record {
   hello = [];
   dialogue = record { phase = Asking (codes "s@x") [] (codes "Ann+b@x"); unread = [] };
   addressees = [];
-  tally = record { tried = tried; told = 0; waits = Nothing; spent = 0; since = 0; guest = 0 };
+  progress = record { tried = tried; told = 0; waits = Nothing; spent = 0; since = 0; claim_since = 0 };
 }
 
 -- where another form is left nothing is said
-tried_on : (others : List (List ℕ)) → LookupFinds 7 (asking 0) (codes "Ann+b@x") (codes "Ann+b") (codes "ann+b" ∷ others) Unknown [] (record (asking 0) { tally = next_form (progress_done 7 (asking 0).tally) })
+tried_on : (others : List (List ℕ)) → LookupFinds 7 (asking 0) (codes "Ann+b@x") (codes "Ann+b") (codes "ann+b" ∷ others) Unknown [] (record (asking 0) { progress = next_form (progress_done 7 (asking 0).progress) })
 tried_on others = (refl, refl)
 
 -- near misses: 550 where another form is left; the store's absence told as what was found
@@ -60,7 +60,7 @@ taken_by_that_name = refl
 -- ---- a reply behind the text
 
 -- of a message that may be brought nothing becomes without the store, but for lack of memory: so no 250 is made up, and no 550
-nothing_without_the_store : (now : ℕ) (p : LmtpState) (before : List Addressee) (it : Addressee) (text : List ℕ) (became : DeliveryResult) → IsNewDelivery before it text → MayAskStore now p.tally
+nothing_without_the_store : (now : ℕ) (p : LmtpState) (before : List Addressee) (it : Addressee) (text : List ℕ) (became : DeliveryResult) → IsNewDelivery before it text → MayAskStore now p.progress
     → BecomesWithoutStore now p before it text became → became ≡ Refused NoRoom
 nothing_without_the_store now p before it text became new may (TooLarge large is) = absurd (omega (arith, large, new.small))
 nothing_without_the_store now p before it text became new may (Lacked is) = is
@@ -81,9 +81,9 @@ too_long_header : (text : List ℕ) → body_start text ≡ 1046377 → has_long
 too_long_header text is = rw is refl
 
 -- for the same account and address nothing is brought twice
-not_twice : (p : LmtpState) (other it : Addressee) (after : List Addressee) (text : List ℕ) (parcel : StoreDelivery) (became : DeliveryResult) → earlier (other ∷ []) it ≡ Some became
-    → IsStoreDelivery p (other ∷ []) it after text parcel → ⊥
-not_twice p other it after text parcel became there is = let never : None ≡ Some became = sym is.new.once ∙ there in cc
+not_twice : (p : LmtpState) (other it : Addressee) (after : List Addressee) (text : List ℕ) (request : DeliveryRequest) (became : DeliveryResult) → earlier (other ∷ []) it ≡ Some became
+    → IsDeliveryRequest p (other ∷ []) it after text request → ⊥
+not_twice p other it after text request became there is = let never : None ≡ Some became = sym is.new.once ∙ there in cc
 
 abbrev ann : Option DeliveryResult → Addressee
 ann became = record { user = codes "ann"; address = codes "ann@x"; became = became }
@@ -96,13 +96,13 @@ not_the_same : (became : DeliveryResult) → earlier (record { user = codes "ann
 not_the_same became = refl
 
 -- near misses: brought to another form of the name; sender and recipient swapped
-abbrev swapped : List ℕ → StoreDelivery
+abbrev swapped : List ℕ → DeliveryRequest
 swapped message = record { user = codes "ann"; sender = codes "ann@x"; recipient = codes "s@x"; message = message }
 
-not_to_another : (p : LmtpState) (before after : List Addressee) (text : List ℕ) (parcel : StoreDelivery) → IsStoreDelivery p before (ann None) after text parcel → parcel.user ≡ codes "Ann" → ⊥
-not_to_another p before after text parcel is user = let never : codes "ann" ≡ codes "Ann" = sym is.user ∙ user in cc
+not_to_another : (p : LmtpState) (before after : List Addressee) (text : List ℕ) (request : DeliveryRequest) → IsDeliveryRequest p before (ann None) after text request → request.user ≡ codes "Ann" → ⊥
+not_to_another p before after text request is user = let never : codes "ann" ≡ codes "Ann" = sym is.user ∙ user in cc
 
-not_swapped : (p : LmtpState) (before after : List Addressee) (text message : List ℕ) → IsStoreDelivery p before (ann None) after text (swapped message) → ⊥
+not_swapped : (p : LmtpState) (before after : List Addressee) (text message : List ℕ) → IsDeliveryRequest p before (ann None) after text (swapped message) → ⊥
 not_swapped p before after text message is = let never : codes "s@x" ≡ codes "ann@x" = is.recipient in cc
 
 -- a fault of the host is told so that the mail stays: its code begins with 4

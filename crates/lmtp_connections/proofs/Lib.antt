@@ -1,3 +1,3 @@
 pub mod DemandLemmas
 mod Examples
-pub mod PostLemmas
+pub mod ConnectionLemmas

@@ -14,7 +14,7 @@ use Rattle.lmtp_dialogue.specs.declared.reply.LmtpReply.TheVariants.{MessageTooL
 use Rattle.lmtp_connections.specs.declared.addressee.Addressee.{Addressee}
 use Rattle.lmtp_connections.specs.declared.addressee.DeliveryResult.{DeliveryResult}
 use Rattle.lmtp_connections.specs.declared.addressee.DeliveryResult.TheVariants.{Delivered, Refused}
-use Rattle.lmtp_connections.specs.declared.demand.StoreDelivery.{StoreDelivery}
+use Rattle.lmtp_connections.specs.declared.demand.DeliveryRequest.{DeliveryRequest}
 use Rattle.lmtp_connections.specs.declared.progress.LmtpProgress.{LmtpProgress}
 use Rattle.lmtp_connections.specs.Progress.{new_progress, MayAskStore, HasWaited, progress_away, progress_done, progress_settled, progress_heard}
 
@@ -27,12 +27,12 @@ pub record LmtpState : Type 0 where
   pub hello : List ℕ
   pub dialogue : Dialogue
   pub addressees : List Addressee
-  pub tally : LmtpProgress
+  pub progress : LmtpProgress
 
 -- one that has just come
 abbrev pub new_lmtp_state : Names → List ℕ → ℕ → LmtpState
 new_lmtp_state names host now =
-    record { names = names; hello = lmtp_capabilities host; dialogue = new_dialogue; addressees = []; tally = new_progress now }
+    record { names = names; hello = lmtp_capabilities host; dialogue = new_dialogue; addressees = []; progress = new_progress now }
 
 -- a transaction is open, until the last reply after its text
 abbrev pub is_transaction_open : DialoguePhase → Bool
@@ -49,7 +49,7 @@ is_sending phase = false
 
 -- octets came
 abbrev pub lmtp_state_heard : ℕ → List ℕ → LmtpState → LmtpState
-lmtp_state_heard now piece p = record p { dialogue = dialogue_given piece p.dialogue; tally = progress_heard now (is_sending p.dialogue.phase) (length piece) p.tally }
+lmtp_state_heard now piece p = record p { dialogue = dialogue_given piece p.dialogue; progress = progress_heard now (is_sending p.dialogue.phase) (length piece) p.progress }
 
 abbrev pub has_some : List Addressee → Bool
 has_some [] = false
@@ -57,10 +57,10 @@ has_some (it ∷ others) = true
 
 -- the dialogue goes on so, with these recipients; if no transaction is open any more nothing of it is left
 abbrev pub lmtp_state_after : ℕ → Dialogue → List Addressee → LmtpProgress → LmtpState → LmtpState
-lmtp_state_after now later addressees tally p = record p {
+lmtp_state_after now later addressees progress p = record p {
   dialogue = later;
   addressees = if is_transaction_open later.phase then addressees else [];
-  tally = progress_settled now (is_transaction_open later.phase) (has_some addressees) tally;
+  progress = progress_settled now (is_transaction_open later.phase) (has_some addressees) progress;
 }
 
 -- ---- what is done for it
@@ -75,20 +75,20 @@ pub data LmtpStep : Type 0 where
   -- the store was asked for, and wasn't available
   Away : LmtpStep
   -- a message was to be delivered by the store, and this became of it
-  Brought : StoreDelivery → DeliveryResult → LmtpStep
+  Brought : DeliveryRequest → DeliveryResult → LmtpStep
 
 -- ---- a line
 
 pub record AnswersLine (now : ℕ) (p : LmtpState) (said : List ℕ) (q : LmtpState) : Type 0 where
   pub later : Dialogue
   pub answers : DialogueAnswers p.hello p.dialogue said later
-  pub leaves : q ≡ lmtp_state_after now later p.addressees p.tally p
+  pub leaves : q ≡ lmtp_state_after now later p.addressees p.progress p
 
 -- there was room for this many octets, and the MAIL that comes first announces more
 pub record DeclinesLine (now room : ℕ) (p : LmtpState) (said : List ℕ) (q : LmtpState) : Type 0 where
   pub later : Dialogue
   pub declines : Declines room p.dialogue said later
-  pub leaves : q ≡ lmtp_state_after now later p.addressees p.tally p
+  pub leaves : q ≡ lmtp_state_after now later p.addressees p.progress p
 
 -- ---- a recipient
 
@@ -99,7 +99,7 @@ pub record IsFormAsked (p : LmtpState) (address user : List ℕ) (others : List 
   pub asks : p.dialogue.phase ≡ Asking sender taken address
   pub before : List (List ℕ)
   pub forms : AreForms p.names address (before ++ user ∷ others)
-  pub count : length before ≡ p.tally.tried
+  pub count : length before ≡ p.progress.tried
 
 abbrev pub next_form : LmtpProgress → LmtpProgress
 next_form t = record t { tried = t.tried + 1 }
@@ -116,11 +116,11 @@ taken_with lookup user address addressees = addressees
 pub record Resolved (now : ℕ) (p : LmtpState) (lookup : Lookup) (addressees : List Addressee) (said : List ℕ) (q : LmtpState) : Type 0 where
   pub later : Dialogue
   pub resolves : Resolves p.dialogue lookup said later
-  pub leaves : q ≡ lmtp_state_after now later addressees (first_form p.tally) p
+  pub leaves : q ≡ lmtp_state_after now later addressees (first_form p.progress) p
 
 -- the store has said what is found; only if there is none under the last form there is none
 abbrev pub LookupFinds : ℕ → LmtpState → List ℕ → List ℕ → List (List ℕ) → Lookup → List ℕ → LmtpState → Type 0
-LookupFinds now p address user (next ∷ others) Unknown said q = (said ≡ []) × (q ≡ record p { tally = next_form (progress_done now p.tally) })
+LookupFinds now p address user (next ∷ others) Unknown said q = (said ≡ []) × (q ≡ record p { progress = next_form (progress_done now p.progress) })
 LookupFinds now p address user others lookup said q = Resolved now p lookup (taken_with lookup user address p.addressees) said q
 
 -- the store's absence is no finding
@@ -142,7 +142,7 @@ pub record IsOwed (p : LmtpState) (before : List Addressee) (it : Addressee) (af
   pub owed : p.dialogue.phase ≡ Sending sender (it.address ∷ left)
   pub first : IsNextItem p.dialogue (Message text) rest
   pub addressees : p.addressees ≡ before ++ it ∷ after
-  pub count : length before ≡ p.tally.told
+  pub count : length before ≡ p.progress.told
 
 -- the same account, with the same address
 abbrev pub is_same : Addressee → Addressee → Bool
@@ -181,7 +181,7 @@ pub data BecomesWithoutStore (now : ℕ) (p : LmtpState) (before : List Addresse
   Again : earlier before it ≡ Some became → BecomesWithoutStore now p before it text became
   LongHeader : has_long_text_header text ≡ true → became ≡ Refused HeaderTooLarge → BecomesWithoutStore now p before it text became
   Circles : was_delivered it.address text ≡ true → became ≡ Refused MailLoop → BecomesWithoutStore now p before it text became
-  PutOff : IsNewDelivery before it text → HasWaited now p.tally → became ≡ Refused StoreAway → BecomesWithoutStore now p before it text became
+  PutOff : IsNewDelivery before it text → HasWaited now p.progress → became ≡ Refused StoreAway → BecomesWithoutStore now p before it text became
 
 abbrev pub next_recipient : LmtpProgress → LmtpProgress
 next_recipient t = record t { told = t.told + 1 }
@@ -189,7 +189,7 @@ next_recipient t = record t { told = t.told + 1 }
 -- after the reply: what became of the message is noted
 abbrev pub lmtp_state_told : ℕ → DeliveryResult → (p : LmtpState) (before : List Addressee) (it : Addressee) (after : List Addressee) (sender text : List ℕ) → IsOwed p before it after sender text → LmtpState
 lmtp_state_told now became p before it after sender text is =
-    lmtp_state_after now (replied sender is.left p.dialogue is.rest) (before ++ record it { became = Some became } ∷ after) (next_recipient p.tally) p
+    lmtp_state_after now (replied sender is.left p.dialogue is.rest) (before ++ record it { became = Some became } ∷ after) (next_recipient p.progress) p
 
 -- the reply is made
 pub record Replied (now : ℕ) (p : LmtpState) (became : DeliveryResult) (said : List ℕ) (q : LmtpState) : Type 0 where
@@ -203,11 +203,11 @@ pub record Replied (now : ℕ) (p : LmtpState) (became : DeliveryResult) (said :
   pub leaves : q ≡ lmtp_state_told now became p before it after sender text is
 
 -- the message that is delivered: to the account of the recipient to whom a reply is owed next, from the sender, and its copy
-pub record IsStoreDelivery (p : LmtpState) (before : List Addressee) (it : Addressee) (after : List Addressee) (text : List ℕ) (parcel : StoreDelivery) : Type 0 where
-  pub is : IsOwed p before it after parcel.sender text
-  pub user : parcel.user ≡ it.user
-  pub recipient : parcel.recipient ≡ it.address
-  pub copy : IsCopy parcel.sender parcel.recipient text parcel.message
+pub record IsDeliveryRequest (p : LmtpState) (before : List Addressee) (it : Addressee) (after : List Addressee) (text : List ℕ) (request : DeliveryRequest) : Type 0 where
+  pub is : IsOwed p before it after request.sender text
+  pub user : request.user ≡ it.user
+  pub recipient : request.recipient ≡ it.address
+  pub copy : IsCopy request.sender request.recipient text request.message
   pub new : IsNewDelivery before it text
 
 -- ---- one step
@@ -215,21 +215,21 @@ pub record IsStoreDelivery (p : LmtpState) (before : List Addressee) (it : Addre
 -- the store is asked for: for an account, or for a delivery
 abbrev pub LmtpAsksStore : LmtpState → Type 0
 LmtpAsksStore p = ((address user : List ℕ) × (others : List (List ℕ)) × IsFormAsked p address user others)
-    ⊎ ((before : List Addressee) × (it : Addressee) × (after : List Addressee) × (text : List ℕ) × (parcel : StoreDelivery) × IsStoreDelivery p before it after text parcel)
+    ⊎ ((before : List Addressee) × (it : Addressee) × (after : List Addressee) × (text : List ℕ) × (request : DeliveryRequest) × IsDeliveryRequest p before it after text request)
 
 -- a line is answered; a recipient is put off if the store was away for too long; or a reply is made after the text
 abbrev pub AnswersWithoutStore : ℕ → LmtpState → List ℕ → LmtpState → Type 0
 AnswersWithoutStore now p said q =
     AnswersLine now p said q
-    ⊎ ((HasWaited now p.tally × Resolved now p Absent p.addressees said q)
+    ⊎ ((HasWaited now p.progress × Resolved now p Absent p.addressees said q)
     ⊎ ((became : DeliveryResult) × (replies : Replied now p became said q) × BecomesWithoutStore now p replies.before replies.it replies.text became))
 
 abbrev pub LmtpGoes : ℕ → LmtpState → LmtpStep → List ℕ → LmtpState → Type 0
 LmtpGoes now p Answered said q = AnswersWithoutStore now p said q
 LmtpGoes now p (Declined room) said q = DeclinesLine now room p said q
 LmtpGoes now p (Asked user lookup) said q =
-    MayAskStore now p.tally × IsFinding lookup
+    MayAskStore now p.progress × IsFinding lookup
     × ((address : List ℕ) × (others : List (List ℕ)) × IsFormAsked p address user others × LookupFinds now p address user others lookup said q)
-LmtpGoes now p Away said q = MayAskStore now p.tally × LmtpAsksStore p × (said ≡ []) × (q ≡ record p { tally = progress_away now p.tally })
-LmtpGoes now p (Brought parcel became) said q =
-    MayAskStore now p.tally × ((replies : Replied now p became said q) × IsStoreDelivery p replies.before replies.it replies.after replies.text parcel)
+LmtpGoes now p Away said q = MayAskStore now p.progress × LmtpAsksStore p × (said ≡ []) × (q ≡ record p { progress = progress_away now p.progress })
+LmtpGoes now p (Brought request became) said q =
+    MayAskStore now p.progress × ((replies : Replied now p became said q) × IsDeliveryRequest p replies.before replies.it replies.after replies.text request)

@@ -23,7 +23,7 @@ after_span now span = (now + span) % 2 ^ 64
 
 -- that of a new message
 abbrev pub new_progress : ℕ → LmtpProgress
-new_progress now = record { tried = 0; told = 0; waits = Nothing; spent = 0; since = now; guest = now }
+new_progress now = record { tried = 0; told = 0; waits = Nothing; spent = 0; since = now; claim_since = now }
 
 -- ---- the store
 
@@ -57,7 +57,7 @@ progress_done now t = record t { waits = Nothing; spent = waited now t; since = 
 -- after something that was done, while a transaction is open or none is, with a recipient that was taken or without; and it is without one
 -- from now on at the earliest if it had one
 abbrev pub progress_settled : ℕ → Bool → Bool → LmtpProgress → LmtpProgress
-progress_settled now opened taken t = record (if opened then progress_done now t else new_progress now) { guest = if taken then now else t.guest }
+progress_settled now opened taken t = record (if opened then progress_done now t else new_progress now) { claim_since = if taken then now else t.claim_since }
 
 -- ---- the client
 

@@ -11,9 +11,9 @@ use Rattle.lmtp_dialogue.specs.declared.receiver.LmtpStage.TheVariants as stage
 use Rattle.lmtp_dialogue.specs.Turns.{Declines, Resolves, max_text}
 use Rattle.lmtp_dialogue.specs.declared.reply.LmtpReply.{LmtpReply}
 use Rattle.lmtp_dialogue.specs.declared.reply.LmtpReply.TheVariants.{MessageTooLarge, NoRoom}
-use Rattle.lmtp_dialogue.specs.declared.text.TextFault.{TextFault}
-use Rattle.lmtp_dialogue.specs.declared.text.TextFault.TheVariants.{TooLarge, Memory}
-use Rattle.lmtp_connections.specs.Connections.{LmtpState, has_some, lmtp_state_after, lmtp_state_heard, LmtpStep, Declined, LmtpGoes, LmtpAsksStore, IsFormAsked, first_form, IsOwed, BecomesWithoutStore, said_for, lmtp_state_told, IsStoreDelivery}
+use Rattle.lmtp_dialogue.specs.declared.message_text.TextFault.{TextFault}
+use Rattle.lmtp_dialogue.specs.declared.message_text.TextFault.TheVariants.{TooLarge, Memory}
+use Rattle.lmtp_connections.specs.Connections.{LmtpState, has_some, lmtp_state_after, lmtp_state_heard, LmtpStep, Declined, LmtpGoes, LmtpAsksStore, IsFormAsked, first_form, IsOwed, BecomesWithoutStore, said_for, lmtp_state_told, IsDeliveryRequest}
 use Rattle.lmtp_connections.specs.Progress.{MayAskStore, HasWaited, progress_settled, wanted}
 use Rattle.lmtp_connections.specs.declared.addressee.Addressee.{Addressee}
 use Rattle.lmtp_connections.specs.declared.addressee.DeliveryResult.{DeliveryResult}
@@ -28,7 +28,7 @@ abbrev pub wanted_for : Next → Wanted
 wanted_for next.Need = More
 wanted_for next.Line = Step
 wanted_for (next.Recipient address) = Step
-wanted_for (next.Delivery delivery) = Step
+wanted_for (next.Delivery received) = Step
 wanted_for next.Over = Done
 
 abbrev pub Wants : Dialogue → Wanted → Type 0
@@ -40,7 +40,7 @@ pub record ConnectionHolds (c : Code) (p : LmtpState) : Type 0 where
   pub hello : c.receiver.talk.hello ≡ p.hello
   pub dialogue : StandsIn c.receiver p.dialogue
   pub addressees : c.addressees.items ≡ p.addressees
-  pub tally : c.tally ≡ p.tally
+  pub progress : c.progress ≡ p.progress
 
 -- the connection for which it stands
 pub record ConnectionStands (c : Code) (p : LmtpState) : Type 0 where
@@ -56,7 +56,7 @@ owed_by [] Done since = None
 owed_by (it ∷ others) wanted since = None
 
 abbrev pub owed_since : Code → Option ℕ
-owed_since c = owed_by c.addressees.items (wanted c.comes c.tally) c.tally.guest
+owed_since c = owed_by c.addressees.items (wanted c.comes c.progress) c.progress.claim_since
 
 -- its client has said LHLO
 abbrev pub has_said_at : LmtpStage → Bool
@@ -89,11 +89,11 @@ pub record Settles (now : ℕ) (c e : Code) : Type 0 where
   pub names : e.names ≡ c.names
   pub receiver : e.receiver ≡ c.receiver
   pub addressees : e.addressees.items ≡ (if is_open_at c.receiver.talk.stage then c.addressees.items else [])
-  pub tally : e.tally ≡ progress_settled now (is_open_at c.receiver.talk.stage) (has_some c.addressees.items) c.tally
+  pub progress : e.progress ≡ progress_settled now (is_open_at c.receiver.talk.stage) (has_some c.addressees.items) c.progress
 
 -- what follows from what goes on in the dialogue
 abbrev pub ConnectionGoesOn : ℕ → Code → Code → Type 0
-ConnectionGoesOn now c e = (p : LmtpState) → ConnectionHolds c p → ConnectionStands e (lmtp_state_after now p.dialogue p.addressees p.tally p)
+ConnectionGoesOn now c e = (p : LmtpState) → ConnectionHolds c p → ConnectionStands e (lmtp_state_after now p.dialogue p.addressees p.progress p)
 
 -- a recipient is asked for
 abbrev pub AsksRecipient : LmtpState → Type 0
@@ -103,7 +103,7 @@ AsksRecipient p = (sender : List ℕ) × (taken : List (List ℕ)) × (address :
 abbrev pub ResolvesIt : ℕ → Lookup → List ℕ → Code → Code → Type 0
 ResolvesIt now lookup said c e =
     (p : LmtpState) → ConnectionHolds c p → AsksRecipient p
-    → (later : Dialogue) × Resolves p.dialogue lookup said later × ConnectionStands e (lmtp_state_after now later p.addressees (first_form p.tally) p)
+    → (later : Dialogue) × Resolves p.dialogue lookup said later × ConnectionStands e (lmtp_state_after now later p.addressees (first_form p.progress) p)
 
 -- the next recipient gets its reply
 abbrev pub TellsIt : ℕ → DeliveryResult → List ℕ → Code → Code → Type 0
@@ -114,7 +114,7 @@ TellsIt now became said c e =
 -- what became of the message is noted at the next recipient, and at no other
 abbrev pub NotesBecame : DeliveryResult → Code → Code → Type 0
 NotesBecame became c e =
-    (before after : List Addressee) (it : Addressee) → c.addressees.items ≡ before ++ it ∷ after → length before ≡ c.tally.told → e.addressees.items ≡ before ++ record it { became = Some became } ∷ after
+    (before after : List Addressee) (it : Addressee) → c.addressees.items ≡ before ++ it ∷ after → length before ≡ c.progress.told → e.addressees.items ≡ before ++ record it { became = Some became } ∷ after
 
 -- it stands for the same connection
 abbrev pub ConnectionKeeps : Code → Code → Type 0
@@ -130,7 +130,7 @@ ConnectionHoldsNoMore c e = ReceiverHolds c.receiver e.receiver
 
 -- this was done for it, and said
 abbrev pub ConnectionDoes : ℕ → LmtpStep → List ℕ → Code → Code → Type 0
-ConnectionDoes now deed said c e = (p : LmtpState) → ConnectionStands c p → (q : LmtpState) × LmtpGoes now p deed said q × ConnectionStands e q
+ConnectionDoes now lmtp_step said c e = (p : LmtpState) → ConnectionStands c p → (q : LmtpState) × LmtpGoes now p lmtp_step said q × ConnectionStands e q
 
 -- there is room for this many octets: a MAIL that announces more came next and was refused; or none did, and nothing changed
 abbrev pub ConnectionRefuses : ℕ → ℕ → List ℕ → Bool → Code → Code → Type 0
@@ -152,14 +152,14 @@ FormFollows tried count (Some next) = (next ≡ tried + 1) × (next < count)
 abbrev pub IsDemand : ℕ → LmtpState → Demand → Type 0
 IsDemand now p demand.Nothing = ComesNext p.dialogue next.Need ⊎ ComesNext p.dialogue next.Over
 IsDemand now p demand.Line = ComesNext p.dialogue next.Line
-IsDemand now p demand.PutOff = HasWaited now p.tally × AsksRecipient p
+IsDemand now p demand.PutOff = HasWaited now p.progress × AsksRecipient p
 IsDemand now p (demand.Account question) =
-    MayAskStore now p.tally × ((others : List (List ℕ)) × IsFormAsked p question.address question.user others × IsNextForm p.tally.tried question.next others)
+    MayAskStore now p.progress × ((others : List (List ℕ)) × IsFormAsked p question.address question.user others × IsNextForm p.progress.tried question.next others)
 IsDemand now p (demand.Reply became) =
     (before : List Addressee) × (it : Addressee) × (after : List Addressee) × (sender text : List ℕ)
     × IsOwed p before it after sender text × BecomesWithoutStore now p before it text became
-IsDemand now p (demand.Delivery parcel) =
-    MayAskStore now p.tally × ((before : List Addressee) × (it : Addressee) × (after : List Addressee) × (text : List ℕ) × IsStoreDelivery p before it after text parcel)
+IsDemand now p (demand.Delivery request) =
+    MayAskStore now p.progress × ((before : List Addressee) × (it : Addressee) × (after : List Addressee) × (text : List ℕ) × IsDeliveryRequest p before it after text request)
 
 -- what is to be done next, whatever connection it stands for
 abbrev pub Demands : ℕ → Code → Demand → Type 0
@@ -167,7 +167,7 @@ Demands now c demand = (p : LmtpState) → ConnectionStands c p → IsDemand now
 
 -- those to whom a reply was made after the text
 abbrev pub told_before : Code → List Addressee
-told_before c = take c.tally.told c.addressees.items
+told_before c = take c.progress.told c.addressees.items
 
 -- a reply is owed to this recipient next, and the text is kept
 abbrev pub Owes : Code → Addressee → List ℕ → List ℕ → Type 0
@@ -185,4 +185,4 @@ HasSlot c = vec_len c.addressees < vec_capacity c.addressees
 
 -- the store is asked for
 abbrev pub AsksIt : ℕ → Code → Type 0
-AsksIt now c = (p : LmtpState) → ConnectionStands c p → MayAskStore now p.tally × LmtpAsksStore p
+AsksIt now c = (p : LmtpState) → ConnectionStands c p → MayAskStore now p.progress × LmtpAsksStore p

@@ -3,7 +3,7 @@ ghost use Rattle.std.specs.Prelude.{◌≡◌, IfOk};
 ghost use Rattle.lmtp_dialogue.specs.Replies.{outcome_line};
 ghost use Rattle.lmtp_connections.specs.Connections as s;
 
-use lmtp_dialogue::{DeliveryOutcome, LmtpReply};
+use lmtp_dialogue::{LmtpReply, RecipientReply};
 use octets::Octets;
 use std::alloc::{AllocError, Global};
 
@@ -18,12 +18,12 @@ pub enum DeliveryResult {
 
 impl DeliveryResult {
     /// The same, as it is said.
-    pub fn outcome(&self) -> DeliveryOutcome<'_>
+    pub fn outcome(&self) -> RecipientReply<'_>
         ensures { outcome_line result ≡ s.said_for self.now }
     {
         match self {
-            DeliveryResult::Delivered(report) => DeliveryOutcome::Delivered(report.as_slice()),
-            DeliveryResult::Refused(reply) => DeliveryOutcome::Refused(*reply),
+            DeliveryResult::Delivered(report) => RecipientReply::Delivered(report.as_slice()),
+            DeliveryResult::Refused(reply) => RecipientReply::Refused(*reply),
         }
     }
 

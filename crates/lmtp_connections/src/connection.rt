@@ -3,17 +3,17 @@ ghost use Rattle.std.specs.Prelude.{◌≡◌, ◌≢◌, ◌+◌, ◌<◌, ◌�
 ghost use Rattle.lmtp_connections.specs.declared.addressee.Addressee.{Addressee};
 ghost use Rattle.lmtp_dialogue.specs.Receivers as receivers;
 ghost use Rattle.lmtp_dialogue.specs.Replies as replies;
-ghost use Rattle.lmtp_connections.specs.Connections as posts;
+ghost use Rattle.lmtp_connections.specs.Connections as connections;
 ghost use Rattle.lmtp_connections.specs.Connections.{Answered, Asked, Away, Brought};
 ghost use Rattle.lmtp_connections.specs.Stands as s;
-ghost use Rattle.lmtp_connections.specs.Progress as tallies;
+ghost use Rattle.lmtp_connections.specs.Progress as progress_rules;
 ghost use Rattle.lmtp_connections.specs.declared.demand.Demand.TheVariants as demands;
 
 use crate::addressee::{Addressee, DeliveryResult};
-use crate::demand::{Question, StoreDelivery};
+use crate::demand::{DeliveryRequest, Question};
 use crate::progress::{LmtpProgress, Wanted};
 use crate::reply_buffer::ReplyBuffer;
-use lmtp_dialogue::{DeliveryOutcome, LmtpStage, Lookup, Names, Next, Receiver};
+use lmtp_dialogue::{LmtpStage, Lookup, Names, Next, Receiver, RecipientReply};
 use octets::Octets;
 use std::alloc::{AllocError, Global};
 
@@ -30,7 +30,7 @@ pub struct LmtpConnection {
     pub(crate) comes: Wanted,
     /// The recipients that were taken, with their accounts.
     pub(crate) addressees: Vec<Addressee>,
-    pub(crate) tally: LmtpProgress,
+    pub(crate) progress: LmtpProgress,
 }
 
 impl LmtpConnection {
@@ -45,8 +45,8 @@ impl LmtpConnection {
         out: &mut Octets,
     ) -> Result<LmtpConnection, AllocError>
         requires { out.old ≡ [] }
-        ensures begins { IfOk result (λ post. s.ConnectionStands post (posts.new_lmtp_state names host.now now)) }
-        ensures empty { IfOk result (λ post. receivers.held_by post.receiver ≡ 0) }
+        ensures begins { IfOk result (λ connection. s.ConnectionStands connection (connections.new_lmtp_state names host.now now)) }
+        ensures empty { IfOk result (λ connection. receivers.held_by connection.receiver ≡ 0) }
         ensures greets { OnOk result (out.new ≡ replies.lmtp_greeting host.now) }
         ensures err { OnErr result (out.new ≡ out.old) }
     {
@@ -58,29 +58,33 @@ impl LmtpConnection {
             receiver,
             comes,
             addressees: Vec::new(alloc),
-            tally: LmtpProgress::fresh(now),
+            progress: LmtpProgress::fresh(now),
         })
     }
 
     /// What is wanted of it, once all is sent.
     pub fn wanted(&self) -> Wanted
-        ensures { result ≡ tallies.wanted self.now.comes self.now.tally }
+        ensures { result ≡ progress_rules.wanted self.now.comes self.now.progress }
     {
-        self.tally.wanted(self.comes)
+        self.progress.wanted(self.comes)
     }
 
     /// The moment by which its client is late.
     pub fn due(&self) -> u64
-        ensures { result ≡ tallies.due self.now.tally }
+        ensures { result ≡ progress_rules.due self.now.progress }
     {
-        self.tally.due()
+        self.progress.due()
     }
 
     /// Since when a client without an accepted recipient owes octets. None if it has a recipient, or if an answer is owed to it.
     pub fn owed_since(&self) -> Option<u64>
         ensures { result ≡ s.owed_since self.now }
     {
-        owed_by(self.addressees.as_slice(), self.wanted(), self.tally.guest)
+        owed_by(
+            self.addressees.as_slice(),
+            self.wanted(),
+            self.progress.claim_since,
+        )
     }
 
     /// Whether its client has said LHLO.
@@ -101,7 +105,7 @@ impl LmtpConnection {
         let sending = is_sending(self.receiver.stage());
         self.receiver.give(piece)?;
         self.comes = wanted_for(self.receiver.next());
-        self.tally = self.tally.heard(now, sending, piece.len());
+        self.progress = self.progress.heard(now, sending, piece.len());
         Ok(())
     }
 
@@ -172,7 +176,7 @@ impl LmtpConnection {
         ensures does { s.ConnectionDoes now Away [] self.old self.new }
         ensures held { s.ConnectionHoldsNoMore self.old self.new }
     {
-        self.tally = self.tally.away(now);
+        self.progress = self.progress.away(now);
     }
 
     /// The store was asked a question, and this is what was found. Returns what is said. Takes no memory.
@@ -183,7 +187,7 @@ impl LmtpConnection {
         lookup: Lookup,
         room: ReplyBuffer,
     ) -> Octets
-        requires found { posts.IsFinding lookup }
+        requires found { connections.IsFinding lookup }
         requires asked { s.Demands now self.old (demands.Account question) }
         requires slot { s.HasSlot self.old }
         ensures does { s.ConnectionDoes now (Asked question.user lookup) result self.old self.new }
@@ -216,11 +220,11 @@ impl LmtpConnection {
     // Looks for the next form of the recipient's name.
     fn try_next(&mut self, now: u64, next: usize) -> Octets
         ensures said { result ≡ [] }
-        ensures tally { self.new.tally ≡ record (tallies.progress_done now self.old.tally) { tried = next } }
-        ensures rest { self.new ≡ record self.old { tally = self.new.tally } }
+        ensures progress { self.new.progress ≡ record (progress_rules.progress_done now self.old.progress) { tried = next } }
+        ensures rest { self.new ≡ record self.old { progress = self.new.progress } }
     {
-        self.tally = self.tally.done(now);
-        self.tally.tried = next;
+        self.progress = self.progress.done(now);
+        self.progress.tried = next;
         Octets::new(self.alloc)
     }
 
@@ -230,9 +234,9 @@ impl LmtpConnection {
         ensures held { s.ConnectionHoldsNoMore self.old self.new }
     {
         self.receiver.admit(lookup);
-        self.tally.tried = 0;
+        self.progress.tried = 0;
         self.go_on(now);
-        room.say(DeliveryOutcome::Refused(lookup.reply()))
+        room.say(RecipientReply::Refused(lookup.reply()))
     }
 
     /// Makes a reply after the text without the store. Returns what is said.
@@ -251,12 +255,12 @@ impl LmtpConnection {
     pub fn answer_delivery(
         &mut self,
         now: u64,
-        parcel: &StoreDelivery,
+        request: &DeliveryRequest,
         became: DeliveryResult,
         room: ReplyBuffer,
     ) -> Octets
-        requires { s.Demands now self.old (demands.Delivery parcel.now) }
-        ensures does { s.ConnectionDoes now (Brought parcel.now became) result self.old self.new }
+        requires { s.Demands now self.old (demands.Delivery request.now) }
+        ensures does { s.ConnectionDoes now (Brought request.now became) result self.old self.new }
         ensures held { s.ConnectionHoldsNoMore self.old self.new }
     {
         self.tell(now, became, room)
@@ -277,14 +281,14 @@ impl LmtpConnection {
     // Notes what became of the message for the next recipient.
     fn note_became(&mut self, became: DeliveryResult)
         ensures noted { s.NotesBecame became self.old self.new }
-        ensures counted { self.old.tally.told < length self.old.addressees.items → self.new.tally ≡ posts.next_recipient self.old.tally }
+        ensures counted { self.old.progress.told < length self.old.addressees.items → self.new.progress ≡ connections.next_recipient self.old.progress }
         ensures receiver { self.new.receiver ≡ self.old.receiver }
         ensures names { self.new.names ≡ self.old.names }
     {
-        let told = self.tally.told;
+        let told = self.progress.told;
         if let Some(addressee) = self.addressees.get_mut(told) {
             addressee.became = Some(became);
-            self.tally.told = told + 1;
+            self.progress.told = told + 1;
         }
     }
 
@@ -302,8 +306,8 @@ impl LmtpConnection {
         ensures { s.Settles now self.old self.new }
     {
         let opened = is_open(self.receiver.stage());
-        self.tally = self
-            .tally
+        self.progress = self
+            .progress
             .settled(now, opened, has_some(self.addressees.as_slice()));
         if !opened {
             self.addressees.truncate(0);
@@ -312,7 +316,7 @@ impl LmtpConnection {
 }
 
 fn has_some(addressees: &[Addressee]) -> bool
-    ensures { result ≡ posts.has_some addressees.now }
+    ensures { result ≡ connections.has_some addressees.now }
 {
     match addressees {
         [] => false,

@@ -15,7 +15,7 @@ pub struct Question {
 
 /// A message for one recipient.
 #[derive(Drop)]
-pub struct StoreDelivery {
+pub struct DeliveryRequest {
     /// The name of the account.
     pub user: Octets,
     /// The sender's address; empty for that of a bounce.
@@ -40,5 +40,5 @@ pub enum Demand {
     /// A reply is to be made after the text, without the store.
     Reply(DeliveryResult),
     /// A message is to be delivered by the store.
-    Delivery(StoreDelivery),
+    Delivery(DeliveryRequest),
 }

@@ -11,6 +11,6 @@ pub mod reply_buffer;
 
 pub use addressee::{Addressee, DeliveryResult};
 pub use connection::LmtpConnection;
-pub use demand::{Demand, Question, StoreDelivery};
+pub use demand::{DeliveryRequest, Demand, Question};
 pub use progress::{LmtpProgress, StoreWait, Wanted};
 pub use reply_buffer::ReplyBuffer;

@@ -4,13 +4,15 @@ ghost use Rattle.std.specs.Option.{option_copied};
 ghost use Rattle.lmtp_dialogue.specs.Dialogues.{Dialogue};
 ghost use Rattle.lmtp_dialogue.specs.Copies as copies;
 ghost use Rattle.lmtp_dialogue.specs.Receivers.{StandsIn, ComesNext};
-ghost use Rattle.lmtp_connections.specs.Connections as posts;
+ghost use Rattle.lmtp_connections.specs.Connections as connections;
 ghost use Rattle.lmtp_connections.specs.Stands as s;
 
 use crate::addressee::{Addressee, DeliveryResult};
 use crate::connection::LmtpConnection;
-use crate::demand::{Demand, Question, StoreDelivery};
-use lmtp_dialogue::{Delivery, LmtpReply, Next, TextFault, copy_for, name_forms, was_delivered};
+use crate::demand::{DeliveryRequest, Demand, Question};
+use lmtp_dialogue::{
+    LmtpReply, Next, ReceivedMessage, TextFault, copy_for, name_forms, was_delivered,
+};
 use mail_head::{Head, is_header_longer};
 use octets::Octets;
 use std::alloc::{AllocError, Global};
@@ -41,7 +43,7 @@ impl LmtpConnection {
             Next::Over => Ok(Demand::Nothing),
             Next::Line => Ok(Demand::Line),
             Next::Recipient(address) => self.demand_account(now, address),
-            Next::Delivery(delivery) => self.demand_reply(now, delivery),
+            Next::Delivery(received) => self.demand_reply(now, received),
         }
     }
 
@@ -50,11 +52,11 @@ impl LmtpConnection {
         requires { (d : Dialogue) → StandsIn self.now.receiver d → ComesNext d (Next.Recipient address) }
         ensures { IfOk result (s.Demands now self.now) }
     {
-        if !self.tally.may_ask(now) {
+        if !self.progress.may_ask(now) {
             return Ok(Demand::PutOff);
         }
         let forms = name_forms(self.alloc, self.names, address)?;
-        let tried = self.tally.tried;
+        let tried = self.progress.tried;
         let Some(user) = form_at(forms.as_slice(), tried) else {
             return Err(AllocError);
         };
@@ -68,19 +70,19 @@ impl LmtpConnection {
     }
 
     // A reply is owed to the next recipient.
-    fn demand_reply(&self, now: u64, delivery: Delivery<'_>) -> Result<Demand, AllocError>
-        requires { (d : Dialogue) → StandsIn self.now.receiver d → ComesNext d (Next.Delivery delivery) }
+    fn demand_reply(&self, now: u64, received: ReceivedMessage<'_>) -> Result<Demand, AllocError>
+        requires { (d : Dialogue) → StandsIn self.now.receiver d → ComesNext d (Next.Delivery received) }
         ensures { IfOk result (s.Demands now self.now) }
     {
-        let Some(addressee) = addressee_at(self.addressees.as_slice(), self.tally.told) else {
+        let Some(addressee) = addressee_at(self.addressees.as_slice(), self.progress.told) else {
             return Err(AllocError);
         };
-        if addressee.address.as_slice() != delivery.recipient {
+        if addressee.address.as_slice() != received.recipient {
             return Err(AllocError);
         }
-        match delivery.text {
-            Ok(text) => self.demand_delivery(now, addressee, delivery.sender, text),
-            Err(trouble) => Ok(Demand::Reply(DeliveryResult::Refused(reply_for(trouble)))),
+        match received.text {
+            Ok(text) => self.demand_delivery(now, addressee, received.sender, text),
+            Err(fault) => Ok(Demand::Reply(DeliveryResult::Refused(reply_for(fault)))),
         }
     }
 
@@ -92,7 +94,7 @@ impl LmtpConnection {
         sender: &[u8],
         text: &[u8],
     ) -> Result<Demand, AllocError>
-        requires some { self.now.tally.told ≤ length self.now.addressees.items }
+        requires some { self.now.progress.told ≤ length self.now.addressees.items }
         requires owes { s.Owes self.now addressee.now sender.now text.now }
         ensures { IfOk result (s.Demands now self.now) }
     {
@@ -111,7 +113,7 @@ impl LmtpConnection {
         text: &[u8],
     ) -> Result<Demand, AllocError>
         requires owes { s.Owes self.now addressee.now sender.now text.now }
-        requires once { posts.earlier (s.told_before self.now) addressee.now ≡ None }
+        requires once { connections.earlier (s.told_before self.now) addressee.now ≡ None }
         ensures { IfOk result (s.Demands now self.now) }
     {
         if has_long_header(text) {
@@ -120,27 +122,27 @@ impl LmtpConnection {
         if circles(self.alloc, text, addressee.address.as_slice())? {
             return Ok(Demand::Reply(DeliveryResult::Refused(LmtpReply::MailLoop)));
         }
-        if !self.tally.may_ask(now) {
+        if !self.progress.may_ask(now) {
             return Ok(Demand::Reply(DeliveryResult::Refused(LmtpReply::StoreAway)));
         }
-        let parcel = parcel_for(self.alloc, addressee, sender, text)?;
-        Ok(Demand::Delivery(parcel))
+        let request = request_for(self.alloc, addressee, sender, text)?;
+        Ok(Demand::Delivery(request))
     }
 
     // Those to whom a reply was made after the text.
     fn told_before(&self) -> &[Addressee]
-        requires { self.now.tally.told ≤ length self.now.addressees.items }
+        requires { self.now.progress.told ≤ length self.now.addressees.items }
         ensures { result.now ≡ s.told_before self.now }
     {
-        &self.addressees.as_slice()[..self.tally.told]
+        &self.addressees.as_slice()[..self.progress.told]
     }
 }
 
 // What is said if the text isn't kept.
-fn reply_for(trouble: TextFault) -> LmtpReply
-    ensures { result ≡ s.reply_for trouble }
+fn reply_for(fault: TextFault) -> LmtpReply
+    ensures { result ≡ s.reply_for fault }
 {
-    match trouble {
+    match fault {
         TextFault::TooLarge => LmtpReply::MessageTooLarge,
         TextFault::Memory => LmtpReply::NoRoom,
     }
@@ -169,7 +171,7 @@ fn following(tried: usize, count: usize) -> Option<usize>
 
 // What became of the message for the same recipient among those before it.
 fn earlier<'a>(before: &'a [Addressee], addressee: &Addressee) -> Option<&'a DeliveryResult>
-    ensures { option_copied result ≡ posts.earlier before.now addressee.now }
+    ensures { option_copied result ≡ connections.earlier before.now addressee.now }
 {
     match same_among(before, addressee) {
         Some(other) => other.became.as_ref(),
@@ -179,20 +181,20 @@ fn earlier<'a>(before: &'a [Addressee], addressee: &Addressee) -> Option<&'a Del
 
 // The first of these that is the same recipient.
 fn same_among<'a>(before: &'a [Addressee], addressee: &Addressee) -> Option<&'a Addressee>
-    ensures { option_copied result ≡ find (posts.is_same addressee.now) before.now }
+    ensures { option_copied result ≡ find (connections.is_same addressee.now) before.now }
 {
     before.iter().find(|other| is_same(addressee, other))
 }
 
 fn is_same(addressee: &Addressee, other: &Addressee) -> bool
-    ensures { result ≡ posts.is_same addressee.now other.now }
+    ensures { result ≡ connections.is_same addressee.now other.now }
 {
     other.user == addressee.user && other.address == addressee.address
 }
 
 // Whether the header of a text is longer than one may be. No more octets of the text are looked at than one may have.
 fn has_long_header(text: &[u8]) -> bool
-    ensures { result ≡ posts.has_long_text_header text.now }
+    ensures { result ≡ connections.has_long_text_header text.now }
 {
     is_header_longer(text, MAX_HEADER)
 }
@@ -205,21 +207,21 @@ fn circles(alloc: Global, text: &[u8], recipient: &[u8]) -> Result<bool, AllocEr
     was_delivered(alloc, &head, recipient)
 }
 
-fn parcel_for(
+fn request_for(
     alloc: Global,
     addressee: &Addressee,
     sender: &[u8],
     text: &[u8],
-) -> Result<StoreDelivery, AllocError>
-    ensures user { IfOk result (λ parcel. parcel.user ≡ addressee.now.user) }
-    ensures sender { IfOk result (λ parcel. parcel.sender ≡ sender.now) }
-    ensures recipient { IfOk result (λ parcel. parcel.recipient ≡ addressee.now.address) }
-    ensures copy { IfOk result (λ parcel. copies.IsCopy sender.now addressee.now.address text.now parcel.message) }
+) -> Result<DeliveryRequest, AllocError>
+    ensures user { IfOk result (λ request. request.user ≡ addressee.now.user) }
+    ensures sender { IfOk result (λ request. request.sender ≡ sender.now) }
+    ensures recipient { IfOk result (λ request. request.recipient ≡ addressee.now.address) }
+    ensures copy { IfOk result (λ request. copies.IsCopy sender.now addressee.now.address text.now request.message) }
 {
     let user = addressee.user.try_clone(alloc)?;
     let recipient = addressee.address.try_clone(alloc)?;
     let message = copy_for(alloc, sender, recipient.as_slice(), text)?;
-    Ok(StoreDelivery {
+    Ok(DeliveryRequest {
         user,
         sender: Octets::from_slice(alloc, sender)?,
         recipient,

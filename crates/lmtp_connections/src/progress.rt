@@ -46,7 +46,7 @@ pub struct LmtpProgress {
     /// The moment from which on the client's silence is counted.
     pub since: u64,
     /// The moment from which its claim counts: its last step with an accepted recipient, else when it came.
-    pub guest: u64,
+    pub claim_since: u64,
 }
 
 impl LmtpProgress {
@@ -60,7 +60,7 @@ impl LmtpProgress {
             waits: StoreWait::Nothing,
             spent: 0,
             since: now,
-            guest: now,
+            claim_since: now,
         }
     }
 
@@ -95,7 +95,7 @@ impl LmtpProgress {
             waits: StoreWait::Nothing,
             spent: self.waited(now),
             since: now,
-            guest: self.guest,
+            claim_since: self.claim_since,
         }
     }
 
@@ -103,13 +103,13 @@ impl LmtpProgress {
     pub fn settled(&self, now: u64, opened: bool, taken: bool) -> LmtpProgress
         ensures { result ≡ s.progress_settled now opened taken self.now }
     {
-        let mut tally = if opened {
+        let mut progress = if opened {
             self.done(now)
         } else {
             LmtpProgress::fresh(now)
         };
-        tally.guest = if taken { now } else { self.guest };
-        tally
+        progress.claim_since = if taken { now } else { self.claim_since };
+        progress
     }
 
     /// After the store's absence.
@@ -126,7 +126,7 @@ impl LmtpProgress {
             waits: StoreWait::Store(since, now.wrapping_add(RETRY_SPAN)),
             spent: self.spent,
             since: self.since,
-            guest: self.guest,
+            claim_since: self.claim_since,
         }
     }
 
@@ -145,7 +145,7 @@ impl LmtpProgress {
             waits: self.waits,
             spent: self.spent,
             since,
-            guest: self.guest,
+            claim_since: self.claim_since,
         }
     }
 

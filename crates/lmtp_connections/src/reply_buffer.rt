@@ -3,7 +3,7 @@ ghost use Rattle.std.specs.Prelude.{◌≡◌, ◌≤◌, ◌+◌, ◌++◌, [],
 ghost use Rattle.std.specs.Vec.{vec_len, vec_capacity};
 ghost use Rattle.lmtp_dialogue.specs.Replies as replies;
 
-use lmtp_dialogue::DeliveryOutcome;
+use lmtp_dialogue::RecipientReply;
 use octets::{Octets, is_printable};
 use std::alloc::{AllocError, Global};
 
@@ -30,17 +30,17 @@ impl ReplyBuffer {
     }
 
     /// The line that tells an outcome, with CRLF. Takes no memory.
-    pub fn say(self, outcome: DeliveryOutcome<'_>) -> Octets
+    pub fn say(self, outcome: RecipientReply<'_>) -> Octets
         ensures { result ≡ replies.outcome_line outcome.entry }
     {
         let ReplyBuffer { line: mut text } = self;
         match outcome {
-            DeliveryOutcome::Delivered(report) => {
+            RecipientReply::Delivered(report) => {
                 write(&mut text, b"250 2.1.5 ");
                 write_shown(&mut text, front(report, MAX_REPORT));
                 write(&mut text, b"\r\n");
             }
-            DeliveryOutcome::Refused(reply) => write(&mut text, reply.line()),
+            RecipientReply::Refused(reply) => write(&mut text, reply.line()),
         }
         Octets::from_vec(text)
     }

@@ -8,15 +8,15 @@ use Rattle.lmtp_dialogue.specs.Talks.{phase_by, phase_of, item_by, TakesTurn, Ta
 use Rattle.lmtp_dialogue.specs.Talks.{PassesReply as TalkPasses}
 use Rattle.lmtp_dialogue.specs.Texts.{TextStandsFor, text_after}
 use Rattle.lmtp_dialogue.specs.Turns.{LmtpTurn, IsLineTurn, DialogueAnswers, Resolves, DialogueReplies, replied, taken_by, max_text}
-use Rattle.lmtp_dialogue.specs.declared.line.Found.{Found}
-use Rattle.lmtp_dialogue.specs.declared.line.Found.TheVariants.{Line}
+use Rattle.lmtp_dialogue.specs.declared.command_line.Found.{Found}
+use Rattle.lmtp_dialogue.specs.declared.command_line.Found.TheVariants.{Line}
 use Rattle.lmtp_dialogue.specs.declared.receiver.Lookup.{Lookup}
 use Rattle.lmtp_dialogue.specs.declared.receiver.Receiver.{Receiver}
 use Rattle.lmtp_dialogue.specs.declared.receiver.LmtpStage.{LmtpStage}
 use Rattle.lmtp_dialogue.specs.declared.receiver.LmtpStage.TheVariants as stage
-use Rattle.lmtp_dialogue.specs.declared.reply.DeliveryOutcome.{DeliveryOutcome}
-use Rattle.lmtp_dialogue.specs.declared.text.TextState.TheVariants.{Start, Ended}
-use Rattle.lmtp_dialogue.specs.declared.text.Text.{Text}
+use Rattle.lmtp_dialogue.specs.declared.reply.RecipientReply.{RecipientReply}
+use Rattle.lmtp_dialogue.specs.declared.message_text.TextState.TheVariants.{Start, Ended}
+use Rattle.lmtp_dialogue.specs.declared.message_text.Text.{Text}
 use Rattle.lmtp_dialogue.proofs.NextLemmas.{SendsIn, sends_in, first_line_in, no_line_in, no_text_in, text_first, owed_in}
 use Rattle.lmtp_dialogue.proofs.StageLemmas.{reads_taken, fresh_text, sound_fresh, gone_none, stage_of, stage_by}
 
@@ -177,12 +177,12 @@ admits_none r lookup other = ([], not_asked r lookup [] other)
 
 -- ---- a reply behind a text
 
-pub not_sent : (r : Receiver) (outcome : DeliveryOutcome) (out : List ℕ) → (r.talk.stage ≡ stage.Sending → ⊥) → ReceiverGoes (λ d. DialogueReplies d outcome) r r out out
+pub not_sent : (r : Receiver) (outcome : RecipientReply) (out : List ℕ) → (r.talk.stage ≡ stage.Sending → ⊥) → ReceiverGoes (λ d. DialogueReplies d outcome) r r out out
 not_sent r outcome out other = λ d stands.
     stays (λ e. DialogueReplies e outcome) r d out
     (λ octets later is. other (sym (other_stage r.talk.stage r.talk.sender r.talk.recipients r.talk.told d.phase stands.holds.phase) ∙ ap stage_of is.owed)) stands
 
-pub not_whole : (r : Receiver) (outcome : DeliveryOutcome) (out : List ℕ) → r.talk.stage ≡ stage.Sending → (r.talk.text.place ≡ Ended → ⊥) → ReceiverGoes (λ d. DialogueReplies d outcome) r r out out
+pub not_whole : (r : Receiver) (outcome : RecipientReply) (out : List ℕ) → r.talk.stage ≡ stage.Sending → (r.talk.text.place ≡ Ended → ⊥) → ReceiverGoes (λ d. DialogueReplies d outcome) r r out out
 not_whole r outcome out at goes = λ d stands.
     stays (λ e. DialogueReplies e outcome) r d out (λ octets later is. no_text_in r d at stands goes (Message is.text) is.rest is.first) stands
 
@@ -216,7 +216,7 @@ held_after r m d (next ∷ left) sends phase text limit long unread =
       limit = limit;
     }
 
-pub report_goes : (r m s : Receiver) (outcome : DeliveryOutcome) (before after : List ℕ) → r.talk.stage ≡ stage.Sending → r.talk.text.place ≡ Ended
+pub report_goes : (r m s : Receiver) (outcome : RecipientReply) (before after : List ℕ) → r.talk.stage ≡ stage.Sending → r.talk.text.place ≡ Ended
     → TalkReports r.talk m.talk (outcome_line outcome) before after → m.long ≡ r.long → m.unread ≡ r.unread → ReceiverTakesIn m s → ReceiverGoes (λ d. DialogueReplies d outcome) r s before after
 report_goes r m s outcome before after at ended reports long unread takes = λ d stands.
     let sends = sends_in r d at stands in
@@ -248,5 +248,5 @@ pub pass_goes : (r m s : Receiver) → r.talk.stage ≡ stage.Sending → r.talk
 pass_goes r m s at ended passes long unread takes = λ outcome.
     (outcome_line outcome, report_goes r m s outcome [] (outcome_line outcome) at ended (record { written = refl; passes = passes }) long unread takes)
 
-pub pass_none : (r : Receiver) → ((outcome : DeliveryOutcome) → ReceiverGoes (λ d. DialogueReplies d outcome) r r [] []) → ReceiverPasses r r
+pub pass_none : (r : Receiver) → ((outcome : RecipientReply) → ReceiverGoes (λ d. DialogueReplies d outcome) r r [] []) → ReceiverPasses r r
 pass_none r stays_so = λ outcome. ([], stays_so outcome)

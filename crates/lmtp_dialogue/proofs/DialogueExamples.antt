@@ -15,13 +15,13 @@ use Rattle.lmtp_dialogue.specs.Texts.{line_with_crlf, IsSentText, IsSentLine, Ru
 use Rattle.lmtp_dialogue.specs.Turns.{LmtpTurn, says, is_too_large, mail_turn, rcpt_turn, command_turn, IsLineTurn, DialogueAnswers, lacks_room, Declines, lookup_reply, taken_by, DialogueReplies, replied, DialogueAct, Hears, Says, Tells, Reports, DialogueTalks}
 use Rattle.lmtp_dialogue.specs.declared.name.Names.TheVariants.{Local, Whole}
 use Rattle.lmtp_dialogue.specs.declared.command.LmtpCommand.{LmtpCommand}
-use Rattle.lmtp_dialogue.specs.declared.command.LmtpCommand.TheVariants as order
+use Rattle.lmtp_dialogue.specs.declared.command.LmtpCommand.TheVariants as command
 use Rattle.lmtp_dialogue.specs.declared.receiver.Lookup.{Lookup}
 use Rattle.lmtp_dialogue.specs.declared.receiver.Lookup.TheVariants.{Known, Unknown}
-use Rattle.lmtp_dialogue.specs.declared.reply.DeliveryOutcome.{DeliveryOutcome}
-use Rattle.lmtp_dialogue.specs.declared.reply.DeliveryOutcome.TheVariants.{Refused}
+use Rattle.lmtp_dialogue.specs.declared.reply.RecipientReply.{RecipientReply}
+use Rattle.lmtp_dialogue.specs.declared.reply.RecipientReply.TheVariants.{Refused}
 use Rattle.lmtp_dialogue.specs.declared.reply.LmtpReply.TheVariants as reply
-use Rattle.lmtp_dialogue.specs.declared.text.TextState.TheVariants.{Start, Inside, Return}
+use Rattle.lmtp_dialogue.specs.declared.message_text.TextState.TheVariants.{Start, Inside, Return}
 use Rattle.lmtp_dialogue.proofs.NextLemmas.{runs_out}
 use Rattle.lmtp_dialogue.proofs.TextLemmas.{apart, open_apart, not_none, same_first, text_ends}
 
@@ -60,8 +60,8 @@ line_is line test = no_end (line ++ 13 ∷ []) test
 abbrev lent : List ℕ → Bor (List ℕ)
 lent text = record { ref_ptr = (0, 0); now = text }
 
-hello_order : ReadsLmtpCommand (codes "LHLO a") (order.Lhlo (lent (codes "a")))
-hello_order = (
+hello_command : ReadsLmtpCommand (codes "LHLO a") (command.Lhlo (lent (codes "a")))
+hello_command = (
   record {
     word = codes "LHLO";
     is = refl;
@@ -85,8 +85,8 @@ short_path octet plain other = record {
   ends = record { is = inr (plain, tt); written = refl };
 }
 
-mail_order : ReadsLmtpCommand (codes "MAIL FROM:<c>") (order.Mail (record { from = lent (codes "c"); size = None }))
-mail_order = (
+mail_command : ReadsLmtpCommand (codes "MAIL FROM:<c>") (command.Mail (record { from = lent (codes "c"); size = None }))
+mail_command = (
   codes "FROM:<c>",
   record {
     word = codes "MAIL";
@@ -106,7 +106,7 @@ mail_order = (
 )
 
 rcpt_order : (octet : ℕ) → is_unquoted_octet octet ≡ true → (octet == 64) ≡ false → codes "TO:<" ++ octet ∷ 62 ∷ [] ≡ trimmed (codes "TO:<" ++ octet ∷ 62 ∷ [])
-    → ReadsLmtpCommand (codes "RCPT TO:<" ++ octet ∷ 62 ∷ []) (order.Rcpt (lent (octet ∷ [])))
+    → ReadsLmtpCommand (codes "RCPT TO:<" ++ octet ∷ 62 ∷ []) (command.Rcpt (lent (octet ∷ [])))
 rcpt_order octet plain other trims = (
   codes "TO:<" ++ octet ∷ 62 ∷ [],
   record {
@@ -122,8 +122,8 @@ rcpt_order octet plain other trims = (
   },
 )
 
-data_order : ReadsLmtpCommand (codes "DATA") order.Data
-data_order = (
+data_command : ReadsLmtpCommand (codes "DATA") command.Data
+data_command = (
   [],
   record {
     word = codes "DATA";
@@ -133,8 +133,8 @@ data_order = (
   refl,
 )
 
-quit_order : ReadsLmtpCommand (codes "QUIT") order.Quit
-quit_order = (
+quit_command : ReadsLmtpCommand (codes "QUIT") command.Quit
+quit_command = (
   [],
   record {
     word = codes "QUIT";
@@ -188,7 +188,7 @@ message_first : (sender : List ℕ) (left : List (List ℕ)) → IsNextItem (sta
 message_first sender left = record { octets = one_text; spelled = text_is; written = refl }
 
 -- the envelope and the text are there: two replies, in the order of the recipients, and then QUIT is read
-replies_follow : (hello sender a b : List ℕ) (outcome : DeliveryOutcome)
+replies_follow : (hello sender a b : List ℕ) (outcome : RecipientReply)
     → DialogueTalks hello (stands (Sending sender (a ∷ b ∷ [])) rest_of)
     (Reports outcome (outcome_line outcome) ∷ Reports (Refused reply.NoRoom) (lmtp_line_of reply.NoRoom) ∷ Says (lmtp_line_of reply.Goodbye) ∷ []) (stands Over [])
 replies_follow hello sender a b outcome = (
@@ -217,7 +217,7 @@ replies_follow hello sender a b outcome = (
       told = refl;
       leaves = refl;
     },
-    (stands Over [], answered hello Ready (codes "QUIT") [] order.Quit (short_line (codes "QUIT") refl (lit≤ tt)) quit_order, refl),
+    (stands Over [], answered hello Ready (codes "QUIT") [] command.Quit (short_line (codes "QUIT") refl (lit≤ tt)) quit_command, refl),
   ),
 )
 
@@ -231,7 +231,7 @@ sent =
 asks : (hello sender : List ℕ) (taken : List (List ℕ)) (octet : ℕ) (lookup : Lookup) (rest : List ℕ) (acts : List DialogueAct) (e : Dialogue)
     → rcpt_turn (Opened sender taken) (octet ∷ []) ≡ record { said = []; phase = Asking sender taken (octet ∷ []) }
     → SpellsItem (Opened sender taken) (Command (codes "RCPT TO:<" ++ octet ∷ 62 ∷ [])) (line_with_crlf (codes "RCPT TO:<" ++ octet ∷ 62 ∷ []))
-    → ReadsLmtpCommand (codes "RCPT TO:<" ++ octet ∷ 62 ∷ []) (order.Rcpt (lent (octet ∷ [])))
+    → ReadsLmtpCommand (codes "RCPT TO:<" ++ octet ∷ 62 ∷ []) (command.Rcpt (lent (octet ∷ [])))
     → DialogueTalks hello (stands (Opened sender (taken_by lookup taken (octet ∷ []))) rest) acts e
     → DialogueTalks hello (stands (Opened sender taken) (line_with_crlf (codes "RCPT TO:<" ++ octet ∷ 62 ∷ []) ++ rest)) (Says [] ∷ Tells lookup (lmtp_line_of (lookup_reply lookup)) ∷ acts) e
 asks hello sender taken octet lookup rest acts e turn spelled reads more = (
@@ -241,7 +241,7 @@ asks hello sender taken octet lookup rest acts e turn spelled reads more = (
     rest = rest;
     turn = record { said = []; phase = Asking sender taken (octet ∷ []) };
     first = record { octets = line_with_crlf (codes "RCPT TO:<" ++ octet ∷ 62 ∷ []); spelled = spelled; written = refl };
-    takes = (order.Rcpt (lent (octet ∷ [])), reads, sym turn);
+    takes = (command.Rcpt (lent (octet ∷ [])), reads, sym turn);
     told = refl;
     leaves = refl;
   },
@@ -269,7 +269,7 @@ data_taken : (hello : List ℕ)
     → DialogueTalks hello (stands (Opened (codes "c") (codes "p" ∷ codes "g" ∷ [])) data_on) (Says (lmtp_line_of reply.GoAhead) ∷ []) (stands (Sending (codes "c") (codes "p" ∷ codes "g" ∷ [])) rest_of)
 data_taken hello = (
   stands (Sending (codes "c") (codes "p" ∷ codes "g" ∷ [])) rest_of,
-  answered hello (Opened (codes "c") (codes "p" ∷ codes "g" ∷ [])) (codes "DATA") rest_of order.Data (short_line (codes "DATA") refl (lit≤ tt)) data_order,
+  answered hello (Opened (codes "c") (codes "p" ∷ codes "g" ∷ [])) (codes "DATA") rest_of command.Data (short_line (codes "DATA") refl (lit≤ tt)) data_command,
   refl,
 )
 
@@ -306,11 +306,11 @@ envelope hello = (
   refl,
   (
     stands Ready (line_with_crlf (codes "MAIL FROM:<c>") ++ first_on),
-    answered hello Greeted (codes "LHLO a") (line_with_crlf (codes "MAIL FROM:<c>") ++ first_on) (order.Lhlo (lent (codes "a"))) (short_line (codes "LHLO a") refl (lit≤ tt)) hello_order,
+    answered hello Greeted (codes "LHLO a") (line_with_crlf (codes "MAIL FROM:<c>") ++ first_on) (command.Lhlo (lent (codes "a"))) (short_line (codes "LHLO a") refl (lit≤ tt)) hello_command,
     (
       stands (Opened (codes "c") []) first_on,
-      answered hello Ready (codes "MAIL FROM:<c>") first_on (order.Mail (record { from = lent (codes "c"); size = None }))
-          (short_line (codes "MAIL FROM:<c>") refl (lit≤ tt)) mail_order,
+      answered hello Ready (codes "MAIL FROM:<c>") first_on (command.Mail (record { from = lent (codes "c"); size = None }))
+          (short_line (codes "MAIL FROM:<c>") refl (lit≤ tt)) mail_command,
       recipients_taken hello,
     ),
   ),
@@ -319,7 +319,7 @@ envelope hello = (
 -- ---- near misses
 
 -- a reply is missing: behind the first of two one is owed to the second, and no line is read
-owed_still : (d e : Dialogue) (sender a b : List ℕ) (outcome : DeliveryOutcome) (said : List ℕ) → d.phase ≡ Sending sender (a ∷ b ∷ []) → DialogueReplies d outcome said e
+owed_still : (d e : Dialogue) (sender a b : List ℕ) (outcome : RecipientReply) (said : List ℕ) → d.phase ≡ Sending sender (a ∷ b ∷ []) → DialogueReplies d outcome said e
     → e.phase ≡ Sending sender (b ∷ [])
 owed_still d e sender a b outcome said is done =
     let same : Sending sender (a ∷ b ∷ []) ≡ Sending done.sender (done.recipient ∷ done.left) = sym is ∙ done.owed in
@@ -348,7 +348,7 @@ not_read hello d e sender left said is done =
 -- DATA in a pipeline, behind recipients that were all refused
 no_recipient : (hello sender rest : List ℕ)
     → DialogueAnswers hello (stands (Opened sender []) (line_with_crlf (codes "DATA") ++ rest)) (lmtp_line_of reply.NoRecipient) (stands (Opened sender []) rest)
-no_recipient hello sender rest = answered hello (Opened sender []) (codes "DATA") rest order.Data (short_line (codes "DATA") refl (lit≤ tt)) data_order
+no_recipient hello sender rest = answered hello (Opened sender []) (codes "DATA") rest command.Data (short_line (codes "DATA") refl (lit≤ tt)) data_command
 
 -- a dot between a bare LF and CRLF: no text is whole
 no_dot : (sender : List ℕ) (left : List (List ℕ)) → DialogueWaits (stands (Sending sender left) (72 ∷ 10 ∷ 46 ∷ 13 ∷ 10 ∷ []))

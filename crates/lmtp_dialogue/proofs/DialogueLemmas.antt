@@ -6,9 +6,9 @@ use Rattle.lmtp_dialogue.specs.Lines.{line_end, IsCrlfLine}
 use Rattle.lmtp_dialogue.specs.Texts.{line_with_crlf, TextEndsAt, after, text_after}
 use Rattle.lmtp_dialogue.specs.Turns.{DialogueAnswers, Resolves, DialogueReplies, replied}
 use Rattle.lmtp_dialogue.specs.declared.receiver.Lookup.{Lookup}
-use Rattle.lmtp_dialogue.specs.declared.reply.DeliveryOutcome.{DeliveryOutcome}
-use Rattle.lmtp_dialogue.specs.declared.text.TextState.{TextState}
-use Rattle.lmtp_dialogue.specs.declared.text.TextState.TheVariants.{Start}
+use Rattle.lmtp_dialogue.specs.declared.reply.RecipientReply.{RecipientReply}
+use Rattle.lmtp_dialogue.specs.declared.message_text.TextState.{TextState}
+use Rattle.lmtp_dialogue.specs.declared.message_text.TextState.TheVariants.{Start}
 use Rattle.lmtp_dialogue.proofs.TextLemmas.{line_rest, no_feed, same_first, same_others, text_ends, text_same}
 
 -- ---- one line
@@ -144,7 +144,7 @@ replied_stays : (sender : List ℕ) (left : List (List ℕ)) (d : Dialogue) (res
 replied_stays sender [] d rest more = refl
 replied_stays sender (next ∷ left) d rest more = refl
 
-pub outcome_stays : (d e : Dialogue) (outcome : DeliveryOutcome) (said more : List ℕ) → DialogueReplies d outcome said e → DialogueReplies (dialogue_given more d) outcome said (dialogue_given more e)
+pub outcome_stays : (d e : Dialogue) (outcome : RecipientReply) (said more : List ℕ) → DialogueReplies d outcome said e → DialogueReplies (dialogue_given more d) outcome said (dialogue_given more e)
 outcome_stays d e outcome said more is = record {
   sender = is.sender;
   recipient = is.recipient;

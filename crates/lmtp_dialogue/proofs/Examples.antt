@@ -3,7 +3,7 @@ use Rattle.std.proofs.Common.{◌≡◌, true, false, [], ◌∷◌, inl, inr, r
 use Rattle.lmtp_dialogue.specs.Commands.{IsSameWord, verb_word, argument_in}
 use Rattle.lmtp_dialogue.specs.Paths.{IsPathAddress, is_unquoted_octet, is_quoted_octet}
 use Rattle.lmtp_dialogue.specs.Texts.{text_state_after, text_after}
-use Rattle.lmtp_dialogue.specs.declared.text.TextState.TheVariants.{Start, DotReturn, Inside, Ended}
+use Rattle.lmtp_dialogue.specs.declared.message_text.TextState.TheVariants.{Start, DotReturn, Inside, Ended}
 use Rattle.lmtp_dialogue.specs.declared.verb.LmtpVerb.TheVariants.{Lhlo}
 
 -- ---- texts

@@ -3,11 +3,11 @@ use Rattle.std.proofs.Common.{◌≡◌, ℕ, zero, suc, ◌+◌, ◌<◌, ◌�
 use Rattle.std.proofs.Math.Seq.{take-add}
 use Rattle.std.proofs.lemmas.Bool.{false_from_ne_true}
 use Rattle.lmtp_dialogue.specs.Texts.{IsSentText, after, gained, text_state_after, text_after, TextEndsAt, RunsFrom, TextKeeps, TextStandsFor, Feeds, TextFinishes}
-use Rattle.lmtp_dialogue.specs.declared.text.TextState.{TextState}
-use Rattle.lmtp_dialogue.specs.declared.text.TextState.TheVariants.{Start, DotReturn, Inside, Ended}
-use Rattle.lmtp_dialogue.specs.declared.text.Text.{Text}
-use Rattle.lmtp_dialogue.specs.declared.text.TextFault.{TextFault}
-use Rattle.lmtp_dialogue.specs.declared.text.TextFault.TheVariants.{TooLarge, Memory}
+use Rattle.lmtp_dialogue.specs.declared.message_text.TextState.{TextState}
+use Rattle.lmtp_dialogue.specs.declared.message_text.TextState.TheVariants.{Start, DotReturn, Inside, Ended}
+use Rattle.lmtp_dialogue.specs.declared.message_text.Text.{Text}
+use Rattle.lmtp_dialogue.specs.declared.message_text.TextFault.{TextFault}
+use Rattle.lmtp_dialogue.specs.declared.message_text.TextFault.TheVariants.{TooLarge, Memory}
 use Rattle.lmtp_dialogue.proofs.TextLemmas.{text_found}
 
 -- ---- octets behind others
@@ -28,28 +28,28 @@ runs_more from (x ∷ xs) ys runs more = (runs.0, runs_more (after from x) xs ys
 
 -- octets were taken from a place on
 pub feeds_many : (t u : Text) (octets : List ℕ) → RunsFrom t.place octets → u.place ≡ text_state_after t.place octets
-    → ((text : List ℕ) → TextKeeps t text t.trouble → TextKeeps u (text ++ text_after t.place octets) u.trouble) → Feeds t octets u
+    → ((text : List ℕ) → TextKeeps t text t.fault → TextKeeps u (text ++ text_after t.place octets) u.fault) → Feeds t octets u
 feeds_many t u octets runs place keeps = λ sent stands. record {
   runs = runs_more Start sent octets stands.runs (subst (λ p. RunsFrom p octets) stands.place runs);
   place = place ∙ (ap (λ p. text_state_after p octets) stands.place ∙ sym (place_more Start sent octets));
   keeps =
       let same = ap (λ p. text_after Start sent ++ text_after p octets) stands.place ∙ sym (text_more Start sent octets) in
-      subst (λ text. TextKeeps u text u.trouble) same (keeps (text_after Start sent) stands.keeps);
+      subst (λ text. TextKeeps u text u.fault) same (keeps (text_after Start sent) stands.keeps);
 }
 
 -- one was
 pub feeds_one : (t u : Text) (octet : ℕ) → (t.place ≡ Ended → ⊥) → u.place ≡ after t.place octet
-    → ((text : List ℕ) → TextKeeps t text t.trouble → TextKeeps u (text ++ gained t.place octet) u.trouble) → Feeds t (octet ∷ []) u
+    → ((text : List ℕ) → TextKeeps t text t.fault → TextKeeps u (text ++ gained t.place octet) u.fault) → Feeds t (octet ∷ []) u
 feeds_one t u octet runs place keeps =
     feeds_many t u (octet ∷ []) (runs, tt) place
-    (λ text kept. subst (λ more. TextKeeps u (text ++ more) u.trouble) (sym (append-nil (gained t.place octet))) (keeps text kept))
+    (λ text kept. subst (λ more. TextKeeps u (text ++ more) u.fault) (sym (append-nil (gained t.place octet))) (keeps text kept))
 
 -- none was
 pub feeds_none : (t : Text) → Feeds t [] t
 feeds_none t = λ sent stands. subst (TextStandsFor t) (sym (append-nil sent)) stands
 
 -- the same where it keeps less
-pub feeds_nothing : (t u : Text) → u.place ≡ t.place → ((text : List ℕ) → TextKeeps t text t.trouble → TextKeeps u text u.trouble) → Feeds t [] u
+pub feeds_nothing : (t u : Text) → u.place ≡ t.place → ((text : List ℕ) → TextKeeps t text t.fault → TextKeeps u text u.fault) → Feeds t [] u
 feeds_nothing t u place keeps = λ sent stands.
     subst (TextStandsFor u) (sym (append-nil sent)) (record { runs = stands.runs; place = place ∙ stands.place; keeps = keeps (text_after Start sent) stands.keeps })
 
@@ -65,7 +65,7 @@ feeds_up_to t u v piece n m one two = subst (λ octets. Feeds t octets v) (sym (
 
 -- it keeps what it had and these
 abbrev pub KeepsMore : Text → List ℕ → Text → Type 0
-KeepsMore t more u = (text : List ℕ) → TextKeeps t text t.trouble → TextKeeps u (text ++ more) u.trouble
+KeepsMore t more u = (text : List ℕ) → TextKeeps t text t.fault → TextKeeps u (text ++ more) u.fault
 
 pub keeps_same : (t u : Text) (more other : List ℕ) → more ≡ other → KeepsMore t more u → KeepsMore t other u
 keeps_same t u more other same keeps = subst (λ m. KeepsMore t m u) same keeps
@@ -117,12 +117,12 @@ inside_run (octet ∷ octets) (suc count) short other =
 -- so many octets inside a line joined the text
 pub feeds_inside : (t u : Text) (octets : List ℕ) (count : ℕ) → t.place ≡ Inside → u.place ≡ t.place → count ≤ length octets
     → ((j : ℕ) → j < count → (get_or octets j 0 == 13) ≡ true → ⊥)
-    → ((text : List ℕ) → TextKeeps t text t.trouble → TextKeeps u (text ++ take count octets) u.trouble) → Feeds t (take count octets) u
+    → ((text : List ℕ) → TextKeeps t text t.fault → TextKeeps u (text ++ take count octets) u.fault) → Feeds t (take count octets) u
 feeds_inside t u octets count is same short other keeps =
     let run = inside_run octets count short other in
     feeds_many t u (take count octets) (subst (λ p. RunsFrom p (take count octets)) (sym is) run.runs)
     (same ∙ (is ∙ (sym run.place ∙ ap (λ p. text_state_after p (take count octets)) (sym is))))
-    (λ text kept. subst (λ more. TextKeeps u (text ++ more) u.trouble) (sym run.text ∙ ap (λ p. text_after p (take count octets)) (sym is)) (keeps text kept))
+    (λ text kept. subst (λ more. TextKeeps u (text ++ more) u.fault) (sym run.text ∙ ap (λ p. text_after p (take count octets)) (sym is)) (keeps text kept))
 
 -- ---- a text that has ended
 
@@ -134,13 +134,13 @@ pub is_text : (t : Text) (sent : List ℕ) → t.place ≡ Ended → TextStandsF
 is_text t sent ended stands = text_found sent (ends_at Start sent stands.runs (sym stands.place ∙ ended))
 
 -- what is kept of one that has ended is the text
-pub finished : (t : Text) (sent : List ℕ) → t.place ≡ Ended → t.trouble ≡ None → TextStandsFor t sent → IsSentText sent t.kept × (length t.kept ≤ t.limit)
+pub finished : (t : Text) (sent : List ℕ) → t.place ≡ Ended → t.fault ≡ None → TextStandsFor t sent → IsSentText sent t.kept × (length t.kept ≤ t.limit)
 finished t sent ended none stands =
     let kept : (t.kept ≡ text_after Start sent) × (length (text_after Start sent) ≤ t.limit) = subst (TextKeeps t (text_after Start sent)) none stands.keeps in
     (subst (IsSentText sent) (sym kept.0) (is_text t sent ended stands), subst (λ x. length x ≤ t.limit) (sym kept.0) kept.1)
 
 -- else why it isn't
-pub not_kept : (t : Text) (sent : List ℕ) (why : TextFault) → t.place ≡ Ended → t.trouble ≡ Some why → TextStandsFor t sent → TextFinishes t.limit sent (Err why)
+pub not_kept : (t : Text) (sent : List ℕ) (why : TextFault) → t.place ≡ Ended → t.fault ≡ Some why → TextStandsFor t sent → TextFinishes t.limit sent (Err why)
 not_kept t sent TooLarge ended some stands =
     let keeps : (t.kept ≡ []) × (t.limit < length (text_after Start sent)) = subst (TextKeeps t (text_after Start sent)) some stands.keeps in
     (text_after Start sent, is_text t sent ended stands, keeps.1)

@@ -9,16 +9,16 @@ use Rattle.lmtp_dialogue.specs.Receivers.{IsLineGone, IsItemGone, IsLineTaken, I
 use Rattle.lmtp_dialogue.specs.Talks.{phase_by, item_by}
 use Rattle.lmtp_dialogue.specs.Texts.{line_with_crlf, RunsFrom, text_state_after, text_after, TextEndsAt, TextKeeps, TextStandsFor, IsFinishedText, after}
 use Rattle.lmtp_dialogue.specs.Turns.{max_text}
-use Rattle.lmtp_dialogue.specs.declared.line.Found.{Found}
-use Rattle.lmtp_dialogue.specs.declared.line.Found.TheVariants.{Need, Line, TooLong}
-use Rattle.lmtp_dialogue.specs.declared.receiver.Delivery.{Delivery}
+use Rattle.lmtp_dialogue.specs.declared.command_line.Found.{Found}
+use Rattle.lmtp_dialogue.specs.declared.command_line.Found.TheVariants.{Need, Line, TooLong}
+use Rattle.lmtp_dialogue.specs.declared.receiver.ReceivedMessage.{ReceivedMessage}
 use Rattle.lmtp_dialogue.specs.declared.receiver.Receiver.{Receiver}
 use Rattle.lmtp_dialogue.specs.declared.receiver.LmtpStage.TheVariants as stage
-use Rattle.lmtp_dialogue.specs.declared.text.TextState.{TextState}
-use Rattle.lmtp_dialogue.specs.declared.text.TextState.TheVariants.{Start, Ended}
-use Rattle.lmtp_dialogue.specs.declared.text.Text.{Text}
-use Rattle.lmtp_dialogue.specs.declared.text.TextFault.{TextFault}
-use Rattle.lmtp_dialogue.specs.declared.text.TextFault.TheVariants.{TooLarge, Memory}
+use Rattle.lmtp_dialogue.specs.declared.message_text.TextState.{TextState}
+use Rattle.lmtp_dialogue.specs.declared.message_text.TextState.TheVariants.{Start, Ended}
+use Rattle.lmtp_dialogue.specs.declared.message_text.Text.{Text}
+use Rattle.lmtp_dialogue.specs.declared.message_text.TextFault.{TextFault}
+use Rattle.lmtp_dialogue.specs.declared.message_text.TextFault.TheVariants.{TooLarge, Memory}
 use Rattle.lmtp_dialogue.proofs.DialogueLemmas.{one_line}
 use Rattle.lmtp_dialogue.proofs.FeedLemmas.{is_text}
 use Rattle.lmtp_dialogue.proofs.SkipLemmas.{agrees_itself}
@@ -196,9 +196,9 @@ pub owed_in : (r : Receiver) (d : Dialogue) → r.talk.stage ≡ stage.Sending �
     → d.phase ≡ Sending r.talk.sender (get_or r.talk.recipients r.talk.told [] ∷ drop (r.talk.told + 1) r.talk.recipients)
 owed_in r d at sends = sends.phase ∙ ap (Sending r.talk.sender) (owed_first r.talk.recipients r.talk.told (r.talk.owed at))
 
-delivery_of : (r : Receiver) (d : Dialogue) (delivery : Delivery) → r.talk.stage ≡ stage.Sending → SendsIn r d → r.talk.text.limit ≡ max_text → r.talk.text.place ≡ Ended
-    → delivery.sender.now ≡ r.talk.sender → delivery.recipient.now ≡ get_or r.talk.recipients r.talk.told [] → IsFinishedText r.talk.text delivery.text → IsDelivery d delivery
-delivery_of r d delivery at sends limit ended sender recipient text =
+delivery_of : (r : Receiver) (d : Dialogue) (received : ReceivedMessage) → r.talk.stage ≡ stage.Sending → SendsIn r d → r.talk.text.limit ≡ max_text → r.talk.text.place ≡ Ended
+    → received.sender.now ≡ r.talk.sender → received.recipient.now ≡ get_or r.talk.recipients r.talk.told [] → IsFinishedText r.talk.text received.text → IsDelivery d received
+delivery_of r d received at sends limit ended sender recipient text =
     let left = drop (r.talk.told + 1) r.talk.recipients in
     record {
       left = left;
@@ -206,11 +206,11 @@ delivery_of r d delivery at sends limit ended sender recipient text =
       rest = r.unread;
       owed =
           owed_in r d at sends
-          ∙ (ap (λ s. Sending s (get_or r.talk.recipients r.talk.told [] ∷ left)) (sym sender) ∙ ap (λ n. Sending delivery.sender.now (n ∷ left)) (sym recipient));
+          ∙ (ap (λ s. Sending s (get_or r.talk.recipients r.talk.told [] ∷ left)) (sym sender) ∙ ap (λ n. Sending received.sender.now (n ∷ left)) (sym recipient));
       first = text_first r d sends ended;
-      kept = kept_by r.talk.text sends.gone delivery.text sends.stands limit text;
+      kept = kept_by r.talk.text sends.gone received.text sends.stands limit text;
     }
 
-pub delivery_in : (r : Receiver) (d : Dialogue) (delivery : Delivery) → r.talk.stage ≡ stage.Sending → StandsIn r d → r.talk.text.place ≡ Ended
-    → delivery.sender.now ≡ r.talk.sender → delivery.recipient.now ≡ get_or r.talk.recipients r.talk.told [] → IsFinishedText r.talk.text delivery.text → IsDelivery d delivery
-delivery_in r d delivery at stands = delivery_of r d delivery at (sends_in r d at stands) stands.holds.limit
+pub delivery_in : (r : Receiver) (d : Dialogue) (received : ReceivedMessage) → r.talk.stage ≡ stage.Sending → StandsIn r d → r.talk.text.place ≡ Ended
+    → received.sender.now ≡ r.talk.sender → received.recipient.now ≡ get_or r.talk.recipients r.talk.told [] → IsFinishedText r.talk.text received.text → IsDelivery d received
+delivery_in r d received at stands = delivery_of r d received at (sends_in r d at stands) stands.holds.limit

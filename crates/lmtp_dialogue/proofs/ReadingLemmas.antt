@@ -14,7 +14,7 @@ use Rattle.lmtp_dialogue.specs.Turns.{LmtpTurn, says, hello_turn, mail_turn, rcp
 use Rattle.lmtp_dialogue.specs.declared.argument.ArgumentFault.{ArgumentFault}
 use Rattle.lmtp_dialogue.specs.declared.argument.ArgumentFault.TheVariants.{Syntax, Address, Parameter}
 use Rattle.lmtp_dialogue.specs.declared.command.LmtpCommand.{LmtpCommand}
-use Rattle.lmtp_dialogue.specs.declared.command.LmtpCommand.TheVariants as order
+use Rattle.lmtp_dialogue.specs.declared.command.LmtpCommand.TheVariants as command
 use Rattle.lmtp_dialogue.specs.declared.reply.LmtpReply.TheVariants as reply
 use Rattle.lmtp_dialogue.specs.declared.verb.LmtpVerb.{LmtpVerb}
 use Rattle.lmtp_dialogue.specs.declared.verb.LmtpVerb.TheVariants as verb
@@ -158,14 +158,14 @@ abbrev ReadsBy : LmtpVerb → List ℕ → LmtpCommand → Type 0
 ReadsBy verb.Lhlo argument o = ReadsName argument o
 ReadsBy verb.Mail argument o = ReadsSender argument o
 ReadsBy verb.Rcpt argument o = ReadsTarget argument o
-ReadsBy verb.Data argument o = ReadsAlone argument order.Data o
-ReadsBy verb.Rset argument o = ReadsAlone argument order.Rset o
-ReadsBy verb.Quit argument o = ReadsAlone argument order.Quit o
-ReadsBy verb.Noop argument o = o ≡ order.Noop
-ReadsBy verb.Vrfy argument o = o ≡ order.Vrfy
-ReadsBy verb.Help argument o = o ≡ order.Help
-ReadsBy verb.Helo argument o = o ≡ order.Refused reply.NotSmtp
-ReadsBy verb.Ehlo argument o = o ≡ order.Refused reply.NotSmtp
+ReadsBy verb.Data argument o = ReadsAlone argument command.Data o
+ReadsBy verb.Rset argument o = ReadsAlone argument command.Rset o
+ReadsBy verb.Quit argument o = ReadsAlone argument command.Quit o
+ReadsBy verb.Noop argument o = o ≡ command.Noop
+ReadsBy verb.Vrfy argument o = o ≡ command.Vrfy
+ReadsBy verb.Help argument o = o ≡ command.Help
+ReadsBy verb.Helo argument o = o ≡ command.Refused reply.NotSmtp
+ReadsBy verb.Ehlo argument o = o ≡ command.Refused reply.NotSmtp
 
 record IsRead (line : List ℕ) (o : LmtpCommand) : Type 0 where
   word : LmtpVerb
@@ -174,42 +174,42 @@ record IsRead (line : List ℕ) (o : LmtpCommand) : Type 0 where
   reads : ReadsBy word argument o
 
 abbrev Unread : List ℕ → LmtpCommand → Type 0
-Unread line o = ((word : LmtpVerb) (argument : List ℕ) → IsCommandLine line word argument → ⊥) × (o ≡ order.Refused reply.UnknownCommand)
+Unread line o = ((word : LmtpVerb) (argument : List ℕ) → IsCommandLine line word argument → ⊥) × (o ≡ command.Refused reply.UnknownCommand)
 
 as_read : (line : List ℕ) (o : LmtpCommand) (word : LmtpVerb) (argument : List ℕ) → IsCommandLine line word argument → ReadsBy word argument o → Unread line o ⊎ IsRead line o
 as_read line o word argument is reads = inr (record { word = word; argument = argument; is = is; reads = reads })
 
 by_line : (line : List ℕ) (o : LmtpCommand) → ReadsLmtpCommand line o → Unread line o ⊎ IsRead line o
-by_line line (order.Lhlo name) is = as_read line (order.Lhlo name) verb.Lhlo name.now is.0 (refl, is.1)
-by_line line (order.Mail mail) is = as_read line (order.Mail mail) verb.Mail is.0 is.1 is.2
-by_line line (order.Rcpt address) is = as_read line (order.Rcpt address) verb.Rcpt is.0 is.1 is.2
-by_line line order.Data is = as_read line order.Data verb.Data is.0 is.1 (inl (is.2, refl))
-by_line line order.Rset is = as_read line order.Rset verb.Rset is.0 is.1 (inl (is.2, refl))
-by_line line order.Quit is = as_read line order.Quit verb.Quit is.0 is.1 (inl (is.2, refl))
-by_line line order.Noop is = as_read line order.Noop verb.Noop is.0 is.1 refl
-by_line line order.Vrfy is = as_read line order.Vrfy verb.Vrfy is.0 is.1 refl
-by_line line order.Help is = as_read line order.Help verb.Help is.0 is.1 refl
-by_line line (order.Refused reply.UnknownCommand) is = inl (is, refl)
-by_line line (order.Refused reply.NotSmtp) (inl is) = as_read line (order.Refused reply.NotSmtp) verb.Helo is.0 is.1 refl
-by_line line (order.Refused reply.NotSmtp) (inr is) = as_read line (order.Refused reply.NotSmtp) verb.Ehlo is.0 is.1 refl
-by_line line (order.Refused reply.BadArgument) (inl is) = as_read line (order.Refused reply.BadArgument) verb.Lhlo is.0 is.1 is.2
-by_line line (order.Refused reply.BadArgument) (inr (inl is)) = as_read line (order.Refused reply.BadArgument) verb.Data is.0 is.1 (inr (is.2, refl))
-by_line line (order.Refused reply.BadArgument) (inr (inr (inl is))) = as_read line (order.Refused reply.BadArgument) verb.Rset is.0 is.1 (inr (is.2, refl))
-by_line line (order.Refused reply.BadArgument) (inr (inr (inr (inl is)))) = as_read line (order.Refused reply.BadArgument) verb.Quit is.0 is.1 (inr (is.2, refl))
-by_line line (order.Refused reply.BadArgument) (inr (inr (inr (inr (inl is))))) = as_read line (order.Refused reply.BadArgument) verb.Mail is.0 is.1 is.2
-by_line line (order.Refused reply.BadArgument) (inr (inr (inr (inr (inr is))))) = as_read line (order.Refused reply.BadArgument) verb.Rcpt is.0 is.1 is.2
-by_line line (order.Refused reply.BadSender) is = as_read line (order.Refused reply.BadSender) verb.Mail is.0 is.1 is.2
-by_line line (order.Refused reply.BadRecipient) is = as_read line (order.Refused reply.BadRecipient) verb.Rcpt is.0 is.1 is.2
-by_line line (order.Refused reply.BadParameter) (inl is) = as_read line (order.Refused reply.BadParameter) verb.Mail is.0 is.1 is.2
-by_line line (order.Refused reply.BadParameter) (inr is) = as_read line (order.Refused reply.BadParameter) verb.Rcpt is.0 is.1 is.2
-by_line line (order.Refused other) is = absurd is
+by_line line (command.Lhlo name) is = as_read line (command.Lhlo name) verb.Lhlo name.now is.0 (refl, is.1)
+by_line line (command.Mail mail) is = as_read line (command.Mail mail) verb.Mail is.0 is.1 is.2
+by_line line (command.Rcpt address) is = as_read line (command.Rcpt address) verb.Rcpt is.0 is.1 is.2
+by_line line command.Data is = as_read line command.Data verb.Data is.0 is.1 (inl (is.2, refl))
+by_line line command.Rset is = as_read line command.Rset verb.Rset is.0 is.1 (inl (is.2, refl))
+by_line line command.Quit is = as_read line command.Quit verb.Quit is.0 is.1 (inl (is.2, refl))
+by_line line command.Noop is = as_read line command.Noop verb.Noop is.0 is.1 refl
+by_line line command.Vrfy is = as_read line command.Vrfy verb.Vrfy is.0 is.1 refl
+by_line line command.Help is = as_read line command.Help verb.Help is.0 is.1 refl
+by_line line (command.Refused reply.UnknownCommand) is = inl (is, refl)
+by_line line (command.Refused reply.NotSmtp) (inl is) = as_read line (command.Refused reply.NotSmtp) verb.Helo is.0 is.1 refl
+by_line line (command.Refused reply.NotSmtp) (inr is) = as_read line (command.Refused reply.NotSmtp) verb.Ehlo is.0 is.1 refl
+by_line line (command.Refused reply.BadArgument) (inl is) = as_read line (command.Refused reply.BadArgument) verb.Lhlo is.0 is.1 is.2
+by_line line (command.Refused reply.BadArgument) (inr (inl is)) = as_read line (command.Refused reply.BadArgument) verb.Data is.0 is.1 (inr (is.2, refl))
+by_line line (command.Refused reply.BadArgument) (inr (inr (inl is))) = as_read line (command.Refused reply.BadArgument) verb.Rset is.0 is.1 (inr (is.2, refl))
+by_line line (command.Refused reply.BadArgument) (inr (inr (inr (inl is)))) = as_read line (command.Refused reply.BadArgument) verb.Quit is.0 is.1 (inr (is.2, refl))
+by_line line (command.Refused reply.BadArgument) (inr (inr (inr (inr (inl is))))) = as_read line (command.Refused reply.BadArgument) verb.Mail is.0 is.1 is.2
+by_line line (command.Refused reply.BadArgument) (inr (inr (inr (inr (inr is))))) = as_read line (command.Refused reply.BadArgument) verb.Rcpt is.0 is.1 is.2
+by_line line (command.Refused reply.BadSender) is = as_read line (command.Refused reply.BadSender) verb.Mail is.0 is.1 is.2
+by_line line (command.Refused reply.BadRecipient) is = as_read line (command.Refused reply.BadRecipient) verb.Rcpt is.0 is.1 is.2
+by_line line (command.Refused reply.BadParameter) (inl is) = as_read line (command.Refused reply.BadParameter) verb.Mail is.0 is.1 is.2
+by_line line (command.Refused reply.BadParameter) (inr is) = as_read line (command.Refused reply.BadParameter) verb.Rcpt is.0 is.1 is.2
+by_line line (command.Refused other) is = absurd is
 
 -- ---- one turn
 
 name_turn : (hello : List ℕ) (phase : DialoguePhase) (argument : List ℕ) (o : LmtpCommand) → ReadsName argument o
     → (Something argument × (command_turn hello phase o ≡ hello_turn hello)) ⊎ (Nothing argument × (command_turn hello phase o ≡ says reply.BadArgument phase))
-name_turn hello phase argument (order.Lhlo name) is = inl (is.1, refl)
-name_turn hello phase argument (order.Refused reply.BadArgument) is = inr (is, refl)
+name_turn hello phase argument (command.Lhlo name) is = inl (is.1, refl)
+name_turn hello phase argument (command.Refused reply.BadArgument) is = inr (is, refl)
 name_turn hello phase argument other is = absurd is
 
 abbrev mail_by : DialoguePhase → Result AnnouncedMail ArgumentFault → LmtpTurn
@@ -220,10 +220,10 @@ mail_by phase (Err Parameter) = says reply.BadParameter phase
 
 sender_turn : (hello : List ℕ) (phase : DialoguePhase) (argument : List ℕ) (o : LmtpCommand) → ReadsSender argument o
     → (r : Result AnnouncedMail ArgumentFault) × ReadsMail argument r × (command_turn hello phase o ≡ mail_by phase r)
-sender_turn hello phase argument (order.Mail mail) is = (Ok (record { from = mail.from.now; size = mail.size }), is, refl)
-sender_turn hello phase argument (order.Refused reply.BadArgument) is = (Err Syntax, is, refl)
-sender_turn hello phase argument (order.Refused reply.BadSender) is = (Err Address, is, refl)
-sender_turn hello phase argument (order.Refused reply.BadParameter) is = (Err Parameter, is, refl)
+sender_turn hello phase argument (command.Mail mail) is = (Ok (record { from = mail.from.now; size = mail.size }), is, refl)
+sender_turn hello phase argument (command.Refused reply.BadArgument) is = (Err Syntax, is, refl)
+sender_turn hello phase argument (command.Refused reply.BadSender) is = (Err Address, is, refl)
+sender_turn hello phase argument (command.Refused reply.BadParameter) is = (Err Parameter, is, refl)
 sender_turn hello phase argument other is = absurd is
 
 abbrev rcpt_by : DialoguePhase → Result (List ℕ) ArgumentFault → LmtpTurn
@@ -234,10 +234,10 @@ rcpt_by phase (Err Parameter) = says reply.BadParameter phase
 
 target_turn : (hello : List ℕ) (phase : DialoguePhase) (argument : List ℕ) (o : LmtpCommand) → ReadsTarget argument o
     → (r : Result (List ℕ) ArgumentFault) × ReadsRecipient argument r × (command_turn hello phase o ≡ rcpt_by phase r)
-target_turn hello phase argument (order.Rcpt address) is = (Ok address.now, is, refl)
-target_turn hello phase argument (order.Refused reply.BadArgument) is = (Err Syntax, is, refl)
-target_turn hello phase argument (order.Refused reply.BadRecipient) is = (Err Address, is, refl)
-target_turn hello phase argument (order.Refused reply.BadParameter) is = (Err Parameter, is, refl)
+target_turn hello phase argument (command.Rcpt address) is = (Ok address.now, is, refl)
+target_turn hello phase argument (command.Refused reply.BadArgument) is = (Err Syntax, is, refl)
+target_turn hello phase argument (command.Refused reply.BadRecipient) is = (Err Address, is, refl)
+target_turn hello phase argument (command.Refused reply.BadParameter) is = (Err Parameter, is, refl)
 target_turn hello phase argument other is = absurd is
 
 one_alone : (argument : List ℕ) (wanted o p : LmtpCommand) → ReadsAlone argument wanted o → ReadsAlone argument wanted p → o ≡ p
@@ -260,9 +260,9 @@ one_by_word hello phase verb.Rcpt argument o p first second =
     let a = target_turn hello phase argument o first in
     let b = target_turn hello phase argument p second in
     a.2 ∙ (ap (rcpt_by phase) (one_recipient argument a.0 b.0 a.1 b.1) ∙ sym b.2)
-one_by_word hello phase verb.Data argument o p first second = ap (command_turn hello phase) (one_alone argument order.Data o p first second)
-one_by_word hello phase verb.Rset argument o p first second = ap (command_turn hello phase) (one_alone argument order.Rset o p first second)
-one_by_word hello phase verb.Quit argument o p first second = ap (command_turn hello phase) (one_alone argument order.Quit o p first second)
+one_by_word hello phase verb.Data argument o p first second = ap (command_turn hello phase) (one_alone argument command.Data o p first second)
+one_by_word hello phase verb.Rset argument o p first second = ap (command_turn hello phase) (one_alone argument command.Rset o p first second)
+one_by_word hello phase verb.Quit argument o p first second = ap (command_turn hello phase) (one_alone argument command.Quit o p first second)
 one_by_word hello phase verb.Noop argument o p first second = ap (command_turn hello phase) (first ∙ sym second)
 one_by_word hello phase verb.Vrfy argument o p first second = ap (command_turn hello phase) (first ∙ sym second)
 one_by_word hello phase verb.Help argument o p first second = ap (command_turn hello phase) (first ∙ sym second)
@@ -291,22 +291,22 @@ size_in (Ok mail) = mail.size
 size_in (Err fault) = None
 
 sender_size : (argument : List ℕ) (o : LmtpCommand) → ReadsSender argument o → (r : Result AnnouncedMail ArgumentFault) × ReadsMail argument r × (announced_size o ≡ size_in r)
-sender_size argument (order.Mail mail) is = (Ok (record { from = mail.from.now; size = mail.size }), is, refl)
-sender_size argument (order.Refused reply.BadArgument) is = (Err Syntax, is, refl)
-sender_size argument (order.Refused reply.BadSender) is = (Err Address, is, refl)
-sender_size argument (order.Refused reply.BadParameter) is = (Err Parameter, is, refl)
+sender_size argument (command.Mail mail) is = (Ok (record { from = mail.from.now; size = mail.size }), is, refl)
+sender_size argument (command.Refused reply.BadArgument) is = (Err Syntax, is, refl)
+sender_size argument (command.Refused reply.BadSender) is = (Err Address, is, refl)
+sender_size argument (command.Refused reply.BadParameter) is = (Err Parameter, is, refl)
 sender_size argument other is = absurd is
 
 name_size : (argument : List ℕ) (o : LmtpCommand) → ReadsName argument o → announced_size o ≡ None
-name_size argument (order.Lhlo name) is = refl
-name_size argument (order.Refused reply.BadArgument) is = refl
+name_size argument (command.Lhlo name) is = refl
+name_size argument (command.Refused reply.BadArgument) is = refl
 name_size argument other is = absurd is
 
 target_size : (argument : List ℕ) (o : LmtpCommand) → ReadsTarget argument o → announced_size o ≡ None
-target_size argument (order.Rcpt address) is = refl
-target_size argument (order.Refused reply.BadArgument) is = refl
-target_size argument (order.Refused reply.BadRecipient) is = refl
-target_size argument (order.Refused reply.BadParameter) is = refl
+target_size argument (command.Rcpt address) is = refl
+target_size argument (command.Refused reply.BadArgument) is = refl
+target_size argument (command.Refused reply.BadRecipient) is = refl
+target_size argument (command.Refused reply.BadParameter) is = refl
 target_size argument other is = absurd is
 
 size_by_word : (word : LmtpVerb) (argument : List ℕ) (o p : LmtpCommand) → ReadsBy word argument o → ReadsBy word argument p → announced_size o ≡ announced_size p
@@ -316,9 +316,9 @@ size_by_word verb.Mail argument o p first second =
     let b = sender_size argument p second in
     a.2 ∙ (ap size_in (one_mail argument a.0 b.0 a.1 b.1) ∙ sym b.2)
 size_by_word verb.Rcpt argument o p first second = target_size argument o first ∙ sym (target_size argument p second)
-size_by_word verb.Data argument o p first second = ap announced_size (one_alone argument order.Data o p first second)
-size_by_word verb.Rset argument o p first second = ap announced_size (one_alone argument order.Rset o p first second)
-size_by_word verb.Quit argument o p first second = ap announced_size (one_alone argument order.Quit o p first second)
+size_by_word verb.Data argument o p first second = ap announced_size (one_alone argument command.Data o p first second)
+size_by_word verb.Rset argument o p first second = ap announced_size (one_alone argument command.Rset o p first second)
+size_by_word verb.Quit argument o p first second = ap announced_size (one_alone argument command.Quit o p first second)
 size_by_word verb.Noop argument o p first second = ap announced_size (first ∙ sym second)
 size_by_word verb.Vrfy argument o p first second = ap announced_size (first ∙ sym second)
 size_by_word verb.Help argument o p first second = ap announced_size (first ∙ sym second)

@@ -9,12 +9,12 @@ use Rattle.lmtp_dialogue.specs.Lines.{line_end, HasNoLineEnd, IsFirstLine, LineF
 use Rattle.lmtp_dialogue.specs.Receivers.{JoinsNone, IsLineGone, IsItemGone, HoldsDialogue, IsLineTaken, IsItemTaken, StandsIn, ReceiverTakesIn, takes_lines}
 use Rattle.lmtp_dialogue.specs.Talks.{phase_of}
 use Rattle.lmtp_dialogue.specs.Texts.{Feeds}
-use Rattle.lmtp_dialogue.specs.declared.line.Found.TheVariants.{TooLong}
+use Rattle.lmtp_dialogue.specs.declared.command_line.Found.TheVariants.{TooLong}
 use Rattle.lmtp_dialogue.specs.declared.receiver.Receiver.{Receiver}
 use Rattle.lmtp_dialogue.specs.declared.receiver.LmtpStage.{LmtpStage}
 use Rattle.lmtp_dialogue.specs.declared.receiver.LmtpStage.TheVariants as stage
-use Rattle.lmtp_dialogue.specs.declared.text.TextState.TheVariants.{Ended}
-use Rattle.lmtp_dialogue.specs.declared.text.Text.{Text}
+use Rattle.lmtp_dialogue.specs.declared.message_text.TextState.TheVariants.{Ended}
+use Rattle.lmtp_dialogue.specs.declared.message_text.Text.{Text}
 use Rattle.lmtp_dialogue.proofs.LineLemmas.{too_long}
 use Rattle.lmtp_dialogue.proofs.SkipLemmas.{joins_more, joins_both, joins_last, joins_line}
 use Rattle.lmtp_dialogue.proofs.StageLemmas.{line_gone, gone_line, taken_line}

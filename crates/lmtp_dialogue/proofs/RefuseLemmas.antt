@@ -7,8 +7,8 @@ use Rattle.lmtp_dialogue.specs.Receivers.{ReceiverRefuses, IsOverRoom, StandsIn,
 use Rattle.lmtp_dialogue.specs.Replies.{lmtp_line_of}
 use Rattle.lmtp_dialogue.specs.Talks.{phase_by, item_by}
 use Rattle.lmtp_dialogue.specs.Turns.{Declines, lacks_room}
-use Rattle.lmtp_dialogue.specs.declared.line.Found.{Found}
-use Rattle.lmtp_dialogue.specs.declared.line.Found.TheVariants.{Line}
+use Rattle.lmtp_dialogue.specs.declared.command_line.Found.{Found}
+use Rattle.lmtp_dialogue.specs.declared.command_line.Found.TheVariants.{Line}
 use Rattle.lmtp_dialogue.specs.declared.receiver.Receiver.{Receiver}
 use Rattle.lmtp_dialogue.specs.declared.receiver.LmtpStage.TheVariants as stage
 use Rattle.lmtp_dialogue.specs.declared.reply.LmtpReply.TheVariants as reply

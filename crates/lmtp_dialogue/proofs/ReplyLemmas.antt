@@ -6,7 +6,7 @@ use Rattle.std.specs.List.{list_all}
 use Rattle.octets.specs.Ascii.{is_printable}
 use Rattle.lmtp_dialogue.specs.Lines.{line_end}
 use Rattle.lmtp_dialogue.specs.Replies.{lmtp_line_of, lmtp_shown_octet, lmtp_shown, delivered_reply, IsOneReplyLine, RepliesAreLines}
-use Rattle.lmtp_dialogue.specs.declared.reply.DeliveryOutcome.TheVariants.{Delivered, Refused}
+use Rattle.lmtp_dialogue.specs.declared.reply.RecipientReply.TheVariants.{Delivered, Refused}
 use Rattle.lmtp_dialogue.specs.declared.reply.LmtpReply.{LmtpReply}
 use Rattle.lmtp_dialogue.specs.declared.reply.LmtpReply.TheVariants.{Done, SenderTaken, RecipientTaken, Unverified, GoAhead, Helped, Goodbye, UnknownCommand, NotSmtp, LineTooLong, BadArgument, BadSender, BadRecipient, OutOfOrder, NoRecipient, BadParameter, NoSuchUser, AccountClosed, MessageTooLarge, HeaderTooLarge, MailLoop, NoRoom, TooManyRecipients, StoreAway, LocalFault, Idle}
 

@@ -6,7 +6,7 @@ use Rattle.lmtp_dialogue.specs.Talks.{phase_by, IsSoundAt}
 use Rattle.lmtp_dialogue.specs.Texts.{TextStandsFor}
 use Rattle.lmtp_dialogue.specs.declared.receiver.LmtpStage.{LmtpStage}
 use Rattle.lmtp_dialogue.specs.declared.receiver.LmtpStage.TheVariants as stage
-use Rattle.lmtp_dialogue.specs.declared.text.Text.{Text}
+use Rattle.lmtp_dialogue.specs.declared.message_text.Text.{Text}
 
 -- ---- lines
 

@@ -4,8 +4,8 @@ use Rattle.std.proofs.lemmas.List.Elements.{All-cons, All-head, All-nil, All-tai
 use Rattle.std.specs.List.{All, flat_map}
 use Rattle.lmtp_dialogue.specs.Lines.{line_end, HasNoLineEnd, IsCrlfLine}
 use Rattle.lmtp_dialogue.specs.Texts.{line_with_crlf, undotted, IsSentLine, IsSentText, after, gained, text_state_after, text_after, TextEndsAt, TextsAgree}
-use Rattle.lmtp_dialogue.specs.declared.text.TextState.{TextState}
-use Rattle.lmtp_dialogue.specs.declared.text.TextState.TheVariants.{Start, Dot, DotReturn, Inside, Return, Ended}
+use Rattle.lmtp_dialogue.specs.declared.message_text.TextState.{TextState}
+use Rattle.lmtp_dialogue.specs.declared.message_text.TextState.TheVariants.{Start, Dot, DotReturn, Inside, Return, Ended}
 
 -- ---- lines
 

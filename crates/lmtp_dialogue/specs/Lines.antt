@@ -1,7 +1,7 @@
 -- Lines, which end at CRLF and nowhere else (RFC 5321, section 2.3.8).
 use Rattle.std.specs.Prelude.{◌≡◌, ◌≢◌, ◌⊎◌, ℕ, ◌+◌, ◌-◌, ◌<◌, ◌≤◌, List, [], ◌∷◌, ◌++◌, length, take, drop}
-use Rattle.lmtp_dialogue.specs.declared.line.Found.{Found}
-use Rattle.lmtp_dialogue.specs.declared.line.Found.TheVariants.{Need, Line, TooLong}
+use Rattle.lmtp_dialogue.specs.declared.command_line.Found.{Found}
+use Rattle.lmtp_dialogue.specs.declared.command_line.Found.TheVariants.{Need, Line, TooLong}
 
 -- CRLF
 abbrev pub line_end : List ℕ

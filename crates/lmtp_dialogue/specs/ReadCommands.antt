@@ -4,7 +4,7 @@ use Rattle.lmtp_dialogue.specs.Arguments.{ReadsMail, ReadsRecipient}
 use Rattle.lmtp_dialogue.specs.Commands.{IsCommandLine}
 use Rattle.lmtp_dialogue.specs.declared.argument.ArgumentFault.TheVariants.{Syntax, Address, Parameter}
 use Rattle.lmtp_dialogue.specs.declared.command.LmtpCommand.{LmtpCommand}
-use Rattle.lmtp_dialogue.specs.declared.command.LmtpCommand.TheVariants as order
+use Rattle.lmtp_dialogue.specs.declared.command.LmtpCommand.TheVariants as command
 use Rattle.lmtp_dialogue.specs.declared.reply.LmtpReply.{LmtpReply}
 use Rattle.lmtp_dialogue.specs.declared.reply.LmtpReply.TheVariants as reply
 use Rattle.lmtp_dialogue.specs.declared.verb.LmtpVerb.{LmtpVerb}
@@ -42,38 +42,38 @@ IsCommandRefused line other = ⊥
 
 -- what a command line asks for
 abbrev pub ReadsLmtpCommand : List ℕ → LmtpCommand → Type 0
-ReadsLmtpCommand line (order.Lhlo name) = IsCommandLine line verb.Lhlo name.now × Something name.now
-ReadsLmtpCommand line (order.Mail mail) = SaysCommand line verb.Mail (λ a. ReadsMail a (Ok (record { from = mail.from.now; size = mail.size })))
-ReadsLmtpCommand line (order.Rcpt address) = SaysCommand line verb.Rcpt (λ a. ReadsRecipient a (Ok address.now))
-ReadsLmtpCommand line order.Data = SaysCommand line verb.Data Nothing
-ReadsLmtpCommand line order.Rset = SaysCommand line verb.Rset Nothing
-ReadsLmtpCommand line order.Noop = SaysCommand line verb.Noop Anything
-ReadsLmtpCommand line order.Vrfy = SaysCommand line verb.Vrfy Anything
-ReadsLmtpCommand line order.Help = SaysCommand line verb.Help Anything
-ReadsLmtpCommand line order.Quit = SaysCommand line verb.Quit Nothing
-ReadsLmtpCommand line (order.Refused reply) = IsCommandRefused line reply
+ReadsLmtpCommand line (command.Lhlo name) = IsCommandLine line verb.Lhlo name.now × Something name.now
+ReadsLmtpCommand line (command.Mail mail) = SaysCommand line verb.Mail (λ a. ReadsMail a (Ok (record { from = mail.from.now; size = mail.size })))
+ReadsLmtpCommand line (command.Rcpt address) = SaysCommand line verb.Rcpt (λ a. ReadsRecipient a (Ok address.now))
+ReadsLmtpCommand line command.Data = SaysCommand line verb.Data Nothing
+ReadsLmtpCommand line command.Rset = SaysCommand line verb.Rset Nothing
+ReadsLmtpCommand line command.Noop = SaysCommand line verb.Noop Anything
+ReadsLmtpCommand line command.Vrfy = SaysCommand line verb.Vrfy Anything
+ReadsLmtpCommand line command.Help = SaysCommand line verb.Help Anything
+ReadsLmtpCommand line command.Quit = SaysCommand line verb.Quit Nothing
+ReadsLmtpCommand line (command.Refused reply) = IsCommandRefused line reply
 
 -- ---- what follows a command's word
 
 abbrev pub ReadsName : List ℕ → LmtpCommand → Type 0
-ReadsName argument (order.Lhlo name) = (name.now ≡ argument) × Something argument
-ReadsName argument (order.Refused reply.BadArgument) = Nothing argument
+ReadsName argument (command.Lhlo name) = (name.now ≡ argument) × Something argument
+ReadsName argument (command.Refused reply.BadArgument) = Nothing argument
 ReadsName argument other = ⊥
 
 abbrev pub ReadsSender : List ℕ → LmtpCommand → Type 0
-ReadsSender argument (order.Mail mail) = ReadsMail argument (Ok (record { from = mail.from.now; size = mail.size }))
-ReadsSender argument (order.Refused reply.BadArgument) = ReadsMail argument (Err Syntax)
-ReadsSender argument (order.Refused reply.BadSender) = ReadsMail argument (Err Address)
-ReadsSender argument (order.Refused reply.BadParameter) = ReadsMail argument (Err Parameter)
+ReadsSender argument (command.Mail mail) = ReadsMail argument (Ok (record { from = mail.from.now; size = mail.size }))
+ReadsSender argument (command.Refused reply.BadArgument) = ReadsMail argument (Err Syntax)
+ReadsSender argument (command.Refused reply.BadSender) = ReadsMail argument (Err Address)
+ReadsSender argument (command.Refused reply.BadParameter) = ReadsMail argument (Err Parameter)
 ReadsSender argument other = ⊥
 
 abbrev pub ReadsTarget : List ℕ → LmtpCommand → Type 0
-ReadsTarget argument (order.Rcpt address) = ReadsRecipient argument (Ok address.now)
-ReadsTarget argument (order.Refused reply.BadArgument) = ReadsRecipient argument (Err Syntax)
-ReadsTarget argument (order.Refused reply.BadRecipient) = ReadsRecipient argument (Err Address)
-ReadsTarget argument (order.Refused reply.BadParameter) = ReadsRecipient argument (Err Parameter)
+ReadsTarget argument (command.Rcpt address) = ReadsRecipient argument (Ok address.now)
+ReadsTarget argument (command.Refused reply.BadArgument) = ReadsRecipient argument (Err Syntax)
+ReadsTarget argument (command.Refused reply.BadRecipient) = ReadsRecipient argument (Err Address)
+ReadsTarget argument (command.Refused reply.BadParameter) = ReadsRecipient argument (Err Parameter)
 ReadsTarget argument other = ⊥
 
 abbrev pub ReadsAlone : List ℕ → LmtpCommand → LmtpCommand → Type 0
 ReadsAlone argument wanted result =
-    (Nothing argument × (result ≡ wanted)) ⊎ (Something argument × (result ≡ order.Refused reply.BadArgument))
+    (Nothing argument × (result ≡ wanted)) ⊎ (Something argument × (result ≡ command.Refused reply.BadArgument))

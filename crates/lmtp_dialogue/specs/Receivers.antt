@@ -7,21 +7,21 @@ use Rattle.lmtp_dialogue.specs.ReadCommands.{ReadsLmtpCommand}
 use Rattle.lmtp_dialogue.specs.Talks.{phase_of, IsTalkSound}
 use Rattle.lmtp_dialogue.specs.Texts.{TextStandsFor, held_text}
 use Rattle.lmtp_dialogue.specs.Turns.{DialogueAnswers, Resolves, DialogueReplies, max_text, Declines, announced_size, lacks_room}
-use Rattle.lmtp_dialogue.specs.declared.line.Found.TheVariants.{TooLong}
+use Rattle.lmtp_dialogue.specs.declared.command_line.Found.TheVariants.{TooLong}
 use Rattle.lmtp_dialogue.specs.declared.command.LmtpCommand.{LmtpCommand}
-use Rattle.lmtp_dialogue.specs.declared.receiver.Delivery.{Delivery}
+use Rattle.lmtp_dialogue.specs.declared.receiver.ReceivedMessage.{ReceivedMessage}
 use Rattle.lmtp_dialogue.specs.declared.receiver.Lookup.{Lookup}
 use Rattle.lmtp_dialogue.specs.declared.receiver.Next.{Next}
 use Rattle.lmtp_dialogue.specs.declared.receiver.Next.TheVariants as next
 use Rattle.lmtp_dialogue.specs.declared.receiver.Receiver.{Receiver}
 use Rattle.lmtp_dialogue.specs.declared.receiver.LmtpStage.{LmtpStage}
 use Rattle.lmtp_dialogue.specs.declared.receiver.LmtpStage.TheVariants as stage
-use Rattle.lmtp_dialogue.specs.declared.reply.DeliveryOutcome.{DeliveryOutcome}
+use Rattle.lmtp_dialogue.specs.declared.reply.RecipientReply.{RecipientReply}
 use Rattle.lmtp_dialogue.specs.declared.talk.Talk.{Talk}
-use Rattle.lmtp_dialogue.specs.declared.text.TextState.TheVariants.{Ended}
-use Rattle.lmtp_dialogue.specs.declared.text.Text.{Text}
-use Rattle.lmtp_dialogue.specs.declared.text.TextFault.{TextFault}
-use Rattle.lmtp_dialogue.specs.declared.text.TextFault.TheVariants.{TooLarge, Memory}
+use Rattle.lmtp_dialogue.specs.declared.message_text.TextState.TheVariants.{Ended}
+use Rattle.lmtp_dialogue.specs.declared.message_text.Text.{Text}
+use Rattle.lmtp_dialogue.specs.declared.message_text.TextFault.{TextFault}
+use Rattle.lmtp_dialogue.specs.declared.message_text.TextFault.TheVariants.{TooLarge, Memory}
 
 -- ---- what a receiver has heard
 
@@ -113,11 +113,11 @@ ReceiverAdmits lookup r s = (said : List ℕ) × ReceiverGoes (λ d. Resolves d 
 
 -- a reply is made to the next recipient to whom the message is to be delivered, whatever it says; if there is none, nothing changes
 abbrev pub ReceiverPasses : Receiver → Receiver → Type 0
-ReceiverPasses r s = (outcome : DeliveryOutcome) → (said : List ℕ) × ReceiverGoes (λ d. DialogueReplies d outcome) r s [] said
+ReceiverPasses r s = (outcome : RecipientReply) → (said : List ℕ) × ReceiverGoes (λ d. DialogueReplies d outcome) r s [] said
 
 -- if a text is sent, nothing of it is kept, and its recipients are told why
 abbrev pub IsDropped : Talk → Type 0
-IsDropped t = t.stage ≡ stage.Sending → (t.text.kept ≡ []) × IsSome t.text.trouble
+IsDropped t = t.stage ≡ stage.Sending → (t.text.kept ≡ []) × IsSome t.text.fault
 
 -- how many octets of lines and of a text it holds
 abbrev pub held_by : Receiver → ℕ
@@ -157,20 +157,20 @@ IsKept text (Err TooLarge) = max_text < length text
 IsKept text (Err Memory) = Unit {0}
 
 -- the text is whole, and this is the first recipient for whom a reply is owed
-pub record IsDelivery (d : Dialogue) (delivery : Delivery) : Type 0 where
+pub record IsDelivery (d : Dialogue) (received : ReceivedMessage) : Type 0 where
   pub left : List (List ℕ)
   pub text : List ℕ
   pub rest : List ℕ
-  pub owed : d.phase ≡ Sending delivery.sender.now (delivery.recipient.now ∷ left)
+  pub owed : d.phase ≡ Sending received.sender.now (received.recipient.now ∷ left)
   pub first : IsNextItem d (Message text) rest
-  pub kept : IsKept text delivery.text
+  pub kept : IsKept text received.text
 
 -- what comes next: more octets, a line, a recipient to look up, a delivery
 abbrev pub ComesNext : Dialogue → Next → Type 0
 ComesNext d next.Need = (is_heard d.phase ≡ true) × DialogueWaits d
 ComesNext d next.Line = (item : Item) × (rest : List ℕ) × IsNextItem d item rest × (is_line item ≡ true)
 ComesNext d (next.Recipient address) = (sender : List ℕ) × (taken : List (List ℕ)) × (d.phase ≡ Asking sender taken address.now)
-ComesNext d (next.Delivery delivery) = IsDelivery d delivery
+ComesNext d (next.Delivery received) = IsDelivery d received
 ComesNext d next.Over = d.phase ≡ Over
 
 -- a line that comes next was answered

@@ -3,8 +3,8 @@ use Rattle.std.specs.Prelude.{◌≡◌, ℕ, ◌≤◌, Bool, true, false, if�
 use Rattle.std.specs.List.{list_all}
 use Rattle.octets.specs.Ascii.{is_printable}
 use Rattle.lmtp_dialogue.specs.Lines.{line_end}
-use Rattle.lmtp_dialogue.specs.declared.reply.DeliveryOutcome.{DeliveryOutcome}
-use Rattle.lmtp_dialogue.specs.declared.reply.DeliveryOutcome.TheVariants.{Delivered, Refused}
+use Rattle.lmtp_dialogue.specs.declared.reply.RecipientReply.{RecipientReply}
+use Rattle.lmtp_dialogue.specs.declared.reply.RecipientReply.TheVariants.{Delivered, Refused}
 use Rattle.lmtp_dialogue.specs.declared.reply.LmtpReply.{LmtpReply}
 use Rattle.lmtp_dialogue.specs.declared.reply.LmtpReply.TheVariants.{Done, SenderTaken, RecipientTaken, Unverified, GoAhead, Helped, Goodbye, UnknownCommand, NotSmtp, LineTooLong, BadArgument, BadSender, BadRecipient, OutOfOrder, NoRecipient, BadParameter, NoSuchUser, AccountClosed, MessageTooLarge, HeaderTooLarge, MailLoop, NoRoom, TooManyRecipients, StoreAway, LocalFault, Idle}
 
@@ -97,7 +97,7 @@ abbrev pub delivered_reply : List ℕ → List ℕ
 delivered_reply report = codes "250 2.1.5 " ++ (lmtp_shown max_report report ++ line_end)
 
 -- it was delivered, with a report of that, or it wasn't
-abbrev pub outcome_line : DeliveryOutcome → List ℕ
+abbrev pub outcome_line : RecipientReply → List ℕ
 outcome_line (Delivered report) = delivered_reply report.now
 outcome_line (Refused reply) = lmtp_line_of reply
 
@@ -110,7 +110,7 @@ pub record IsOneReplyLine (said : List ℕ) : Type 0 where
 
 -- whatever a report has, and for each reply of one line
 abbrev pub RepliesAreLines : Type 0
-RepliesAreLines = (outcome : DeliveryOutcome) → IsOneReplyLine (outcome_line outcome)
+RepliesAreLines = (outcome : RecipientReply) → IsOneReplyLine (outcome_line outcome)
 
 -- ---- who greets, and what is announced to LHLO
 

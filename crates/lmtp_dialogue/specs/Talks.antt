@@ -7,7 +7,7 @@ use Rattle.lmtp_dialogue.specs.declared.receiver.Lookup.{Lookup}
 use Rattle.lmtp_dialogue.specs.declared.receiver.LmtpStage.{LmtpStage}
 use Rattle.lmtp_dialogue.specs.declared.receiver.LmtpStage.TheVariants as stage
 use Rattle.lmtp_dialogue.specs.declared.talk.Talk.{Talk}
-use Rattle.lmtp_dialogue.specs.declared.text.Text.{Text}
+use Rattle.lmtp_dialogue.specs.declared.message_text.Text.{Text}
 
 -- what goes on, by what is held: a recipient that is asked for comes after those that were taken
 abbrev pub phase_by : LmtpStage → List ℕ → List (List ℕ) → ℕ → DialoguePhase

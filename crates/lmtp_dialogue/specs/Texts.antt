@@ -4,11 +4,11 @@ use Rattle.std.specs.Prelude.{◌≡◌, ◌≢◌, ℕ, ◌+◌, ◌<◌, ◌�
 use Rattle.std.specs.Borrow.{Bor}
 use Rattle.std.specs.List.{All, flat_map}
 use Rattle.lmtp_dialogue.specs.Lines.{line_end, IsCrlfLine}
-use Rattle.lmtp_dialogue.specs.declared.text.TextState.{TextState}
-use Rattle.lmtp_dialogue.specs.declared.text.TextState.TheVariants.{Start, Dot, DotReturn, Inside, Return, Ended}
-use Rattle.lmtp_dialogue.specs.declared.text.Text.{Text}
-use Rattle.lmtp_dialogue.specs.declared.text.TextFault.{TextFault}
-use Rattle.lmtp_dialogue.specs.declared.text.TextFault.TheVariants.{TooLarge, Memory}
+use Rattle.lmtp_dialogue.specs.declared.message_text.TextState.{TextState}
+use Rattle.lmtp_dialogue.specs.declared.message_text.TextState.TheVariants.{Start, Dot, DotReturn, Inside, Return, Ended}
+use Rattle.lmtp_dialogue.specs.declared.message_text.Text.{Text}
+use Rattle.lmtp_dialogue.specs.declared.message_text.TextFault.{TextFault}
+use Rattle.lmtp_dialogue.specs.declared.message_text.TextFault.TheVariants.{TooLarge, Memory}
 
 -- ---- what a text is, by its lines
 
@@ -100,7 +100,7 @@ held_text t = length t.kept + put_by t.place
 pub record TextStandsFor (t : Text) (sent : List ℕ) : Type 0 where
   pub runs : RunsFrom Start sent
   pub place : t.place ≡ text_state_after Start sent
-  pub keeps : TextKeeps t (text_after Start sent) t.trouble
+  pub keeps : TextKeeps t (text_after Start sent) t.fault
 
 -- it took these octets more
 abbrev pub Feeds : Text → List ℕ → Text → Type 0
@@ -114,5 +114,5 @@ TextFinishes limit sent (Err Memory) = Unit {0}
 
 -- the text as it is kept, or why it isn't
 abbrev pub IsFinishedText : Text → Result (Bor (List ℕ)) TextFault → Type 0
-IsFinishedText text (Ok kept) = (text.trouble ≡ None) × (kept.now ≡ text.kept)
-IsFinishedText text (Err trouble) = text.trouble ≡ Some trouble
+IsFinishedText text (Ok kept) = (text.fault ≡ None) × (kept.now ≡ text.kept)
+IsFinishedText text (Err fault) = text.fault ≡ Some fault

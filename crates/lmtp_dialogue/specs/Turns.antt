@@ -4,8 +4,8 @@ use Rattle.lmtp_dialogue.specs.Dialogues.{DialoguePhase, Greeted, Ready, Opened,
 use Rattle.lmtp_dialogue.specs.ReadCommands.{ReadsLmtpCommand}
 use Rattle.lmtp_dialogue.specs.Replies.{lmtp_line_of, outcome_line}
 use Rattle.lmtp_dialogue.specs.declared.command.LmtpCommand.{LmtpCommand}
-use Rattle.lmtp_dialogue.specs.declared.command.LmtpCommand.TheVariants as order
-use Rattle.lmtp_dialogue.specs.declared.reply.DeliveryOutcome.{DeliveryOutcome}
+use Rattle.lmtp_dialogue.specs.declared.command.LmtpCommand.TheVariants as command
+use Rattle.lmtp_dialogue.specs.declared.reply.RecipientReply.{RecipientReply}
 use Rattle.lmtp_dialogue.specs.declared.reply.LmtpReply.{LmtpReply}
 use Rattle.lmtp_dialogue.specs.declared.reply.LmtpReply.TheVariants as reply
 use Rattle.lmtp_dialogue.specs.declared.receiver.Lookup.{Lookup}
@@ -77,16 +77,16 @@ quit_turn = says reply.Goodbye Over
 
 -- the turn of a command, if `hello` is said to LHLO
 abbrev pub command_turn : List ℕ → DialoguePhase → LmtpCommand → LmtpTurn
-command_turn hello phase (order.Lhlo name) = hello_turn hello
-command_turn hello phase (order.Mail mail) = mail_turn phase mail.from.now mail.size
-command_turn hello phase (order.Rcpt address) = rcpt_turn phase address.now
-command_turn hello phase order.Data = data_turn phase
-command_turn hello phase order.Rset = reset_turn phase
-command_turn hello phase order.Noop = says reply.Done phase
-command_turn hello phase order.Vrfy = says reply.Unverified phase
-command_turn hello phase order.Help = says reply.Helped phase
-command_turn hello phase order.Quit = quit_turn
-command_turn hello phase (order.Refused answer) = says answer phase
+command_turn hello phase (command.Lhlo name) = hello_turn hello
+command_turn hello phase (command.Mail mail) = mail_turn phase mail.from.now mail.size
+command_turn hello phase (command.Rcpt address) = rcpt_turn phase address.now
+command_turn hello phase command.Data = data_turn phase
+command_turn hello phase command.Rset = reset_turn phase
+command_turn hello phase command.Noop = says reply.Done phase
+command_turn hello phase command.Vrfy = says reply.Unverified phase
+command_turn hello phase command.Help = says reply.Helped phase
+command_turn hello phase command.Quit = quit_turn
+command_turn hello phase (command.Refused answer) = says answer phase
 
 -- ---- what happens in a dialogue
 
@@ -108,7 +108,7 @@ pub record DialogueAnswers (hello : List ℕ) (d : Dialogue) (said : List ℕ) (
 
 -- the size that a MAIL announces
 abbrev pub announced_size : LmtpCommand → Option ℕ
-announced_size (order.Mail mail) = mail.size
+announced_size (command.Mail mail) = mail.size
 announced_size asked = None
 
 -- more is announced than there is room for, and no more than a message may have
@@ -157,7 +157,7 @@ replied sender [] d rest = record { phase = Ready; unread = rest }
 replied sender (next ∷ left) d rest = record d { phase = Sending sender (next ∷ left) }
 
 -- the text is whole, and this became of it for the first recipient for whom a reply is owed
-pub record DialogueReplies (d : Dialogue) (outcome : DeliveryOutcome) (said : List ℕ) (e : Dialogue) : Type 0 where
+pub record DialogueReplies (d : Dialogue) (outcome : RecipientReply) (said : List ℕ) (e : Dialogue) : Type 0 where
   pub sender : List ℕ
   pub recipient : List ℕ
   pub left : List (List ℕ)
@@ -178,7 +178,7 @@ pub data DialogueAct : Type 0 where
   -- it is found whether there is an account, and said
   Tells : Lookup → List ℕ → DialogueAct
   -- a message was delivered to one recipient, or wasn't, and this is said
-  Reports : DeliveryOutcome → List ℕ → DialogueAct
+  Reports : RecipientReply → List ℕ → DialogueAct
 
 abbrev pub DialogueGoes : List ℕ → Dialogue → DialogueAct → Dialogue → Type 0
 DialogueGoes hello d (Hears piece) e = e ≡ dialogue_given piece d
@@ -196,4 +196,4 @@ pub record AnswersStand : Type 0 where
   pub one : (hello : List ℕ) (d e f : Dialogue) (said other : List ℕ) → DialogueAnswers hello d said e → DialogueAnswers hello d other f → (said ≡ other) × (e ≡ f)
   pub line : (hello : List ℕ) (d e : Dialogue) (said more : List ℕ) → DialogueAnswers hello d said e → DialogueAnswers hello (dialogue_given more d) said (dialogue_given more e)
   pub lookup : (d e : Dialogue) (lookup : Lookup) (said more : List ℕ) → Resolves d lookup said e → Resolves (dialogue_given more d) lookup said (dialogue_given more e)
-  pub outcome : (d e : Dialogue) (outcome : DeliveryOutcome) (said more : List ℕ) → DialogueReplies d outcome said e → DialogueReplies (dialogue_given more d) outcome said (dialogue_given more e)
+  pub outcome : (d e : Dialogue) (outcome : RecipientReply) (said more : List ℕ) → DialogueReplies d outcome said e → DialogueReplies (dialogue_given more d) outcome said (dialogue_given more e)

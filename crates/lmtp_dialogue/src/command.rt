@@ -84,11 +84,11 @@ fn command_of_recipient(argument: &[u8]) -> LmtpCommand<'_>
 }
 
 // A command after whose word nothing may follow.
-fn alone<'a>(argument: &[u8], order: LmtpCommand<'a>) -> LmtpCommand<'a>
-    ensures { s.ReadsAlone argument.now order.entry result }
+fn alone<'a>(argument: &[u8], command: LmtpCommand<'a>) -> LmtpCommand<'a>
+    ensures { s.ReadsAlone argument.now command.entry result }
 {
     if argument.is_empty() {
-        order
+        command
     } else {
         LmtpCommand::Refused(LmtpReply::BadArgument)
     }

@@ -3,21 +3,21 @@
 
 pub mod argument;
 pub mod command;
+pub mod command_line;
 pub mod copy;
 pub mod laws;
-pub mod line;
+pub mod message_text;
 pub mod name;
 pub mod path;
 pub mod receiver;
 mod recipients;
 pub mod reply;
 mod talk;
-pub mod text;
 pub mod verb;
 
+pub use command_line::{Found, find_line, skip_line};
 pub use copy::{copy_for, was_delivered};
-pub use line::{Found, find_line, skip_line};
+pub use message_text::{Text, TextFault, TextState};
 pub use name::{Names, name_forms};
-pub use receiver::{Delivery, LmtpStage, Lookup, Next, Receiver};
-pub use reply::{DeliveryOutcome, LmtpReply};
-pub use text::{Text, TextFault, TextState};
+pub use receiver::{LmtpStage, Lookup, Next, ReceivedMessage, Receiver};
+pub use reply::{LmtpReply, RecipientReply};

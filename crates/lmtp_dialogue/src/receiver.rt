@@ -7,11 +7,11 @@ ghost use Rattle.lmtp_dialogue.specs.Replies as r;
 ghost use Rattle.lmtp_dialogue.specs.Turns.{DialogueAnswers, Resolves, DialogueReplies, lookup_reply, lacks_room, announced_size as spec_size};
 
 use crate::command::{LmtpCommand, read_lmtp_command};
-use crate::line::{Found, find_line, skip_line};
+use crate::command_line::{Found, find_line, skip_line};
+use crate::message_text::{Text, TextFault};
 use crate::recipients::Recipients;
-use crate::reply::{DeliveryOutcome, LmtpReply, capabilities, greeting};
+use crate::reply::{LmtpReply, RecipientReply, capabilities, greeting};
 use crate::talk::{MAX_TEXT, Talk};
-use crate::text::{Text, TextFault};
 use octets::{Octets, Pending};
 use std::alloc::{AllocError, Global};
 
@@ -49,7 +49,7 @@ pub enum Lookup {
 
 /// A message for one recipient.
 #[derive(Clone, Copy)]
-pub struct Delivery<'a> {
+pub struct ReceivedMessage<'a> {
     /// The sender's address; empty for that of a bounce.
     pub sender: &'a [u8],
     pub recipient: &'a [u8],
@@ -67,7 +67,7 @@ pub enum Next<'a> {
     /// Whether there is an account for this recipient, which `resolve` is told.
     Recipient(&'a [u8]),
     /// The message is to be delivered to the next recipient: `report` is told what became of it.
-    Delivery(Delivery<'a>),
+    Delivery(ReceivedMessage<'a>),
     /// Nothing: the client has said QUIT.
     Over,
 }
@@ -255,8 +255,8 @@ impl Receiver {
         if self.long {
             return false;
         }
-        let order = read_lmtp_command(&self.unread.as_slice()[..count]);
-        is_over_room(size_of(order), room)
+        let command = read_lmtp_command(&self.unread.as_slice()[..count]);
+        is_over_room(size_of(command), room)
     }
 
     /// Is told whether there is an account for the recipient that comes next; if none does, nothing changes.
@@ -295,7 +295,7 @@ impl Receiver {
     /// Lack of memory is the only error; nothing changes then.
     pub fn report(
         &mut self,
-        outcome: DeliveryOutcome<'_>,
+        outcome: RecipientReply<'_>,
         out: &mut Octets,
     ) -> Result<(), AllocError>
         ensures ok { OnOk result (s.ReceiverGoes (λ d. DialogueReplies d outcome.entry) self.old self.new out.old out.new) }
@@ -311,7 +311,7 @@ impl Receiver {
 
     fn report_next(
         &mut self,
-        outcome: DeliveryOutcome<'_>,
+        outcome: RecipientReply<'_>,
         out: &mut Octets,
     ) -> Result<(), AllocError>
         requires { self.old.talk.stage ≡ LmtpStage.Sending }
@@ -328,7 +328,7 @@ impl Receiver {
         Ok(())
     }
 
-    /// A reply was made for the recipient to whom the message is to be delivered next: the caller says it, as `DeliveryOutcome::line` gives it.
+    /// A reply was made for the recipient to whom the message is to be delivered next: the caller says it, as `RecipientReply::line` gives it.
     /// If there is none, nothing changes. Takes no memory, so that it can be reserved before the message is delivered.
     pub fn pass(&mut self)
         ensures goes { s.ReceiverPasses self.old self.new }
@@ -444,10 +444,10 @@ fn is_too_long(octets: &[u8]) -> bool
 }
 
 // The size that a MAIL announces.
-fn size_of(order: LmtpCommand<'_>) -> Option<u64>
-    ensures { result ≡ spec_size order.entry }
+fn size_of(command: LmtpCommand<'_>) -> Option<u64>
+    ensures { result ≡ spec_size command.entry }
 {
-    match order {
+    match command {
         LmtpCommand::Mail(mail) => mail.size,
         _ => None,
     }

@@ -110,7 +110,7 @@ impl LmtpReply {
 
 /// What became of a message for one recipient.
 #[derive(Clone, Copy)]
-pub enum DeliveryOutcome<'a> {
+pub enum RecipientReply<'a> {
     /// It was delivered: what is reported of that. It is shown in one line of at most 512 octets, with `?` for each octet that isn't
     /// printable ASCII.
     Delivered(&'a [u8]),
@@ -118,14 +118,14 @@ pub enum DeliveryOutcome<'a> {
     Refused(LmtpReply),
 }
 
-impl DeliveryOutcome<'_> {
+impl RecipientReply<'_> {
     /// The line that tells it, with CRLF. Lack of memory is the only error.
     pub fn line(self, alloc: Global) -> Result<Octets, AllocError>
         ensures { IfOk result (λ line. line ≡ s.outcome_line self.entry) }
     {
         match self {
-            DeliveryOutcome::Delivered(report) => delivered(alloc, report),
-            DeliveryOutcome::Refused(reply) => Octets::from_slice(alloc, reply.line()),
+            RecipientReply::Delivered(report) => delivered(alloc, report),
+            RecipientReply::Refused(reply) => Octets::from_slice(alloc, reply.line()),
         }
     }
 }

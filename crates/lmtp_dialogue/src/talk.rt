@@ -5,10 +5,10 @@ ghost use Rattle.lmtp_dialogue.specs.Turns.{is_too_large as too_large};
 
 use crate::argument::MailArgument;
 use crate::command::{LmtpCommand, read_lmtp_command};
-use crate::receiver::{Delivery, LmtpStage, Lookup};
+use crate::message_text::Text;
+use crate::receiver::{LmtpStage, Lookup, ReceivedMessage};
 use crate::recipients::Recipients;
-use crate::reply::{DeliveryOutcome, LmtpReply};
-use crate::text::Text;
+use crate::reply::{LmtpReply, RecipientReply};
 use octets::Octets;
 use std::alloc::{AllocError, Global};
 
@@ -48,11 +48,11 @@ impl Talk {
     /// Obeys a command, and answers it if nothing has to be asked first.
     ///
     /// Lack of memory is the only error; nothing changes then.
-    pub fn obey(&mut self, order: LmtpCommand<'_>, out: &mut Octets) -> Result<(), AllocError>
-        ensures ok { OnOk result (s.TalkObeys (command_turn self.old.hello (s.phase_of self.old) order.entry) self.old self.new out.old out.new) }
+    pub fn obey(&mut self, command: LmtpCommand<'_>, out: &mut Octets) -> Result<(), AllocError>
+        ensures ok { OnOk result (s.TalkObeys (command_turn self.old.hello (s.phase_of self.old) command.entry) self.old self.new out.old out.new) }
         ensures err { OnErr result (s.IsSame self.old self.new out.old out.new) }
     {
-        match order {
+        match command {
             LmtpCommand::Lhlo(_) => self.hail(out),
             LmtpCommand::Mail(mail) => self.open(mail, out),
             LmtpCommand::Rcpt(address) => self.ask(address, out),
@@ -239,7 +239,7 @@ impl Talk {
     /// Lack of memory is the only error; nothing changes then.
     pub fn report(
         &mut self,
-        outcome: DeliveryOutcome<'_>,
+        outcome: RecipientReply<'_>,
         out: &mut Octets,
     ) -> Result<(), AllocError>
         requires sends { self.old.stage ≡ LmtpStage.Sending }
@@ -286,13 +286,13 @@ impl Talk {
     }
 
     /// The message for the next recipient to whom a reply is owed.
-    pub fn delivery(&self) -> Delivery<'_>
+    pub fn delivery(&self) -> ReceivedMessage<'_>
         requires { self.now.told < length self.now.recipients }
         ensures sender { result.sender.now ≡ self.now.sender }
         ensures recipient { result.recipient.now ≡ slice_index_or self.now.recipients self.now.told [] }
         ensures text { IsFinishedText self.now.text result.text }
     {
-        Delivery {
+        ReceivedMessage {
             sender: self.sender.as_slice(),
             recipient: self.recipients.address(self.told),
             text: self.text.kept(),

@@ -18,7 +18,7 @@ use Rattle.store_engine.specs.World.{World, InSession, OpensSession, StepsSessio
 use Rattle.store_engine.specs.declared.answer.Answer.{Answer}
 use Rattle.store_engine.specs.declared.answer.Answer.TheVariants.{Delivered, Added, Imported, Taken, MailTaken, Changed, Stored, Closed, Opened, Removed, NoticesTaken, Out, Refused}
 use Rattle.store_engine.specs.declared.event.Event.{Event}
-use Rattle.store_engine.specs.declared.event.Event.TheVariants.{Open, Give, Step, GiveUp, Close, Deliver, AddUser, Import, TakeOut, TakeMail, Keep}
+use Rattle.store_engine.specs.declared.event.Event.TheVariants.{Open, Give, Step, GiveUp, Close, Deliver, AddUser, Import, TakeOut, TakeMail, DoUpkeep}
 use Rattle.store_engine.specs.declared.upkeep.Upkeep.{Upkeep}
 use Rattle.store_engine.specs.Terms.{Terms, terms}
 use Rattle.store_engine.specs.declared.upkeep.Upkeep.TheVariants.{SetPassword, SetAddress, StoreScript, CloseAccount, OpenAccount, RemoveAccount, TakeNotices}
@@ -134,7 +134,7 @@ module _ (refusal : Refusal) (answer : Answer) (is : answer ≡ Refused refusal)
     happens (Import file) it = with_later it.0 (either (imports_under w.accounts it.0 file.head file.parts (get w.accounts file.head.owner.name)) (λ refused. refused.stays) it.1) it.2
     happens (TakeOut user id) it = with_later it.0 (takes_in w.accounts it.0 user id (open_account_of w.accounts user) it.1) it.2
     happens (TakeMail user folder) it = with_later it.0 (takes_mail w.accounts it.0 user folder (open_account_of w.accounts user) it.1) it.2
-    happens (Keep user upkeep) it = with_later it.0 (keeping w.accounts it.0 user upkeep it.1) it.2
+    happens (DoUpkeep user upkeep) it = with_later it.0 (keeping w.accounts it.0 user upkeep it.1) it.2
 
 -- an event that is refused changes no account
 pub refused_same : (w next : World) (event : Event) (refusal : Refusal) → Next w event (Refused refusal) next → next.accounts ≡ w.accounts

@@ -3,14 +3,14 @@
 #![tactic(auto)]
 
 pub mod laws;
+mod maildir_path;
 mod moving;
 mod order;
-mod place;
 mod rest;
 mod route;
 
+pub use maildir_path::{home_of, place_in};
 pub use moving::{Kept, Moving, Stay, StayReason, move_first_mail};
 pub use order::{FolderMark, MoveOrder};
-pub use place::{home_of, place_in};
 pub use rest::{Rest, Rests};
 pub use route::{Route, move_next, span_behind};

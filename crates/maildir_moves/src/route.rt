@@ -7,9 +7,9 @@ ghost use Rattle.maildir_moves.specs.Rests.{rests_at};
 ghost use Rattle.maildir_moves.specs.Turns.{GoesByTurns, HasTurn, IsRoundEnd, IsOf, IsStayOf, IsTurnAt, PassesFolder, OrderStays, TurnEnds};
 ghost use Rattle.maildir_moves.specs.Turns as turns;
 
+use crate::maildir_path::{home_of, place_in};
 use crate::moving::{Kept, Moving, Stay, StayReason, move_first_mail};
 use crate::order::MoveOrder;
-use crate::place::{home_of, place_in};
 use crate::rest::Rests;
 use maildir_files::{KeptMail, MailSink, Separator, SinkError};
 use octets::Octets;

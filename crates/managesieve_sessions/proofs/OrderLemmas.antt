@@ -1,6 +1,6 @@
 -- Commands about scripts, over a store.
 use Rattle.std.proofs.Common.{◌≡◌, ◌⊎◌, ℕ, Bool, true, false, cond, List, ◌++◌, Option, Some, None, Ok, Err, Result, OnOk, IfOk, IfErr, IsSome, IsTrue, refl, sym, ap, ◌∙◌, subst, inl, inr}
-use Rattle.std.specs.Prelude.{is_some}
+use Rattle.std.specs.Prelude.{is_some, option_copied}
 use Rattle.std.specs.Borrow.{Bor}
 use Rattle.std.specs.FinMap.{get}
 use Rattle.sqlite.specs.State.{State, HasCleanDisk}
@@ -35,6 +35,10 @@ use Rattle.managesieve_sessions.proofs.ActLemmas.{glanced, read_shows, acts_read
 pub value_is : (o : Option (Bor (List ℕ))) → borrowed_octets o ≡ borrowed_text o
 value_is None = refl
 value_is (Some text) = refl
+
+pub copied_is : (o : Option (Bor (List ℕ))) → borrowed_text o ≡ option_copied o
+copied_is None = refl
+copied_is (Some text) = refl
 
 -- ---- decisions
 

@@ -20,7 +20,7 @@ use crate::login::{has_password, spend_rounds};
 use crate::replies::negative_reply;
 use crate::scripts::{decide_script_command, get_script};
 use managesieve_protocol::spell;
-use octets::{Octets, Texts};
+use octets::{Octets, Texts, as_deref};
 use sasl_plain::{Login, PasswordHash, plain};
 use sqlite::Alter;
 use std::alloc::{AllocError, Global};
@@ -159,7 +159,7 @@ fn decision_on<'a, S: Alter>(
         ScriptCommand::Named(command) => command,
     };
     let KeptScripts { names, active } = kept_scripts(store, user)?;
-    let decision = decide_script_command(alloc, names, slice_of(&active), command)?;
+    let decision = decide_script_command(alloc, names, as_deref(&active), command)?;
     Ok(decision)
 }
 
@@ -184,16 +184,6 @@ fn make<S: Alter>(store: &mut Store<S>, user: &[u8], change: ScriptChange) -> Re
         ScriptChange::Activate(name) => store.set_active(user, name),
         ScriptChange::Delete(name) => store.delete(user, name),
         ScriptChange::Rename { old, new } => store.rename(user, old, new),
-    }
-}
-
-// The text's octets, if there is one.
-fn slice_of(text: &Option<Octets>) -> Option<&[u8]>
-    ensures { borrowed_text result ≡ text.now }
-{
-    match text {
-        Some(text) => Some(text.as_slice()),
-        None => None,
     }
 }
 

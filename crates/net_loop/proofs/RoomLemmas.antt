@@ -6,7 +6,7 @@ use Rattle.std.proofs.lemmas.List.Elements.{All-nil, All-cons, All-contains, Con
 use Rattle.net_loop.specs.declared.machine.Claim.{Claim}
 use Rattle.net_loop.specs.declared.service.Client.{Client}
 use Rattle.net_loop.specs.declared.service.Service.{Service}
-use Rattle.net_loop.specs.Room.{goes_before, better, best_from, best_number, may_go, claim_in, makes_room, MakesRoom, NobodyGoes, RoomChoice, FirstGoes}
+use Rattle.net_loop.specs.Room.{goes_before, better, best_from, best_number, may_go, claim_in, makes_room, MakesRoom, RoomChoice, FirstGoes}
 use Rattle.net_loop.specs.Rules.{Rules}
 
 -- ---- the order of claims

@@ -6,9 +6,10 @@ use Rattle.net_loop.specs.declared.act.Act.TheVariants.{Woke, Began, Late, Came,
 use Rattle.net_loop.specs.declared.outcome.Wake.{Wake}
 use Rattle.net_loop.specs.declared.service.Service.{Service}
 use Rattle.net_loop.specs.declared.turn.Turn.TheVariants.{Free}
-use Rattle.net_loop.specs.Moves.{Moment, LoopMoves, at}
+use Rattle.net_loop.specs.Moves.{Moment, LoopMoves, LoopState, loop_moment}
 use Rattle.net_loop.specs.Rules.{Rules}
 use Rattle.net_loop.specs.Talk.{is_same_id, client_of}
+use Rattle.net_loop.specs.Told.{Telling}
 
 -- an act, and what the machine says at it to its connection
 pub record Move (N : Type 0) : Type 0 where
@@ -32,12 +33,12 @@ pub record Lives {M N R : Type 0} (rules : Rules M N R) (m n : Moment M N R) : T
   pub passes : PassesMoves rules m moves n
 
 -- the same, if it is told
-abbrev pub LivesIf : {O M N R : Type 0} → (O → Bool) → (O → List (Act N)) → (O → R) → Rules M N R → O → M → Service → O → M → Service → Type 0
-LivesIf tells seen rest rules o m s p n t = IsTrue (tells p) → Lives rules (at seen rest o m s) (at seen rest p n t)
+abbrev pub LivesIf : {O M N R : Type 0} → Telling O N R → Rules M N R → LoopState O M → LoopState O M → Type 0
+LivesIf told rules before after = IsTrue (told.tells after.outside) → Lives rules (loop_moment told before) (loop_moment told after)
 
 -- this many acts were added, if it is told
-abbrev pub AddsIf : {O N : Type 0} → (O → Bool) → (O → List (Act N)) → O → ℕ → O → Type 0
-AddsIf tells seen o count p = IsTrue (tells p) → length (seen p) ≡ length (seen o) + count
+abbrev pub AddsIf : {O N R : Type 0} → Telling O N R → O → ℕ → O → Type 0
+AddsIf told old count new = IsTrue (told.tells new) → length (told.seen new) ≡ length (told.seen old) + count
 
 -- a service with no connection, and nobody's turn
 pub record Fresh (s : Service) : Type 0 where

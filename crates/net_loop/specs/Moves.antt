@@ -1,5 +1,5 @@
 -- What one call of the loop adds.
-use Rattle.std.specs.Prelude.{◌≡◌, ℕ, Bool, ◌==◌, nat_lt, not, filter, if◌then◌else◌, List, [], ◌∷◌, ◌++◌, Result, Ok, Err, IsTrue}
+use Rattle.std.specs.Prelude.{◌≡◌, ℕ, Bool, ◌==◌, nat_lt, not, filter, if◌then◌else◌, List, [], ◌∷◌, ◌++◌, Result, Ok, Err, IsTrue, OnErr}
 use Rattle.std.specs.List.{list_any}
 use Rattle.net_loop.specs.declared.act.Act.{Act}
 use Rattle.net_loop.specs.declared.act.Act.TheVariants.{Woke, Began, Timed, Waits, Resumed, Worked, Came, InUse, Noted, Ended}
@@ -7,6 +7,7 @@ use Rattle.net_loop.specs.declared.outcome.Wake.{Wake}
 use Rattle.net_loop.specs.declared.service.Service.{Service}
 use Rattle.net_loop.specs.Rules.{Rules}
 use Rattle.net_loop.specs.Talk.{ClientTalks, client_of}
+use Rattle.net_loop.specs.Told.{Telling, ToldBefore}
 use Rattle.net_loop.specs.Turns.{TurnAllows, after_number}
 
 -- all acts so far, all outside that is neither sockets nor clock, the machine, and the connections
@@ -74,14 +75,28 @@ abbrev pub LoopMovesOr : {M N R T F : Type 0} → Rules M N R → Moment M N R �
 LoopMovesOr rules m n (Ok done) = LoopMoves rules m n
 LoopMovesOr rules m n (Err fault) = n ≡ m
 
--- the moment at an outside, by what it tells
-abbrev pub at : {O M N R : Type 0} → (O → List (Act N)) → (O → R) → O → M → Service → Moment M N R
-at seen rest o m s = moment (seen o) (rest o) m s
+-- an outside, a machine, and the connections that it serves
+pub record LoopState (O M : Type 0) : Type 0 where
+  pub outside : O
+  pub machine : M
+  pub service : Service
 
--- one call, if it is told: a move, or nothing if a wait failed
-abbrev pub LoopMovesIf : {O M N R : Type 0} → (O → Bool) → (O → List (Act N)) → (O → R) → Rules M N R → O → M → Service → O → M → Service → Type 0
-LoopMovesIf tells seen rest rules o m s p n t = IsTrue (tells p) → LoopMoves rules (at seen rest o m s) (at seen rest p n t)
+-- from the values of the code
+abbrev pub loop_state : {O M : Type 0} → O → M → Service → LoopState O M
+loop_state outside machine service = record { outside = outside; machine = machine; service = service }
 
-abbrev pub LoopMovesOrIf : {O M N R T F : Type 0} → (O → Bool) → (O → List (Act N)) → (O → R) → Rules M N R
-    → O → M → Service → O → M → Service → Result T F → Type 0
-LoopMovesOrIf tells seen rest rules o m s p n t result = IsTrue (tells p) → LoopMovesOr rules (at seen rest o m s) (at seen rest p n t) result
+-- the moment of a state, by what its outside tells
+abbrev pub loop_moment : {O M N R : Type 0} → Telling O N R → LoopState O M → Moment M N R
+loop_moment told s = moment (told.seen s.outside) (told.rest s.outside) s.machine s.service
+
+-- one call of the loop: a move, if it is told
+pub record LoopActs {O M N R : Type 0} (told : Telling O N R) (rules : Rules M N R) (before after : LoopState O M) : Type 0 where
+  pub kept : ToldBefore told before.outside after.outside
+  pub moves : IsTrue (told.tells after.outside) → LoopMoves rules (loop_moment told before) (loop_moment told after)
+
+-- one call of the loop, if it is told; or nothing, if a wait failed, which breaks the outside
+pub record LoopActsOr {O M N R T F : Type 0} (told : Telling O N R) (broken : O → Bool) (rules : Rules M N R) (before after : LoopState O M) (result : Result T F)
+    : Type 0 where
+  pub kept : ToldBefore told before.outside after.outside
+  pub moves : IsTrue (told.tells after.outside) → LoopMovesOr rules (loop_moment told before) (loop_moment told after) result
+  pub broke : OnErr result (IsTrue (broken after.outside))

@@ -4,6 +4,7 @@ use Rattle.net_loop.specs.declared.act.Act.{Act}
 use Rattle.net_loop.specs.declared.act.Act.TheVariants.{Noted, Worked}
 use Rattle.net_loop.specs.declared.machine.Claim.{Claim}
 use Rattle.net_loop.specs.declared.machine.Want.{Want}
+use Rattle.net_loop.specs.Told.{Telling}
 
 -- of a machine M that notes N and acts on R, all of the outside that is neither sockets nor clock: how many connections of a
 -- kind may be open; of a connection by its number whether it may make room at a moment, when that many are, what it wants,
@@ -38,13 +39,37 @@ pub record MachineWorks {M N R : Type 0} (rules : Rules M N R) (seen : List (Act
   pub grows : later ≡ seen ++ Worked note ∷ []
   pub works : rules.works m r now note n q
 
--- the same, if it is told
-abbrev pub StepsIf : {O M N R : Type 0} → (O → Bool) → (O → List (Act N)) → (O → R) → Rules M N R → O → M → ℕ → ℕ → List ℕ → O → M → Type 0
-StepsIf tells seen rest rules o m now id said p n = IsTrue (tells p) → MachineSteps rules (seen o) m (rest o) now id said (seen p) n (rest p)
+-- a machine, and the outside that it acts on
+pub record MachineState (O M : Type 0) : Type 0 where
+  pub outside : O
+  pub machine : M
 
-abbrev pub WorksIf : {O M N R : Type 0} → (O → Bool) → (O → List (Act N)) → (O → R) → Rules M N R → O → M → ℕ → O → M → Type 0
-WorksIf tells seen rest rules o m now p n = IsTrue (tells p) → MachineWorks rules (seen o) m (rest o) now (seen p) n (rest p)
+-- from the values of the code
+abbrev pub machine_state : {O M : Type 0} → O → M → MachineState O M
+machine_state outside machine = record { outside = outside; machine = machine }
+
+-- one step of a connection: the moment, its number, and what is said to it
+pub record OneStep : Type 0 where
+  pub now : ℕ
+  pub id : ℕ
+  pub said : List ℕ
+
+abbrev pub step_at : ℕ → ℕ → List ℕ → OneStep
+step_at now id said = record { now = now; id = id; said = said }
+
+-- a machine continued, or worked, if it is told
+abbrev pub StepsIf : {O M N R : Type 0} → Telling O N R → Rules M N R → MachineState O M → OneStep → MachineState O M → Type 0
+StepsIf told rules before step after =
+    IsTrue (told.tells after.outside)
+    → MachineSteps rules (told.seen before.outside) before.machine (told.rest before.outside) step.now step.id step.said
+    (told.seen after.outside) after.machine (told.rest after.outside)
+
+abbrev pub WorksIf : {O M N R : Type 0} → Telling O N R → Rules M N R → MachineState O M → ℕ → MachineState O M → Type 0
+WorksIf told rules before now after =
+    IsTrue (told.tells after.outside)
+    → MachineWorks rules (told.seen before.outside) before.machine (told.rest before.outside) now
+    (told.seen after.outside) after.machine (told.rest after.outside)
 
 -- nothing was done outside, if it is told
-abbrev pub IdlesIf : {O N R : Type 0} → (O → Bool) → (O → List (Act N)) → (O → R) → O → O → Type 0
-IdlesIf tells seen rest o p = IsTrue (tells p) → (seen p ≡ seen o) × (rest p ≡ rest o)
+abbrev pub IdlesIf : {O N R : Type 0} → Telling O N R → O → O → Type 0
+IdlesIf told old new = IsTrue (told.tells new) → (told.seen new ≡ told.seen old) × (told.rest new ≡ told.rest old)

@@ -14,17 +14,30 @@ use Rattle.net_loop.specs.declared.outcome.Output.TheVariants as output
 abbrev pub largest_piece : ℕ
 largest_piece = 4096
 
+-- what an outside O tells of itself, for a machine that notes N and acts on R
+pub record Telling (O N R : Type 0) : Type 0 where
+  -- whether it tells what happens; once it no longer does, it never does again
+  pub tells : O → Bool
+  -- all acts so far, in their order, if it tells them
+  pub seen : O → List (Act N)
+  -- all of it that is neither sockets nor clock: what a machine keeps there, and acts on
+  pub rest : O → R
+
+-- if it tells after a call, it told before
+abbrev pub ToldBefore : {O N R : Type 0} → Telling O N R → O → O → Type 0
+ToldBefore told old new = IsTrue (told.tells new) → IsTrue (told.tells old)
+
 -- one act was added
 abbrev pub TellsAct : {N : Type 0} → List (Act N) → Act N → List (Act N) → Type 0
 TellsAct seen act later = later ≡ seen ++ act ∷ []
 
 -- the same, if it is told
-abbrev pub TellsIf : {O N : Type 0} → (O → Bool) → (O → List (Act N)) → O → Act N → O → Type 0
-TellsIf tells seen old act new = IsTrue (tells new) → TellsAct (seen old) act (seen new)
+abbrev pub TellsIf : {O N R : Type 0} → Telling O N R → O → Act N → O → Type 0
+TellsIf told old act new = IsTrue (told.tells new) → TellsAct (told.seen old) act (told.seen new)
 
 -- all that is neither sockets nor clock is as it was, if it is told
-abbrev pub LeavesIf : {O R : Type 0} → (O → Bool) → (O → R) → O → O → Type 0
-LeavesIf tells rest old new = IsTrue (tells new) → rest new ≡ rest old
+abbrev pub LeavesIf : {O N R : Type 0} → Telling O N R → O → O → Type 0
+LeavesIf told old new = IsTrue (told.tells new) → told.rest new ≡ told.rest old
 
 -- accepting: a connection came, or none did
 abbrev pub AfterAccept : {N : Type 0} → List (Act N) → ℕ → ℕ → Accepted → List (Act N) → Type 0

@@ -1,6 +1,6 @@
 -- Whose turn it is, act by act, and what the machine is asked for.
 use Rattle.std.specs.Prelude.{◌≡◌, ◌⊎◌, ℕ, ◌+◌, ◌-◌, ◌%◌, ◌^◌, ◌≤◌, ◌<◌, ◌==◌, Bool, true, false, List, [], length, filter, find}
-use Rattle.std.specs.Prelude.{nat_lt, not, option_map, if◌then◌else◌, ◌&&◌, Option, Some, None, IsSome}
+use Rattle.std.specs.Prelude.{nat_lt, not, option_map, ◌&&◌, Option, Some, None, IsSome}
 use Rattle.std.specs.BTreeMap as tree
 use Rattle.std.specs.List.{list_any}
 use Rattle.net_loop.specs.declared.act.Act.{Act}
@@ -18,7 +18,7 @@ use Rattle.net_loop.specs.declared.turn.Task.{Task}
 use Rattle.net_loop.specs.declared.turn.Task.TheVariants.{Send, Hear, Step, Rest, HangUp, Drain, End, Nothing}
 use Rattle.net_loop.specs.Room.{makes_room}
 use Rattle.net_loop.specs.Rules.{Rules}
-use Rattle.net_loop.specs.Talk.{is_same_id, client_of, client_kind, is_quiet, is_closing, is_late_at, fair, task, is_open_by, newcomer, ClientAnswers, ChangesOnly, ClientMayAnswer, ClientMayPart}
+use Rattle.net_loop.specs.Talk.{is_same_id, client_of, client_kind, is_quiet, is_closing, is_late_at, fair, task, newcomer, ClientAnswers, ChangesOnly, ClientMayAnswer, ClientMayPart}
 use Rattle.net_loop.specs.Told.{largest_piece}
 
 -- how many connections of a kind are open
@@ -108,16 +108,24 @@ ServiceOpens rules m now id kind said n t =
     (rules.opens m now kind id said n × (client_of t id ≡ Some (newcomer now id kind said)) × (t.turn ≡ Accepting kind false))
     ⊎ ((client_of t id ≡ None) × (t.turn ≡ OutOfMemory id kind) × (rules.opens m now kind id said n ⊎ rules.lacks m id n))
 
+-- a machine, and the connections that it serves
+pub record ServiceState (M : Type 0) : Type 0 where
+  pub machine : M
+  pub service : Service
+
+abbrev pub service_state : {M : Type 0} → M → Service → ServiceState M
+service_state machine service = record { machine = machine; service = service }
+
 -- one that came, and what is said to it
-pub record ServiceAccepts {M N R : Type 0} (rules : Rules M N R) (m : M) (s : Service) (id kind : ℕ) (n : M) (t : Service) : Type 0 where
+pub record ServiceAccepts {M N R : Type 0} (rules : Rules M N R) (before : ServiceState M) (id kind : ℕ) (after : ServiceState M) : Type 0 where
   pub said : List ℕ
-  pub opens : ServiceOpens rules m s.moment id kind said n t
-  pub others : (other : ℕ) → is_same_id id other ≡ false → client_of t other ≡ client_of s other
-  pub next : t.next ≡ after_number id
-  pub since : t.since ≡ s.since
-  pub ready : t.ready ≡ s.ready
-  pub waiting : t.waiting ≡ s.waiting
-  pub moment : t.moment ≡ s.moment
+  pub opens : ServiceOpens rules before.machine before.service.moment id kind said after.machine after.service
+  pub others : (other : ℕ) → is_same_id id other ≡ false → client_of after.service other ≡ client_of before.service other
+  pub next : after.service.next ≡ after_number id
+  pub since : after.service.since ≡ before.service.since
+  pub ready : after.service.ready ≡ before.service.ready
+  pub waiting : after.service.waiting ≡ before.service.waiting
+  pub moment : after.service.moment ≡ before.service.moment
 
 -- the machine answered and the turn goes on, or memory was lacking
 abbrev pub HeardOrLacking : Type 0 → Type 0 → ℕ → ℕ → ℕ → List ℕ → Turn → Type 0
@@ -142,15 +150,16 @@ pub record ServiceAnswers (id count : ℕ) (said : List ℕ) (s t : Service) : T
   pub moment : t.moment ≡ s.moment
 
 -- a piece that was heard, and what the machine made of it
-pub record ServiceGiven {M N R : Type 0} (rules : Rules M N R) (m : M) (s : Service) (id count : ℕ) (piece : List ℕ) (n : M) (t : Service) : Type 0 where
+pub record ServiceGiven {M N R : Type 0} (rules : Rules M N R) (before : ServiceState M) (id count : ℕ) (piece : List ℕ) (after : ServiceState M) : Type 0 where
   pub said : List ℕ
-  pub goes : HeardOrLacking (rules.gives m s.moment id piece said n) (rules.lacks m id n) id (client_kind (client_of s id)) count said t.turn
-  pub talks : ChangesOnly id (ClientMayAnswer s.moment said) s t
-  pub next : t.next ≡ s.next
-  pub since : t.since ≡ s.since
-  pub ready : t.ready ≡ s.ready
-  pub waiting : t.waiting ≡ s.waiting
-  pub moment : t.moment ≡ s.moment
+  pub goes : HeardOrLacking (rules.gives before.machine before.service.moment id piece said after.machine) (rules.lacks before.machine id after.machine) id
+      (client_kind (client_of before.service id)) count said after.service.turn
+  pub talks : ChangesOnly id (ClientMayAnswer before.service.moment said) before.service after.service
+  pub next : after.service.next ≡ before.service.next
+  pub since : after.service.since ≡ before.service.since
+  pub ready : after.service.ready ≡ before.service.ready
+  pub waiting : after.service.waiting ≡ before.service.waiting
+  pub moment : after.service.moment ≡ before.service.moment
 
 -- an act that leaves the machine alone, and says nothing
 abbrev pub Silent : {M : Type 0} → M → List ℕ → M → Type 0
@@ -197,15 +206,15 @@ Parting rules m s id said n t =
     ⊎ ((said ≡ []) × (t.turn ≡ Leaving id (client_kind (client_of s id))) × rules.lacks m id n)
 
 -- what the machine says last to one that was late or makes room
-pub record ServiceParted {M N R : Type 0} (rules : Rules M N R) (m : M) (s : Service) (id : ℕ) (at : Phase) (n : M) (t : Service) : Type 0 where
+pub record ServiceParted {M N R : Type 0} (rules : Rules M N R) (before : ServiceState M) (id : ℕ) (at : Phase) (after : ServiceState M) : Type 0 where
   pub said : List ℕ
-  pub parting : Parting rules m s id said n t
-  pub talks : ChangesOnly id (ClientMayPart at s.moment said) s t
-  pub next : t.next ≡ s.next
-  pub since : t.since ≡ s.since
-  pub ready : t.ready ≡ s.ready
-  pub waiting : t.waiting ≡ s.waiting
-  pub moment : t.moment ≡ s.moment
+  pub parting : Parting rules before.machine before.service id said after.machine after.service
+  pub talks : ChangesOnly id (ClientMayPart at before.service.moment said) before.service after.service
+  pub next : after.service.next ≡ before.service.next
+  pub since : after.service.since ≡ before.service.since
+  pub ready : after.service.ready ≡ before.service.ready
+  pub waiting : after.service.waiting ≡ before.service.waiting
+  pub moment : after.service.moment ≡ before.service.moment
 
 -- another has its turn after this many acts, and not before; or if it isn't there
 abbrev pub Yields : {M N R : Type 0} → Rules M N R → M → Service → ℕ → Type 0

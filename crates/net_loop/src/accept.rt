@@ -1,9 +1,9 @@
 //! Connections that come, and who makes room for them.
 ghost use Rattle.std.specs.Prelude.{◌≡◌, ◌==◌, ◌<◌, filter, true, Some, None, IsTrue};
-ghost use Rattle.net_loop.specs.Moves.{LoopMovesIf};
+ghost use Rattle.net_loop.specs.Moves.{LoopActs, loop_state};
 ghost use Rattle.net_loop.specs.Room.{goes_before, better, best_number, has_had_by, may_go, claim_in, makes_room};
 ghost use Rattle.net_loop.specs.Talk.{client_of, waits, is_open_by};
-ghost use Rattle.net_loop.specs.Turns.{ServiceAccepts, MayAccept, NoPlace};
+ghost use Rattle.net_loop.specs.Turns.{ServiceAccepts, MayAccept, NoPlace, service_state};
 ghost use Rattle.net_loop.specs.Turns.{open_count};
 ghost use Rattle.net_loop.specs.declared.turn.Turn.TheVariants.{Free, Accepting, OutOfMemory};
 
@@ -43,8 +43,7 @@ pub fn door_once<O: Sockets + Clock, M: Machine<O>>(
     knocked: bool,
 )
     requires { service.old.turn ≡ Accepting kind knocked }
-    ensures kept { IsTrue (O.tells outside.new) → IsTrue (O.tells outside.old) }
-    ensures moves { LoopMovesIf O.tells O.seen O.rest M.rules outside.old machine.old service.old outside.new machine.new service.new }
+    ensures { LoopActs O.told M.rules (loop_state outside.old machine.old service.old) (loop_state outside.new machine.new service.new) }
 {
     if count_open(service, kind) >= machine.limit(kind) {
         return crowd_once(outside, machine, service, kind, knocked);
@@ -68,8 +67,7 @@ fn crowd_once<O: Sockets + Clock, M: Machine<O>>(
     knocked: bool,
 )
     requires { NoPlace M.rules service.old kind knocked }
-    ensures kept { IsTrue (O.tells outside.new) → IsTrue (O.tells outside.old) }
-    ensures moves { LoopMovesIf O.tells O.seen O.rest M.rules outside.old machine.old service.old outside.new machine.new service.new }
+    ensures { LoopActs O.told M.rules (loop_state outside.old machine.old service.old) (loop_state outside.new machine.new service.new) }
 {
     let Some(id) = find_room(machine, service, kind) else {
         outside.defer(kind);
@@ -93,8 +91,7 @@ fn displace_once<O: Sockets + Clock, M: Machine<O>>(
 )
     requires none { NoPlace M.rules service.old kind true }
     requires one { makes_room M.rules machine.old service.old kind ≡ Some id }
-    ensures kept { IsTrue (O.tells outside.new) → IsTrue (O.tells outside.old) }
-    ensures moves { LoopMovesIf O.tells O.seen O.rest M.rules outside.old machine.old service.old outside.new machine.new service.new }
+    ensures { LoopActs O.told M.rules (loop_state outside.old machine.old service.old) (loop_state outside.new machine.new service.new) }
 {
     outside.note(Act::Displaced(id));
     dismiss(machine, service, id, Phase::Yielding);
@@ -212,8 +209,7 @@ fn accept_once<O: Sockets + Clock, M: Machine<O>>(
 )
     requires admits { MayAccept M.rules service.old kind }
     requires next { id ≡ service.old.next }
-    ensures kept { IsTrue (O.tells outside.new) → IsTrue (O.tells outside.old) }
-    ensures moves { LoopMovesIf O.tells O.seen O.rest M.rules outside.old machine.old service.old outside.new machine.new service.new }
+    ensures { LoopActs O.told M.rules (loop_state outside.old machine.old service.old) (loop_state outside.new machine.new service.new) }
 {
     match outside.accept(kind, id) {
         Accepted::Came => admit(machine, service, kind, id),
@@ -231,7 +227,7 @@ fn admit<O: Sockets + Clock, M: Machine<O>>(
     id: u32,
 )
     requires { client_of service.old id ≡ None }
-    ensures { ServiceAccepts M.rules machine.old service.old id kind machine.new service.new }
+    ensures { ServiceAccepts M.rules (service_state machine.old service.old) id kind (service_state machine.new service.new) }
 {
     service.next = id.wrapping_add(1);
     let mut out = Octets::new(service.alloc);

@@ -1,6 +1,6 @@
 //! How connections end.
 ghost use Rattle.std.specs.Prelude.{◌≡◌, ◌==◌, ◌<◌, not, filter, IsTrue};
-ghost use Rattle.net_loop.specs.Moves.{LoopMovesIf};
+ghost use Rattle.net_loop.specs.Moves.{LoopActs, loop_state};
 ghost use Rattle.net_loop.specs.Turns.{Yields, MayEnd};
 ghost use Rattle.net_loop.specs.declared.turn.Turn.TheVariants.{Free, Accepting, OutOfMemory};
 
@@ -25,8 +25,7 @@ pub fn again_once<O: Sockets + Clock, M: Machine<O>>(
     id: u32,
 )
     requires { Yields M.rules machine.old service.old id }
-    ensures kept { IsTrue (O.tells outside.new) → IsTrue (O.tells outside.old) }
-    ensures moves { LoopMovesIf O.tells O.seen O.rest M.rules outside.old machine.old service.old outside.new machine.new service.new }
+    ensures { LoopActs O.told M.rules (loop_state outside.old machine.old service.old) (loop_state outside.new machine.new service.new) }
 {
     outside.again(id);
     service.turn = Turn::Free;
@@ -41,8 +40,7 @@ pub fn full_once<O: Sockets + Clock, M: Machine<O>>(
     kind: u32,
 )
     requires { service.old.turn ≡ OutOfMemory id kind }
-    ensures kept { IsTrue (O.tells outside.new) → IsTrue (O.tells outside.old) }
-    ensures moves { LoopMovesIf O.tells O.seen O.rest M.rules outside.old machine.old service.old outside.new machine.new service.new }
+    ensures { LoopActs O.told M.rules (loop_state outside.old machine.old service.old) (loop_state outside.new machine.new service.new) }
 {
     outside.note(Act::Full(id));
     service.turn = Turn::Leaving(id, kind);
@@ -57,8 +55,7 @@ pub fn end_once<O: Sockets + Clock, M: Machine<O>>(
     kind: u32,
 )
     requires { MayEnd M.rules machine.old service.old id kind }
-    ensures kept { IsTrue (O.tells outside.new) → IsTrue (O.tells outside.old) }
-    ensures moves { LoopMovesIf O.tells O.seen O.rest M.rules outside.old machine.old service.old outside.new machine.new service.new }
+    ensures { LoopActs O.told M.rules (loop_state outside.old machine.old service.old) (loop_state outside.new machine.new service.new) }
 {
     outside.close(id);
     machine.close(service.moment, id);

@@ -1,9 +1,9 @@
 //! The turn of one connection: what is sent to it, read of it and done for it.
 ghost use Rattle.std.specs.Prelude.{ℕ, ◌≡◌, ◌==◌, ◌<◌, ◌≤◌, length, take, true, Some, None, IsTrue, IsSome};
-ghost use Rattle.net_loop.specs.Moves.{LoopMovesIf};
+ghost use Rattle.net_loop.specs.Moves.{LoopActs, loop_state};
 ghost use Rattle.net_loop.specs.Talk.{client_of, client_kind, waits, shut_from, is_nothing, gathers, task, task_by, task_sent};
 ghost use Rattle.net_loop.specs.Talk.{task_unsent, task_wanted, takes_more, next_piece, Gathers, Taken, ClientStays, drained, due_taken};
-ghost use Rattle.net_loop.specs.Turns.{Tasks, ServiceAnswers, ServiceGiven};
+ghost use Rattle.net_loop.specs.Turns.{Tasks, ServiceAnswers, ServiceGiven, service_state};
 ghost use Rattle.net_loop.specs.declared.turn.Turn.TheVariants.{Free, Busy, OutOfMemory};
 ghost use Rattle.net_loop.specs.declared.turn.Task.TheVariants.{Send, Hear, Step, Rest, HangUp, Drain};
 
@@ -117,8 +117,7 @@ pub fn busy_once<O: Sockets + Clock, M: Machine<O>>(
     count: u32,
 )
     requires { service.old.turn ≡ Busy id count }
-    ensures kept { IsTrue (O.tells outside.new) → IsTrue (O.tells outside.old) }
-    ensures moves { LoopMovesIf O.tells O.seen O.rest M.rules outside.old machine.old service.old outside.new machine.new service.new }
+    ensures { LoopActs O.told M.rules (loop_state outside.old machine.old service.old) (loop_state outside.new machine.new service.new) }
 {
     if count >= MAX_ACTS {
         return again_once(outside, machine, service, id);
@@ -147,8 +146,7 @@ fn send_once<O: Sockets + Clock, M: Machine<O>>(
 )
     requires turn { Tasks M.rules machine.old service.old id count Send }
     requires kind { kind ≡ client_kind (client_of service.old id) }
-    ensures kept { IsTrue (O.tells outside.new) → IsTrue (O.tells outside.old) }
-    ensures moves { LoopMovesIf O.tells O.seen O.rest M.rules outside.old machine.old service.old outside.new machine.new service.new }
+    ensures { LoopActs O.told M.rules (loop_state outside.old machine.old service.old) (loop_state outside.new machine.new service.new) }
 {
     let Some(client) = service.clients.get_mut(&id) else {
         return;
@@ -223,8 +221,7 @@ fn hear_once<O: Sockets + Clock, M: Machine<O>>(
 )
     requires turn { Tasks M.rules machine.old service.old id count Hear }
     requires kind { kind ≡ client_kind (client_of service.old id) }
-    ensures kept { IsTrue (O.tells outside.new) → IsTrue (O.tells outside.old) }
-    ensures moves { LoopMovesIf O.tells O.seen O.rest M.rules outside.old machine.old service.old outside.new machine.new service.new }
+    ensures { LoopActs O.told M.rules (loop_state outside.old machine.old service.old) (loop_state outside.new machine.new service.new) }
 {
     let mut buffer = [0u8; MAX_PIECE];
     match outside.read(id, &mut buffer) {
@@ -252,7 +249,7 @@ fn give<O: Sockets + Clock, M: Machine<O>>(
 )
     requires turn { Tasks M.rules machine.old service.old id count Hear }
     requires kind { kind ≡ client_kind (client_of service.old id) }
-    ensures { ServiceGiven M.rules machine.old service.old id count piece.now machine.new service.new }
+    ensures { ServiceGiven M.rules (service_state machine.old service.old) id count piece.now (service_state machine.new service.new) }
 {
     let mut out = Octets::new(service.alloc);
     if machine.give(service.moment, id, piece, &mut out).is_ok() {
@@ -301,8 +298,7 @@ fn step_once<O: Sockets + Clock, M: Machine<O>>(
 )
     requires turn { Tasks M.rules machine.old service.old id count Step }
     requires kind { kind ≡ client_kind (client_of service.old id) }
-    ensures kept { IsTrue (O.tells outside.new) → IsTrue (O.tells outside.old) }
-    ensures moves { LoopMovesIf O.tells O.seen O.rest M.rules outside.old machine.old service.old outside.new machine.new service.new }
+    ensures { LoopActs O.told M.rules (loop_state outside.old machine.old service.old) (loop_state outside.new machine.new service.new) }
 {
     let mut out = Octets::new(service.alloc);
     if machine.step(outside, service.moment, id, &mut out).is_ok() {
@@ -338,8 +334,7 @@ fn rest_once<O: Sockets + Clock, M: Machine<O>>(
 )
     requires turn { (count : ℕ) × Tasks M.rules machine.old service.old id count Rest }
     requires kind { kind ≡ client_kind (client_of service.old id) }
-    ensures kept { IsTrue (O.tells outside.new) → IsTrue (O.tells outside.old) }
-    ensures moves { LoopMovesIf O.tells O.seen O.rest M.rules outside.old machine.old service.old outside.new machine.new service.new }
+    ensures { LoopActs O.told M.rules (loop_state outside.old machine.old service.old) (loop_state outside.new machine.new service.new) }
 {
     if service.waiting.contains(&id) {
         outside.note(Act::Waits(id));
@@ -364,8 +359,7 @@ fn shut_once<O: Sockets + Clock, M: Machine<O>>(
     count: u32,
 )
     requires { Tasks M.rules machine.old service.old id count HangUp }
-    ensures kept { IsTrue (O.tells outside.new) → IsTrue (O.tells outside.old) }
-    ensures moves { LoopMovesIf O.tells O.seen O.rest M.rules outside.old machine.old service.old outside.new machine.new service.new }
+    ensures { LoopActs O.told M.rules (loop_state outside.old machine.old service.old) (loop_state outside.new machine.new service.new) }
 {
     let Some(client) = service.clients.get_mut(&id) else {
         return;
@@ -397,8 +391,7 @@ fn drain_once<O: Sockets + Clock, M: Machine<O>>(
 )
     requires turn { Tasks M.rules machine.old service.old id count Drain }
     requires kind { kind ≡ client_kind (client_of service.old id) }
-    ensures kept { IsTrue (O.tells outside.new) → IsTrue (O.tells outside.old) }
-    ensures moves { LoopMovesIf O.tells O.seen O.rest M.rules outside.old machine.old service.old outside.new machine.new service.new }
+    ensures { LoopActs O.told M.rules (loop_state outside.old machine.old service.old) (loop_state outside.new machine.new service.new) }
 {
     let Some(client) = service.clients.get_mut(&id) else {
         return;

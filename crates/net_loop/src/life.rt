@@ -1,6 +1,8 @@
 //! A life of the loop.
 ghost use Rattle.std.specs.Prelude.{IsTrue, OnOk, OnErr};
 ghost use Rattle.net_loop.specs.Life.{AddsIf, LivesIf};
+ghost use Rattle.net_loop.specs.Moves.{loop_state};
+ghost use Rattle.net_loop.specs.Told.{ToldBefore};
 
 use crate::machine::Machine;
 use crate::outcome::WaitError;
@@ -18,9 +20,9 @@ pub fn serve<O: Sockets + Clock, M: Machine<O>>(
     service: &mut Service,
     acts: u64,
 ) -> Result<(), WaitError>
-    ensures kept { IsTrue (O.tells outside.new) → IsTrue (O.tells outside.old) }
-    ensures passed { OnOk result (AddsIf O.tells O.seen outside.old acts outside.new) }
-    ensures lives { LivesIf O.tells O.seen O.rest M.rules outside.old machine.old service.old outside.new machine.new service.new }
+    ensures kept { ToldBefore O.told outside.old outside.new }
+    ensures passed { OnOk result (AddsIf O.told outside.old acts outside.new) }
+    ensures lives { LivesIf O.told M.rules (loop_state outside.old machine.old service.old) (loop_state outside.new machine.new service.new) }
     ensures broke { OnErr result (IsTrue (O.broken outside.new)) }
 {
     for round in 0..acts {

@@ -1,6 +1,7 @@
 //! What is served.
-ghost use Rattle.std.specs.Prelude.{◌≡◌, [], IsTrue, OnOk, OnErr};
-ghost use Rattle.net_loop.specs.Rules.{Rules, StepsIf, WorksIf, IdlesIf};
+ghost use Rattle.std.specs.Prelude.{◌≡◌, [], OnOk, OnErr};
+ghost use Rattle.net_loop.specs.Rules.{Rules, StepsIf, WorksIf, IdlesIf, machine_state, step_at};
+ghost use Rattle.net_loop.specs.Told.{ToldBefore};
 
 use crate::outside::Outside;
 use octets::Octets;
@@ -96,9 +97,9 @@ pub trait Machine<O: Outside> {
         out: &mut Octets,
     ) -> Result<(), AllocError>
         requires { out.old ≡ [] }
-        ensures kept { IsTrue (O.tells outside.new) → IsTrue (O.tells outside.old) }
-        ensures ok { OnOk result (StepsIf O.tells O.seen O.rest rules outside.old self.old now id out.new outside.new self.new) }
-        ensures err { OnErr result (IdlesIf O.tells O.seen O.rest outside.old outside.new) }
+        ensures kept { ToldBefore O.told outside.old outside.new }
+        ensures ok { OnOk result (StepsIf O.told rules (machine_state outside.old self.old) (step_at now id out.new) (machine_state outside.new self.new)) }
+        ensures err { OnErr result (IdlesIf O.told outside.old outside.new) }
         ensures lacks { OnErr result (rules.lacks self.old id self.new) };
 
     /// A connection is late or makes room for another, and ends: what is said to it last.
@@ -113,8 +114,8 @@ pub trait Machine<O: Outside> {
 
     /// Does something of its own, and notes what it does outside.
     fn work(&mut self, outside: &mut O, now: u64)
-        ensures kept { IsTrue (O.tells outside.new) → IsTrue (O.tells outside.old) }
-        ensures works { WorksIf O.tells O.seen O.rest rules outside.old self.old now outside.new self.new };
+        ensures kept { ToldBefore O.told outside.old outside.new }
+        ensures works { WorksIf O.told rules (machine_state outside.old self.old) now (machine_state outside.new self.new) };
 
     /// A connection is gone.
     fn close(&mut self, now: u64, id: u32)

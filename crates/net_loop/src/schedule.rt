@@ -1,8 +1,8 @@
 //! While it is no connection's turn: chooses the next one, closes who is late, and takes up what a wait told.
 ghost use Rattle.std.specs.Prelude.{◌≡◌, ◌==◌, ◌<◌, ◌↔◌, [], find, true, Some, None, IsTrue, OnErr};
-ghost use Rattle.net_loop.specs.Moves.{LoopMovesIf, LoopMovesOrIf};
+ghost use Rattle.net_loop.specs.Moves.{LoopActs, LoopActsOr, loop_state};
 ghost use Rattle.net_loop.specs.Talk.{client_of, client_kind, waits, is_closing_by, parting_span, is_quiet, is_late_at, task};
-ghost use Rattle.net_loop.specs.Turns.{ServiceParted, MayWait, Calm, RestsOrCalm, Quiet};
+ghost use Rattle.net_loop.specs.Turns.{ServiceParted, MayWait, Calm, RestsOrCalm, Quiet, service_state};
 ghost use Rattle.net_loop.specs.Turns.{came_since, turn_for_wake, first_late, first_resumable, is_runnable};
 ghost use Rattle.net_loop.specs.declared.turn.Turn.TheVariants.{Free, Rested, Waked, Sweep, Accepting, Busy};
 ghost use Rattle.net_loop.specs.declared.turn.Task.TheVariants.{Rest};
@@ -28,9 +28,7 @@ pub fn calm_once<O: Sockets + Clock, M: Machine<O>>(
     service: &mut Service,
 ) -> Result<(), WaitError>
     requires { Calm M.rules machine.old service.old }
-    ensures kept { IsTrue (O.tells outside.new) → IsTrue (O.tells outside.old) }
-    ensures moves { LoopMovesOrIf O.tells O.seen O.rest M.rules outside.old machine.old service.old outside.new machine.new service.new result }
-    ensures broke { OnErr result (IsTrue (O.broken outside.new)) }
+    ensures { LoopActsOr O.told O.broken M.rules (loop_state outside.old machine.old service.old) (loop_state outside.new machine.new service.new) result }
 {
     if !service.ready.is_empty() {
         begin_once(outside, machine, service);
@@ -53,9 +51,7 @@ fn idle_once<O: Sockets + Clock, M: Machine<O>>(
 ) -> Result<(), WaitError>
     requires calm { Calm M.rules machine.old service.old }
     requires quiet { Quiet M.rules machine.old service.old }
-    ensures kept { IsTrue (O.tells outside.new) → IsTrue (O.tells outside.old) }
-    ensures moves { LoopMovesOrIf O.tells O.seen O.rest M.rules outside.old machine.old service.old outside.new machine.new service.new result }
-    ensures broke { OnErr result (IsTrue (O.broken outside.new)) }
+    ensures { LoopActsOr O.told O.broken M.rules (loop_state outside.old machine.old service.old) (loop_state outside.new machine.new service.new) result }
 {
     if machine.has_work(service.moment) {
         work_once(outside, machine, service);
@@ -71,9 +67,7 @@ pub fn rested_once<O: Sockets + Clock, M: Machine<O>>(
     service: &mut Service,
 ) -> Result<(), WaitError>
     requires { service.old.turn ≡ Rested }
-    ensures kept { IsTrue (O.tells outside.new) → IsTrue (O.tells outside.old) }
-    ensures moves { LoopMovesOrIf O.tells O.seen O.rest M.rules outside.old machine.old service.old outside.new machine.new service.new result }
-    ensures broke { OnErr result (IsTrue (O.broken outside.new)) }
+    ensures { LoopActsOr O.told O.broken M.rules (loop_state outside.old machine.old service.old) (loop_state outside.new machine.new service.new) result }
 {
     if !service.ready.is_empty() {
         begin_once(outside, machine, service);
@@ -95,8 +89,7 @@ pub fn time_once<O: Sockets + Clock, M: Machine<O>>(
     service: &mut Service,
 )
     requires { service.old.turn ≡ Waked }
-    ensures kept { IsTrue (O.tells outside.new) → IsTrue (O.tells outside.old) }
-    ensures moves { LoopMovesIf O.tells O.seen O.rest M.rules outside.old machine.old service.old outside.new machine.new service.new }
+    ensures { LoopActs O.told M.rules (loop_state outside.old machine.old service.old) (loop_state outside.new machine.new service.new) }
 {
     let moment = outside.now();
     if service.moment < moment {
@@ -112,9 +105,7 @@ pub fn sweep_once<O: Sockets + Clock, M: Machine<O>>(
     service: &mut Service,
 ) -> Result<(), WaitError>
     requires { service.old.turn ≡ Sweep }
-    ensures kept { IsTrue (O.tells outside.new) → IsTrue (O.tells outside.old) }
-    ensures moves { LoopMovesOrIf O.tells O.seen O.rest M.rules outside.old machine.old service.old outside.new machine.new service.new result }
-    ensures broke { OnErr result (IsTrue (O.broken outside.new)) }
+    ensures { LoopActsOr O.told O.broken M.rules (loop_state outside.old machine.old service.old) (loop_state outside.new machine.new service.new) result }
 {
     match first_that_is_late(machine, service) {
         Some(id) => {
@@ -225,8 +216,7 @@ fn late_once<O: Sockets + Clock, M: Machine<O>>(
 )
     requires turn { service.old.turn ≡ Sweep }
     requires late { first_late M.rules machine.old service.old ≡ Some id }
-    ensures kept { IsTrue (O.tells outside.new) → IsTrue (O.tells outside.old) }
-    ensures moves { LoopMovesIf O.tells O.seen O.rest M.rules outside.old machine.old service.old outside.new machine.new service.new }
+    ensures { LoopActs O.told M.rules (loop_state outside.old machine.old service.old) (loop_state outside.new machine.new service.new) }
 {
     outside.note(Act::Late(id));
     dismiss(machine, service, id, Phase::Closing);
@@ -240,7 +230,7 @@ pub fn dismiss<O: Sockets + Clock, M: Machine<O>>(
     at: Phase,
 )
     requires { is_closing_by at ≡ true }
-    ensures { ServiceParted M.rules machine.old service.old id at machine.new service.new }
+    ensures { ServiceParted M.rules (service_state machine.old service.old) id at (service_state machine.new service.new) }
 {
     let kind = kind_of_client(service, id);
     if is_quiet_at(service, id) {
@@ -270,7 +260,7 @@ fn part<O: Sockets + Clock, M: Machine<O>>(
     requires quiet { is_quiet (client_of service.old id) ≡ true }
     requires kind { kind ≡ client_kind (client_of service.old id) }
     requires at { is_closing_by at ≡ true }
-    ensures { ServiceParted M.rules machine.old service.old id at machine.new service.new }
+    ensures { ServiceParted M.rules (service_state machine.old service.old) id at (service_state machine.new service.new) }
 {
     let mut out = Octets::new(service.alloc);
     if machine.late(service.moment, id, &mut out).is_err() {
@@ -304,8 +294,7 @@ fn begin_once<O: Sockets + Clock, M: Machine<O>>(
 )
     requires rests { RestsOrCalm M.rules machine.old service.old }
     requires some { ¬ (service.old.ready.items ≡ []) }
-    ensures kept { IsTrue (O.tells outside.new) → IsTrue (O.tells outside.old) }
-    ensures moves { LoopMovesIf O.tells O.seen O.rest M.rules outside.old machine.old service.old outside.new machine.new service.new }
+    ensures { LoopActs O.told M.rules (loop_state outside.old machine.old service.old) (loop_state outside.new machine.new service.new) }
 {
     let Some(wake) = service.ready.pop_front() else {
         return;
@@ -324,8 +313,7 @@ fn resume_once<O: Sockets + Clock, M: Machine<O>>(
     requires rests { RestsOrCalm M.rules machine.old service.old }
     requires none { service.old.ready.items ≡ [] }
     requires first { first_resumable M.rules machine.old service.old ≡ Some id }
-    ensures kept { IsTrue (O.tells outside.new) → IsTrue (O.tells outside.old) }
-    ensures moves { LoopMovesIf O.tells O.seen O.rest M.rules outside.old machine.old service.old outside.new machine.new service.new }
+    ensures { LoopActs O.told M.rules (loop_state outside.old machine.old service.old) (loop_state outside.new machine.new service.new) }
 {
     outside.note(Act::Resumed(id));
     forget(&mut service.waiting, id);
@@ -363,8 +351,7 @@ fn work_once<O: Sockets + Clock, M: Machine<O>>(
     requires calm { Calm M.rules machine.old service.old }
     requires quiet { Quiet M.rules machine.old service.old }
     requires work { M.rules.has_work machine.old service.old.moment ≡ true }
-    ensures kept { IsTrue (O.tells outside.new) → IsTrue (O.tells outside.old) }
-    ensures moves { LoopMovesIf O.tells O.seen O.rest M.rules outside.old machine.old service.old outside.new machine.new service.new }
+    ensures { LoopActs O.told M.rules (loop_state outside.old machine.old service.old) (loop_state outside.new machine.new service.new) }
 {
     machine.work(outside, service.moment);
     service.turn = Turn::Rested;
@@ -378,9 +365,7 @@ fn wait_once<O: Sockets + Clock, M: Machine<O>>(
 ) -> Result<(), WaitError>
     requires quiet { Quiet M.rules machine.old service.old }
     requires may { MayWait M.rules machine.old service.old }
-    ensures kept { IsTrue (O.tells outside.new) → IsTrue (O.tells outside.old) }
-    ensures moves { LoopMovesOrIf O.tells O.seen O.rest M.rules outside.old machine.old service.old outside.new machine.new service.new result }
-    ensures broke { OnErr result (IsTrue (O.broken outside.new)) }
+    ensures { LoopActsOr O.told O.broken M.rules (loop_state outside.old machine.old service.old) (loop_state outside.new machine.new service.new) result }
 {
     outside.wait(machine.patience(), &mut service.ready)?;
     service.since = service.next;

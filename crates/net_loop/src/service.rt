@@ -1,6 +1,6 @@
 //! The loop: one act a call.
 ghost use Rattle.std.specs.Prelude.{◌≡◌, ◌<◌, [], IsTrue, OnErr};
-ghost use Rattle.net_loop.specs.Moves.{LoopMovesOrIf};
+ghost use Rattle.net_loop.specs.Moves.{LoopActsOr, loop_state};
 ghost use Rattle.net_loop.specs.declared.turn.Turn.TheVariants.{Free, Rested, Waked, Sweep, Accepting, Busy, OutOfMemory};
 
 use crate::accept::door_once;
@@ -94,9 +94,7 @@ pub fn act<O: Sockets + Clock, M: Machine<O>>(
     machine: &mut M,
     service: &mut Service,
 ) -> Result<(), WaitError>
-    ensures kept { IsTrue (O.tells outside.new) → IsTrue (O.tells outside.old) }
-    ensures moves { LoopMovesOrIf O.tells O.seen O.rest M.rules outside.old machine.old service.old outside.new machine.new service.new result }
-    ensures broke { OnErr result (IsTrue (O.broken outside.new)) }
+    ensures { LoopActsOr O.told O.broken M.rules (loop_state outside.old machine.old service.old) (loop_state outside.new machine.new service.new) result }
 {
     match service.turn {
         Turn::Free => calm_once(outside, machine, service),

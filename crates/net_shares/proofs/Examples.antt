@@ -2,7 +2,7 @@
 use Rattle.std.proofs.Common.{◌≡◌, ◌==◌, ℕ, Bool, true, false, List, [], ◌∷◌, refl}
 use Rattle.net_loop.specs.declared.outcome.Wake.{Wake}
 use Rattle.net_loop.specs.declared.outcome.Wake.TheVariants.{Knock, Ready}
-use Rattle.net_shares.specs.declared.account.TimeAccount.TheVariants.{Guests, Senders, User}
+use Rattle.net_shares.specs.declared.time_account.TimeAccount.TheVariants.{Unauthenticated, Senders, User}
 use Rattle.net_shares.specs.declared.share.Share.{Share}
 use Rattle.net_shares.specs.Shares.{is_same_account, spent_in, with_spent, spent_by, with_share}
 use Rattle.net_shares.specs.Order.{all_wakes, served, waiting}
@@ -27,14 +27,14 @@ goes_on = refl
 of_that_account : spent_by (User (97 ∷ [])) 1999 (share ∷ []) ≡ 60000
 of_that_account = refl
 
--- near misses: another account's, and that of all guests
+-- near misses: another account's, and that of all who aren't logged in
 not_of_another : spent_by (User (98 ∷ [])) 1999 (share ∷ []) ≡ 0
 not_of_another = refl
 
-not_of_guests : spent_by Guests 1999 (share ∷ []) ≡ 0
-not_of_guests = refl
+not_of_unauthenticated : spent_by Unauthenticated 1999 (share ∷ []) ≡ 0
+not_of_unauthenticated = refl
 
-not_the_same : is_same_account Guests Senders ≡ false
+not_the_same : is_same_account Unauthenticated Senders ≡ false
 not_the_same = refl
 
 -- of connections 1 to 3 the second had too much
@@ -73,7 +73,7 @@ another = record { account = User (98 ∷ []); slot = 3; spent = 7; before = 0 }
 more_of_the_second : with_share (User (98 ∷ [])) 3 5 (share ∷ another ∷ []) ≡ share ∷ record another { spent = 12 } ∷ []
 more_of_the_second = refl
 
-known_then : with_share Guests 3 5 (share ∷ []) ≡ share ∷ record { account = Guests; slot = 3; spent = 5; before = 0 } ∷ []
+known_then : with_share Unauthenticated 3 5 (share ∷ []) ≡ share ∷ record { account = Unauthenticated; slot = 3; spent = 5; before = 0 } ∷ []
 known_then = refl
 
 -- a near miss: another account of a name that begins so had nothing

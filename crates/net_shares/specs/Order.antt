@@ -6,7 +6,7 @@ use Rattle.std.specs.BTreeMap as tree
 use Rattle.net_loop.specs.declared.outcome.Wake.{Wake}
 use Rattle.net_loop.specs.declared.outcome.Wake.TheVariants.{Knock, Ready}
 use Rattle.net_shares.specs.Shares.{spent_by}
-use Rattle.net_shares.specs.declared.account.TimeAccount.{TimeAccount}
+use Rattle.net_shares.specs.declared.time_account.TimeAccount.{TimeAccount}
 use Rattle.net_shares.specs.declared.share.Share.{Share}
 use Rattle.net_shares.specs.declared.turns.Scheduler.{Scheduler}
 

@@ -1,12 +1,12 @@
 -- How much time accounts used recently.
 use Rattle.std.specs.Prelude.{ℕ, ◌+◌, ◌-◌, ◌/◌, ◌^◌, ◌==◌, min, nat_eq, nat_le, Bool, true, false, not, if◌then◌else◌, List, [], ◌∷◌, ◌++◌, length, filter, find, Option, Some, None, is_some}
 use Rattle.std.specs.Cmp.Lexicographic.{pointwise}
-use Rattle.net_shares.specs.declared.account.TimeAccount.{TimeAccount}
-use Rattle.net_shares.specs.declared.account.TimeAccount.TheVariants.{Guests, Senders, User}
+use Rattle.net_shares.specs.declared.time_account.TimeAccount.{TimeAccount}
+use Rattle.net_shares.specs.declared.time_account.TimeAccount.TheVariants.{Unauthenticated, Senders, User}
 use Rattle.net_shares.specs.declared.share.Share.{Share}
 
 abbrev pub is_same_account : TimeAccount → TimeAccount → Bool
-is_same_account Guests Guests = true
+is_same_account Unauthenticated Unauthenticated = true
 is_same_account Senders Senders = true
 is_same_account (User name) (User other) = pointwise nat_eq name other
 is_same_account _ _ = false

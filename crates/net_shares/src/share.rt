@@ -3,7 +3,7 @@ ghost use Rattle.std.specs.Prelude.{◌≡◌, ◌==◌, ◌<◌, ◌/◌, [], l
 ghost use Rattle.net_shares.specs.declared.share.Share.{Share as ShareOf};
 ghost use Rattle.net_shares.specs.Shares as s;
 
-use crate::account::TimeAccount;
+use crate::time_account::TimeAccount;
 use std::alloc::{AllocError, Global};
 
 /// The length of a slot, in milliseconds. Time counts in the slot in which it was spent and in the next one: for at least half a second

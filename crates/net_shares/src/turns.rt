@@ -6,8 +6,8 @@ ghost use Rattle.net_shares.specs.Order as o;
 ghost use Rattle.net_shares.specs.Order.{Orders, Unordered};
 ghost use Rattle.net_shares.specs.Shares as s;
 
-use crate::account::TimeAccount;
 use crate::share::Shares;
+use crate::time_account::TimeAccount;
 use net_loop::outcome::Wake;
 use std::alloc::{AllocError, Global};
 use std::collections::{BTreeMap, VecDeque};

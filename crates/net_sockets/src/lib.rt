@@ -3,12 +3,12 @@
 #![tactic(auto)]
 
 pub mod listener;
-pub mod place;
+pub mod socket_path;
 pub mod sockets;
 pub mod stream;
 
 pub use listener::Listener;
-pub use place::{bind_path, inherit};
+pub use socket_path::{bind_path, inherit};
 pub use sockets::SystemSockets;
 pub use stream::Stream;
 

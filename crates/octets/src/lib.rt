@@ -14,4 +14,4 @@ pub use ascii::{is_blank, is_letter, is_printable, lowered, trim_blanks};
 pub use decimal::{parse_decimal, write_decimal};
 pub use list::{List, Texts};
 pub use pending::Pending;
-pub use string::Octets;
+pub use string::{Octets, as_deref};

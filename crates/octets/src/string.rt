@@ -1,5 +1,5 @@
 //! One text.
-ghost use Rattle.std.specs.Prelude.{◌≡◌, ◌↔◌, ◌+◌, ◌≤◌, [], ◌∷◌, ◌++◌, length, IsTrue, IfOk, OnOk, OnErr, nat_eq, refl, Some};
+ghost use Rattle.std.specs.Prelude.{◌≡◌, ◌↔◌, ◌+◌, ◌≤◌, [], ◌∷◌, ◌++◌, length, IsTrue, IfOk, OnOk, OnErr, nat_eq, refl, Some, option_copied};
 ghost use Rattle.std.specs.Ordering.{nat_cmp};
 ghost use Rattle.std.specs.Cmp.Lexicographic.{pointwise, slice_cmp, nat_list_eq_equiv, nat_list_cmp_total, texts_ties, texts_po};
 ghost use Rattle.std.specs.Cmp.{partial_equiv_from_equiv};
@@ -105,6 +105,16 @@ impl Octets {
         ensures { IfOk result (λ text. text ≡ self.now) }
     {
         Octets::from_slice(alloc, self.as_slice())
+    }
+}
+
+/// The octets of a text, if there is one: `Option::as_deref` for [`Octets`].
+pub fn as_deref(text: &Option<Octets>) -> Option<&[u8]>
+    ensures { option_copied result ≡ text.now }
+{
+    match text {
+        Some(text) => Some(text.as_slice()),
+        None => None,
     }
 }
 

@@ -1,3 +1,5 @@
+pub mod TextLemmas
+pub mod SentLemmas
 pub mod VacationLemmas
 pub mod PlanLemmas
 pub mod DeliveryLemmas

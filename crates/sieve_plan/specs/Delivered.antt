@@ -1,5 +1,5 @@
 -- What a delivery makes of an account, and what it reports (RFC 5228, 2.10; RFC 5230).
-use Rattle.std.specs.Prelude.{◌≡◌, ℕ, ◌⊎◌, nat_lt, Bool, true, false, List, [], ◌∷◌, map, codes, count_by, Option, None, Some}
+use Rattle.std.specs.Prelude.{◌≡◌, ◌++◌, ◌-◌, ℕ, zero, suc, ◌⊎◌, cond, length, nat_lt, Bool, true, false, List, [], ◌∷◌, map, codes, count_by, Option, None, Some}
 use Rattle.std.specs.List.{fold}
 use Rattle.mail_head.specs.Fields.{FieldText}
 use Rattle.mail_head.specs.Heads.{body_start}
@@ -8,7 +8,7 @@ use Rattle.mail_address.specs.Spelling.{address_spelling}
 use Rattle.mail_flags.specs.declared.placement.Placement.{Placement}
 use Rattle.sieve_syntax.specs.Tree.{Commands}
 use Rattle.sieve_syntax.specs.Means.{Means}
-use Rattle.sieve_syntax.specs.RunState.{Failure, TwoVacations, TooManyRedirects, TooManyMailboxes, TooMuchWork, inbox}
+use Rattle.sieve_syntax.specs.RunState.{Failure, TwoVacations, TooManyRedirects, TooManyMailboxes, TooMuchWork, inbox, is_filed}
 use Rattle.sieve_syntax.specs.Meaning.{Actions, Outcome, Done, Failed}
 use Rattle.sieve_syntax.specs.declared.tree.vacation.VacationArgs.{VacationArgs}
 use Rattle.sieve_exec.specs.Mails.{MailSpec}
@@ -20,11 +20,13 @@ use Rattle.sieve_vacation.specs.Reasons.{decision_of, reason_number}
 use Rattle.sieve_vacation.specs.declared.reason.Reason.{Reason}
 use Rattle.sieve_vacation.specs.declared.reason.ReplyDecision.{ReplyDecision}
 use Rattle.sieve_vacation.specs.declared.reason.ReplyDecision.TheVariants as D
-use Rattle.store_accounts.specs.Account.{Account, latest, files_copies, queues, remembers, adds_notice}
+use Rattle.store_accounts.specs.Account.{Account, latest, room_in, files_copies, forgets, keeps_sent, queues, remembers, adds_notice, adds_notice_if_any}
 use Rattle.store_tables.specs.declared.queue.QueuedKind.TheVariants as kind
+use Rattle.store_accounts.specs.declared.reply.ReplyKey.{ReplyKey}
 use Rattle.store_accounts.specs.declared.report.Report.{Report}
 use Rattle.store_accounts.specs.declared.report.VacationReport.{VacationReport}
 use Rattle.store_accounts.specs.declared.report.VacationReport.TheVariants as V
+use Rattle.sieve_plan.specs.Sent.{fresh, going, held_notice, kept_handles, redirect_key, over_keys}
 use Rattle.sieve_plan.specs.Views.{last_reply}
 
 -- ---- what becomes of a message
@@ -109,24 +111,31 @@ Disposes text mail disposition = DisposesUnlessLong (has_long_header mail.octets
 
 -- ---- the response to the sender
 
--- no `vacation` was executed; there is a reason against a response; or a response with these octets is sent, identified by this key, and
--- this moment is kept
+-- no `vacation` was executed; a reason stands against a response; there is no room for one in the queue; or a response with these
+-- octets is sent, known by this key, and this moment is kept
 pub data Response : Type 0 where
   Silent : Response
+  NoRoom : Response
   Quiet : Reason → Response
   Sent : (key octets : List ℕ) → (kept : ℕ) → Response
 
--- the response, given the decision on it; last is the moment that is kept under its key
-abbrev pub FollowsDecision : Addr → ℕ → MailSpec → VacationArgs → Option ℕ → ReplyDecision → Response → Type 0
-FollowsDecision own moment mail args last D.Send response =
+-- a response is sent where there is room for one
+abbrev pub Sends : Addr → ℕ → MailSpec → VacationArgs → Option ℕ → ℕ → Response → Type 0
+Sends own moment mail args last zero response = response ≡ NoRoom
+Sends own moment mail args last (suc room) response =
     (reply : List ℕ) × (IsVacationReply args mail own moment reply × (response ≡ Sent (handle_key_of (handle_of args)) reply (latest last moment)))
-FollowsDecision own moment mail args last (D.Quiet reason) response = response ≡ Quiet reason
 
--- what the user with this address answers the sender at this moment; last gives the moment that is kept under a key
-abbrev pub Responds : Addr → ℕ → MailSpec → (List ℕ → Option ℕ) → Option VacationArgs → Response → Type 0
-Responds own moment mail last None response = response ≡ Silent
-Responds own moment mail last (Some args) response =
-    FollowsDecision own moment mail args (last (handle_key_of (handle_of args))) (decision_of args mail own (last (handle_key_of (handle_of args))) moment) response
+-- what is answered where the decision on a response is made; last is the moment that is kept under its key
+abbrev pub FollowsDecision : Addr → ℕ → MailSpec → VacationArgs → Option ℕ → ℕ → ReplyDecision → Response → Type 0
+FollowsDecision own moment mail args last room D.Send response = Sends own moment mail args last room response
+FollowsDecision own moment mail args last room (D.Quiet reason) response = response ≡ Quiet reason
+
+-- what the sender is answered by the user with this address at this moment; last gives the moment that is kept under a key, and room is
+-- how many rows may join the queue
+abbrev pub Responds : Addr → ℕ → MailSpec → (List ℕ → Option ℕ) → ℕ → Option VacationArgs → Response → Type 0
+Responds own moment mail last room None response = response ≡ Silent
+Responds own moment mail last room (Some args) response =
+    FollowsDecision own moment mail args (last (handle_key_of (handle_of args))) room (decision_of args mail own (last (handle_key_of (handle_of args))) moment) response
 
 -- ---- the account afterwards
 
@@ -134,37 +143,59 @@ Responds own moment mail last (Some args) response =
 abbrev pub redirects : MailSpec → List Addr → Account → Account
 redirects mail targets a = fold (λ b target. queues kind.Redirect mail.from (address_spelling target) mail.octets b) a targets
 
--- a copy of the message is appended to each folder, with its flags, and then the message is queued
-abbrev pub acts : MailSpec → Actions → Account → Account
-acts mail deeds a = redirects mail deeds.sent (files_copies deeds.filed mail.octets a)
+-- the message goes into INBOX too, without flags, unless it does so already
+abbrev pub with_inbox : List Placement → List Placement
+with_inbox filed = cond (is_filed filed inbox) filed (filed ++ unflagged_copy inbox ∷ [])
+
+-- what is done of the deeds: the message goes to those addresses to which it wasn't sent before, as long as there is room; where it
+-- doesn't go to one it is in INBOX, once
+abbrev pub done_of : Account → MailSpec → Actions → Actions
+done_of a mail deeds =
+    let going = going a mail deeds.sent in
+    record { filed = cond (nat_lt (length going) (length deeds.sent)) (with_inbox deeds.filed) deeds.filed; sent = going; reply = deeds.reply }
+
+-- why it doesn't go to one
+abbrev pub held_of : Account → MailSpec → Actions → Option (List ℕ)
+held_of a mail deeds = held_notice (length deeds.sent) (length (fresh a mail deeds.sent)) (length (going a mail deeds.sent))
+
+-- what is over is forgotten, and what was sent on is remembered
+abbrev pub remembers_going : MailSpec → List Addr → List ReplyKey → Account → Account
+remembers_going mail going over a = keeps_sent (redirect_key mail) mail.moment (kept_handles mail.moment going) (forgets over a)
+
+-- a copy of the message joins the end of each folder, with its flags, then the message is queued, and that is remembered
+abbrev pub acts : MailSpec → Actions → List ReplyKey → Account → Account
+acts mail deeds over a = remembers_going mail deeds.sent over (redirects mail deeds.sent (files_copies deeds.filed mail.octets a))
 
 -- a response is queued for the sender, and a moment is kept; nothing is kept of one that isn't sent
 abbrev pub responds : MailSpec → Response → Account → Account
 responds mail Silent a = a
+responds mail NoRoom a = a
 responds mail (Quiet reason) a = a
-responds mail (Sent key reply kept) a = remembers key mail.from kept (queues kind.Reply [] mail.from reply a)
+responds mail (Sent key reply moment) a = remembers key mail.from moment (queues kind.Reply [] mail.from reply a)
 
 -- ---- what is reported
 
 abbrev pub vacation_report : Response → VacationReport
 vacation_report Silent = V.None
+vacation_report NoRoom = V.Quiet 10
 vacation_report (Quiet reason) = V.Quiet (reason_number reason)
-vacation_report (Sent key reply kept) = V.Sent
+vacation_report (Sent key reply moment) = V.Sent
 
-abbrev pub report_of : Actions → Response → Report
-report_of deeds response = record { filed = map (λ f. f.mailbox) deeds.filed; sent = map address_spelling deeds.sent; vacation = vacation_report response; notice = None }
+abbrev pub report_of : Actions → Response → Option (List ℕ) → Report
+report_of deeds response notice =
+    record { filed = map (λ f. f.mailbox) deeds.filed; sent = map address_spelling deeds.sent; vacation = vacation_report response; notice = notice }
 
 abbrev pub notice_report : List ℕ → Report
 notice_report text = record { filed = inbox ∷ []; sent = []; vacation = V.None; notice = Some text }
 
 -- ---- a delivery
 
--- the actions are carried out, and the sender is answered
+-- the deeds are carried out as far as mail may be sent on, the sender is answered, and the user is told where it wasn't
 pub record CarriesOut (own : Addr) (moment : ℕ) (mail : MailSpec) (deeds : Actions) (a : Account) (report : Report) (a2 : Account) : Type 0 where
   pub response : Response
-  pub is_response : Responds own moment mail (last_reply a mail.from) deeds.reply response
-  pub reported : report ≡ report_of deeds response
-  pub changed : a2 ≡ responds mail response (acts mail deeds a)
+  pub is_response : Responds own moment mail (last_reply a mail.from) (room_in a - length (done_of a mail deeds).sent) deeds.reply response
+  pub reported : report ≡ report_of (done_of a mail deeds) response (held_of a mail deeds)
+  pub changed : a2 ≡ adds_notice_if_any moment (held_of a mail deeds) (responds mail response (acts mail (done_of a mail deeds) (over_keys a moment deeds.sent) a))
 
 -- the message is filed into INBOX, and a notice is added to the others; nothing is sent
 pub record LeavesNotice (moment : ℕ) (mail : MailSpec) (text : List ℕ) (a : Account) (report : Report) (a2 : Account) : Type 0 where

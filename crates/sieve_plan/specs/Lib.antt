@@ -1,3 +1,4 @@
+pub mod Sent
 pub mod Views
 pub mod Delivered
 pub mod Plans

@@ -1,51 +1,117 @@
--- Plans of deliveries: what they are to do.
-use Rattle.std.specs.Prelude.{◌≡◌, ℕ, List, [], ◌∷◌, Option, None, Some}
+-- Plans of deliveries, by what they are to do.
+use Rattle.std.specs.Prelude.{◌≡◌, ◌-◌, ℕ, Bool, cond, length, nat_lt, take, List, [], ◌∷◌, Option, None, Some}
 use Rattle.mail_address.specs.declared.address.Addr.{Addr}
+use Rattle.mail_flags.specs.declared.placement.Placement.{Placement}
 use Rattle.sieve_syntax.specs.RunState.{inbox}
 use Rattle.sieve_syntax.specs.Meaning.{Actions}
 use Rattle.sieve_syntax.specs.declared.tree.vacation.VacationArgs.{VacationArgs}
 use Rattle.sieve_exec.specs.Mails.{MailSpec}
+use Rattle.sieve_exec.specs.Runs.{failure_view}
 use Rattle.sieve_vacation.specs.Layout.{IsVacationReply}
-use Rattle.store_accounts.specs.Account.{latest}
+use Rattle.store_accounts.specs.Account.{Account, latest}
+use Rattle.store_accounts.specs.Delivery.{no_memory}
+use Rattle.store_accounts.specs.declared.reply.ReplyKey.{ReplyKey}
+use Rattle.store_accounts.specs.declared.report.SentMemory.{SentMemory}
 use Rattle.store_accounts.specs.declared.report.VacationReply.{VacationReply}
 use Rattle.store_accounts.specs.declared.report.Plan.{Plan}
 use Rattle.store_accounts.specs.declared.report.VacationReport.{VacationReport}
+use Rattle.sieve_plan.specs.declared.disposition.Deeds.{Deeds}
+use Rattle.sieve_plan.specs.declared.disposition.Disposition.{Disposition as Found}
+use Rattle.sieve_plan.specs.declared.disposition.Disposition.TheVariants as found
+use Rattle.sieve_plan.specs.declared.notice.NoticeCause.{NoticeCause}
+use Rattle.sieve_plan.specs.declared.notice.NoticeCause.TheVariants.{Loop, Invalid, Failed}
 use Rattle.sieve_plan.specs.declared.vacation.VacationPlan.{VacationPlan}
-use Rattle.sieve_plan.specs.Delivered.{Response, Silent, Quiet, Sent, Responds, vacation_report, report_of, notice_report, unflagged_copy}
+use Rattle.sieve_plan.specs.declared.view.AccountView.{AccountView}
+use Rattle.sieve_plan.specs.Sent.{held_notice, kept_handles, redirect_key}
+use Rattle.sieve_plan.specs.Views.{IsViewOf}
+use Rattle.sieve_plan.specs.Delivered.{Disposition, Acts, Tells, Response, Silent, NoRoom, Quiet, Sent, Responds, failure_text, invalid_text, loop_text, vacation_report, report_of, notice_report, unflagged_copy, with_inbox}
+
+-- ---- what becomes of a message, as the code has it
+
+abbrev pub notice_cause_text : NoticeCause → List ℕ
+notice_cause_text Loop = loop_text
+notice_cause_text Invalid = invalid_text
+notice_cause_text (Failed failure) = failure_text (failure_view failure)
+
+abbrev pub deeds_in : Deeds → Actions
+deeds_in deeds = record { filed = deeds.filed; sent = deeds.sent; reply = deeds.reply }
+
+-- from the value of the code
+abbrev pub disposition_in : Found → Disposition
+disposition_in (found.Acts deeds) = Acts (deeds_in deeds)
+disposition_in (found.Tells why) = Tells (notice_cause_text why)
+
+-- the view is of the account, as far as the disposition asks
+abbrev pub IsOfView : AccountView → MailSpec → Disposition → Account → Type 0
+IsOfView view mail (Acts deeds) a = IsViewOf view mail deeds a
+IsOfView view mail (Tells text) a = Unit {0}
+
+-- ---- what a view says of the deeds
+
+-- of the addresses those of which it isn't said that the message was sent there before
+abbrev pub unsent : List Bool → List Addr → List Addr
+unsent [] targets = []
+unsent (before ∷ more) [] = []
+unsent (before ∷ more) (target ∷ targets) = cond before (unsent more targets) (target ∷ unsent more targets)
+
+abbrev pub fresh_by : AccountView → Actions → List Addr
+fresh_by view deeds = unsent view.before deeds.sent
+
+abbrev pub going_by : AccountView → Actions → List Addr
+going_by view deeds = take view.room (fresh_by view deeds)
+
+abbrev pub filed_by : AccountView → Actions → List Placement
+filed_by view deeds = cond (nat_lt (length (going_by view deeds)) (length deeds.sent)) (with_inbox deeds.filed) deeds.filed
+
+abbrev pub deeds_by : AccountView → Actions → Actions
+deeds_by view deeds = record { filed = filed_by view deeds; sent = going_by view deeds; reply = deeds.reply }
+
+abbrev pub notice_by : AccountView → Actions → Option (List ℕ)
+notice_by view deeds = held_notice (length deeds.sent) (length (fresh_by view deeds)) (length (going_by view deeds))
+
+-- ---- plans
 
 -- what is queued and remembered of a response, if one is sent
 abbrev pub reply_of : Response → Option VacationReply
 reply_of Silent = None
+reply_of NoRoom = None
 reply_of (Quiet reason) = None
 reply_of (Sent key reply kept) = Some (record { handle = key; message = reply; moment = kept })
 
--- what is to be done about `vacation`
-pub record IsVacationPlan (own : Addr) (moment : ℕ) (mail : MailSpec) (last : List ℕ → Option ℕ) (reply : Option VacationArgs) (plan : VacationPlan) : Type 0 where
+-- what is to be done about `vacation`; last is the moment that is kept under its key
+pub record IsVacationPlan (own : Addr) (mail : MailSpec) (last : Option ℕ) (room : ℕ) (reply : Option VacationArgs) (plan : VacationPlan) : Type 0 where
   pub response : Response
-  pub is_response : Responds own moment mail last reply response
+  pub is_response : Responds own mail.moment mail (λ key. last) room reply response
   pub vacation : plan.vacation ≡ vacation_report response
   pub sent : plan.reply ≡ reply_of response
 
 -- a response with this key is sent; last is the moment that is kept under it
-pub record SendsReply (own : Addr) (moment : ℕ) (mail : MailSpec) (args : VacationArgs) (key : List ℕ) (last : Option ℕ) (plan : VacationPlan) : Type 0 where
+pub record SendsReply (own : Addr) (mail : MailSpec) (args : VacationArgs) (key : List ℕ) (last : Option ℕ) (plan : VacationPlan) : Type 0 where
   pub octets : List ℕ
-  pub is_reply : IsVacationReply args mail own moment octets
-  pub vacation : plan.vacation ≡ vacation_report (Sent key octets (latest last moment))
-  pub sent : plan.reply ≡ reply_of (Sent key octets (latest last moment))
+  pub is_reply : IsVacationReply args mail own mail.moment octets
+  pub vacation : plan.vacation ≡ vacation_report (Sent key octets (latest last mail.moment))
+  pub sent : plan.reply ≡ reply_of (Sent key octets (latest last mail.moment))
 
 -- no response is sent, and nothing is kept
 abbrev pub unsent_plan : VacationReport → VacationPlan
 unsent_plan vacation = record { vacation = vacation; reply = None }
 
--- a plan that carries out actions and responds to the sender
-pub record IsActingPlan (own : Addr) (moment : ℕ) (mail : MailSpec) (last : List ℕ → Option ℕ) (deeds : Actions) (plan : Plan) : Type 0 where
+-- the message is remembered under the keys of these addresses, if it goes to some; what is over is forgotten
+pub record IsMemoryOf (over : List ReplyKey) (mail : MailSpec) (going : List Addr) (memory : SentMemory) : Type 0 where
+  pub message : (target : Addr) (more : List Addr) → going ≡ target ∷ more → memory.message ≡ redirect_key mail
+  pub handles : memory.handles ≡ kept_handles mail.moment going
+  pub forgotten : memory.forgotten ≡ over
+
+-- a plan that carries out the deeds as far as the view lets it, and a response to the sender
+pub record IsActingPlan (view : AccountView) (mail : MailSpec) (deeds : Actions) (plan : Plan) : Type 0 where
   pub response : Response
-  pub is_response : Responds own moment mail last deeds.reply response
+  pub is_response : Responds view.address mail.moment mail (λ key. view.last) (view.room - length (going_by view deeds)) deeds.reply response
   pub message : plan.message.now ≡ mail.octets
   pub sender : plan.sender.now ≡ mail.from
-  pub at : plan.moment ≡ moment
-  pub filed : plan.filed ≡ deeds.filed
-  pub report : plan.report ≡ report_of deeds response
+  pub at : plan.moment ≡ mail.moment
+  pub filed : plan.filed ≡ filed_by view deeds
+  pub report : plan.report ≡ report_of (deeds_by view deeds) response (notice_by view deeds)
+  pub memory : IsMemoryOf view.over mail (going_by view deeds) plan.memory
   pub reply : plan.reply ≡ reply_of response
 
 -- a plan that files the message into INBOX and leaves a notice
@@ -54,4 +120,5 @@ pub record IsNoticePlan (moment : ℕ) (octets text : List ℕ) (plan : Plan) : 
   pub at : plan.moment ≡ moment
   pub filed : plan.filed ≡ unflagged_copy inbox ∷ []
   pub report : plan.report ≡ notice_report text
+  pub memory : plan.memory ≡ no_memory
   pub reply : plan.reply ≡ None

@@ -1,23 +1,38 @@
--- What a delivery has to know of the account, besides the text of its active script.
-use Rattle.std.specs.Prelude.{◌≡◌, ℕ, cond, nat_eq, List, [], ◌∷◌, Option, None, Some}
+-- What a delivery has to know of the account, beside the text of its active script.
+use Rattle.std.specs.Prelude.{◌≡◌, ℕ, true, Bool, false, List, [], map, Option, None, Some}
 use Rattle.std.specs.FinMap.{get}
-use Rattle.std.specs.Cmp.Lexicographic.{pointwise}
 use Rattle.octets.specs.Ascii.{lowered}
 use Rattle.mail_address.specs.Outbound.{IsBareAddress}
-use Rattle.store_accounts.specs.Account.{Account}
-use Rattle.store_accounts.specs.declared.reply.KeptReply.{KeptReply}
+use Rattle.mail_address.specs.Spelling.{address_spelling}
+use Rattle.sieve_syntax.specs.Meaning.{Actions}
+use Rattle.sieve_syntax.specs.declared.tree.vacation.VacationArgs.{VacationArgs}
+use Rattle.sieve_exec.specs.Mails.{MailSpec}
+use Rattle.sieve_vacation.specs.Handles.{handle_of, handle_key_of}
+use Rattle.store_accounts.specs.Account.{Account, room_in}
+use Rattle.sieve_plan.specs.Sent.{redirect_key, over_keys, was_sent}
 use Rattle.sieve_plan.specs.declared.view.AccountView.{AccountView}
 
 -- the moment that an account keeps of a response to a sender, if one is kept; ignoring the sender's case
 abbrev pub last_reply : Account → List ℕ → List ℕ → Option ℕ
 last_reply a sender key = get a.replies (key, lowered sender)
 
--- the moment of the first of these that has the key
-abbrev pub moment_under : List KeptReply → List ℕ → Option ℕ
-moment_under [] key = None
-moment_under (kept ∷ more) key = cond (pointwise nat_eq kept.handle key) (Some kept.moment) (moment_under more key)
+-- the moment that it keeps of the response that a `vacation` asks for, if one was executed
+abbrev pub last_of : Account → List ℕ → Option VacationArgs → Option ℕ
+last_of a sender None = None
+last_of a sender (Some args) = last_reply a sender (handle_key_of (handle_of args))
 
--- the view has the account's address, and the moments that the account keeps of its responses to this sender
-pub record IsViewOf (view : AccountView) (sender : List ℕ) (a : Account) : Type 0 where
+abbrev pub asks_for : {X Y : Type 0} → List X → Option Y → Bool
+asks_for [] None = false
+asks_for sent reply = true
+
+-- the deeds bring rows into the queue
+abbrev pub asks_room : Actions → Bool
+asks_room deeds = asks_for deeds.sent deeds.reply
+
+-- the view has the account's address, and what it keeps of what the deeds ask for
+pub record IsViewOf (view : AccountView) (mail : MailSpec) (deeds : Actions) (a : Account) : Type 0 where
   pub address : IsBareAddress a.address view.address
-  pub replies : (key : List ℕ) → moment_under view.replies key ≡ last_reply a sender key
+  pub last : view.last ≡ last_of a mail.from deeds.reply
+  pub before : view.before ≡ map (λ target. was_sent a mail.moment (redirect_key mail) (address_spelling target)) deeds.sent
+  pub room : asks_room deeds ≡ true → view.room ≡ room_in a
+  pub over : view.over ≡ over_keys a mail.moment deeds.sent

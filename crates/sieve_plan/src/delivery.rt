@@ -1,66 +1,53 @@
 //! What a delivery is to write and to report.
-ghost use Rattle.std.specs.Prelude.{◌≡◌, ◌≤◌, ℕ, true, false, IfOk, List, Option, option_copied};
+ghost use Rattle.std.specs.Prelude.{◌≡◌, ◌≤◌, ◌<◌, ◌^◌, ℕ, true, cond, length, IfOk, List, Option, map, take};
 ghost use Rattle.mail_address.specs.declared.address.Addr.{Addr as Address};
 ghost use Rattle.sieve_exec.specs.Mails.{mail_spec_of};
-ghost use Rattle.sieve_syntax.specs.Meaning.{Actions};
+ghost use Rattle.mail_address.specs.Spelling.{address_spelling};
 ghost use Rattle.store_accounts.specs.Account.{Account, delivers};
 ghost use Rattle.store_accounts.specs.Cells.{borrowed_octets};
-ghost use Rattle.sieve_plan.specs.Delivered.{Delivers, has_long_header};
-ghost use Rattle.sieve_plan.specs.Plans.{IsActingPlan, IsNoticePlan};
-ghost use Rattle.sieve_plan.specs.Views.{IsViewOf, moment_under};
+ghost use Rattle.sieve_plan.specs.Delivered.{Delivers, DeliversAs, has_long_header, with_inbox};
+ghost use Rattle.sieve_plan.specs.Plans.{IsActingPlan, IsMemoryOf, IsNoticePlan, IsOfView, deeds_in, disposition_in};
+ghost use Rattle.sieve_plan.specs.Sent.{held_notice, redirect_key, sent_handle};
 
-use crate::looping::is_looping;
-use crate::notice::{INVALID_TEXT, LONG_TEXT, LOOP_TEXT, failure_text};
-use crate::outcome::evaluate_script;
-use crate::texts::{inbox, mailboxes, spelled};
+use crate::disposition::{Deeds, Disposition};
+use crate::notice::{BEFORE_TEXT, FULL_TEXT, LONG_TEXT};
+use crate::sent::{HALF_DAY, redirect_key, sent_handle};
+use crate::texts::{fresh, inbox, mailboxes, with_inbox};
 use crate::vacation::{VacationPlan, plan_vacation};
 use crate::view::AccountView;
 use mail_address::Addr;
 use mail_flags::Placement;
 use octets::{List, Octets, Texts};
-use sieve_exec::{Envelope, Mail, Outcome, When};
-use sieve_lex::ScriptError;
-use sieve_syntax::VacationArgs;
+use sieve_exec::{Envelope, Mail, When};
 use sieve_vacation::MAX_MOMENT;
 use std::alloc::{AllocError, Global};
-use store_accounts::{Plan, Report, VacationReport};
+use store_accounts::{Plan, ReplyKey, Report, SentMemory, VacationReport};
 
-/// Returns what a delivery of a mail is to write and to report, given the text of the account's active script, if one is active.
+/// What a delivery of a mail is to write and to report, where this becomes of it: the deeds as far as the message may be sent on.
 ///
-/// The mail's moment is at most [`MAX_MOMENT`], and its header isn't long (`has_long_header`). The text is checked, compiled and run
-/// once; the fields are searched once more for Received, and if a `vacation` was executed, for the reasons to send no
-/// response. The message and the sender are borrowed: no copy of the message is made. Lack of memory is the only error;
-/// a `:subject` or `:from` of 2^32 octets or more, which no script within the limits has, also counts as lack of memory.
+/// The mail's moment is at most [`MAX_MOMENT`]. The message and the sender are borrowed: no copy of the message is made. Where it is
+/// sent on its name is hashed, in time linear in its first Message-ID field or, without one, in its body; where a `vacation` was
+/// executed the fields are looked through for reasons to send no response. Lack of memory is the only error; a `:subject` or
+/// `:from` of 2^32 octets and more, which no script within the limits has, is answered so too.
 pub fn plan<'m>(
     alloc: Global,
-    view: &AccountView,
-    active: Option<&[u8]>,
+    view: AccountView,
     mail: &'m Mail<'_>,
+    disposition: Disposition,
 ) -> Result<Plan<'m>, AllocError>
-    requires short { has_long_header mail.now.octets ≡ false }
-    requires early { mail.now.moment ≤ MAX_MOMENT }
-    ensures { IfOk result (λ plan. (a : Account) → IsViewOf view.now mail.now.from a
-        → Delivers view.now.address mail.now (borrowed_octets active.entry) a plan.report (delivers plan a)) }
+    requires { mail.now.moment ≤ MAX_MOMENT }
+    ensures { IfOk result (λ plan. (a : Account) → IsOfView view mail.now (disposition_in disposition) a
+        → DeliversAs view.address mail.now.moment mail.now (disposition_in disposition) a plan.report (delivers plan a)) }
 {
-    if is_looping(mail) {
-        return leave_notice(alloc, mail, LOOP_TEXT);
-    }
-    let Some(text) = active else {
-        let filed = inbox(alloc)?;
-        return act(alloc, view, mail, filed, &[], None);
-    };
-    match evaluate_script(alloc, text, mail) {
-        Ok(Outcome::Done { filed, sent, reply }) => act(
+    match disposition {
+        Disposition::Acts(deeds) => act(alloc, view, mail, deeds),
+        Disposition::Tells(why) => tell(
             alloc,
-            view,
-            mail,
-            filed,
-            sent.as_slice(),
-            reply.as_ref(),
+            mail.message(),
+            mail.from(),
+            mail.moment(),
+            why.text(),
         ),
-        Ok(Outcome::Failed(failure)) => leave_notice(alloc, mail, failure_text(failure)),
-        Err(ScriptError::Fault(_)) => leave_notice(alloc, mail, INVALID_TEXT),
-        Err(ScriptError::Memory) => Err(AllocError),
     }
 }
 
@@ -87,14 +74,7 @@ pub fn plan_unread<'m>(
     )
 }
 
-/// Files the mail's message into INBOX and leaves the user a notice.
-fn leave_notice<'m>(alloc: Global, mail: &'m Mail<'_>, text: &[u8]) -> Result<Plan<'m>, AllocError>
-    ensures { IfOk result (IsNoticePlan mail.now.moment mail.now.octets text.now) }
-{
-    tell(alloc, mail.message(), mail.from(), mail.moment(), text)
-}
-
-/// Files the message into INBOX and leaves the user a notice.
+/// The message joins INBOX, and the user is left a notice.
 fn tell<'m>(
     alloc: Global,
     message: &'m [u8],
@@ -118,26 +98,46 @@ fn tell<'m>(
             vacation: VacationReport::None,
             notice: Some(notice),
         },
+        memory: SentMemory::none(alloc),
         reply: None,
     })
 }
 
-/// Files copies of the message into these mailboxes, each with its flags, sends it to these addresses, and answers the sender.
+/// Copies of the message join the mailboxes, each with its flags, it is sent on as far as it may be, and the sender is answered.
 fn act<'m>(
     alloc: Global,
-    view: &AccountView,
+    view: AccountView,
     mail: &'m Mail<'_>,
-    filed: List<Placement>,
-    targets: &[Addr],
-    reply: Option<&VacationArgs>,
+    deeds: Deeds,
 ) -> Result<Plan<'m>, AllocError>
     requires { mail.now.moment ≤ MAX_MOMENT }
-    ensures { IfOk result (IsActingPlan view.now.address mail.now.moment mail.now (moment_under view.now.replies)
-        (record { filed = filed; sent = targets.now; reply = option_copied reply.entry })) }
+    ensures { IfOk result (IsActingPlan view mail.now (deeds_in deeds)) }
 {
+    let AccountView {
+        address,
+        last,
+        before,
+        room,
+        over,
+    } = view;
+    let Deeds { filed, sent, reply } = deeds;
+    let fresh = fresh(alloc, sent.as_slice(), before.as_slice())?;
+    let fresh_count = fresh.len();
+    let going = first_ones(fresh, room);
+    let filed = filed_as(alloc, filed, going.len() < sent.len())?;
+    let left = room - going.len() as u64;
+    let VacationPlan { vacation, reply } = plan_vacation(
+        alloc,
+        &address,
+        last,
+        left,
+        mail,
+        reply.as_ref(),
+    )?;
     let names = mailboxes(alloc, filed.as_slice())?;
-    let sent = spelled(alloc, targets)?;
-    let VacationPlan { vacation, reply } = plan_vacation(alloc, view, mail, mail.moment(), reply)?;
+    let memory = memory_of(alloc, mail, going.as_slice(), over)?;
+    let held = held_notice(sent.len(), fresh_count, going.len());
+    let notice = copied(alloc, held)?;
     Ok(Plan {
         message: mail.message(),
         sender: mail.from(),
@@ -145,10 +145,100 @@ fn act<'m>(
         filed,
         report: Report {
             filed: names,
-            sent,
+            sent: going,
             vacation,
-            notice: None,
+            notice,
         },
+        memory,
         reply,
     })
+}
+
+/// The mailboxes, and INBOX among them where the message doesn't go to all addresses.
+fn filed_as(
+    alloc: Global,
+    filed: List<Placement>,
+    is_held: bool,
+) -> Result<List<Placement>, AllocError>
+    ensures { IfOk result (λ all. all ≡ cond is_held (with_inbox filed) filed) }
+{
+    if is_held {
+        return with_inbox(alloc, filed);
+    }
+    Ok(filed)
+}
+
+/// The first ones, as many as there is room for.
+fn first_ones(texts: Texts, room: u64) -> Texts
+    ensures { result ≡ take room texts }
+{
+    let mut vec = texts.into_vec();
+    if room < vec.len() as u64 {
+        vec.truncate(room as usize);
+    }
+    Texts::from_vec(vec)
+}
+
+/// Why the message isn't sent on to all addresses, by how many there are, to how many it wasn't sent before, and to how many it goes.
+fn held_notice(all: usize, fresh: usize, going: usize) -> Option<&'static [u8]>
+    ensures { borrowed_octets result ≡ held_notice all fresh going }
+{
+    if going < fresh {
+        return Some(FULL_TEXT);
+    }
+    if fresh < all {
+        return Some(BEFORE_TEXT);
+    }
+    None
+}
+
+/// A copy of the text, if there is one.
+fn copied(alloc: Global, text: Option<&[u8]>) -> Result<Option<Octets>, AllocError>
+    ensures { IfOk result (λ copy. copy ≡ borrowed_octets text.entry) }
+{
+    match text {
+        Some(text) => Ok(Some(Octets::from_slice(alloc, text)?)),
+        None => Ok(None),
+    }
+}
+
+/// What is remembered of the mail as it goes to these addresses; what is over is forgotten.
+fn memory_of(
+    alloc: Global,
+    mail: &Mail<'_>,
+    going: &[Octets],
+    over: List<ReplyKey>,
+) -> Result<SentMemory, AllocError>
+    requires { mail.now.moment ≤ MAX_MOMENT }
+    ensures { IfOk result (λ memory. (targets : List Address) → going.now ≡ map address_spelling targets → IsMemoryOf over mail.now targets memory) }
+{
+    let message = key_if_sent(alloc, mail, going)?;
+    let handles = handles_of(alloc, mail.moment() / HALF_DAY, going)?;
+    Ok(SentMemory {
+        message,
+        handles,
+        forgotten: over,
+    })
+}
+
+/// What stands for the mail, if it goes to some address.
+fn key_if_sent(alloc: Global, mail: &Mail<'_>, going: &[Octets]) -> Result<Octets, AllocError>
+    ensures { IfOk result (λ key. 0 < length going.now → key ≡ redirect_key mail.now) }
+{
+    if going.is_empty() {
+        return Ok(Octets::new(alloc));
+    }
+    redirect_key(alloc, mail)
+}
+
+/// The handles' keys under which it is kept that a message went to these addresses in this half day.
+fn handles_of(alloc: Global, half: u64, going: &[Octets]) -> Result<Texts, AllocError>
+    requires { half < 2 ^ 32 }
+    ensures { IfOk result (λ handles. handles ≡ map (sent_handle half) going.now) }
+{
+    let mut handles = Texts::new(alloc);
+    for target in going {
+        handles.push(sent_handle(alloc, half, target.as_slice())?)?;
+    }
+    Ok(handles)
 }

@@ -2,18 +2,21 @@
 #![tactic(auto)]
 
 mod delivery;
+mod disposition;
 pub mod laws;
 mod long_header;
 mod looping;
 mod notice;
 mod outcome;
+mod sent;
 mod texts;
 mod vacation;
 mod view;
 
 pub use delivery::{plan, plan_unread};
+pub use disposition::{Deeds, Disposition, dispose};
 pub use long_header::has_long_header;
-pub use notice::failure_text;
+pub use notice::{NoticeCause, failure_text};
 pub use outcome::evaluate_script;
-pub use store_accounts::KeptReply;
+pub use sent::{HALF_DAY, half_key, is_near_if, redirect_key, sent_handle};
 pub use view::AccountView;

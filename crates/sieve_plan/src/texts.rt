@@ -1,8 +1,10 @@
 //! Lists of mailboxes and of addresses.
-ghost use Rattle.std.specs.Prelude.{◌≡◌, [], ◌∷◌, map, IfOk};
+ghost use Rattle.std.specs.Prelude.{◌≡◌, [], ◌∷◌, map, nat_eq, IfOk};
+ghost use Rattle.std.specs.Cmp.Lexicographic.{pointwise};
 ghost use Rattle.mail_address.specs.Spelling.{address_spelling};
-ghost use Rattle.sieve_syntax.specs.RunState.{inbox as inbox_of};
-ghost use Rattle.sieve_plan.specs.Delivered.{unflagged_copy};
+ghost use Rattle.sieve_syntax.specs.RunState.{inbox as inbox_of, is_filed};
+ghost use Rattle.sieve_plan.specs.Delivered.{unflagged_copy, with_inbox};
+ghost use Rattle.sieve_plan.specs.Plans.{unsent};
 
 use mail_address::{Addr, spell_address};
 use mail_flags::Placement;
@@ -33,13 +35,51 @@ pub(crate) fn mailboxes(alloc: Global, filed: &[Placement]) -> Result<Texts, All
     Ok(texts)
 }
 
-/// Addresses as they are written.
-pub(crate) fn spelled(alloc: Global, addresses: &[Addr]) -> Result<Texts, AllocError>
-    ensures { IfOk result (λ texts. texts ≡ map address_spelling addresses.now) }
+/// The addresses to which the message wasn't sent before, as they are written. `before` says of each whether it was.
+pub(crate) fn fresh(alloc: Global, targets: &[Addr], before: &[bool]) -> Result<Texts, AllocError>
+    ensures { IfOk result (λ texts. texts ≡ map address_spelling (unsent before.now targets.now)) }
 {
     let mut texts = Texts::new(alloc);
-    for address in addresses {
-        texts.push(spell_address(alloc, address)?)?;
+    let mut rest = before;
+    for target in targets {
+        let Some((was_sent, more)) = rest.split_first() else {
+            return Ok(texts);
+        };
+        rest = more;
+        if !*was_sent {
+            texts.push(spell_address(alloc, target)?)?;
+        }
     }
     Ok(texts)
+}
+
+/// The mailboxes, INBOX among them: without flags where it isn't there.
+pub(crate) fn with_inbox(
+    alloc: Global,
+    filed: List<Placement>,
+) -> Result<List<Placement>, AllocError>
+    ensures { IfOk result (λ all. all ≡ with_inbox filed) }
+{
+    if has_inbox(filed.as_slice()) {
+        return Ok(filed);
+    }
+    let mut all = filed;
+    all.push(Placement {
+        mailbox: Octets::from_slice(alloc, INBOX)?,
+        flags: Octets::new(alloc),
+    })?;
+    Ok(all)
+}
+
+/// Whether INBOX is among the mailboxes.
+fn has_inbox(filed: &[Placement]) -> bool
+    ensures { result ≡ is_filed filed.now inbox_of }
+{
+    filed.iter().any(|placement| is_inbox(placement))
+}
+
+fn is_inbox(placement: &Placement) -> bool
+    ensures { result ≡ pointwise nat_eq placement.now.mailbox inbox_of }
+{
+    placement.mailbox.as_slice() == INBOX
 }

@@ -1,30 +1,19 @@
-//! What a delivery has to know of the account, besides the text of its active script.
-ghost use Rattle.std.specs.Prelude.{◌≡◌};
-ghost use Rattle.sieve_plan.specs.Views.{moment_under};
-
+//! What a delivery has to know of the account, beside the text of its active script.
 use mail_address::Addr;
 use octets::List;
-use store_accounts::KeptReply;
+use store_accounts::ReplyKey;
 
-/// What a delivery has to know of the account, besides the text of its active script.
+/// What a delivery has to know of the account, beside the text of its active script: as much of it as the deeds ask for.
 #[derive(Debug, Drop)]
 pub struct AccountView {
     /// The account's address.
     pub address: Addr,
-    /// The moments that are kept of responses to the sender, ignoring the sender's case; each key once, in any order.
-    pub replies: List<KeptReply>,
-}
-
-impl AccountView {
-    /// The moment that is kept under a key, if one is. One pass; takes no memory.
-    pub(crate) fn moment_under(&self, key: &[u8]) -> Option<u64>
-        ensures { result ≡ moment_under self.now.replies key.now }
-    {
-        for kept in self.replies.as_slice() {
-            if kept.handle.as_slice() == key {
-                return Some(kept.moment);
-            }
-        }
-        None
-    }
+    /// The moment that is kept of the response that a `vacation` asks for, if one was executed and one is kept.
+    pub last: Option<u64>,
+    /// Of each address that the message is sent to, in order: whether it was sent there before.
+    pub before: List<bool>,
+    /// How many more rows may join the queue; any number where the deeds bring none.
+    pub room: u64,
+    /// What is kept and over of messages that were sent on: 32 keys at most, and none where the message isn't sent on.
+    pub over: List<ReplyKey>,
 }

@@ -15,8 +15,3 @@ pub glue5 : (old a x b y c z d u e v : List ℕ) → x ≡ old ++ a → y ≡ x 
     → v ≡ old ++ (a ++ (b ++ (c ++ (d ++ e))))
 glue5 old a x b y c z d u e v one two three four five =
     glue old a x (b ++ (c ++ (d ++ e))) v one (glue4 x b y c z d u e v two three four five)
-
-pub glue8 : (old a x b y c z d u e v f w g p h q : List ℕ) → x ≡ old ++ a → y ≡ x ++ b → z ≡ y ++ c → u ≡ z ++ d → v ≡ u ++ e
-    → w ≡ v ++ f → p ≡ w ++ g → q ≡ p ++ h → q ≡ old ++ (a ++ (b ++ (c ++ (d ++ (e ++ (f ++ (g ++ h)))))))
-glue8 old a x b y c z d u e v f w g p h q one two three four five six seven eight =
-    glue4 old a x b y c z (d ++ (e ++ (f ++ (g ++ h)))) q one two three (glue5 z d u e v f w g p h q four five six seven eight)

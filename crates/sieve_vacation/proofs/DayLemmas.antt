@@ -1,25 +1,21 @@
--- What jiff's calendar says of the day with a number.
-use Rattle.std.proofs.Common.{◌≡◌, ℕ, ◌+◌, ◌-◌, ◌/◌, ◌%◌, arith, refl, ap, sym, ◌∙◌, ℤ, pos, negsuc, ◌≤ℤ◌, unsigned_abs, subst, List, [], ◌∷◌, ◌++◌, get_or}
+-- What jiff prints of a day and a time of it, as RFC 5322 has it.
+use Rattle.std.proofs.Common.{◌≡◌, ℕ, zero, suc, ◌+◌, ◌-◌, ◌/◌, ◌%◌, ◌<◌, ◌≤◌, arith, refl, ap, sym, ◌∙◌, ℤ, pos, negsuc, ◌≤ℤ◌, unsigned_abs, subst, false, List, [], ◌∷◌, ◌++◌, append_assoc, get_or, inl, inr, Some}
 use Rattle.std.specs.Prelude.{codes, decimal}
+use Rattle.std.proofs.lemmas.Fmt.{decimal_digit, decimal_step}
+use Rattle.std.proofs.lemmas.Bool.Decides.{leb_tells}
 use Rattle.std.proofs.lemmas.Int.{by_lt_z}
 use Rattle.jiff_core.specs.declared.civil.date.Date.{Date}
-use Rattle.jiff_core.specs.declared.civil.weekday.Weekday.{Weekday}
+use Rattle.jiff_core.specs.declared.civil.datetime.DateTime.{DateTime}
+use Rattle.jiff_core.specs.declared.offset.Offset.{Offset}
 use Rattle.jiff_core.specs.Calendar.{days_from_civil, weekday_number, IsCivilDate}
-use Rattle.jiff_core.specs.Date.{epoch_day, weekday_of, IsYmd}
-use Rattle.jiff_core.specs.Weekday.{monday_zero, sunday_zero}
+use Rattle.jiff_core.specs.Date.{epoch_day, weekday_of}
+use Rattle.jiff_core.specs.Time.{time_seconds}
 use Rattle.jiff_core.proofs.SignedLemmas.{signed_arith}
-use Rattle.jiff_core.proofs.CalendarLemmas.{days_from_civil-day_count, day_count-epoch, day_count-lt_year, weekday_number-parts}
+use Rattle.jiff_core.proofs.CalendarLemmas.{days_from_civil-day_count, day_count-epoch, day_count-lt_year, weekday_number-parts, days_in_month_bounds}
 use Rattle.jiff_core.proofs.DateLemmas.{civil}
-use Rattle.jiff_core.proofs.StandardFacts.{known_days}
-use Rattle.sieve_vacation.specs.Dates.{IsDay, WritesDay, WritesDate, day_names, month_names, two_digits_of, clock_text}
-use Rattle.sieve_vacation.proofs.Appends.{glue4, glue8}
-
--- 1 January 1970 has number 0
-pub first_day : (d : Date) → IsYmd (pos 1970) (pos 1) (pos 1) d → epoch_day d ≡ pos 0
-first_day d is =
-    let month : d.month ≡ 1 = omega (arith, signed_arith, is.1) in
-    let day : d.day ≡ 1 = omega (arith, signed_arith, is.2) in
-    rw (is.0, month, day) known_days.0
+use Rattle.jiff_fmt.specs.Rfc2822 as mail
+use Rattle.jiff_fmt.specs.Text.{pad2, sign_byte, rounded_minutes}
+use Rattle.sieve_vacation.specs.Dates.{IsDay, IsUtcDateText, day_names, month_names}
 
 -- a number from 0 on is its own size
 nonnegative : (z : ℤ) → pos 0 ≤ℤ z → pos (unsigned_abs z) ≡ z
@@ -27,50 +23,83 @@ nonnegative (pos n) since = refl
 nonnegative (negsuc n) since = absurd (omega (arith, signed_arith))
 
 -- a day from number 0 on has a year from 0 on
-pub year_is : (number : ℕ) (d : Date) → epoch_day d ≡ pos number → pos (unsigned_abs d.year) ≡ d.year
-year_is number d is =
+pub year_since : (number : ℕ) (d : Date) → epoch_day d ≡ pos number → pos 0 ≤ℤ d.year
+year_since number d is =
     by_lt_z d.year (pos 0)
     (λ before. absurd (omega (arith, signed_arith, is, days_from_civil-day_count d.year d.month d.day, day_count-epoch, day_count-lt_year d.year d.month d.day (pos 1970) 1 1 (civil d) (omega arith) (omega (arith, signed_arith)))))
-    (λ since. nonnegative d.year since)
+    (λ since. since)
 
 -- the day that a date with this number is
-pub day_is : (number : ℕ) (d : Date) → epoch_day d ≡ pos number → IsDay number (unsigned_abs d.year) d.month d.day
+day_is : (number : ℕ) (d : Date) → epoch_day d ≡ pos number → IsDay number (unsigned_abs d.year) d.month d.day
 day_is number d is =
-    let year = year_is number d is in
+    let year = nonnegative d.year (year_since number d is) in
     record {
       civil = subst (λ (y : ℤ). IsCivilDate y d.month d.day) (sym year) (civil d);
       counted = ap (λ y. days_from_civil y d.month d.day) year ∙ is;
     }
 
+-- the name of the day k days after a Sunday
+day_named : (w k : ℕ) → w < 7 → k ≡ (w + 1) % 7 → mail.weekday_text w ≡ get_or day_names k []
+day_named zero k in_week is = rw is refl
+day_named (suc zero) k in_week is = rw is refl
+day_named (suc (suc zero)) k in_week is = rw is refl
+day_named (suc (suc (suc zero))) k in_week is = rw is refl
+day_named (suc (suc (suc (suc zero)))) k in_week is = rw is refl
+day_named (suc (suc (suc (suc (suc zero))))) k in_week is = rw is refl
+day_named (suc (suc (suc (suc (suc (suc zero)))))) k in_week is = rw is refl
+day_named (suc (suc (suc (suc (suc (suc (suc w))))))) k in_week is = absurd (omega arith)
+
 -- day 0 was a Thursday
-pub weekday_is : (number : ℕ) (d : Date) (weekday : Weekday) → epoch_day d ≡ pos number → monday_zero weekday ≡ weekday_of d → sunday_zero weekday ≡ (number + 4) % 7
-weekday_is number d weekday is same =
+weekday_named : (number : ℕ) (d : Date) → epoch_day d ≡ pos number → mail.weekday_text (weekday_of d) ≡ get_or day_names ((number + 4) % 7) []
+weekday_named number d is =
     let here : weekday_of d ≡ weekday_number (pos number) = ap weekday_number is in
-    omega (arith, signed_arith, weekday_number-parts (pos number))
+    let parts = weekday_number-parts (pos number) in
+    day_named (weekday_of d) ((number + 4) % 7) (omega (arith, signed_arith, here, parts)) (omega (arith, signed_arith, here, parts))
 
--- the eight texts of a day, appended in turn
-pub day_written : (number : ℕ) (d : Date) (weekday : Weekday) (year high low day month : ℕ) (old name a b c e monthly f g h new : List ℕ)
-    → epoch_day d ≡ pos number → monday_zero weekday ≡ weekday_of d → year ≡ unsigned_abs d.year → high ≡ year / 100 → low ≡ year % 100 → day ≡ d.day → month ≡ d.month
-    → name ≡ get_or day_names (sunday_zero weekday) [] → monthly ≡ get_or month_names (month - 1) []
-    → a ≡ old ++ name → b ≡ a ++ codes ", " → c ≡ b ++ decimal day → e ≡ c ++ 32 ∷ [] → f ≡ e ++ monthly → g ≡ f ++ 32 ∷ []
-    → h ≡ g ++ two_digits_of high → new ≡ h ++ two_digits_of low → WritesDay number old new
-day_written number d weekday year high low day month old name a b c e monthly f g h new is same years highs lows days months named monthlies one two three four five six seven eight =
-    let spelled = glue8 old name a (codes ", ") b (decimal day) c (32 ∷ []) e monthly f (32 ∷ []) g (two_digits_of high) h (two_digits_of low) new one two three four five six seven eight in
-    let first : name ≡ get_or day_names ((number + 4) % 7) [] = named ∙ ap (λ n. get_or day_names n []) (weekday_is number d weekday is same) in
-    record {
-      year = unsigned_abs d.year;
-      month = d.month;
-      day = d.day;
-      is_day = day_is number d is;
-      appended = rw (first, monthlies, highs, lows, years, days, months) at spelled;
-    }
+-- the name of a month
+month_named : (m : ℕ) → 1 ≤ m → m ≤ 12 → mail.month_text m ≡ get_or month_names (m - 1) []
+month_named zero from to = absurd (omega arith)
+month_named (suc zero) from to = refl
+month_named (suc (suc zero)) from to = refl
+month_named (suc (suc (suc zero))) from to = refl
+month_named (suc (suc (suc (suc zero)))) from to = refl
+month_named (suc (suc (suc (suc (suc zero))))) from to = refl
+month_named (suc (suc (suc (suc (suc (suc zero)))))) from to = refl
+month_named (suc (suc (suc (suc (suc (suc (suc zero))))))) from to = refl
+month_named (suc (suc (suc (suc (suc (suc (suc (suc zero)))))))) from to = refl
+month_named (suc (suc (suc (suc (suc (suc (suc (suc (suc zero))))))))) from to = refl
+month_named (suc (suc (suc (suc (suc (suc (suc (suc (suc (suc zero)))))))))) from to = refl
+month_named (suc (suc (suc (suc (suc (suc (suc (suc (suc (suc (suc zero))))))))))) from to = refl
+month_named (suc (suc (suc (suc (suc (suc (suc (suc (suc (suc (suc (suc zero)))))))))))) from to = refl
+month_named (suc (suc (suc (suc (suc (suc (suc (suc (suc (suc (suc (suc (suc m))))))))))))) from to = absurd (omega arith)
 
--- the four texts of a moment, appended in turn
-pub date_written : (moment : ℕ) (old a b c new : List ℕ) → WritesDay (moment / 86400) old a → b ≡ a ++ 32 ∷ [] → c ≡ b ++ clock_text (moment % 86400) → new ≡ c ++ codes " +0000"
-    → WritesDate moment old new
-date_written moment old a b c new is two three four =
+-- a day of a month has one digit or two
+day_spelled : (n : ℕ) → n < 100 → mail.day_text false n ≡ decimal n
+day_spelled n small = elim (leb_tells 10 n) [
+  | inl two ↦ rw (two.0, decimal_step n two.1 (omega arith), decimal_digit (n / 10) (omega arith)) refl
+  | inr one ↦ rw one.0 (sym (decimal_digit n one.1))
+]
+
+-- the offset of UTC
+zone_spelled : (o : Offset) (before : List ℕ) → o.seconds ≡ pos 0
+    → before ++ 32 ∷ [] ++ sign_byte o.seconds ∷ [] ++ pad2 (rounded_minutes o).0 ++ pad2 (rounded_minutes o).1 ≡ before ++ codes " +0000"
+zone_spelled o before utc = rw utc (simp append_assoc refl)
+
+-- what jiff prints of a clock in UTC
+pub is_date_text : (moment : ℕ) (clock : DateTime) (o : Offset) (text : List ℕ) → epoch_day clock.date ≡ pos (moment / 86400) → time_seconds clock.time ≡ moment % 86400
+    → o.seconds ≡ pos 0 → text ≡ mail.mail_text clock (Some o) → IsUtcDateText moment text
+is_date_text moment clock o text day second utc printed =
+    let date = clock.date in
+    let time = clock.time in
+    let in_month : date.day < 100 = omega (arith, date.day_in, days_in_month_bounds date.year date.month) in
+    let hour : time.hour ≡ moment % 86400 / 3600 = omega (arith, second, time.minute_in, time.second_in) in
+    let minute : time.minute ≡ moment % 86400 / 60 % 60 = omega (arith, second, time.minute_in, time.second_in) in
+    let last : time.second ≡ moment % 86400 % 60 = omega (arith, second, time.minute_in, time.second_in) in
     record {
-      text = _;
-      is_text = record { year = is.year; month = is.month; day = is.day; is_day = is.is_day; spelled = refl };
-      appended = glue4 old _ a (32 ∷ []) b (clock_text (moment % 86400)) c (codes " +0000") new is.appended two three four;
+      year = unsigned_abs date.year;
+      month = date.month;
+      day = date.day;
+      is_day = day_is (moment / 86400) date day;
+      spelled = printed ∙ zone_spelled o (mail.date_and_time_text false clock) utc
+          ∙ rw (weekday_named (moment / 86400) date day, day_spelled date.day in_month, month_named date.month date.month_in.0 date.month_in.1, hour, minute, last) (simp append_assoc refl);
     }

@@ -44,11 +44,3 @@ pub record WritesDate (moment : ℕ) (old new : List ℕ) : Type 0 where
   pub text : List ℕ
   pub is_text : IsUtcDateText moment text
   pub appended : new ≡ old ++ text
-
--- the text of the day with this number is appended to what was there
-pub record WritesDay (number : ℕ) (old new : List ℕ) : Type 0 where
-  pub year : ℕ
-  pub month : ℕ
-  pub day : ℕ
-  pub is_day : IsDay number year month day
-  pub appended : new ≡ old ++ day_text number year month day

@@ -98,7 +98,7 @@ fn is_bulk(raw: &[u8]) -> bool
 }
 
 /// The raw value of the first field with this name, case ignored.
-pub(crate) fn first_raw<'a>(name: &[u8], fields: &[Field<'a>]) -> Option<&'a [u8]>
+pub fn first_raw<'a>(name: &[u8], fields: &[Field<'a>]) -> Option<&'a [u8]>
     ensures { option_map (λ raw. raw.now) result ≡ first_raw name.now (field_texts_of fields.now) }
 {
     for field in fields {

@@ -70,17 +70,17 @@ fn push_part(key: &mut Octets, part: Option<&Octets>) -> Result<(), AllocError>
         return key.push(0);
     };
     key.push(1)?;
-    push_len(key, text.as_slice().len() as u64)?;
+    push_number(key, text.as_slice().len() as u64)?;
     key.extend_from_slice(text.as_slice())
 }
 
-/// Appends a length in four octets, the most significant one first.
-fn push_len(key: &mut Octets, len: u64) -> Result<(), AllocError>
-    requires { len < 2 ^ 32 }
-    ensures { OnOk result (key.new ≡ key.old ++ four_octets len) }
+/// Appends a number below 2^32 in four octets, the highest first.
+pub fn push_number(key: &mut Octets, number: u64) -> Result<(), AllocError>
+    requires { number < 2 ^ 32 }
+    ensures { OnOk result (key.new ≡ key.old ++ four_octets number) }
 {
-    key.push((len / 16_777_216 % 256) as u8)?;
-    key.push((len / 65_536 % 256) as u8)?;
-    key.push((len / 256 % 256) as u8)?;
-    key.push((len % 256) as u8)
+    key.push((number / 16_777_216 % 256) as u8)?;
+    key.push((number / 65_536 % 256) as u8)?;
+    key.push((number / 256 % 256) as u8)?;
+    key.push((number % 256) as u8)
 }

@@ -19,6 +19,7 @@ mod value;
 pub use addressed::AddressedMail;
 pub use date::{MAX_MOMENT, write_date};
 pub use decision::decide_reply;
-pub use handle::{handle_key, has_short_texts};
+pub use fields::first_raw;
+pub use handle::{handle_key, has_short_texts, push_number};
 pub use layout::reply_bytes;
 pub use reason::{Reason, ReplyDecision};

@@ -1,8 +1,9 @@
 //! Checks scripts in files, or on standard input, without a store.
+use clap::ArgMatches;
 use clap::error::ErrorKind as WordsKind;
 use cli_run::check::{check_input, check_text};
 use cli_run::fault::{RunFault, refuse};
-use cli_subcommands::{ArgsError, RawArgs, read_files};
+use cli_subcommands::{ArgsError, read_files};
 use managesieve_sessions::scripts::MAX_SCRIPT;
 use std::alloc::{AllocError, Global};
 use std::fs::{File, Files};
@@ -20,12 +21,12 @@ const UNREAD: u8 = 75;
 pub fn check<F: Files, R: Read, W: Write, E: Write>(
     system: &F,
     alloc: Global,
-    words: &RawArgs,
+    matches: &ArgMatches<'_>,
     input: &mut R,
     output: &mut W,
     errors: &mut E,
 ) -> u8 {
-    let files = match read_files(alloc, words) {
+    let files = match read_files(alloc, matches) {
         Ok(files) => files,
         Err(error) => return refuse(errors, fault_of(&error)),
     };

@@ -1,9 +1,8 @@
 //! Many clients at once.
 use crate::default_script::read_default;
 use crate::descriptors::{TOO_FEW, are_enough};
-use crate::listening::{
-    DaemonOptions, Listening, MailOptions, listen, read_options, trouble_of_socket,
-};
+use crate::listening::{Listening, fault_of_socket, listen};
+use crate::options::{DaemonOptions, MailOptions, read_options};
 use cli_run::fault::RunFault;
 use cli_run::fault_with_cause::FaultWithCause;
 use cli_subcommands as words;
@@ -46,7 +45,7 @@ pub fn serve_daemon<
 ) -> u8 {
     let asked = match read_options(words) {
         Ok(asked) => asked,
-        Err(fault) => return refuse(&mut errors, trouble_of(fault)),
+        Err(fault) => return FaultWithCause::from(fault).refuse(&mut errors),
     };
     let default = match read_default(system, alloc, words.default, output, &mut errors) {
         Ok(default) => default,
@@ -63,11 +62,11 @@ pub fn serve_daemon<
     ) {
         Ok(Some(listening)) => listening,
         Ok(None) => return 0,
-        Err(trouble) => return refuse(&mut errors, trouble),
+        Err(fault) => return fault.refuse(&mut errors),
     };
     let route = match route_of(alloc, asked.mail) {
         Ok(route) => route,
-        Err(AllocError) => return refuse(&mut errors, trouble_of(RunFault::from(AllocError))),
+        Err(refused) => return FaultWithCause::from(refused).refuse(&mut errors),
     };
     match watch(system, alloc, listening, output) {
         Ok(sockets) => {
@@ -87,7 +86,7 @@ pub fn serve_daemon<
             host.begin(words::VERSION.as_bytes(), pid);
             live(alloc, &asked, host)
         }
-        Err(error) => refuse(&mut errors, trouble_of_socket(error)),
+        Err(error) => fault_of_socket(error).refuse(&mut errors),
     }
 }
 
@@ -151,7 +150,7 @@ fn look_at_mail<N: Files>(system: &N, mail: Option<MailOptions<'_>>) -> Result<(
     };
     match fs::metadata(system, mail.dir) {
         Ok(found) if found.is_dir() => Ok(()),
-        _ => Err(trouble_of(RunFault::NoMaildir)),
+        _ => Err(FaultWithCause::from(RunFault::NoMaildir)),
     }
 }
 
@@ -186,21 +185,12 @@ fn live<N: Net + Clock, E: Write + Drop, K: Keeper + Drop, T: MailSink + Drop>(
 ) -> u8 {
     let name = match Octets::from_slice(alloc, asked.host.as_bytes()) {
         Ok(name) => name,
-        Err(AllocError) => return host.refuse(trouble_of(RunFault::from(AllocError))),
+        Err(refused) => return host.refuse(FaultWithCause::from(refused)),
     };
     let mut daemon = MailDaemon::new(alloc, asked.names, name, asked.mail.is_some(), asked.memory);
     let mut service = Service::new(alloc);
     match life::serve_clients(&mut host, &mut daemon, &mut service, u64::MAX) {
         Ok(()) => 0,
-        Err(_) => host.refuse(trouble_of(RunFault::Stream)),
+        Err(_) => host.refuse(FaultWithCause::from(RunFault::Stream)),
     }
-}
-
-fn trouble_of(fault: RunFault) -> FaultWithCause {
-    FaultWithCause { fault, cause: None }
-}
-
-fn refuse<E: Write>(errors: &mut E, trouble: FaultWithCause) -> u8 {
-    trouble.tell(errors);
-    trouble.fault.status()
 }

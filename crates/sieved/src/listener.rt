@@ -71,7 +71,7 @@ pub fn tell_listening<W: Write>(
 }
 
 /// Serves each client that connects, up to that many. A client that has gone before it is accepted isn't counted. The first
-/// trouble with the store that a client meets is reported on the errors.
+/// fault of the store that a client meets is reported on the errors.
 fn serve_all<E: Write, K: Keeper>(
     alloc: Global,
     location: StoreLocation<'_>,

@@ -8,16 +8,16 @@ mod default_script;
 mod descriptors;
 mod listener;
 mod listening;
+mod options;
 mod run_file;
 mod send;
 mod wall_clock;
 
 use check::check;
-use clap::error::ErrorKind;
 use cli_run::fault::{RunFault, refuse};
-use cli_run::run::run_program;
+use cli_run::run::{run_subcommand, tell_unread};
 use cli_run::session::run_session;
-use cli_subcommands::{ArgsError, RawArgs, SendArgs, Subcommand, read_command_line};
+use cli_subcommands::{RawArgs, Subcommand, match_command_line, read_matches};
 use daemon::serve_daemon;
 use default_script::read_default;
 use listener::serve;
@@ -46,26 +46,38 @@ fn main(rt: HostRuntime) -> ExitCode {
 
 /// Runs the program with these arguments, over the standard streams and a file, and returns the exit status.
 fn run(rt: &HostRuntime, words: &RawArgs) -> u8 {
-    match sending(rt.alloc(), words) {
-        Err(refused) => return refuse(&mut rt.stderr(), RunFault::from(refused)),
-        Ok(Some(asked)) => return send(rt, asked, &mut rt.stdout(), &mut rt.stderr()),
-        Ok(None) => {}
+    let alloc = rt.alloc();
+    let matches = match match_command_line(alloc, words) {
+        Ok(matches) => matches,
+        Err(error) => return tell_unread(alloc, error, &mut rt.stdout(), &mut rt.stderr()),
+    };
+    match read_matches(words, &matches) {
+        Err(error) => tell_unread(alloc, error, &mut rt.stdout(), &mut rt.stderr()),
+        Ok(Subcommand::Send(asked)) => send(rt, asked, &mut rt.stdout(), &mut rt.stderr()),
+        Ok(Subcommand::Check(_)) => check(
+            rt,
+            alloc,
+            &matches,
+            &mut rt.stdin(),
+            &mut rt.stdout(),
+            &mut rt.stderr(),
+        ),
+        Ok(asked) => answer(
+            rt,
+            alloc,
+            asked,
+            Moment {
+                clock: clock(rt),
+                random: random(rt),
+                pid: process::id(rt.process()),
+            },
+            &mut rt.stdin(),
+            &mut rt.stdout(),
+            rt.stderr(),
+            FileKeeper::new(rt),
+            Maildir::new(rt),
+        ),
     }
-    answer(
-        rt,
-        rt.alloc(),
-        words,
-        Moment {
-            clock: clock(rt),
-            random: random(rt),
-            pid: process::id(rt.process()),
-        },
-        &mut rt.stdin(),
-        &mut rt.stdout(),
-        rt.stderr(),
-        FileKeeper::new(rt),
-        Maildir::new(rt),
-    )
 }
 
 /// What the system tells when the program begins: the clock's moment in seconds since 1970 and 16 random octets, if they are
@@ -77,11 +89,11 @@ struct Moment {
     pid: u32,
 }
 
-/// Runs the program with these arguments, and returns the exit status.
+/// Serves clients, or runs what the subcommand says, and returns the exit status.
 fn answer<N, R: Read + AsFd, W: Write, E: Write + Drop, K: Keeper + Drop, T: MailSink + Drop>(
     net: &N,
     alloc: Global,
-    words: &RawArgs,
+    asked: Subcommand<'_>,
     moment: Moment,
     input: &mut R,
     output: &mut W,
@@ -92,12 +104,9 @@ fn answer<N, R: Read + AsFd, W: Write, E: Write + Drop, K: Keeper + Drop, T: Mai
 where
     N: Net<Listener = TcpListener, Stream = TcpStream> + Files + Clock,
 {
-    match server_subcommand(alloc, words) {
-        Err(refused) => refuse(&mut errors, RunFault::from(refused)),
-        Ok(Some(Subcommand::Serve(asked))) => {
-            serve(net, alloc, asked, output, &mut errors, &mut keeper)
-        }
-        Ok(Some(Subcommand::Session(asked))) => {
+    match asked {
+        Subcommand::Serve(asked) => serve(net, alloc, asked, output, &mut errors, &mut keeper),
+        Subcommand::Session(asked) => {
             run_session(
                 alloc,
                 asked.location,
@@ -107,22 +116,17 @@ where
                 &mut keeper,
             )
         }
-        Ok(Some(Subcommand::Daemon(asked))) => serve_daemon(
+        Subcommand::Daemon(asked) => serve_daemon(
             net, alloc, asked, moment.pid, &*input, output, errors, keeper, sink,
         ),
-        Ok(Some(Subcommand::Check(_))) => { check(net, alloc, words, input, output, &mut errors) }
         asked => {
-            let path = match &asked {
-                Ok(Some(Subcommand::Deliver(asked))) => asked.default,
-                _ => None,
-            };
-            let default = match read_default(net, alloc, path, output, &mut errors) {
+            let default = match read_default(net, alloc, default_of(asked), output, &mut errors) {
                 Ok(default) => default,
                 Err(status) => return status,
             };
-            run_program(
+            run_subcommand(
                 alloc,
-                words,
+                asked,
                 input,
                 output,
                 &mut errors,
@@ -136,33 +140,11 @@ where
     }
 }
 
-/// The arguments of `send`, if it is the subcommand and they are valid.
-fn sending<'a>(alloc: Global, words: &'a RawArgs) -> Result<Option<SendArgs<'a>>, AllocError> {
-    if words.first() != Some("send") {
-        return Ok(None);
-    }
-    match read_command_line(alloc, words) {
-        Ok(Subcommand::Send(asked)) => Ok(Some(asked)),
-        Err(ArgsError::Said(error)) if error.kind() == ErrorKind::OutOfMemory => Err(AllocError),
-        _ => Ok(None),
-    }
-}
-
-/// The subcommand, if it is `serve`, `session`, `daemon`, `check` or `deliver` and its arguments are valid.
-fn server_subcommand<'a>(
-    alloc: Global,
-    words: &'a RawArgs,
-) -> Result<Option<Subcommand<'a>>, AllocError> {
-    if !matches!(
-        words.first(),
-        Some("serve" | "session" | "daemon" | "check" | "deliver")
-    ) {
-        return Ok(None);
-    }
-    match read_command_line(alloc, words) {
-        Ok(asked) => Ok(Some(asked)),
-        Err(ArgsError::Said(error)) if error.kind() == ErrorKind::OutOfMemory => Err(AllocError),
-        Err(_) => Ok(None),
+/// The path of the script for accounts without an active one, if the subcommand is `deliver` and names one.
+fn default_of(asked: Subcommand<'_>) -> Option<&str> {
+    match asked {
+        Subcommand::Deliver(asked) => asked.default,
+        _ => None,
     }
 }
 

@@ -23,11 +23,8 @@ pub fn lock_run(rt: &HostRuntime, path: &str) -> Result<File, FaultWithCause> {
     let file = open_to_write(rt, path, "send", false)?;
     match file.try_lock() {
         Ok(()) => Ok(file),
-        Err(TryLockError::WouldBlock) => Err(FaultWithCause {
-            fault: RunFault::Busy,
-            cause: None,
-        }),
-        Err(TryLockError::Error(error)) => Err(trouble_of(&error)),
+        Err(TryLockError::WouldBlock) => Err(FaultWithCause::from(RunFault::Busy)),
+        Err(TryLockError::Error(error)) => Err(fault_of_file(&error)),
     }
 }
 
@@ -54,14 +51,14 @@ pub fn write_run(rt: &HostRuntime, path: &str, waits: &RowWaits, now: u64) {
 fn replace(rt: &HostRuntime, path: &str, text: &Octets) -> Result<(), FaultWithCause> {
     let mut file = open_to_write(rt, path, "send.waits.new", true)?;
     if let Err(error) = file.write_all(text.as_slice()) {
-        return Err(trouble_of(&error));
+        return Err(fault_of_file(&error));
     }
     drop(file);
     let new = name_of(rt, path, "send.waits.new")?;
     let name = name_of(rt, path, "send.waits")?;
     match fs::rename(rt, new.as_str(), name.as_str()) {
         Ok(()) => Ok(()),
-        Err(error) => Err(trouble_of(&error)),
+        Err(error) => Err(fault_of_file(&error)),
     }
 }
 
@@ -81,21 +78,16 @@ fn open_to_write(
         .open(rt, name.as_str());
     match opened {
         Ok(file) => Ok(file),
-        Err(error) => Err(trouble_of(&error)),
+        Err(error) => Err(fault_of_file(&error)),
     }
 }
 
-fn name_of(rt: &HostRuntime, path: &str, ending: &str) -> Result<String, FaultWithCause> {
-    match format!(in rt.alloc(); "{path}.{ending}") {
-        Ok(name) => Ok(name),
-        Err(_) => Err(FaultWithCause {
-            fault: RunFault::Refused(Refusal::Memory),
-            cause: None,
-        }),
-    }
+fn name_of(rt: &HostRuntime, path: &str, ending: &str) -> Result<String, AllocError> {
+    Ok(format!(in rt.alloc(); "{path}.{ending}")?)
 }
 
-fn trouble_of(error: &io::Error) -> FaultWithCause {
+/// The fault of a file, with its cause.
+fn fault_of_file(error: &io::Error) -> FaultWithCause {
     FaultWithCause {
         fault: RunFault::Refused(Refusal::Store),
         cause: file_cause(error.kind()),

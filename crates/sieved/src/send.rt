@@ -1,5 +1,5 @@
 //! Hands the queues of all users to a mail server.
-use crate::listening::host_of;
+use crate::options::host_of;
 use crate::run_file::{lock_run, read_run, write_run};
 use crate::wall_clock::WallClock;
 use cli_run::fault::RunFault;
@@ -17,7 +17,7 @@ use store_lock::{FileKeeper, Keeper};
 
 /// What the arguments of `send` ask for.
 #[derive(Clone, Copy)]
-struct DaemonOptions<'a> {
+struct SendOptions<'a> {
     path: &'a str,
     target: Target<'a>,
     host: &'a str,
@@ -32,21 +32,16 @@ pub fn send<W: Write, E: Write>(
     output: &mut W,
     errors: &mut E,
 ) -> u8 {
-    match read_asked(words) {
+    match read_send_options(words) {
         Ok(asked) => match send_all(rt, asked, output, errors) {
             Ok(()) => 0,
-            Err(trouble) => refuse(errors, trouble),
+            Err(fault) => fault.refuse(errors),
         },
-        Err(fault) => refuse(errors, FaultWithCause { fault, cause: None }),
+        Err(fault) => FaultWithCause::from(fault).refuse(errors),
     }
 }
 
-fn refuse<E: Write>(errors: &mut E, trouble: FaultWithCause) -> u8 {
-    trouble.tell(errors);
-    trouble.fault.status()
-}
-
-fn read_asked(words: SendArgs<'_>) -> Result<DaemonOptions<'_>, RunFault> {
+fn read_send_options(words: SendArgs<'_>) -> Result<SendOptions<'_>, RunFault> {
     let Some(target) = Target::read(words.smtp) else {
         return Err(RunFault::BadArgument);
     };
@@ -54,7 +49,7 @@ fn read_asked(words: SendArgs<'_>) -> Result<DaemonOptions<'_>, RunFault> {
         Some(text) => decimal(text)?,
         None => u64::MAX,
     };
-    Ok(DaemonOptions {
+    Ok(SendOptions {
         path: words.path,
         target,
         host: host_of(words.host)?,
@@ -66,14 +61,14 @@ fn read_asked(words: SendArgs<'_>) -> Result<DaemonOptions<'_>, RunFault> {
 /// Runs alone over a store: what is known of rows that wait is read first and written at the end, however the run ends.
 fn send_all<W: Write, E: Write>(
     rt: &HostRuntime,
-    asked: DaemonOptions<'_>,
+    asked: SendOptions<'_>,
     output: &mut W,
     errors: &mut E,
 ) -> Result<(), FaultWithCause> {
     let lock = lock_run(rt, asked.path)?;
     let ended = match read_run(rt, asked.path) {
         Ok(text) => send_known(rt, asked, text.as_slice(), output, errors),
-        Err(refused) => Err(no_memory(refused)),
+        Err(refused) => Err(FaultWithCause::from(refused)),
     };
     drop(lock);
     ended
@@ -82,7 +77,7 @@ fn send_all<W: Write, E: Write>(
 /// Sends the rows that are due, given the text of what is known of those that wait.
 fn send_known<W: Write, E: Write>(
     rt: &HostRuntime,
-    asked: DaemonOptions<'_>,
+    asked: SendOptions<'_>,
     text: &[u8],
     output: &mut W,
     errors: &mut E,
@@ -90,26 +85,26 @@ fn send_known<W: Write, E: Write>(
     let alloc = rt.alloc();
     let mut clock = WallClock::new(rt);
     let now = clock.now();
-    let waits = read_waits(alloc, text).map_err(no_memory)?;
+    let waits = read_waits(alloc, text)?;
     let search = Search {
         path: asked.path,
         waits: &waits,
         now,
     };
-    let known = read_waits(alloc, text).map_err(no_memory)?;
+    let known = read_waits(alloc, text)?;
     let (known, ended) = send_rows(rt, asked, search, known, &mut clock, output, errors)?;
     write_run(rt, asked.path, &known.waits, now);
     let told = tell_tally(alloc, output, known.sent, known.waiting);
     match ended.tally {
         Ok(_) => told,
-        Err(stop) => Err(trouble_of_stop(stop, &ended.keeper, &known, errors)),
+        Err(stop) => Err(fault_of_stop(stop, &ended.keeper, &known, errors)),
     }
 }
 
 /// Sends the rows that are due over one connection, and over another one if it is lost.
 fn send_rows<'a, W: Write, E: Write>(
     rt: &'a HostRuntime,
-    asked: DaemonOptions<'_>,
+    asked: SendOptions<'_>,
     search: Search<'_>,
     known: RowWaits,
     clock: &mut WallClock<'a>,
@@ -117,7 +112,7 @@ fn send_rows<'a, W: Write, E: Write>(
     errors: &mut E,
 ) -> Result<(NotedWaits, Ended<FileKeeper<'a>>), FaultWithCause> {
     let alloc = rt.alloc();
-    let host = Octets::from_slice(alloc, asked.host.as_bytes()).map_err(no_memory)?;
+    let host = Octets::from_slice(alloc, asked.host.as_bytes())?;
     let mut server = SmtpClient::new(alloc, SocketPeer::new(rt, asked.target), host);
     let mut book = Book::new(alloc, known, output, errors, clock);
     let ended = send_due(
@@ -133,7 +128,7 @@ fn send_rows<'a, W: Write, E: Write>(
 }
 
 /// The fault of a run that ended early. It names a row that the server has taken and that is still in the queue.
-fn trouble_of_stop<E: Write, K: Keeper>(
+fn fault_of_stop<E: Write, K: Keeper>(
     stop: Stop,
     keeper: &K,
     known: &NotedWaits,
@@ -147,8 +142,8 @@ fn trouble_of_stop<E: Write, K: Keeper>(
             FaultWithCause::of_store(RunFault::Refused(Refusal::Store), keeper)
         }
         Stop::Store => FaultWithCause::of_store(RunFault::Refused(Refusal::Store), keeper),
-        Stop::Memory => no_memory(AllocError),
-        Stop::Unreachable | Stop::Output => trouble_of(RunFault::Stream),
+        Stop::Memory => FaultWithCause::from(AllocError),
+        Stop::Unreachable | Stop::Output => FaultWithCause::from(RunFault::Stream),
     }
 }
 
@@ -159,20 +154,9 @@ fn tell_tally<W: Write>(
     sent: u64,
     waiting: u64,
 ) -> Result<(), FaultWithCause> {
-    let line = match tally_line(alloc, sent, waiting) {
-        Ok(line) => line,
-        Err(refused) => return Err(no_memory(refused)),
-    };
+    let line = tally_line(alloc, sent, waiting)?;
     if output.write_all(line.as_slice()).is_err() || output.flush().is_err() {
-        return Err(trouble_of(RunFault::Stream));
+        return Err(FaultWithCause::from(RunFault::Stream));
     }
     Ok(())
-}
-
-fn trouble_of(fault: RunFault) -> FaultWithCause {
-    FaultWithCause { fault, cause: None }
-}
-
-fn no_memory(_refused: AllocError) -> FaultWithCause {
-    trouble_of(RunFault::Refused(Refusal::Memory))
 }

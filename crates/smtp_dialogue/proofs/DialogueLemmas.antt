@@ -1,4 +1,4 @@
--- A letter's dialogue.
+-- A message's dialogue.
 use Rattle.std.proofs.Common.{◌≡◌, ℕ, ◌==◌, Bool, true, false, List, [], ◌∷◌, ◌++◌, refl, sym, ap, ◌∙◌, append-nil, append_assoc, arith}
 use Rattle.smtp_dialogue.specs.Messages.{SmtpMail, mail_line, rcpt_line, data_line}
 use Rattle.smtp_dialogue.specs.Sent.{sent_from, sent_start}
@@ -10,7 +10,7 @@ use Rattle.smtp_dialogue.specs.declared.dialogue.Ending.{Ending}
 use Rattle.smtp_dialogue.specs.declared.dialogue.Ending.TheVariants as ending
 use Rattle.smtp_dialogue.specs.declared.dialogue.NextStage.TheVariants.{Ends}
 
--- ---- a letter that was sent
+-- ---- a message that was sent
 
 never_by : (code : ℕ) (five four : Bool) → (reply_class code == 5) ≡ five → (reply_class code == 4) ≡ four → ending.Sent ≡ ending_of code → ⊥
 never_by code true four first second same = let no : ending.Sent ≡ ending.Refused code = rw first at same in absurd (cc no)

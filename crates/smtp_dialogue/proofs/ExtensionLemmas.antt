@@ -1,8 +1,8 @@
 -- What lines of a reply offer.
 use Rattle.std.proofs.Common.{◌≡◌, ℕ, Bool, true, false, ◌||◌, List, [], ◌∷◌, length, drop, take, refl, sym, ap, ◌∙◌, subst, arith}
 use Rattle.lmtp_dialogue.specs.Lines.{LineFinds}
-use Rattle.lmtp_dialogue.specs.declared.line.Found.{Found}
-use Rattle.lmtp_dialogue.specs.declared.line.Found.TheVariants as found
+use Rattle.lmtp_dialogue.specs.declared.command_line.Found.{Found}
+use Rattle.lmtp_dialogue.specs.declared.command_line.Found.TheVariants as found
 use Rattle.lmtp_dialogue.proofs.LineLemmas.{one_found}
 use Rattle.smtp_dialogue.specs.Replies.{IsHere}
 use Rattle.smtp_dialogue.specs.Extensions.{AreReplyLines, OffersExtensions, OffersMore, with_line, with_lines, no_extensions}

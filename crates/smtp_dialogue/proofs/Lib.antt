@@ -2,7 +2,7 @@ mod AddressLemmas
 pub mod DialogueLemmas
 pub mod Examples
 pub mod ExtensionLemmas
-pub mod LetterLemmas
+pub mod MessageLemmas
 pub mod MailboxLemmas
 pub mod ReplyLemmas
 pub mod RunLemmas

@@ -3,8 +3,8 @@ use Rattle.std.proofs.Common.{◌≡◌, ℕ, zero, suc, ◌+◌, Bool, true, fa
 use Rattle.std.proofs.Math.Seq.{take-append_seam, drop-append-add}
 use Rattle.std.proofs.lemmas.List.{drop-append-le, length-append, length-drop, length-take-le, take-append-le}
 use Rattle.lmtp_dialogue.specs.Lines.{line_end, IsFirstLine, LineFinds}
-use Rattle.lmtp_dialogue.specs.declared.line.Found.{Found}
-use Rattle.lmtp_dialogue.specs.declared.line.Found.TheVariants as found
+use Rattle.lmtp_dialogue.specs.declared.command_line.Found.{Found}
+use Rattle.lmtp_dialogue.specs.declared.command_line.Found.TheVariants as found
 use Rattle.lmtp_dialogue.proofs.LineLemmas.{one_found, too_long, lines_stand}
 use Rattle.smtp_dialogue.specs.Replies.{IsCode, IsMark, IsReplyLine, IsHere, ReplyFollows, IsSmtpReply, CodeAgrees, BeginsReply, HearsReply}
 use Rattle.smtp_dialogue.specs.declared.reply.Heard.TheVariants.{Need, Reply, Bad}

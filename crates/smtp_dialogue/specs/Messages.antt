@@ -17,7 +17,7 @@ pub record SmtpMail : Type 0 where
 
 -- from the value of the code
 abbrev pub smtp_mail_of : SmtpMessage → SmtpMail
-smtp_mail_of letter = record { sender = letter.sender.now; target = letter.target.now; text = letter.text.now }
+smtp_mail_of message = record { sender = message.sender.now; target = message.target.now; text = message.text.now }
 
 -- ---- the text
 

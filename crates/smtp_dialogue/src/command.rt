@@ -29,16 +29,16 @@ pub fn ehlo_line(alloc: Global, host: &[u8]) -> Result<Octets, AllocError>
 pub fn mail_line(
     alloc: Global,
     offered: Extensions,
-    letter: SmtpMessage<'_>,
+    message: SmtpMessage<'_>,
 ) -> Result<Octets, AllocError>
-    ensures { IfOk result (λ line. line ≡ s.mail_line offered (s.smtp_mail_of letter.entry)) }
+    ensures { IfOk result (λ line. line ≡ s.mail_line offered (s.smtp_mail_of message.entry)) }
 {
     let mut line = Octets::from_slice(alloc, b"MAIL FROM:<")?;
-    line.extend_from_slice(letter.sender)?;
+    line.extend_from_slice(message.sender)?;
     line.extend_from_slice(b">")?;
-    add_size(&mut line, offered, letter)?;
-    add_body(&mut line, offered, letter)?;
-    add_utf8(&mut line, letter)?;
+    add_size(&mut line, offered, message)?;
+    add_body(&mut line, offered, message)?;
+    add_utf8(&mut line, message)?;
     line.extend_from_slice(b"\r\n")?;
     Ok(line)
 }
@@ -46,13 +46,13 @@ pub fn mail_line(
 fn add_size(
     line: &mut Octets,
     offered: Extensions,
-    letter: SmtpMessage<'_>,
+    message: SmtpMessage<'_>,
 ) -> Result<(), AllocError>
-    ensures { OnOk result (line.new ≡ line.old ++ s.size_part offered (s.smtp_mail_of letter.entry)) }
+    ensures { OnOk result (line.new ≡ line.old ++ s.size_part offered (s.smtp_mail_of message.entry)) }
 {
     if offered.size {
         line.extend_from_slice(b" SIZE=")?;
-        write_decimal(line, size_of(letter.text))?;
+        write_decimal(line, size_of(message.text))?;
     }
     Ok(())
 }
@@ -60,31 +60,31 @@ fn add_size(
 fn add_body(
     line: &mut Octets,
     offered: Extensions,
-    letter: SmtpMessage<'_>,
+    message: SmtpMessage<'_>,
 ) -> Result<(), AllocError>
-    ensures { OnOk result (line.new ≡ line.old ++ s.body_part offered (s.smtp_mail_of letter.entry)) }
+    ensures { OnOk result (line.new ≡ line.old ++ s.body_part offered (s.smtp_mail_of message.entry)) }
 {
-    if offered.eight_bit_mime && letter.needs_eight_bit() {
+    if offered.eight_bit_mime && message.needs_eight_bit() {
         line.extend_from_slice(b" BODY=8BITMIME")?;
     }
     Ok(())
 }
 
-fn add_utf8(line: &mut Octets, letter: SmtpMessage<'_>) -> Result<(), AllocError>
-    ensures { OnOk result (line.new ≡ line.old ++ s.utf8_part (s.smtp_mail_of letter.entry)) }
+fn add_utf8(line: &mut Octets, message: SmtpMessage<'_>) -> Result<(), AllocError>
+    ensures { OnOk result (line.new ≡ line.old ++ s.utf8_part (s.smtp_mail_of message.entry)) }
 {
-    if letter.needs_smtputf8() {
+    if message.needs_smtputf8() {
         line.extend_from_slice(b" SMTPUTF8")?;
     }
     Ok(())
 }
 
 /// RCPT with the message's recipient (RFC 5321, section 4.1.1.3). Lack of memory is the only error.
-pub fn rcpt_line(alloc: Global, letter: SmtpMessage<'_>) -> Result<Octets, AllocError>
-    ensures { IfOk result (λ line. line ≡ s.rcpt_line (s.smtp_mail_of letter.entry)) }
+pub fn rcpt_line(alloc: Global, message: SmtpMessage<'_>) -> Result<Octets, AllocError>
+    ensures { IfOk result (λ line. line ≡ s.rcpt_line (s.smtp_mail_of message.entry)) }
 {
     let mut line = Octets::from_slice(alloc, b"RCPT TO:<")?;
-    line.extend_from_slice(letter.target)?;
+    line.extend_from_slice(message.target)?;
     line.extend_from_slice(b">\r\n")?;
     Ok(line)
 }

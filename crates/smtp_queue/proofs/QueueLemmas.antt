@@ -19,7 +19,7 @@ use Rattle.smtp_send.specs.declared.queue.TakenOut.{TakenOut}
 use Rattle.smtp_send.specs.declared.queue.TakenOut.TheVariants.{Removed, Gone, Changed}
 use Rattle.store_lock.specs.declared.keeper.StoreUnavailable.{StoreUnavailable}
 use Rattle.smtp_queue.specs.DueRows.{HasRow, IsRowGone, IsDueRowFound, TakesSent}
-use Rattle.smtp_queue.specs.Queues.{content, row_in, rows_in, IsDueRowIn, QueueShows, ShowsRows, QueueFinds, QueueRemoves, TurnsShown, QueueStillShows, IsRowTold}
+use Rattle.smtp_queue.specs.Queues.{content, row_in, rows_in, IsDueRowIn, QueueShows, ShowsRows, QueueFinds, QueueRemoves, TurnsShown, QueueStillShows, IsRowTold, store_and_keeper}
 use Rattle.smtp_queue.specs.declared.due_row.DueRow.{DueRow}
 use Rattle.smtp_queue.specs.Waits as wait
 use Rattle.smtp_queue.specs.Waits.{row_key}
@@ -144,20 +144,20 @@ module _ (waits : RowWaits) (now : ℕ) (accounts : Accounts) (at : QueueKey) wh
 
 -- ---- what is told
 
-pub told_row : (post : DueRow) (row : DueMessage) → row.user ≡ post.place.user → row.id ≡ post.place.id → row.sender ≡ post.row.sender → row.target ≡ post.row.target → row.message ≡ post.row.message → IsRowTold (Some post) (Some row)
-told_row post row user id sender target message waits now accounts has =
-    let due = wait.is_row_due waits now (row_key post.place.user post.place.id) in
-    let own : rows_in waits now accounts post.place.user post.place.id ≡ Some (content due post.row) =
-    ap (λ o. row_in o post.place.id due) has.0.1 ∙ ap (option_map (content due)) has.0.2 in
-    let there : rows_in waits now accounts row.user row.id ≡ Some (content due post.row) =
-    ap (λ u. rows_in waits now accounts u row.id) user ∙ ap (rows_in waits now accounts post.place.user) id ∙ own in
+pub told_row : (due_row : DueRow) (row : DueMessage) → row.user ≡ due_row.place.user → row.id ≡ due_row.place.id → row.sender ≡ due_row.row.sender → row.target ≡ due_row.row.target → row.message ≡ due_row.row.message → IsRowTold (Some due_row) (Some row)
+told_row due_row row user id sender target message waits now accounts has =
+    let due = wait.is_row_due waits now (row_key due_row.place.user due_row.place.id) in
+    let own : rows_in waits now accounts due_row.place.user due_row.place.id ≡ Some (content due due_row.row) =
+    ap (λ o. row_in o due_row.place.id due) has.0.1 ∙ ap (option_map (content due)) has.0.2 in
+    let there : rows_in waits now accounts row.user row.id ≡ Some (content due due_row.row) =
+    ap (λ u. rows_in waits now accounts u row.id) user ∙ ap (rows_in waits now accounts due_row.place.user) id ∙ own in
     there ∙ ap Some (λ i. record { sender = sym sender i; target = sym target i; message = sym message i; is_due = has.1 i })
 
 -- ---- over tables
 
 found_in : (waits : RowWaits) (now : ℕ) (at : QueueKey) (accounts : Accounts) (found : Option DueRow) → IsDueRowFound waits now at accounts found → IsDueRowIn waits now accounts found
 found_in waits now at accounts None none = tt
-found_in waits now at accounts (Some post) next = (next.row, next.due)
+found_in waits now at accounts (Some due_row) next = (next.row, next.due)
 
 module _ {S : Type 0} (g : Ghosts S) (tells : Bool) (waits : RowWaits) (now : ℕ) {K : Type 0} (holds : K → Database) (store : Option (Held S)) (keeper : K) (later : Option (Held S)) (after : K) where
   abbrev Had : Rows → Type 0
@@ -167,12 +167,12 @@ module _ {S : Type 0} (g : Ghosts S) (tells : Bool) (waits : RowWaits) (now : �
   Has rows = ShowsRows g tells waits now (holds after) later rows
 
   -- no account changed
-  pub rows_still : QueueStillShows g tells holds store keeper later after → (rows : Rows) → Had rows → Has rows
+  pub rows_still : QueueStillShows g tells holds (store_and_keeper store keeper) (store_and_keeper later after) → (rows : Rows) → Had rows → Has rows
   rows_still still rows shows = record { told = shows.told; accounts = shows.accounts; shown = still shows.told shows.accounts shows.shown; are = shows.are }
 
   -- a row was looked for
-  module _ (at : QueueKey) (r : Result (Option DueRow) StoreUnavailable) (finds : TurnsShown g tells holds (QueueFinds waits now at r) store keeper later after) where
-    pub rows_found : QueueStillShows g tells holds store keeper later after
+  module _ (at : QueueKey) (r : Result (Option DueRow) StoreUnavailable) (finds : TurnsShown g tells holds (QueueFinds waits now at r) (store_and_keeper store keeper) (store_and_keeper later after)) where
+    pub rows_found : QueueStillShows g tells holds (store_and_keeper store keeper) (store_and_keeper later after)
     rows_found told accounts shown = let h = finds told accounts shown in subst (QueueShows g (holds after) later) h.1.0 h.2
 
     pub found_there : (found : Option DueRow) → r ≡ Ok found → (row : Option DueMessage) → IsRowTold found row → IfSome row (λ row. (rows : Rows) → Had rows → IsThere row rows)
@@ -183,8 +183,8 @@ module _ {S : Type 0} (g : Ghosts S) (tells : Bool) (waits : RowWaits) (now : �
         shows.are row.user row.id ∙ say waits now shows.accounts (found_in waits now at shows.accounts found there)
 
   -- a row was taken out, or not
-  module _ (at : QueueKey) (sent : DueMessage) (r : Result TakenOut StoreUnavailable) (takes : TurnsShown g tells holds (QueueRemoves at sent r) store keeper later after) where
-    pub rows_kept : (denial : StoreUnavailable) → r ≡ Err denial → QueueStillShows g tells holds store keeper later after
+  module _ (at : QueueKey) (sent : DueMessage) (r : Result TakenOut StoreUnavailable) (takes : TurnsShown g tells holds (QueueRemoves at sent r) (store_and_keeper store keeper) (store_and_keeper later after)) where
+    pub rows_kept : (denial : StoreUnavailable) → r ≡ Err denial → QueueStillShows g tells holds (store_and_keeper store keeper) (store_and_keeper later after)
     rows_kept denial is told accounts shown =
         let h = takes told accounts shown in
         let same : h.0 ≡ accounts = subst (λ o. QueueRemoves at sent o accounts h.0) is h.1 in

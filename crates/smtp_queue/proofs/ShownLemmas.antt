@@ -1,5 +1,5 @@
 -- What a store shows that is had now and then, from one call to the next.
-use Rattle.std.proofs.Common.{◌≡◌, ℕ, Bool, false, Option, Some, None, Result, Ok, Err, IfOk, IsTrue, refl, sym, subst, inl}
+use Rattle.std.proofs.Common.{◌≡◌, ℕ, Bool, false, Option, Some, None, Result, Ok, Err, IfOk, IfSome, IsTrue, refl, sym, subst, inl, inr}
 use Rattle.sqlite_trees.specs.declared.store.Store.{Ghosts}
 use Rattle.sqlite.specs.Effect.{Database}
 use Rattle.sqlite.specs.Held.{Held, state}
@@ -13,8 +13,10 @@ use Rattle.store_accounts.specs.declared.next.QueueKey.{QueueKey}
 use Rattle.store_accounts.specs.declared.refusal.Refusal.{Refusal}
 use Rattle.store_lock.specs.declared.keeper.StoreUnavailable.{StoreUnavailable}
 use Rattle.store_lock.specs.Taken.{IsStoreTaken}
+use Rattle.store_lock.specs.HeldStores.{GivesStoreBack, TakesStore}
+use Rattle.store_lock.specs.declared.held_store.HeldStore.{HeldStore}
 use Rattle.smtp_queue.specs.DueRows.{IsDueRowFound, QueueReads, QueueTakesRow, QueueWorks}
-use Rattle.smtp_queue.specs.Queues.{QueueFinds, QueueRemoves, QueueShows, QueueStillShows, TurnsShown}
+use Rattle.smtp_queue.specs.Queues.{QueueFinds, QueueRemoves, QueueShows, QueueStillShows, TurnsShown, store_and_keeper}
 use Rattle.smtp_queue.specs.declared.due_row.DueRow.{DueRow}
 use Rattle.smtp_queue.specs.declared.waits.RowWaits.{RowWaits}
 
@@ -24,10 +26,10 @@ presented db accounts shown = inl shown
 
 module _ {S : Type 0} (g : Ghosts S) (tells : Bool) {K : Type 0} (holds : K → Database) where
   abbrev Still : Option (Held S) → K → Option (Held S) → K → Type 0
-  Still store keeper later after = QueueStillShows g tells holds store keeper later after
+  Still store keeper later after = QueueStillShows g tells holds (store_and_keeper store keeper) (store_and_keeper later after)
 
   abbrev Turns : (Accounts → Accounts → Type 0) → Option (Held S) → K → Option (Held S) → K → Type 0
-  Turns Turn store keeper later after = TurnsShown g tells holds Turn store keeper later after
+  Turns Turn store keeper later after = TurnsShown g tells holds Turn (store_and_keeper store keeper) (store_and_keeper later after)
 
   -- the keeper tells the same
   pub shown_same : (store later : Option (Held S)) (keeper after : K) → later ≡ store → (IsTrue tells → holds after ≡ holds keeper) → Still store keeper later after
@@ -48,19 +50,27 @@ module _ {S : Type 0} (g : Ghosts S) (tells : Bool) {K : Type 0} (holds : K → 
   turns_as Turn Wider a b k l wider turns told accounts shown = let h = turns told accounts shown in (h.0, wider accounts h.0 h.1, h.2)
 
   -- a store that was taken shows what the tables offered
-  pub shown_taken : (was : Option (Held S)) → was ≡ None → (keeper asked after : K) (store : Held S) → (IsTrue tells → holds asked ≡ holds keeper) → (IsTrue tells → IsStoreTaken false (holds asked) (state g store).now)
-      → Still was keeper (Some store) after
-  shown_taken was none keeper asked after store same took told accounts shown =
-      let here : OffersAccounts (holds keeper) accounts = subst (λ o. QueueShows g (holds keeper) o accounts) none shown in
-      λ is_open. (took told).0.shown accounts (subst (λ db. OffersAccounts db accounts) (sym (same told)) here)
+  shown_taken : (was : Option (Held S)) → was ≡ None → (keeper after : K) (store : Held S) → (IsTrue tells → IsStoreTaken false (holds keeper) (state g store).now) → Still was keeper (Some store) after
+  shown_taken was none keeper after store took told accounts shown = λ is_open. (took told).0.shown accounts (subst (λ o. QueueShows g (holds keeper) o accounts) none shown)
+
+  pub still_taken : (old new : HeldStore K S) → TakesStore g tells holds old new → QueueStillShows g tells holds old new
+  still_taken old new takes = elim takes [
+    | inl same ↦ shown_same old.store new.store old.keeper new.keeper same.store same.tables
+    | inr took ↦ subst (λ o. Still old.store old.keeper o new.keeper) (sym took.2) (shown_taken old.store took.0 old.keeper new.keeper took.1 took.3.seen)
+  ]
 
   -- nothing shuts it, and its disk keeps what is written
   module _ (sure : (held : Held S) → IsTrue tells → HasCleanDisk (state g held) × IsTrue (state g held).is_open) where
     -- one that was given back is offered by the tables
-    pub shown_given : (was later : Option (Held S)) (store : Held S) → was ≡ Some store → later ≡ None → (keeper after : K) → (IsTrue tells → holds after ≡ (state g store).now) → Still was keeper later after
-    shown_given was later store some none keeper after held told accounts shown =
-        let here : HasAccounts (state g store) accounts = subst (λ o. QueueShows g (holds keeper) o accounts) some shown in
-        subst (λ o. QueueShows g (holds after) o accounts) (sym none) (subst (λ db. OffersAccounts db accounts) (sym (held told)) (presented (state g store).now accounts (here (sure store told).1)))
+    shown_given : (store : Held S) (keeper after : K) → (IsTrue tells → holds after ≡ (state g store).now) → Still (Some store) keeper None after
+    shown_given store keeper after held told accounts shown = subst (λ db. OffersAccounts db accounts) (sym (held told)) (presented (state g store).now accounts (shown (sure store told).1))
+
+    pub still_given : (old new : HeldStore K S) → GivesStoreBack g tells holds old new → QueueStillShows g tells holds old new
+    still_given old new gives = subst (λ o. Still old.store old.keeper o new.keeper) (sym gives.emptied) (by old.store gives.given gives.none)
+      where
+        by : (was : Option (Held S)) → IfSome was (λ held. IsTrue tells → holds new.keeper ≡ (state g held).now) → (was ≡ None → IsTrue tells → holds new.keeper ≡ holds old.keeper) → Still was old.keeper None new.keeper
+        by (Some store) held none = shown_given store old.keeper new.keeper held
+        by None held none = shown_same None None old.keeper new.keeper refl (none refl)
 
     -- a call of it
     pub shown_turned : (Turn : Accounts → Accounts → Type 0) (was : Option (Held S)) (old new : Held S) → was ≡ Some old → (keeper : K) → QueueWorks Turn (state g old) (state g new) → Turns Turn was keeper (Some new) keeper

@@ -307,16 +307,16 @@ module _ (waits : RowWaits) (now : ℕ) (start place : QueueKey) where
     pub steps_unread : (e : Refusal) (q : Result (Option DueRow) Refusal) → q ≡ Err e → QueueWorks (QueueReads (IsDueRowFound waits now start) q) a c
     steps_unread e q told = by_steps (QueueReads (IsDueRowFound waits now start) q) (λ accounts from step. (refl, subst (λ o. IfOk o (IsDueRowFound waits now start accounts)) (sym told) tt))
 
-    pub steps_due : (post : DueRow) → r ≡ Ok (Due post) → QueueWorks (QueueReads (IsDueRowFound waits now start) (Ok (Some post))) a c
-    steps_due post is = by_steps (QueueReads (IsDueRowFound waits now start) (Ok (Some post)))
+    pub steps_due : (due_row : DueRow) → r ≡ Ok (Due due_row) → QueueWorks (QueueReads (IsDueRowFound waits now start) (Ok (Some due_row))) a c
+    steps_due due_row is = by_steps (QueueReads (IsDueRowFound waits now start) (Ok (Some due_row)))
         (λ accounts from step.
-        let next : IsNextDueRow waits now place accounts post = subst (λ o. IfOk o (IsStep waits now place accounts)) is step in (
+        let next : IsNextDueRow waits now place accounts due_row = subst (λ o. IfOk o (IsStep waits now place accounts)) is step in (
           refl,
           record {
-            after = after_then accounts from post.place next.after;
+            after = after_then accounts from due_row.place next.after;
             due = next.due;
             row = next.row;
-            first = none_then accounts (λ other. IsKeyAfter start other × IsKeyAfter other post.place) from (λ other here. here.0) (λ other row here has due. next.first other row (here.0, here.1.1) has due);
+            first = none_then accounts (λ other. IsKeyAfter start other × IsKeyAfter other due_row.place) from (λ other here. here.0) (λ other row here has due. next.first other row (here.0, here.1.1) has due);
           },
         ))
 

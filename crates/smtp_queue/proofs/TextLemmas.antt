@@ -21,9 +21,9 @@ use Rattle.std.specs.Ordering.{match_ordering, ordering_reverse}
 use Rattle.std.specs.declared.cmp.Ordering.TheVariants.{Less, Greater}
 use Rattle.smtp_queue.specs.Texts.{wait_body, wait_line, waits_text, wait_in, IsWritable, AreWritable, IsNumberRead, IsPartsOf, ArePartsOf}
 use Rattle.smtp_queue.specs.Waits.{row_key, row_key_cmp}
-use Rattle.smtp_queue.specs.declared.text.Parts.{Parts}
+use Rattle.smtp_queue.specs.declared.waits_file.Parts.{Parts}
 use Rattle.smtp_queue.specs.declared.row_key.RowKey.{RowKey}
-use Rattle.smtp_queue.specs.declared.text.Number.{Number}
+use Rattle.smtp_queue.specs.declared.waits_file.Number.{Number}
 use Rattle.smtp_queue.specs.declared.wait.Wait.{Wait}
 
 abbrev other : ℕ → ℕ → Bool

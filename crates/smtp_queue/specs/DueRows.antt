@@ -45,16 +45,16 @@ module _ (waits : RowWaits) (now : ℕ) where
   IsNoneDue Here accounts = (row_key : QueueKey) (row : QueuedMessage) → Here row_key → HasRow accounts row_key row → is_key_due waits now row_key ≡ true → ⊥
 
   -- the first row after a place that is due
-  pub record IsNextDueRow (start : QueueKey) (accounts : Accounts) (post : DueRow) : Type 0 where
-    pub after : IsKeyAfter start post.place
-    pub due : is_key_due waits now post.place ≡ true
-    pub row : HasRow accounts post.place post.row
-    pub first : IsNoneDue (λ row_key. IsKeyAfter start row_key × IsKeyAfter row_key post.place) accounts
+  pub record IsNextDueRow (start : QueueKey) (accounts : Accounts) (due_row : DueRow) : Type 0 where
+    pub after : IsKeyAfter start due_row.place
+    pub due : is_key_due waits now due_row.place ≡ true
+    pub row : HasRow accounts due_row.place due_row.row
+    pub first : IsNoneDue (λ row_key. IsKeyAfter start row_key × IsKeyAfter row_key due_row.place) accounts
 
   -- that row; none if none is due after the place
   abbrev pub IsDueRowFound : QueueKey → Accounts → Option DueRow → Type 0
   IsDueRowFound start accounts None = IsNoneDue (IsKeyAfter start) accounts
-  IsDueRowFound start accounts (Some post) = IsNextDueRow start accounts post
+  IsDueRowFound start accounts (Some due_row) = IsNextDueRow start accounts due_row
 
   -- how far it is to a place after another one: none is due until there
   pub record IsPast (start row_key : QueueKey) (accounts : Accounts) : Type 0 where
@@ -65,7 +65,7 @@ module _ (waits : RowWaits) (now : ℕ) where
   abbrev pub IsStep : QueueKey → Accounts → Step → Type 0
   IsStep start accounts End = IsNoneDue (IsKeyAfter start) accounts
   IsStep start accounts (Past row_key) = IsPast start row_key accounts
-  IsStep start accounts (Due post) = IsNextDueRow start accounts post
+  IsStep start accounts (Due due_row) = IsNextDueRow start accounts due_row
 
 -- ---- over a store
 

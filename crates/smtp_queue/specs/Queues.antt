@@ -14,6 +14,7 @@ use Rattle.smtp_queue.specs.Waits as wait
 use Rattle.smtp_queue.specs.Waits.{row_key}
 use Rattle.smtp_queue.specs.declared.waits.RowWaits.{RowWaits}
 use Rattle.store_accounts.specs.declared.next.QueueKey.{QueueKey}
+use Rattle.store_lock.specs.declared.held_store.HeldStore.{HeldStore}
 use Rattle.store_lock.specs.declared.keeper.StoreUnavailable.{StoreUnavailable}
 use Rattle.smtp_queue.specs.DueRows.{HasRow, IsDueRowFound, TakesSent, is_key_due}
 use Rattle.smtp_queue.specs.declared.due_row.DueRow.{DueRow}
@@ -39,7 +40,7 @@ module _ (waits : RowWaits) (now : ℕ) where
 
   -- a row that was found is in its user's queue, and is due
   abbrev pub IsDueRowIn : Accounts → Option DueRow → Type 0
-  IsDueRowIn accounts found = IfSome found (λ post. HasRow accounts post.place post.row × (is_key_due waits now post.place ≡ true))
+  IsDueRowIn accounts found = IfSome found (λ due_row. HasRow accounts due_row.place due_row.row × (is_key_due waits now due_row.place ≡ true))
 
 -- ---- a keeper, and its store while that is held
 
@@ -51,6 +52,9 @@ QueueFinds waits now start result accounts later = (later ≡ accounts) × IfOk 
 abbrev pub QueueRemoves : QueueKey → DueMessage → Result TakenOut StoreUnavailable → Accounts → Accounts → Type 0
 QueueRemoves row_key sent (Ok taken) accounts later = TakesSent row_key sent taken accounts later
 QueueRemoves row_key sent (Err denial) accounts later = later ≡ accounts
+
+abbrev pub store_and_keeper : {K S : Type 0} → Option (Held S) → K → HeldStore K S
+store_and_keeper store keeper = record { store = store; keeper = keeper }
 
 module _ {S : Type 0} (g : Ghosts S) where
   -- while it is held the store shows the accounts; otherwise the keeper's tables offer them
@@ -72,13 +76,15 @@ module _ {S : Type 0} (g : Ghosts S) where
 
     module _ {K : Type 0} (holds : K → Database) where
       -- whatever accounts were shown, some that these turn into are shown then
-      abbrev pub TurnsShown : (Accounts → Accounts → Type 0) → Option (Held S) → K → Option (Held S) → K → Type 0
-      TurnsShown Turn store keeper later after =
-          IsTrue tells → (accounts : Accounts) → QueueShows (holds keeper) store accounts → (next : Accounts) × Turn accounts next × QueueShows (holds after) later next
+      abbrev pub TurnsShown : (Accounts → Accounts → Type 0) → HeldStore K S → HeldStore K S → Type 0
+      TurnsShown Turn before after =
+          IsTrue tells → (accounts : Accounts) → QueueShows (holds before.keeper) before.store accounts
+          → (next : Accounts) × Turn accounts next × QueueShows (holds after.keeper) after.store next
 
       -- they are shown still
-      abbrev pub QueueStillShows : Option (Held S) → K → Option (Held S) → K → Type 0
-      QueueStillShows store keeper later after = IsTrue tells → (accounts : Accounts) → QueueShows (holds keeper) store accounts → QueueShows (holds after) later accounts
+      abbrev pub QueueStillShows : HeldStore K S → HeldStore K S → Type 0
+      QueueStillShows before after =
+          IsTrue tells → (accounts : Accounts) → QueueShows (holds before.keeper) before.store accounts → QueueShows (holds after.keeper) after.store accounts
 
 -- the row that was found is told as one of these accounts
 abbrev pub IsRowTold : Option DueRow → Option DueMessage → Type 0

@@ -5,8 +5,8 @@ use Rattle.std.specs.Map.{keys_of}
 use Rattle.std.specs.List.Sorted.{IsStrictlySortedBy}
 use Rattle.smtp_queue.specs.Waits.{is_wait_kept, row_key_cmp}
 use Rattle.smtp_queue.specs.declared.row_key.RowKey.{RowKey}
-use Rattle.smtp_queue.specs.declared.text.Number.{Number}
-use Rattle.smtp_queue.specs.declared.text.Parts.{Parts}
+use Rattle.smtp_queue.specs.declared.waits_file.Number.{Number}
+use Rattle.smtp_queue.specs.declared.waits_file.Parts.{Parts}
 use Rattle.smtp_queue.specs.declared.wait.Wait.{Wait}
 use Rattle.smtp_queue.specs.declared.waits.RowWaits.{RowWaits}
 

@@ -2,7 +2,9 @@
 ghost use Rattle.std.specs.Prelude.{◌≡◌};
 
 use crate::clock::SendClock;
-use crate::line::{changed_line, gone_line, is_for_good, place_line, refusal_line, row_line};
+use crate::report_line::{
+    changed_line, gone_line, is_for_good, place_line, refusal_line, row_line,
+};
 use crate::row_key::RowKey;
 use crate::waits::RowWaits;
 use octets::Octets;

@@ -75,7 +75,7 @@ fn step_from<S: Alter>(
 
 /// The first row after a place that is due. Rows that aren't are passed over without a look at their messages. Time is linear in them, but
 /// for the logarithm of the waits; memory is taken for the row.
-pub(crate) fn find_post<S: Alter>(
+pub(crate) fn find_due_row<S: Alter>(
     alloc: Global,
     store: &mut Store<S>,
     start: QueueKey,
@@ -88,7 +88,7 @@ pub(crate) fn find_post<S: Alter>(
     for _ in 0..u64::MAX {
         match step_from(alloc, store, &place, waits, now)? {
             Step::End => return Ok(None),
-            Step::Due(post) => return Ok(Some(post)),
+            Step::Due(due_row) => return Ok(Some(due_row)),
             Step::Past(next) => place = next,
         }
     }

@@ -4,19 +4,19 @@
 
 pub mod book;
 pub mod clock;
-pub mod line;
+pub mod report_line;
 pub mod row_key;
-pub mod text;
 pub mod wait;
 pub mod waits;
+pub mod waits_file;
 
 pub use book::{Book, NotedWaits};
 pub use clock::SendClock;
-pub use line::tally_line;
+pub use report_line::tally_line;
 pub use row_key::RowKey;
-pub use text::{read_waits, write_waits};
 pub use wait::Wait;
 pub use waits::RowWaits;
+pub use waits_file::{read_waits, write_waits};
 
 // The queues of a store as a run of `send` needs them: rows that are due, one after the other.
 

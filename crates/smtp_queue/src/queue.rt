@@ -1,14 +1,14 @@
 //! The queues of the store that a keeper has.
 ghost use Rattle.std.specs.Prelude.{◌≡◌, None, IfOk};
-ghost use Rattle.smtp_queue.specs.Queues.{IsRowTold, QueueStillShows};
+ghost use Rattle.smtp_queue.specs.Queues.{IsRowTold, QueueStillShows, store_and_keeper};
 
 use crate::due_row::DueRow;
-use crate::queue_store::{QueueStore, Search};
+use crate::queue_store::{Search, find_row, remove_row};
 use octets::Octets;
 use smtp_send::{DueMessage, QueueUnavailable as Denial, SendQueue, TakenOut};
 use std::alloc::{AllocError, Global};
 use store_accounts::{QueueKey, QueuedMessage, Refusal};
-use store_lock::{Keeper, StoreUnavailable};
+use store_lock::{HeldStore, Keeper, StoreUnavailable};
 
 /// For how many milliseconds at most the store is held without a break, while others may ask for it who don't say that they wait.
 const MAX_HAD: u64 = 1_000;
@@ -21,7 +21,7 @@ const MAX_HAD: u64 = 1_000;
 pub struct StoreQueue<'a, K: Keeper + Drop> {
     alloc: Global,
     search: Search<'a>,
-    held: QueueStore<K>,
+    held: HeldStore<K>,
     /// When the clock was first looked at since the store was taken, in milliseconds.
     since: Option<u64>,
 }
@@ -36,14 +36,14 @@ impl<'a, K: Keeper + Drop> StoreQueue<'a, K> {
         StoreQueue {
             alloc,
             search,
-            held: QueueStore::new(keeper),
+            held: HeldStore::new(keeper),
             since: None,
         }
     }
 
     /// The keeper, which has the store back.
     pub fn into_keeper(self) -> K
-        ensures { QueueStillShows K.S.Store K.tells K.holds self.entry.held.store self.entry.held.keeper None result }
+        ensures { QueueStillShows K.S.Store K.tells K.holds self.entry.held (store_and_keeper None result) }
     {
         let StoreQueue {
             alloc: _,
@@ -107,7 +107,7 @@ impl<K: Keeper + Drop> SendQueue for StoreQueue<'_, K> {
         let Ok(start) = place_of(self.alloc, user, id) else {
             return Err(Denial::Memory);
         };
-        match self.held.find(self.alloc, self.search, start) {
+        match find_row(&mut self.held, self.alloc, self.search, start) {
             Ok(found) => Ok(due_message_of(found)),
             Err(denial) => {
                 self.since = None;
@@ -121,7 +121,7 @@ impl<K: Keeper + Drop> SendQueue for StoreQueue<'_, K> {
         let Ok(place) = place_of(self.alloc, row.user.as_slice(), row.id) else {
             return Err(Denial::Memory);
         };
-        match self.held.remove(self.search.path, &place, row) {
+        match remove_row(&mut self.held, self.search.path, &place, row) {
             Ok(taken) => Ok(taken),
             Err(denial) => {
                 self.since = None;
@@ -132,10 +132,10 @@ impl<K: Keeper + Drop> SendQueue for StoreQueue<'_, K> {
     }
 
     fn give_way(&mut self, moment: u64) -> bool {
-        if !self.held.has_store() {
+        if self.held.store.is_none() {
             return false;
         }
-        if self.held.is_awaited(self.search.path) {
+        if self.held.keeper.is_awaited(self.search.path) {
             self.give_back();
             return false;
         }

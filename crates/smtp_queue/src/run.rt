@@ -1,6 +1,6 @@
 //! A run over the queues of a store.
 ghost use Rattle.std.specs.Prelude.{is_ok, None};
-ghost use Rattle.smtp_send.specs.Deeds.{RunReaches, SendState};
+ghost use Rattle.smtp_send.specs.Attempts.{RunReaches, SendState};
 ghost use Rattle.smtp_queue.specs.Queues.{ShowsRows, ShowsSome};
 
 use crate::queue::StoreQueue;

@@ -1,4 +1,4 @@
-pub mod DeedLemmas
+pub mod AttemptLemmas
 pub mod TalkLemmas
 pub mod WireLemmas
 mod Examples

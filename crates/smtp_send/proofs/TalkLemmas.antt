@@ -1,4 +1,4 @@
--- A letter's dialogue over a connection.
+-- A message's dialogue over a connection.
 use Rattle.std.proofs.Common.{◌≡◌, ℕ, ◌<◌, ◌==◌, Bool, true, false, List, [], ◌∷◌, ◌++◌, refl, sym, ap, ◌∙◌, subst, append-nil, append_assoc, arith, Result, Ok, Err}
 use Rattle.std.specs.Prelude.{is_err, OnOk, OnErr}
 use Rattle.smtp_dialogue.specs.Messages.{SmtpMail, IsMailAddressed, IsOffered}

@@ -4,7 +4,7 @@ use Rattle.std.specs.Prelude.{IfSome}
 use Rattle.std.proofs.lemmas.List.{take-append-drop}
 use Rattle.smtp_dialogue.specs.Replies.{IsSmtpReply}
 use Rattle.smtp_send.specs.Talks.{SendTalk, talk_written, talk_heard, WritesPrefix}
-use Rattle.smtp_send.specs.Wires.{sent_letter, sent_other, came_reply, came_other, WirePasses}
+use Rattle.smtp_send.specs.Wires.{sent_message, sent_other, came_reply, came_other, WirePasses}
 
 -- the same passed
 pub same : (P Q : List ℕ → List ℕ → Type 0) (unread : List ℕ) (t : SendTalk) → ((sent came : List ℕ) → P sent came → Q sent came) → WirePasses P unread t → WirePasses Q unread t
@@ -26,13 +26,13 @@ sent_more P Q unread octets t sends passes = record {
   answers = passes.answers;
 }
 
--- those of a letter
-pub letter_more : (P Q : List ℕ → List ℕ → Type 0) (unread octets : List ℕ) (t : SendTalk) → ((sent came : List ℕ) → P sent came → Q (sent ++ octets) came) → WirePasses P unread t → WirePasses Q unread (talk_written t octets)
-letter_more P Q unread octets t sends passes = record {
+-- those of a message
+pub message_more : (P Q : List ℕ → List ℕ → Type 0) (unread octets : List ℕ) (t : SendTalk) → ((sent came : List ℕ) → P sent came → Q (sent ++ octets) came) → WirePasses P unread t → WirePasses Q unread (talk_written t octets)
+message_more P Q unread octets t sends passes = record {
   sent = passes.sent ++ octets;
   came = passes.came;
   passed = sends passes.sent (passes.came ++ unread) passes.passed;
-  carries = sent_letter passes.sent t.written octets passes.carries;
+  carries = sent_message passes.sent t.written octets passes.carries;
   answers = passes.answers;
 }
 
@@ -45,11 +45,11 @@ other_front P Q unread octets t sends passes =
     let it = sends passes.sent (passes.came ++ unread) passes.passed in
     record { sent = passes.sent ++ it.0; came = passes.came; passed = it.3; carries = sent_other passes.sent t.written it.0 passes.carries; answers = passes.answers }
 
-pub letter_front : (P Q : List ℕ → List ℕ → Type 0) (unread octets : List ℕ) (t : SendTalk) → SendsFront P Q octets → WirePasses P unread t → (u : SendTalk) × WirePasses Q unread u × WritesPrefix octets t u
-letter_front P Q unread octets t sends passes =
+pub message_front : (P Q : List ℕ → List ℕ → Type 0) (unread octets : List ℕ) (t : SendTalk) → SendsFront P Q octets → WirePasses P unread t → (u : SendTalk) × WirePasses Q unread u × WritesPrefix octets t u
+message_front P Q unread octets t sends passes =
     let it = sends passes.sent (passes.came ++ unread) passes.passed in (
       talk_written t it.0,
-      record { sent = passes.sent ++ it.0; came = passes.came; passed = it.3; carries = sent_letter passes.sent t.written it.0 passes.carries; answers = passes.answers },
+      record { sent = passes.sent ++ it.0; came = passes.came; passed = it.3; carries = sent_message passes.sent t.written it.0 passes.carries; answers = passes.answers },
       record { front = it.0; rest = it.1; cut = it.2; written = refl; answered = refl },
     )
 

@@ -1,4 +1,4 @@
-pub mod Deeds
+pub mod Attempts
 pub mod Rows
 pub mod Talks
 pub mod Wires

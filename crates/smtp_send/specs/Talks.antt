@@ -42,9 +42,9 @@ pub record Writing (all : List ℕ) (before now : SendTalk) (rest : List ℕ) : 
   pub whole : all ≡ done ++ rest
 
 -- a message's lines are its own
-pub record IsSpelled (letter : Spelled) : Type 0 where
-  pub mail : letter.mail.now ≡ mail_line letter.offered (smtp_mail_of letter.letter)
-  pub rcpt : letter.rcpt.now ≡ rcpt_line (smtp_mail_of letter.letter)
+pub record IsSpelled (spelled : Spelled) : Type 0 where
+  pub mail : spelled.mail.now ≡ mail_line spelled.offered (smtp_mail_of spelled.message)
+  pub rcpt : spelled.rcpt.now ≡ rcpt_line (smtp_mail_of spelled.message)
 
 -- a message's dialogue from a stage on
 pub record TalkSays (offered : Extensions) (mail : SmtpMail) (stage : SmtpStage) (before after : SendTalk) (ending : Ending) : Type 0 where

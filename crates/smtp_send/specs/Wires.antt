@@ -6,7 +6,7 @@ use Rattle.smtp_send.specs.Talks.{SendTalk}
 -- of what was sent this was written for messages, in this order; the rest was for others: EHLO, RSET, QUIT
 pub data CarriesMessages : List ℕ → List ℕ → Type 0 where
   sent_none : CarriesMessages [] []
-  sent_letter : (sent written octets : List ℕ) → CarriesMessages sent written → CarriesMessages (sent ++ octets) (written ++ octets)
+  sent_message : (sent written octets : List ℕ) → CarriesMessages sent written → CarriesMessages (sent ++ octets) (written ++ octets)
   sent_other : (sent written octets : List ℕ) → CarriesMessages sent written → CarriesMessages (sent ++ octets) written
 
 -- of what came these are the codes of the replies to messages, in this order; the rest was other replies, or none

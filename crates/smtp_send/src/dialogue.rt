@@ -29,23 +29,23 @@ pub fn send_message<Q: SendQueue, S: Server, J: Journal>(
     journal: &mut J,
     offered: Extensions,
     may_eight_bit: bool,
-    letter: SmtpMessage<'_>,
+    message: SmtpMessage<'_>,
 ) -> Result<Ending, AllocError>
     ensures rows { (rows : Rows) → Q.shows queue.old rows → Q.shows queue.new rows }
     ensures treats { IfOk result (λ ending. (t : SendTalk) → S.said server.old t → (u : SendTalk) × S.said server.new u
-        × s.Treats offered may_eight_bit (smtp_mail_of letter.entry) t u ending) }
+        × s.Treats offered may_eight_bit (smtp_mail_of message.entry) t u ending) }
     ensures kept { OnErr result ((t : SendTalk) → S.said server.old t → S.said server.new t) }
 {
-    if !letter.is_addressed() {
+    if !message.is_addressed() {
         return Ok(Ending::Unaddressed);
     }
-    if !letter.is_offered(offered, may_eight_bit) {
+    if !message.is_offered(offered, may_eight_bit) {
         return Ok(Ending::Undeclared);
     }
-    let mail = mail_line(alloc, offered, letter)?;
-    let rcpt = rcpt_line(alloc, letter)?;
+    let mail = mail_line(alloc, offered, message)?;
+    let rcpt = rcpt_line(alloc, message)?;
     let spelled = Spelled {
-        letter,
+        message,
         offered,
         mail: mail.as_slice(),
         rcpt: rcpt.as_slice(),
@@ -56,7 +56,7 @@ pub fn send_message<Q: SendQueue, S: Server, J: Journal>(
 /// A message with its lines.
 #[derive(Clone, Copy)]
 pub(crate) struct Spelled<'a> {
-    pub(crate) letter: SmtpMessage<'a>,
+    pub(crate) message: SmtpMessage<'a>,
     /// What the server offers.
     pub(crate) offered: Extensions,
     /// The line of MAIL.
@@ -71,16 +71,16 @@ fn speak<Q: SendQueue, S: Server, J: Journal>(
     queue: &mut Q,
     server: &mut S,
     journal: &mut J,
-    letter: Spelled<'_>,
+    spelled: Spelled<'_>,
     stage: SmtpStage,
 ) -> Ending
-    requires { s.IsSpelled letter }
+    requires { s.IsSpelled spelled }
     ensures rows { (rows : Rows) → Q.shows queue.old rows → Q.shows queue.new rows }
     ensures says { (t : SendTalk) → S.said server.old t → (u : SendTalk) × S.said server.new u
-        × s.TalkSays letter.entry.offered (smtp_mail_of letter.entry.letter) stage t u result }
+        × s.TalkSays spelled.entry.offered (smtp_mail_of spelled.entry.message) stage t u result }
 {
-    match step(alloc, queue, server, journal, letter, stage) {
-        NextStage::Goes(onward) => speak(alloc, queue, server, journal, letter, onward),
+    match step(alloc, queue, server, journal, spelled, stage) {
+        NextStage::Goes(onward) => speak(alloc, queue, server, journal, spelled, onward),
         NextStage::Ends(ending) => ending,
     }
 }
@@ -91,16 +91,16 @@ fn step<Q: SendQueue, S: Server, J: Journal>(
     queue: &mut Q,
     server: &mut S,
     journal: &mut J,
-    letter: Spelled<'_>,
+    spelled: Spelled<'_>,
     stage: SmtpStage,
 ) -> NextStage
-    requires { s.IsSpelled letter }
+    requires { s.IsSpelled spelled }
     ensures rows { (rows : Rows) → Q.shows queue.old rows → Q.shows queue.new rows }
     ensures later { s.IsLater stage result }
     ensures steps { (t : SendTalk) → S.said server.old t → (u : SendTalk) × S.said server.new u
-        × s.StageSteps letter.entry.offered (smtp_mail_of letter.entry.letter) stage t u result }
+        × s.StageSteps spelled.entry.offered (smtp_mail_of spelled.entry.message) stage t u result }
 {
-    if write_stage(alloc, queue, server, journal, letter, stage).is_err() {
+    if write_stage(alloc, queue, server, journal, spelled, stage).is_err() {
         return NextStage::Ends(Ending::Lost);
     }
     await_reply(queue, server, journal);
@@ -115,19 +115,19 @@ fn write_stage<Q: SendQueue, S: Server, J: Journal>(
     queue: &mut Q,
     server: &mut S,
     journal: &mut J,
-    letter: Spelled<'_>,
+    spelled: Spelled<'_>,
     stage: SmtpStage,
 ) -> Result<(), Lost>
-    requires { s.IsSpelled letter }
+    requires { s.IsSpelled spelled }
     ensures rows { (rows : Rows) → Q.shows queue.old rows → Q.shows queue.new rows }
-    ensures ok { OnOk result ((t : SendTalk) → S.said server.old t → S.said server.new (s.talk_written t (stage_text letter.entry.offered (smtp_mail_of letter.entry.letter) stage))) }
+    ensures ok { OnOk result ((t : SendTalk) → S.said server.old t → S.said server.new (s.talk_written t (stage_text spelled.entry.offered (smtp_mail_of spelled.entry.message) stage))) }
     ensures err { OnErr result ((t : SendTalk) → S.said server.old t → (u : SendTalk) × S.said server.new u
-        × s.WritesPrefix (stage_text letter.entry.offered (smtp_mail_of letter.entry.letter) stage) t u) }
+        × s.WritesPrefix (stage_text spelled.entry.offered (smtp_mail_of spelled.entry.message) stage) t u) }
 {
     match stage {
-        SmtpStage::Sender => write_octets(queue, server, journal, letter.mail),
-        SmtpStage::Recipient => write_octets(queue, server, journal, letter.rcpt),
+        SmtpStage::Sender => write_octets(queue, server, journal, spelled.mail),
+        SmtpStage::Recipient => write_octets(queue, server, journal, spelled.rcpt),
         SmtpStage::Data => write_octets(queue, server, journal, DATA),
-        SmtpStage::Text => write_text(alloc, queue, server, journal, letter.letter.text),
+        SmtpStage::Text => write_text(alloc, queue, server, journal, spelled.message.text),
     }
 }

@@ -2,7 +2,7 @@
 ghost use Rattle.std.specs.Prelude.{IfOk, OnErr};
 ghost use Rattle.smtp_dialogue.specs.Messages.{smtp_mail_of};
 ghost use Rattle.smtp_send.specs.Rows.{Rows, RowTakenOut};
-ghost use Rattle.smtp_send.specs.Deeds as s;
+ghost use Rattle.smtp_send.specs.Attempts as s;
 
 use crate::dialogue::send_message;
 use crate::journal::Journal;
@@ -48,7 +48,7 @@ pub fn send_row<Q: SendQueue, S: Server, J: Journal>(
     ensures { (before : s.SendState) → Q.shows queue.old before.rows → S.said server.old before.talk → (after : s.SendState)
         × Q.shows queue.new after.rows × S.said server.new after.talk × s.EndsRow offered may_eight_bit row.now before after result }
 {
-    let letter = letter_of(row);
+    let message = smtp_message_of(row);
     let Ok(ending) = send_message(
         alloc,
         queue,
@@ -56,7 +56,7 @@ pub fn send_row<Q: SendQueue, S: Server, J: Journal>(
         journal,
         offered,
         may_eight_bit,
-        letter,
+        message,
     ) else {
         return Err(Stop::Memory);
     };
@@ -73,8 +73,8 @@ pub fn send_row<Q: SendQueue, S: Server, J: Journal>(
 }
 
 // The row's message.
-pub(crate) fn letter_of(row: &DueMessage) -> SmtpMessage<'_>
-    ensures { s.IsLetterOf row.now (smtp_mail_of result) }
+pub(crate) fn smtp_message_of(row: &DueMessage) -> SmtpMessage<'_>
+    ensures { s.IsMessageOfRow row.now (smtp_mail_of result) }
 {
     SmtpMessage {
         sender: row.sender.as_slice(),

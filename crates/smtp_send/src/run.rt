@@ -2,11 +2,11 @@
 ghost use Rattle.std.specs.Prelude.{◌≡◌, is_ok, true, IfOk, IfSome};
 ghost use Rattle.smtp_send.specs.Talks.{SendTalk};
 ghost use Rattle.smtp_send.specs.Rows.{Rows, IsThere};
-ghost use Rattle.smtp_send.specs.Deeds as s;
+ghost use Rattle.smtp_send.specs.Attempts as s;
 
 use crate::journal::Journal;
 use crate::queue::{DueMessage, QueueUnavailable, SendQueue};
-use crate::row::{Stop, letter_of, send_row};
+use crate::row::{Stop, send_row, smtp_message_of};
 use crate::server::Server;
 use crate::way::{await_reply, make_way};
 use octets::Octets;
@@ -197,7 +197,7 @@ fn offered_for<Q: SendQueue, S: Server>(
     if let Some(offered) = link.offered {
         return Some(offered);
     }
-    if !letter_of(row).is_addressed() {
+    if !smtp_message_of(row).is_addressed() {
         return Some(Extensions::none());
     }
     queue.give_back();

@@ -1,13 +1,15 @@
 -- Examples of what writes make of an account, and near misses.
-use Rattle.std.proofs.Common.{◌≡◌, ℕ, suc, cond, List, [], ◌∷◌, ◌++◌, codes, drop, unwrap_or, Some, None, refl, ap, ◌∙◌}
-use Rattle.std.specs.FinMap.{get, insert, get-remove}
+use Rattle.std.proofs.Common.{◌≡◌, ℕ, suc, cond, true, false, length, List, [], ◌∷◌, ◌++◌, codes, drop, unwrap_or, Some, None, refl, ap, ◌∙◌}
+use Rattle.std.specs.FinMap.{empty, get, insert, remove, get-remove}
 use Rattle.std.proofs.lemmas.Cmp.{nat_list_cmp_total}
 use Rattle.sqlite_typed.proofs.TestLemmas.{bytes_eq_refl}
 use Rattle.store_tables.specs.declared.queue.QueuedKind.TheVariants.{Redirect, Reply}
 use Rattle.store_accounts.specs.declared.report.VacationReply.{VacationReply}
 use Rattle.store_accounts.specs.declared.report.Plan.{Plan}
 use Rattle.store_accounts.proofs.TakingLemmas.{held_get}
-use Rattle.store_accounts.specs.Account.{Account, holding, messages_in, deletes_script, renames_script, queues, takes_out, takes_mail, remembers, sends_on, replies_if_any, delivers, files_copies}
+use Rattle.store_accounts.specs.Account.{Account, holding, messages_in, deletes_script, renames_script, queues, takes_out, takes_mail, remembers, sends_on, replies_if_any, delivers, files_copies, remembers_sent, room_in}
+use Rattle.store_accounts.specs.Delivery.{no_memory}
+use Rattle.store_accounts.specs.ReplyRows.{is_key_between}
 
 abbrev one : List ℕ
 one = codes "one"
@@ -83,5 +85,26 @@ one_reply : (a : Account) → a.queue ≡ [] → a.next_out ≡ 7 → (replies_i
 one_reply a none first = rw (none, first) refl
 
 -- near miss: nothing is remembered and no notice is left where the plan has none
-nothing_more : (plan : Plan) (a : Account) → plan.reply ≡ None → plan.report.notice ≡ None → plan.report.sent ≡ [] → delivers plan a ≡ files_copies plan.filed plan.message.now a
-nothing_more plan a forgets quiet sends = rw (forgets, quiet, sends) refl
+nothing_more : (plan : Plan) (a : Account) → plan.reply ≡ None → plan.report.notice ≡ None → plan.report.sent ≡ [] → plan.memory ≡ no_memory → delivers plan a ≡ files_copies plan.filed plan.message.now a
+nothing_more plan a forgets quiet sends nothing = rw (forgets, quiet, sends, nothing) refl
+
+-- a message that goes to two addresses is remembered under both handles' keys, and what is over goes first
+sent_to_two : (a : Account) → a.replies ≡ empty
+    → (remembers_sent (record { message = two; handles = one ∷ two ∷ []; forgotten = record { handle = two; sender = one } ∷ [] }) 5 a).replies ≡ insert (insert (remove empty (two, one)) (one, two) 5) (two, two) 5
+sent_to_two a none = rw none refl
+
+-- near miss: the case of letters counts in what stands for a message
+message_is_not_folded : (a : Account) → a.replies ≡ empty → (remembers_sent (record { message = codes "M"; handles = one ∷ []; forgotten = [] }) 5 a).replies ≡ insert empty (one, codes "M") 5
+message_is_not_folded a none = rw none refl
+
+-- 1,000 rows may wait; of more there is no room
+room_left : (a : Account) → length a.queue ≡ 998 → room_in a ≡ 2
+room_left a many = rw many refl
+
+no_room_left : (a : Account) → length a.queue ≡ 1001 → room_in a ≡ 0
+no_room_left a many = rw many refl
+
+-- from the first handle's key on, and before the second
+between : (is_key_between (codes "b") (codes "bc") (codes "b", one) ≡ true) × (is_key_between (codes "b") (codes "bc") (codes "bbz", one) ≡ true) × (is_key_between (codes "b") (codes "bc") (codes "a", one) ≡ false)
+    × (is_key_between (codes "b") (codes "bc") (codes "bc", one) ≡ false)
+between = (refl, refl, refl, refl)

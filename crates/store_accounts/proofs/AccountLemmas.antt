@@ -5,7 +5,7 @@ use Rattle.std.proofs.lemmas.Bool.Decides.{Decides-int_eq}
 use Rattle.sqlite_keyed.proofs.KeyedLemmas.{int_eq_apart}
 use Rattle.std.specs.Cmp.{IsTotalOrder, tied_then}
 use Rattle.std.specs.Ordering.{ordering_then}
-use Rattle.std.specs.FinMap.{get, insert, IsAntisymmetric, slice_cmp-IsAntisymmetric, nat_cmp-IsAntisymmetric}
+use Rattle.std.specs.FinMap.{get, insert, IsAntisymmetric, slice_cmp-IsAntisymmetric, nat_cmp-IsAntisymmetric, remove}
 use Rattle.std.proofs.lemmas.Cmp.{nat_list_cmp_total, then_total, on_total}
 use Rattle.std.proofs.lemmas.List.{map-append}
 use Rattle.sqlite_value.specs.declared.value.Value.TheVariants.{Blob, Int}
@@ -100,6 +100,14 @@ module _ (user : List ℕ) (rows : List Row) (replies : ReplyMoments) (s : Shows
         shown = shown_put reply_cmp reply_total reply_antisymmetric replies s.entries key moment s.shown;
         apart = apart_put reply_cmp reply_total reply_antisymmetric s.entries key moment s.apart;
       }
+
+  pub replies_dropped : ShowsReplies user (delete_where (has_key (reply_key user key.0 key.1)) rows) (remove replies key)
+  replies_dropped = record {
+    entries = delete_where (is_reply key) s.entries;
+    rows_are = replies_left;
+    shown = shown_without reply_cmp reply_total reply_antisymmetric replies s.entries key s.shown;
+    apart = apart_without reply_cmp reply_total reply_antisymmetric s.entries key s.apart;
+  }
 
 -- a script in place of one with its name
 module _ (user : List ℕ) (rows : List Row) (scripts : Scripts) (s : ShowsScripts user rows scripts) (name : List ℕ) where

@@ -1,7 +1,7 @@
 -- The changes of a delivery, one more at a time, and what they make of a user's rows.
 use Rattle.std.proofs.Common.{◌≡◌, ◌≤◌, ℕ, suc, ℤ, pos, ◌+◌, ◌<◌, List, [], ◌∷◌, ◌++◌, fold, length, take, get_or, slice_get, Option, Some, None, option_map, IsSome, IsTrue, Ok, Err, Result, OnOk, append-nil, refl, sym, ap, ◌∙◌, subst, arith}
 use Rattle.std.specs.Borrow.{Bor}
-use Rattle.std.specs.FinMap.{empty, get}
+use Rattle.std.specs.FinMap.{empty, get, remove}
 use Rattle.std.proofs.lemmas.List.{map-append, take_more, length-take}
 use Rattle.sqlite_value.specs.declared.value.Value.TheVariants.{Int}
 use Rattle.sqlite_keyed.proofs.ListLemmas.{all-append, all_weaker}
@@ -17,11 +17,13 @@ use Rattle.store_accounts.specs.declared.notice.Notice.{Notice}
 use Rattle.store_accounts.specs.declared.refusal.Refusal.{Refusal}
 use Rattle.store_accounts.specs.declared.queue.QueuedMessage.{QueuedMessage}
 use Rattle.store_tables.specs.declared.queue.QueuedKind.TheVariants as kind
+use Rattle.store_accounts.specs.declared.reply.ReplyKey.{ReplyKey}
+use Rattle.store_accounts.specs.declared.report.SentMemory.{SentMemory}
 use Rattle.store_accounts.specs.declared.report.VacationReply.{VacationReply}
 use Rattle.store_accounts.specs.declared.report.Plan.{Plan}
-use Rattle.store_tables.specs.Changes.{made, change_owner, AreOf, ExtendsChanges, MakesOwn, CrashLeavesTables, copy_added, counters_set, MakesAll}
-use Rattle.store_accounts.specs.Delivery.{AreDelivery, numbered_changes, message_kept, copies_added, copied, redirect_added, sent_on, reply_queued, reply_put, noticed, count_of, counters_raised, delivered_rows}
-use Rattle.store_accounts.specs.Account.{Account, Accounts, Folders, with_user, in_place, filed, files_copies, queues, sends_on, replies_if_any, adds_notice_if_any, delivers}
+use Rattle.store_tables.specs.Changes.{made, change_owner, AreOf, ExtendsChanges, MakesOwn, CrashLeavesTables, copy_added, reply_removed, counters_set, MakesAll}
+use Rattle.store_accounts.specs.Delivery.{AreDelivery, numbered_changes, message_kept, copies_added, copied, redirect_added, sent_on, forgotten, moment_put, moments_kept, sent_remembered, reply_queued, reply_put, noticed, count_of, counters_raised, delivered_rows}
+use Rattle.store_accounts.specs.Account.{Account, Accounts, Folders, with_user, in_place, filed, files_copies, queues, sends_on, forgets, keeps_moment, keeps_sent, remembers_sent, replies_if_any, adds_notice_if_any, delivers}
 use Rattle.store_accounts.specs.AccountRows.{account_row, counter_cells, shown_counters, HasCounters}
 use Rattle.store_tables.specs.AccountTable.{account_tree, with_counters}
 use Rattle.store_tables.specs.ScriptTable.{scripts_tree}
@@ -48,7 +50,7 @@ use Rattle.store_tables.proofs.WriteLemmas.{made_push, clean_before}
 use Rattle.store_accounts.proofs.ShowLemmas.{shows_after}
 use Rattle.store_accounts.specs.Numbers.{AreNumbered}
 use Rattle.store_accounts.proofs.NumberLemmas.{numbered_next, numbered_up}
-use Rattle.store_accounts.proofs.AccountLemmas.{replies_put}
+use Rattle.store_accounts.proofs.AccountLemmas.{replies_dropped, replies_put}
 
 -- ---- changes, one more at a time
 
@@ -80,6 +82,20 @@ turn_more user f xs n i x a b c within was more =
           ∙ ap (λ l. numbered_changes f n l (made own a)) (sym (take_more xs i x within));
     }
 
+fold_push : {X : Type 0} (f : Tables → X → Tables) (xs : List X) (x : X) (own : Tables) → fold f own (xs ++ x ∷ []) ≡ f (fold f own xs) x
+fold_push f [] x own = refl
+fold_push f (y ∷ xs) x own = fold_push f xs x (f own y)
+
+-- one element more
+pub fold_more : {X : Type 0} (user : List ℕ) (f : Tables → X → Tables) (xs : List X) (i : ℕ) (x : X) (a b c : List Change) → i < length xs → ExtendsChanges user (λ own. fold f own (take i xs)) a b → ExtendsChanges user (λ own. f own (get_or xs i x)) b c
+    → ExtendsChanges user (λ own. fold f own (take (i + 1) xs)) a c
+fold_more user f xs i x a b c within was more =
+    let both = extends_then user (λ own. fold f own (take i xs)) (λ own. f own (get_or xs i x)) a b c was more in
+    record {
+      owned = both.owned;
+      makes = λ own. both.makes own ∙ sym (fold_push f (take i xs) (get_or xs i x) (made own a)) ∙ ap (λ l. fold f (made own a) l) (sym (take_more xs i x within));
+    }
+
 pub copies_more : (user : Bor (List ℕ)) (copies : List Placement) (n i : ℕ) (copy : Placement) (a b c : List Change) (folder flags : Bor (List ℕ)) (k id : ℤ) → i < length copies → folder.now ≡ (get_or copies i copy).mailbox
     → flags.now ≡ (get_or copies i copy).flags → k ≡ pos (n + i) → id ≡ pos n → c ≡ b ++ AddCopy user folder k id flags ∷ [] → ExtendsChanges user.now (copies_added user.now n n (take i copies)) a b
     → ExtendsChanges user.now (copies_added user.now n n (take (i + 1) copies)) a c
@@ -105,15 +121,18 @@ redirects_more user sender message targets n i x target a b c d k within is numb
     turn_more user f targets n i x a b c within was (extends_one user (f (n + i) (get_or targets i x)) b c d joined one)
 
 -- all of them, from no changes on
-pub are_delivery : (user sender : List ℕ) (c : Counters) (plan : Plan) (ds1 kept ds2 ds3 queued ds4 ds5 : List Change) → sender ≡ lowered plan.sender.now → ExtendsChanges user (counters_raised user c plan) [] ds1
+pub are_delivery : (user sender : List ℕ) (c : Counters) (plan : Plan) (ds1 kept ds2 ds3 forgot remembered queued ds4 ds5 : List Change) → sender ≡ lowered plan.sender.now → ExtendsChanges user (counters_raised user c plan) [] ds1
     → ExtendsChanges user (message_kept user plan.message.now c.copy plan.filed) ds1 kept → ExtendsChanges user (copies_added user c.copy c.copy plan.filed) kept ds2
-    → ExtendsChanges user (sent_on user plan.sender.now plan.message.now c.out plan.report.sent) ds2 ds3 → ExtendsChanges user (reply_queued user plan.sender.now (c.out + length plan.report.sent) plan.reply) ds3 queued
+    → ExtendsChanges user (sent_on user plan.sender.now plan.message.now c.out plan.report.sent) ds2 ds3 → ExtendsChanges user (forgotten user plan.memory.forgotten) ds3 forgot → ExtendsChanges user (moments_kept user plan.memory.message plan.moment plan.memory.handles) forgot remembered
+    → ExtendsChanges user (reply_queued user plan.sender.now (c.out + length plan.report.sent) plan.reply) remembered queued
     → ExtendsChanges user (reply_put user sender plan.reply) queued ds4 → ExtendsChanges user (noticed user c.notice plan.moment plan.report.notice) ds4 ds5 → AreDelivery user c plan ds5
-are_delivery user sender c plan ds1 kept ds2 ds3 queued ds4 ds5 is one message copies three reply four five =
+are_delivery user sender c plan ds1 kept ds2 ds3 forgot remembered queued ds4 ds5 is one message copies three gone stays reply four five =
     let two = extends_then user (message_kept user plan.message.now c.copy plan.filed) (copies_added user c.copy c.copy plan.filed) ds1 kept ds2 message copies in
     let first = extends_then user (counters_raised user c plan) (copied user plan.message.now c.copy plan.filed) [] ds1 ds2 one two in
     let second = extends_then user _ (sent_on user plan.sender.now plan.message.now c.out plan.report.sent) [] ds2 ds3 first three in
-    let answered = extends_then user _ (reply_queued user plan.sender.now (c.out + length plan.report.sent) plan.reply) [] ds3 queued second reply in
+    let left = extends_then user _ (forgotten user plan.memory.forgotten) [] ds3 forgot second gone in
+    let known = extends_then user _ (moments_kept user plan.memory.message plan.moment plan.memory.handles) [] forgot remembered left stays in
+    let answered = extends_then user _ (reply_queued user plan.sender.now (c.out + length plan.report.sent) plan.reply) [] remembered queued known reply in
     let put = subst (λ s. ExtendsChanges user (reply_put user s plan.reply) queued ds4) is four in
     let third = extends_then user _ (reply_put user (lowered plan.sender.now) plan.reply) [] queued ds4 answered put in
     let all = extends_then user _ (noticed user c.notice plan.moment plan.report.notice) [] ds4 ds5 third five in
@@ -281,6 +300,41 @@ module _ (user : List ℕ) (last : Counters) where
       redirects_joined sender message targets copy notice _ (queues kind.Redirect sender target message a)
       (queued (record { id = a.next_out; kind = kind.Redirect; sender = sender; target = target; message = message }) copy notice own a refl s)
 
+  -- what is kept under the keys is forgotten
+  forgotten_joined : (keys : List ReplyKey) (copy notice : ℕ) (own : Tables) (a : Account) → IsShownBelow user last copy notice a own
+      → IsShownBelow user last copy notice (forgets keys a) (forgotten user keys own)
+  forgotten_joined [] copy notice own a s = s
+  forgotten_joined (key ∷ keys) copy notice own a s =
+      forgotten_joined keys copy notice (reply_removed user key.handle key.sender own) (record a { replies = remove a.replies (key.handle, key.sender) })
+      (record {
+        account_is = s.account_is;
+        scripts = s.scripts;
+        queue = s.queue;
+        replies = replies_dropped user (own reply_tree) a.replies s.replies (key.handle, key.sender);
+        notices = s.notices;
+        copies = s.copies;
+      })
+
+  -- the moment is kept of a message under each of the keys
+  moments_joined : (message : List ℕ) (moment : ℕ) (handles : List (List ℕ)) (copy notice : ℕ) (own : Tables) (a : Account) → IsShownBelow user last copy notice a own
+      → IsShownBelow user last copy notice (keeps_sent message moment handles a) (moments_kept user message moment handles own)
+  moments_joined message moment [] copy notice own a s = s
+  moments_joined message moment (handle ∷ handles) copy notice own a s =
+      moments_joined message moment handles copy notice (moment_put user handle message moment own) (keeps_moment (handle, message) moment a)
+      (record {
+        account_is = s.account_is;
+        scripts = s.scripts;
+        queue = s.queue;
+        replies = replies_put user (own reply_tree) a.replies s.replies (handle, message) moment;
+        notices = s.notices;
+        copies = s.copies;
+      })
+
+  memory_joined : (memory : SentMemory) (moment copy notice : ℕ) (own : Tables) (a : Account) → IsShownBelow user last copy notice a own
+      → IsShownBelow user last copy notice (remembers_sent memory moment a) (sent_remembered user memory moment own)
+  memory_joined memory moment copy notice own a s =
+      moments_joined memory.message moment memory.handles copy notice _ (forgets memory.forgotten a) (forgotten_joined memory.forgotten copy notice own a s)
+
   -- the reply joins the queue and is remembered
   reply_joined : (sender : List ℕ) (reply : Option VacationReply) (copy notice : ℕ) (own : Tables) (a : Account) → IsShownBelow user last copy notice a own
       → IsShownBelow user last copy notice (replies_if_any sender reply a) (reply_put user (lowered sender) reply (reply_queued user sender a.next_out reply own))
@@ -321,6 +375,13 @@ sent_out : (sender message : List ℕ) (targets : List (List ℕ)) (a : Account)
 sent_out sender message [] a = omega arith
 sent_out sender message (target ∷ targets) a = let more = sent_out sender message targets (queues kind.Redirect sender target message a) in omega (arith, more)
 
+kept_out : (message : List ℕ) (moment : ℕ) (handles : List (List ℕ)) (a : Account) → (keeps_sent message moment handles a).next_out ≡ a.next_out
+kept_out message moment [] a = refl
+kept_out message moment (handle ∷ handles) a = kept_out message moment handles (keeps_moment (handle, message) moment a)
+
+remembered_out : (memory : SentMemory) (moment : ℕ) (a : Account) → (remembers_sent memory moment a).next_out ≡ a.next_out
+remembered_out memory moment a = kept_out memory.message moment memory.handles (forgets memory.forgotten a)
+
 replied_out : (sender : List ℕ) (reply : Option VacationReply) (a : Account) → (replies_if_any sender reply a).next_out ≡ a.next_out + count_of reply
 replied_out sender None a = omega arith
 replied_out sender (Some reply) a = omega arith
@@ -336,17 +397,19 @@ own_delivered user c plan own a s counts =
     let up = raised user last c own a s counts in
     let filed = files_copies plan.filed plan.message.now a in
     let sent = sends_on plan.sender.now plan.message.now plan.report.sent filed in
-    let kept = replies_if_any plan.sender.now plan.reply sent in
+    let remembered = remembers_sent plan.memory plan.moment sent in
+    let kept = replies_if_any plan.sender.now plan.reply remembered in
     let copies = copies_joined user last plan.message.now plan.filed c.copy c.notice _ a up.0 in
     let redirects = redirects_joined user last plan.sender.now plan.message.now plan.report.sent last.copy c.notice _ filed copies in
-    let reply = reply_joined user last plan.sender.now plan.reply last.copy c.notice _ sent redirects in
+    let memory = memory_joined user last plan.memory plan.moment last.copy c.notice _ sent redirects in
+    let reply = reply_joined user last plan.sender.now plan.reply last.copy c.notice _ remembered memory in
     let sent_is = sent_out plan.sender.now plan.message.now plan.report.sent filed in
-    let next : sent.next_out ≡ c.out + length plan.report.sent = sent_is ∙ ap (λ n. n + length plan.report.sent) up.1 in
+    let next : remembered.next_out ≡ c.out + length plan.report.sent = remembered_out plan.memory plan.moment sent ∙ sent_is ∙ ap (λ n. n + length plan.report.sent) up.1 in
     let rows = λ (first after : ℕ). reply_put user (lowered plan.sender.now) plan.reply (reply_queued user plan.sender.now after plan.reply
-    (sent_on user plan.sender.now plan.message.now first plan.report.sent (copied user plan.message.now c.copy plan.filed (counters_raised user c plan own)))) in
-    let numbered = subst (λ n. IsShownBelow user last last.copy c.notice kept (rows c.out n)) next (subst (λ n. IsShownBelow user last last.copy c.notice kept (rows n sent.next_out)) up.1 reply) in
+    (sent_remembered user plan.memory plan.moment (sent_on user plan.sender.now plan.message.now first plan.report.sent (copied user plan.message.now c.copy plan.filed (counters_raised user c plan own))))) in
+    let numbered = subst (λ n. IsShownBelow user last last.copy c.notice kept (rows c.out n)) next (subst (λ n. IsShownBelow user last last.copy c.notice kept (rows n remembered.next_out)) up.1 reply) in
     let all = notice_joined user last plan.moment plan.report.notice last.copy c.notice _ kept numbered in
-    let replied = replied_out plan.sender.now plan.reply sent in
+    let replied = replied_out plan.sender.now plan.reply remembered in
     let out : kept.next_out ≡ last.out = omega (arith, replied, next) in
     lowered_last user last last.copy last.notice _ _ all refl (noted_out plan.moment plan.report.notice kept ∙ out) refl
 
@@ -366,6 +429,10 @@ delivery_shows user c plan ds delivery tables accounts shows has counts = go (ge
 turn_beside : {X : Type 0} (f : ℕ → X → Tables → Tables) → ((n : ℕ) (x : X) (own : Tables) → f n x own message_tree ≡ own message_tree) → (xs : List X) (n : ℕ) (own : Tables) → numbered_changes f n xs own message_tree ≡ own message_tree
 turn_beside f beside [] n own = refl
 turn_beside f beside (x ∷ xs) n own = turn_beside f beside xs (suc n) (f n x own) ∙ beside n x own
+
+fold_beside : {X : Type 0} (f : Tables → X → Tables) → ((own : Tables) (x : X) → f own x message_tree ≡ own message_tree) → (xs : List X) (own : Tables) → fold f own xs message_tree ≡ own message_tree
+fold_beside f beside [] own = refl
+fold_beside f beside (x ∷ xs) own = fold_beside f beside xs (f own x) ∙ beside own x
 
 queued_beside : (user sender : List ℕ) (n : ℕ) (reply : Option VacationReply) (own : Tables) → reply_queued user sender n reply own message_tree ≡ own message_tree
 queued_beside user sender n None own = refl
@@ -390,9 +457,13 @@ delivered_once user c plan own =
     let filed = copies_added user c.copy c.copy plan.filed kept in
     let sent = sent_on user plan.sender.now plan.message.now c.out plan.report.sent filed in
     let after = c.out + length plan.report.sent in
-    let queued = reply_queued user plan.sender.now after plan.reply sent in
+    let forgot = forgotten user plan.memory.forgotten sent in
+    let remembered = sent_remembered user plan.memory plan.moment sent in
+    let queued = reply_queued user plan.sender.now after plan.reply remembered in
     let replied = reply_put user (lowered plan.sender.now) plan.reply queued in
-    notice_beside user c.notice plan.moment plan.report.notice replied ∙ reply_beside user (lowered plan.sender.now) plan.reply queued ∙ queued_beside user plan.sender.now after plan.reply sent
+    notice_beside user c.notice plan.moment plan.report.notice replied ∙ reply_beside user (lowered plan.sender.now) plan.reply queued ∙ queued_beside user plan.sender.now after plan.reply remembered
+    ∙ fold_beside (λ rows handle. moment_put user handle plan.memory.message plan.moment rows) (λ rows handle. refl) plan.memory.handles forgot
+    ∙ fold_beside (λ rows key. reply_removed user key.handle key.sender rows) (λ rows key. refl) plan.memory.forgotten sent
     ∙ turn_beside (λ n target. redirect_added user plan.sender.now plan.message.now (pos n) target) (λ n target own. refl) plan.report.sent c.out filed
     ∙ turn_beside (λ n copy. copy_added user copy.mailbox (pos n) (pos c.copy) copy.flags) (λ n copy own. refl) plan.filed c.copy kept ∙ message_gained user plan.message.now plan.filed c.copy up
 

@@ -1,20 +1,18 @@
 -- An account is entered, and then read.
-use Rattle.std.proofs.Common.{◌≡◌, ◌⊎◌, ℕ, List, Option, Some, None, Ok, Err, Result, Vec, OnOk, IfOk, IfErr, IfSome, IsTrue, refl, sym, subst}
+use Rattle.std.proofs.Common.{◌≡◌, ℕ, List, Option, Some, None, Ok, Err, Result, Vec, OnOk, IfOk, IfErr, IfSome, IsTrue, refl, subst}
 use Rattle.std.specs.declared.alloc.Global.{Global}
 use Rattle.std.specs.FinMap.{get}
 use Rattle.sqlite_value.specs.Order.{Row}
 use Rattle.sqlite.specs.declared.error.Error.{Error}
 use Rattle.sqlite.specs.State.{State, HasCleanDisk}
-use Rattle.store_accounts.specs.declared.profile.Profile.{Profile}
 use Rattle.store_accounts.specs.declared.refusal.Refusal.{Refusal}
-use Rattle.store_accounts.specs.declared.refusal.Refusal.TheVariants.{NoUser}
 use Rattle.store_accounts.specs.Account.{Account, Accounts}
 use Rattle.store_accounts.specs.Refusals.{IsTransient}
 use Rattle.store_accounts.specs.Shows.{Presents}
 use Rattle.store_accounts.specs.Promises.{HasNoOpen, OfOpen, FindsUserRows, ReadsOpenAccount, ReadsEntered}
 use Rattle.store_accounts.proofs.StandingLemmas.{open_there}
 use Rattle.store_tables.proofs.WriteLemmas.{clean_before}
-use Rattle.store_accounts.proofs.KeepLemmas.{keeps_ok, keeps_refused, keeps_failed, keeps_all, keeps_then, mid_shows, none_if, of_there, transient_other, transient_named}
+use Rattle.store_accounts.proofs.KeepLemmas.{keeps_ok, keeps_failed, keeps_all, keeps_then, mid_shows, none_if, transient_other, transient_named}
 
 -- ---- what a query shows, as an answer
 

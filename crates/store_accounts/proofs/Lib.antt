@@ -37,6 +37,7 @@ pub mod ListedLemmas
 pub mod FilingLemmas
 pub mod NoticeLemmas
 pub mod ReplyKeyLemmas
+pub mod RoomLemmas
 pub mod FirstLemmas
 pub mod NumberLemmas
 pub mod OneLemmas

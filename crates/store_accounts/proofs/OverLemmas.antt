@@ -11,13 +11,13 @@ use Rattle.store_text.specs.declared.part.Part.{Part}
 use Rattle.store_text.specs.declared.part.Part.TheVariants.{Reply}
 use Rattle.store_accounts.specs.declared.refusal.Refusal.{Refusal}
 use Rattle.store_accounts.specs.Account.{latest, Account, Accounts, ReplyMoments, with_user}
-use Rattle.store_accounts.specs.Delivery.{Pushes}
+use Rattle.store_accounts.specs.Delivery.{Pushes, moment_put}
 use Rattle.store_accounts.specs.Promises.{HasUser, KeepsSeen, ReadsEntered}
 use Rattle.store_accounts.specs.Refusals.{IsTransient}
 use Rattle.store_accounts.specs.ReplyRows.{IsReplyMoment}
 use Rattle.store_accounts.specs.Shows.{ShowsAccounts}
 use Rattle.store_accounts.specs.Whole.{takes_whole}
-use Rattle.store_accounts.specs.WholeRows.{moment_put, part_made, emptied_by, head_made, over_kept, part_over, parts_over, PushesOver}
+use Rattle.store_accounts.specs.WholeRows.{part_made, emptied_by, head_made, over_kept, part_over, parts_over, PushesOver}
 use Rattle.store_accounts.proofs.AfterLemmas.{seen_read, seen_none, seen_ok, seen_failed, seen_before, seen_shows, seen_then}
 use Rattle.store_accounts.proofs.KeepLemmas.{none_ok}
 use Rattle.store_accounts.proofs.WholeLemmas.{parts_more, making, carries_renewed}

@@ -1,5 +1,5 @@
 -- Open accounts among all.
-use Rattle.std.proofs.Common.{◌≡◌, ◌↔◌, ◌==◌, ◌||◌, IsTrue, not, length, map, [], ◌∷◌, ◌∙◌, suc, ℕ, Bool, true, false, cond, List, Option, Some, None, IsSome, IfSome, refl, sym, ap, subst}
+use Rattle.std.proofs.Common.{◌≡◌, ◌↔◌, ◌==◌, ◌||◌, IsTrue, not, length, map, [], ◌∷◌, ◌∙◌, suc, ℕ, Bool, true, false, cond, List, Option, Some, None, IsSome, refl, sym, ap}
 use Rattle.std.proofs.Math.Dec.{eqb-suc-zero}
 use Rattle.std.specs.FinMap.{get, len, entries, len-entries}
 use Rattle.store_accounts.specs.declared.folder.Folder.{Folder}

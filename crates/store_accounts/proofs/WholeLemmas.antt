@@ -53,7 +53,8 @@ use Rattle.store_accounts.specs.Shows.{rows_of, IsShown, IsAbsent, IsShownOrAbse
 use Rattle.store_accounts.proofs.CallLemmas.{Carries, carries_known}
 use Rattle.store_accounts.proofs.ShowLemmas.{shows_after}
 use Rattle.store_accounts.specs.Whole.{scripts_with, replies_with, queued_kind, letters_in, notices_in, messages_in_part, octets_after_part, copies_in_part, copies_of, password_of, whole, takes_whole}
-use Rattle.store_accounts.specs.WholeRows.{moment_put, part_made, parts_made, over_kept, part_over, parts_over, numbers_made, owner_made, head_made, account_made, emptied_by, IsMaking}
+use Rattle.store_accounts.specs.Delivery.{moment_put}
+use Rattle.store_accounts.specs.WholeRows.{part_made, parts_made, over_kept, part_over, parts_over, numbers_made, owner_made, head_made, account_made, emptied_by, IsMaking}
 use Rattle.store_accounts.proofs.NumberLemmas.{numbered_none, numbered_up, numbered_push}
 use Rattle.store_accounts.proofs.AccountLemmas.{reply_total, reply_antisymmetric, scripts_put, replies_put}
 use Rattle.store_accounts.proofs.MapLemmas.{tied_is, tied, itself}

@@ -1,5 +1,5 @@
 -- What a store keeps of its users, without its tables.
-use Rattle.std.specs.Prelude.{◌++◌, ◌==◌, ◌&&◌, ◌||◌, ℕ, suc, max, Bool, cond, not, nat_lt, List, [], ◌∷◌, drop, fold, filter, length, Option, Some, None, unwrap_or, option_map, if◌then◌else◌}
+use Rattle.std.specs.Prelude.{◌++◌, ◌-◌, ◌==◌, ◌&&◌, ◌||◌, ℕ, suc, max, Bool, cond, not, nat_lt, List, [], ◌∷◌, drop, fold, filter, length, Option, Some, None, unwrap_or, option_map, if◌then◌else◌}
 use Rattle.std.specs.declared.cmp.Ordering.{Ordering}
 use Rattle.std.specs.FinMap.{FinMap, empty, get, insert, remove, len}
 use Rattle.std.specs.List.{find}
@@ -11,6 +11,8 @@ use Rattle.store_tables.specs.declared.queue.QueuedKind.{QueuedKind}
 use Rattle.store_tables.specs.declared.queue.QueuedKind.TheVariants as kind
 use Rattle.store_accounts.specs.declared.queue.QueuedMessage.{QueuedMessage}
 use Rattle.store_accounts.specs.declared.notice.Notice.{Notice}
+use Rattle.store_accounts.specs.declared.reply.ReplyKey.{ReplyKey}
+use Rattle.store_accounts.specs.declared.report.SentMemory.{SentMemory}
 use Rattle.store_accounts.specs.declared.report.VacationReply.{VacationReply}
 use Rattle.store_accounts.specs.declared.report.Plan.{Plan}
 
@@ -166,6 +168,14 @@ queues kind sender target message a = record a {
 abbrev pub row_with : ℕ → List QueuedMessage → Option QueuedMessage
 row_with id rows = find (λ row. row.id == id) rows
 
+-- how many rows of a user's queue wait at most
+abbrev pub max_waiting : ℕ
+max_waiting = 1000
+
+-- how many more may join it
+abbrev pub room_in : Account → ℕ
+room_in a = max_waiting - length a.queue
+
 -- the row with the number leaves the queue; the number is not used again
 abbrev pub takes_out : ℕ → Account → Account
 takes_out id a = record a { queue = filter (λ out. not (out.id == id)) a.queue }
@@ -191,6 +201,22 @@ latest (Some last) moment = max last moment
 -- the moment of the last reply to the sender is kept, under the key of its handle
 abbrev pub remembers : List ℕ → List ℕ → ℕ → Account → Account
 remembers handle sender moment a = record a { replies = insert a.replies (handle, lowered sender) moment }
+
+-- a moment is kept under just this key
+abbrev pub keeps_moment : List ℕ × List ℕ → ℕ → Account → Account
+keeps_moment key moment a = record a { replies = insert a.replies key moment }
+
+-- the moment is kept of the message under each of these handles' keys
+abbrev pub keeps_sent : List ℕ → ℕ → List (List ℕ) → Account → Account
+keeps_sent message moment handles a = fold (λ b handle. keeps_moment (handle, message) moment b) a handles
+
+-- what is kept under these keys is forgotten
+abbrev pub forgets : List ReplyKey → Account → Account
+forgets keys a = record a { replies = fold (λ kept key. remove kept (key.handle, key.sender)) a.replies keys }
+
+-- what is over is forgotten, and the moment is kept of the message under these handles' keys
+abbrev pub remembers_sent : SentMemory → ℕ → Account → Account
+remembers_sent memory moment a = keeps_sent memory.message moment memory.handles (forgets memory.forgotten a)
 
 -- a notice joins the others
 abbrev pub adds_notice : ℕ → List ℕ → Account → Account
@@ -255,12 +281,14 @@ abbrev pub adds_notice_if_any : ℕ → Option (List ℕ) → Account → Accoun
 adds_notice_if_any moment None a = a
 adds_notice_if_any moment (Some text) a = adds_notice moment text a
 
--- the message joins the end of each mailbox with its flags there and goes on to each address, the reply is sent and remembered, and the notice joins the others
+-- the message joins the end of each mailbox with its flags there and goes on to each address, which is remembered, the reply is sent and remembered, and the
+-- notice joins the others
 abbrev pub delivers : Plan → Account → Account
 delivers plan a =
     adds_notice_if_any plan.moment plan.report.notice
     (replies_if_any plan.sender.now plan.reply
-    (sends_on plan.sender.now plan.message.now plan.report.sent (files_copies plan.filed plan.message.now a)))
+    (remembers_sent plan.memory plan.moment
+    (sends_on plan.sender.now plan.message.now plan.report.sent (files_copies plan.filed plan.message.now a))))
 
 -- ---- accounts by name
 

@@ -1,11 +1,13 @@
 -- What the row changes of a delivery make of the tables.
-use Rattle.std.specs.Prelude.{◌≡◌, ◌+◌, ℕ, suc, ℤ, pos, Option, Some, None, List, [], ◌∷◌, length, Result, OnOk}
+use Rattle.std.specs.Prelude.{◌≡◌, ◌+◌, ℕ, suc, fold, ℤ, pos, Option, Some, None, List, [], ◌∷◌, length, Result, OnOk}
 use Rattle.mail_flags.specs.declared.placement.Placement.{Placement}
 use Rattle.store_tables.specs.Rows.{Tables}
 use Rattle.store_tables.specs.declared.change.Change.{Change}
 use Rattle.octets.specs.Ascii.{lowered}
 use Rattle.store_tables.specs.declared.queue.QueuedKind.TheVariants as kind
 use Rattle.store_accounts.specs.declared.account.Counters.{Counters}
+use Rattle.store_accounts.specs.declared.reply.ReplyKey.{ReplyKey}
+use Rattle.store_accounts.specs.declared.report.SentMemory.{SentMemory}
 use Rattle.store_accounts.specs.declared.report.VacationReply.{VacationReply}
 use Rattle.store_accounts.specs.declared.report.Plan.{Plan}
 use Rattle.store_accounts.specs.declared.refusal.Refusal.{Refusal}
@@ -51,9 +53,29 @@ abbrev pub reply_put : List ℕ → List ℕ → Option VacationReply → Tables
 reply_put user sender None own = own
 reply_put user sender (Some reply) own = reply_added user reply.handle sender (pos reply.moment) (reply_removed user reply.handle sender own)
 
+-- a moment takes the place of one under its key
+abbrev pub moment_put : List ℕ → List ℕ → List ℕ → ℕ → Tables → Tables
+moment_put user handle sender moment own = reply_added user handle sender (pos moment) (reply_removed user handle sender own)
+
+-- what is kept under the keys goes
+abbrev pub forgotten : List ℕ → List ReplyKey → Tables → Tables
+forgotten user keys own = fold (λ rows key. reply_removed user key.handle key.sender rows) own keys
+
+-- the moment takes the place of one under each of the handles' keys, of the message
+abbrev pub moments_kept : List ℕ → List ℕ → ℕ → List (List ℕ) → Tables → Tables
+moments_kept user message moment handles own = fold (λ rows handle. moment_put user handle message moment rows) own handles
+
+-- what is over goes, and what was sent on is remembered
+abbrev pub sent_remembered : List ℕ → SentMemory → ℕ → Tables → Tables
+sent_remembered user memory moment own = moments_kept user memory.message moment memory.handles (forgotten user memory.forgotten own)
+
 abbrev pub noticed : List ℕ → ℕ → ℕ → Option (List ℕ) → Tables → Tables
 noticed user n moment None own = own
 noticed user n moment (Some text) own = notice_added user (pos n) (pos moment) text own
+
+-- nothing is remembered, and nothing forgotten
+abbrev pub no_memory : SentMemory
+no_memory = record { message = []; handles = []; forgotten = [] }
 
 -- how many there are
 abbrev pub count_of : {X : Type 0} → Option X → ℕ
@@ -72,9 +94,10 @@ delivered_rows user c plan own =
     noticed user c.notice plan.moment plan.report.notice
     (reply_put user (lowered plan.sender.now) plan.reply
     (reply_queued user plan.sender.now (c.out + length plan.report.sent) plan.reply
+    (sent_remembered user plan.memory plan.moment
     (sent_on user plan.sender.now plan.message.now c.out plan.report.sent
     (copied user plan.message.now c.copy plan.filed
-    (counters_raised user c plan own)))))
+    (counters_raised user c plan own))))))
 
 -- the changes of a delivery to a user whose counters were these
 pub record AreDelivery (user : List ℕ) (c : Counters) (plan : Plan) (changes : List Change) : Type 0 where

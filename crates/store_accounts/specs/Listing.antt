@@ -1,5 +1,5 @@
 -- What is listed of one user: copies, notices and moments of replies, without messages and texts, and one notice by its number.
-use Rattle.std.specs.Prelude.{◌≡◌, ◌==◌, ℕ, ℤ, pos, List, [], ◌∷◌, codes, map, Option, option_map, slice_get}
+use Rattle.std.specs.Prelude.{◌≡◌, ◌==◌, ℕ, ℤ, pos, List, codes, map, take, Option, option_map, slice_get}
 use Rattle.std.specs.List.{find}
 use Rattle.sqlite_value.specs.Order.{Row}
 use Rattle.store_tables.specs.Rows.{Tables}
@@ -7,7 +7,7 @@ use Rattle.store_tables.specs.AccountTable.{account_tree}
 use Rattle.store_accounts.specs.declared.account.Counters.{Counters}
 use Rattle.store_accounts.specs.declared.filing.Filing.{Filing}
 use Rattle.store_accounts.specs.declared.notice.Notice.{Notice}
-use Rattle.store_accounts.specs.Account.{Account}
+use Rattle.store_accounts.specs.Account.{Account, max_waiting}
 use Rattle.store_accounts.specs.AccountRows.{HasCounters}
 use Rattle.store_accounts.specs.CopyRows.{filing_of, filing_cells}
 use Rattle.store_accounts.specs.FolderNumbers.{number_cells}
@@ -56,6 +56,12 @@ IsNoticeOf user n notice own = OfNotices user own (λ entries. notice ≡ notice
 abbrev pub HasNoticeRow : List ℕ → ℤ → List Row → Tables → Type 0
 HasNoticeRow user id rows own = OfNotices user own (λ entries. (n : ℕ) → id ≡ pos n → slice_get rows 0 ≡ option_map notice_cells (notice_with n entries))
 
+-- ---- the queue
+
+-- the rows are the numbers of its first rows
+abbrev pub AreFirstIdRows : List Row → Account → Type 0
+AreFirstIdRows rows a = rows ≡ map number_cells (take max_waiting (map (λ out. out.id) a.queue))
+
 -- ---- the queries
 
 abbrev pub select_filings : List ℕ
@@ -63,6 +69,14 @@ select_filings = codes "SELECT folder, n, id, flags FROM copy WHERE owner = ?1 O
 
 abbrev pub select_reply_keys : List ℕ
 select_reply_keys = codes "SELECT handle, sender FROM reply WHERE owner = ?1 ORDER BY handle, sender"
+
+-- of the keys from one handle's on and before another's the first 32
+abbrev pub select_keys_between : List ℕ
+select_keys_between = codes "SELECT handle, sender FROM reply WHERE owner = ?1 AND handle >= ?2 AND handle < ?3 ORDER BY handle, sender LIMIT 32"
+
+-- the numbers of the first rows of a queue
+abbrev pub select_first_ids : List ℕ
+select_first_ids = codes "SELECT id FROM outgoing WHERE owner = ?1 ORDER BY id LIMIT 1000"
 
 abbrev pub select_notice_numbers : List ℕ
 select_notice_numbers = codes "SELECT id FROM notice WHERE owner = ?1 ORDER BY id"

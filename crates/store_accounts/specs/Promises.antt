@@ -18,7 +18,6 @@ use Rattle.store_accounts.specs.Account.{Account, Accounts, open_account_of, ren
 use Rattle.store_accounts.specs.Refusals.{IsTransient}
 use Rattle.store_tables.specs.AccountTable.{account_tree}
 use Rattle.store_accounts.specs.AccountRows.{HasCounters, profile_of}
-use Rattle.store_accounts.specs.ScriptRows.{IsRenaming}
 use Rattle.store_tables.specs.MessageTable.{message_tree}
 use Rattle.store_accounts.specs.MessageRows.{GainsOnce}
 use Rattle.store_accounts.specs.Shows.{rows_of, Presents, ShowsIn}
@@ -167,9 +166,9 @@ WritesUser user change = WritesStore (HasUser user) (λ all. with_user all user 
 abbrev pub WritesKnown : {X : Type 0} → List ℕ → (Account → Type 0) → (Account → Account) → State → State → Result X Refusal → Type 0
 WritesKnown user Known change = WritesStore (λ all. OfUser all user Known) (λ all. with_user all user change)
 
--- a write that gives a script another name, if its text and the active name are known
-abbrev pub Renames : {X : Type 0} → List ℕ → List ℕ → List ℕ → Option (List ℕ) → Option (List ℕ) → State → State → Result X Refusal → Type 0
-Renames user name other text active = WritesKnown user (IsRenaming name other text active) (renames_script name other)
+-- a write that gives a script another name, of an account of which this is known
+abbrev pub Renames : {X : Type 0} → List ℕ → List ℕ → List ℕ → (Account → Type 0) → State → State → Result X Refusal → Type 0
+Renames user name other Known = WritesKnown user Known (renames_script name other)
 
 -- a write of one user's account that first checks whether there is one; NoUser is answered only if there is no open one
 pub record WritesAccount {X : Type 0} (user : List ℕ) (change : Account → Account) (old new : State) (result : Result X Refusal) : Type 0 where

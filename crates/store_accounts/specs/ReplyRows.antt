@@ -1,7 +1,7 @@
 -- What rows show of the moments of a user's last replies, and what is read of them.
-use Rattle.std.specs.Prelude.{◌≡◌, ℕ, pos, List, [], ◌∷◌, map, filter, slice_get, Option, option_map}
+use Rattle.std.specs.Prelude.{◌≡◌, ◌&&◌, Bool, not, take, ℕ, pos, List, [], ◌∷◌, map, filter, slice_get, Option, option_map}
 use Rattle.std.specs.FinMap.{get, entries, keys, from_entries}
-use Rattle.std.specs.Ordering.{is_eq}
+use Rattle.std.specs.Ordering.{is_eq, is_lt}
 use Rattle.octets.specs.Ascii.{lowered}
 use Rattle.sqlite_value.specs.declared.value.Value.TheVariants.{Int, Blob}
 use Rattle.sqlite_value.specs.Order.{Row}
@@ -62,6 +62,18 @@ AreReplyRows sender rows a = rows ≡ map kept_cells (map kept_reply (replies_to
 abbrev pub reply_key_of : List ℕ × List ℕ → ReplyKey
 reply_key_of key = record { handle = key.0; sender = key.1 }
 
+-- a handle's key stands from the first of these on and before the second, in the order of octets
+abbrev pub is_key_between : List ℕ → List ℕ → List ℕ × List ℕ → Bool
+is_key_between from below key = not (is_lt (bytes_cmp key.0 from)) && is_lt (bytes_cmp key.0 below)
+
+-- the first of these keys, and how many at most are read of them
+abbrev pub first_between : List ℕ → List ℕ → ReplyMoments → List (List ℕ × List ℕ)
+first_between from below replies = take 32 (filter (is_key_between from below) (keys replies))
+
+-- these are the first keys of the account from the one key on and before the other, 32 at most
+abbrev pub AreFirstBetween : List ℕ → List ℕ → List ReplyKey → Account → Type 0
+AreFirstBetween from below all a = all ≡ map reply_key_of (first_between from below a.replies)
+
 -- what the query for them shows of one
 abbrev pub key_cells : ReplyKey → Row
 key_cells key = Blob key.handle ∷ Blob key.sender ∷ []
@@ -69,3 +81,7 @@ key_cells key = Blob key.handle ∷ Blob key.sender ∷ []
 -- the rows are the keys of all that are kept, in the order of the octets of the handles' keys, and of those of the senders
 abbrev pub AreKeyRows : List Row → Account → Type 0
 AreKeyRows rows a = rows ≡ map key_cells (map reply_key_of (keys a.replies))
+
+-- the rows are the first keys between these handles' keys, in that order
+abbrev pub AreBetweenRows : List ℕ → List ℕ → List Row → Account → Type 0
+AreBetweenRows from below rows a = rows ≡ map key_cells (map reply_key_of (first_between from below a.replies))

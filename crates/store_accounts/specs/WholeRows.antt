@@ -10,21 +10,19 @@ use Rattle.store_tables.specs.NoticeTable.{notice_tree}
 use Rattle.store_tables.specs.CopyTable.{copy_tree}
 use Rattle.store_tables.specs.MessageTable.{message_tree}
 use Rattle.store_tables.specs.declared.change.Change.{Change}
-use Rattle.store_tables.specs.Changes.{AreOf, ExtendsChanges, made, account_added, active_set, address_set, counters_set, password_set, script_added, script_removed, reply_added, reply_removed, message_added, copy_added, outgoing_added, notice_added, owned_removed}
+use Rattle.store_tables.specs.Changes.{AreOf, ExtendsChanges, made, account_added, active_set, address_set, counters_set, password_set, script_added, script_removed, message_added, copy_added, outgoing_added, notice_added, owned_removed}
 use Rattle.store_text.specs.declared.head.AccountHead.{AccountHead}
 use Rattle.store_text.specs.declared.part.Part.{Part}
 use Rattle.store_text.specs.declared.part.Part.TheVariants.{Script, Reply, Mail, Copy, Letter, Notice}
 use Rattle.store_accounts.specs.declared.refusal.Refusal.{Refusal}
 use Rattle.store_accounts.specs.Account.{ReplyMoments, latest}
+use Rattle.store_accounts.specs.Delivery.{moment_put}
 use Rattle.store_accounts.specs.Promises.{KeepsSeen, OverAccounts}
 use Rattle.store_accounts.specs.Refusals.{IsTransient}
 use Rattle.store_accounts.specs.Whole.{queued_kind}
 
 abbrev pub script_put : List ℕ → List ℕ → List ℕ → Tables → Tables
 script_put user name text own = script_added user name text (script_removed user name own)
-
-abbrev pub moment_put : List ℕ → List ℕ → List ℕ → ℕ → Tables → Tables
-moment_put user handle sender moment own = reply_added user handle sender (pos moment) (reply_removed user handle sender own)
 
 abbrev pub mail_put : List ℕ → List ℕ → ℕ → List ℕ → List ℕ → Tables → Tables
 mail_put user folder n message flags own = copy_added user folder (pos n) (pos n) flags (message_added user (pos n) message own)

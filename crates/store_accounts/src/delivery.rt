@@ -2,8 +2,8 @@
 ghost use Rattle.std.specs.Prelude.{◌≡◌, pos, IfOk, IfErr, ◌+◌, option_copied};
 ghost use Rattle.sqlite.specs.Held.{state};
 ghost use Rattle.store_accounts.specs.Promises.{WritesAccount, StoresOnce};
-ghost use Rattle.store_accounts.specs.Delivery.{AreDelivery, Pushes, message_kept, copies_added, redirect_added, sent_on, reply_queued, reply_put, noticed, counters_raised, count_of};
-ghost use Rattle.store_tables.specs.Changes.{MakesOwn};
+ghost use Rattle.store_accounts.specs.Delivery.{AreDelivery, Pushes, message_kept, copies_added, redirect_added, sent_on, reply_queued, reply_put, noticed, forgotten, moment_put, moments_kept, counters_raised, count_of};
+ghost use Rattle.store_tables.specs.Changes.{MakesOwn, reply_removed};
 ghost use Rattle.octets.specs.Ascii.{lowered};
 ghost use Rattle.store_accounts.specs.Account.{delivers};
 ghost use Rattle.store_accounts.specs.Refusals.{IsTransient};
@@ -11,8 +11,10 @@ ghost use Rattle.store_accounts.specs.Refusals.{IsTransient};
 use crate::account::Counters;
 use crate::cell::number;
 use crate::refusal::Refusal;
+use crate::reply::ReplyKey;
 use crate::report::{Plan, VacationReply};
 use crate::store::Store;
+use crate::whole::put_moment;
 use mail_flags::Placement;
 use octets::Octets;
 use sqlite::Alter;
@@ -198,6 +200,69 @@ fn push_moment<'a>(
     Ok(())
 }
 
+/// What is kept under the key goes.
+fn push_gone<'a>(
+    changes: &mut Vec<Change<'a>>,
+    user: &'a [u8],
+    key: &'a ReplyKey,
+) -> Result<(), Refusal>
+    ensures gone { Pushes user.now (reply_removed user.now key.now.handle key.now.sender) changes.old.items changes.new.items result }
+    ensures named { IfErr result IsTransient }
+{
+    changes.push(Change::RemoveReply {
+        owner: user,
+        handle: key.handle.as_slice(),
+        sender: key.sender.as_slice(),
+    })?;
+    Ok(())
+}
+
+/// What is kept under the keys goes.
+fn push_forgotten<'a>(
+    changes: &mut Vec<Change<'a>>,
+    user: &'a [u8],
+    keys: &'a [ReplyKey],
+) -> Result<(), Refusal>
+    ensures forgotten { Pushes user.now (forgotten user.now keys.now) changes.old.items changes.new.items result }
+    ensures named { IfErr result IsTransient }
+{
+    for key in keys {
+        push_gone(changes, user, key)?;
+    }
+    Ok(())
+}
+
+/// The moment is kept of the message under the handle's key, in place of an earlier one.
+fn push_kept<'a>(
+    changes: &mut Vec<Change<'a>>,
+    user: &'a [u8],
+    message: &'a [u8],
+    moment: u64,
+    handle: &'a Octets,
+) -> Result<(), Refusal>
+    ensures kept { Pushes user.now (moment_put user.now handle.now message.now moment) changes.old.items changes.new.items result }
+    ensures named { IfErr result IsTransient }
+{
+    put_moment(changes, user, handle.as_slice(), message, moment)
+}
+
+/// The moment is kept of the message under each of the handles' keys, in place of an earlier one.
+fn push_sent<'a>(
+    changes: &mut Vec<Change<'a>>,
+    user: &'a [u8],
+    message: &'a [u8],
+    moment: u64,
+    handles: &'a [Octets],
+) -> Result<(), Refusal>
+    ensures kept { Pushes user.now (moments_kept user.now message.now moment handles.now) changes.old.items changes.new.items result }
+    ensures named { IfErr result IsTransient }
+{
+    for handle in handles {
+        push_kept(changes, user, message, moment, handle)?;
+    }
+    Ok(())
+}
+
 /// The notice joins the others, if there is one.
 fn push_notice<'a>(
     changes: &mut Vec<Change<'a>>,
@@ -239,6 +304,7 @@ fn delivery_changes<'a>(
         moment,
         filed,
         report,
+        memory,
         reply,
     } = plan;
     push_counters(&mut changes, user, plan, counters)?;
@@ -247,6 +313,9 @@ fn delivery_changes<'a>(
     push_copies(&mut changes, user, copies, counters.copy)?;
     let sent = report.sent.as_slice();
     push_redirects(&mut changes, user, sender, message, sent, counters.out)?;
+    push_forgotten(&mut changes, user, memory.forgotten.as_slice())?;
+    let name = memory.message.as_slice();
+    push_sent(&mut changes, user, name, *moment, memory.handles.as_slice())?;
     let reply = reply.as_ref();
     push_reply(&mut changes, user, sender, reply, counters.out, sent.len())?;
     push_moment(&mut changes, user, folded, reply)?;
@@ -257,8 +326,8 @@ fn delivery_changes<'a>(
 
 impl<S: Alter> Store<S> {
     /// Writes the delivery: the message joins each mailbox of the plan with its flags there and goes on to each address of the
-    /// report, the reply is sent and remembered, and the notice joins the others, all or none. The message is stored once for all
-    /// mailboxes.
+    /// report, which is remembered, the reply is sent and remembered, and the notice joins the others, all or none. The message is stored once for all
+    /// mailboxes. A delivery that writes nothing still commits the counters, with their own values.
     pub fn commit_delivery(&mut self, user: &[u8], plan: &Plan<'_>) -> Result<(), Refusal>
         ensures writes { WritesAccount user.now (delivers plan.now) (state S.Store self.old) (state S.Store self.new) result }
         ensures once { StoresOnce user.now plan.now (state S.Store self.old) (state S.Store self.new) result }

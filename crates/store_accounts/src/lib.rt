@@ -33,7 +33,7 @@ pub use queue::QueuedMessage;
 pub use queued_envelope::QueuedEnvelope;
 pub use refusal::Refusal;
 pub use reply::{KeptReply, ReplyKey, latest};
-pub use report::{Plan, Report, VacationReply, VacationReport};
+pub use report::{Plan, Report, SentMemory, VacationReply, VacationReport};
 pub use store::Store;
 pub use store_tables::QueuedKind;
 pub use taking::NumberedMessage;

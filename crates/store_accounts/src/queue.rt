@@ -3,10 +3,10 @@ ghost use Rattle.std.specs.Prelude.{◌≡◌, false, pos, IfOk, IfErr, option_c
 ghost use Rattle.sqlite_value.specs.declared.value.Value.TheVariants.{Int};
 ghost use Rattle.sqlite_value.specs.Order.{column};
 ghost use Rattle.sqlite.specs.Held.{state};
-ghost use Rattle.store_accounts.specs.Account.{row_with, takes_out};
+ghost use Rattle.store_accounts.specs.Account.{room_in, row_with, takes_out};
 ghost use Rattle.store_tables.specs.Connection.{Queries};
 ghost use Rattle.store_accounts.specs.Promises.{FindsUserRows, ReadsOpenAccount, ReadsEntered, WritesUser};
-ghost use Rattle.store_accounts.specs.QueueRows.{HasOutgoingRow, IsOutgoing};
+ghost use Rattle.store_accounts.specs.QueueRows.{AreFirstIds, HasOutgoingRow, IsOutgoing};
 ghost use Rattle.store_tables.specs.QueueTable.{kind_number};
 ghost use Rattle.store_accounts.specs.Refusals.{IsTransient};
 
@@ -18,6 +18,9 @@ use octets::{List, Octets};
 use sqlite::{Alter, Connection, Error, Row, params};
 use std::alloc::{AllocError, Global};
 use store_tables::{Change, QueuedKind, query};
+
+/// How many rows of a user's queue wait at most.
+const MAX_WAITING: u64 = 1_000;
 
 /// A message on its way out.
 #[derive(Debug, Drop)]
@@ -131,6 +134,27 @@ impl<S: Alter> Store<S> {
             self.alloc,
             &mut self.conn,
             "SELECT id, kind, sender, target, message FROM outgoing WHERE owner = ?1 ORDER BY id",
+            params![user],
+        )
+    }
+
+    /// How many more rows may join the user's queue until it has 1,000, of an account that was entered. The numbers of 1,000 rows are
+    /// read at most, and no message.
+    pub fn room_of(&mut self, user: &[u8]) -> Result<u64, Refusal>
+        ensures { ReadsEntered user.now (λ room a. room ≡ room_in a) (state S.Store self.old) (state S.Store self.new) result }
+    {
+        let waiting = self.first_ids_of(user)?;
+        Ok(MAX_WAITING.saturating_sub(waiting.as_slice().len() as u64))
+    }
+
+    /// The first numbers of the user's queue, 1,000 at most, of an account that was entered.
+    fn first_ids_of(&mut self, user: &[u8]) -> Result<List<u64>, Refusal>
+        ensures { ReadsEntered user.now AreFirstIds (state S.Store self.old) (state S.Store self.new) result }
+    {
+        read_each(
+            self.alloc,
+            &mut self.conn,
+            "SELECT id FROM outgoing WHERE owner = ?1 ORDER BY id LIMIT 1000",
             params![user],
         )
     }

@@ -6,7 +6,7 @@ ghost use Rattle.store_accounts.specs.Account as accounts;
 ghost use Rattle.store_accounts.specs.Promises.{FindsUserRows, ReadsOpenAccount, ReadsEntered};
 ghost use Rattle.store_tables.specs.Connection.{Queries};
 ghost use Rattle.store_accounts.specs.Refusals.{IsTransient};
-ghost use Rattle.store_accounts.specs.ReplyRows.{AreKeptReplies, HasMomentRow, IsLastReply, IsReplyMoment, reply_key_of};
+ghost use Rattle.store_accounts.specs.ReplyRows.{AreFirstBetween, AreKeptReplies, HasMomentRow, IsLastReply, IsReplyMoment, reply_key_of};
 ghost use Rattle.std.specs.FinMap.{keys};
 ghost use Rattle.sqlite.specs.Held.{state};
 
@@ -123,7 +123,7 @@ impl<S: Alter> Store<S> {
     }
 
     /// The same for an account that was entered.
-    fn last_reply_of(
+    pub fn last_reply_of(
         &mut self,
         user: &[u8],
         handle: &[u8],
@@ -168,6 +168,24 @@ impl<S: Alter> Store<S> {
             &mut self.conn,
             "SELECT handle, moment FROM reply WHERE owner = ?1 AND sender = ?2 ORDER BY handle",
             params![user, sender.as_slice()],
+        )
+    }
+
+    /// The first keys that have a handle's key from the first of these on and before the second, in the order of `reply_keys_of`: 32 of
+    /// them at most, of an account that was entered. No other row is read but the one behind them.
+    pub fn reply_keys_between(
+        &mut self,
+        user: &[u8],
+        from: &[u8],
+        below: &[u8],
+    ) -> Result<List<ReplyKey>, Refusal>
+        ensures { ReadsEntered user.now (AreFirstBetween from.now below.now) (state S.Store self.old) (state S.Store self.new) result }
+    {
+        read_each(
+            self.alloc,
+            &mut self.conn,
+            "SELECT handle, sender FROM reply WHERE owner = ?1 AND handle >= ?2 AND handle < ?3 ORDER BY handle, sender LIMIT 32",
+            params![user, from, below],
         )
     }
 

@@ -1,6 +1,11 @@
 //! What a delivery is to write, and what it reports.
+ghost use Rattle.std.specs.Prelude.{◌≡◌};
+ghost use Rattle.store_accounts.specs.Delivery.{no_memory};
+
+use crate::reply::ReplyKey;
 use mail_flags::Placement;
 use octets::{List, Octets, Texts};
+use std::alloc::Global;
 
 /// What a delivery did about a vacation reply.
 #[derive(Clone, Copy, Debug, PartialEq, Eq)]
@@ -9,7 +14,7 @@ pub enum VacationReport {
     None,
     /// A reply joined the queue.
     Sent,
-    /// A rule for automatic replies forbids one; its number, 1 to 9.
+    /// A rule for automatic replies forbids one; its number, 1 to 10.
     Quiet(u8),
 }
 
@@ -36,6 +41,31 @@ pub struct VacationReply {
     pub moment: u64,
 }
 
+/// What is remembered of a message that is sent on, and what is forgotten. It is kept as the moments of replies are: under the key of
+/// a handle and, in the place of the sender, what stands for the message.
+#[derive(Debug, Drop)]
+pub struct SentMemory {
+    /// What stands for the message, any octets.
+    pub message: Octets,
+    /// Under each of these handles' keys the plan's moment is kept of the message, in place of another one.
+    pub handles: Texts,
+    /// These go first, whatever moments they have.
+    pub forgotten: List<ReplyKey>,
+}
+
+impl SentMemory {
+    /// Nothing is remembered, and nothing forgotten. Takes no memory.
+    pub fn none(alloc: Global) -> SentMemory
+        ensures { result ≡ no_memory }
+    {
+        SentMemory {
+            message: Octets::new(alloc),
+            handles: Texts::new(alloc),
+            forgotten: List::new(alloc),
+        }
+    }
+}
+
 /// What a delivery is to write: the copies, what its report tells of addresses and a notice, and the reply. The message and its
 /// sender are borrowed, so no copy of them is made for a folder or for an address.
 #[derive(Drop)]
@@ -50,6 +80,8 @@ pub struct Plan<'a> {
     pub filed: List<Placement>,
     /// The message joins the queue for each address that is told as sent, in order, and the user is left the notice.
     pub report: Report,
+    /// What is remembered of the message as it is sent on.
+    pub memory: SentMemory,
     /// The reply joins the queue after them and is remembered, if one is sent.
     pub reply: Option<VacationReply>,
 }

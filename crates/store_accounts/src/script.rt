@@ -3,7 +3,7 @@ ghost use Rattle.std.specs.Prelude.{◌≡◌, false, option_map};
 ghost use Rattle.sqlite.specs.Held.{state};
 ghost use Rattle.store_accounts.specs.Promises.{FindsUserRows, ReadsOpenAccount, ReadsEntered, Renames, WritesAccount, WritesUser};
 ghost use Rattle.store_tables.specs.Connection.{Queries};
-ghost use Rattle.store_accounts.specs.ScriptRows.{HasTextAndActive, HasTextRow};
+ghost use Rattle.store_accounts.specs.ScriptRows.{HasTextAndActive, HasTextRow, IsRenaming};
 ghost use Rattle.store_tables.specs.Cells.{borrowed_octets};
 ghost use Rattle.store_accounts.specs.Account.{deletes_script, keeps_active, keeps_script, other_name, renames_script};
 ghost use Rattle.std.specs.FinMap.{get, keys};
@@ -145,7 +145,7 @@ impl<S: Alter> Store<S> {
         text: Option<&'a Octets>,
         active: Option<&'a [u8]>,
     ) -> Result<(), Refusal>
-        ensures { Renames user.now name.now other.now (borrowed_octets text.entry) (borrowed_octets active.entry) (state S.Store self.old) (state S.Store self.new) result }
+        ensures { Renames user.now name.now other.now (IsRenaming name.now other.now (borrowed_octets text.entry) (borrowed_octets active.entry)) (state S.Store self.old) (state S.Store self.new) result }
     {
         let Some(text) = text else {
             return self.apply(&[Change::SetActive { name: user, active }]);

@@ -4,11 +4,11 @@ ghost use Rattle.std.specs.FinMap.{empty, insert};
 ghost use Rattle.sqlite.specs.Held.{state};
 ghost use Rattle.store_text.specs.Text.{IsAccount};
 ghost use Rattle.store_tables.specs.Changes.{active_set};
-ghost use Rattle.store_accounts.specs.Delivery.{Pushes};
+ghost use Rattle.store_accounts.specs.Delivery.{Pushes, moment_put};
 ghost use Rattle.store_accounts.specs.Promises.{IsFree, WritesStore, WritesAccount};
 ghost use Rattle.store_accounts.specs.Refusals.{IsTransient};
 ghost use Rattle.store_accounts.specs.Whole.{whole, takes_whole, queued_kind as kind_by};
-ghost use Rattle.store_accounts.specs.WholeRows.{script_put, moment_put, mail_put, part_made, parts_made, part_over, parts_over, emptied_by, numbers_made, owner_made, head_made, account_made, IsMaking, PushesOver};
+ghost use Rattle.store_accounts.specs.WholeRows.{script_put, mail_put, part_made, parts_made, part_over, parts_over, emptied_by, numbers_made, owner_made, head_made, account_made, IsMaking, PushesOver};
 
 use crate::cell::number;
 use crate::refusal::Refusal;
@@ -49,7 +49,7 @@ fn push_script<'a>(
 }
 
 /// The moment takes the place of one under its handle for its sender.
-fn push_reply<'a>(
+pub(crate) fn put_moment<'a>(
     changes: &mut Vec<Change<'a>>,
     user: &'a [u8],
     handle: &'a [u8],
@@ -118,7 +118,7 @@ fn push_part<'a>(
             handle,
             sender,
             moment,
-        } => push_reply(changes, user, handle.as_slice(), sender.as_slice(), *moment),
+        } => put_moment(changes, user, handle.as_slice(), sender.as_slice(), *moment),
         Part::Mail {
             number,
             folder,
@@ -383,6 +383,6 @@ impl<S: Alter> Store<S> {
         };
         let (handle, sender) = (handle.as_slice(), sender.as_slice());
         let kept = self.moment_of(user, handle, sender)?;
-        push_reply(changes, user, handle, sender, latest(kept, *moment))
+        put_moment(changes, user, handle, sender, latest(kept, *moment))
     }
 }

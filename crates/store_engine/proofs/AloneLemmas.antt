@@ -31,7 +31,7 @@ use Rattle.managesieve_sessions.specs.CommandOutcomes.{login_text}
 use Rattle.managesieve_sessions.specs.declared.progress.Progress.{Progress}
 use Rattle.managesieve_sessions.specs.declared.progress.Progress.TheVariants as p
 use Rattle.store_engine.specs.declared.event.Event.{Event}
-use Rattle.store_engine.specs.declared.event.Event.TheVariants.{Open, Give, Step, GiveUp, Close, Deliver, AddUser, Import, TakeOut, TakeMail, Keep}
+use Rattle.store_engine.specs.declared.event.Event.TheVariants.{Open, Give, Step, GiveUp, Close, Deliver, AddUser, Import, TakeOut, TakeMail, DoUpkeep}
 use Rattle.store_engine.specs.declared.answer.Answer.{Answer}
 use Rattle.store_engine.specs.declared.answer.Answer.TheVariants.{Delivered, Added, Imported, Taken, Refused, MailTaken}
 use Rattle.store_engine.specs.Limits.{limit_refusal}
@@ -537,7 +537,7 @@ happens_alone user w next (TakeOut name id) answer made =
 happens_alone user w next (TakeMail name folder) answer made =
     account_alone user name w next answer (TakesMail folder answer) made.0 made.2 (mail_taking_other user name w.accounts made.0 answer folder made.1)
     (λ is. mail_taking_own user w.accounts made.0 answer (bytes_eq_refl user) folder (subst (λ n. MailTaking w.accounts n folder answer made.0) (sym (same_name user name is)) made.1))
-happens_alone user w next (Keep name upkeep) answer made =
+happens_alone user w next (DoUpkeep name upkeep) answer made =
     account_alone user name w next answer (IsKept upkeep answer) made.0 made.2 (keeping_other user name w.accounts made.0 answer upkeep made.1)
     (λ is. keeping_own user w.accounts made.0 answer (bytes_eq_refl user) upkeep (subst (λ n. Keeping w.accounts n upkeep answer made.0) (sym (same_name user name is)) made.1))
 

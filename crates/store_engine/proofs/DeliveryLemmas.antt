@@ -6,15 +6,14 @@ use Rattle.store_tables.proofs.WriteLemmas.{clean_before}
 use Rattle.sqlite.specs.State.{State, HasCleanDisk}
 use Rattle.sieve_exec.specs.declared.envelope.Envelope.{Envelope}
 use Rattle.sieve_exec.specs.Mails.{MailSpec, mail_spec_of}
-use Rattle.sieve_plan.specs.Delivered.{Delivers}
-use Rattle.sieve_plan.specs.declared.view.AccountView.{AccountView}
-use Rattle.sieve_plan.specs.Views.{IsViewOf}
+use Rattle.mail_address.specs.declared.address.Addr.{Addr}
+use Rattle.sieve_plan.specs.Delivered.{Delivers, DeliversAs, Disposes, Disposition}
 use Rattle.store_accounts.specs.declared.refusal.Refusal.{Refusal}
 use Rattle.store_accounts.specs.declared.refusal.Refusal.TheVariants.{NoUser, TooLarge, BadEnvelope, BadMoment, AccountClosed}
 use Rattle.store_accounts.specs.declared.report.Plan.{Plan}
 use Rattle.store_accounts.specs.declared.report.Report.{Report}
 use Rattle.store_accounts.specs.Account.{Account, Accounts, open_account_of, in_place, with_user, delivers}
-use Rattle.store_accounts.specs.Promises.{HasUser, HasNoOpen, OfOpen, WritesAccount}
+use Rattle.store_accounts.specs.Promises.{HasUser, HasNoOpen, KeepsTables, OfOpen, WritesAccount}
 use Rattle.store_accounts.proofs.StandingLemmas.{open_there, has_there}
 use Rattle.store_accounts.specs.Refusals.{IsTransient}
 use Rattle.store_accounts.specs.Shows.{Presents}
@@ -23,7 +22,7 @@ use Rattle.managesieve_sessions.proofs.ActLemmas.{no_glance, glanced, glances_th
 use Rattle.store_engine.specs.declared.answer.Answer.{Answer}
 use Rattle.store_engine.specs.declared.answer.Answer.TheVariants.{Delivered, Refused}
 use Rattle.store_engine.specs.declared.delivery.Lookup.{Lookup}
-use Rattle.store_engine.specs.AccountEvents.{absence, script_or_default, DeliversIn, DeliversUnder, Delivery}
+use Rattle.store_engine.specs.AccountEvents.{absence, DeliversIn, DeliversTo, DeliversUnder, Delivery}
 use Rattle.store_engine.specs.Hosts.{TurnsBy, MayTurnBy, MayRefuseDelivery, RefusesDelivery, ActsDelivery}
 use Rattle.store_engine.specs.Limits.{limit_refusal, message_limit, is_envelope, moment_limit}
 use Rattle.store_engine.specs.Terms.{Terms}
@@ -54,12 +53,11 @@ absent_refuses envelope message moment q refusal none is (inl absent) = subst (�
 absent_refuses envelope message moment q refusal none is (inr shut) = subst (λ o. IfErr o (RefusesDelivery envelope message moment)) (sym is) (inr (none, inr (inl shut)))
 
 -- what the plan says of the mail that was read, of the message under the envelope
-pub planned_at : (view : AccountView) (text active : Option (List ℕ)) (mail : MailSpec) (envelope : Envelope) (message : List ℕ) (terms : Terms) (plan : Plan) → mail ≡ mail_spec_of message envelope terms.when → active ≡ text
-    → ((a : Account) → IsViewOf view mail.from a → Delivers view.address mail active a plan.report (delivers plan a))
-    → (a : Account) → IsViewOf view envelope.from a → Delivers view.address (mail_spec_of message envelope terms.when) text a plan.report (delivers plan a)
-planned_at view text active mail envelope message terms plan read same planned =
-    subst (λ o. (a : Account) → IsViewOf view envelope.from a → Delivers view.address (mail_spec_of message envelope terms.when) o a plan.report (delivers plan a)) same
-    (subst (λ (m : MailSpec). (a : Account) → IsViewOf view m.from a → Delivers view.address m active a plan.report (delivers plan a)) read planned)
+pub planned_at : (own : Addr) (text active : Option (List ℕ)) (mail : MailSpec) (disposition : Disposition) (envelope : Envelope) (message : List ℕ) (terms : Terms) (a : Account) (plan : Plan) → mail ≡ mail_spec_of message envelope terms.when
+    → active ≡ text → Disposes active mail disposition → DeliversAs own mail.moment mail disposition a plan.report (delivers plan a) → Delivers own (mail_spec_of message envelope terms.when) text a plan.report (delivers plan a)
+planned_at own text active mail disposition envelope message terms a plan read same disposes delivered =
+    subst (λ o. Delivers own (mail_spec_of message envelope terms.when) o a plan.report (delivers plan a)) same
+    (subst (λ (m : MailSpec). Delivers own m active a plan.report (delivers plan a)) read (record { disposition = disposition; disposes = disposes; delivers = delivered }))
 
 module _ (user : List ℕ) (envelope : Envelope) (message : List ℕ) (terms : Terms) where
   abbrev Row : Accounts → Answer → Accounts → Type 0
@@ -87,7 +85,7 @@ module _ (user : List ℕ) (envelope : Envelope) (message : List ℕ) (terms : T
     in_row accounts later answer is = subst (λ o. DeliversUnder o accounts user terms envelope message answer later) (sym none) is
 
     -- the account couldn't be read, without visible cause
-    pub delivery_unread : (a b : State) (e : Refusal) (q : Result Report Refusal) → q ≡ Err e → (e ≡ NoUser → ⊥) → LooksUp user (IsLookup envelope.from) a b (Err e) → ActsDelivery user envelope message terms a b q
+    pub delivery_unread : (a b : State) (e : Refusal) (q : Result Report Refusal) → q ≡ Err e → (e ≡ NoUser → ⊥) → LooksUp user IsLookup a b (Err e) → ActsDelivery user envelope message terms a b q
     delivery_unread a b e q is there look = subst (λ o. ActsDelivery user envelope message terms a b o) (sym is)
         (acts_read a b (TurnsBy Row May (Refused e)) (MayTurnBy Row) (Err e) (λ clean open_before. tt) (glanced a b (Err e) look.reads.keeps) (λ clean accounts shown. turn accounts look.reads.named))
       where
@@ -96,7 +94,7 @@ module _ (user : List ℕ) (envelope : Envelope) (message : List ℕ) (terms : T
         turn accounts (inr transient) = transient_turn e accounts transient
 
     -- the user has no open account, and why is asked
-    module _ (a b c : State) (r : Result Lookup Refusal) (was : r ≡ Err NoUser) (look : LooksUp user (IsLookup envelope.from) a b r) (w : Result Refusal Refusal) (late : ReadsAccounts (λ refusal accounts. refusal ≡ absence (get accounts user)) b c w) where
+    module _ (a b c : State) (r : Result Lookup Refusal) (was : r ≡ Err NoUser) (look : LooksUp user IsLookup a b r) (w : Result Refusal Refusal) (late : ReadsAccounts (λ refusal accounts. refusal ≡ absence (get accounts user)) b c w) where
       clean_mid : HasCleanDisk c → HasCleanDisk b
       clean_mid = clean_before b c _ late.glances.crash
 
@@ -121,50 +119,47 @@ module _ (user : List ℕ) (envelope : Envelope) (message : List ℕ) (terms : T
       delivery_unasked (Ok report) undone transient = absurd undone
       delivery_unasked (Err e) undone transient = acts_read a c (TurnsBy Row May (Refused e)) (MayTurnBy Row) (Err e) (λ clean open_before. tt) asked (λ clean accounts shown. transient_turn e accounts transient)
 
-    module _ (a b : State) (r : Result Lookup Refusal) (looked : Lookup) (was : r ≡ Ok looked) (look : LooksUp user (IsLookup envelope.from) a b r) where
-      -- no memory for the mail or the plan
-      pub delivery_failed : (q : Result Report Refusal) → OnOk q ⊥ → IfErr q IsTransient → ActsDelivery user envelope message terms a b q
-      delivery_failed (Ok report) undone transient = absurd undone
-      delivery_failed (Err e) undone transient =
-          acts_read a b (TurnsBy Row May (Refused e)) (MayTurnBy Row) (Err e) (λ clean open_before. tt) (glanced a b r look.reads.keeps) (λ clean accounts shown. transient_turn e accounts transient)
+    -- no memory for what comes after what was read
+    pub delivery_stopped : {X : Type 0} (a b : State) (r : Result X Refusal) → KeepsTables a b r → (q : Result Report Refusal) → OnOk q ⊥ → IfErr q IsTransient → ActsDelivery user envelope message terms a b q
+    delivery_stopped a b r keeps (Ok report) undone transient = absurd undone
+    delivery_stopped a b r keeps (Err e) undone transient =
+        acts_read a b (TurnsBy Row May (Refused e)) (MayTurnBy Row) (Err e) (λ clean open_before. tt) (glanced a b r keeps) (λ clean accounts shown. transient_turn e accounts transient)
 
-      module _ (plan : Plan) (planned : (account : Account) → IsViewOf looked.view envelope.from account → Delivers looked.view.address (mail_spec_of message envelope terms.when) (script_or_default looked.text terms.default) account plan.report (delivers plan account)) where
-        -- what the plan does is the delivery
-        planned_row : (accounts : Accounts) → OfOpen accounts user (IsLookup envelope.from looked) → Row accounts (Delivered plan.report) (with_user accounts user (delivers plan))
-        planned_row accounts own =
-            in_row accounts (with_user accounts user (delivers plan)) (Delivered plan.report)
-            (subst (λ o. DeliversIn accounts user terms envelope message o (Delivered plan.report) (with_user accounts user (delivers plan))) (sym own.1)
-            (record {
-              report = plan.report;
-              account = delivers plan own.0;
-              delivers = record {
-                own = looked.view.address;
-                address = own.2.view.address;
-                delivers = subst (λ text. Delivers looked.view.address (mail_spec_of message envelope terms.when) (script_or_default text terms.default) own.0 plan.report (delivers plan own.0)) own.2.text (planned own.0 own.2.view);
-              };
-              reported = refl;
-              changed = ap (in_place accounts user (delivers plan)) (open_there (get accounts user) own.0 own.1);
-            }))
+    -- what is known of the account, by what was read of it
+    module _ {X : Type 0} (Part : X → Account → Type 0) (a b : State) (r : Result X Refusal) (x : X) (was : r ≡ Ok x) (look : LooksUp user Part a b r)
+        (plan : Plan) (planned : (account : Account) → Part x account → DeliversTo terms envelope message account plan.report (delivers plan account)) where
+      -- what the plan does is the delivery
+      planned_row : (accounts : Accounts) → OfOpen accounts user (Part x) → Row accounts (Delivered plan.report) (with_user accounts user (delivers plan))
+      planned_row accounts own =
+          in_row accounts (with_user accounts user (delivers plan)) (Delivered plan.report)
+          (subst (λ o. DeliversIn accounts user terms envelope message o (Delivered plan.report) (with_user accounts user (delivers plan))) (sym own.1)
+          (record {
+            report = plan.report;
+            account = delivers plan own.0;
+            delivers = planned own.0 own.2;
+            reported = refl;
+            changed = ap (in_place accounts user (delivers plan)) (open_there (get accounts user) own.0 own.1);
+          }))
 
-        found : HasCleanDisk b → (accounts : Accounts) → Presents a.now accounts → OfOpen accounts user (IsLookup envelope.from looked)
-        found clean accounts p = subst (λ q. IfOk q (λ x. OfOpen accounts user (IsLookup envelope.from x))) was (look.reads.found clean accounts p)
+      found : HasCleanDisk b → (accounts : Accounts) → Presents a.now accounts → OfOpen accounts user (Part x)
+      found clean accounts p = subst (λ q. IfOk q (λ y. OfOpen accounts user (Part y))) was (look.reads.found clean accounts p)
 
-        fits : HasCleanDisk b → (accounts : Accounts) → Presents a.now accounts → HasUser user accounts × Row accounts (Delivered plan.report) (with_user accounts user (delivers plan))
-        fits clean accounts p =
-            let own = found clean accounts p in
-            (has_there accounts user (subst IsSome (sym own.1) refl), planned_row accounts own)
+      fits : HasCleanDisk b → (accounts : Accounts) → Presents a.now accounts → HasUser user accounts × Row accounts (Delivered plan.report) (with_user accounts user (delivers plan))
+      fits clean accounts p =
+          let own = found clean accounts p in
+          (has_there accounts user (subst IsSome (sym own.1) refl), planned_row accounts own)
 
-        delivery_made : (c : State) (w : Result Report Refusal) → WritesAccount user (delivers plan) b c w → (y : Report) → w ≡ Ok y → ActsDelivery user envelope message terms a c (Ok plan.report)
-        delivery_made c w late y is =
-            acts_made a b c r looked was look.reads.keeps (HasUser user) (λ all. with_user all user (delivers plan)) w late.made late.settled late.same late.crash (TurnsBy Row May (Delivered plan.report)) (MayTurnBy Row) y plan.report is
-            (λ clean accounts p. let f = fits clean accounts p in (f.0, inl f.1, (Delivered plan.report, f.1)))
+      delivery_made : (c : State) (w : Result Report Refusal) → WritesAccount user (delivers plan) b c w → (y : Report) → w ≡ Ok y → ActsDelivery user envelope message terms a c (Ok plan.report)
+      delivery_made c w late y is =
+          acts_made a b c r x was look.reads.keeps (HasUser user) (λ all. with_user all user (delivers plan)) w late.made late.settled late.same late.crash (TurnsBy Row May (Delivered plan.report)) (MayTurnBy Row) y plan.report is
+          (λ clean accounts p. let f = fits clean accounts p in (f.0, inl f.1, (Delivered plan.report, f.1)))
 
-        delivery_undone : (c : State) (w : Result Report Refusal) → WritesAccount user (delivers plan) b c w → (e : Refusal) → w ≡ Err e → IsTransient e → ActsDelivery user envelope message terms a c (Err e)
-        delivery_undone c w late e is transient =
-            (acts_undone a b c r looked was look.reads.keeps (HasUser user) (λ all. with_user all user (delivers plan)) w late.made late.settled late.same late.crash (TurnsBy Row May (Refused e)) (MayTurnBy Row) e (Err e) is
-            (λ told. told transient) (λ accounts. transient_turn e accounts transient) (λ clean accounts p. let f = fits clean accounts p in (f.0, (Delivered plan.report, f.1))))
+      delivery_undone : (c : State) (w : Result Report Refusal) → WritesAccount user (delivers plan) b c w → (e : Refusal) → w ≡ Err e → IsTransient e → ActsDelivery user envelope message terms a c (Err e)
+      delivery_undone c w late e is transient =
+          (acts_undone a b c r x was look.reads.keeps (HasUser user) (λ all. with_user all user (delivers plan)) w late.made late.settled late.same late.crash (TurnsBy Row May (Refused e)) (MayTurnBy Row) e (Err e) is
+          (λ told. told transient) (λ accounts. transient_turn e accounts transient) (λ clean accounts p. let f = fits clean accounts p in (f.0, (Delivered plan.report, f.1))))
 
-        -- and so it is told
-        pub delivery_written : (c : State) (w : Result Report Refusal) → WritesAccount user (delivers plan) b c w → IfOk w (λ report. report ≡ plan.report) → IfErr w IsTransient → ActsDelivery user envelope message terms a c w
-        delivery_written c (Ok report) late told transient = subst (λ r. ActsDelivery user envelope message terms a c (Ok r)) (sym told) (delivery_made c (Ok report) late report refl)
-        delivery_written c (Err e) late told transient = delivery_undone c (Err e) late e refl transient
+      -- and so it is told
+      pub delivery_written : (c : State) (w : Result Report Refusal) → WritesAccount user (delivers plan) b c w → IfOk w (λ report. report ≡ plan.report) → IfErr w IsTransient → ActsDelivery user envelope message terms a c w
+      delivery_written c (Ok report) late told transient = subst (λ r. ActsDelivery user envelope message terms a c (Ok r)) (sym told) (delivery_made c (Ok report) late report refl)
+      delivery_written c (Err e) late told transient = delivery_undone c (Err e) late e refl transient

@@ -31,7 +31,7 @@ use Rattle.managesieve_sessions.specs.declared.progress.Progress.{Progress}
 use Rattle.managesieve_sessions.specs.declared.command_class.StoreCommand.{StoreCommand}
 use Rattle.managesieve_sessions.specs.declared.progress.Progress.TheVariants as p
 use Rattle.store_engine.specs.declared.event.Event.{Event}
-use Rattle.store_engine.specs.declared.event.Event.TheVariants.{Open, Give, Step, GiveUp, Close, Deliver, AddUser, Import, TakeOut, TakeMail, Keep}
+use Rattle.store_engine.specs.declared.event.Event.TheVariants.{Open, Give, Step, GiveUp, Close, Deliver, AddUser, Import, TakeOut, TakeMail, DoUpkeep}
 use Rattle.store_engine.specs.declared.answer.Answer.{Answer}
 use Rattle.store_engine.specs.declared.answer.Answer.TheVariants.{Out, Ignored, Refused}
 use Rattle.store_engine.specs.World.{World, Clients, with_accounts, Ignores, WorldBecomes, InSession, OpensSession, StepsSession, EventHappens, MayRefuseEvent, with_session, without_session, MayLack, MayFail, if_open, is_free_number}
@@ -404,6 +404,6 @@ crash_is event told_of old new kept is made = subst (λ e. Survives old new (Eve
 pub session_is : (event told_of : Event) (answer told : Answer) (kept after : SessionMap) → event ≡ told_of → answer ≡ told → IsSessionEvent told_of told kept after → IsSessionEvent event answer kept after
 session_is event told_of answer told kept after is same made = subst (λ e. IsSessionEvent e answer kept after) (sym is) (subst (λ a. IsSessionEvent told_of a kept after) (sym same) made)
 
-pub keeping_may : (user : List ℕ) (upkeep : Upkeep) (w : World) (refusal : Refusal) → MayRefuseKeeping upkeep refusal → MayRefuseEvent w (Keep user upkeep) refusal
-keeping_may user upkeep w refusal (inl (is, may)) = lacking_may w (Keep user upkeep) refusal is may
-keeping_may user upkeep w refusal (inr (is, fit)) = failing_may w (Keep user upkeep) refusal is fit
+pub keeping_may : (user : List ℕ) (upkeep : Upkeep) (w : World) (refusal : Refusal) → MayRefuseKeeping upkeep refusal → MayRefuseEvent w (DoUpkeep user upkeep) refusal
+keeping_may user upkeep w refusal (inl (is, may)) = lacking_may w (DoUpkeep user upkeep) refusal is may
+keeping_may user upkeep w refusal (inr (is, fit)) = failing_may w (DoUpkeep user upkeep) refusal is fit

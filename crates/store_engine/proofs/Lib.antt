@@ -10,7 +10,7 @@ pub mod HostLemmas
 pub mod ImportLemmas
 pub mod ImportingLemmas
 pub mod KeepingLemmas
-pub mod KeptLemmas
+pub mod RecallLemmas
 mod LimitExamples
 pub mod LookupLemmas
 pub mod RunLemmas

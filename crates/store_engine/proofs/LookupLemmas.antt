@@ -7,7 +7,7 @@ use Rattle.store_accounts.specs.declared.refusal.Refusal.{Refusal}
 use Rattle.store_accounts.specs.declared.refusal.Refusal.TheVariants.{NoUser}
 use Rattle.store_accounts.specs.Account.{Account, Accounts}
 use Rattle.store_accounts.specs.AccountRows.{profile_of}
-use Rattle.store_accounts.specs.Promises.{IsFree, OfUser, HasNoOpen, OfOpen, ReadsOpenAccount, ReadsEntered}
+use Rattle.store_accounts.specs.Promises.{IsFree, OfUser, HasNoOpen, KeepsTables, OfOpen, ReadsOpenAccount, ReadsEntered}
 use Rattle.store_accounts.specs.Refusals.{IsTransient}
 use Rattle.store_accounts.specs.Shows.{Presents}
 use Rattle.store_accounts.proofs.KeepLemmas.{keeps_ok, keeps_refused, keeps_then, mid_shows, transient_other, reads_answer}
@@ -15,7 +15,8 @@ use Rattle.store_accounts.proofs.EnterLemmas.{enters_both, enters_failed}
 use Rattle.store_tables.proofs.ResultLemmas.{on_ok}
 use Rattle.store_tables.proofs.WriteLemmas.{clean_before}
 use Rattle.store_engine.specs.AccountEvents.{text_named, active_text}
-use Rattle.store_engine.specs.Lookups.{LooksUp}
+use Rattle.store_engine.specs.Lookups.{LooksUp, Recalls}
+use Rattle.store_engine.proofs.RecallLemmas.{recalls_entered}
 
 -- a user without a profile has no account
 pub free_of : (accounts : Accounts) (user : List ℕ) → None ≡ option_map profile_of (get accounts user) → IsFree user accounts
@@ -118,6 +119,18 @@ pub looks_enters : {X Z : Type 0} (user : List ℕ) (P : X → Account → Type 
     → LooksUp user R a c q
 looks_enters user P R a b c r x was early (Ok z) late = looks_entered user P R R a b c r x was early (Ok z) late z refl z (λ account one two. two)
 looks_enters user P R a b c r x was early (Err e) late = looks_failed user P R R a b c r x was early (Err e) late (Err e) tt late.named
+
+-- ---- what is recalled of the account that was entered
+
+module _ {X Y : Type 0} (user : List ℕ) (P : X → Account → Type 0) (Q : Y → Account → Type 0) (a b c : State) (r : Result X Refusal) (x : X) (was : r ≡ Ok x) (early : LooksUp user P a b r) (q : Result Y Refusal) (late : Recalls user Q b c q) where
+  entered : ReadsEntered user Q b c q
+  entered = recalls_entered user Q b c q (λ clean. on_ok r x was (IsTrue b.is_open) (early.reads.keeps.live (clean_before b c _ late.keeps.crash clean))) late
+
+  pub looks_recalled : (y : Y) → q ≡ Ok y → {Z : Type 0} (R : Z → Account → Type 0) (z : Z) → ((account : Account) → P x account → Q y account → R z account) → LooksUp user R a c (Ok z)
+  looks_recalled y is R z both = looks_entered user P Q R a b c r x was early q entered y is z both
+
+  pub recalled_keeps : KeepsTables a c q
+  recalled_keeps = keeps_then a b c r x was q early.reads.keeps entered.keeps
 
 -- ---- the text of the active script
 

@@ -17,7 +17,8 @@ use Rattle.managesieve_protocol.specs.declared.commands.ClientCommand.{ClientCom
 use Rattle.managesieve_protocol.specs.declared.commands.ClientCommand.TheVariants.{Capability, Noop, Logout, Authenticate, Unauthenticate, HaveSpace, PutScript, CheckScript, ListScripts, SetActive, GetScript, DeleteScript, RenameScript}
 use Rattle.managesieve_protocol.specs.declared.commands.ClientCommand.TheVariants as verb
 use Rattle.managesieve_protocol.specs.declared.replies.ServerReply.{ServerReply}
-use Rattle.store_accounts.specs.Account.{bytes_cmp, Account, Accounts, Folders, is_closed_account, open_one, has_mail, changes_address, empties, removes, renews, keeps_script, activates, deletes_script, renames_script, moved, other_name, messages_in, holding, filed, filed_in, files_copies, queues}
+use Rattle.store_accounts.specs.Account.{bytes_cmp, Account, Accounts, Folders, is_closed_account, open_one, has_mail, changes_address, empties, removes, renews, keeps_script, activates, deletes_script, renames_script, moved, other_name, messages_in, holding, filed, filed_in, files_copies, forgets, keeps_moment, keeps_sent, adds_notice_if_any, queues}
+use Rattle.store_accounts.specs.declared.reply.ReplyKey.{ReplyKey}
 use Rattle.store_tables.specs.declared.queue.QueuedKind.TheVariants as kind
 use Rattle.store_accounts.specs.Whole.{whole, takes_whole}
 use Rattle.store_accounts.specs.declared.queue.QueuedMessage.{QueuedMessage}
@@ -27,7 +28,8 @@ use Rattle.store_accounts.proofs.AccountLemmas.{bytes_antisymmetric}
 use Rattle.managesieve_sessions.specs.Limits.{scripts_limit, IsScriptName}
 use Rattle.managesieve_sessions.specs.Replies.{is_ok}
 use Rattle.managesieve_sessions.specs.Scripts.{HasRoom, RepliesToPut, RepliesToSet, RepliesToDelete, RepliesToRename, RepliesTo, active_name, carried_out, obeyed}
-use Rattle.sieve_plan.specs.Delivered.{Disposition, Acts, Tells, Response, Silent, Quiet, Sent, acts, redirects, responds, unflagged_copy, DeliversAs}
+use Rattle.sieve_plan.specs.Delivered.{Disposition, Acts, Tells, Response, Silent, NoRoom, Quiet, Sent, acts, done_of, held_of, redirects, responds, unflagged_copy, DeliversAs}
+use Rattle.sieve_plan.specs.Sent.{kept_handles, redirect_key, over_keys}
 use Rattle.store_engine.specs.declared.event.Event.{Event}
 use Rattle.store_engine.specs.declared.answer.Answer.{Answer}
 use Rattle.store_engine.specs.Limits.{limit_refusal, IsNewUser, IsOwnAddress}
@@ -259,12 +261,33 @@ redirects_sound mail (target ∷ more) a own =
 
 responds_sound : (mail : MailSpec) (response : Response) (a : Account) → IsSoundAccount a → IsSoundAccount (responds mail response a)
 responds_sound mail Silent a own = own
+responds_sound mail NoRoom a own = own
 responds_sound mail (Quiet reason) a own = own
 responds_sound mail (Sent key octets kept) a own = record { address = own.address; scripts = own.scripts; few = own.few; active = own.active; filled = own.filled }
 
+-- so does what is remembered and forgotten, and a notice
+forgets_sound : (over : List ReplyKey) (a : Account) → IsSoundAccount a → IsSoundAccount (forgets over a)
+forgets_sound over a own = record { address = own.address; scripts = own.scripts; few = own.few; active = own.active; filled = own.filled }
+
+keeps_sound : (message : List ℕ) (moment : ℕ) (handles : List (List ℕ)) (a : Account) → IsSoundAccount a → IsSoundAccount (keeps_sent message moment handles a)
+keeps_sound message moment [] a own = own
+keeps_sound message moment (handle ∷ more) a own =
+    keeps_sound message moment more (keeps_moment (handle, message) moment a) (record { address = own.address; scripts = own.scripts; few = own.few; active = own.active; filled = own.filled })
+
+notes_sound : (moment : ℕ) (held : Option (List ℕ)) (a : Account) → IsSoundAccount a → IsSoundAccount (adds_notice_if_any moment held a)
+notes_sound moment None a own = own
+notes_sound moment (Some text) a own = record { address = own.address; scripts = own.scripts; few = own.few; active = own.active; filled = own.filled }
+
 delivers_sound : (addr : Addr) (moment : ℕ) (mail : MailSpec) (disposition : Disposition) (a a2 : Account) (report : Report) → IsSoundAccount a → DeliversAs addr moment mail disposition a report a2 → IsSoundAccount a2
 delivers_sound addr moment mail (Acts deeds) a a2 report own is =
-    subst IsSoundAccount (sym is.changed) (responds_sound mail is.response (acts mail deeds a) (redirects_sound mail deeds.sent (files_copies deeds.filed mail.octets a) (sound_filed a own mail.octets deeds.filed)))
+    let done = done_of a mail deeds in
+    let over = over_keys a moment deeds.sent in
+    let sent = redirects mail done.sent (files_copies done.filed mail.octets a) in
+    subst IsSoundAccount (sym is.changed)
+    (notes_sound moment (held_of a mail deeds) (responds mail is.response (acts mail done over a))
+    (responds_sound mail is.response (acts mail done over a)
+    (keeps_sound (redirect_key mail) mail.moment (kept_handles mail.moment done.sent) (forgets over sent)
+    (forgets_sound over sent (redirects_sound mail done.sent (files_copies done.filed mail.octets a) (sound_filed a own mail.octets done.filed))))))
 delivers_sound addr moment mail (Tells text) a a2 report own is =
     let kept = sound_filed a own mail.octets (unflagged_copy inbox ∷ []) in
     subst IsSoundAccount (sym is.changed) (record { address = kept.address; scripts = kept.scripts; few = kept.few; active = kept.active; filled = kept.filled })

@@ -1,8 +1,10 @@
 -- Answers to one sender under one handle are spaced by their periods.
-use Rattle.std.proofs.Common.{◌≡◌, ℕ, ◌+◌, ◌<◌, ◌≤◌, Bool, true, false, cond, List, [], ◌∷◌, ◌++◌, fold, Option, Some, None, IfSome, MatchBool, option_map, refl, sym, ◌∙◌, ap, subst, inl, inr, arith}
+use Rattle.std.proofs.Common.{◌≡◌, ℕ, zero, suc, ◌+◌, ◌-◌, ◌/◌, ◌<◌, ◌≤◌, Bool, true, false, cond, List, [], ◌∷◌, ◌++◌, fold, filter, length, map, take, Option, Some, None, IfSome, MatchBool, option_map, refl, sym, ◌∙◌, ap, subst, inl, inr, arith}
 use Rattle.std.specs.declared.cmp.Ordering.{Ordering}
 use Rattle.std.specs.declared.cmp.Ordering.TheVariants.{Less, Equal, Greater}
-use Rattle.std.specs.FinMap.{get, insert, get-insert}
+use Rattle.std.specs.FinMap.{get, insert, remove, keys, get-insert, get-remove}
+use Rattle.std.specs.List.{AllByRecursion}
+use Rattle.std.proofs.lemmas.Bool.{false_from_ne_true, false≢true}
 use Rattle.std.specs.Ordering.{is_eq, ordering_then}
 use Rattle.std.proofs.lemmas.Bool.Decides.{nat_tests}
 use Rattle.store_text.specs.declared.part.Part.{Part}
@@ -22,13 +24,15 @@ use Rattle.sieve_exec.specs.Mails.{MailSpec, mail_spec_of}
 use Rattle.sieve_syntax.specs.Meaning.{Actions}
 use Rattle.sieve_syntax.specs.declared.tree.vacation.VacationArgs.{VacationArgs}
 use Rattle.sieve_vacation.specs.Cases.{period_of, is_too_soon}
-use Rattle.sieve_vacation.specs.Handles.{handle_of, handle_key_of}
+use Rattle.sieve_vacation.specs.Handles.{Handle, Named, Same, four_octets, handle_of, handle_key_of}
 use Rattle.sieve_vacation.specs.Reasons.{reason_holds, first_of, decision_of}
 use Rattle.sieve_vacation.specs.declared.reason.Reason.{Reason}
 use Rattle.sieve_vacation.specs.declared.reason.Reason.TheVariants as R
 use Rattle.sieve_vacation.specs.declared.reason.ReplyDecision.{ReplyDecision}
 use Rattle.sieve_vacation.specs.declared.reason.ReplyDecision.TheVariants as D
-use Rattle.store_accounts.specs.Account.{latest, bytes_cmp, reply_cmp, Account, Accounts, ReplyMoments, is_closed_account, open_one, open_account_of, has_mail, files_copies, remembers, queues, messages_in}
+use Rattle.store_accounts.specs.Account.{latest, bytes_cmp, reply_cmp, Account, Accounts, ReplyMoments, is_closed_account, open_one, open_account_of, has_mail, files_copies, forgets, keeps_moment, keeps_sent, adds_notice_if_any, remembers, room_in, queues, messages_in}
+use Rattle.store_accounts.specs.ReplyRows.{is_key_between, reply_key_of}
+use Rattle.store_accounts.specs.declared.reply.ReplyKey.{ReplyKey}
 use Rattle.store_accounts.proofs.StandingLemmas.{open_there}
 use Rattle.store_tables.specs.declared.queue.QueuedKind.TheVariants as kind
 use Rattle.store_accounts.specs.declared.report.Report.{Report}
@@ -37,9 +41,10 @@ use Rattle.store_accounts.specs.declared.report.VacationReport.TheVariants as V
 use Rattle.store_accounts.specs.declared.refusal.Refusal.{Refusal}
 use Rattle.managesieve_sessions.specs.Scripts.{carried_out, obeyed}
 use Rattle.sieve_plan.specs.Views.{last_reply}
-use Rattle.sieve_plan.specs.Delivered.{Disposition, Acts, Tells, Response, Silent, Quiet, Sent, FollowsDecision, Responds, acts, redirects, responds, vacation_report, DeliversAs}
+use Rattle.sieve_plan.specs.Delivered.{Disposition, Acts, Tells, Response, Silent, NoRoom, Quiet, Sent, Sends, FollowsDecision, Responds, acts, done_of, held_of, redirects, responds, vacation_report, DeliversAs}
+use Rattle.sieve_plan.specs.Sent.{half_day, redirect_key, over_keys, sent_handle}
 use Rattle.store_engine.specs.declared.event.Event.{Event}
-use Rattle.store_engine.specs.declared.event.Event.TheVariants.{Open, Give, Step, GiveUp, Close, Deliver, AddUser, Import, TakeOut, TakeMail, Keep}
+use Rattle.store_engine.specs.declared.event.Event.TheVariants.{Open, Give, Step, GiveUp, Close, Deliver, AddUser, Import, TakeOut, TakeMail, DoUpkeep}
 use Rattle.store_engine.specs.declared.answer.Answer.{Answer}
 use Rattle.store_engine.specs.Limits.{limit_refusal}
 use Rattle.store_accounts.specs.Account.{row_with}
@@ -124,9 +129,96 @@ redirects_keep : (mail : MailSpec) (targets : List Addr) (a : Account) → (redi
 redirects_keep mail [] a = refl
 redirects_keep mail (target ∷ more) a = redirects_keep mail more (queues kind.Redirect mail.from (address_spelling target) mail.octets a)
 
--- and so do all the deeds
-acts_keep : (mail : MailSpec) (deeds : Actions) (a : Account) → (acts mail deeds a).replies ≡ a.replies
-acts_keep mail deeds a = redirects_keep mail deeds.sent (files_copies deeds.filed mail.octets a)
+-- ---- what is kept of messages that are sent on stands under other keys
+
+-- the key under which a thread is kept
+abbrev place : Thread → List ℕ × List ℕ
+place thread = (handle_key_of thread.handle, thread.sender)
+
+same_place : (thread : Thread) (key : List ℕ × List ℕ) → is_eq (reply_cmp (place thread) key) ≡ true → place thread ≡ key
+same_place thread key is = go (reply_cmp (place thread) key) refl is
+  where
+    go : (o : Ordering) → reply_cmp (place thread) key ≡ o → is_eq o ≡ true → place thread ≡ key
+    go Less at same = absurd (let never : false ≡ true = same in cc)
+    go Equal at same = reply_antisymmetric (place thread) key at
+    go Greater at same = absurd (let never : false ≡ true = same in cc)
+
+-- no thread's key begins with octet 3
+no_between : (handle : Handle) (below sender : List ℕ) → is_key_between (3 ∷ []) (3 ∷ below) (handle_key_of handle, sender) ≡ false
+no_between (Named name) below sender = refl
+no_between (Same subject from mime reason) below sender = refl
+
+no_sent : (handle : Handle) (half : ℕ) (target : List ℕ) → handle_key_of handle ≡ sent_handle half target → ⊥
+no_sent (Named name) half target same = absurd (let first : ◌≡◌ {A = ℕ} 1 3 = cc in omega (arith, first))
+no_sent (Same subject from mime reason) half target same = absurd (let first : ◌≡◌ {A = ℕ} 2 3 = cc in omega (arith, first))
+
+-- a key that is over
+abbrev IsOver : List ℕ → ReplyKey → Type 0
+IsOver below key = is_key_between (3 ∷ []) (3 ∷ below) (key.handle, key.sender) ≡ true
+
+over_apart : (below : List ℕ) (key : ReplyKey) (thread : Thread) → IsOver below key → is_eq (reply_cmp (place thread) (key.handle, key.sender)) ≡ false
+over_apart below key thread over = false_from_ne_true _ (λ tied.
+    let same = same_place thread (key.handle, key.sender) tied in
+    false≢true (sym (no_between thread.handle below thread.sender) ∙ (ap (is_key_between (3 ∷ []) (3 ∷ below)) same ∙ over)))
+
+sent_apart : (half : ℕ) (target message : List ℕ) (thread : Thread) → is_eq (reply_cmp (place thread) (sent_handle half target, message)) ≡ false
+sent_apart half target message thread = false_from_ne_true _ (λ tied. no_sent thread.handle half target (ap (λ (k : List ℕ × List ℕ). k.0) (same_place thread (sent_handle half target, message) tied)))
+
+-- what is forgotten is no thread's
+forgot_keep : (below : List ℕ) (over : List ReplyKey) (kept_moment : ReplyMoments) (thread : Thread) → AllByRecursion (IsOver below) over
+    → get (fold (λ kept_moment key. remove kept_moment (key.handle, key.sender)) kept_moment over) (place thread) ≡ get kept_moment (place thread)
+forgot_keep below [] kept_moment thread all = refl
+forgot_keep below (key ∷ over) kept_moment thread all =
+    forgot_keep below over (remove kept_moment (key.handle, key.sender)) thread all.1
+    ∙ (get-remove reply_total kept_moment (key.handle, key.sender) (place thread) ∙ ap (λ b. cond b None (get kept_moment (place thread))) (over_apart below key thread all.0))
+
+-- nor what is kept
+sent_keep : (message : List ℕ) (moment half : ℕ) (targets : List Addr) (a : Account) (thread : Thread)
+    → get (keeps_sent message moment (map (λ target. sent_handle half (address_spelling target)) targets) a).replies (place thread) ≡ get a.replies (place thread)
+sent_keep message moment half [] a thread = refl
+sent_keep message moment half (target ∷ more) a thread =
+    sent_keep message moment half more (keeps_moment (sent_handle half (address_spelling target), message) moment a) thread
+    ∙ (get-insert reply_total a.replies (sent_handle half (address_spelling target), message) moment (place thread) ∙ ap (λ b. cond b (Some moment) (get a.replies (place thread))) (sent_apart half (address_spelling target) message thread))
+
+-- the keys that are over
+all_taken : {X : Type 0} (P : X → Type 0) (n : ℕ) (xs : List X) → AllByRecursion P xs → AllByRecursion P (take n xs)
+all_taken P zero [] all = tt
+all_taken P zero (x ∷ xs) all = tt
+all_taken P (suc n) [] all = tt
+all_taken P (suc n) (x ∷ xs) all = (all.0, all_taken P n xs all.1)
+
+all_passed : {X : Type 0} (p : X → Bool) (xs : List X) → AllByRecursion (λ x. p x ≡ true) (filter p xs)
+all_passed p [] = tt
+all_passed p (x ∷ xs) = go (p x) refl (all_passed p xs)
+  where
+    go : (b : Bool) → p x ≡ b → AllByRecursion (λ y. p y ≡ true) (filter p xs) → AllByRecursion (λ y. p y ≡ true) (cond b (x ∷ filter p xs) (filter p xs))
+    go true is more = (is, more)
+    go false is more = more
+
+all_mapped : {X Y : Type 0} (P : Y → Type 0) (f : X → Y) (xs : List X) → AllByRecursion (λ x. P (f x)) xs → AllByRecursion P (map f xs)
+all_mapped P f [] all = tt
+all_mapped P f (x ∷ xs) all = (all.0, all_mapped P f xs all.1)
+
+are_over : (a : Account) (moment : ℕ) (targets : List Addr) → AllByRecursion (IsOver (four_octets (moment / half_day - 1))) (over_keys a moment targets)
+are_over a moment [] = tt
+are_over a moment (target ∷ more) =
+    let is = is_key_between (3 ∷ []) (3 ∷ four_octets (moment / half_day - 1)) in
+    all_mapped (IsOver (four_octets (moment / half_day - 1))) reply_key_of (take 32 (filter is (keys a.replies))) (all_taken (λ key. is key ≡ true) 32 (filter is (keys a.replies)) (all_passed is (keys a.replies)))
+
+-- so all the deeds leave what is kept of a thread
+acts_keep : (mail : MailSpec) (deeds : Actions) (below : List ℕ) (over : List ReplyKey) (a : Account) (thread : Thread) → AllByRecursion (IsOver below) over
+    → get (acts mail deeds over a).replies (place thread) ≡ get a.replies (place thread)
+acts_keep mail deeds below over a thread all =
+    let mid = redirects mail deeds.sent (files_copies deeds.filed mail.octets a) in
+    sent_keep (redirect_key mail) mail.moment (mail.moment / half_day) deeds.sent (forgets over mid) thread
+    ∙ (forgot_keep below over mid.replies thread all ∙ ap (λ m. get m (place thread)) (redirects_keep mail deeds.sent (files_copies deeds.filed mail.octets a)))
+
+-- and so does a notice
+notes_keep : (moment : ℕ) (held : Option (List ℕ)) (a : Account) (thread : Thread) → kept_in (Some (adds_notice_if_any moment held a)) thread ≡ kept_in (Some a) thread
+notes_keep moment None a thread = refl
+notes_keep moment (Some text) a thread = refl
+
+-- ---- the response
 
 -- what an account that was just answered for keeps
 remembered : (a : Account) (handle sender : List ℕ) (moment : ℕ) (thread : Thread) → kept_in (Some (remembers handle sender moment a)) thread
@@ -142,13 +234,14 @@ record IsKnown (moment : ℕ) (last : List ℕ → Option ℕ) (reply : Option V
   past : IsPast (last (handle_key_of (handle_of args))) (period_of args) moment
   later : next ≡ latest (last key) moment
 
-sent_is : (own : Addr) (moment : ℕ) (mail : MailSpec) (last : List ℕ → Option ℕ) (reply : Option VacationArgs) (key octets : List ℕ) (next : ℕ) → Responds own moment mail last reply (Sent key octets next)
+sent_is : (own : Addr) (moment : ℕ) (mail : MailSpec) (last : List ℕ → Option ℕ) (room : ℕ) (reply : Option VacationArgs) (key octets : List ℕ) (next : ℕ) → Responds own moment mail last room reply (Sent key octets next)
     → IsKnown moment last reply key next
-sent_is own moment mail last None key octets next is = absurd (let never : Sent key octets next ≡ Silent = is in cc)
-sent_is own moment mail last (Some args) key octets next is = go (decision_of args mail own (last (handle_key_of (handle_of args))) moment) refl is
+sent_is own moment mail last room None key octets next is = absurd (let never : Sent key octets next ≡ Silent = is in cc)
+sent_is own moment mail last room (Some args) key octets next is = go (decision_of args mail own (last (handle_key_of (handle_of args))) moment) refl is
   where
-    go : (d : ReplyDecision) → decision_of args mail own (last (handle_key_of (handle_of args))) moment ≡ d → FollowsDecision own moment mail args (last (handle_key_of (handle_of args))) d (Sent key octets next) → IsKnown moment last (Some args) key next
-    go D.Send sends follows =
+    sends_is : (n : ℕ) → decision_of args mail own (last (handle_key_of (handle_of args))) moment ≡ D.Send → Sends own moment mail args (last (handle_key_of (handle_of args))) n (Sent key octets next) → IsKnown moment last (Some args) key next
+    sends_is zero sends follows = absurd (let never : Sent key octets next ≡ NoRoom = follows in cc)
+    sends_is (suc n) sends follows =
         let told : Sent key octets next ≡ Sent (handle_key_of (handle_of args)) follows.0 (latest (last (handle_key_of (handle_of args))) moment) = follows.1.1 in
         let same : key ≡ handle_key_of (handle_of args) = cc in
         let after : next ≡ latest (last (handle_key_of (handle_of args))) moment = cc in
@@ -159,6 +252,9 @@ sent_is own moment mail last (Some args) key octets next is = go (decision_of ar
           past = send_is_past args mail own (last (handle_key_of (handle_of args))) moment sends;
           later = after ∙ ap (λ k. latest (last k) moment) (sym same);
         }
+
+    go : (d : ReplyDecision) → decision_of args mail own (last (handle_key_of (handle_of args))) moment ≡ d → FollowsDecision own moment mail args (last (handle_key_of (handle_of args))) room d (Sent key octets next) → IsKnown moment last (Some args) key next
+    go D.Send sends follows = sends_is room sends follows
     go (D.Quiet reason) quiet follows = absurd (let never : Sent key octets next ≡ Quiet reason = follows in cc)
 
 -- a later moment is kept: never an earlier one than before, nor than this one
@@ -173,23 +269,11 @@ latest_is_at_least (Some x) moment = omega arith
 reply_eq_refl : (key sender : List ℕ) → is_eq (reply_cmp (key, sender) (key, sender)) ≡ true
 reply_eq_refl key sender = ap (λ o. is_eq (ordering_then o (bytes_cmp sender sender))) (tied_is (bytes_cmp key key) (bytes_eq_refl key)) ∙ bytes_eq_refl sender
 
--- the key under which a thread is kept
-abbrev place : Thread → List ℕ × List ℕ
-place thread = (handle_key_of thread.handle, thread.sender)
-
-same_place : (thread : Thread) (key : List ℕ × List ℕ) → is_eq (reply_cmp (place thread) key) ≡ true → place thread ≡ key
-same_place thread key is = go (reply_cmp (place thread) key) refl is
-  where
-    go : (o : Ordering) → reply_cmp (place thread) key ≡ o → is_eq o ≡ true → place thread ≡ key
-    go Less at same = absurd (let never : false ≡ true = same in cc)
-    go Equal at same = reply_antisymmetric (place thread) key at
-    go Greater at same = absurd (let never : false ≡ true = same in cc)
-
 -- the account after a response to the sender that was sent
 abbrev answered : MailSpec → (key octets : List ℕ) → (next : ℕ) → Account → Account
 answered mail key octets next a = remembers key mail.from next (queues kind.Reply [] mail.from octets a)
 
-answered_keeps : (mail : MailSpec) (moment next : ℕ) (key octets : List ℕ) (a b : Account) (thread : Thread) → b.replies ≡ a.replies → next ≡ latest (last_reply a mail.from key) moment
+answered_keeps : (mail : MailSpec) (moment next : ℕ) (key octets : List ℕ) (a b : Account) (thread : Thread) → get b.replies (place thread) ≡ get a.replies (place thread) → next ≡ latest (last_reply a mail.from key) moment
     → IsNoSooner (kept_in (Some a) thread) (kept_in (Some (answered mail key octets next b)) thread)
 answered_keeps mail moment next key octets a b thread same later = subst (λ o. IsNoSooner (kept_in (Some a) thread) o) (sym (remembered (queues kind.Reply [] mail.from octets b) key mail.from next thread)) (go (is_eq (reply_cmp (place thread) (key, lowered mail.from))) refl)
   where
@@ -197,20 +281,25 @@ answered_keeps mail moment next key octets a b thread same later = subst (λ o. 
     go true is =
         subst (λ n. IsNoSooner (get a.replies (place thread)) (Some n)) (sym later)
         (subst (λ k. IsNoSooner (get a.replies k) (Some (latest (last_reply a mail.from key) moment))) (sym (same_place thread (key, lowered mail.from) is)) (latest_is_no_sooner (last_reply a mail.from key) moment))
-    go false is = no_sooner_is (get a.replies (place thread)) (get b.replies (place thread)) (ap (λ m. get m (place thread)) same)
+    go false is = no_sooner_is (get a.replies (place thread)) (get b.replies (place thread)) same
 
-responds_keeps : (own : Addr) (moment : ℕ) (mail : MailSpec) (deeds : Actions) (a : Account) (response : Response) (thread : Thread) → Responds own moment mail (last_reply a mail.from) deeds.reply response
-    → IsNoSooner (kept_in (Some a) thread) (kept_in (Some (responds mail response (acts mail deeds a))) thread)
-responds_keeps own moment mail deeds a Silent thread is = no_sooner_is (kept_in (Some a) thread) _ (ap (λ m. get m (place thread)) (acts_keep mail deeds a))
-responds_keeps own moment mail deeds a (Quiet reason) thread is = no_sooner_is (kept_in (Some a) thread) _ (ap (λ m. get m (place thread)) (acts_keep mail deeds a))
-responds_keeps own moment mail deeds a (Sent key octets next) thread is =
-    let known = sent_is own moment mail (last_reply a mail.from) deeds.reply key octets next is in
-    answered_keeps mail moment next key octets a (acts mail deeds a) thread (acts_keep mail deeds a) known.later
+responds_keeps : (own : Addr) (moment : ℕ) (mail : MailSpec) (room : ℕ) (reply : Option VacationArgs) (a b : Account) (response : Response) (thread : Thread) → get b.replies (place thread) ≡ get a.replies (place thread)
+    → Responds own moment mail (last_reply a mail.from) room reply response → IsNoSooner (kept_in (Some a) thread) (kept_in (Some (responds mail response b)) thread)
+responds_keeps own moment mail room reply a b Silent thread same is = no_sooner_is (kept_in (Some a) thread) _ same
+responds_keeps own moment mail room reply a b NoRoom thread same is = no_sooner_is (kept_in (Some a) thread) _ same
+responds_keeps own moment mail room reply a b (Quiet reason) thread same is = no_sooner_is (kept_in (Some a) thread) _ same
+responds_keeps own moment mail room reply a b (Sent key octets next) thread same is =
+    let known = sent_is own moment mail (last_reply a mail.from) room reply key octets next is in
+    answered_keeps mail moment next key octets a b thread same known.later
 
 delivers_keeps : (own : Addr) (moment : ℕ) (mail : MailSpec) (disposition : Disposition) (a a2 : Account) (report : Report) (thread : Thread) → DeliversAs own moment mail disposition a report a2
     → IsNoSooner (kept_in (Some a) thread) (kept_in (Some a2) thread)
 delivers_keeps own moment mail (Acts deeds) a a2 report thread is =
-    subst (λ b. IsNoSooner (kept_in (Some a) thread) (kept_in (Some b) thread)) (sym is.changed) (responds_keeps own moment mail deeds a is.response thread is.is_response)
+    let done = done_of a mail deeds in
+    let b = acts mail done (over_keys a moment deeds.sent) a in
+    let same = acts_keep mail done (four_octets (moment / half_day - 1)) (over_keys a moment deeds.sent) a thread (are_over a moment deeds.sent) in
+    subst (λ o. IsNoSooner (kept_in (Some a) thread) o) (sym (ap (λ c. kept_in (Some c) thread) is.changed ∙ notes_keep moment (held_of a mail deeds) (responds mail is.response b) thread))
+    (responds_keeps own moment mail (room_in a - length done.sent) deeds.reply a b is.response thread same is.is_response)
 delivers_keeps own moment mail (Tells text) a a2 report thread is = no_sooner_is (kept_in (Some a) thread) (kept_in (Some a2) thread) (ap (λ b. kept_in (Some b) thread) is.changed)
 
 -- commands leave what is remembered
@@ -375,20 +464,24 @@ remembered_now mail moment next key octets user args b same after =
     itself : is_eq (reply_cmp (handle_key_of (handle_of args), lowered mail.from) (key, lowered mail.from)) ≡ true
     itself = ap (λ k. is_eq (reply_cmp (handle_key_of (handle_of args), lowered mail.from) (k, lowered mail.from))) same ∙ reply_eq_refl (handle_key_of (handle_of args)) (lowered mail.from)
 
-carried_one : (own : Addr) (user : List ℕ) (moment : ℕ) (mail : MailSpec) (deeds : Actions) (a : Account) (response : Response) → Responds own moment mail (last_reply a mail.from) deeds.reply response
-    → IsOneFor (Some a) (Some (responds mail response (acts mail deeds a))) (entries_if (vacation_report response) user mail.from moment deeds.reply)
-carried_one own user moment mail deeds a Silent is = tt
-carried_one own user moment mail deeds a (Quiet reason) is = tt
-carried_one own user moment mail deeds a (Sent key octets next) is =
-    let known = sent_is own moment mail (last_reply a mail.from) deeds.reply key octets next is in
+carried_one : (own : Addr) (user : List ℕ) (moment : ℕ) (mail : MailSpec) (room : ℕ) (reply : Option VacationArgs) (held : Option (List ℕ)) (a b : Account) (response : Response) → Responds own moment mail (last_reply a mail.from) room reply response
+    → IsOneFor (Some a) (Some (adds_notice_if_any moment held (responds mail response b))) (entries_if (vacation_report response) user mail.from moment reply)
+carried_one own user moment mail room reply held a b Silent is = tt
+carried_one own user moment mail room reply held a b NoRoom is = tt
+carried_one own user moment mail room reply held a b (Quiet reason) is = tt
+carried_one own user moment mail room reply held a b (Sent key octets next) is =
+    let known = sent_is own moment mail (last_reply a mail.from) room reply key octets next is in
+    let thread = (entry_of user mail.from moment known.args).thread in
     let after : moment ≤ next = subst (λ n. moment ≤ n) (sym known.later) (latest_is_at_least (last_reply a mail.from key) moment) in
-    subst (λ r. IsOneFor (Some a) (Some (answered mail key octets next (acts mail deeds a))) (entries_if V.Sent user mail.from moment r)) (sym known.there) (known.past, remembered_now mail moment next key octets user known.args (acts mail deeds a) known.keyed after)
+    subst (λ r. IsOneFor (Some a) (Some (adds_notice_if_any moment held (answered mail key octets next b))) (entries_if V.Sent user mail.from moment r)) (sym known.there)
+    (known.past, subst (λ o. IsAtLeast o moment) (sym (notes_keep moment held (answered mail key octets next b) thread)) (remembered_now mail moment next key octets user known.args b known.keyed after))
 
 delivered_one : (own : Addr) (user : List ℕ) (moment : ℕ) (mail : MailSpec) (disposition : Disposition) (a a2 : Account) (report : Report) → DeliversAs own moment mail disposition a report a2
     → IsOneFor (Some a) (Some a2) (entries_if report.vacation user mail.from moment (vacation_in disposition))
 delivered_one own user moment mail (Acts deeds) a a2 report is =
     subst (λ v. IsOneFor (Some a) (Some a2) (entries_if v user mail.from moment deeds.reply)) (sym (ap (λ r. r.vacation) is.reported))
-    (subst (λ b. IsOneFor (Some a) (Some b) (entries_if (vacation_report is.response) user mail.from moment deeds.reply)) (sym is.changed) (carried_one own user moment mail deeds a is.response is.is_response))
+    (subst (λ b. IsOneFor (Some a) (Some b) (entries_if (vacation_report is.response) user mail.from moment deeds.reply)) (sym is.changed)
+    (carried_one own user moment mail (room_in a - length (done_of a mail deeds).sent) deeds.reply (held_of a mail deeds) a (acts mail (done_of a mail deeds) (over_keys a moment deeds.sent) a) is.response is.is_response))
 delivered_one own user moment mail (Tells text) a a2 report is = go report.vacation
   where
     go : (v : VacationReport) → IsOneFor (Some a) (Some a2) (entries_if v user mail.from moment None)
@@ -417,7 +510,7 @@ sent_one w next (AddUser name address salt password) answer (inl made) = tt
 sent_one w next (Import file) answer (inl made) = tt
 sent_one w next (TakeOut name id) answer (inl made) = tt
 sent_one w next (TakeMail name folder) answer (inl made) = tt
-sent_one w next (Keep name upkeep) answer (inl made) = tt
+sent_one w next (DoUpkeep name upkeep) answer (inl made) = tt
 sent_one w next (Deliver user envelope message when default) answer (inl made) = subst (λ v. IsOneAnswer w.accounts v.accounts (sent_by w (Deliver user envelope message when default) answer next made)) (sym made.2) (go (limit_refusal envelope message when.moment) made.1)
   where
     later : Accounts

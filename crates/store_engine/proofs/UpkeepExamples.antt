@@ -9,7 +9,7 @@ use Rattle.managesieve_sessions.specs.Replies.{ok_reply}
 use Rattle.managesieve_sessions.specs.Scripts.{RepliesToPut, IsValidScript}
 use Rattle.store_engine.specs.declared.answer.Answer.{Answer}
 use Rattle.store_engine.specs.declared.answer.Answer.TheVariants.{Added, Changed, Stored, Closed, Opened, Removed, NoticesTaken, Refused}
-use Rattle.store_engine.specs.declared.event.Event.TheVariants.{Keep}
+use Rattle.store_engine.specs.declared.event.Event.TheVariants.{DoUpkeep}
 use Rattle.store_engine.specs.declared.upkeep.Upkeep.TheVariants.{SetPassword, SetAddress, StoreScript, CloseAccount, OpenAccount, RemoveAccount, TakeNotices}
 use Rattle.store_engine.specs.AccountEvents.{MachineRefuses, Renews, AddsOver, absence}
 use Rattle.store_engine.specs.OwnActs as own
@@ -180,12 +180,12 @@ stored_unread a name text activate change wrong (inr (full, is)) = let no = is.s
 abbrev nobody : World
 nobody = record { accounts = empty; sessions = empty }
 
-kept_by_carol : acts_in (codes "carol") nobody (Keep (codes "carol") CloseAccount) (Refused NoUser) ≡ own.IsKept CloseAccount (Refused NoUser) ∷ []
+kept_by_carol : acts_in (codes "carol") nobody (DoUpkeep (codes "carol") CloseAccount) (Refused NoUser) ≡ own.IsKept CloseAccount (Refused NoUser) ∷ []
 kept_by_carol = refl
 
-kept_of_another : acts_in (codes "carol") nobody (Keep (codes "alice") CloseAccount) (Refused NoUser) ≡ []
+kept_of_another : acts_in (codes "carol") nobody (DoUpkeep (codes "alice") CloseAccount) (Refused NoUser) ≡ []
 kept_of_another = refl
 
 -- near miss: without memory it is no act
-kept_without_memory : acts_in (codes "carol") nobody (Keep (codes "carol") CloseAccount) (Refused Memory) ≡ []
+kept_without_memory : acts_in (codes "carol") nobody (DoUpkeep (codes "carol") CloseAccount) (Refused Memory) ≡ []
 kept_without_memory = refl

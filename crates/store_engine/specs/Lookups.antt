@@ -1,13 +1,20 @@
 -- What the engine reads of one user's account.
-use Rattle.std.specs.Prelude.{◌≡◌, ℕ, cond, List, Option, Some, None, option_map, Result, IfOk, IfErr, IsTrue}
+use Rattle.std.specs.Prelude.{◌≡◌, ℕ, Bool, cond, List, Option, Some, None, option_map, Result, IfOk, IfErr, IfSome, IsTrue, OnOk}
 use Rattle.std.specs.FinMap.{get}
 use Rattle.sqlite.specs.State.{State, HasCleanDisk}
-use Rattle.sieve_plan.specs.Views.{IsViewOf}
+use Rattle.mail_address.specs.declared.address.Addr.{Addr}
+use Rattle.mail_address.specs.Outbound.{IsBareAddress}
+use Rattle.mail_address.specs.Spelling.{address_spelling}
+use Rattle.sieve_exec.specs.Mails.{MailSpec}
+use Rattle.sieve_plan.specs.declared.view.AccountView.{AccountView}
+use Rattle.sieve_plan.specs.Delivered.{Disposition}
+use Rattle.sieve_plan.specs.Plans.{IsOfView}
+use Rattle.sieve_plan.specs.Sent.{redirect_key, was_sent}
 use Rattle.store_accounts.specs.declared.refusal.Refusal.{Refusal}
 use Rattle.store_accounts.specs.declared.refusal.Refusal.TheVariants.{NoUser, UserExists, UserHasMail}
 use Rattle.store_accounts.specs.Account.{Account, is_closed_account, is_removed, has_mail}
 use Rattle.store_accounts.specs.AccountRows.{profile_of}
-use Rattle.store_accounts.specs.Promises.{KeepsTables, OverAccounts, ReadsOpenAccount}
+use Rattle.store_accounts.specs.Promises.{KeepsTables, KeepsSeen, OverAccounts, ReadsOpenAccount}
 use Rattle.store_accounts.specs.Refusals.{IsTransient}
 use Rattle.store_engine.specs.declared.account.ActiveScript.{ActiveScript}
 use Rattle.store_engine.specs.declared.delivery.Lookup.{Lookup}
@@ -24,10 +31,28 @@ pub record IsActiveScript (found : ActiveScript) (a : Account) : Type 0 where
   pub profile : found.profile ≡ profile_of a
   pub text : found.text ≡ active_text a
 
--- what a delivery has to know of the account: its address, what it keeps of responses to the sender, and the text of its active script
-pub record IsLookup (sender : List ℕ) (lookup : Lookup) (a : Account) : Type 0 where
-  pub view : IsViewOf lookup.view sender a
+-- what decides on a delivery: the account's address, and the text of its active script
+pub record IsLookup (lookup : Lookup) (a : Account) : Type 0 where
+  pub address : IsBareAddress a.address lookup.address
   pub text : lookup.text ≡ active_text a
+
+-- what is read of an account that was entered, by some queries or by none: this holds of the answer and of the account, if there is one;
+-- all stays, and a connection that was open is open after Ok; it is refused without visible cause alone
+pub record Recalls {X : Type 0} (user : List ℕ) (Part : X → Account → Type 0) (old new : State) (result : Result X Refusal) : Type 0 where
+  pub found : HasCleanDisk new → OverAccounts old (λ accounts. IfOk result (λ x. IfSome (get accounts user) (Part x)))
+  pub keeps : KeepsSeen old new result
+  pub live : HasCleanDisk new → IsTrue old.is_open → OnOk result (IsTrue new.is_open)
+  pub shut : HasCleanDisk new → IsTrue new.is_open → IsTrue old.is_open
+  pub named : IfErr result IsTransient
+
+-- the mail was sent to the address less than 12 hours from its moment
+abbrev pub was_sent_to : Account → MailSpec → Addr → Bool
+was_sent_to a mail target = was_sent a mail.moment (redirect_key mail) (address_spelling target)
+
+-- what a delivery has to know of the account, beside this address, which is the account's
+pub record IsRecalled (view : AccountView) (address : Addr) (mail : MailSpec) (disposition : Disposition) (a : Account) : Type 0 where
+  pub same : view.address ≡ address
+  pub of : IsBareAddress a.address address → IsOfView view mail disposition a
 
 -- ---- how an account stands
 

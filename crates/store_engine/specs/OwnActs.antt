@@ -26,7 +26,7 @@ use Rattle.managesieve_sessions.specs.Scripts.{IfElse, RepliesToCheck, obeyed}
 use Rattle.managesieve_sessions.specs.Table.{needs_login, RepliesOf}
 use Rattle.managesieve_sessions.specs.CommandOutcomes.{login_text}
 use Rattle.store_engine.specs.declared.event.Event.{Event}
-use Rattle.store_engine.specs.declared.event.Event.TheVariants.{Step, Deliver, AddUser, Import, TakeOut, TakeMail, Keep}
+use Rattle.store_engine.specs.declared.event.Event.TheVariants.{Step, Deliver, AddUser, Import, TakeOut, TakeMail, DoUpkeep}
 use Rattle.store_engine.specs.declared.answer.Answer.{Answer}
 use Rattle.store_engine.specs.declared.answer.Answer.TheVariants.{Out, Delivered, Added, Imported, Taken, MailTaken, Refused}
 use Rattle.store_engine.specs.Limits.{limit_refusal, IsNewUser}
@@ -245,7 +245,7 @@ event_acts user w (AddUser name address salt password) answer = when_of user (So
 event_acts user w (Import file) answer = when_of user (Some file.head.owner.name) (IsImported file.head file.parts answer)
 event_acts user w (TakeOut name id) answer = when_of user (Some name) (TakesOut id answer)
 event_acts user w (TakeMail name folder) answer = when_of user (Some name) (TakesMail folder answer)
-event_acts user w (Keep name upkeep) answer = when_of user (Some name) (IsKept upkeep answer)
+event_acts user w (DoUpkeep name upkeep) answer = when_of user (Some name) (IsKept upkeep answer)
 event_acts user w event answer = []
 
 -- the acts of the user in one event; none if it was lost, which changes nothing

@@ -13,7 +13,7 @@ use Rattle.managesieve_sessions.specs.Steps.{IsStep, progress_of, may_lack, may_
 use Rattle.managesieve_sessions.specs.declared.progress.Progress.{Progress}
 use Rattle.managesieve_sessions.specs.declared.progress.Progress.TheVariants as progress
 use Rattle.store_engine.specs.declared.event.Event.{Event}
-use Rattle.store_engine.specs.declared.event.Event.TheVariants.{Open, Give, Step, GiveUp, Close, Deliver, AddUser, Import, TakeOut, TakeMail, Keep}
+use Rattle.store_engine.specs.declared.event.Event.TheVariants.{Open, Give, Step, GiveUp, Close, Deliver, AddUser, Import, TakeOut, TakeMail, DoUpkeep}
 use Rattle.store_engine.specs.declared.answer.Answer.{Answer}
 use Rattle.store_engine.specs.declared.answer.Answer.TheVariants.{Out, Ignored, Refused}
 use Rattle.store_engine.specs.Limits.{limit_refusal, IsNewUser}
@@ -91,7 +91,7 @@ EventHappens w (AddUser name address salt password) answer next = with_accounts 
 EventHappens w (Import file) answer next = with_accounts w (Importing w.accounts file.head file.parts) answer next
 EventHappens w (TakeOut user id) answer next = with_accounts w (Taking w.accounts user id) answer next
 EventHappens w (TakeMail user folder) answer next = with_accounts w (MailTaking w.accounts user folder) answer next
-EventHappens w (Keep user upkeep) answer next = with_accounts w (Keeping w.accounts user upkeep) answer next
+EventHappens w (DoUpkeep user upkeep) answer next = with_accounts w (Keeping w.accounts user upkeep) answer next
 
 -- ---- refusals without a cause in the machine
 
@@ -122,7 +122,7 @@ MayLack w (AddUser name address salt password) = Unit {0}
 MayLack w (Import file) = Unit {0}
 MayLack w (TakeOut user id) = Unit {0}
 MayLack w (TakeMail user folder) = Unit {0}
-MayLack w (Keep user upkeep) = MayLackFor upkeep
+MayLack w (DoUpkeep user upkeep) = MayLackFor upkeep
 
 -- whether the event may be refused by the store: only one that asks it
 abbrev pub MayFail : World → Event → Type 0
@@ -132,7 +132,7 @@ MayFail w (AddUser name address salt password) = IsNewUser name address password
 MayFail w (Import file) = IsImportable file.head file.parts
 MayFail w (TakeOut user id) = Unit {0}
 MayFail w (TakeMail user folder) = Unit {0}
-MayFail w (Keep user upkeep) = IsFit upkeep
+MayFail w (DoUpkeep user upkeep) = IsFit upkeep
 MayFail w event = ⊥
 
 abbrev pub MayRefuseEvent : World → Event → Refusal → Type 0

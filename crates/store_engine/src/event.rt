@@ -5,6 +5,12 @@ use sieve_exec::{Envelope, When};
 use store_text::AccountFile;
 
 /// An event, with all that comes from outside. A session is known by a number.
+///
+/// The model tells a run as a list of these; the program makes four of them. The daemon makes `Open`, `Step`, `GiveUp` and `Close`, and
+/// [`apply`](crate::apply) or [`apply_free`](crate::apply_free) applies them. What the other seven stand for, the daemon and the
+/// subcommands do by calls of their own, without a copy of the texts: `Give` by [`Clients::give`](crate::Clients::give), `Deliver`,
+/// `AddUser`, `Import` and `TakeOut` by the functions of these names, `TakeMail` by the store's `take_mail`, `DoUpkeep` by
+/// [`do_upkeep`](crate::do_upkeep). As values these seven are made by the crates of tests alone.
 #[derive(Drop)]
 pub enum Event {
     /// A client connects.
@@ -57,7 +63,7 @@ pub enum Event {
     /// The account of a text is made whole, under a name that has no account, or a closed one without mail.
     Import(AccountFile),
     /// An administrator maintains a user's account.
-    Keep {
+    DoUpkeep {
         /// The user's name.
         user: Octets,
         upkeep: Upkeep,

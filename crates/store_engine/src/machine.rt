@@ -3,7 +3,6 @@ ghost use Rattle.std.specs.Prelude.{◌≡◌, [], IsTrue, IfOk, IfSome, IfNone,
 ghost use Rattle.sqlite.specs.Held.{state};
 ghost use Rattle.sqlite.specs.State.{HasCleanDisk};
 ghost use Rattle.store_engine.specs.declared.event.Event.TheVariants.{Deliver};
-ghost use Rattle.store_accounts.specs.Cells.{borrowed_octets};
 ghost use Rattle.store_engine.specs.Terms.{terms};
 ghost use Rattle.store_engine.specs.Hosts as hosts;
 ghost use Rattle.store_engine.specs.Hosts.{host, host_with, EventAsksStore, IsEvent, IsGivenUp, IsSessionEvent, KeepsClients, SurvivesEvent, IsPrepared, ActsDelivery};
@@ -18,7 +17,7 @@ use crate::taking::{take_mail, take_out};
 use crate::upkeep::do_upkeep;
 use crate::user::add_user;
 use managesieve_sessions::Session;
-use octets::Octets;
+use octets::{Octets, as_deref};
 use sieve_exec::{Envelope, When};
 use sqlite::Alter;
 use std::alloc::{AllocError, Global};
@@ -184,7 +183,7 @@ fn carry_out<S: Alter>(
             let taken = take_mail(store, user.as_slice(), folder.as_slice());
             answer_of(taken.and(Ok(Answer::MailTaken)))
         }
-        Event::Keep { user, upkeep } => {
+        Event::DoUpkeep { user, upkeep } => {
             answer_of(do_upkeep(alloc, store, user.as_slice(), upkeep))
         }
     }
@@ -215,7 +214,7 @@ fn carry_out_free(
         | Event::Import(_)
         | Event::TakeOut { .. }
         | Event::TakeMail { .. }
-        | Event::Keep { .. } => None,
+        | Event::DoUpkeep { .. } => None,
     }
 }
 
@@ -236,18 +235,8 @@ fn carry_out_delivery<S: Alter>(
         return Err(refusal);
     }
     let envelope = envelope.try_clone(alloc)?;
-    let default = slice_of(default);
+    let default = as_deref(default);
     deliver(alloc, store, user, envelope, message, when, default)
-}
-
-/// The text's octets, if there is one.
-fn slice_of(text: &Option<Octets>) -> Option<&[u8]>
-    ensures { borrowed_octets result ≡ text.now }
-{
-    match text {
-        Some(text) => Some(text.as_slice()),
-        None => None,
-    }
 }
 
 fn answer_of(done: Result<Answer, Refusal>) -> Answer

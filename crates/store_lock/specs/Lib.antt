@@ -3,3 +3,4 @@ pub mod Closing
 pub mod Laws
 pub mod Memory
 pub mod Taken
+pub mod HeldStores

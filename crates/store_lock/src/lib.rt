@@ -3,11 +3,13 @@
 
 pub mod cause;
 mod file;
+mod held_store;
 mod identity;
 mod keeper;
 mod memory;
 mod note;
 
 pub use file::FileKeeper;
+pub use held_store::HeldStore;
 pub use keeper::{Keeper, StoreUnavailable};
 pub use memory::MemoryKeeper;

@@ -28,7 +28,7 @@ use Rattle.sqlite_keyed.proofs.ListLemmas.{map-map, filter-map, filter_none, map
 use Rattle.sqlite_keyed.proofs.KeyedLemmas.{same_int}
 use Rattle.sqlite_typed.proofs.TestLemmas.{at_ints}
 use Rattle.sqlite.proofs.Callers.{one_permutation}
-use Rattle.store_tables.specs.Forms.{over_table, over_two, nth_over, limited_from}
+use Rattle.store_tables.specs.Forms.{over_table, over_two, most_over, nth_over, limited_from}
 use Rattle.store_tables.specs.Rows.{Entry, id_of, cells_of, stored, IsHeld, has_key}
 
 pub has_map : {X Y : Type 0} (f : X → Y) (xs : List X) (x : X) → Has xs x → Has (map f xs) (f x)
@@ -166,6 +166,15 @@ module _ (db : Trees) (tree : ℕ) (terms project : List Term) (order : List (Te
         → (ordered : List Output) × IsPermutation (map show (filter p cells)) ordered × IsSorted (output_cmp nth_asked) ordered
         × (rows ≡ take 1 (drop (unwrap_or (as_count (eval offset (params ∷ []))) 0) (map (λ (o : Output). o.1) ordered)))
     nth_in_order show shows rows a = cells_paged (lit (Int (pos 1))) offset db tree terms project order params cells h p meets show shows rows a
+
+  -- the first of them, so many at most
+  module _ (n : ℕ) where
+    abbrev most_asked : Query
+    most_asked = (most_over n tree terms project order).body
+
+    pub most_in_order : (show : Row → Output) → ((i : ℤ) (cells : Row) → output most_asked (params ∷ (Int i ∷ cells) ∷ []) ≡ show cells) → (rows : List Row) → IsAnswer most_asked (overlay db []) params rows
+        → (ordered : List Output) × IsPermutation (map show (filter p cells)) ordered × IsSorted (output_cmp most_asked) ordered × (rows ≡ take n (map (λ (o : Output). o.1) ordered))
+    most_in_order show shows rows a = cells_paged (lit (Int (pos n))) (lit (Int (pos 0))) db tree terms project order params cells h p meets show shows rows a
 
 -- a query over two tables: its terms test the cells of the first, and those of a row of each; a row of the first that passes has one row of the other
 module _ (db : Trees) (tree other : ℕ) (terms project : List Term) (order : List (Term × Key)) (params : Row) (cells others : List Row) (h : IsHeld (db tree) cells) (k : IsHeld (db other) others) (p : Row → Bool) (q : Row → Row → Bool)

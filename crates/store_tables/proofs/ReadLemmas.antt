@@ -14,7 +14,7 @@ use Rattle.sqlite.specs.Listing.{understood, reads_listing}
 use Rattle.sqlite.specs.State.{State, Survives, Shown, ShowsRows, CommitsShowing, FailsToQuery, FailsToShow, IsNotRun, IsUnchanged, IsRolledBack}
 use Rattle.sqlite.proofs.StateLemmas.{survives_weaker}
 use Rattle.sqlite.proofs.Callers.{IsPlain, command_of, never_commits, reads_as}
-use Rattle.store_tables.specs.Forms.{over_table, over_from, nth_over, limited_from}
+use Rattle.store_tables.specs.Forms.{over_table, over_from, most_over, nth_over, limited_from}
 use Rattle.sqlite_sql.specs.Query.{Join, inner, end}
 
 module _ (schema : Schema) (sql : List ℕ) (params : Row) (old new : State) (has : old.now.schema ≡ schema) (plain : IsPlain (understood schema sql)) where
@@ -56,3 +56,8 @@ module _ (schema : Schema) (sql : List ℕ) (params : Row) (old new : State) (ha
   pub answered_nth : (offset : Term) (tree : ℕ) (terms project : List Term) (order : List (Term × Key)) (names : List (List ℕ)) → command_of (understood schema sql) ≡ Select (nth_over offset tree terms project order) names
       → reads_listing schema sql ≡ false → (rows : List Row) → Shown sql params old new rows → IsAnswer (nth_over offset tree terms project order).body (overlay old.now.trees []) params rows
   answered_nth offset tree = answered_limited (lit (Int (pos 1))) offset (inner tree end)
+
+  -- of the first rows of an answer
+  pub answered_most : (n tree : ℕ) (terms project : List Term) (order : List (Term × Key)) (names : List (List ℕ)) → command_of (understood schema sql) ≡ Select (most_over n tree terms project order) names
+      → reads_listing schema sql ≡ false → (rows : List Row) → Shown sql params old new rows → IsAnswer (most_over n tree terms project order).body (overlay old.now.trees []) params rows
+  answered_most n tree = answered_limited (lit (Int (pos n))) (lit (Int (pos 0))) (inner tree end)

@@ -79,3 +79,7 @@ nth_over offset tree = limited_from (lit (Int (pos 1))) offset (inner tree end)
 -- the first row
 abbrev pub first_over : ℕ → List Term → List Term → List (Term × Key) → Program
 first_over = nth_over (lit (Int (pos 0)))
+
+-- the first rows, so many at most
+abbrev pub most_over : ℕ → ℕ → List Term → List Term → List (Term × Key) → Program
+most_over n tree = limited_from (lit (Int (pos n))) (lit (Int (pos 0))) (inner tree end)

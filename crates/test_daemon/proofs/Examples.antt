@@ -10,7 +10,6 @@ use Rattle.store_engine.specs.Hosts.{SessionMap}
 use Rattle.store_engine.specs.World.{World, InSession, StepsSession, Next, Runs}
 use Rattle.store_engine.specs.declared.answer.Answer.{Answer}
 use Rattle.store_engine.specs.declared.answer.Answer.TheVariants.{Out, Ignored}
-use Rattle.store_engine.specs.declared.event.Event.{Event}
 use Rattle.store_engine.specs.declared.event.Event.TheVariants.{Step, TakeMail}
 use Rattle.daemon_core.specs.StoreAccess.{View, IsWorld}
 use Rattle.daemon_core.proofs.EventLemmas.{none_open}

@@ -1,15 +1,14 @@
 -- Events of others, and what follows them, on accounts that are kept in memory.
-use Rattle.std.proofs.Common.{◌≡◌, ℕ, inl, inr, true, List, [], ◌∷◌, ◌++◌, ◌∙◌, refl, sym, ap, subst}
+use Rattle.std.proofs.Common.{◌≡◌, ℕ, true, List, [], ◌∷◌, ◌++◌, refl, sym, subst}
 use Rattle.lmtp_dialogue.specs.declared.receiver.Lookup.{Lookup}
-use Rattle.store_accounts.specs.Account.{Accounts}
 use Rattle.store_engine.specs.Hosts.{SessionMap, HasClients}
-use Rattle.store_engine.specs.World.{World, Clients, Next}
+use Rattle.store_engine.specs.World.{World, Clients}
 use Rattle.store_engine.specs.declared.answer.Answer.{Answer}
 use Rattle.store_engine.specs.declared.event.Event.{Event}
-use Rattle.store_engine.specs.declared.event.Event.TheVariants.{Deliver, AddUser, Import, TakeOut, TakeMail, Keep}
+use Rattle.store_engine.specs.declared.event.Event.TheVariants.{Deliver, AddUser, Import, TakeOut, TakeMail, DoUpkeep}
 use Rattle.daemon_core.specs.StoreAccess.{View, ViewStillShows, IsOthers, AreOthers, IsEventDone, IsAccountAsked}
 use Rattle.daemon_core.proofs.EventLemmas.{runs_then, runs_one}
-use Rattle.maildir_moves.specs.Enduring.{MayLeave, ShowsTried, none_tried}
+use Rattle.maildir_moves.specs.Enduring.{ShowsTried, none_tried}
 use Rattle.maildir_moves.proofs.EnduringLemmas.{left_alone, left_then}
 use Rattle.maildir_moves.specs.declared.moving.Moving.{Moving}
 use Rattle.maildir_moves.specs.declared.moving.Moving.TheVariants as moving
@@ -29,7 +28,7 @@ stranger sessions (AddUser name address salt password) is = tt
 stranger sessions (Import file) is = tt
 stranger sessions (TakeOut user id) is = tt
 stranger sessions (TakeMail user folder) is = tt
-stranger sessions (Keep user upkeep) is = tt
+stranger sessions (DoUpkeep user upkeep) is = tt
 stranger sessions _ is = let never : ⊥ = cc in absurd never
 
 strangers_then : (sessions : Clients) (others : List Event) (event : Event) → AreOthers sessions others → IsOthers sessions event → AreOthers sessions (others ++ event ∷ [])

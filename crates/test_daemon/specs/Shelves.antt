@@ -10,7 +10,7 @@ use Rattle.maildir_moves.specs.declared.moving.Moving.{Moving}
 use Rattle.store_engine.specs.World.{World, Next, Runs}
 use Rattle.store_engine.specs.declared.answer.Answer.{Answer}
 use Rattle.store_engine.specs.declared.event.Event.{Event}
-use Rattle.store_engine.specs.declared.event.Event.TheVariants.{Deliver, AddUser, Import, TakeOut, TakeMail, Keep}
+use Rattle.store_engine.specs.declared.event.Event.TheVariants.{Deliver, AddUser, Import, TakeOut, TakeMail, DoUpkeep}
 use Rattle.daemon_core.specs.StoreAccess.{View, ViewStillShows, IsWorld, ComesTo, AreOthers, IsFoundIn}
 
 -- whatever accounts there were, the event with this answer leads from them to those that there are; if it was refused it was tried
@@ -66,5 +66,5 @@ is_of_accounts (AddUser name address salt password) = true
 is_of_accounts (Import file) = true
 is_of_accounts (TakeOut user id) = true
 is_of_accounts (TakeMail user folder) = true
-is_of_accounts (Keep user upkeep) = true
+is_of_accounts (DoUpkeep user upkeep) = true
 is_of_accounts event = false

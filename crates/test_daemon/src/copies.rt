@@ -4,7 +4,7 @@ ghost use Rattle.test_daemon.specs.Shelves as shelves;
 ghost use Rattle.store_engine.specs.Terms.{terms};
 ghost use Rattle.daemon_core.specs.StoreAccess.{delivery_of};
 
-use lmtp_connections::StoreDelivery;
+use lmtp_connections::DeliveryRequest;
 use octets::Octets;
 use sieve_exec::When;
 use std::alloc::{AllocError, Global};
@@ -26,19 +26,19 @@ pub fn copy_event(event: &Event) -> Option<Event>
 /// The event of a message for one recipient, by a host with this default script.
 pub fn copy_delivery(
     alloc: Global,
-    parcel: &StoreDelivery,
+    request: &DeliveryRequest,
     when: When,
     default: &Option<Octets>,
 ) -> Result<Event, AllocError>
-    ensures { IfOk result (λ event. event ≡ delivery_of parcel.now (terms when default.now)) }
+    ensures { IfOk result (λ event. event ≡ delivery_of request.now (terms when default.now)) }
 {
     Ok(Event::Deliver {
-        user: parcel.user.try_clone(alloc)?,
+        user: request.user.try_clone(alloc)?,
         envelope: Envelope {
-            from: parcel.sender.try_clone(alloc)?,
-            to: parcel.recipient.try_clone(alloc)?,
+            from: request.sender.try_clone(alloc)?,
+            to: request.recipient.try_clone(alloc)?,
         },
-        message: parcel.message.try_clone(alloc)?,
+        message: request.message.try_clone(alloc)?,
         when,
         default: copy_text(alloc, default)?,
     })
@@ -93,7 +93,7 @@ pub fn is_of_accounts(event: &Event) -> bool
         Event::Import(_) => true,
         Event::TakeOut { .. } => true,
         Event::TakeMail { .. } => true,
-        Event::Keep { .. } => true,
+        Event::DoUpkeep { .. } => true,
         _ => false,
     }
 }

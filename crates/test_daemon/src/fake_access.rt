@@ -1,17 +1,17 @@
 //! The outside of the daemon, in memory.
-ghost use Rattle.std.specs.Prelude.{◌≡◌, [], ◌∷◌, ◌++◌, true, false, IsTrue, IfSome, not, None};
+ghost use Rattle.std.specs.Prelude.{◌≡◌, [], ◌∷◌, ◌++◌, true, false, IsTrue, IfSome, not};
 ghost use Rattle.net_loop.specs.Told.{IsLoopAct, TellsIf};
 ghost use Rattle.net_loop.specs.declared.act.Act.TheVariants.{Noted};
 ghost use Rattle.store_engine.specs.Hosts.{SessionMap, IsGivenUp};
-ghost use Rattle.daemon_core.specs.StoreAccess.{AppliesEvent};
-ghost use Rattle.test_daemon.specs.FakeAccess.{is_told, acts_told_by, shelf_of};
+ghost use Rattle.daemon_core.specs.StoreAccess.{AppliesEvent, access_state};
+ghost use Rattle.test_daemon.specs.FakeAccess.{is_told, fake_telling, fake_store, shelf_of};
 ghost use Rattle.test_daemon.specs.Shelves.{LetsMore, LetsOthers, StillHas, is_of_accounts};
 
 use crate::copies::{copy_answer, copy_delivery, copy_event, is_of_accounts};
 use crate::shelf::Shelf;
 use daemon_core::note::Note;
 use daemon_core::store_access::StoreAccess;
-use lmtp_connections::StoreDelivery;
+use lmtp_connections::DeliveryRequest;
 use lmtp_dialogue::Lookup;
 use maildir_moves::span_behind;
 use net_loop::act::Act;
@@ -51,7 +51,7 @@ impl<S: Shelf + Drop> FakeAccess<S> {
     /// Notes what the daemon did with a connection; if there is no copy of it for the note nothing is told from now on.
     fn note_done(&mut self, id: u32, others: List<Event>, event: &Event, answer: &Answer)
         ensures kept { IsTrue (is_told self.new) → IsTrue (is_told self.old) }
-        ensures told { TellsIf is_told acts_told_by self.old (Noted id (Note.Did others event.now answer.now)) self.new }
+        ensures told { TellsIf fake_telling self.old (Noted id (Note.Did others event.now answer.now)) self.new }
         ensures left { self.new.stage.fake.rest ≡ self.old.stage.fake.rest }
     {
         match copy_event(event) {
@@ -65,7 +65,7 @@ impl<S: Shelf + Drop> FakeAccess<S> {
     /// The same, without a copy of the event.
     fn note_event(&mut self, id: u32, others: List<Event>, event: Event, answer: &Answer)
         ensures kept { IsTrue (is_told self.new) → IsTrue (is_told self.old) }
-        ensures told { TellsIf is_told acts_told_by self.old (Noted id (Note.Did others event answer.now)) self.new }
+        ensures told { TellsIf fake_telling self.old (Noted id (Note.Did others event answer.now)) self.new }
         ensures left { self.new.stage.fake.rest ≡ self.old.stage.fake.rest }
     {
         match copy_answer(self.stage.fake.alloc, answer) {
@@ -86,7 +86,7 @@ impl<S: Shelf + Drop> FakeAccess<S> {
     /// Notes what was found of an account.
     fn note_asked(&mut self, id: u32, others: List<Event>, user: &[u8], lookup: Lookup)
         ensures kept { IsTrue (is_told self.new) → IsTrue (is_told self.old) }
-        ensures told { TellsIf is_told acts_told_by self.old (Noted id (Note.Asked others user.now lookup)) self.new }
+        ensures told { TellsIf fake_telling self.old (Noted id (Note.Asked others user.now lookup)) self.new }
         ensures left { self.new.stage.fake.rest ≡ self.old.stage.fake.rest }
     {
         match Octets::from_slice(self.stage.fake.alloc, user) {
@@ -107,7 +107,7 @@ impl<S: Shelf + Drop> FakeAccess<S> {
     /// The same of an event that asks no store.
     fn note_freed(&mut self, id: u32, event: &Event, answer: &Answer)
         ensures kept { IsTrue (is_told self.new) → IsTrue (is_told self.old) }
-        ensures told { TellsIf is_told acts_told_by self.old (Noted id (Note.Freed event.now answer.now)) self.new }
+        ensures told { TellsIf fake_telling self.old (Noted id (Note.Freed event.now answer.now)) self.new }
         ensures left { self.new.stage.fake.rest ≡ self.old.stage.fake.rest }
     {
         match copy_event(event) {
@@ -136,7 +136,7 @@ impl<S: Shelf + Drop> FakeAccess<S> {
     fn bring(&mut self, id: u32, clients: &mut Clients, event: Event) -> Option<Answer>
         requires { ¬ IsGivenUp event }
         ensures kept { IsTrue (is_told self.new) → IsTrue (is_told self.old) }
-        ensures brings { AppliesEvent is_told acts_told_by shelf_of S.view (λ _. Unit {0}) id event self.old clients.old.sessions result self.new clients.new.sessions }
+        ensures brings { AppliesEvent fake_telling (fake_store S.view S.has) id event (access_state self.old clients.old.sessions) result (access_state self.new clients.new.sessions) }
     {
         if self.is_away() {
             self.stage.keep(Act::Noted(id, Note::Away));
@@ -202,11 +202,7 @@ impl<S: Shelf + Drop> Outside for FakeAccess<S> {
 
     type Rest = S;
 
-    ghost tells = { is_told };
-
-    ghost seen = { acts_told_by };
-
-    ghost rest = { shelf_of };
+    ghost told = { fake_telling };
 
     ghost broken = { λ _. false };
 }
@@ -264,7 +260,7 @@ impl<S: Shelf + Drop> Sockets for FakeAccess<S> {
 
     fn note(&mut self, act: Act<Note>)
         requires { IsLoopAct act }
-        ensures seen { TellsIf is_told acts_told_by self.old act self.new }
+        ensures seen { TellsIf fake_telling self.old act self.new }
         ensures left { self.new.stage.fake.rest ≡ self.old.stage.fake.rest }
         ensures kept { IsTrue (is_told self.new) → IsTrue (is_told self.old) }
     {
@@ -283,11 +279,7 @@ impl<S: Shelf + Drop> Clock for FakeAccess<S> {
 }
 
 impl<S: Shelf + Drop> StoreAccess for FakeAccess<S> {
-    ghost view = { S.view };
-
-    ghost clean = { λ _. Unit {0} };
-
-    ghost default = { λ _. None };
+    ghost store = { fake_store S.view S.has };
 
     fn apply_event(&mut self, id: u32, clients: &mut Clients, event: &Event) -> Option<Answer> {
         if self.is_away() {
@@ -320,10 +312,10 @@ impl<S: Shelf + Drop> StoreAccess for FakeAccess<S> {
         &mut self,
         id: u32,
         clients: &mut Clients,
-        parcel: &StoreDelivery,
+        request: &DeliveryRequest,
     ) -> Option<Answer> {
         let when = When::in_utc(self.stage.fake.moment / 1000);
-        match copy_delivery(self.stage.fake.alloc, parcel, when, &None) {
+        match copy_delivery(self.stage.fake.alloc, request, when, &None) {
             Ok(event) => self.bring(id, clients, event),
             Err(_) => {
                 self.stage.keep(Act::Noted(id, Note::Away));
@@ -331,8 +323,6 @@ impl<S: Shelf + Drop> StoreAccess for FakeAccess<S> {
             }
         }
     }
-
-    ghost has = { S.has };
 
     fn move_next(&mut self, clients: &mut Clients, now: u64, fresh: bool) -> Option<u64> {
         if self.is_away() {

@@ -1,16 +1,15 @@
 //! Accounts in a store in memory.
 ghost use Rattle.std.specs.Prelude.{◌≡◌};
 ghost use Rattle.store_engine.specs.declared.event.Event.TheVariants.{Deliver};
-ghost use Rattle.store_accounts.specs.Cells.{borrowed_octets};
 ghost use Rattle.test_daemon.specs.Shelves.{IsLet};
 ghost use Rattle.test_daemon.specs.Memory.{memory_view_of};
 
 use crate::shelf::Shelf;
-use daemon_core::account::find_account;
+use daemon_core::recipient_account::find_account;
 use lmtp_dialogue::Lookup;
 use maildir_files::MemorySink;
 use maildir_moves::{Moving, Route, move_next};
-use octets::Octets;
+use octets::{Octets, as_deref};
 use sieve_exec::When;
 use sqlite::MemStore;
 use std::alloc::{AllocError, Global};
@@ -86,7 +85,7 @@ impl Shelf for MemShelf {
             Event::TakeMail { user, folder } => {
                 take_mail(&mut self.store, user.as_slice(), folder.as_slice()).is_ok()
             }
-            Event::Keep { user, upkeep } => {
+            Event::DoUpkeep { user, upkeep } => {
                 do_upkeep(alloc, &mut self.store, user.as_slice(), upkeep).is_ok()
             }
             _ => false,
@@ -117,16 +116,6 @@ fn let_delivery(
     let Ok(envelope) = envelope.try_clone(alloc) else {
         return false;
     };
-    let default = slice_of(default);
+    let default = as_deref(default);
     deliver(alloc, store, user, envelope, message, when, default).is_ok()
-}
-
-/// The text's octets, if there is one.
-fn slice_of(text: &Option<Octets>) -> Option<&[u8]>
-    ensures { borrowed_octets result ≡ text.now }
-{
-    match text {
-        Some(text) => Some(text.as_slice()),
-        None => None,
-    }
 }

@@ -1,6 +1,6 @@
 //! Dialogues of LMTP: what a client is answered, by `lmtp_dialogue` alone, whose questions the address of a recipient answers.
-use lmtp_dialogue::reply::{DeliveryOutcome, LmtpReply};
-use lmtp_dialogue::{Delivery, LmtpStage, Lookup, Next, Receiver, TextFault};
+use lmtp_dialogue::reply::{LmtpReply, RecipientReply};
+use lmtp_dialogue::{LmtpStage, Lookup, Next, ReceivedMessage, Receiver, TextFault};
 use octets::Octets;
 use std::alloc::{AllocError, Global};
 use test_files::Answers;
@@ -113,9 +113,9 @@ impl Server {
                 let lookup = lookup_of(address);
                 self.receiver.resolve(lookup, out)?;
             }
-            Next::Delivery(delivery) => {
-                show(out, delivery)?;
-                let outcome = outcome_of(delivery);
+            Next::Delivery(received) => {
+                show(out, received)?;
+                let outcome = outcome_of(received);
                 self.receiver.report(outcome, out)?;
             }
         }
@@ -142,26 +142,26 @@ fn lookup_of(address: &[u8]) -> Lookup {
 }
 
 /// What becomes of a message, by the first word of its recipient's address and whether its text is kept.
-fn outcome_of(delivery: Delivery<'_>) -> DeliveryOutcome<'static> {
-    match delivery.text {
-        Ok(_) => outcome_for(front(delivery.recipient)),
-        Err(TextFault::TooLarge) => DeliveryOutcome::Refused(LmtpReply::MessageTooLarge),
-        Err(TextFault::Memory) => DeliveryOutcome::Refused(LmtpReply::NoRoom),
+fn outcome_of(received: ReceivedMessage<'_>) -> RecipientReply<'static> {
+    match received.text {
+        Ok(_) => outcome_for(front(received.recipient)),
+        Err(TextFault::TooLarge) => RecipientReply::Refused(LmtpReply::MessageTooLarge),
+        Err(TextFault::Memory) => RecipientReply::Refused(LmtpReply::NoRoom),
     }
 }
 
-fn outcome_for(word: &[u8]) -> DeliveryOutcome<'static> {
+fn outcome_for(word: &[u8]) -> RecipientReply<'static> {
     match word {
-        b"gone" => DeliveryOutcome::Refused(LmtpReply::NoSuchUser),
-        b"closed" => DeliveryOutcome::Refused(LmtpReply::AccountClosed),
-        b"from" => DeliveryOutcome::Refused(LmtpReply::BadSender),
-        b"bad" => DeliveryOutcome::Refused(LmtpReply::BadRecipient),
-        b"loop" => DeliveryOutcome::Refused(LmtpReply::MailLoop),
-        b"crowded" => DeliveryOutcome::Refused(LmtpReply::NoRoom),
-        b"late" => DeliveryOutcome::Refused(LmtpReply::StoreAway),
-        b"faulty" => DeliveryOutcome::Refused(LmtpReply::LocalFault),
-        b"lines" => DeliveryOutcome::Delivered(b"file A\r\n550 B"),
-        _ => DeliveryOutcome::Delivered(b"file INBOX"),
+        b"gone" => RecipientReply::Refused(LmtpReply::NoSuchUser),
+        b"closed" => RecipientReply::Refused(LmtpReply::AccountClosed),
+        b"from" => RecipientReply::Refused(LmtpReply::BadSender),
+        b"bad" => RecipientReply::Refused(LmtpReply::BadRecipient),
+        b"loop" => RecipientReply::Refused(LmtpReply::MailLoop),
+        b"crowded" => RecipientReply::Refused(LmtpReply::NoRoom),
+        b"late" => RecipientReply::Refused(LmtpReply::StoreAway),
+        b"faulty" => RecipientReply::Refused(LmtpReply::LocalFault),
+        b"lines" => RecipientReply::Delivered(b"file A\r\n550 B"),
+        _ => RecipientReply::Delivered(b"file INBOX"),
     }
 }
 
@@ -177,12 +177,12 @@ fn front(address: &[u8]) -> &[u8] {
 }
 
 /// A delivery, as `{SENDER RECIPIENT TEXT}`; of a text of more than 200 octets that it is long, and of one that isn't kept nothing.
-fn show(out: &mut Octets, delivery: Delivery<'_>) -> Result<(), AllocError> {
+fn show(out: &mut Octets, received: ReceivedMessage<'_>) -> Result<(), AllocError> {
     out.extend_from_slice(b"{")?;
-    out.extend_from_slice(delivery.sender)?;
+    out.extend_from_slice(received.sender)?;
     out.extend_from_slice(b" ")?;
-    out.extend_from_slice(delivery.recipient)?;
-    match delivery.text {
+    out.extend_from_slice(received.recipient)?;
+    match received.text {
         Ok(text) if text.len() > 200 => out.extend_from_slice(b" long")?,
         Ok(text) => {
             out.extend_from_slice(b" ")?;

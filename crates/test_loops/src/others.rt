@@ -90,5 +90,5 @@ fn removed_mail(alloc: Global, text: &[u8]) -> Result<Option<Event>, AllocError>
 /// `USER`, to whose account this is done.
 fn upkept(alloc: Global, user: &[u8], upkeep: Upkeep) -> Result<Option<Event>, AllocError> {
     let user = Octets::from_slice(alloc, user)?;
-    Ok(Some(Event::Keep { user, upkeep }))
+    Ok(Some(Event::DoUpkeep { user, upkeep }))
 }

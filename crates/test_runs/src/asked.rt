@@ -1,8 +1,8 @@
 //! What the words of the command line ask for.
-use clap::Error;
+use clap::{ArgMatches, Error};
 use cli_subcommands::{
     ArgsError, DrainArgs, FoldersArgs, NoticesArgs, RawArgs, StoreLocation, Subcommand,
-    read_command_line, read_files,
+    match_command_line, read_files, read_matches,
 };
 use octets::Octets;
 use std::alloc::{AllocError, Global};
@@ -12,19 +12,30 @@ use test_files::words_of;
 /// What the words ask for, with the values in them; or whether what `clap` says is an error.
 pub fn add_asked(alloc: Global, out: &mut Octets, words: &[u8]) -> Result<(), AllocError> {
     let words = RawArgs::new(alloc, words_of(alloc, words, "F")?)?;
-    match read_command_line(alloc, &words) {
-        Ok(Subcommand::Check(_)) => add_files(alloc, out, &words),
+    let matches = match match_command_line(alloc, &words) {
+        Ok(matches) => matches,
+        Err(error) => return add_unread(alloc, out, &error),
+    };
+    match read_matches(&words, &matches) {
+        Ok(Subcommand::Check(_)) => add_files(alloc, out, &matches),
         Ok(asked) => add(out, asked),
-        Err(ArgsError::Said(error)) => add_error(alloc, out, &error),
-        Err(ArgsError::Unknown) => out.extend_from_slice(b"no such word"),
-        Err(ArgsError::NotText) => out.extend_from_slice(b"a word that is no text"),
+        Err(error) => add_unread(alloc, out, &error),
+    }
+}
+
+/// Appends why the words ask for nothing.
+fn add_unread(alloc: Global, out: &mut Octets, error: &ArgsError) -> Result<(), AllocError> {
+    match error {
+        ArgsError::Said(error) => add_error(alloc, out, error),
+        ArgsError::Unknown => out.extend_from_slice(b"no such word"),
+        ArgsError::NotText => out.extend_from_slice(b"a word that is no text"),
     }
 }
 
 /// Appends the files that are to be checked.
-fn add_files(alloc: Global, out: &mut Octets, words: &RawArgs) -> Result<(), AllocError> {
+fn add_files(alloc: Global, out: &mut Octets, matches: &ArgMatches<'_>) -> Result<(), AllocError> {
     add_text(out, b"check")?;
-    match read_files(alloc, words) {
+    match read_files(alloc, matches) {
         Ok(files) => add_texts(out, &files),
         Err(ArgsError::Said(error)) => add_error(alloc, out, &error),
         Err(_) => out.extend_from_slice(b"no files"),

@@ -5,7 +5,8 @@ use octets::{List, Octets, Texts};
 use sqlite::MemStore;
 use std::alloc::{AllocError, Global};
 use store_accounts::{
-    KeptReply, Plan, Profile, QueuedMessage, Report, Store, VacationReply, VacationReport,
+    KeptReply, Plan, Profile, QueuedMessage, Report, SentMemory, Store, VacationReply,
+    VacationReport,
 };
 use store_engine::Refusal;
 use test_files::LinePart::{Number, Text};
@@ -32,6 +33,7 @@ pub fn commit(
         moment: 1_800_000_000,
         filed: copies(alloc)?,
         report: whole_report(alloc)?,
+        memory: SentMemory::none(alloc),
         reply: Some(reply(alloc)?),
     };
     store.commit_delivery(user, &plan)

@@ -62,7 +62,7 @@ impl DeliverySettings<'_> {
 /// The event that a section is, if it is one and its note says this.
 pub fn event(
     alloc: Global,
-    post: DeliverySettings<'_>,
+    settings: DeliverySettings<'_>,
     section: &Section<'_>,
     note: &str,
 ) -> Result<Option<Event>, AllocError> {
@@ -75,7 +75,7 @@ pub fn event(
         "close" => Ok(Some(Event::Close(session(note)))),
         "adduser" => new_user(alloc, note, section.text),
         "import" => import(alloc, section),
-        "deliver" => delivery(alloc, post, section, note),
+        "deliver" => delivery(alloc, settings, section, note),
         "takeout" => take_out(alloc, note),
         "takemail" => take_mail(alloc, note),
         _ => kept_up(alloc, section, note),
@@ -89,7 +89,7 @@ fn kept_up(alloc: Global, section: &Section<'_>, note: &str) -> Result<Option<Ev
         return Ok(None);
     };
     let user = decode_cell(alloc, user)?;
-    Ok(Some(Event::Keep { user, upkeep }))
+    Ok(Some(Event::DoUpkeep { user, upkeep }))
 }
 
 fn upkeep(alloc: Global, section: &Section<'_>, rest: &str) -> Result<Option<Upkeep>, AllocError> {
@@ -180,19 +180,19 @@ fn import(alloc: Global, section: &Section<'_>) -> Result<Option<Event>, AllocEr
 /// A message to be delivered to this user.
 fn delivery(
     alloc: Global,
-    post: DeliverySettings<'_>,
+    settings: DeliverySettings<'_>,
     section: &Section<'_>,
     user: &str,
 ) -> Result<Option<Event>, AllocError> {
     let message = octets_in(alloc, section)?;
     let user = Octets::from_slice(alloc, user.as_bytes())?;
-    let envelope = envelope(alloc, post.from)?;
+    let envelope = envelope(alloc, settings.from)?;
     Ok(Some(Event::Deliver {
         user,
         envelope,
         message,
-        when: post.when(),
-        default: post.default_text(alloc)?,
+        when: settings.when(),
+        default: settings.default_text(alloc)?,
     }))
 }
 

@@ -45,7 +45,7 @@ struct Talk<'a> {
     shown: Vec<bool>,
     /// The users who send commands, each over a session of its own, whose number is the user's place here.
     users: Vec<&'a str>,
-    post: DeliverySettings<'a>,
+    settings: DeliverySettings<'a>,
 }
 
 impl<'a> Sections<'a> for Talk<'a> {
@@ -63,7 +63,7 @@ impl<'a> Sections<'a> for Talk<'a> {
             "cut" => self.add_cut(alloc, section),
             "scan" => add_scan(alloc, &mut self.told, section),
             "from" | "moment" | "zone" | "default" => {
-                self.post = self.post.after(section);
+                self.settings = self.settings.after(section);
                 Ok(())
             }
             "send" => self.send(alloc, section),
@@ -93,7 +93,7 @@ impl<'a> Talk<'a> {
             events: Vec::new(alloc),
             shown: Vec::new(alloc),
             users: Vec::new(alloc),
-            post: DeliverySettings {
+            settings: DeliverySettings {
                 from: "",
                 moment: 0,
                 zone: "+0000",
@@ -180,7 +180,7 @@ impl<'a> Talk<'a> {
         section: &Section<'_>,
         note: &str,
     ) -> Result<bool, AllocError> {
-        match event(alloc, self.post, section, note)? {
+        match event(alloc, self.settings, section, note)? {
             Some(event) => {
                 self.push(event, true)?;
                 Ok(true)

@@ -213,7 +213,7 @@ impl Run<'_> {
             false,
             u64::MAX,
         );
-        let mut told = Octets::from_slice(alloc, journal.told())?;
+        let mut told = Octets::from_slice(alloc, journal.noted())?;
         told.extend_from_slice(if ended.is_ok() {
             b"left"
         } else {
@@ -225,7 +225,7 @@ impl Run<'_> {
         Ok(Answer {
             told,
             trace: Octets::from_slice(alloc, queue.trace())?,
-            noted: Octets::from_slice(alloc, journal.told())?,
+            noted: Octets::from_slice(alloc, journal.noted())?,
             seconds: journal.seconds(),
         })
     }

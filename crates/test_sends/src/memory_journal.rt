@@ -8,7 +8,7 @@ use std::alloc::{AllocError, Global};
 /// clock goes on when it pauses, and by a span at each look at it.
 #[derive(Drop)]
 pub struct MemoryJournal {
-    told: Octets,
+    noted: Octets,
     /// In milliseconds.
     clock: u64,
     span: u64,
@@ -17,15 +17,15 @@ pub struct MemoryJournal {
 impl MemoryJournal {
     pub fn new(alloc: Global, span: u64) -> MemoryJournal {
         MemoryJournal {
-            told: Octets::new(alloc),
+            noted: Octets::new(alloc),
             clock: 0,
             span,
         }
     }
 
     /// What it noted.
-    pub fn told(&self) -> &[u8] {
-        self.told.as_slice()
+    pub fn noted(&self) -> &[u8] {
+        self.noted.as_slice()
     }
 
     /// What its clock shows, in whole seconds.
@@ -34,27 +34,27 @@ impl MemoryJournal {
     }
 
     fn tell(&mut self, id: u64, ending: Ending) -> Result<(), AllocError> {
-        write_decimal(&mut self.told, id)?;
+        write_decimal(&mut self.noted, id)?;
         match ending {
-            Ending::Sent => self.told.extend_from_slice(b" sent"),
+            Ending::Sent => self.noted.extend_from_slice(b" sent"),
             Ending::Refused(code) => self.tell_code(b" refused ", code),
             Ending::Delayed(code) => self.tell_code(b" delayed ", code),
             Ending::OutOfPlace(code) => self.tell_code(b" unexpected ", code),
-            Ending::Lost => self.told.extend_from_slice(b" lost"),
-            Ending::Undeclared => self.told.extend_from_slice(b" undeclared"),
-            Ending::Unaddressed => self.told.extend_from_slice(b" unaddressed"),
+            Ending::Lost => self.noted.extend_from_slice(b" lost"),
+            Ending::Undeclared => self.noted.extend_from_slice(b" undeclared"),
+            Ending::Unaddressed => self.noted.extend_from_slice(b" unaddressed"),
         }?;
-        self.told.extend_from_slice(b"; ")
+        self.noted.extend_from_slice(b"; ")
     }
 
     fn tell_number(&mut self, id: u64, word: &[u8]) -> Result<(), AllocError> {
-        write_decimal(&mut self.told, id)?;
-        self.told.extend_from_slice(word)
+        write_decimal(&mut self.noted, id)?;
+        self.noted.extend_from_slice(word)
     }
 
     fn tell_code(&mut self, word: &[u8], code: u16) -> Result<(), AllocError> {
-        self.told.extend_from_slice(word)?;
-        write_decimal(&mut self.told, u64::from(code))
+        self.noted.extend_from_slice(word)?;
+        write_decimal(&mut self.noted, u64::from(code))
     }
 }
 

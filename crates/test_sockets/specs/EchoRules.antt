@@ -8,28 +8,28 @@ use Rattle.net_loop.specs.declared.machine.Want.TheVariants as want
 use Rattle.net_loop.specs.Rules.{Rules}
 use Rattle.test_sockets.specs.declared.echo_outside.EchoNote.{EchoNote}
 use Rattle.test_sockets.specs.declared.echo_outside.EchoNote.TheVariants.{Answered, Added, Ticked}
-use Rattle.test_sockets.specs.declared.echo.Guest.{Guest}
+use Rattle.test_sockets.specs.declared.echo.EchoClient.{EchoClient}
 use Rattle.test_sockets.specs.declared.echo.Echo.{Echo}
 
-abbrev pub guest_of : Echo → ℕ → Option Guest
-guest_of m id = tree.get nat_cmp m.guests id
+abbrev pub echo_client_of : Echo → ℕ → Option EchoClient
+echo_client_of m id = tree.get nat_cmp m.clients id
 
-abbrev pub echo_want_by : Option Guest → Want
+abbrev pub echo_want_by : Option EchoClient → Want
 echo_want_by (Some g) = g.want
 echo_want_by None = want.Done
 
-abbrev pub echo_deadline_by : Option Guest → ℕ
+abbrev pub echo_deadline_by : Option EchoClient → ℕ
 echo_deadline_by (Some g) = g.deadline
 echo_deadline_by None = 0
 
 -- of the third kind one that hasn't said a line makes room, and of the fourth one that came a second ago; the first that came before others
-abbrev pub claim_of : ℕ → Guest → Option Claim
+abbrev pub claim_of : ℕ → EchoClient → Option Claim
 claim_of now g =
     if g.known then None
     else if g.kind == 3 || ((g.kind == 4) && nat_le ((g.came + 1000) % 2 ^ 64) now) then Some (record { rank = 0; moment = g.came })
     else None
 
-abbrev pub echo_claim_by : ℕ → Option Guest → Option Claim
+abbrev pub echo_claim_by : ℕ → Option EchoClient → Option Claim
 echo_claim_by now (Some g) = claim_of now g
 echo_claim_by now None = None
 
@@ -49,16 +49,16 @@ echo_farewell = 101 ∷ 110 ∷ 100 ∷ 13 ∷ 10 ∷ []
 abbrev pub echo_rules : Rules Echo EchoNote ℕ
 echo_rules = record {
   limit = λ kind. if kind == 1 then 64 else 2;
-  claim = λ m now id. echo_claim_by now (guest_of m id);
-  wants = λ m id. echo_want_by (guest_of m id);
+  claim = λ m now id. echo_claim_by now (echo_client_of m id);
+  wants = λ m id. echo_want_by (echo_client_of m id);
   has_work = λ m now. not (nat_lt now m.due);
   patience = λ m. 1000;
-  deadline = λ m id. echo_deadline_by (guest_of m id);
+  deadline = λ m id. echo_deadline_by (echo_client_of m id);
   opens = λ m now kind id said n. (said ≡ echo_greeting) × (n.due ≡ m.due);
   gives = λ m now id piece said n. (said ≡ []) × (n.due ≡ m.due);
   steps = λ m r now id note said n q. Totals note r q × (n.due ≡ m.due);
   lates = λ m now id said n. (said ≡ echo_farewell) × (n.due ≡ m.due);
   works = λ m r now note n q. (note ≡ Ticked) × (q ≡ r) × (n.due ≡ (now + 1000) % 2 ^ 64);
   lacks = λ m id n. n.due ≡ m.due;
-  closes = λ m now id n. (guest_of n id ≡ None) × (n.due ≡ m.due);
+  closes = λ m now id n. (echo_client_of n id ≡ None) × (n.due ≡ m.due);
 }

@@ -1,7 +1,7 @@
 //! A machine that says back each line.
 ghost use Rattle.std.specs.Prelude.{◌≡◌, ◌<◌, ◌==◌, ◌&&◌, [], length, IfSome, find, option_map, if◌then◌else◌, not, None, Some};
 ghost use Rattle.std.specs.BTreeMap as tree;
-ghost use Rattle.test_sockets.specs.EchoRules.{echo_rules, echo_claim_by, echo_want_by, echo_deadline_by, guest_of};
+ghost use Rattle.test_sockets.specs.EchoRules.{echo_rules, echo_claim_by, echo_want_by, echo_deadline_by, echo_client_of};
 
 use crate::echo_outside::EchoOutside;
 use net_loop::machine::{Claim, Machine, Want};
@@ -23,7 +23,7 @@ const PERIOD: u64 = 1000;
 
 /// A client.
 #[derive(Drop)]
-pub struct Guest {
+pub struct EchoClient {
     pub id: u32,
     pub kind: u32,
     /// The moment at which it came.
@@ -43,7 +43,7 @@ pub struct Guest {
 #[derive(Drop)]
 pub struct Echo {
     pub alloc: Global,
-    pub guests: BTreeMap<u32, Guest>,
+    pub clients: BTreeMap<u32, EchoClient>,
     /// When it works next.
     pub due: u64,
 }
@@ -61,7 +61,7 @@ impl Echo {
     pub fn new(alloc: Global) -> Echo {
         Echo {
             alloc,
-            guests: BTreeMap::new(alloc),
+            clients: BTreeMap::new(alloc),
             due: PERIOD,
         }
     }
@@ -72,14 +72,14 @@ impl Echo {
     {
         let alloc = self.alloc;
         out.reserve(MAX_ANSWER)?;
-        match self.guests.get_mut(&id) {
-            Some(guest) => guest.take(alloc, now, out),
+        match self.clients.get_mut(&id) {
+            Some(client) => client.take(alloc, now, out),
             None => Ok(Asked::Nothing),
         }
     }
 }
 
-impl Guest {
+impl EchoClient {
     /// What it wants next.
     fn look(&mut self) {
         self.want = next_want(self.unread.as_slice());
@@ -205,22 +205,22 @@ impl<O: EchoOutside> Machine<O> for Echo {
     }
 
     fn claim(&self, now: u64, id: u32) -> Option<Claim> {
-        match self.guests.get(&id) {
-            Some(guest) => guest.claim(now),
+        match self.clients.get(&id) {
+            Some(client) => client.claim(now),
             None => None,
         }
     }
 
     fn wants(&self, id: u32) -> Want {
-        match self.guests.get(&id) {
-            Some(guest) => guest.want,
+        match self.clients.get(&id) {
+            Some(client) => client.want,
             None => Want::Done,
         }
     }
 
     fn deadline(&self, id: u32) -> u64 {
-        match self.guests.get(&id) {
-            Some(guest) => guest.deadline,
+        match self.clients.get(&id) {
+            Some(client) => client.deadline,
             None => 0,
         }
     }
@@ -234,7 +234,7 @@ impl<O: EchoOutside> Machine<O> for Echo {
     }
 
     fn open(&mut self, now: u64, kind: u32, id: u32, out: &mut Octets) -> Result<(), AllocError> {
-        let guest = Guest {
+        let client = EchoClient {
             id,
             kind,
             came: now,
@@ -244,7 +244,7 @@ impl<O: EchoOutside> Machine<O> for Echo {
             span: None,
             deadline: now.wrapping_add(MAX_SILENCE),
         };
-        if self.guests.insert(id, guest).is_err() {
+        if self.clients.insert(id, client).is_err() {
             return Err(AllocError);
         }
         out.extend_from_slice(b"hi\r\n")
@@ -257,11 +257,11 @@ impl<O: EchoOutside> Machine<O> for Echo {
         piece: &[u8],
         out: &mut Octets,
     ) -> Result<(), AllocError> {
-        let Some(guest) = self.guests.get_mut(&id) else {
+        let Some(client) = self.clients.get_mut(&id) else {
             return Ok(());
         };
-        guest.unread.extend_from_slice(piece)?;
-        guest.look();
+        client.unread.extend_from_slice(piece)?;
+        client.look();
         Ok(())
     }
 
@@ -292,6 +292,6 @@ impl<O: EchoOutside> Machine<O> for Echo {
     }
 
     fn close(&mut self, now: u64, id: u32) {
-        let _ = self.guests.remove(&id);
+        let _ = self.clients.remove(&id);
     }
 }

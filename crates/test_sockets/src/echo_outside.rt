@@ -1,6 +1,6 @@
 //! What the echo acts on: a total.
 ghost use Rattle.std.specs.Prelude.{◌≡◌, ◌+◌, ◌%◌, ◌^◌, IsTrue};
-ghost use Rattle.net_loop.specs.Told.{TellsIf, LeavesIf};
+ghost use Rattle.net_loop.specs.Told.{ToldBefore, TellsIf, LeavesIf};
 ghost use Rattle.net_loop.specs.declared.act.Act.TheVariants.{Noted, Worked};
 ghost use Rattle.test_sockets.specs.declared.echo_outside.EchoNote.TheVariants.{Answered, Added, Ticked};
 
@@ -23,22 +23,22 @@ pub enum EchoNote {
 pub trait EchoOutside: Outside<Note = EchoNote, Rest = u64> {
     /// Adds to the total, which begins anew after 2^64 - 1, and returns it.
     fn add(&mut self, id: u32, count: u64) -> u64
-        ensures told { TellsIf Self.tells Self.seen self.old (Noted id (Added count)) self.new }
-        ensures total { IsTrue (Self.tells self.new) → Self.rest self.new ≡ (Self.rest self.old + count) % 2 ^ 64 }
-        ensures result { IsTrue (Self.tells self.new) → result ≡ Self.rest self.new }
-        ensures kept { IsTrue (Self.tells self.new) → IsTrue (Self.tells self.old) };
+        ensures told { TellsIf Self.told self.old (Noted id (Added count)) self.new }
+        ensures total { IsTrue (Self.told.tells self.new) → Self.told.rest self.new ≡ (Self.told.rest self.old + count) % 2 ^ 64 }
+        ensures result { IsTrue (Self.told.tells self.new) → result ≡ Self.told.rest self.new }
+        ensures kept { ToldBefore Self.told self.old self.new };
 
     /// Notes that nothing was done but to answer.
     fn answered(&mut self, id: u32)
-        ensures told { TellsIf Self.tells Self.seen self.old (Noted id Answered) self.new }
-        ensures left { LeavesIf Self.tells Self.rest self.old self.new }
-        ensures kept { IsTrue (Self.tells self.new) → IsTrue (Self.tells self.old) };
+        ensures told { TellsIf Self.told self.old (Noted id Answered) self.new }
+        ensures left { LeavesIf Self.told self.old self.new }
+        ensures kept { ToldBefore Self.told self.old self.new };
 
     /// Notes that a second passed.
     fn ticked(&mut self)
-        ensures told { TellsIf Self.tells Self.seen self.old (Worked Ticked) self.new }
-        ensures left { LeavesIf Self.tells Self.rest self.old self.new }
-        ensures kept { IsTrue (Self.tells self.new) → IsTrue (Self.tells self.old) };
+        ensures told { TellsIf Self.told self.old (Worked Ticked) self.new }
+        ensures left { LeavesIf Self.told self.old self.new }
+        ensures kept { ToldBefore Self.told self.old self.new };
 }
 
 impl EchoOutside for FakeNetwork<EchoNote, u64> {

@@ -207,11 +207,7 @@ impl<N: Drop, R: Drop> Outside for Fake<N, R> {
 
     type Rest = R;
 
-    ghost tells = { λ fake. not fake.lost };
-
-    ghost seen = { λ fake. fake.acts.items };
-
-    ghost rest = { λ fake. fake.rest };
+    ghost told = { record { tells = λ fake. not fake.lost; seen = λ fake. fake.acts.items; rest = λ fake. fake.rest } };
 
     ghost broken = { λ _. false };
 }

@@ -59,7 +59,7 @@ impl<O: HasFakeNetwork + Drop, M: Machine<O> + Drop, W: ScheduleOwner<O> + Drop>
 
     fn play_entry(&mut self, line: usize, entry: &Entry) -> Result<(), AllocError> {
         match entry {
-            Entry::Of(name, deed) => self.play_deed(line, name.as_slice(), deed),
+            Entry::Of(name, peer_act) => self.play_peer_act(line, name.as_slice(), peer_act),
             Entry::Clock(moment) => self.outside.stage().set_clock(*moment),
             Entry::Pause => self.settle(line),
             Entry::Own(text) => {
@@ -91,36 +91,41 @@ impl<O: HasFakeNetwork + Drop, M: Machine<O> + Drop, W: ScheduleOwner<O> + Drop>
         self.checks.push(check)
     }
 
-    fn play_deed(&mut self, line: usize, name: &[u8], deed: &PeerAct) -> Result<(), AllocError> {
-        match deed {
+    fn play_peer_act(
+        &mut self,
+        line: usize,
+        name: &[u8],
+        peer_act: &PeerAct,
+    ) -> Result<(), AllocError> {
+        match peer_act {
             PeerAct::Comes(kind) => {
                 let name = Octets::from_slice(self.alloc, name)?;
                 self.outside.stage().come(name, *kind)
             }
             PeerAct::Has(_) | PeerAct::IsOpen | PeerAct::IsShut | PeerAct::IsClosed => {
                 self.settle(line)?;
-                self.look(line, name, deed)
+                self.look(line, name, peer_act)
             }
-            _ => self.act_as(line, name, deed),
+            _ => self.act_as(line, name, peer_act),
         }
     }
 
     /// A client does something.
-    fn act_as(&mut self, line: usize, name: &[u8], deed: &PeerAct) -> Result<(), AllocError> {
+    fn act_as(&mut self, line: usize, name: &[u8], peer_act: &PeerAct) -> Result<(), AllocError> {
         let stage = self.outside.stage();
         stage.idle = 0;
         match find_peer(&mut stage.peers, name) {
-            Some(peer) => act_by(self.alloc, peer, deed),
+            Some(peer) => act_by(self.alloc, peer, peer_act),
             None => self.check(line, b"a client that came", name),
         }
     }
 
     /// What a client got.
-    fn look(&mut self, line: usize, name: &[u8], deed: &PeerAct) -> Result<(), AllocError> {
+    fn look(&mut self, line: usize, name: &[u8], peer_act: &PeerAct) -> Result<(), AllocError> {
         let alloc = self.alloc;
         match find_peer(&mut self.outside.stage().peers, name) {
             Some(peer) => {
-                let (wanted, got) = seen_by(alloc, peer, deed)?;
+                let (wanted, got) = seen_by(alloc, peer, peer_act)?;
                 self.checks.push(ScheduleCheck { line, wanted, got })
             }
             None => self.check(line, b"a client that came", name),
@@ -147,9 +152,9 @@ fn find_peer<'a>(peers: &'a mut Vec<FakePeer>, name: &[u8]) -> Option<&'a mut Fa
     peers.get_mut(at)
 }
 
-fn act_by(alloc: Global, peer: &mut FakePeer, deed: &PeerAct) -> Result<(), AllocError> {
+fn act_by(alloc: Global, peer: &mut FakePeer, peer_act: &PeerAct) -> Result<(), AllocError> {
     peer.news = true;
-    match deed {
+    match peer_act {
         PeerAct::Says(text) => return say(alloc, peer, text.as_slice()),
         PeerAct::Goes => {
             peer.side = Side::Over;
@@ -186,9 +191,9 @@ fn say(alloc: Global, peer: &mut FakePeer, text: &[u8]) -> Result<(), AllocError
 fn seen_by(
     alloc: Global,
     peer: &mut FakePeer,
-    deed: &PeerAct,
+    peer_act: &PeerAct,
 ) -> Result<(Octets, Octets), AllocError> {
-    match deed {
+    match peer_act {
         PeerAct::Has(text) => {
             let got = peer.sent.try_clone(alloc)?;
             peer.sent = Octets::new(alloc);
@@ -196,7 +201,7 @@ fn seen_by(
         }
         _ => {
             let got = Octets::from_slice(alloc, state_of(peer))?;
-            Ok((Octets::from_slice(alloc, state_wanted(deed))?, got))
+            Ok((Octets::from_slice(alloc, state_wanted(peer_act))?, got))
         }
     }
 }
@@ -211,8 +216,8 @@ fn state_of(peer: &FakePeer) -> &'static [u8] {
     }
 }
 
-fn state_wanted(deed: &PeerAct) -> &'static [u8] {
-    match deed {
+fn state_wanted(peer_act: &PeerAct) -> &'static [u8] {
+    match peer_act {
         PeerAct::IsClosed => b"closed",
         PeerAct::IsShut => b"shut",
         _ => b"open",

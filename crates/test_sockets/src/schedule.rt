@@ -122,19 +122,19 @@ fn parse_entry(alloc: Global, line: &[u8]) -> Result<Option<Entry>, AllocError> 
             Some(moment) => Some(Entry::Clock(moment)),
             None => None,
         }),
-        _ => parse_deed_of(alloc, first, rest),
+        _ => parse_peer_entry(alloc, first, rest),
     }
 }
 
-fn parse_deed_of(alloc: Global, name: &[u8], rest: &[u8]) -> Result<Option<Entry>, AllocError> {
+fn parse_peer_entry(alloc: Global, name: &[u8], rest: &[u8]) -> Result<Option<Entry>, AllocError> {
     let (verb, what) = split_word(rest);
-    match parse_deed(alloc, verb, what)? {
-        Some(deed) => Ok(Some(Entry::Of(Octets::from_slice(alloc, name)?, deed))),
+    match parse_peer_act(alloc, verb, what)? {
+        Some(peer_act) => Ok(Some(Entry::Of(Octets::from_slice(alloc, name)?, peer_act))),
         None => Ok(None),
     }
 }
 
-fn parse_deed(alloc: Global, verb: &[u8], what: &[u8]) -> Result<Option<PeerAct>, AllocError> {
+fn parse_peer_act(alloc: Global, verb: &[u8], what: &[u8]) -> Result<Option<PeerAct>, AllocError> {
     match verb {
         b"says" => Ok(match parse_text(alloc, what)? {
             Some(text) => Some(PeerAct::Says(text)),

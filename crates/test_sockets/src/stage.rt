@@ -243,11 +243,7 @@ impl<N: Drop, R: Drop> Outside for FakeNetwork<N, R> {
 
     type Rest = R;
 
-    ghost tells = { λ stage. not stage.fake.lost };
-
-    ghost seen = { λ stage. stage.fake.acts.items };
-
-    ghost rest = { λ stage. stage.fake.rest };
+    ghost told = { record { tells = λ stage. not stage.fake.lost; seen = λ stage. stage.fake.acts.items; rest = λ stage. stage.fake.rest } };
 
     ghost broken = { λ _. false };
 }

@@ -1,7 +1,7 @@
 -- The account was looked for, and then messages were moved.
 use Rattle.std.proofs.Common.{◌≡◌, ◌⊎◌, Ok, Err, IfErr, inl, inr, ap, subst, sym, refl, rules}
 use Rattle.sqlite.specs.Held.{state}
-use Rattle.cli_run.specs.Draining.{Drains, HasRefused, IsUnkept}
+use Rattle.cli_run.specs.Draining.{Drains, HasRefused, IsUnkept, sink_mails}
 use Rattle.cli_run.specs.declared.fault.RunFault.TheVariants.{Refused}
 use Rattle.cli_run.specs.Faults.{no_user, IsSudden}
 use Rattle.cli_run.proofs.LeaveLemmas.{grown_none}
@@ -24,7 +24,7 @@ returns-in_err-enter-clause-moves g c =
     let refusal = c.in_err-enter.field-0.0 in
     let kept = g.T.MailSink.kept c.args.sink.now in
     let is : c.from_residual.result ≡ Err (Refused refusal) = search rules in
-    subst (λ r. Drains c.args.user.now c.args.folder.now g.T.MailSink.tells kept kept c.args.most r (state g.S.Store c.args.store.now) (state g.S.Store c.enter.new.self)) (sym is)
+    subst (λ r. Drains c.args.user.now c.args.folder.now (sink_mails g.T.MailSink.tells kept kept) c.args.most r (state g.S.Store c.args.store.now) (state g.S.Store c.enter.new.self)) (sym is)
     (not_entered c.args.user.now c.args.folder.now g.T.MailSink.tells kept kept c.args.most (state g.S.Store c.args.store.now) (state g.S.Store c.enter.new.self) (Err refusal) c.in_err-enter.ensures refusal refl
     (grown_none c.args.user.now c.args.folder.now g.T.MailSink.tells kept))
 

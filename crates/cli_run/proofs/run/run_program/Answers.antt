@@ -1,52 +1,10 @@
--- A run tries a script, does what a word does, or tells what is wrong with the words; its status is that of how it ended.
-use Rattle.std.proofs.Common.{Ok, Err, refl, sym, ◌∙◌, subst}
+-- A run does what the arguments ask for as they were read, or tells what is wrong with them.
+use Rattle.std.proofs.Common.{Ok, Err, refl, subst}
 use Rattle.cli_subcommands.specs.Asks.{WasRead}
-use Rattle.cli_subcommands.specs.declared.subcommand.Subcommand.TheVariants.{Try}
-use Rattle.cli_run.specs.Draining.{HasRefused}
-use Rattle.cli_run.specs.Faults.{cause_of, text_said}
-use Rattle.cli_run.specs.Serving.{HasDenied, HasGiven}
-use Rattle.cli_run.specs.Subcommands.{DoesSubcommand}
-use Rattle.cli_run.proofs.RunLemmas.{ran}
-use Rattle.cli_run.proofs.StatusLemmas.{done_so}
-use Rattle.store_accounts.specs.Cells.{borrowed_octets}
 use Rattle.cli_run.proofs.run.run_program.Goals as goal
 
-pub returns-in_default : goal.returns-in_default
-returns-in_default g c =
-    let told = c.conclude.ensures in
-    let Denied = HasDenied g.K.Keeper.refuses g.K.Keeper.will_wait in
-    let given = g.R.Read.remaining c.args.input.now in
-    let had = g.T.MailSink.kept c.args.sink.now in
-    let has = g.T.MailSink.kept c.act-done.new.sink in
-    let out_old = g.W.Write.contents c.args.output.now in
-    let out_new = g.W.Write.contents c.act-done.new.output in
-    let held = g.K.Keeper.holds c.args.keeper.now in
-    let asked = c.in-Ok.asked in
-    record {
-      unread = λ is. c.act-done.ensures.unread (sym told.status ∙ is);
-      reads = λ is. done_so c.act-done.result _ c.act-done.ensures.reads (sym told.status ∙ is);
-      back = λ h. told.kept ∙ c.act-done.ensures.back h;
-      runs = λ tells. (
-        Ok asked,
-        subst (WasRead c.args.words.now) c.in-Ok.is c.read_command_line.ensures,
-        ran Denied (HasRefused g.T.MailSink.refuses) (HasGiven g.K.Keeper.gives g.K.Keeper.will_wait) (g.T.MailSink.is_at c.act-done.new.sink) (cause_of (g.K.Keeper.said c.conclude.new.keeper) (text_said (g.T.MailSink.said c.act-done.new.sink))) c.args.clock c.args.random (borrowed_octets c.args.default) given (g.R.Read.remaining c.act-done.new.input) g.T.MailSink.tells had has out_old out_new (g.E.Write.contents c.args.errors.now) (g.E.Write.contents c.conclude.new.errors) c.conclude.result held
-            (g.K.Keeper.holds c.conclude.new.keeper) asked c.in_default.not-Try (record {
-              ending = c.act-done.result;
-              ended = told.status;
-              unclosed = g.K.Keeper.unclosed c.act-done.new.keeper;
-              told = told.told;
-              did = subst (DoesSubcommand Denied (HasRefused g.T.MailSink.refuses) c.args.clock c.args.random (borrowed_octets c.args.default) given (g.R.Read.remaining c.act-done.new.input) g.T.MailSink.tells had has out_old out_new asked c.act-done.result held) (sym (told.same tells)) (c.act-done.ensures.does tells);
-              reached = c.act-done.ensures.reaches;
-            }),
-      );
-      asked = λ h. told.asked;
-    }
-
-pub returns-in-Try-clause-runs : goal.returns-in-Try-clause-runs
-returns-in-Try-clause-runs g c tells =
-    let line = c.args.words.now in
-    let read = subst (WasRead line) c.in-Ok.is c.read_command_line.ensures in
-    (Ok (Try c.in-Try.asked), subst (λ asked. WasRead line (Ok asked)) c.in-Try.is read, (c.try_script.ensures.runs, ((λ told. refl), refl)))
+pub returns-in-Ok-clause-runs : goal.returns-in-Ok-clause-runs
+returns-in-Ok-clause-runs g c tells = (Ok c.in-Ok.asked, subst (WasRead c.args.words.now) c.in-Ok.is c.read_command_line.ensures, c.run_subcommand.ensures.runs tells)
 
 pub returns-in-Err-clause-runs : goal.returns-in-Err-clause-runs
 returns-in-Err-clause-runs g c tells =

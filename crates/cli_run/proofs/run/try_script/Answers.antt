@@ -7,6 +7,7 @@ use Rattle.cli_run.specs.declared.fault.RunFault.{RunFault}
 use Rattle.cli_run.specs.declared.fault.RunFault.TheVariants.{BadArgument, Stream}
 use Rattle.cli_run.proofs.WordLemmas.{kept_same}
 use Rattle.cli_run.proofs.run.try_script.Goals as goal
+use Rattle.cli_run.specs.Transitions.{from_to}
 
 pub returns-in-Err-clause-runs : goal.returns-in-Err-clause-runs
 returns-in-Err-clause-runs g c =
@@ -15,7 +16,7 @@ returns-in-Err-clause-runs g c =
       | inr late ↦ inr (inr (late.1, late.2, nothing Stream late.0))
     ]
   where
-    nothing : (fault : RunFault) → c.in-Err.fault ≡ fault → TriesNothing fault (g.W.Write.contents c.args.output.now) (g.W.Write.contents c.args.output.now) (g.E.Write.contents c.args.errors.now) (g.E.Write.contents c.refuse.new.errors) c.refuse.result
+    nothing : (fault : RunFault) → c.in-Err.fault ≡ fault → TriesNothing fault (from_to (g.W.Write.contents c.args.output.now) (g.W.Write.contents c.args.output.now)) (from_to (g.E.Write.contents c.args.errors.now) (g.E.Write.contents c.refuse.new.errors)) c.refuse.result
     nothing fault is = (c.refuse.ensures.status ∙ ap status_of is, refl, subst (λ (told : RunFault). IsWritten (g.E.Write.contents c.args.errors.now) (g.E.Write.contents c.refuse.new.errors) (run_fault_line told)) is c.refuse.ensures.line)
 
 pub returns-in-Ok-envelope_of-clause-runs : goal.returns-in-Ok-envelope_of-clause-runs
@@ -23,7 +24,7 @@ returns-in-Ok-envelope_of-clause-runs g c =
     inl (
       c.in-Ok.when,
       c.in-Ok.ensures.ok,
-      subst (λ envelope. RunsTry envelope c.in-Ok.when (g.R.Read.remaining c.args.input.now) (g.W.Write.contents c.args.output.now) (g.W.Write.contents c.try_run.new.output) (g.E.Write.contents c.args.errors.now) (g.E.Write.contents c.try_run.new.errors) c.try_run.result)
+      subst (λ envelope. RunsTry envelope c.in-Ok.when (g.R.Read.remaining c.args.input.now) (from_to (g.W.Write.contents c.args.output.now) (g.W.Write.contents c.try_run.new.output)) (from_to (g.E.Write.contents c.args.errors.now) (g.E.Write.contents c.try_run.new.errors)) c.try_run.result)
           c.in-Ok-envelope_of.ensures c.try_run.ensures.runs,
     )
 
@@ -32,5 +33,5 @@ returns-in-Err-envelope_of-clause-runs g c =
     inl (
       c.in-Ok.when,
       c.in-Ok.ensures.ok,
-      record { ending = Err memory; told = c.refuse-in-Err-envelope_of.ensures.status; output = kept_same (g.W.Write.contents c.args.output.now); errors = c.refuse-in-Err-envelope_of.ensures.line },
+      record { ending = Err memory; told = c.refuse-in-Err-envelope_of.ensures.status; left_output = kept_same (g.W.Write.contents c.args.output.now); left_errors = c.refuse-in-Err-envelope_of.ensures.line },
     )

@@ -1,7 +1,7 @@
 -- All was read, the script was put to the machine, and what came of that is told.
 use Rattle.std.proofs.Common.{◌≡◌, Err, ap, ◌∙◌, subst, sym, rules}
 use Rattle.store_engine.specs.declared.answer.Answer.TheVariants.{Stored}
-use Rattle.store_engine.specs.declared.event.Event.TheVariants.{Keep}
+use Rattle.store_engine.specs.declared.event.Event.TheVariants.{DoUpkeep}
 use Rattle.store_engine.specs.declared.upkeep.Upkeep.TheVariants.{StoreScript}
 use Rattle.cli_run.specs.Faults.{memory}
 use Rattle.cli_run.specs.Serving.{HasDenied}
@@ -45,11 +45,11 @@ returns-in_err-verdict-clause-does g c tells =
     let fault = c.in_err-verdict.field-0.0 in
     let text = c.from_vec.result in
     let act = StoreScript c.in_ok-name.name text asked.activate in
-    let event = Keep c.as_bytes-2.result.now act in
+    let event = DoUpkeep c.as_bytes-2.result.now act in
     let whom : c.as_bytes-2.result.now ≡ asked.user.now = search rules in
     let named : c.in_ok-name.name ≡ asked.script.now = search rules in
     let read : text ≡ c.in_ok-octets.octets.items = search rules in
-    let same : event ≡ Keep asked.user.now (StoreScript asked.script.now text asked.activate) = ap (λ u. Keep u act) whom ∙ ap (λ n. Keep asked.user.now (StoreScript n text asked.activate)) named in
+    let same : event ≡ DoUpkeep asked.user.now (StoreScript asked.script.now text asked.activate) = ap (λ u. DoUpkeep u act) whom ∙ ap (λ n. DoUpkeep asked.user.now (StoreScript n text asked.activate)) named in
     let own : Own event = record { text = text; read = subst (ReadsAll given) (sym read) c.in_ok-octets.ensures.ok; same = same } in
     put_as_event (DeniedAtEnd Kept left) Own out out held new c.from_residual-in_err-verdict.result
     (event_unmade InputFailed ⊥ (DeniedAtEnd Kept left) Own {X = Unit {0}} event own (λ done. Stored) held new out (λ no. no) fault c.from_residual-in_err-verdict.result (search rules)
@@ -69,11 +69,11 @@ returns-clause-does g c tells =
     let text = c.from_vec.result in
     let name = c.in_ok-name.name in
     let act = StoreScript name text asked.activate in
-    let event = Keep c.as_bytes-2.result.now act in
+    let event = DoUpkeep c.as_bytes-2.result.now act in
     let whom : c.as_bytes-2.result.now ≡ asked.user.now = search rules in
     let named : name ≡ asked.script.now = search rules in
     let read : text ≡ c.in_ok-octets.octets.items = search rules in
-    let same : event ≡ Keep asked.user.now (StoreScript asked.script.now text asked.activate) = ap (λ u. Keep u act) whom ∙ ap (λ n. Keep asked.user.now (StoreScript n text asked.activate)) named in
+    let same : event ≡ DoUpkeep asked.user.now (StoreScript asked.script.now text asked.activate) = ap (λ u. DoUpkeep u act) whom ∙ ap (λ n. DoUpkeep asked.user.now (StoreScript n text asked.activate)) named in
     let own : Own event = record { text = text; read = subst (ReadsAll given) (sym read) c.in_ok-octets.ensures.ok; same = same } in
     let line : c.as_bytes-3.result.now ≡ name = c.as_bytes-3.ensures.value ∙ sym named in
     put_told (DeniedAtEnd Kept left) Own old out held new Kept c.as_bytes-2.result.now name text asked.activate own c.in_ok-verdict.verdict (c.in_ok-verdict.ensures.puts tells) c.tell_verdict.result

@@ -10,11 +10,12 @@ use Rattle.cli_run.specs.Streams.InTurn.{none_yet}
 use Rattle.cli_run.proofs.StreamLemmas.{one_turn, turns_as}
 use Rattle.cli_run.proofs.ServingLemmas.{broken_on, broken_served, closed_as, interrupted_as, never_stops, served_as, served_at_end, served_on, stops_as, told_now, told_on, told_one, told_still, writes_as}
 use Rattle.cli_run.proofs.session.converse.Goals as goal
+use Rattle.cli_run.specs.Transitions.{from_to}
 
 pub returns-in_err-len-clause-serves : goal.returns-in_err-len-clause-serves
 returns-in_err-len-clause-serves g c tells idle accounts first_in first_out first =
     let is : c.from_residual.result ≡ Err c.in_err-len.field-0.0 = search rules in
-    subst (Converses (StopsServing g.K.Keeper.refuses g.K.Keeper.will_wait c.args.location (IsTold (g.E.Write.contents c.args.errors.now) (g.E.Write.contents c.loop.errors))) (WasOut g.K.Keeper.gives g.K.Keeper.will_wait g.K.Keeper.closes c.args.location (IsTold (g.E.Write.contents c.args.errors.now) (g.E.Write.contents c.loop.errors))) accounts first_in (g.R.Read.remaining c.read_at.new.input) first_out (g.W.Write.contents c.loop.output) (g.K.Keeper.holds c.loop.keeper)) (sym is)
+    subst (Converses (StopsServing g.K.Keeper.refuses g.K.Keeper.will_wait c.args.location (IsTold (g.E.Write.contents c.args.errors.now) (g.E.Write.contents c.loop.errors))) (WasOut g.K.Keeper.gives g.K.Keeper.will_wait g.K.Keeper.closes c.args.location (IsTold (g.E.Write.contents c.args.errors.now) (g.E.Write.contents c.loop.errors))) accounts (from_to first_in (g.R.Read.remaining c.read_at.new.input)) (from_to first_out (g.W.Write.contents c.loop.output)) (g.K.Keeper.holds c.loop.keeper)) (sym is)
     (broken_served (StopsServing g.K.Keeper.refuses g.K.Keeper.will_wait c.args.location (IsTold (g.E.Write.contents c.args.errors.now) (g.E.Write.contents c.loop.errors))) (WasOut g.K.Keeper.gives g.K.Keeper.will_wait g.K.Keeper.closes c.args.location (IsTold (g.E.Write.contents c.args.errors.now) (g.E.Write.contents c.loop.errors))) accounts first_in (g.R.Read.remaining c.loop.input) first_out (g.W.Write.contents c.loop.output) c.loop.session.client (g.K.Keeper.holds c.loop.keeper) (c.loop.invariant.served tells idle accounts first_in first_out first))
 
 pub returns-in_default-clause-serves : goal.returns-in_default-clause-serves
@@ -31,21 +32,21 @@ returns-in_default-clause-serves g c tells idle accounts first_in first_out firs
 pub returns-in_err-give-clause-serves : goal.returns-in_err-give-clause-serves
 returns-in_err-give-clause-serves g c tells idle accounts first_in first_out first =
     let is : c.from_residual-in_err-give.result ≡ Err memory = search rules in
-    subst (Converses (StopsServing g.K.Keeper.refuses g.K.Keeper.will_wait c.args.location (IsTold (g.E.Write.contents c.args.errors.now) (g.E.Write.contents c.loop.errors))) (WasOut g.K.Keeper.gives g.K.Keeper.will_wait g.K.Keeper.closes c.args.location (IsTold (g.E.Write.contents c.args.errors.now) (g.E.Write.contents c.loop.errors))) accounts first_in (g.R.Read.remaining c.read_at.new.input) first_out (g.W.Write.contents c.loop.output) (g.K.Keeper.holds c.loop.keeper)) (sym is)
+    subst (Converses (StopsServing g.K.Keeper.refuses g.K.Keeper.will_wait c.args.location (IsTold (g.E.Write.contents c.args.errors.now) (g.E.Write.contents c.loop.errors))) (WasOut g.K.Keeper.gives g.K.Keeper.will_wait g.K.Keeper.closes c.args.location (IsTold (g.E.Write.contents c.args.errors.now) (g.E.Write.contents c.loop.errors))) accounts (from_to first_in (g.R.Read.remaining c.read_at.new.input)) (from_to first_out (g.W.Write.contents c.loop.output)) (g.K.Keeper.holds c.loop.keeper)) (sym is)
     (broken_served (StopsServing g.K.Keeper.refuses g.K.Keeper.will_wait c.args.location (IsTold (g.E.Write.contents c.args.errors.now) (g.E.Write.contents c.loop.errors))) (WasOut g.K.Keeper.gives g.K.Keeper.will_wait g.K.Keeper.closes c.args.location (IsTold (g.E.Write.contents c.args.errors.now) (g.E.Write.contents c.loop.errors))) accounts first_in (g.R.Read.remaining c.loop.input) first_out (g.W.Write.contents c.loop.output) c.loop.session.client (g.K.Keeper.holds c.loop.keeper) (c.loop.invariant.served tells idle accounts first_in first_out first))
 
 pub returns-in_err-answered-clause-serves : goal.returns-in_err-answered-clause-serves
 returns-in_err-answered-clause-serves g c tells idle accounts first_in first_out first =
     let had = WasOut g.K.Keeper.gives g.K.Keeper.will_wait g.K.Keeper.closes c.args.location (IsTold (g.E.Write.contents c.args.errors.now) (g.E.Write.contents c.loop.errors)) in
-    let out = WasOut g.K.Keeper.gives g.K.Keeper.will_wait g.K.Keeper.closes c.args.location (HasNoted c.answer_all-answered.new.trouble) in
+    let out = WasOut g.K.Keeper.gives g.K.Keeper.will_wait g.K.Keeper.closes c.args.location (HasNoted c.answer_all-answered.new.first_fault) in
     let given = WasOut g.K.Keeper.gives g.K.Keeper.will_wait g.K.Keeper.closes c.args.location (IsTold (g.E.Write.contents c.args.errors.now) (g.E.Write.contents c.tell.new.errors)) in
     let before = StopsServing g.K.Keeper.refuses g.K.Keeper.will_wait c.args.location (IsTold (g.E.Write.contents c.args.errors.now) (g.E.Write.contents c.loop.errors)) in
     let stop = StopsServing g.K.Keeper.refuses g.K.Keeper.will_wait c.args.location (IsTold (g.E.Write.contents c.args.errors.now) (g.E.Write.contents c.tell.new.errors)) in
-    let noted = StopsServing g.K.Keeper.refuses g.K.Keeper.will_wait c.args.location (HasNoted c.answer_all-answered.new.trouble) in
-    let still = stops_as g.K.Keeper.refuses g.K.Keeper.will_wait c.args.location _ _ (told_still (g.E.Write.contents c.args.errors.now) (g.E.Write.contents c.loop.errors) (g.E.Write.contents c.tell.new.errors) c.loop.trouble c.answer_all-answered.new.trouble c.tell.new.self c.in_err-answered.ensures.kept c.tell.ensures.once c.tell.ensures.none c.tell.ensures.tells c.tell.ensures.same c.tell.ensures.told c.tell.ensures.untold c.loop.invariant.told) in
-    let still_out = closed_as g.K.Keeper.gives g.K.Keeper.will_wait g.K.Keeper.closes c.args.location _ _ (told_still (g.E.Write.contents c.args.errors.now) (g.E.Write.contents c.loop.errors) (g.E.Write.contents c.tell.new.errors) c.loop.trouble c.answer_all-answered.new.trouble c.tell.new.self c.in_err-answered.ensures.kept c.tell.ensures.once c.tell.ensures.none c.tell.ensures.tells c.tell.ensures.same c.tell.ensures.told c.tell.ensures.untold c.loop.invariant.told) in
-    let now_told = stops_as g.K.Keeper.refuses g.K.Keeper.will_wait c.args.location _ _ (told_now (g.E.Write.contents c.args.errors.now) (g.E.Write.contents c.loop.errors) (g.E.Write.contents c.tell.new.errors) c.loop.trouble c.answer_all-answered.new.trouble c.tell.new.self c.in_err-answered.ensures.kept c.tell.ensures.once c.tell.ensures.none c.tell.ensures.tells c.tell.ensures.same c.tell.ensures.told c.tell.ensures.untold c.loop.invariant.told) in
-    let now_out = closed_as g.K.Keeper.gives g.K.Keeper.will_wait g.K.Keeper.closes c.args.location _ _ (told_now (g.E.Write.contents c.args.errors.now) (g.E.Write.contents c.loop.errors) (g.E.Write.contents c.tell.new.errors) c.loop.trouble c.answer_all-answered.new.trouble c.tell.new.self c.in_err-answered.ensures.kept c.tell.ensures.once c.tell.ensures.none c.tell.ensures.tells c.tell.ensures.same c.tell.ensures.told c.tell.ensures.untold c.loop.invariant.told) in
+    let noted = StopsServing g.K.Keeper.refuses g.K.Keeper.will_wait c.args.location (HasNoted c.answer_all-answered.new.first_fault) in
+    let still = stops_as g.K.Keeper.refuses g.K.Keeper.will_wait c.args.location _ _ (told_still (g.E.Write.contents c.args.errors.now) (g.E.Write.contents c.loop.errors) (g.E.Write.contents c.tell.new.errors) c.loop.first_fault c.answer_all-answered.new.first_fault c.tell.new.self c.in_err-answered.ensures.kept c.tell.ensures.once c.tell.ensures.none c.tell.ensures.tells c.tell.ensures.same c.tell.ensures.told c.tell.ensures.untold c.loop.invariant.told) in
+    let still_out = closed_as g.K.Keeper.gives g.K.Keeper.will_wait g.K.Keeper.closes c.args.location _ _ (told_still (g.E.Write.contents c.args.errors.now) (g.E.Write.contents c.loop.errors) (g.E.Write.contents c.tell.new.errors) c.loop.first_fault c.answer_all-answered.new.first_fault c.tell.new.self c.in_err-answered.ensures.kept c.tell.ensures.once c.tell.ensures.none c.tell.ensures.tells c.tell.ensures.same c.tell.ensures.told c.tell.ensures.untold c.loop.invariant.told) in
+    let now_told = stops_as g.K.Keeper.refuses g.K.Keeper.will_wait c.args.location _ _ (told_now (g.E.Write.contents c.args.errors.now) (g.E.Write.contents c.loop.errors) (g.E.Write.contents c.tell.new.errors) c.loop.first_fault c.answer_all-answered.new.first_fault c.tell.new.self c.in_err-answered.ensures.kept c.tell.ensures.once c.tell.ensures.none c.tell.ensures.tells c.tell.ensures.same c.tell.ensures.told c.tell.ensures.untold c.loop.invariant.told) in
+    let now_out = closed_as g.K.Keeper.gives g.K.Keeper.will_wait g.K.Keeper.closes c.args.location _ _ (told_now (g.E.Write.contents c.args.errors.now) (g.E.Write.contents c.loop.errors) (g.E.Write.contents c.tell.new.errors) c.loop.first_fault c.answer_all-answered.new.first_fault c.tell.new.self c.in_err-answered.ensures.kept c.tell.ensures.once c.tell.ensures.none c.tell.ensures.tells c.tell.ensures.same c.tell.ensures.told c.tell.ensures.untold c.loop.invariant.told) in
     let len = c.in-Some.len in
     let room = c.read_at.new.room in
     let came : unwrap_or c.in_ok-len.field-0 0 ≡ len = ap (λ o. unwrap_or o 0) c.in-Some.is in
@@ -54,7 +55,7 @@ returns-in_err-answered-clause-serves g c tells idle accounts first_in first_out
     let short : length (take len room) ≤ 4096 = omega (arith, whole, length-take len room) in
     let joins : c.give.new.self.client ≡ client_given (take len room) c.loop.session.client = search rules in
     let is : c.from_residual-in_err-answered.result ≡ Err c.in_err-answered.field-0.0 = search rules in
-    subst (Converses stop given accounts first_in (g.R.Read.remaining c.read_at.new.input) first_out (g.W.Write.contents c.answer_all-answered.new.output) (g.K.Keeper.holds c.answer_all-answered.new.keeper)) (sym is)
+    subst (Converses stop given accounts (from_to first_in (g.R.Read.remaining c.read_at.new.input)) (from_to first_out (g.W.Write.contents c.answer_all-answered.new.output)) (g.K.Keeper.holds c.answer_all-answered.new.keeper)) (sym is)
     (broken_on stop given accounts first_in (g.R.Read.remaining c.loop.input) (g.R.Read.remaining c.read_at.new.input) first_out (g.W.Write.contents c.loop.output) (g.W.Write.contents c.answer_all-answered.new.output) (take len room)
     c.loop.session.client c.give.new.self.client c.answer_all-answered.new.session.client (g.K.Keeper.holds c.loop.keeper) (g.K.Keeper.holds c.answer_all-answered.new.keeper) (served_as before stop had given still still_out accounts first_in (g.R.Read.remaining c.loop.input) first_out (g.W.Write.contents c.loop.output) c.loop.session.client (g.K.Keeper.holds c.loop.keeper) (c.loop.invariant.served tells idle accounts first_in first_out first)) took c.loop.invariant.live short joins
     (λ a there. interrupted_as noted stop out given now_told now_out a c.give.new.self.client (g.W.Write.contents c.loop.output) (g.W.Write.contents c.answer_all-answered.new.output) (g.K.Keeper.holds c.answer_all-answered.new.keeper) (c.in_err-answered.ensures.answers tells (c.loop.invariant.back idle) a there)))
@@ -62,15 +63,15 @@ returns-in_err-answered-clause-serves g c tells idle accounts first_in first_out
 pub returns-then-is_over-clause-serves : goal.returns-then-is_over-clause-serves
 returns-then-is_over-clause-serves g c tells idle accounts first_in first_out first =
     let had = WasOut g.K.Keeper.gives g.K.Keeper.will_wait g.K.Keeper.closes c.args.location (IsTold (g.E.Write.contents c.args.errors.now) (g.E.Write.contents c.loop.errors)) in
-    let out = WasOut g.K.Keeper.gives g.K.Keeper.will_wait g.K.Keeper.closes c.args.location (HasNoted c.answer_all-answered.new.trouble) in
+    let out = WasOut g.K.Keeper.gives g.K.Keeper.will_wait g.K.Keeper.closes c.args.location (HasNoted c.answer_all-answered.new.first_fault) in
     let given = WasOut g.K.Keeper.gives g.K.Keeper.will_wait g.K.Keeper.closes c.args.location (IsTold (g.E.Write.contents c.args.errors.now) (g.E.Write.contents c.tell.new.errors)) in
     let before = StopsServing g.K.Keeper.refuses g.K.Keeper.will_wait c.args.location (IsTold (g.E.Write.contents c.args.errors.now) (g.E.Write.contents c.loop.errors)) in
     let stop = StopsServing g.K.Keeper.refuses g.K.Keeper.will_wait c.args.location (IsTold (g.E.Write.contents c.args.errors.now) (g.E.Write.contents c.tell.new.errors)) in
-    let noted = StopsServing g.K.Keeper.refuses g.K.Keeper.will_wait c.args.location (HasNoted c.answer_all-answered.new.trouble) in
-    let still = stops_as g.K.Keeper.refuses g.K.Keeper.will_wait c.args.location _ _ (told_still (g.E.Write.contents c.args.errors.now) (g.E.Write.contents c.loop.errors) (g.E.Write.contents c.tell.new.errors) c.loop.trouble c.answer_all-answered.new.trouble c.tell.new.self c.in_ok-answered.ensures.kept c.tell.ensures.once c.tell.ensures.none c.tell.ensures.tells c.tell.ensures.same c.tell.ensures.told c.tell.ensures.untold c.loop.invariant.told) in
-    let still_out = closed_as g.K.Keeper.gives g.K.Keeper.will_wait g.K.Keeper.closes c.args.location _ _ (told_still (g.E.Write.contents c.args.errors.now) (g.E.Write.contents c.loop.errors) (g.E.Write.contents c.tell.new.errors) c.loop.trouble c.answer_all-answered.new.trouble c.tell.new.self c.in_ok-answered.ensures.kept c.tell.ensures.once c.tell.ensures.none c.tell.ensures.tells c.tell.ensures.same c.tell.ensures.told c.tell.ensures.untold c.loop.invariant.told) in
-    let now_told = stops_as g.K.Keeper.refuses g.K.Keeper.will_wait c.args.location _ _ (told_now (g.E.Write.contents c.args.errors.now) (g.E.Write.contents c.loop.errors) (g.E.Write.contents c.tell.new.errors) c.loop.trouble c.answer_all-answered.new.trouble c.tell.new.self c.in_ok-answered.ensures.kept c.tell.ensures.once c.tell.ensures.none c.tell.ensures.tells c.tell.ensures.same c.tell.ensures.told c.tell.ensures.untold c.loop.invariant.told) in
-    let now_out = closed_as g.K.Keeper.gives g.K.Keeper.will_wait g.K.Keeper.closes c.args.location _ _ (told_now (g.E.Write.contents c.args.errors.now) (g.E.Write.contents c.loop.errors) (g.E.Write.contents c.tell.new.errors) c.loop.trouble c.answer_all-answered.new.trouble c.tell.new.self c.in_ok-answered.ensures.kept c.tell.ensures.once c.tell.ensures.none c.tell.ensures.tells c.tell.ensures.same c.tell.ensures.told c.tell.ensures.untold c.loop.invariant.told) in
+    let noted = StopsServing g.K.Keeper.refuses g.K.Keeper.will_wait c.args.location (HasNoted c.answer_all-answered.new.first_fault) in
+    let still = stops_as g.K.Keeper.refuses g.K.Keeper.will_wait c.args.location _ _ (told_still (g.E.Write.contents c.args.errors.now) (g.E.Write.contents c.loop.errors) (g.E.Write.contents c.tell.new.errors) c.loop.first_fault c.answer_all-answered.new.first_fault c.tell.new.self c.in_ok-answered.ensures.kept c.tell.ensures.once c.tell.ensures.none c.tell.ensures.tells c.tell.ensures.same c.tell.ensures.told c.tell.ensures.untold c.loop.invariant.told) in
+    let still_out = closed_as g.K.Keeper.gives g.K.Keeper.will_wait g.K.Keeper.closes c.args.location _ _ (told_still (g.E.Write.contents c.args.errors.now) (g.E.Write.contents c.loop.errors) (g.E.Write.contents c.tell.new.errors) c.loop.first_fault c.answer_all-answered.new.first_fault c.tell.new.self c.in_ok-answered.ensures.kept c.tell.ensures.once c.tell.ensures.none c.tell.ensures.tells c.tell.ensures.same c.tell.ensures.told c.tell.ensures.untold c.loop.invariant.told) in
+    let now_told = stops_as g.K.Keeper.refuses g.K.Keeper.will_wait c.args.location _ _ (told_now (g.E.Write.contents c.args.errors.now) (g.E.Write.contents c.loop.errors) (g.E.Write.contents c.tell.new.errors) c.loop.first_fault c.answer_all-answered.new.first_fault c.tell.new.self c.in_ok-answered.ensures.kept c.tell.ensures.once c.tell.ensures.none c.tell.ensures.tells c.tell.ensures.same c.tell.ensures.told c.tell.ensures.untold c.loop.invariant.told) in
+    let now_out = closed_as g.K.Keeper.gives g.K.Keeper.will_wait g.K.Keeper.closes c.args.location _ _ (told_now (g.E.Write.contents c.args.errors.now) (g.E.Write.contents c.loop.errors) (g.E.Write.contents c.tell.new.errors) c.loop.first_fault c.answer_all-answered.new.first_fault c.tell.new.self c.in_ok-answered.ensures.kept c.tell.ensures.once c.tell.ensures.none c.tell.ensures.tells c.tell.ensures.same c.tell.ensures.told c.tell.ensures.untold c.loop.invariant.told) in
     let len = c.in-Some.len in
     let room = c.read_at.new.room in
     let came : unwrap_or c.in_ok-len.field-0 0 ≡ len = ap (λ o. unwrap_or o 0) c.in-Some.is in
@@ -90,15 +91,15 @@ returns-then-is_over-clause-serves g c tells idle accounts first_in first_out fi
 pub loop-preserved : goal.loop-preserved
 loop-preserved g c =
     let had = WasOut g.K.Keeper.gives g.K.Keeper.will_wait g.K.Keeper.closes c.args.location (IsTold (g.E.Write.contents c.args.errors.now) (g.E.Write.contents c.loop.errors)) in
-    let out = WasOut g.K.Keeper.gives g.K.Keeper.will_wait g.K.Keeper.closes c.args.location (HasNoted c.answer_all-answered.new.trouble) in
+    let out = WasOut g.K.Keeper.gives g.K.Keeper.will_wait g.K.Keeper.closes c.args.location (HasNoted c.answer_all-answered.new.first_fault) in
     let given = WasOut g.K.Keeper.gives g.K.Keeper.will_wait g.K.Keeper.closes c.args.location (IsTold (g.E.Write.contents c.args.errors.now) (g.E.Write.contents c.tell.new.errors)) in
     let before = StopsServing g.K.Keeper.refuses g.K.Keeper.will_wait c.args.location (IsTold (g.E.Write.contents c.args.errors.now) (g.E.Write.contents c.loop.errors)) in
     let stop = StopsServing g.K.Keeper.refuses g.K.Keeper.will_wait c.args.location (IsTold (g.E.Write.contents c.args.errors.now) (g.E.Write.contents c.tell.new.errors)) in
-    let noted = StopsServing g.K.Keeper.refuses g.K.Keeper.will_wait c.args.location (HasNoted c.answer_all-answered.new.trouble) in
-    let still = stops_as g.K.Keeper.refuses g.K.Keeper.will_wait c.args.location _ _ (told_still (g.E.Write.contents c.args.errors.now) (g.E.Write.contents c.loop.errors) (g.E.Write.contents c.tell.new.errors) c.loop.trouble c.answer_all-answered.new.trouble c.tell.new.self c.in_ok-answered.ensures.kept c.tell.ensures.once c.tell.ensures.none c.tell.ensures.tells c.tell.ensures.same c.tell.ensures.told c.tell.ensures.untold c.loop.invariant.told) in
-    let still_out = closed_as g.K.Keeper.gives g.K.Keeper.will_wait g.K.Keeper.closes c.args.location _ _ (told_still (g.E.Write.contents c.args.errors.now) (g.E.Write.contents c.loop.errors) (g.E.Write.contents c.tell.new.errors) c.loop.trouble c.answer_all-answered.new.trouble c.tell.new.self c.in_ok-answered.ensures.kept c.tell.ensures.once c.tell.ensures.none c.tell.ensures.tells c.tell.ensures.same c.tell.ensures.told c.tell.ensures.untold c.loop.invariant.told) in
-    let now_told = stops_as g.K.Keeper.refuses g.K.Keeper.will_wait c.args.location _ _ (told_now (g.E.Write.contents c.args.errors.now) (g.E.Write.contents c.loop.errors) (g.E.Write.contents c.tell.new.errors) c.loop.trouble c.answer_all-answered.new.trouble c.tell.new.self c.in_ok-answered.ensures.kept c.tell.ensures.once c.tell.ensures.none c.tell.ensures.tells c.tell.ensures.same c.tell.ensures.told c.tell.ensures.untold c.loop.invariant.told) in
-    let now_out = closed_as g.K.Keeper.gives g.K.Keeper.will_wait g.K.Keeper.closes c.args.location _ _ (told_now (g.E.Write.contents c.args.errors.now) (g.E.Write.contents c.loop.errors) (g.E.Write.contents c.tell.new.errors) c.loop.trouble c.answer_all-answered.new.trouble c.tell.new.self c.in_ok-answered.ensures.kept c.tell.ensures.once c.tell.ensures.none c.tell.ensures.tells c.tell.ensures.same c.tell.ensures.told c.tell.ensures.untold c.loop.invariant.told) in
+    let noted = StopsServing g.K.Keeper.refuses g.K.Keeper.will_wait c.args.location (HasNoted c.answer_all-answered.new.first_fault) in
+    let still = stops_as g.K.Keeper.refuses g.K.Keeper.will_wait c.args.location _ _ (told_still (g.E.Write.contents c.args.errors.now) (g.E.Write.contents c.loop.errors) (g.E.Write.contents c.tell.new.errors) c.loop.first_fault c.answer_all-answered.new.first_fault c.tell.new.self c.in_ok-answered.ensures.kept c.tell.ensures.once c.tell.ensures.none c.tell.ensures.tells c.tell.ensures.same c.tell.ensures.told c.tell.ensures.untold c.loop.invariant.told) in
+    let still_out = closed_as g.K.Keeper.gives g.K.Keeper.will_wait g.K.Keeper.closes c.args.location _ _ (told_still (g.E.Write.contents c.args.errors.now) (g.E.Write.contents c.loop.errors) (g.E.Write.contents c.tell.new.errors) c.loop.first_fault c.answer_all-answered.new.first_fault c.tell.new.self c.in_ok-answered.ensures.kept c.tell.ensures.once c.tell.ensures.none c.tell.ensures.tells c.tell.ensures.same c.tell.ensures.told c.tell.ensures.untold c.loop.invariant.told) in
+    let now_told = stops_as g.K.Keeper.refuses g.K.Keeper.will_wait c.args.location _ _ (told_now (g.E.Write.contents c.args.errors.now) (g.E.Write.contents c.loop.errors) (g.E.Write.contents c.tell.new.errors) c.loop.first_fault c.answer_all-answered.new.first_fault c.tell.new.self c.in_ok-answered.ensures.kept c.tell.ensures.once c.tell.ensures.none c.tell.ensures.tells c.tell.ensures.same c.tell.ensures.told c.tell.ensures.untold c.loop.invariant.told) in
+    let now_out = closed_as g.K.Keeper.gives g.K.Keeper.will_wait g.K.Keeper.closes c.args.location _ _ (told_now (g.E.Write.contents c.args.errors.now) (g.E.Write.contents c.loop.errors) (g.E.Write.contents c.tell.new.errors) c.loop.first_fault c.answer_all-answered.new.first_fault c.tell.new.self c.in_ok-answered.ensures.kept c.tell.ensures.once c.tell.ensures.none c.tell.ensures.tells c.tell.ensures.same c.tell.ensures.told c.tell.ensures.untold c.loop.invariant.told) in
     let len = c.in-Some.len in
     let room = c.read_at.new.room in
     let came : unwrap_or c.in_ok-len.field-0 0 ≡ len = ap (λ o. unwrap_or o 0) c.in-Some.is in
@@ -117,7 +118,7 @@ loop-preserved g c =
       served = λ tells idle accounts first_in first_out first. served_on stop given accounts first_in (g.R.Read.remaining c.loop.input) (g.R.Read.remaining c.read_at.new.input) first_out (g.W.Write.contents c.loop.output) (g.W.Write.contents c.answer_all-answered.new.output) (take len room)
           c.loop.session.client c.give.new.self.client c.answer_all-answered.new.session.client (g.K.Keeper.holds c.loop.keeper) (g.K.Keeper.holds c.answer_all-answered.new.keeper) (served_as before stop had given still still_out accounts first_in (g.R.Read.remaining c.loop.input) first_out (g.W.Write.contents c.loop.output) c.loop.session.client (g.K.Keeper.holds c.loop.keeper) (c.loop.invariant.served tells idle accounts first_in first_out first)) took c.loop.invariant.live short joins
           (λ a there. let all = c.in_ok-answered.ensures.answers tells (c.loop.invariant.back idle) a there in (writes_as noted stop out given now_told now_out a c.give.new.self.client (g.W.Write.contents c.loop.output) (g.W.Write.contents c.answer_all-answered.new.output) c.answer_all-answered.new.session.client (g.K.Keeper.holds c.answer_all-answered.new.keeper) all.0, all.1));
-      told = told_on (g.E.Write.contents c.args.errors.now) (g.E.Write.contents c.loop.errors) (g.E.Write.contents c.tell.new.errors) c.loop.trouble c.answer_all-answered.new.trouble c.tell.new.self c.in_ok-answered.ensures.kept c.tell.ensures.once c.tell.ensures.none c.tell.ensures.tells c.tell.ensures.same c.tell.ensures.told c.tell.ensures.untold was.told;
+      told = told_on (g.E.Write.contents c.args.errors.now) (g.E.Write.contents c.loop.errors) (g.E.Write.contents c.tell.new.errors) c.loop.first_fault c.answer_all-answered.new.first_fault c.tell.new.self c.in_ok-answered.ensures.kept c.tell.ensures.once c.tell.ensures.none c.tell.ensures.tells c.tell.ensures.same c.tell.ensures.told c.tell.ensures.untold was.told;
       none = λ tells h. now.none tells (was.none tells h);
     }
 
@@ -139,7 +140,7 @@ loop-init g c = record {
   served = λ tells idle accounts first_in first_out first.
       let stop = StopsServing g.K.Keeper.refuses g.K.Keeper.will_wait c.args.location (IsTold (g.E.Write.contents c.args.errors.now) (g.E.Write.contents c.args.errors.now)) in
       served_as Unstopped stop ⊥ (WasOut g.K.Keeper.gives g.K.Keeper.will_wait g.K.Keeper.closes c.args.location (IsTold (g.E.Write.contents c.args.errors.now) (g.E.Write.contents c.args.errors.now))) (never_stops stop) (λ never. absurd never) accounts first_in (g.R.Read.remaining c.args.input.now) first_out (g.W.Write.contents c.args.output.now) c.args.session.now.client (g.K.Keeper.holds c.args.keeper.now) first;
-  told = inl (c.none-trouble.ensures.untold, c.none-trouble.ensures.none, refl);
+  told = inl (c.none-first_fault.ensures.untold, c.none-first_fault.ensures.none, refl);
   none = λ tells h. h;
 }
 
@@ -157,19 +158,19 @@ returns-then-is_over-clause-reads g c =
     inr (shut, (c.loop.counter + 1, one_turn _ _ c.loop.counter old new c.loop.invariant.reads goes))
 
 pub returns-in_err-len-clause-told : goal.returns-in_err-len-clause-told
-returns-in_err-len-clause-told g c = told_one (g.E.Write.contents c.args.errors.now) (g.E.Write.contents c.loop.errors) c.loop.trouble c.loop.invariant.told
+returns-in_err-len-clause-told g c = told_one (g.E.Write.contents c.args.errors.now) (g.E.Write.contents c.loop.errors) c.loop.first_fault c.loop.invariant.told
 
 pub returns-in_default-clause-told : goal.returns-in_default-clause-told
-returns-in_default-clause-told g c = told_one (g.E.Write.contents c.args.errors.now) (g.E.Write.contents c.loop.errors) c.loop.trouble c.loop.invariant.told
+returns-in_default-clause-told g c = told_one (g.E.Write.contents c.args.errors.now) (g.E.Write.contents c.loop.errors) c.loop.first_fault c.loop.invariant.told
 
 pub returns-in_err-give-clause-told : goal.returns-in_err-give-clause-told
-returns-in_err-give-clause-told g c = told_one (g.E.Write.contents c.args.errors.now) (g.E.Write.contents c.loop.errors) c.loop.trouble c.loop.invariant.told
+returns-in_err-give-clause-told g c = told_one (g.E.Write.contents c.args.errors.now) (g.E.Write.contents c.loop.errors) c.loop.first_fault c.loop.invariant.told
 
 pub returns-clause-told : goal.returns-clause-told
-returns-clause-told g c = told_one (g.E.Write.contents c.args.errors.now) (g.E.Write.contents c.loop.errors) c.loop.trouble c.loop.invariant.told
+returns-clause-told g c = told_one (g.E.Write.contents c.args.errors.now) (g.E.Write.contents c.loop.errors) c.loop.first_fault c.loop.invariant.told
 
 pub returns-in_err-answered-clause-told : goal.returns-in_err-answered-clause-told
-returns-in_err-answered-clause-told g c = told_one (g.E.Write.contents c.args.errors.now) (g.E.Write.contents c.tell.new.errors) c.tell.new.self (told_on (g.E.Write.contents c.args.errors.now) (g.E.Write.contents c.loop.errors) (g.E.Write.contents c.tell.new.errors) c.loop.trouble c.answer_all-answered.new.trouble c.tell.new.self c.in_err-answered.ensures.kept c.tell.ensures.once c.tell.ensures.none c.tell.ensures.tells c.tell.ensures.same c.tell.ensures.told c.tell.ensures.untold c.loop.invariant.told)
+returns-in_err-answered-clause-told g c = told_one (g.E.Write.contents c.args.errors.now) (g.E.Write.contents c.tell.new.errors) c.tell.new.self (told_on (g.E.Write.contents c.args.errors.now) (g.E.Write.contents c.loop.errors) (g.E.Write.contents c.tell.new.errors) c.loop.first_fault c.answer_all-answered.new.first_fault c.tell.new.self c.in_err-answered.ensures.kept c.tell.ensures.once c.tell.ensures.none c.tell.ensures.tells c.tell.ensures.same c.tell.ensures.told c.tell.ensures.untold c.loop.invariant.told)
 
 pub returns-then-is_over-clause-told : goal.returns-then-is_over-clause-told
-returns-then-is_over-clause-told g c = told_one (g.E.Write.contents c.args.errors.now) (g.E.Write.contents c.tell.new.errors) c.tell.new.self (told_on (g.E.Write.contents c.args.errors.now) (g.E.Write.contents c.loop.errors) (g.E.Write.contents c.tell.new.errors) c.loop.trouble c.answer_all-answered.new.trouble c.tell.new.self c.in_ok-answered.ensures.kept c.tell.ensures.once c.tell.ensures.none c.tell.ensures.tells c.tell.ensures.same c.tell.ensures.told c.tell.ensures.untold c.loop.invariant.told)
+returns-then-is_over-clause-told g c = told_one (g.E.Write.contents c.args.errors.now) (g.E.Write.contents c.tell.new.errors) c.tell.new.self (told_on (g.E.Write.contents c.args.errors.now) (g.E.Write.contents c.loop.errors) (g.E.Write.contents c.tell.new.errors) c.loop.first_fault c.answer_all-answered.new.first_fault c.tell.new.self c.in_ok-answered.ensures.kept c.tell.ensures.once c.tell.ensures.none c.tell.ensures.tells c.tell.ensures.same c.tell.ensures.told c.tell.ensures.untold c.loop.invariant.told)

@@ -1,4 +1,4 @@
--- A session that ended has status 0, which is that of no fault; of one that broke off it is told why, after its trouble.
+-- A session that ended has status 0, which is that of no fault; of one that broke off it is told why, after its fault.
 use Rattle.std.proofs.Common.{Ok, Err, refl, arith}
 use Rattle.cli_run.proofs.StatusLemmas.{status_some}
 use Rattle.cli_run.proofs.session.run_session.Goals as goal

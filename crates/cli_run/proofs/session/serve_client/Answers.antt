@@ -9,13 +9,14 @@ use Rattle.cli_run.specs.Serving.{IsTold, ServesTables, StopsServing, Unstopped,
 use Rattle.cli_run.proofs.StreamLemmas.{nothing_written}
 use Rattle.cli_run.proofs.ServingLemmas.{broken_first, reads_out, served_first}
 use Rattle.cli_run.proofs.session.serve_client.Goals as goal
+use Rattle.cli_run.specs.Transitions.{from_to}
 
 pub returns-in_err-session-clause-serves : goal.returns-in_err-session-clause-serves
 returns-in_err-session-clause-serves g c tells idle =
     let input = g.R.Read.remaining c.args.input.now in
     let out = g.W.Write.contents c.args.output.now in
     let is : c.from_residual.result ≡ Err memory = search rules in
-    subst (ServesTables (StopsServing g.K.Keeper.refuses g.K.Keeper.will_wait c.args.location (IsTold (g.E.Write.contents c.args.errors.now) (g.E.Write.contents c.args.errors.now))) (WasOut g.K.Keeper.gives g.K.Keeper.will_wait g.K.Keeper.closes c.args.location (IsTold (g.E.Write.contents c.args.errors.now) (g.E.Write.contents c.args.errors.now))) input input out out (g.K.Keeper.holds c.args.keeper.now) (g.K.Keeper.holds c.args.keeper.now)) (sym is)
+    subst (ServesTables (StopsServing g.K.Keeper.refuses g.K.Keeper.will_wait c.args.location (IsTold (g.E.Write.contents c.args.errors.now) (g.E.Write.contents c.args.errors.now))) (WasOut g.K.Keeper.gives g.K.Keeper.will_wait g.K.Keeper.closes c.args.location (IsTold (g.E.Write.contents c.args.errors.now) (g.E.Write.contents c.args.errors.now))) (from_to input input) (from_to out out) (from_to (g.K.Keeper.holds c.args.keeper.now) (g.K.Keeper.holds c.args.keeper.now))) (sym is)
     (record { talks = λ accounts shown. broken_first (StopsServing g.K.Keeper.refuses g.K.Keeper.will_wait c.args.location (IsTold (g.E.Write.contents c.args.errors.now) (g.E.Write.contents c.args.errors.now))) (WasOut g.K.Keeper.gives g.K.Keeper.will_wait g.K.Keeper.closes c.args.location (IsTold (g.E.Write.contents c.args.errors.now) (g.E.Write.contents c.args.errors.now))) accounts input out out (reply_octets (capability_reply None)) (g.K.Keeper.holds c.args.keeper.now) shown refl (0, nothing_written out); none = λ h. h })
 
 pub returns-in_err-write_all-clause-serves : goal.returns-in_err-write_all-clause-serves
@@ -25,7 +26,7 @@ returns-in_err-write_all-clause-serves g c tells idle =
     let out2 = g.W.Write.contents c.write_all.new.output in
     let is : c.from_residual-in_err-write_all.result ≡ Err c.in_err-write_all.field-0.0 = search rules in
     let greets : c.as_slice.result.now ≡ reply_octets (capability_reply None) = search rules in
-    subst (ServesTables (StopsServing g.K.Keeper.refuses g.K.Keeper.will_wait c.args.location (IsTold (g.E.Write.contents c.args.errors.now) (g.E.Write.contents c.args.errors.now))) (WasOut g.K.Keeper.gives g.K.Keeper.will_wait g.K.Keeper.closes c.args.location (IsTold (g.E.Write.contents c.args.errors.now) (g.E.Write.contents c.args.errors.now))) input input out out2 (g.K.Keeper.holds c.args.keeper.now) (g.K.Keeper.holds c.args.keeper.now)) (sym is)
+    subst (ServesTables (StopsServing g.K.Keeper.refuses g.K.Keeper.will_wait c.args.location (IsTold (g.E.Write.contents c.args.errors.now) (g.E.Write.contents c.args.errors.now))) (WasOut g.K.Keeper.gives g.K.Keeper.will_wait g.K.Keeper.closes c.args.location (IsTold (g.E.Write.contents c.args.errors.now) (g.E.Write.contents c.args.errors.now))) (from_to input input) (from_to out out2) (from_to (g.K.Keeper.holds c.args.keeper.now) (g.K.Keeper.holds c.args.keeper.now))) (sym is)
     (record { talks = λ accounts shown. broken_first (StopsServing g.K.Keeper.refuses g.K.Keeper.will_wait c.args.location (IsTold (g.E.Write.contents c.args.errors.now) (g.E.Write.contents c.args.errors.now))) (WasOut g.K.Keeper.gives g.K.Keeper.will_wait g.K.Keeper.closes c.args.location (IsTold (g.E.Write.contents c.args.errors.now) (g.E.Write.contents c.args.errors.now))) accounts input out out2 c.as_slice.result.now (g.K.Keeper.holds c.args.keeper.now) shown greets c.in_err-write_all.ensures.1.0; none = λ h. h })
 
 pub returns-clause-serves : goal.returns-clause-serves

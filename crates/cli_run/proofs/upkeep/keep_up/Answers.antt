@@ -2,7 +2,7 @@
 use Rattle.std.proofs.Common.{rules}
 use Rattle.sqlite.specs.Held.{state}
 use Rattle.store_engine.specs.Hosts.{answer_of}
-use Rattle.store_engine.specs.declared.event.Event.TheVariants.{Keep}
+use Rattle.store_engine.specs.declared.event.Event.TheVariants.{DoUpkeep}
 use Rattle.cli_run.specs.Serving.{HasDenied}
 use Rattle.cli_run.specs.Subcommands.{upkeep_answer}
 use Rattle.cli_run.proofs.UpkeepLemmas.{kept_put}
@@ -11,7 +11,7 @@ use Rattle.cli_run.proofs.upkeep.keep_up.Goals as goal
 
 pub returns-in_err-store-clause-puts : goal.returns-in_err-store-clause-puts
 returns-in_err-store-clause-puts g c tells =
-    put_denied {X = Unit {0}} (HasDenied g.K.Keeper.refuses g.K.Keeper.will_wait c.args.location) (Keep c.args.user.now c.args.upkeep.now) (λ done. upkeep_answer c.args.upkeep.now) c.in_err-store.field-0.0 c.from_residual.result (search rules)
+    put_denied {X = Unit {0}} (HasDenied g.K.Keeper.refuses g.K.Keeper.will_wait c.args.location) (DoUpkeep c.args.user.now c.args.upkeep.now) (λ done. upkeep_answer c.args.upkeep.now) c.in_err-store.field-0.0 c.from_residual.result (search rules)
     c.in_err-store.ensures.denied (g.K.Keeper.holds c.args.keeper.now) (g.K.Keeper.holds c.take_store.new.keeper) (c.in_err-store.ensures.refused tells)
 
 pub returns-clause-puts : goal.returns-clause-puts

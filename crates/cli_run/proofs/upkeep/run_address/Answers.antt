@@ -1,7 +1,7 @@
 -- The account is kept up so, and the line is printed after that.
 use Rattle.std.proofs.Common.{◌≡◌, ◌++◌, codes, ap, ◌∙◌, rules}
 use Rattle.store_engine.specs.declared.answer.Answer.TheVariants.{Changed}
-use Rattle.store_engine.specs.declared.event.Event.TheVariants.{Keep}
+use Rattle.store_engine.specs.declared.event.Event.TheVariants.{DoUpkeep}
 use Rattle.store_engine.specs.declared.upkeep.Upkeep.TheVariants.{SetAddress}
 use Rattle.cli_reports.specs.Reports.{ended_line}
 use Rattle.cli_run.specs.Faults.{memory}
@@ -20,10 +20,10 @@ pub returns-in_err-keep_up-clause-does : goal.returns-in_err-keep_up-clause-does
 returns-in_err-keep_up-clause-does g c tells =
     let user = c.args.asked in
     let act = SetAddress c.in_ok-address.address in
-    let event = Keep c.as_bytes-2.result.now act in
+    let event = DoUpkeep c.as_bytes-2.result.now act in
     let name : c.as_bytes-2.result.now ≡ user.user.now = search rules in
     let text : c.in_ok-address.address ≡ user.address.now = search rules in
-    let same : event ≡ Keep user.user.now (SetAddress user.address.now) = ap (λ n. Keep n act) name ∙ ap (λ a. Keep user.user.now (SetAddress a)) text in
+    let same : event ≡ DoUpkeep user.user.now (SetAddress user.address.now) = ap (λ n. DoUpkeep n act) name ∙ ap (λ a. DoUpkeep user.user.now (SetAddress a)) text in
     event_unmade ⊥ ⊥ (HasDenied g.K.Keeper.refuses g.K.Keeper.will_wait c.args.asked.location) (IsUpkeepEvent user.user.now (SetAddress user.address.now)) {X = Unit {0}} event same (λ done. Changed) (g.K.Keeper.holds c.args.keeper.now) (g.K.Keeper.holds c.keep_up.new.keeper)
     (g.W.Write.contents c.args.output.now) (λ no. no) c.in_err-keep_up.field-0.0 c.from_residual-in_err-keep_up.result (search rules) (c.in_err-keep_up.ensures.puts tells)
 
@@ -31,10 +31,10 @@ pub returns-clause-does : goal.returns-clause-does
 returns-clause-does g c tells =
     let user = c.args.asked in
     let act = SetAddress c.in_ok-address.address in
-    let event = Keep c.as_bytes-2.result.now act in
+    let event = DoUpkeep c.as_bytes-2.result.now act in
     let name : c.as_bytes-2.result.now ≡ user.user.now = search rules in
     let text : c.in_ok-address.address ≡ user.address.now = search rules in
-    let same : event ≡ Keep user.user.now (SetAddress user.address.now) = ap (λ n. Keep n act) name ∙ ap (λ a. Keep user.user.now (SetAddress a)) text in
+    let same : event ≡ DoUpkeep user.user.now (SetAddress user.address.now) = ap (λ n. DoUpkeep n act) name ∙ ap (λ a. DoUpkeep user.user.now (SetAddress a)) text in
     let told : c.as_bytes-3.result.now ≡ c.as_bytes-2.result.now = search rules in
     event_made ⊥ ⊥ (HasDenied g.K.Keeper.refuses g.K.Keeper.will_wait c.args.asked.location) (IsUpkeepEvent user.user.now (SetAddress user.address.now)) {X = Unit {0}} event same (λ done. Changed) (g.K.Keeper.holds c.args.keeper.now) (g.K.Keeper.holds c.keep_up.new.keeper)
     tt (ended_line (codes "changed " ++ c.as_bytes-3.result.now)) (ap (λ n. ended_line (codes "changed " ++ n)) told) (c.in_ok-keep_up.ensures.puts tells) (g.W.Write.contents c.args.output.now) (g.W.Write.contents c.write_line.new.output) c.write_line.result c.write_line.ensures

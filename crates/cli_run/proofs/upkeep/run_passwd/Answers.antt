@@ -2,7 +2,7 @@
 use Rattle.std.proofs.Common.{Ok, Err, ◌≡◌, ◌++◌, codes, ap, ◌∙◌, inl, inr, rules}
 use Rattle.std.specs.Option.{option_copied}
 use Rattle.store_engine.specs.declared.answer.Answer.TheVariants.{Changed}
-use Rattle.store_engine.specs.declared.event.Event.TheVariants.{Keep}
+use Rattle.store_engine.specs.declared.event.Event.TheVariants.{DoUpkeep}
 use Rattle.store_engine.specs.declared.upkeep.Upkeep.TheVariants.{SetPassword}
 use Rattle.cli_reports.specs.Reports.{ended_line}
 use Rattle.cli_run.specs.Faults.{memory}
@@ -39,11 +39,11 @@ returns-in_err-keep_up-clause-does g c tells =
     let octets = c.in_ok-octets.octets.items in
     let salt = c.in_ok-salt.salt in
     let password = c.in_ok-password.password in
-    let event = Keep c.as_bytes.result.now (SetPassword salt password) in
+    let event = DoUpkeep c.as_bytes.result.now (SetPassword salt password) in
     let name : c.as_bytes.result.now ≡ user.user.now = search rules in
     let line : password ≡ first_line octets = search rules in
-    let same : event ≡ Keep user.user.now (SetPassword salt (first_line octets)) =
-    ap (λ n. Keep n (SetPassword salt password)) name ∙ ap (λ p. Keep user.user.now (SetPassword salt p)) line in
+    let same : event ≡ DoUpkeep user.user.now (SetPassword salt (first_line octets)) =
+    ap (λ n. DoUpkeep n (SetPassword salt password)) name ∙ ap (λ p. DoUpkeep user.user.now (SetPassword salt p)) line in
     event_unmade (SaltFailed (option_copied user.salt) c.args.random) (HasNoSalt (option_copied user.salt)) (DeniedAtEnd (HasDenied g.K.Keeper.refuses g.K.Keeper.will_wait c.args.asked.location) (g.R.Read.remaining c.read_all.new.input)) (IsPasswdEvent (option_copied user.salt) c.args.random user.user.now given) {X = Unit {0}} event
     (record { octets = octets; read = c.in_ok-octets.ensures.ok; salt = salt; salted = c.in_ok-salt.ensures.ok; same = same }) (λ done. Changed) (g.K.Keeper.holds c.args.keeper.now) (g.K.Keeper.holds c.keep_up.new.keeper)
     (g.W.Write.contents c.args.output.now) c.in_ok-salt.ensures.right c.in_err-keep_up.field-0.0 c.from_residual-in_err-keep_up.result (search rules) (put_at_end {X = Unit {0}} (HasDenied g.K.Keeper.refuses g.K.Keeper.will_wait c.args.asked.location) (g.R.Read.remaining c.read_all.new.input) c.in_ok-octets.ensures.end event (λ done. Changed) (Err c.in_err-keep_up.field-0.0) (g.K.Keeper.holds c.args.keeper.now) (g.K.Keeper.holds c.keep_up.new.keeper) (c.in_err-keep_up.ensures.puts tells))
@@ -55,11 +55,11 @@ returns-clause-does g c tells =
     let octets = c.in_ok-octets.octets.items in
     let salt = c.in_ok-salt.salt in
     let password = c.in_ok-password.password in
-    let event = Keep c.as_bytes.result.now (SetPassword salt password) in
+    let event = DoUpkeep c.as_bytes.result.now (SetPassword salt password) in
     let name : c.as_bytes.result.now ≡ user.user.now = search rules in
     let line : password ≡ first_line octets = search rules in
-    let same : event ≡ Keep user.user.now (SetPassword salt (first_line octets)) =
-    ap (λ n. Keep n (SetPassword salt password)) name ∙ ap (λ p. Keep user.user.now (SetPassword salt p)) line in
+    let same : event ≡ DoUpkeep user.user.now (SetPassword salt (first_line octets)) =
+    ap (λ n. DoUpkeep n (SetPassword salt password)) name ∙ ap (λ p. DoUpkeep user.user.now (SetPassword salt p)) line in
     let old = g.W.Write.contents c.args.output.now in
     let new = g.W.Write.contents c.write_line.new.output in
     let told : c.as_bytes-2.result.now ≡ c.as_bytes.result.now = search rules in

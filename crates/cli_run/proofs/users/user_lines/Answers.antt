@@ -4,7 +4,7 @@ use Rattle.sqlite.specs.Held.{state}
 use Rattle.store_accounts.specs.Users.{FindsOver}
 use Rattle.store_accounts.specs.declared.refusal.Refusal.TheVariants.{Store}
 use Rattle.cli_run.specs.Subcommands.{AddsUser}
-use Rattle.cli_run.proofs.UserLemmas.{Listed, had, listed_all, listed_failed, listed_first, listed_more, listed_stopped}
+use Rattle.cli_run.proofs.UserLemmas.{Listed, ok_of, listed_all, listed_failed, listed_first, listed_more, listed_stopped}
 use Rattle.cli_run.proofs.users.user_lines.Goals as goal
 
 pub returns-in_err-next-clause-lists : goal.returns-in_err-next-clause-lists
@@ -24,7 +24,7 @@ pub returns-in_default-clause-lists : goal.returns-in_default-clause-lists
 returns-in_default-clause-lists g c =
     let old = state g.S.Store c.args.store.now in
     let mid = state g.S.Store c.users.store in
-    listed_all old mid c.users.text (subst (λ n. FindsOver (Listed c.users.text) old mid (had n)) c.in_default.is c.users.invariant)
+    listed_all old mid c.users.text (subst (λ n. FindsOver (Listed c.users.text) old mid (ok_of n)) c.in_default.is c.users.invariant)
 
 pub users-preserved : goal.users-preserved
 users-preserved g c =
@@ -34,7 +34,7 @@ users-preserved g c =
     let name = c.in-Some.name in
     let same : c.as_slice.result.now ≡ name = search rules in
     let adds = subst (λ n. FindsOver (AddsUser n c.users.text c.add_user-in-users.new.text) mid new c.add_user-in-users.result) same c.add_user-in-users.ensures.adds in
-    listed_more old mid new name c.users.text (subst (λ n. FindsOver (Listed c.users.text) old mid (had n)) c.in-Some.is c.users.invariant) c.add_user-in-users.new.text c.in_ok-next-2.next c.add_user-in-users.result c.in_ok-next-2.was adds
+    listed_more old mid new name c.users.text (subst (λ n. FindsOver (Listed c.users.text) old mid (ok_of n)) c.in-Some.is c.users.invariant) c.add_user-in-users.new.text c.in_ok-next-2.next c.add_user-in-users.result c.in_ok-next-2.was adds
 
 pub returns-in_err-next-2-clause-lists : goal.returns-in_err-next-2-clause-lists
 returns-in_err-next-2-clause-lists g c =
@@ -43,4 +43,4 @@ returns-in_err-next-2-clause-lists g c =
     c.from_residual-in_err-next-2.result none
 
 pub returns-clause-lists : goal.returns-clause-lists
-returns-clause-lists g c = listed_failed (Listed c.users.text) (state g.S.Store c.args.store.now) (state g.S.Store c.users.store) (had c.users.next) c.users.invariant (Err Store) tt
+returns-clause-lists g c = listed_failed (Listed c.users.text) (state g.S.Store c.args.store.now) (state g.S.Store c.users.store) (ok_of c.users.next) c.users.invariant (Err Store) tt

@@ -3,4 +3,4 @@ use Rattle.daemon_core.proofs.RoomLemmas.{all_silent}
 use Rattle.daemon_core.proofs.eviction.less_silent.Goals as goal
 
 pub returns : goal.returns
-returns c = (search rules) ∙ all_silent c.args.most c.args.posts.now.entries
+returns c = (search rules) ∙ all_silent c.args.most c.args.lmtp_connections.now.entries

@@ -1,18 +1,18 @@
 use Rattle.std.proofs.Common.{subst}
 use Rattle.daemon_core.specs.LmtpSteps.{IsDeliveryResult}
-use Rattle.daemon_core.proofs.DeedLemmas.{asks_delivery, answer_delivery, unbrought}
+use Rattle.daemon_core.proofs.LmtpStepLemmas.{asks_delivery, answer_delivery, unbrought}
 use Rattle.daemon_core.proofs.mail_step.deliver.Goals as goal
 
 pub returns-in-Some-clause-does : goal.returns-in-Some-clause-does
 returns-in-Some-clause-does g c = λ spare.
-    let is : IsDeliveryResult c.args.parcel.sender c.in-Some.answer c.result_of-became.result = subst (λ x. IsDeliveryResult x c.in-Some.answer c.result_of-became.result) c.as_slice.ensures c.result_of-became.ensures in
-    answer_delivery g.O.Outside.tells g.O.Outside.seen g.O.Outside.rest g.O.StoreAccess.view g.O.StoreAccess.clean g.met.O.StoreAccess.sure c.args.outside.now c.deliver.new.self c.args.daemon.now c.deliver.new.clients c.args.now c.args.id c.answer_delivery.result
-    c.args.post.now c.answer_delivery.new.self spare c.answer_delivery.ensures.held g.O.StoreAccess.default c.args.parcel c.in-Some.answer c.result_of-became.result c.in-Some.ensures.delivers is c.answer_delivery.ensures.does c.asked_at-daemon.result c.asked_at-daemon.ensures
+    let is : IsDeliveryResult c.args.request.sender c.in-Some.answer c.result_of-became.result = subst (λ x. IsDeliveryResult x c.in-Some.answer c.result_of-became.result) c.as_slice.ensures c.result_of-became.ensures in
+    answer_delivery g.O.Outside.told g.O.StoreAccess.store g.met.O.StoreAccess.sure c.args.outside.now c.deliver.new.self c.args.daemon.now c.deliver.new.clients c.args.now c.args.id c.answer_delivery.result
+    c.args.connection.now c.answer_delivery.new.self spare c.answer_delivery.ensures.held c.args.request c.in-Some.answer c.result_of-became.result c.in-Some.ensures.delivers is c.answer_delivery.ensures.does c.asked_at-daemon.result c.asked_at-daemon.ensures
 
 pub returns-clause-does : goal.returns-clause-does
 returns-clause-does g c = λ spare.
-    unbrought g.O.Outside.tells g.O.Outside.seen g.O.Outside.rest g.O.StoreAccess.view g.O.StoreAccess.clean g.met.O.StoreAccess.sure c.args.outside.now c.deliver.new.self c.args.daemon.now c.deliver.new.clients c.args.now c.args.id c.new.result
-    c.args.post.now c.await_store.new.self spare c.await_store.ensures.held g.O.StoreAccess.default c.args.parcel c.in-None.ensures.delivers (rw c.new.ensures c.await_store.ensures.does)
+    unbrought g.O.Outside.told g.O.StoreAccess.store g.met.O.StoreAccess.sure c.args.outside.now c.deliver.new.self c.args.daemon.now c.deliver.new.clients c.args.now c.args.id c.new.result
+    c.args.connection.now c.await_store.new.self spare c.await_store.ensures.held c.args.request c.in-None.ensures.delivers (rw c.new.ensures c.await_store.ensures.does)
 
 pub await_store-requires : goal.await_store-requires
-await_store-requires g c = asks_delivery c.args.now c.args.post.now c.args.parcel c.requires
+await_store-requires g c = asks_delivery c.args.now c.args.connection.now c.args.request c.requires

@@ -1,7 +1,7 @@
 use Rattle.std.proofs.Common.{subst}
 use Rattle.lmtp_connections.specs.Connections.{Answered}
 use Rattle.lmtp_connections.specs.Stands.{Demands}
-use Rattle.daemon_core.proofs.DeedLemmas.{behind, answered, less_behind, one_behind}
+use Rattle.daemon_core.proofs.LmtpStepLemmas.{behind, answered, less_behind, one_behind}
 use Rattle.daemon_core.proofs.EventLemmas.{ok_then}
 use Rattle.daemon_core.proofs.mail_step.do_next.Goals as goal
 
@@ -22,29 +22,29 @@ deliver-requires g c = subst (Demands c.args.now c.demand.new.self) c.in-Deliver
 
 pub returns-in-Line-clause-ok : goal.returns-in-Line-clause-ok
 returns-in-Line-clause-ok g c = ok_then c.answer_line.result c.answer_line.ensures.ok (λ ok.
-    one_behind g.O.Outside.tells g.O.Outside.seen g.O.Outside.rest g.O.StoreAccess.view c.args.outside.now c.answer_line.new.outside c.args.daemon.now c.args.daemon.now c.args.post.now c.demand.new.self c.answer_line.new.post c.args.now c.args.id
+    one_behind g.O.Outside.told g.O.StoreAccess.store.view c.args.outside.now c.answer_line.new.outside c.args.daemon.now c.args.daemon.now c.args.connection.now c.demand.new.self c.answer_line.new.connection c.args.now c.args.id
     c.answer_line.new.out c.args.spare c.demand.ensures.keeps c.demand.ensures.receiver (ok c.args.daemon.now))
 
 pub returns-in_ok-line-in-PutOff-clause-ok : goal.returns-in_ok-line-in-PutOff-clause-ok
 returns-in_ok-line-in-PutOff-clause-ok g c =
-    answered g.O.Outside.tells g.O.Outside.seen g.O.Outside.rest g.O.StoreAccess.view g.O.StoreAccess.clean g.met.O.StoreAccess.sure c.args.outside.now c.tell_answered.new.self c.args.daemon.now c.args.daemon.now.clients c.args.now c.args.id
-    c.in_ok-line-in-PutOff.line c.args.post.now c.put_off.new.self c.args.spare
-    (less_behind c.args.post.now c.demand.new.self c.put_off.new.self c.demand.ensures.receiver c.put_off.ensures.held) (behind c.args.now Answered c.in_ok-line-in-PutOff.line c.args.post.now c.demand.new.self c.put_off.new.self c.demand.ensures.keeps c.in_ok-line-in-PutOff.ensures.does)
+    answered g.O.Outside.told g.O.StoreAccess.store g.met.O.StoreAccess.sure c.args.outside.now c.tell_answered.new.self c.args.daemon.now c.args.daemon.now.clients c.args.now c.args.id
+    c.in_ok-line-in-PutOff.line c.args.connection.now c.put_off.new.self c.args.spare
+    (less_behind c.args.connection.now c.demand.new.self c.put_off.new.self c.demand.ensures.receiver c.put_off.ensures.held) (behind c.args.now Answered c.in_ok-line-in-PutOff.line c.args.connection.now c.demand.new.self c.put_off.new.self c.demand.ensures.keeps c.in_ok-line-in-PutOff.ensures.does)
     c.tell_answered.ensures.told c.tell_answered.ensures.shown
 
 pub returns-in_ok-line-in-Reply-clause-ok : goal.returns-in_ok-line-in-Reply-clause-ok
 returns-in_ok-line-in-Reply-clause-ok g c =
-    answered g.O.Outside.tells g.O.Outside.seen g.O.Outside.rest g.O.StoreAccess.view g.O.StoreAccess.clean g.met.O.StoreAccess.sure c.args.outside.now c.tell_answered-in-Reply.new.self c.args.daemon.now c.args.daemon.now.clients c.args.now c.args.id
-    c.in_ok-line-in-Reply.line c.args.post.now c.reply.new.self c.args.spare
-    (less_behind c.args.post.now c.demand.new.self c.reply.new.self c.demand.ensures.receiver c.reply.ensures.held) (behind c.args.now Answered c.in_ok-line-in-Reply.line c.args.post.now c.demand.new.self c.reply.new.self c.demand.ensures.keeps c.in_ok-line-in-Reply.ensures.does)
+    answered g.O.Outside.told g.O.StoreAccess.store g.met.O.StoreAccess.sure c.args.outside.now c.tell_answered-in-Reply.new.self c.args.daemon.now c.args.daemon.now.clients c.args.now c.args.id
+    c.in_ok-line-in-Reply.line c.args.connection.now c.reply.new.self c.args.spare
+    (less_behind c.args.connection.now c.demand.new.self c.reply.new.self c.demand.ensures.receiver c.reply.ensures.held) (behind c.args.now Answered c.in_ok-line-in-Reply.line c.args.connection.now c.demand.new.self c.reply.new.self c.demand.ensures.keeps c.in_ok-line-in-Reply.ensures.does)
     c.tell_answered-in-Reply.ensures.told c.tell_answered-in-Reply.ensures.shown
 
 pub returns-in_ok-room-in-Account-clause-ok : goal.returns-in_ok-room-in-Account-clause-ok
 returns-in_ok-room-in-Account-clause-ok g c =
-    one_behind g.O.Outside.tells g.O.Outside.seen g.O.Outside.rest g.O.StoreAccess.view c.args.outside.now c.find_account_for.new.outside c.args.daemon.now c.find_account_for.new.daemon c.args.post.now c.demand.new.self c.find_account_for.new.post c.args.now c.args.id
+    one_behind g.O.Outside.told g.O.StoreAccess.store.view c.args.outside.now c.find_account_for.new.outside c.args.daemon.now c.find_account_for.new.daemon c.args.connection.now c.demand.new.self c.find_account_for.new.connection c.args.now c.args.id
     c.find_account_for.result c.args.spare c.demand.ensures.keeps c.demand.ensures.receiver (c.find_account_for.ensures.does c.args.spare)
 
 pub returns-in_ok-room-in-Delivery-clause-ok : goal.returns-in_ok-room-in-Delivery-clause-ok
 returns-in_ok-room-in-Delivery-clause-ok g c =
-    one_behind g.O.Outside.tells g.O.Outside.seen g.O.Outside.rest g.O.StoreAccess.view c.args.outside.now c.deliver.new.outside c.args.daemon.now c.deliver.new.daemon c.args.post.now c.demand.new.self c.deliver.new.post c.args.now c.args.id
+    one_behind g.O.Outside.told g.O.StoreAccess.store.view c.args.outside.now c.deliver.new.outside c.args.daemon.now c.deliver.new.daemon c.args.connection.now c.demand.new.self c.deliver.new.connection c.args.now c.args.id
     c.deliver.result c.args.spare c.demand.ensures.keeps c.demand.ensures.receiver (c.deliver.ensures.does c.args.spare)

@@ -12,25 +12,25 @@ returns-then-not-is_out-clause-err c =
     let kept = give_keeps c.args.id c.args.piece.now c.give.result c.args.daemon.now.clients.sessions c.give.new.self.sessions none c.give.ensures in
     err_any c.lack-then-not-is_out.result (record {
       kept = keeps_same c.args.daemon.now.clients.sessions c.give.new.self c.lack-then-not-is_out.new.daemon.clients kept c.lack-then-not-is_out.ensures.forgets.clients;
-      place = record { places = c.lack-then-not-is_out.ensures.forgets.place.places; holding = c.lack-then-not-is_out.ensures.forgets.place.holding };
+      state = record { states = c.lack-then-not-is_out.ensures.forgets.state.states; holding = c.lack-then-not-is_out.ensures.forgets.state.holding };
     })
 
 pub returns-clause-ok : goal.returns-clause-ok
 returns-clause-ok c =
     let out : is_out c.give.result ≡ true = search rules in
-    let there : true ≡ is_some (tree.get nat_cmp c.args.daemon.now.places c.args.id) = search rules in
-    let place = some_there (tree.get nat_cmp c.args.daemon.now.places c.args.id) there in
+    let there : true ≡ is_some (tree.get nat_cmp c.args.daemon.now.states c.args.id) = search rules in
+    let state = some_there (tree.get nat_cmp c.args.daemon.now.states c.args.id) there in
     let session : tree.get nat_cmp c.args.daemon.now.clients.sessions c.args.id ≡ Some c.in-Some.session.now = search rules in
     let begins : c.unread_len-begins.result == 0 ≡ (length c.in-Some.session.now.client.unread == 0) = ap (λ n. n == 0) c.unread_len-begins.ensures in
     record {
       silent = refl;
       event = (c.give.result, out, c.give.ensures);
-      before = place.0;
-      was = place.1;
+      before = state.0;
+      was = state.1;
       client = c.in-Some.session.now.client;
       session = ap (λ o. option_map (λ (s : SessionView). s.client) o) session;
-      place = record {
-        places = (subst (λ b. tree.Updates nat_cmp c.args.daemon.now.places c.begin.new.places c.args.id (Some (begun c.args.now place.0 b c.args.fit))) begins (c.begin.ensures place.0 place.1)).0;
+      state = record {
+        states = (subst (λ b. tree.Updates nat_cmp c.args.daemon.now.states c.begin.new.states c.args.id (Some (begun c.args.now state.0 b c.args.fit))) begins (c.begin.ensures state.0 state.1)).0;
         holding = refl;
       };
     }

@@ -10,5 +10,5 @@ returns c =
     let made = closed c.args.id c.apply_free.result c.forget.new.daemon.clients.sessions c.apply_free.new.clients.sessions c.apply_free.ensures.made c.apply_free.ensures.asks c.apply_free.ensures.lacks in
     record {
       event = (made.0, subst (λ (k : Clients). IsSessionEvent (Close c.args.id) made.0 k.sessions c.apply_free.new.clients.sessions) c.forget.ensures.clients made.1);
-      place = record { places = c.forget.ensures.place.places; holding = c.forget.ensures.place.holding };
+      state = record { states = c.forget.ensures.state.states; holding = c.forget.ensures.state.holding };
     }

@@ -8,7 +8,7 @@ pub returns-clause-renews : goal.returns-clause-renews
 returns-clause-renews c = record {
   clients = refl;
   holding = refl;
-  place = λ before was.
-      (subst (λ b. tree.Updates nat_cmp c.args.daemon.now.places c.replace_waits.new.places c.args.id (Some (state_renewed c.args.now before c.args.waits c.args.answered b)))
+  state = λ before was.
+      (subst (λ b. tree.Updates nat_cmp c.args.daemon.now.states c.replace_waits.new.states c.args.id (Some (state_renewed c.args.now before c.args.waits c.args.answered b)))
       c.is_user-user.ensures (c.replace_waits.ensures.changed before was)).0;
 }

@@ -1,5 +1,5 @@
 use Rattle.lmtp_dialogue.proofs.LineLemmas.{one_found}
-use Rattle.lmtp_dialogue.specs.declared.line.Found.TheVariants.{TooLong}
+use Rattle.lmtp_dialogue.specs.declared.command_line.Found.TheVariants.{TooLong}
 use Rattle.lmtp_dialogue.proofs.receiver.is_too_long.Goals as goal
 
 pub returns-in_default : goal.returns-in_default

@@ -6,7 +6,7 @@ use Rattle.store_accounts.proofs.KeepLemmas.{reads_answer}
 use Rattle.managesieve_sessions.specs.declared.account.KeptScripts.{KeptScripts}
 use Rattle.managesieve_sessions.specs.Decisions.{AreScripts, Decides}
 use Rattle.managesieve_sessions.specs.CommandClasses.{of_script}
-use Rattle.managesieve_sessions.proofs.OrderLemmas.{got, decides_named}
+use Rattle.managesieve_sessions.proofs.OrderLemmas.{got, decides_named, copied_is}
 use Rattle.managesieve_sessions.proofs.account.decision_on.Goals as goal
 
 pub returns-in-Get : goal.returns-in-Get
@@ -18,4 +18,4 @@ pub returns : goal.returns
 returns g c =
     let decides = c.in_ok-decision.ensures in
     reads_answer c.args.user.now (λ (kept : KeptScripts) (a : Account). AreScripts kept.names kept.active a) (Decides (of_script c.args.command.now)) (state g.S.Store c.args.store.now) (state g.S.Store c.kept_scripts.new.store) c.kept_scripts.result c.in_ok-names.field-0 c.in_ok-names.was
-    (Ok _) tt (λ a fits. decides_named c.args.command.now c.in-Named.command _ _ a c.in-Named.is decides (fits.0, fits.1 ∙ sym c.slice_of.ensures)) c.kept_scripts.ensures
+    (Ok _) tt (λ a fits. decides_named c.args.command.now c.in-Named.command _ _ a c.in-Named.is decides (fits.0, fits.1 ∙ sym (copied_is c.as_deref.result ∙ c.as_deref.ensures))) c.kept_scripts.ensures

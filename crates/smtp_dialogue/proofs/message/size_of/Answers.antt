@@ -1,5 +1,5 @@
 use Rattle.std.proofs.Common.{sym, ◌∙◌}
-use Rattle.smtp_dialogue.proofs.LetterLemmas.{feed, plain, bare}
+use Rattle.smtp_dialogue.proofs.MessageLemmas.{feed, plain, bare}
 use Rattle.smtp_dialogue.proofs.message.size_of.Goals as goal
 use Rattle.smtp_dialogue.proofs.message.size_of.Goals.{then-octet-ne13-via-then-octet-ne13, then-octet-ne13-via-else-octet-ne13+then-not-begins_feed}
 

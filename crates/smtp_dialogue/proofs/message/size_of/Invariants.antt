@@ -1,5 +1,5 @@
 use Rattle.std.proofs.Common.{length}
-use Rattle.smtp_dialogue.proofs.LetterLemmas.{Counts}
+use Rattle.smtp_dialogue.proofs.MessageLemmas.{Counts}
 use Rattle.smtp_dialogue.proofs.message.size_of.Given as goal
 
 abbrev pub invariant-loop-octet : goal.invariant-loop-octet

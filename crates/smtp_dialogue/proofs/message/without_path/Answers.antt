@@ -1,5 +1,5 @@
 use Rattle.std.proofs.Common.{sym, ◌∙◌}
-use Rattle.smtp_dialogue.proofs.LetterLemmas.{keeps}
+use Rattle.smtp_dialogue.proofs.MessageLemmas.{keeps}
 use Rattle.smtp_dialogue.proofs.message.without_path.Goals as goal
 
 pub returns-else-is_path : goal.returns-else-is_path

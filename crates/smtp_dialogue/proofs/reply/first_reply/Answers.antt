@@ -1,6 +1,6 @@
 use Rattle.std.proofs.Common.{take, drop, subst, sym, ap, ◌∙◌}
 use Rattle.lmtp_dialogue.specs.Lines.{LineFinds}
-use Rattle.lmtp_dialogue.specs.declared.line.Found.TheVariants as found
+use Rattle.lmtp_dialogue.specs.declared.command_line.Found.TheVariants as found
 use Rattle.smtp_dialogue.specs.Replies.{IsReplyLine}
 use Rattle.smtp_dialogue.proofs.ReplyLemmas.{begins_more, hears_need, hears_long, hears_bad}
 use Rattle.smtp_dialogue.proofs.reply.first_reply.Goals as goal

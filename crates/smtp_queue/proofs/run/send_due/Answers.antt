@@ -16,7 +16,7 @@ returns g c = λ before shows said.
     let begins = subst (λ q. ShowsRows ghosts tells q.waits.now q.now (g.K.Keeper.holds first.held.keeper) first.held.store before.rows) (sym c.new-queue.ensures.search) kept in
     let one = c.send_queue-tally.ensures before begins said in
     record {
-      deeds = one.deeds;
+      attempts = one.attempts;
       after = one.after;
       shows = (
         last.search.waits.now,

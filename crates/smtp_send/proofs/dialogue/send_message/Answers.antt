@@ -7,6 +7,6 @@ returns-clause-treats g c = λ t said.
     let it = c.speak.ensures.says t said in (
       it.0,
       it.1,
-      treats c.args.offered c.args.may_eight_bit (smtp_mail_of c.args.letter) t it.0 c.speak.result (c.is_addressed.ensures.0 c.if-not-is_addressed.false)
+      treats c.args.offered c.args.may_eight_bit (smtp_mail_of c.args.message) t it.0 c.speak.result (c.is_addressed.ensures.0 c.if-not-is_addressed.false)
           (c.is_offered.ensures.0 c.if-not-is_offered.false) it.2,
     )

@@ -1,6 +1,6 @@
 use Rattle.std.proofs.Common.{subst, false, true, Ok, Err}
-use Rattle.smtp_send.specs.Deeds.{RunReaches}
-use Rattle.smtp_send.proofs.DeedLemmas.{nothing, one_row}
+use Rattle.smtp_send.specs.Attempts.{RunReaches}
+use Rattle.smtp_send.proofs.AttemptLemmas.{nothing, one_row}
 use Rattle.smtp_send.proofs.run.hand_over.Goals as goal
 
 pub returns-in_default-clause-reaches : goal.returns-in_default-clause-reaches

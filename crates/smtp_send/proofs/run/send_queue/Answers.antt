@@ -1,6 +1,6 @@
 use Rattle.std.proofs.Common.{refl, true, false, ◌∙◌}
 use Rattle.smtp_send.specs.Rows.{Rows, IsThere}
-use Rattle.smtp_send.proofs.DeedLemmas.{nothing, then_row, row_there}
+use Rattle.smtp_send.proofs.AttemptLemmas.{nothing, then_row, row_there}
 use Rattle.smtp_send.proofs.run.send_queue.Goals as goal
 
 pub loop-init : goal.loop-init

@@ -1,5 +1,5 @@
 use Rattle.std.proofs.Common.{◌≡◌, true}
-use Rattle.smtp_send.specs.Deeds.{RunReaches, SendState}
+use Rattle.smtp_send.specs.Attempts.{RunReaches, SendState}
 use Rattle.smtp_send.proofs.run.send_queue.Given as goal
 
 abbrev pub invariant-loop : goal.invariant-loop

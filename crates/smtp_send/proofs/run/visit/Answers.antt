@@ -1,5 +1,5 @@
 use Rattle.std.specs.Prelude.{is_ok}
-use Rattle.smtp_send.proofs.DeedLemmas.{stays}
+use Rattle.smtp_send.proofs.AttemptLemmas.{stays}
 use Rattle.smtp_send.proofs.run.visit.Goals as goal
 
 pub returns-clause-reaches : goal.returns-clause-reaches

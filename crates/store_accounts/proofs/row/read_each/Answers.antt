@@ -1,5 +1,4 @@
-use Rattle.std.proofs.Common.{◌≡◌, ◌∙◌, [], ◌∷◌, ◌++◌, Ok, Err, OnOk, IfErr, inr, refl, rules}
-use Rattle.sqlite.specs.Held.{state}
+use Rattle.std.proofs.Common.{◌≡◌, ◌∙◌, [], ◌∷◌, ◌++◌, Err, OnOk, IfErr, inr, refl, rules}
 use Rattle.store_accounts.specs.declared.refusal.Refusal.TheVariants.{Store}
 use Rattle.store_accounts.specs.Refusals.{IsTransient}
 use Rattle.store_accounts.proofs.EachLemmas.{begun, advanced, read_whole, refused, stopped, passed_over, failed, seen_committed}

@@ -1,7 +1,7 @@
 use Rattle.std.proofs.Common.{◌≡◌, refl}
 use Rattle.sqlite.specs.Held.{state}
 use Rattle.store_engine.specs.declared.event.Event.{Event}
-use Rattle.store_engine.specs.declared.event.Event.TheVariants.{Open, Give, Step, GiveUp, Close, Deliver, AddUser, Import, TakeOut, TakeMail, Keep}
+use Rattle.store_engine.specs.declared.event.Event.TheVariants.{Open, Give, Step, GiveUp, Close, Deliver, AddUser, Import, TakeOut, TakeMail, DoUpkeep}
 use Rattle.store_engine.specs.declared.answer.Answer.TheVariants.{Delivered, Added, Imported, Taken, MailTaken}
 use Rattle.store_engine.specs.AccountEvents.{Delivery, Addition, Importing, Taking, MailTaking}
 use Rattle.store_engine.specs.Upkeep.{Keeping}
@@ -119,16 +119,16 @@ returns-in-TakeMail-clause-crash g c =
     crash_is c.args.event.now event (state g.S.Store c.args.store.now) (state g.S.Store c.take_mail-taken.new.store) c.args.sessions.now is
     (account_crash event (λ accounts. MailTaking accounts c.as_slice-in-TakeMail.result.now c.as_slice-in-TakeMail-2.result.now) IsTransient (λ w answer next made. made) (mail_taking_may c.as_slice-in-TakeMail.result.now c.as_slice-in-TakeMail-2.result.now) (state g.S.Store c.args.store.now) (state g.S.Store c.take_mail-taken.new.store) c.args.sessions.now c.take_mail-taken.result (answer_by (λ done. MailTaken) c.take_mail-taken.result) c.take_mail-taken.ensures.acts)
 
-pub returns-in-Keep-clause-event : goal.returns-in-Keep-clause-event
-returns-in-Keep-clause-event g c =
-    let event : Event = Keep c.as_slice-in-Keep.result.now c.in-Keep.upkeep in
+pub returns-in-DoUpkeep-clause-event : goal.returns-in-DoUpkeep-clause-event
+returns-in-DoUpkeep-clause-event g c =
+    let event : Event = DoUpkeep c.as_slice-in-DoUpkeep.result.now c.in-DoUpkeep.upkeep in
     let is : c.args.event.now ≡ event = cc in
-    event_is c.args.event.now event c.answer_of-in-Keep.result (answer_of c.do_upkeep.result) (state g.S.Store c.args.store.now) (state g.S.Store c.do_upkeep.new.store) c.args.sessions.now c.args.sessions.now is c.answer_of-in-Keep.ensures
-    (account_event event (λ accounts. Keeping accounts c.as_slice-in-Keep.result.now c.in-Keep.upkeep) (MayRefuseKeeping c.in-Keep.upkeep) (λ w answer next made. made) (keeping_may c.as_slice-in-Keep.result.now c.in-Keep.upkeep) (state g.S.Store c.args.store.now) (state g.S.Store c.do_upkeep.new.store) c.args.sessions.now (λ answer. answer) c.do_upkeep.result c.do_upkeep.ensures)
+    event_is c.args.event.now event c.answer_of-in-DoUpkeep.result (answer_of c.do_upkeep.result) (state g.S.Store c.args.store.now) (state g.S.Store c.do_upkeep.new.store) c.args.sessions.now c.args.sessions.now is c.answer_of-in-DoUpkeep.ensures
+    (account_event event (λ accounts. Keeping accounts c.as_slice-in-DoUpkeep.result.now c.in-DoUpkeep.upkeep) (MayRefuseKeeping c.in-DoUpkeep.upkeep) (λ w answer next made. made) (keeping_may c.as_slice-in-DoUpkeep.result.now c.in-DoUpkeep.upkeep) (state g.S.Store c.args.store.now) (state g.S.Store c.do_upkeep.new.store) c.args.sessions.now (λ answer. answer) c.do_upkeep.result c.do_upkeep.ensures)
 
-pub returns-in-Keep-clause-crash : goal.returns-in-Keep-clause-crash
-returns-in-Keep-clause-crash g c =
-    let event : Event = Keep c.as_slice-in-Keep.result.now c.in-Keep.upkeep in
+pub returns-in-DoUpkeep-clause-crash : goal.returns-in-DoUpkeep-clause-crash
+returns-in-DoUpkeep-clause-crash g c =
+    let event : Event = DoUpkeep c.as_slice-in-DoUpkeep.result.now c.in-DoUpkeep.upkeep in
     let is : c.args.event.now ≡ event = cc in
     crash_is c.args.event.now event (state g.S.Store c.args.store.now) (state g.S.Store c.do_upkeep.new.store) c.args.sessions.now is
-    (account_crash event (λ accounts. Keeping accounts c.as_slice-in-Keep.result.now c.in-Keep.upkeep) (MayRefuseKeeping c.in-Keep.upkeep) (λ w answer next made. made) (keeping_may c.as_slice-in-Keep.result.now c.in-Keep.upkeep) (state g.S.Store c.args.store.now) (state g.S.Store c.do_upkeep.new.store) c.args.sessions.now c.do_upkeep.result (answer_by (λ answer. answer) c.do_upkeep.result) c.do_upkeep.ensures)
+    (account_crash event (λ accounts. Keeping accounts c.as_slice-in-DoUpkeep.result.now c.in-DoUpkeep.upkeep) (MayRefuseKeeping c.in-DoUpkeep.upkeep) (λ w answer next made. made) (keeping_may c.as_slice-in-DoUpkeep.result.now c.in-DoUpkeep.upkeep) (state g.S.Store c.args.store.now) (state g.S.Store c.do_upkeep.new.store) c.args.sessions.now c.do_upkeep.result (answer_by (λ answer. answer) c.do_upkeep.result) c.do_upkeep.ensures)

@@ -7,5 +7,5 @@ use Rattle.daemon_host.proofs.host_store.HostStore.find_account.Goals as goal
 
 pub returns-clause-seeks : goal.returns-clause-seeks
 returns-clause-seeks g c = λ clean accounts shown.
-    let it = c.find_account.ensures.finds clean accounts (subst (λ o. ShowsBy g.K.S.Store g.K.Keeper.tells (g.K.Keeper.holds c.args.self.now.keeper) o accounts) c.in-Some.is shown) in
+    let it = c.find_account.ensures.finds clean accounts (subst (λ o. ShowsBy g.K.S.Store g.K.Keeper.tells (g.K.Keeper.holds c.args.self.now.held.keeper) o accounts) c.in-Some.is shown) in
     (it.0, it.1.shown, subst (λ o. MayLeave (λ trees. LeavesBy g.K.S.Store o trees) accounts (leaves_of (state g.K.S.Store c.find_account.new.store)) accounts none_tried) (sym c.in-Some.is) it.1.left)

@@ -9,7 +9,7 @@ use Rattle.daemon_host.proofs.host_store.HostStore.move_next.Goals as goal
 
 pub returns-clause-moves : goal.returns-clause-moves
 returns-clause-moves g c = λ clean w shown.
-    let it = c.move_next.ensures.moves clean w (subst (λ o. ShowsBy g.K.S.Store g.K.Keeper.tells (g.K.Keeper.holds c.args.self.now.keeper) o w.accounts) c.in-Some.is shown) in (
+    let it = c.move_next.ensures.moves clean w (subst (λ o. ShowsBy g.K.S.Store g.K.Keeper.tells (g.K.Keeper.holds c.args.self.now.held.keeper) o w.accounts) c.in-Some.is shown) in (
       it.0,
       it.1,
       it.2.shown,

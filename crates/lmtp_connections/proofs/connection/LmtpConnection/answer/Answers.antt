@@ -1,6 +1,6 @@
 use Rattle.std.proofs.Common.{refl}
 use Rattle.lmtp_connections.specs.declared.connection.LmtpConnection.{LmtpConnection as Code}
-use Rattle.lmtp_connections.proofs.PostLemmas.{answers}
+use Rattle.lmtp_connections.proofs.ConnectionLemmas.{answers}
 use Rattle.lmtp_connections.proofs.connection.LmtpConnection.answer.Goals as goal
 
 pub returns-clause-does : goal.returns-clause-does

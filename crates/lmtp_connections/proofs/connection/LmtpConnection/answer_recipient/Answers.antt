@@ -3,7 +3,7 @@ use Rattle.lmtp_dialogue.specs.declared.receiver.Lookup.TheVariants.{Known, Unkn
 use Rattle.lmtp_connections.specs.Connections.{taken_with, Asked}
 use Rattle.lmtp_connections.specs.Stands.{ConnectionDoes}
 use Rattle.lmtp_connections.specs.declared.connection.LmtpConnection.{LmtpConnection as Code}
-use Rattle.lmtp_connections.proofs.PostLemmas.{found, tried, not_taken}
+use Rattle.lmtp_connections.proofs.ConnectionLemmas.{found, tried, not_taken}
 use Rattle.lmtp_connections.proofs.connection.LmtpConnection.answer_recipient.Goals as goal
 
 pub returns-in-Known-clause-does : goal.returns-in-Known-clause-does
@@ -21,8 +21,8 @@ returns-in-Some-clause-does c =
     let q = c.args.question in
     subst (λ l. ConnectionDoes c.args.now (Asked q.user l) c.try_next.result s c.try_next.new.self) (sym c.in-Unknown.is)
     (subst (λ e. ConnectionDoes c.args.now (Asked q.user Unknown) c.try_next.result s e) (sym c.try_next.ensures.rest)
-    (subst (λ x. ConnectionDoes c.args.now (Asked q.user Unknown) x s (record s { tally = c.try_next.new.self.tally })) (sym c.try_next.ensures.said)
-    (tried c.args.now c.in-Some.next s c.try_next.new.self.tally q c.requires.asked c.in-Some.is c.try_next.ensures.tally)))
+    (subst (λ x. ConnectionDoes c.args.now (Asked q.user Unknown) x s (record s { progress = c.try_next.new.self.progress })) (sym c.try_next.ensures.said)
+    (tried c.args.now c.in-Some.next s c.try_next.new.self.progress q c.requires.asked c.in-Some.is c.try_next.ensures.progress)))
 
 pub returns-in-None-clause-does : goal.returns-in-None-clause-does
 returns-in-None-clause-does c =

@@ -1,4 +1,4 @@
-use Rattle.lmtp_connections.proofs.PostLemmas.{awaits}
+use Rattle.lmtp_connections.proofs.ConnectionLemmas.{awaits}
 use Rattle.lmtp_connections.proofs.connection.LmtpConnection.await_store.Goals as goal
 
 pub returns-clause-does : goal.returns-clause-does

@@ -17,7 +17,7 @@ returns c =
     let forms = c.in_ok-forms.forms in
     let question : Question = record { user = c.in_ok-user.user; address = c.in_ok-address.address; next = c.following.result } in
     let address : c.in_ok-address.address ≡ c.args.address.now = c.in_ok-address.ensures in
-    let there : slice_get forms c.args.self.now.tally.tried ≡ Some c.in_ok-user.user =
-    ap (λ (xs : List (List ℕ)). slice_get xs c.args.self.now.tally.tried) (sym c.as_slice.ensures) ∙ (sym c.in-Some.ensures ∙ ap (λ b. Some b) (sym c.in_ok-user.ensures)) in
-    let follows : FormFollows c.args.self.now.tally.tried (length forms) c.following.result = subst (λ n. FormFollows c.args.self.now.tally.tried n c.following.result) c.len.ensures c.following.ensures in
+    let there : slice_get forms c.args.self.now.progress.tried ≡ Some c.in_ok-user.user =
+    ap (λ (xs : List (List ℕ)). slice_get xs c.args.self.now.progress.tried) (sym c.as_slice.ensures) ∙ (sym c.in-Some.ensures ∙ ap (λ b. Some b) (sym c.in_ok-user.ensures)) in
+    let follows : FormFollows c.args.self.now.progress.tried (length forms) c.following.result = subst (λ n. FormFollows c.args.self.now.progress.tried n c.following.result) c.len.ensures c.following.ensures in
     account c.args.now c.args.self.now question forms (rw address c.requires) (subst (λ a. AreForms c.args.self.now.names a forms) (sym address) c.in_ok-forms.ensures) there follows (c.may_ask.ensures.may yes)

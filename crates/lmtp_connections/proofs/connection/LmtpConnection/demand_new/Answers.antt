@@ -26,6 +26,6 @@ returns c =
     let headed : has_long_text_header c.args.text.now ≡ false = search rules in
     let is : was_delivered c.args.addressee.now.address c.args.text.now ≡ false = search rules in
     let yes : c.may_ask.result ≡ true = search rules in
-    let made = c.in_ok-parcel.ensures in
-    delivery c.args.now c.args.self.now c.args.addressee.now c.args.sender.now c.args.text.now c.requires.owes c.requires.once headed is (c.may_ask.ensures.may yes) c.in_ok-parcel.parcel made.user made.sender made.recipient
+    let made = c.in_ok-request.ensures in
+    delivery c.args.now c.args.self.now c.args.addressee.now c.args.sender.now c.args.text.now c.requires.owes c.requires.once headed is (c.may_ask.ensures.may yes) c.in_ok-request.request made.user made.sender made.recipient
     made.copy

@@ -9,13 +9,13 @@ use Rattle.lmtp_connections.proofs.connection.LmtpConnection.demand_reply.Goals 
 pub demand_delivery-requires-clause-owes : goal.demand_delivery-requires-clause-owes
 demand_delivery-requires-clause-owes c =
     let s = c.args.self.now in
-    let there : slice_get s.addressees.items s.tally.told ≡ Some c.in-Some.addressee.now = ap (λ xs. slice_get xs s.tally.told) (sym c.as_slice.ensures.value) ∙ sym c.in-Some.ensures in
-    let same : c.in-Some.addressee.now.address ≡ c.args.delivery.recipient.now = search rules in
-    owes c.args.now s c.in-Some.addressee.now c.args.delivery c.requires there same c.in-Ok.text c.in-Ok.is
+    let there : slice_get s.addressees.items s.progress.told ≡ Some c.in-Some.addressee.now = ap (λ xs. slice_get xs s.progress.told) (sym c.as_slice.ensures.value) ∙ sym c.in-Some.ensures in
+    let same : c.in-Some.addressee.now.address ≡ c.args.received.recipient.now = search rules in
+    owes c.args.now s c.in-Some.addressee.now c.args.received c.requires there same c.in-Ok.text c.in-Ok.is
 
 pub returns-in-Err : goal.returns-in-Err
 returns-in-Err c =
     let s = c.args.self.now in
-    let there : slice_get s.addressees.items s.tally.told ≡ Some c.in-Some.addressee.now = ap (λ xs. slice_get xs s.tally.told) (sym c.as_slice.ensures.value) ∙ sym c.in-Some.ensures in
-    let same : c.in-Some.addressee.now.address ≡ c.args.delivery.recipient.now = search rules in
-    subst (λ r. Demands c.args.now s (Reply (Refused r))) (sym c.reply_for.ensures) (unkept c.args.now s c.in-Some.addressee.now c.args.delivery c.requires there same c.in-Err.trouble c.in-Err.is)
+    let there : slice_get s.addressees.items s.progress.told ≡ Some c.in-Some.addressee.now = ap (λ xs. slice_get xs s.progress.told) (sym c.as_slice.ensures.value) ∙ sym c.in-Some.ensures in
+    let same : c.in-Some.addressee.now.address ≡ c.args.received.recipient.now = search rules in
+    subst (λ r. Demands c.args.now s (Reply (Refused r))) (sym c.reply_for.ensures) (unkept c.args.now s c.in-Some.addressee.now c.args.received c.requires there same c.in-Err.fault c.in-Err.is)

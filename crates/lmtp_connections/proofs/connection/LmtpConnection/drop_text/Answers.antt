@@ -1,5 +1,5 @@
 use Rattle.std.proofs.Common.{refl}
-use Rattle.lmtp_connections.proofs.PostLemmas.{drops}
+use Rattle.lmtp_connections.proofs.ConnectionLemmas.{drops}
 use Rattle.lmtp_connections.proofs.connection.LmtpConnection.drop_text.Goals as goal
 
 pub returns-clause-keeps : goal.returns-clause-keeps

@@ -1,5 +1,5 @@
 use Rattle.std.proofs.Common.{refl}
-use Rattle.lmtp_connections.proofs.PostLemmas.{goes_on}
+use Rattle.lmtp_connections.proofs.ConnectionLemmas.{goes_on}
 use Rattle.lmtp_connections.proofs.connection.LmtpConnection.go_on.Goals as goal
 
 pub returns-clause-goes : goal.returns-clause-goes

@@ -1,4 +1,4 @@
-use Rattle.lmtp_connections.proofs.PostLemmas.{puts_off}
+use Rattle.lmtp_connections.proofs.ConnectionLemmas.{puts_off}
 use Rattle.lmtp_connections.proofs.connection.LmtpConnection.put_off.Goals as goal
 
 pub returns-clause-does : goal.returns-clause-does

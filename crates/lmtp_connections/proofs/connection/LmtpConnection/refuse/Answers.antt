@@ -3,7 +3,7 @@ use Rattle.lmtp_dialogue.specs.Receivers.{ReceiverRefuses as RefusesIn}
 use Rattle.lmtp_dialogue.specs.declared.receiver.Receiver.{Receiver}
 use Rattle.lmtp_connections.specs.Stands.{ConnectionRefuses}
 use Rattle.lmtp_connections.specs.declared.connection.LmtpConnection.{LmtpConnection as Code}
-use Rattle.lmtp_connections.proofs.PostLemmas.{declines}
+use Rattle.lmtp_connections.proofs.ConnectionLemmas.{declines}
 use Rattle.lmtp_connections.proofs.connection.LmtpConnection.refuse.Goals as goal
 
 pub returns-then-did-clause-ok : goal.returns-then-did-clause-ok

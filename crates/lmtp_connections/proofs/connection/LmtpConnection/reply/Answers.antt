@@ -1,4 +1,4 @@
-use Rattle.lmtp_connections.proofs.PostLemmas.{replies}
+use Rattle.lmtp_connections.proofs.ConnectionLemmas.{replies}
 use Rattle.lmtp_connections.proofs.connection.LmtpConnection.reply.Goals as goal
 
 pub returns-clause-does : goal.returns-clause-does

@@ -1,16 +1,16 @@
 use Rattle.std.proofs.Common.{◌≡◌, ◌∙◌, refl}
-use Rattle.lmtp_dialogue.specs.declared.reply.DeliveryOutcome.{DeliveryOutcome}
-use Rattle.lmtp_dialogue.specs.declared.reply.DeliveryOutcome.TheVariants.{Refused}
+use Rattle.lmtp_dialogue.specs.declared.reply.RecipientReply.{RecipientReply}
+use Rattle.lmtp_dialogue.specs.declared.reply.RecipientReply.TheVariants.{Refused}
 use Rattle.lmtp_dialogue.specs.declared.reply.LmtpReply.TheVariants.{Done}
 use Rattle.lmtp_connections.specs.Connections.{said_for}
 use Rattle.lmtp_connections.specs.declared.connection.LmtpConnection.{LmtpConnection as Code}
-use Rattle.lmtp_connections.proofs.PostLemmas.{tells}
+use Rattle.lmtp_connections.proofs.ConnectionLemmas.{tells}
 use Rattle.lmtp_connections.proofs.connection.LmtpConnection.tell.Goals as goal
 
 pub returns-clause-tells : goal.returns-clause-tells
 returns-clause-tells c =
     let s = c.args.self.now in
-    let any : DeliveryOutcome = Refused Done in
+    let any : RecipientReply = Refused Done in
     let m : Code = record s { receiver = c.pass.new.self } in
     let line : c.say-line.result ≡ said_for c.args.became = c.say-line.ensures ∙ c.outcome.ensures in
     tells c.args.now c.args.became c.say-line.result (c.pass.ensures.goes any).0 any s m c.note_became.new.self c.go_on.new.self (c.pass.ensures.goes any).1 line c.pass.ensures.hello refl refl refl

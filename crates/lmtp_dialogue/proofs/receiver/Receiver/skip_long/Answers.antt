@@ -1,6 +1,6 @@
 use Rattle.std.proofs.Common.{sym, ◌∙◌, subst}
 use Rattle.lmtp_dialogue.specs.Lines.{LineFinds}
-use Rattle.lmtp_dialogue.specs.declared.line.Found.TheVariants.{TooLong}
+use Rattle.lmtp_dialogue.specs.declared.command_line.Found.TheVariants.{TooLong}
 use Rattle.lmtp_dialogue.proofs.ReceiverLemmas.{takes_line}
 use Rattle.lmtp_dialogue.proofs.receiver.Receiver.skip_long.Goals as goal
 

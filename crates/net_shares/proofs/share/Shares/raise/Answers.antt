@@ -2,7 +2,7 @@ use Rattle.std.proofs.Common.{◌≡◌, ℕ, List, [], ◌∷◌, Option, Some,
 use Rattle.std.specs.List.{position}
 use Rattle.std.proofs.lemmas.Option.{slice_get-get_or}
 use Rattle.net_shares.specs.Shares.{is_same_account, with_spent, more_of}
-use Rattle.net_shares.specs.declared.account.TimeAccount.{TimeAccount}
+use Rattle.net_shares.specs.declared.time_account.TimeAccount.{TimeAccount}
 use Rattle.net_shares.specs.declared.share.Share.{Share}
 use Rattle.net_shares.proofs.FirstLemmas.{changes_at, changes_none, is_within}
 use Rattle.net_shares.proofs.share.Shares.raise.Goals as goal

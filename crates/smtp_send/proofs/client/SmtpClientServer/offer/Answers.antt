@@ -1,12 +1,12 @@
 use Rattle.std.proofs.Common.{take}
-use Rattle.smtp_send.proofs.WireLemmas.{letter_more, letter_front}
+use Rattle.smtp_send.proofs.WireLemmas.{message_more, message_front}
 use Rattle.smtp_send.proofs.client.SmtpClientServer.offer.Goals as goal
 
 pub returns-in-Ok-clause-ok : goal.returns-in-Ok-clause-ok
 returns-in-Ok-clause-ok g c = λ t passes.
-    letter_more (g.P.SmtpPeer.passed c.args.self.now.peer) (g.P.SmtpPeer.passed c.offer.new.self) c.args.self.now.unread (take c.in-Ok.count c.args.octets.now) t c.in-Ok.ensures.ok passes
+    message_more (g.P.SmtpPeer.passed c.args.self.now.peer) (g.P.SmtpPeer.passed c.offer.new.self) c.args.self.now.unread (take c.in-Ok.count c.args.octets.now) t c.in-Ok.ensures.ok passes
 
 pub returns-in-Err-clause-err : goal.returns-in-Err-clause-err
 returns-in-Err-clause-err g c = λ t passes.
-    let it = letter_front (g.P.SmtpPeer.passed c.args.self.now.peer) (g.P.SmtpPeer.passed c.offer.new.self) c.args.self.now.unread c.args.octets.now t c.in-Err.ensures.err passes in
+    let it = message_front (g.P.SmtpPeer.passed c.args.self.now.peer) (g.P.SmtpPeer.passed c.offer.new.self) c.args.self.now.unread c.args.octets.now t c.in-Err.ensures.err passes in
     (it.0, c.leave.ensures it.0 it.1, it.2)

@@ -7,7 +7,7 @@ use Rattle.store_engine.specs.AccountEvents.{Addition, Importing, Taking, MailTa
 use Rattle.store_engine.specs.Hosts.{ActsAddition, ActsTaking, ActsMailTaking, ActsKeeping, MayRefuseAddition, MayRefuseImport, MayRefuseKeeping}
 use Rattle.store_engine.specs.Upkeep.{Keeping}
 use Rattle.store_engine.specs.declared.answer.Answer.TheVariants.{Added, Imported, Taken, MailTaken}
-use Rattle.store_engine.specs.declared.event.Event.TheVariants.{Deliver, AddUser, Import, TakeOut, TakeMail, Keep}
+use Rattle.store_engine.specs.declared.event.Event.TheVariants.{Deliver, AddUser, Import, TakeOut, TakeMail, DoUpkeep}
 use Rattle.store_engine.proofs.HostLemmas.{addition_may, importing_may, taking_may, mail_taking_may, keeping_may}
 use Rattle.test_daemon.specs.Memory.{memory_view_of}
 use Rattle.test_daemon.specs.Shelves.{IsLet}
@@ -71,14 +71,14 @@ returns-in-TakeMail-clause-lets c =
     (lets_by (TakeMail it.user it.folder) (λ accounts. MailTaking accounts it.user it.folder) IsTransient (mail_taking_may it.user it.folder) (λ w answer later row. (later, row, refl)) c.args.self.now.store
     c.take_mail.new.store (λ done. MailTaken) c.take_mail.result c.is_ok-in-TakeMail.result is acts))
 
-pub returns-in-Keep-clause-lets : goal.returns-in-Keep-clause-lets
-returns-in-Keep-clause-lets c =
-    let it = c.in-Keep in
+pub returns-in-DoUpkeep-clause-lets : goal.returns-in-DoUpkeep-clause-lets
+returns-in-DoUpkeep-clause-lets c =
+    let it = c.in-DoUpkeep in
     let old = state over_memory c.args.self.now.store in
     let new = state over_memory c.do_upkeep.new.store in
-    let is : c.is_ok-in-Keep.result ≡ is_ok c.do_upkeep.result = search rules in
-    let acts = subst (λ u. ActsKeeping u it.upkeep old new c.do_upkeep.result) c.as_slice-in-Keep.ensures c.do_upkeep.ensures in
-    on_shelf c.args.event.now c.is_ok-in-Keep.result c.args.self.now _
-    (subst (λ e. IsLet memory_view_of e c.is_ok-in-Keep.result c.args.self.now.store c.do_upkeep.new.store) (sym it.is)
-    (lets_by (Keep it.user it.upkeep) (λ accounts. Keeping accounts it.user it.upkeep) (MayRefuseKeeping it.upkeep) (keeping_may it.user it.upkeep) (λ w answer later row. (later, row, refl)) c.args.self.now.store
-    c.do_upkeep.new.store (λ answer. answer) c.do_upkeep.result c.is_ok-in-Keep.result is acts))
+    let is : c.is_ok-in-DoUpkeep.result ≡ is_ok c.do_upkeep.result = search rules in
+    let acts = subst (λ u. ActsKeeping u it.upkeep old new c.do_upkeep.result) c.as_slice-in-DoUpkeep.ensures c.do_upkeep.ensures in
+    on_shelf c.args.event.now c.is_ok-in-DoUpkeep.result c.args.self.now _
+    (subst (λ e. IsLet memory_view_of e c.is_ok-in-DoUpkeep.result c.args.self.now.store c.do_upkeep.new.store) (sym it.is)
+    (lets_by (DoUpkeep it.user it.upkeep) (λ accounts. Keeping accounts it.user it.upkeep) (MayRefuseKeeping it.upkeep) (keeping_may it.user it.upkeep) (λ w answer later row. (later, row, refl)) c.args.self.now.store
+    c.do_upkeep.new.store (λ answer. answer) c.do_upkeep.result c.is_ok-in-DoUpkeep.result is acts))

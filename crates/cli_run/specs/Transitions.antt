@@ -1,0 +1,19 @@
+-- What calls change: a value before them and afterwards.
+use Rattle.std.specs.Prelude.{ℕ, List, Option}
+use Rattle.sqlite.specs.Effect.{Database}
+
+-- a value before a call and afterwards
+pub record Transition {ℓ} (X : Type ℓ) : Type ℓ where
+  pub old : X
+  pub new : X
+
+abbrev pub from_to {ℓ} : {X : Type ℓ} → X → X → Transition X
+from_to old new = record { old = old; new = new }
+
+-- what a reader has left, or what was written, if it is known
+abbrev pub StreamMove : Type 0
+StreamMove = Transition (Option (List ℕ))
+
+-- the tables that a keeper holds
+abbrev pub TablesMove : Type 0
+TablesMove = Transition Database

@@ -1,7 +1,0 @@
-use Rattle.std.proofs.Common.{◌≡◌}
-use Rattle.daemon_core.proofs.BoundLemmas.{less_guests}
-use Rattle.daemon_core.proofs.memory_room.less_guests.Given as goal
-
--- what the entries that are left make of what is left so far is what all make of the most
-abbrev pub invariant-loop-id : goal.invariant-loop-id
-invariant-loop-id l = less_guests l.clients.sessions l.left l.id-iterator ≡ less_guests l.clients.sessions l.most l.places.entries

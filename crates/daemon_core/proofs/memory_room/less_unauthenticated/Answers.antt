@@ -1,0 +1,6 @@
+use Rattle.std.proofs.Common.{◌∙◌, rules}
+use Rattle.daemon_core.proofs.BoundLemmas.{all_unauthenticated}
+use Rattle.daemon_core.proofs.memory_room.less_unauthenticated.Goals as goal
+
+pub returns : goal.returns
+returns c = (search rules) ∙ all_unauthenticated c.args.clients.now.sessions c.args.most c.args.states.now.entries

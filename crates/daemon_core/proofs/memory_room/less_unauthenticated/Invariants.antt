@@ -1,0 +1,7 @@
+use Rattle.std.proofs.Common.{◌≡◌}
+use Rattle.daemon_core.proofs.BoundLemmas.{less_unauthenticated}
+use Rattle.daemon_core.proofs.memory_room.less_unauthenticated.Given as goal
+
+-- what the entries that are left make of what is left so far is what all make of the most
+abbrev pub invariant-loop-id : goal.invariant-loop-id
+invariant-loop-id l = less_unauthenticated l.clients.sessions l.left l.id-iterator ≡ less_unauthenticated l.clients.sessions l.most l.states.entries
