@@ -9,10 +9,8 @@ which files what has `[list]` in its subject. Dovecot's processes are kept betwe
 is in a Maildir; sieved's is in its store. Rates are the best of three turns of three seconds each, one server after the other in
 each turn. Client and server share the processors; both servers have real-time priority, where the machine gives it.
 """
-import base64, os, re, shutil, socket, subprocess, sys, tempfile, threading, time
-
-HERE = os.path.dirname(os.path.abspath(__file__))
-sys.path.insert(0, f"{HERE}/../tests")
+import os, re, socket, subprocess, sys, tempfile, threading, time
+from measure import head, program_of, row, words_of
 import managesieve, slow_disk
 
 TURNS, SECONDS = 3, 3.0
@@ -207,13 +205,13 @@ def commands(server, command, literal=None, together=1):
     return count / spent
 
 
-def row(what, servers, measure):
+def tell(what, servers, measure):
     best = {server.name: 0.0 for server in servers}
     for _ in range(TURNS):
         for server in servers:
             best[server.name] = max(best[server.name], measure(server))
     ours, theirs = best["sieved"], best["Dovecot"]
-    print(f"| {what} | {ours:,.0f} | {theirs:,.0f} | {ours / theirs:.2f} |", flush=True)
+    row(what, f"{ours:,.0f}", f"{theirs:,.0f}", f"{ours / theirs:.2f}")
 
 
 def memory(server):
@@ -231,7 +229,7 @@ def main(words):
     millis = 0
     if words[:1] == ["--sync"]:
         millis, words = float(words[1]), words[2:]
-    program = os.path.abspath(words[0]) if words else managesieve.SIEVED
+    program, _ = program_of(words)
     with tempfile.TemporaryDirectory() as room:
         servers = [Sieved(room, program, millis), Dovecot(room, millis)]
         try:
@@ -240,19 +238,19 @@ def main(words):
                 for command in (b'PUTSCRIPT "main" {%d+}\r\n%s' % (len(SCRIPT), SCRIPT), b'SETACTIVE "main"', b'PUTSCRIPT "long" {%d+}\r\n%s' % (len(LONG), LONG)):
                     assert first.ask(command)[-1].startswith(b"OK"), command
                 first.close()
-            print("| A second | sieved | Dovecot | sieved / Dovecot |\n|---|---:|---:|---:|")
+            head("A second", "sieved", "Dovecot", "sieved / Dovecot")
             for connections in 1, 20:
-                row(f"deliveries by LMTP of 8 kB, over {connections} connection{'s' * (connections > 1)}", servers, lambda server: deliveries(server, connections))
+                tell(f"deliveries by LMTP of 8 kB, over {connections} connection{'s' * (connections > 1)}", servers, lambda server: deliveries(server, connections))
             for together in 1, 50:
                 sent = f"{together} sent together" if together > 1 else "each behind the answer to the one before"
-                row(f"NOOP, {sent}", servers, lambda server: commands(server, b"NOOP", together=together))
-                row(f"GETSCRIPT of {len(LONG):,} octets, {sent}", servers, lambda server: commands(server, b'GETSCRIPT "long"', together=together))
-            row(f"PUTSCRIPT of {len(LONG):,} octets", servers, lambda server: commands(server, b'PUTSCRIPT "long"', LONG))
-            print(f"| resident memory after it, MB | {memory(servers[0]):.0f} | {memory(servers[1]):.0f} | |")
+                tell(f"NOOP, {sent}", servers, lambda server: commands(server, b"NOOP", together=together))
+                tell(f"GETSCRIPT of {len(LONG):,} octets, {sent}", servers, lambda server: commands(server, b'GETSCRIPT "long"', together=together))
+            tell(f"PUTSCRIPT of {len(LONG):,} octets", servers, lambda server: commands(server, b'PUTSCRIPT "long"', LONG))
+            row("resident memory after it, MB", *(f"{memory(server):.0f}" for server in servers), "")
         finally:
             for server in servers:
                 server.stop()
 
 
 if __name__ == "__main__":
-    main(sys.argv[1:])
+    main(words_of(__doc__))

@@ -13,9 +13,7 @@ before what else runs on the machine (as a group of nice -20, where that can be 
 takes away for 50 ms of each second from who uses a whole processor.
 """
 import multiprocessing, os, signal, subprocess, sys, tempfile, time
-
-HERE = os.path.dirname(os.path.abspath(__file__))
-sys.path.insert(0, f"{HERE}/../tests")
+from measure import head, program_of, row, words_of
 import managesieve
 import beside_dovecot
 from beside_dovecot import Sender, Sieved
@@ -119,8 +117,8 @@ def times_of(count, rest, call):
     return sorted(times)
 
 
-def row(what, times):
-    return f"| {what} | {times[len(times) // 2]:.2f} | {times[(len(times) * 99 + 99) // 100 - 1]:.2f} | {times[-1]:.2f} |"
+def tell(what, times):
+    row(what, *(f"{time:.2f}" for time in (times[len(times) // 2], times[(len(times) * 99 + 99) // 100 - 1], times[-1])))
 
 
 def wants(told, start):
@@ -129,10 +127,10 @@ def wants(told, start):
 
 def round_trips(server, where, rounds):
     client = logged_in(server)
-    rows = [row(f"NOOP {where}", times_of(rounds, 0.01, lambda _: wants(client.ask(b"NOOP")[-1], b"OK"))),
-            row(f"GETSCRIPT {where}", times_of(rounds, 0.01, lambda _: wants(client.get(b"short"), SCRIPT)))]
+    times = [(f"NOOP {where}", times_of(rounds, 0.01, lambda _: wants(client.ask(b"NOOP")[-1], b"OK"))),
+             (f"GETSCRIPT {where}", times_of(rounds, 0.01, lambda _: wants(client.get(b"short"), SCRIPT)))]
     client.close()
-    return rows
+    return times
 
 
 def words(server, program, where):
@@ -165,20 +163,22 @@ def main(rounds, program, hostile_alone):
         client = logged_in(server)
         wants(client.put(b"short", SCRIPT), b"OK"), wants(client.put(b"big", BIG), b"OK")
         client.close()
-        print("| A round trip, in ms | median | 99th of 100 | greatest |\n|---|---|---|---|", flush=True)
-        print(*round_trips(server, "alone", rounds), sep="\n", flush=True)
+        head("A round trip, in ms", "median", "99th of 100", "greatest")
+        for what in round_trips(server, "alone", rounds):
+            tell(*what)
         with Beside(server, [floods, is_silent, is_deaf, guesses]):
             hostile = round_trips(server, "beside four hostile clients", rounds)
-        print(*hostile, sep="\n", flush=True)
+        for what in hostile:
+            tell(*what)
         if hostile_alone:
             return server.stop()
         client = logged_in(server)
         wants(client.put(b"none", b"discard;\r\n"), b"OK"), wants(client.ask(b'SETACTIVE "none"')[-1], b"OK")
         client.close()
-        print(row("`adduser --wait` alone", words(server, program, "alone")), flush=True)
+        tell("`adduser --wait` alone", words(server, program, "alone"))
         with Beside(server, [puts] * 20 + [delivers] * 4):
             loaded = words(server, program, "beside")
-        print(row("`adduser --wait` beside 20 clients that put scripts and four that deliver", loaded), flush=True)
+        tell("`adduser --wait` beside 20 clients that put scripts and four that deliver", loaded)
         server.stop()
         size = os.stat(server.file).st_size / 1e6
         server = Sieved(f"{room}/rest", program)
@@ -189,8 +189,7 @@ def main(rounds, program, hostile_alone):
 
 
 if __name__ == "__main__":
-    given = sys.argv[1:]
+    given = words_of(__doc__)
     rounds = int(given.pop(given.index("--rounds") + 1)) if "--rounds" in given else ROUNDS
-    programs = [word for word in given if not word.startswith("--")]
     come_first()
-    main(rounds, programs[0] if programs else f"{HERE}/../crates/sieved/out/sieved", "--hostile" in given)
+    main(rounds, program_of([word for word in given if word not in ("--rounds", "--hostile")])[0], "--hostile" in given)

@@ -9,10 +9,9 @@ moves mail into Maildirs (`--mail`). Each minute a line: messages so far, the 50
 client's round trip, the daemon's memory, descriptors and threads, the store's octets, messages that aren't in a Maildir yet. At the end
 the first ten minutes (or the first sixth) stand beside the last ones. It ends with 1 where an answer wasn't the one that is wanted.
 """
-import os, random, subprocess, sys, threading, time
+import os, random, subprocess, threading, time
 
-HERE = os.path.dirname(os.path.abspath(__file__))
-sys.path.insert(0, f"{HERE}/../tests")
+from measure import program_of, words_of
 import managesieve
 from beside_dovecot import free_port, wait_for
 
@@ -165,8 +164,8 @@ def main(words):
         words = words[2:]
     moves = "--no-mail" not in words
     words = [word for word in words if word != "--no-mail"]
-    Day(os.path.abspath(words[0]) if words else managesieve.SIEVED, values["--seconds"], values["--rate"], moves).run()
+    Day(program_of(words)[0], values["--seconds"], values["--rate"], moves).run()
 
 
 if __name__ == "__main__":
-    main(sys.argv[1:])
+    main(words_of(__doc__))

@@ -7,12 +7,11 @@ It needs python3 and sqlite3 (the command), which fills the stores and stands be
 With dovecot-core and dovecot-sieve installed and run as root it also times `dovecot-lda -d` on the same message
 and script. Each figure is the least of some runs, in milliseconds.
 """
-import os, shutil, subprocess, sys, tempfile, time
+import os, shutil, subprocess, tempfile, time
+from measure import SALT, head, least, program_of, ran, row, weighed, words_of
 
-HERE = os.path.dirname(os.path.abspath(__file__))
-SIEVED = os.path.abspath(sys.argv[1] if len(sys.argv) > 1 else f"{HERE}/../crates/sieved/out/sieved")
+SIEVED, _ = program_of(words_of(__doc__))
 RUNS = 15
-SALT = "00112233445566778899aabbccddeeff"
 SCRIPT = 'require ["fileinto", "envelope"];\nif header :contains "subject" "[list]" { fileinto "lists"; }\nelsif envelope :domain "from" "example.net" { fileinto "net"; }\n'
 INBOX = "keep;"
 WHOLE = 'require ["fileinto", "vacation"]; fileinto "a"; fileinto "b"; redirect "c@example.com"; vacation "Away.";'
@@ -24,37 +23,12 @@ def message(size):
     return head + line * ((size - len(head)) // len(line))
 
 
-def run(words, data=b"", env=None):
-    began = time.perf_counter()
-    child = subprocess.Popen(words, stdin=subprocess.PIPE, stdout=subprocess.PIPE, stderr=subprocess.PIPE, env=env)
-    try:
-        child.stdin.write(data)
-        child.stdin.close()
-    except BrokenPipeError:
-        pass
-    out, err = child.stdout.read(), child.stderr.read()
-    status = child.wait()
-    if status:
-        raise SystemExit(f"{words}: {status}: {err.decode()}")
-    return (time.perf_counter() - began) * 1000, err
-
-
-def least(words, data=b"", env=None, runs=RUNS, before=None):
-    took = []
-    for _ in range(runs):
-        if before:
-            before()
-        took.append(run(words, data, env)[0])
+def tell(what, command, data=b"", before=(), runs=RUNS):
+    """A row of some runs, each after `before`."""
+    took = least(command, data, before, runs)
     if before:
-        before()
-    return min(took), peak(words, data, env)
-
-
-def peak(words, data, env):
-    """The most memory that the process had, in kB, by the command `time`; none where it isn't installed."""
-    if not os.path.exists("/usr/bin/time"):
-        return None
-    return int(run(["/usr/bin/time", "-f", "%M", *words], data, env)[1].split()[-1])
+        ran(before)
+    row(what, f"{took:.1f}", f"{weighed(command, data).mib:.1f}")
 
 
 def sql(file, text):
@@ -63,8 +37,8 @@ def sql(file, text):
 
 def store(folder, count, script=SCRIPT):
     file = f"{folder}/mail-{count}-{len(script)}.db"
-    run([SIEVED, "init", "--db", file])
-    run([SIEVED, "adduser", "--db", file, "--salt", SALT, "alice", "alice@example.org"], b"secret\n")
+    ran([SIEVED, "init", "--db", file])
+    ran([SIEVED, "adduser", "--db", file, "--salt", SALT, "alice", "alice@example.org"], b"secret\n")
     text = script.replace("'", "''")
     sql(file, f"INSERT INTO script VALUES (CAST('alice' AS BLOB), CAST('main' AS BLOB), CAST('{text}' AS BLOB)); UPDATE account SET active = CAST('main' AS BLOB);")
     if count:
@@ -73,10 +47,6 @@ def store(folder, count, script=SCRIPT):
             INSERT INTO copy(owner, folder, n, id, flags) SELECT owner, CAST('INBOX' AS BLOB), id, id, X'' FROM message;
             UPDATE account SET next_copy = {count + 1};""")
     return file
-
-
-def row(what, took, most=None):
-    print(f"| {what} | {took:.1f} | {'' if most is None else f'{most / 1024:.1f}'} |", flush=True)
 
 
 def deliver(file):
@@ -88,18 +58,13 @@ def stores(folder):
         file = store(folder, count)
         whole = f"{file}.whole"
         shutil.copy(file, whole)
-        fresh = lambda: shutil.copy(whole, file)
-        took, most = least(deliver(file), message(8_192), before=fresh, runs=RUNS if count < 10_000 else 5)
-        row(f"`deliver`, 8 kB, into a store of {count:,} messages ({os.path.getsize(whole) / 1e6:.1f} MB)", took, most)
-        took, most = least(["sqlite3", file, "SELECT 1"])
-        row(f"`sqlite3 FILE \"SELECT 1\"` on it", took, most)
+        fresh = ["cp", whole, file]
+        tell(f"`deliver`, 8 kB, into a store of {count:,} messages ({os.path.getsize(whole) / 1e6:.1f} MB)", deliver(file), message(8_192), fresh, RUNS if count < 10_000 else 5)
+        tell("`sqlite3 FILE \"SELECT 1\"` on it", ["sqlite3", file, "SELECT 1"])
         if count == 0:
-            took, most = least([SIEVED, "folders", "--db", file, "alice"])
-            row("`folders` (open, read, close)", took, most)
-            fresh()
-            size = len(message(30_000_000))
-            took, most = least(deliver(file), message(30_000_000), before=fresh, runs=5)
-            row(f"`deliver`, {size:,} octets ({(most or 0) * 1024 / size:.2f} times its size)", took, most)
+            tell("`folders` (open, read, close)", [SIEVED, "folders", "--db", file, "alice"])
+            large = message(30_000_000)
+            tell(f"`deliver`, {len(large):,} octets", deliver(file), large, fresh, 5)
 
 
 def scripts(folder):
@@ -109,8 +74,7 @@ def scripts(folder):
             file = store(folder, count, script)
             whole = f"{file}.whole"
             shutil.copy(file, whole)
-            took, most = least(deliver(file), message(8_192), before=lambda: shutil.copy(whole, file), runs=RUNS if count < 10_000 else 5)
-            row(f"`deliver`, {count:,} messages kept: {what}", took, most)
+            tell(f"`deliver`, {count:,} messages kept: {what}", deliver(file), message(8_192), ["cp", whole, file], RUNS if count < 10_000 else 5)
 
 
 CONF = """
@@ -164,17 +128,15 @@ def dovecot(folder):
         for name in ("lists", "net"):
             os.makedirs(f"{base}/mail/alice/.{name}", exist_ok=True)
         subprocess.run(["chown", "-R", "mail:mail", f"{base}/mail"], check=True)
-        took, most = least(words, message(8_192))
-        row("`dovecot-lda -d alice`, the same message and script, a Maildir", took, most)
+        tell("`dovecot-lda -d alice`, the same message and script, a Maildir", words, message(8_192))
     finally:
         subprocess.run(["doveadm", "-c", f"{base}/conf", "stop"], check=False)
 
 
 def main():
-    print("| What | Least ms | Memory MB |")
-    print("|---|---|---|")
-    row("`true`", *least(["true"]))
-    row(f"`sieved --version`", *least([SIEVED, "--version"]))
+    head("What", "Least ms", "Memory MB")
+    tell("`true`", ["true"])
+    tell("`sieved --version`", [SIEVED, "--version"])
     folder = tempfile.mkdtemp(prefix="sieved-bench-")
     try:
         stores(folder)

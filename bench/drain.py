@@ -12,12 +12,10 @@ The parts: moved, grows, opens, large, life; without a word, all. It needs pytho
   life    10 deliveries of 8 kB a second for three minutes, with a drain every 5 seconds and without one; the store lies in
           the folder for temporary files, so TMPDIR=/dev/shm takes the waits for a disk away
 """
-import os, re, shutil, sqlite3, statistics, subprocess, sys, tempfile, threading, time
+import os, re, shutil, sqlite3, statistics, tempfile, threading, time
 from contextlib import closing
-
-HERE = os.path.dirname(os.path.abspath(__file__))
-sys.path.insert(0, f"{HERE}/../tests")
-from managesieve import SIEVED, Store
+from measure import SALT, head, least, program_of, ran, row, weighed, words_of
+from managesieve import Store
 
 MESSAGE = b"From: bob@example.net\r\nTo: alice@example.org\r\nSubject: Lunch\r\n\r\n" + (b"x" * 76 + b"\r\n") * 104
 SECONDS = 180
@@ -45,70 +43,56 @@ def maildir(path):
     return path
 
 
-def timed(words, data=b""):
-    began = time.perf_counter()
-    done = subprocess.run(words, input=data, capture_output=True)
-    if done.returncode:
-        raise SystemExit(f"{words}: {done.returncode}: {done.stderr.decode()}")
-    return (time.perf_counter() - began) * 1000
-
-
-def peak(words):
-    """The most memory that the process had, in MB, by the command `time`; none where it isn't installed."""
-    if not os.path.exists("/usr/bin/time"):
-        return float("nan")
-    done = subprocess.run(["/usr/bin/time", "-f", "%M", *words], capture_output=True, check=True)
-    return int(done.stderr.split()[-1]) / 1024
-
-
 def syncs(words):
     """How many calls of fsync and fdatasync, and their time in ms; none without strace."""
     if not shutil.which("strace"):
         return 0, float("nan")
     with tempfile.NamedTemporaryFile() as trace:
-        subprocess.run(["strace", "-f", "-T", "-e", "trace=fsync,fdatasync", "-o", trace.name, *words], check=True, stdout=subprocess.DEVNULL)
+        ran(["strace", "-f", "-T", "-e", "trace=fsync,fdatasync", "-o", trace.name, *words])
         took = [float(text) for text in re.findall(r"<([0-9.]+)>", open(trace.name).read())]
     return len(took), 1000 * sum(took)
 
 
+def filled(sieved, folder, count):
+    """A store in which alice has so many messages and bob none, and a Maildir beside it."""
+    store = Store([], sieved)
+    store.file = f"{folder}/mail.db"
+    store.run("init")
+    for user in "alice", "bob":
+        store.run("adduser", "--salt", SALT, user, f"{user}@example.org", data=b"secret\n")
+    fill(store, count)
+    maildir(f"{folder}/mail")
+    return store
+
+
 def moved(sieved):
-    print("| Drained in one run | ms | Calls of fsync and fdatasync | their ms | Memory MB |\n|---|---:|---:|---:|---:|")
+    head("Drained in one run", "ms", "Calls of fsync and fdatasync", "their ms", "Memory MB")
     for place, base in (("a disk", None), ("memory", "/dev/shm")):
         for count in (100, 1_000):
             with tempfile.TemporaryDirectory(dir=base) as folder:
-                store = Store(["alice"], sieved)
-                store.file = f"{folder}/mail.db"
-                store.run("init")
-                store.run("adduser", "--salt", "00" * 16, "alice", "alice@example.org", data=b"secret\n")
-                fill(store, count)
-                words, whole = drain(store, folder), f"{folder}/whole.db"
+                store, whole = filled(sieved, folder, count), f"{folder}/whole.db"
+                words = drain(store, folder)
                 shutil.copy(store.file, whole)
                 figures = []
-                for measure in (timed, syncs, peak):
+                for measure in (ran, syncs, weighed):
                     shutil.copy(whole, store.file)
-                    shutil.rmtree(f"{folder}/mail", ignore_errors=True)
+                    shutil.rmtree(f"{folder}/mail")
                     maildir(f"{folder}/mail")
                     figures.append(measure(words))
                     assert len(os.listdir(f"{folder}/mail/new")) == count
-                took, (calls, waited), most = figures
-                print(f"| {count:,} messages of 8 kB, {place} | {took:.0f} | {calls:,} | {waited:.0f} | {most:.1f} |", flush=True)
+                run, (calls, waited), most = figures
+                row(f"{count:,} messages of 8 kB, {place}", f"{run.ms:.0f}", f"{calls:,}", f"{waited:.0f}", f"{most.mib:.1f}")
 
 
 def grows(sieved):
-    print("| Drained in one run, in memory | ms | less an open | ms a message |\n|---|---:|---:|---:|")
+    head("Drained in one run, in memory", "ms", "less an open", "ms a message")
     for count in (100, 1_000, 10_000):
         with tempfile.TemporaryDirectory(dir="/dev/shm") as folder:
-            store = Store(["alice", "bob"], sieved)
-            store.file = f"{folder}/mail.db"
-            store.run("init")
-            store.run("adduser", "--salt", "00" * 16, "alice", "alice@example.org", data=b"secret\n")
-            store.run("adduser", "--salt", "00" * 16, "bob", "bob@example.org", data=b"secret\n")
-            fill(store, count)
-            maildir(f"{folder}/mail")
-            opening = min(timed(store.words("folders", "bob")) for _ in range(3))
-            took = timed(drain(store, folder))
+            store = filled(sieved, folder, count)
+            opening = least(store.words("folders", "bob"), runs=3)
+            took = ran(drain(store, folder)).ms
             assert len(os.listdir(f"{folder}/mail/new")) == count
-            print(f"| {count:,} messages of 8 kB | {took:.0f} | {took - opening:.0f} | {(took - opening) / count:.2f} |", flush=True)
+            row(f"{count:,} messages of 8 kB", f"{took:.0f}", f"{took - opening:.0f}", f"{(took - opening) / count:.2f}")
 
 
 def drain(store, folder):
@@ -116,31 +100,25 @@ def drain(store, folder):
 
 
 def opens(sieved):
-    print("| Store | MB | Least ms | Calls of fsync and fdatasync | their ms | Memory MB |\n|---|---:|---:|---:|---:|---:|")
+    head("Store", "MB", "Least ms", "Calls of fsync and fdatasync", "their ms", "Memory MB")
     kinds = [("without messages", 0, 0), ("1 MB", 115, 0), ("10 MB", 1_150, 0), ("100 MB", 11_500, 0), ("1,000 replies", 0, 1_000), ("10,000 replies", 0, 10_000)]
     for what, messages, replies in kinds:
         store = Store(["alice", "bob"], sieved)
         fill(store, messages, replies)
         words = store.words("folders", "bob")
-        took = min(timed(words) for _ in range(5 if messages > 2_000 else 15))
+        took = least(words, runs=5 if messages > 2_000 else 15)
         calls, waited = syncs(words)
-        size = os.path.getsize(store.file) / 1e6
-        print(f"| {what} | {size:.1f} | {took:.1f} | {calls} | {waited:.1f} | {peak(words):.1f} |", flush=True)
+        row(what, f"{os.path.getsize(store.file) / 1e6:.1f}", f"{took:.1f}", calls, f"{waited:.1f}", f"{weighed(words).mib:.1f}")
 
 
 def large(sieved):
-    print("| The most memory, MB | `deliver` | an open after it | `show` | `drain` |\n|---|---:|---:|---:|---:|")
+    head("The most memory, MB", "`deliver`", "an open after it", "`show`", "`drain`")
     for size in (10_000_000, 30_000_000):
         store = Store(["alice", "bob"], sieved)
-        with tempfile.NamedTemporaryFile() as message:
-            message.write(MESSAGE + (b"x" * 76 + b"\r\n") * ((size - len(MESSAGE)) // 78))
-            message.flush()
-            into = lambda words: ["sh", "-c", 'exec "$@" < "$0"', message.name, *words]
-            figures = [peak(into(store.words("deliver", "--to", "alice@example.org", "alice")))]
-        figures.append(peak(store.words("folders", "bob")))
-        figures.append(peak(store.words("show", "alice", "INBOX", "1")))
-        figures.append(peak(store.words("drain", "alice", "INBOX", maildir(f"{store.folder.name}/mail"))))
-        print(f"| a message of {size:,} octets | " + " | ".join(f"{figure:.0f}" for figure in figures) + " |", flush=True)
+        message = MESSAGE + (b"x" * 76 + b"\r\n") * ((size - len(MESSAGE)) // 78)
+        figures = [weighed(store.words("deliver", "--to", "alice@example.org", "alice"), message), weighed(store.words("folders", "bob")),
+                   weighed(store.words("show", "alice", "INBOX", "1")), weighed(store.words("drain", "alice", "INBOX", maildir(f"{store.folder.name}/mail")))]
+        row(f"a message of {size:,} octets", *(f"{run.mib:.0f}" for run in figures))
 
 
 class Life:
@@ -153,14 +131,14 @@ class Life:
         self.waits = []
 
     def deliver(self):
-        took = timed(self.store.words("deliver", "--wait", "--to", "alice@example.org", "--from", "bob@example.net", "alice"), MESSAGE)
+        took = ran(self.store.words("deliver", "--wait", "--to", "alice@example.org", "--from", "bob@example.net", "alice"), MESSAGE).ms
         with self.lock:
             self.took.append(took)
 
     def drain(self, until):
         while time.monotonic() < until:
             time.sleep(EVERY)
-            self.waits.append(timed(drain(self.store, self.store.folder.name)))
+            self.waits.append(ran(drain(self.store, self.store.folder.name)).ms)
 
     def live(self):
         began = time.monotonic()
@@ -192,11 +170,11 @@ class Life:
         self.waits = []
         size = os.path.getsize(self.store.file) / 1e6
         if len(took) > RATE:
-            print(f"| {'every 5 s' if self.drains else 'never'} | {seconds:.0f} | {size:.1f} | {len(took)} | {statistics.median(took):.0f} | {took[len(took) * 95 // 100]:.0f} | {drained} |", flush=True)
+            row("every 5 s" if self.drains else "never", f"{seconds:.0f}", f"{size:.1f}", len(took), f"{statistics.median(took):.0f}", f"{took[len(took) * 95 // 100]:.0f}", drained)
 
 
 def life(sieved):
-    print("| Drain | After s | Store MB | Deliveries since | median ms | 95 of 100 under ms | drain's median ms |\n|---|---:|---:|---:|---:|---:|---:|")
+    head("Drain", "After s", "Store MB", "Deliveries since", "median ms", "95 of 100 under ms", "drain's median ms")
     for drains in (True, False):
         Life(sieved, drains).live()
 
@@ -205,10 +183,7 @@ PARTS = {"moved": moved, "grows": grows, "opens": opens, "large": large, "life":
 
 
 def main():
-    words = sys.argv[1:]
-    sieved = SIEVED
-    if words[:1] == ["--sieved"]:
-        sieved, words = os.path.abspath(words[1]), words[2:]
+    sieved, words = program_of(words_of(__doc__))
     for name in words or PARTS:
         PARTS[name](sieved)
 

@@ -8,11 +8,10 @@ It makes two program crates on `sqlite` in a folder of its own. Each puts one va
 the least of ten runs: the calls that open and make tables, the insert, the close, and the page faults of the process; and the most
 memory that it had, of which 30 MB are the value.
 """
-import os, subprocess, sys, tempfile, time
+import os, tempfile
+from measure import SALT, built, head, program_of, ran, row, words_of
 
-HERE = os.path.dirname(os.path.abspath(__file__))
 SIZE = 30_000_000
-SALT = "00112233445566778899aabbccddeeff"
 # How each opens, and how it closes.
 OPENS = {
     "memory": ("Connection::open_in_memory(rt.alloc())", "drop(conn);"),
@@ -64,34 +63,10 @@ fn put(rt: &HostRuntime) -> bool {
 """
 
 
-def ran(words, folder, data=b""):
-    """What a run prints, its page faults, and the most memory that it had, in MB."""
-    with tempfile.TemporaryFile() as given, tempfile.TemporaryFile() as told:
-        given.write(data)
-        given.seek(0)
-        child = subprocess.Popen(words, cwd=folder, stdin=given, stdout=told)
-        _, status, used = os.wait4(child.pid, 0)
-        if status:
-            raise SystemExit(f"{words}: status {status >> 8}")
-        told.seek(0)
-        return told.read().decode(), used.ru_minflt, used.ru_maxrss / 1024
-
-
-def written(folder):
-    """The programs' crates."""
-    with open(f"{folder}/crates.txt", "w") as file:
-        file.writelines(f"insert_{name}: sqlite\n" for name in OPENS)
-    for name, (opens, closes) in OPENS.items():
-        os.makedirs(f"{folder}/crates/insert_{name}/src")
-        with open(f"{folder}/crates/insert_{name}/src/main.rt", "w") as file:
-            file.write(SOURCE.replace("OPEN", opens).replace("CLOSE", closes))
-
-
 def made(folder, name):
     """The program that opens so."""
-    crate = f"{folder}/crates/insert_{name}"
-    subprocess.run(["rt", "run"], cwd=crate, check=True, stdout=subprocess.DEVNULL, stderr=subprocess.DEVNULL)
-    return f"{crate}/out/insert_{name}"
+    opens, closes = OPENS[name]
+    return built(f"{folder}/{name}", f"insert_{name}", "sqlite", {"src/main.rt": SOURCE.replace("OPEN", opens).replace("CLOSE", closes)})
 
 
 def alone(program, folder):
@@ -100,40 +75,40 @@ def alone(program, folder):
     for _ in range(10):
         if os.path.exists(f"{folder}/message.db"):
             os.remove(f"{folder}/message.db")
-        told, faults, memory = ran([program], folder)
-        opened, inserted, closed = (int(word) / 1000 for word in told.split())
+        run = ran([program], cwd=folder)
+        opened, inserted, closed = (int(word) / 1000 for word in run.out.split())
         took = [opened, inserted - opened, closed - inserted]
         least = took if least is None else [min(pair) for pair in zip(least, took)]
-    return least, faults, memory
+    return least, run
 
 
 def delivered(program, folder):
-    """The least milliseconds of ten deliveries, each into an empty store, and faults and memory of one of them."""
-    db, least = ["--db", f"{folder}/mail.db"], None
+    """The quickest of ten deliveries, each into an empty store."""
+    db, runs = ["--db", f"{folder}/mail.db"], []
+    with open(f"{folder}/message", "wb") as message:
+        message.write(b"Subject: x\n\n")
+        message.writelines([b"a" * 10_000] * ((SIZE - 12) // 10_000))
     for _ in range(10):
         for name in os.listdir(folder):
             if name.startswith("mail.db"):
                 os.remove(f"{folder}/{name}")
-        ran([program, "init", *db], folder)
-        ran([program, "adduser", *db, "--salt", SALT, "alice", "alice@example.org"], folder, b"secret\n")
-        began = time.perf_counter()
-        _, faults, memory = ran([program, "deliver", *db, "--to", "alice@example.org", "alice"], folder, b"Subject: x\n\n" + b"a" * (SIZE - 12))
-        took = (time.perf_counter() - began) * 1000
-        least = took if least is None else min(least, took)
-    return least, faults, memory
+        ran([program, "init", *db])
+        ran([program, "adduser", *db, "--salt", SALT, "alice", "alice@example.org"], b"secret\n")
+        with open(f"{folder}/message", "rb") as message:
+            runs.append(ran([program, "deliver", *db, "--to", "alice@example.org", "alice"], message))
+    return min(runs)
 
 
 def main():
-    program = os.path.abspath(sys.argv[1] if len(sys.argv) > 1 else f"{HERE}/../crates/sieved/out/sieved")
-    print("| A message of 30 MB | opened and tables made, ms | the insert, ms | the close, ms | page faults | memory, MB |\n|---|---:|---:|---:|---:|---:|")
+    program, _ = program_of(words_of(__doc__))
+    head("A message of 30 MB", "opened and tables made, ms", "the insert, ms", "the close, ms", "page faults", "memory, MB")
     with tempfile.TemporaryDirectory() as folder:
-        written(folder)
         for name, where in ("memory", "in memory"), ("file", "in a file"):
-            (opened, inserted, closed), faults, memory = alone(made(folder, name), folder)
-            print(f"| SQLite alone, {where} | {opened:.1f} | {inserted:.0f} | {closed:.1f} | {faults:,} | {memory:.1f} |", flush=True)
+            (opened, inserted, closed), run = alone(made(folder, name), folder)
+            row(f"SQLite alone, {where}", f"{opened:.1f}", f"{inserted:.0f}", f"{closed:.1f}", f"{run.faults:,}", f"{run.mib:.1f}")
         if os.path.exists(program):
-            took, faults, memory = delivered(program, folder)
-            print(f"| `sieved deliver`, the whole process {took:.0f} ms | | | | {faults:,} | {memory:.1f} |")
+            run = delivered(program, folder)
+            row(f"`sieved deliver`, the whole process {run.ms:.0f} ms", "", "", "", f"{run.faults:,}", f"{run.mib:.1f}")
 
 
 if __name__ == "__main__":

@@ -11,8 +11,7 @@ how many kills came while an answer was awaited (to the dot of a text, to a scri
 """
 import os, random, re, shutil, socket, sqlite3, subprocess, sys, tempfile, threading, time
 
-HERE = os.path.dirname(os.path.abspath(__file__))
-sys.path.insert(0, f"{HERE}/../tests")
+from measure import program_of, words_of
 import managesieve
 from beside_dovecot import free_port, wait_for
 
@@ -159,9 +158,9 @@ def check(file, load, mail, seen):
 def main(words):
     moves = "--mail" in words
     words = [word for word in words if word != "--mail"]
-    program = words[0] if words else managesieve.SIEVED
-    count = int(words[1]) if words[1:] else 500
-    store = managesieve.Store(USERS, sieved=os.path.abspath(program))
+    program, words = program_of(words)
+    count = int(words[0]) if words else 500
+    store = managesieve.Store(USERS, sieved=program)
     load, waiting, seen, both = Load(), 0, {}, 0
     mail = f"{os.path.dirname(store.file)}/mail" if moves else None
     for user in USERS if moves else []:
@@ -192,4 +191,4 @@ def main(words):
 
 
 if __name__ == "__main__":
-    main(sys.argv[1:])
+    main(words_of(__doc__))

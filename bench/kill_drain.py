@@ -14,10 +14,8 @@ twice, which are two messages.
 import os, random, sqlite3, subprocess, sys, tempfile, time
 from collections import Counter
 from contextlib import closing
-
-HERE = os.path.dirname(os.path.abspath(__file__))
-sys.path.insert(0, f"{HERE}/../tests")
-from managesieve import SIEVED, Store
+from measure import program_of, words_of
+from managesieve import Store
 
 KILLS = 300
 KEPT = 60
@@ -133,10 +131,7 @@ TRIALS = {"killed": killed, "full": full}
 
 
 def main():
-    words = sys.argv[1:]
-    sieved = SIEVED
-    if words[:1] == ["--sieved"]:
-        sieved, words = os.path.abspath(words[1]), words[2:]
+    sieved, words = program_of(words_of(__doc__))
     failed = False
     for name in words or TRIALS:
         try:

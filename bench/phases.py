@@ -8,17 +8,16 @@ The lock ends the start. Of the calls of fdatasync the last four are the close's
 what lies between the open's last one and the commit's first one is the work. Each figure is the median, in
 milliseconds, and has what strace adds to each call in it.
 """
-import os, re, statistics, subprocess, sys, tempfile
+import re, statistics, tempfile
+from measure import SALT, program_of, ran, words_of
 
-HERE = os.path.dirname(os.path.abspath(__file__))
-SIEVED = os.path.abspath(sys.argv[1] if len(sys.argv) > 1 else f"{HERE}/../crates/sieved/out/sieved")
-SALT = "00112233445566778899aabbccddeeff"
+SIEVED, _ = program_of(words_of(__doc__))
 MESSAGE = b"Subject: Lunch\r\n\r\n" + b"x" * 8000
 
 
 def run(folder, *words, data=b"", trace=None):
     before = ["strace", "-ttt", "-T", "-o", trace] if trace else []
-    subprocess.run([*before, SIEVED, *words], cwd=folder, input=data, check=True, stdout=subprocess.DEVNULL)
+    ran([*before, SIEVED, *words], data, cwd=folder)
 
 
 def phases():

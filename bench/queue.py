@@ -6,15 +6,12 @@
 Queues of 100, 1,000 and 10,000 rows of 8 kB, in memory (/dev/shm): `queue`, one row by its number, the first row taken off, each less
 `notices` of a user without anything, which is an open and a close; the least of 15 runs. It needs python3, and for memory the command `time`.
 """
-import os, shutil, sqlite3, subprocess, sys, tempfile, time
+import os, shutil, sqlite3, tempfile
 from contextlib import closing
-
-HERE = os.path.dirname(os.path.abspath(__file__))
-sys.path.insert(0, f"{HERE}/../tests")
-from managesieve import SIEVED, Store
+from measure import SIEVED, head, least, row, weighed, words_of
+from managesieve import Store
 
 MESSAGE = b"From: bob@example.net\r\nTo: alice@example.org\r\nSubject: Lunch\r\n\r\n" + (b"x" * 76 + b"\r\n") * 104
-RUNS = 15
 
 
 def filled(sieved, folder, rows):
@@ -30,55 +27,25 @@ def filled(sieved, folder, rows):
     return store
 
 
-def timed(words):
-    began = time.perf_counter()
-    subprocess.run(words, stdin=subprocess.DEVNULL, stdout=subprocess.DEVNULL, check=True)
-    return (time.perf_counter() - began) * 1000
-
-
-def least(words, before=lambda: None):
-    took = []
-    for _ in range(RUNS):
-        before()
-        took.append(timed(words))
-    return min(took)
-
-
-def peak(words):
-    """The most memory that the process had, in MB; none where the command `time` isn't installed."""
-    if not os.path.exists("/usr/bin/time"):
-        return float("nan")
-    done = subprocess.run(["/usr/bin/time", "-f", "%M", *words], stdin=subprocess.DEVNULL, stdout=subprocess.DEVNULL, stderr=subprocess.PIPE, check=True)
-    return int(done.stderr.split()[-1]) / 1024
-
-
-def row(sieved, rows):
+def rows_of(sieved, rows):
     with tempfile.TemporaryDirectory(dir="/dev/shm") as folder:
         store = filled(sieved, folder, rows)
         whole = f"{folder}/whole.db"
-        opening = least(store.words("notices", "bob"))
-        base = peak(store.words("notices", "bob"))
-        listed, one = store.words("queue", "alice"), store.words("queue", "alice", str(rows // 2))
-        figures = [least(listed) - opening, least(one) - opening]
-        most = [peak(listed) - base, peak(one) - base]
+        rest, listed, one = store.words("notices", "bob"), store.words("queue", "alice"), store.words("queue", "alice", str(rows // 2))
+        opening, base = least(rest), weighed(rest).mib
         shutil.copy(store.file, whole)
-
-        def again():
-            shutil.copy(whole, store.file)
-            for name in os.listdir(folder):
-                if name.startswith("mail.db-"):
-                    os.remove(f"{folder}/{name}")
-
-        figures.append(least(store.words("done", "alice", "1"), again) - opening)
-        figures, most = [max(0.0, it) for it in figures], [max(0.0, it) for it in most]
-        print(f"| {rows:,} | {opening:.1f} | {figures[0]:.1f} | {figures[1]:.1f} | {figures[2]:.1f} | {base:.1f} | {most[0]:.1f} | {most[1]:.1f} |", flush=True)
+        again = ["sh", "-c", 'cp "$0" "$1" && rm -f "$1"-*', whole, store.file]
+        figures = [least(listed), least(one), least(store.words("done", "alice", "1"), before=again)]
+        most = [weighed(listed).mib, weighed(one).mib]
+        row(f"{rows:,}", f"{opening:.1f}", *(f"{max(0, it - opening):.1f}" for it in figures), f"{base:.1f}", *(f"{max(0, it - base):.1f}" for it in most))
 
 
 def main():
-    for sieved in [os.path.abspath(word) for word in sys.argv[1:]] or [SIEVED]:
-        print(f"{sieved}\n\n| Rows | An open, ms | `queue` besides | `queue` of one row | `done` | An open, MB | `queue` besides | of one row |\n|---:|---:|---:|---:|---:|---:|---:|---:|")
+    for sieved in [os.path.abspath(word) for word in words_of(__doc__)] or [SIEVED]:
+        print(f"{sieved}\n")
+        head("Rows", "An open, ms", "`queue` besides", "`queue` of one row", "`done`", "An open, MB", "`queue` besides", "of one row")
         for rows in (100, 1_000, 10_000):
-            row(sieved, rows)
+            rows_of(sieved, rows)
 
 
 if __name__ == "__main__":

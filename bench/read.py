@@ -9,10 +9,11 @@ three, as a table of docs/PERFORMANCE.md: these are the calls that `sieved send`
 store_accounts), and that `export` makes of a message (`message_of`), whose table has the same key. `step` looks at the message where SQLite has
 it, with no copy: less no caller can take.
 """
-import os, shutil, sqlite3, subprocess, sys, tempfile
+import os, shutil, sqlite3, tempfile
 from contextlib import closing
+from measure import built, head, row, weighed, words_of
 
-SIZE = int(sys.argv[1] if len(sys.argv) > 1 else 30) * 1_000_000
+SIZE = int((words_of(__doc__) or ["30"])[0]) * 1_000_000
 TABLES = """CREATE TABLE account (name BLOB NOT NULL PRIMARY KEY) STRICT;
 CREATE TABLE outgoing (owner BLOB NOT NULL REFERENCES account (name), id INTEGER NOT NULL, kind INTEGER NOT NULL, sender BLOB NOT NULL, target BLOB NOT NULL,
 message BLOB NOT NULL, PRIMARY KEY (owner, id)) STRICT; INSERT INTO account VALUES (X'61')"""
@@ -107,48 +108,28 @@ fn act(rt: &HostRuntime) -> Result<bool, Error> {
 """
 
 
-def peak(words, folder):
-    """The most memory that a process had, in MB."""
-    process = subprocess.Popen(words, cwd=folder)
-    _, status, used = os.wait4(process.pid, 0)
-    assert status == 0, (words, status)
-    return used.ru_maxrss / 1000
-
-
-def made(folder):
-    """The crate's folder, with the program built."""
-    crate = f"{folder}/crates/read"
-    os.makedirs(f"{crate}/src")
-    with open(f"{folder}/crates.txt", "w") as file:
-        file.write("read: sqlite sqlite_value\n")
-    with open(f"{crate}/src/main.rt", "w") as file:
-        file.write(SOURCE.replace("SIZE", str(SIZE)))
-    subprocess.run(["rt", "run"], cwd=crate, check=True, stdout=subprocess.DEVNULL)
-    return crate
-
-
-def memory(crate, rows):
+def memory(program, folder, rows):
     """What each deed takes at most, over a file with so many rows."""
-    full = f"{crate}/full.db"
+    full = f"{folder}/full.db"
     with closing(sqlite3.connect(full)) as db, db:
         db.executescript(TABLES)
         for number in range(rows):
             db.execute("INSERT INTO outgoing VALUES (X'61', ?, 1, X'62', X'63', ?)", (number + 1, b"a" * SIZE))
     found = {}
     for deed in DEEDS:
-        shutil.copy(full, f"{crate}/queue.db")
-        found[deed] = peak([f"{crate}/out/read", deed], crate)
+        shutil.copy(full, f"{folder}/queue.db")
+        found[deed] = weighed([program, deed], cwd=folder).mib
     os.remove(full)
     return found
 
 
 def main():
     with tempfile.TemporaryDirectory() as folder:
-        crate = made(folder)
-        one, three = memory(crate, 1), memory(crate, 3)
-    print(f"| The ported SQLite alone, a row of {SIZE:,} octets of | one: MB | over an open | three: MB | over an open |\n|---|---:|---:|---:|---:|")
+        program = built(folder, "read", "sqlite sqlite_value", {"src/main.rt": SOURCE.replace("SIZE", str(SIZE))})
+        one, three = memory(program, folder, 1), memory(program, folder, 3)
+    head(f"The ported SQLite alone, a row of {SIZE:,} octets of", "one: MB", "over an open", "three: MB", "over an open")
     for deed, said in DEEDS.items():
-        print(f"| {said} | {one[deed]:.0f} | {one[deed] - one['open']:.0f} | {three[deed]:.0f} | {three[deed] - three['open']:.0f} |")
+        row(said, *(f"{figure:.0f}" for found in (one, three) for figure in (found[deed], found[deed] - found["open"])))
 
 
 if __name__ == "__main__":

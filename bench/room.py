@@ -8,7 +8,8 @@ row is the least of 20 runs of the read alone, within the process, and the page 
 does; `try` reads a large message as the last one does, and counts its size besides. The last row keeps nothing: what it doesn't take is what
 the system takes for fresh memory.
 """
-import os, subprocess, sys, tempfile
+import sys, tempfile
+from measure import built, head, ran, row, words_of
 
 SIZE = 30_000_000
 WAYS = {
@@ -67,32 +68,26 @@ fn read<R: Read>(alloc: Global, input: &mut R, way: &str) -> io::Result<usize> {
 """
 
 
-def ran(program, way, given):
+def read(program, way, given):
     """The microseconds and the page faults of a run."""
-    with open(given, "rb") as file, tempfile.TemporaryFile() as told:
-        child = subprocess.Popen([program, way], stdin=file, stdout=told)
-        _, status, used = os.wait4(child.pid, 0)
-        told.seek(0)
-        octets, took = (int(word) for word in told.read().split())
-        if status or octets != SIZE:
-            raise SystemExit(f"{way}: status {status >> 8}, {octets} octets")
-        return took, used.ru_minflt
+    with open(given, "rb") as file:
+        run = ran([program, way], file)
+    octets, took = (int(word) for word in run.out.split())
+    if octets != SIZE:
+        sys.exit(f"{way}: {octets} octets")
+    return took, run.faults
 
 
 def main():
+    words_of(__doc__)
     with tempfile.TemporaryDirectory() as folder:
-        crate, given = f"{folder}/crates/room", f"{folder}/given"
-        os.makedirs(f"{crate}/src")
-        for name, text in (f"{folder}/crates.txt", "room:\n"), (f"{crate}/src/main.rt", SOURCE), (f"{crate}/stdin", ""):
-            with open(name, "w") as file:
-                file.write(text)
+        program, given = built(folder, "room", "", {"src/main.rt": SOURCE, "stdin": ""}), f"{folder}/given"
         with open(given, "wb") as file:
             file.write(b"x" * SIZE)
-        subprocess.run(["rt", "run"], cwd=crate, check=True, stdin=subprocess.DEVNULL, stdout=subprocess.DEVNULL, stderr=subprocess.DEVNULL)
-        print("| 30 MB read from a file | ms | page faults |\n|---|---:|---:|")
+        head("30 MB read from a file", "ms", "page faults")
         for way, what in WAYS.items():
-            took, faults = min(ran(f"{crate}/out/room", way, given) for _ in range(20))
-            print(f"| {what} | {took / 1000:.1f} | {faults:,} |", flush=True)
+            took, faults = min(read(program, way, given) for _ in range(20))
+            row(what, f"{took / 1000:.1f}", f"{faults:,}")
 
 
 if __name__ == "__main__":

@@ -9,7 +9,8 @@ for one that borrows them from the script. It looks at each octet of the script 
 process, whose pages the system makes as they are touched, and then again and again in the same memory. Each figure is the least of 40
 processes, in microseconds a rule, and beside it its share of the goal of 1.2.
 """
-import subprocess, tempfile
+import tempfile
+from measure import head, ran, row, words_of
 from waits import rules
 
 COUNT = 800
@@ -121,32 +122,30 @@ def made(folder):
     """The program."""
     with open(f"{folder}/rule.c", "w") as file:
         file.write(SOURCE)
-    subprocess.run(["cc", "-O2", "-o", f"{folder}/rule", f"{folder}/rule.c"], check=True)
+    ran(["cc", "-O2", "-o", f"{folder}/rule", f"{folder}/rule.c"])
     return f"{folder}/rule"
 
 
 def figures(program, tree):
     """The least of the three times, in microseconds for all rules, and the page faults of the first."""
-    found = []
-    for _ in range(40):
-        told = subprocess.run([program, tree], input=rules(COUNT), check=True, capture_output=True).stdout
-        found.append([float(word) for word in told.split()])
+    found = [[float(word) for word in ran([program, tree], rules(COUNT)).out.split()] for _ in range(40)]
     return [min(column) for column in zip(*found)]
 
 
-def row(what, took, faults=""):
-    print(f"| {what} | {took / COUNT:.2f} | {took / COUNT / GOAL * 100:.0f} % | {faults} |")
+def tell(what, took, faults=""):
+    row(what, f"{took / COUNT:.2f}", f"{took / COUNT / GOAL * 100:.0f} %", faults)
 
 
 def main():
-    print("| Of 800 rules | us a rule | of 1.2 us | page faults |\n|---|---:|---:|---:|")
+    words_of(__doc__)
+    head("Of 800 rules", "us a rule", "of 1.2 us", "page faults")
     with tempfile.TemporaryDirectory() as folder:
         program = made(folder)
         for tree, what in ("copies", "has copies of its strings"), ("borrows", "borrows its strings"):
             first, again, look, faults, _ = figures(program, tree)
-            row(f"`malloc` and `free` for a tree that {what}, in memory that is used again", again)
-            row("the same in a fresh process", first, f"{faults:.0f}")
-        row("one look at each octet, a table's class of it counted", look)
+            tell(f"`malloc` and `free` for a tree that {what}, in memory that is used again", again)
+            tell("the same in a fresh process", first, f"{faults:.0f}")
+        tell("one look at each octet, a table's class of it counted", look)
 
 
 if __name__ == "__main__":

@@ -15,12 +15,10 @@ Debian's postfix, `dovecot` root and Debian's dovecot-submissiond.
 
 What arrives is counted: each row once. The store is in the folder for temporary files. Other processes are not looked for: run it alone.
 """
-import os, sqlite3, subprocess, sys, tempfile, time
+import os, sqlite3, sys, tempfile, time
 from contextlib import closing
-
-HERE = os.path.dirname(os.path.abspath(__file__))
-sys.path.insert(0, f"{HERE}/../tests")
-from managesieve import SIEVED, Store
+from measure import head, least, program_of, ran, row, weighed, words_of
+from managesieve import Store
 from smtpservers import Dovecot, Postfix, Sink
 
 ROWS = [1_000, 3_000, 10_000]
@@ -40,9 +38,12 @@ def put(store, count, message=None):
 
 def send(store, place, *words):
     """A run of `send`: its last line, and how many seconds it took."""
-    began = time.perf_counter()
-    done = subprocess.run(store.words("send", "--smtp", place, *words), stdin=subprocess.DEVNULL, capture_output=True)
-    return (done.stdout.decode().splitlines() or [""])[-1], time.perf_counter() - began
+    run = ran(store.words("send", "--smtp", place, *words))
+    return last_line(run), run.ms / 1000
+
+
+def last_line(run):
+    return (run.out.decode("latin-1").splitlines() or [""])[-1]
 
 
 def served(sieved, kind):
@@ -52,7 +53,7 @@ def served(sieved, kind):
         try:
             if kind is Dovecot:
                 print(f"{server.name} without a login: {server.refuses()}", flush=True)
-            print(f"| Rows handed to {server.name} | s | ms a row | rows a second | store, MB |\n|---:|---:|---:|---:|---:|")
+            head(f"Rows handed to {server.name}", "s", "ms a row", "rows a second", "store, MB")
             for count in ROWS:
                 store = Store(["alice"], sieved)
                 put(store, count)
@@ -62,7 +63,7 @@ def served(sieved, kind):
                 came = server.arrived(count)
                 if line != f"sent {count}, wait 0" or came != count:
                     raise SystemExit(f"{line!r}, and {came} arrived")
-                print(f"| {count} | {took:.1f} | {1000 * took / count:.2f} | {count / took:.0f} | {size:.1f} |", flush=True)
+                row(count, f"{took:.1f}", f"{1000 * took / count:.2f}", f"{count / took:.0f}", f"{size:.1f}")
         finally:
             server.stop()
 
@@ -74,7 +75,7 @@ def sendmail(sieved):
             began = time.perf_counter()
             for number in range(count):
                 words = ["/usr/sbin/sendmail", "-C", f"{room}/etc", "-i", "-f", "alice@example.org", "--", "carol@example.net"]
-                subprocess.run(words, input=MESSAGE % number, check=True, stdout=subprocess.DEVNULL)
+                ran(words, MESSAGE % number)
             took = time.perf_counter() - began
             came = server.arrived(count)
             print(f"`sendmail` a row, {count} of them: {1000 * took / count:.2f} ms a row, {count / took:.0f} a second; {came} arrived", flush=True)
@@ -84,8 +85,8 @@ def sendmail(sieved):
 
 def waits(sieved):
     """All rows wait, as the text beside the store says; and one more that is due."""
-    print("| Rows, of which all wait | a run, s | with one more row that is due, s | an open of the store, s |\n|---:|---:|---:|---:|")
-    for count in [row // 2 for row in ROWS]:
+    head("Rows, of which all wait", "a run, s", "with one more row that is due, s", "an open of the store, s")
+    for count in [rows // 2 for rows in ROWS]:
         store, sink = Store(["alice"], sieved), Sink()
         put(store, count)
         with open(f"{store.file}.send.waits", "w") as file:
@@ -96,36 +97,21 @@ def waits(sieved):
         put(store, 1)
         line, one = send(store, place)
         assert line == "sent 1, wait 0", line
-        print(f"| {count} | {none:.3f} | {one:.3f} | {opened(store):.3f} |", flush=True)
-
-
-def opened(store):
-    """How long `folders` takes, the least of five."""
-    spans = []
-    for _ in range(5):
-        began = time.perf_counter()
-        store.run("folders", "--wait", "alice")
-        spans.append(time.perf_counter() - began)
-    return min(spans)
-
-
-def peak(words):
-    """The most memory of a process, in MB, by the command `time`, and its last line."""
-    done = subprocess.run(["/usr/bin/time", "-f", "%M", *words], stdin=subprocess.DEVNULL, capture_output=True)
-    return int(done.stderr.split()[-1]) / 1024, (done.stdout.decode("latin-1").splitlines() or [""])[-1]
+        opened = least(store.words("folders", "--wait", "alice"), runs=5) / 1000
+        row(count, f"{none:.3f}", f"{one:.3f}", f"{opened:.3f}")
 
 
 def memory(sieved):
-    print("| Rows | store, MB | `folders`, MB | `send`, MB | more, MB | the largest message, MB |\n|---|---:|---:|---:|---:|---:|")
+    head("Rows", "store, MB", "`folders`, MB", "`send`, MB", "more, MB", "the largest message, MB")
     large = b"Subject: large\r\n\r\n" + (b"x" * 76 + b"\r\n") * (30_000_000 // 78)
     for name, count, message in (("ten of 1 kB", 10, None), ("1,000 of 1 kB", 1_000, None), ("one of 30 MB", 1, large)):
         store, sink = Store(["alice"], sieved), Sink()
         put(store, count, message)
         size = os.path.getsize(store.file) / 1e6
-        rest, _ = peak(store.words("folders", "alice"))
-        most, line = peak(store.words("send", "--smtp", f"127.0.0.1:{sink.port}"))
-        assert line == f"sent {count}, wait 0", line
-        print(f"| {name} | {size:.1f} | {rest:.1f} | {most:.1f} | {most - rest:.1f} | {len(message or MESSAGE) / 1e6:.1f} |", flush=True)
+        rest = weighed(store.words("folders", "alice")).mib
+        run = weighed(store.words("send", "--smtp", f"127.0.0.1:{sink.port}"))
+        assert last_line(run) == f"sent {count}, wait 0", run.out
+        row(name, *(f"{figure:.1f}" for figure in (size, rest, run.mib, run.mib - rest, len(message or MESSAGE) / 1e6)))
 
 
 PARTS = {"postfix": lambda sieved: served(sieved, Postfix), "dovecot": lambda sieved: served(sieved, Dovecot), "sendmail": sendmail, "waits": waits, "memory": memory}
@@ -133,9 +119,7 @@ PARTS = {"postfix": lambda sieved: served(sieved, Postfix), "dovecot": lambda si
 
 def main():
     global ROWS
-    words, sieved = sys.argv[1:], SIEVED
-    if words[:1] == ["--sieved"]:
-        sieved, words = os.path.abspath(words[1]), words[2:]
+    sieved, words = program_of(words_of(__doc__))
     if words[:1] == ["--rows"]:
         ROWS, words = [int(text) for text in words[1].split(",")], words[2:]
     if set(words) - set(PARTS):

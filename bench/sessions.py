@@ -7,11 +7,9 @@ It needs python3 and socat, which starts `session` for each connection; with str
 and close. The store has one user with one script of some 90 octets. A session is: connect, read the greeting, log in,
 LISTSCRIPTS, LOGOUT. Rates are the best of five turns of two seconds; times of single commands are medians.
 """
-import os, re, shutil, statistics, subprocess, sys, threading, time
-
-HERE = os.path.dirname(os.path.abspath(__file__))
-sys.path.insert(0, f"{HERE}/../tests")
-from managesieve import SIEVED, Store, connect, end
+import re, shutil, statistics, subprocess, threading, time
+from measure import head, program_of, row, words_of
+from managesieve import Store, connect, end
 
 RULES = b'require "fileinto";\r\nif header :contains "subject" "[list]" { fileinto "lists"; }\r\n'
 SECONDS = 2.0
@@ -68,16 +66,16 @@ def put_rates(port):
 
 
 def rates(name, port):
-    row(f"sessions, `{name}`, one client after the other", rate(lambda: one(port)))
+    tell(f"sessions, `{name}`, one client after the other", rate(lambda: one(port)))
     if name != "serve":
-        row(f"sessions, `{name}`, four clients at once", rate(lambda: four(port)))
+        tell(f"sessions, `{name}`, four clients at once", rate(lambda: four(port)))
     single, together = put_rates(port)
-    row(f"PUTSCRIPT in one session, `{name}`, each after the answer to the one before", single)
-    row(f"PUTSCRIPT in one session, `{name}`, ten sent together", together)
+    tell(f"PUTSCRIPT in one session, `{name}`, each after the answer to the one before", single)
+    tell(f"PUTSCRIPT in one session, `{name}`, ten sent together", together)
 
 
-def row(what, figure):
-    print(f"| {what} | {figure:.0f} |", flush=True)
+def tell(what, figure):
+    row(what, f"{figure:.0f}")
 
 
 def command_times(port):
@@ -138,14 +136,13 @@ def phases(calls):
 
 
 def main():
-    store = Store(["alice"], os.path.abspath(sys.argv[1]) if len(sys.argv) > 1 else SIEVED)
+    store = Store(["alice"], program_of(words_of(__doc__))[0])
     server, port = store.serve()
     client = connect(port)
     client.log_in("alice")
     client.put(b"rules", RULES)
     client.close()
-    print("| What | A second |")
-    print("|---|---|")
+    head("What", "A second")
     rates("serve", port)
     times = command_times(port)
     end(server)
@@ -156,10 +153,10 @@ def main():
     listener, port = store.listen("--wait")
     rates("session", port)
     end(listener)
-    print("\n| Command | Median ms over `serve` | More than NOOP | over `daemon` |")
-    print("|---|---|---|---|")
+    print()
+    head("Command", "Median ms over `serve`", "More than NOOP", "over `daemon`")
     for name, took in times.items():
-        print(f"| {name} | {took:.2f} | {took - times['NOOP']:.2f} | {by_daemon[name]:.2f} |")
+        row(name, f"{took:.2f}", f"{took - times['NOOP']:.2f}", f"{by_daemon[name]:.2f}")
     if shutil.which("strace"):
         opened, closed = traced(store)
         print(f"\nOf a LISTSCRIPTS under strace: open {opened:.1f} ms, close {closed:.1f} ms.")

@@ -8,6 +8,7 @@ It runs neither sieved nor a mail server, and takes some ten seconds. What a use
 have most of the mail), the octets that a store keeps of a user from a log-normal one. The same seed gives the same lines.
 """
 import argparse, hashlib, heapq, random, sqlite3, statistics, sys, tempfile, time
+from measure import head, row
 
 # What one store machine does, measured (docs/PERFORMANCE.md): deliveries of 8 kB a second over 20 connections, logins, scripts put; milliseconds
 # that an open takes for a megabyte of the store; seconds that a move takes (tests/cluster.py).
@@ -68,14 +69,15 @@ def told(how, sums, moves, users):
     mean = statistics.fmean(sums)
     ranked = sorted(sums)
     second = BUSY / 86_400
-    print(f"| {how} | {mean * second:.1f} | {ranked[len(ranked) * 99 // 100 - 1] * second:.1f} | {ranked[-1] * second:.1f} | {ranked[-1] / mean:.2f} | {moves:,} | {100 * moves / users:.2f} % |")
+    busiest = (mean, ranked[len(ranked) * 99 // 100 - 1], ranked[-1])
+    row(how, *(f"{load * second:.1f}" for load in busiest), f"{ranked[-1] / mean:.2f}", f"{moves:,}", f"{100 * moves / users:.2f} %")
 
 
 def simulate(users, machines, seed):
     draw = random.Random(seed)
     messages, octets = drawn(users, draw)
     print(f"{users:,} users on {machines} machines; of all mail the 1 % of users with most have {100 * sum(sorted(messages)[-users // 100:]) / sum(messages):.0f} %\n")
-    print("| Deliveries a second in the busiest hour | mean | 99th of 100 machines | greatest | greatest / mean | users who move | of all |\n|---|---:|---:|---:|---:|---:|---:|")
+    head("Deliveries a second in the busiest hour", "mean", "99th of 100 machines", "greatest", "greatest / mean", "users who move", "of all")
     places = [by_name(user, machines) for user in range(users)]
     told("by a hash of the name", loads(places, messages, machines), 0, users)
     in_turn = [user % machines for user in range(users)]
@@ -107,16 +109,18 @@ def machines_for(users):
 
 
 def reckon():
-    print("\n| Users | machines by the size of the store | by logins | by deliveries | by scripts put | deliveries a second, all |\n|---|---:|---:|---:|---:|---:|")
+    print()
+    head("Users", "machines by the size of the store", "by logins", "by deliveries", "by scripts put", "deliveries a second, all")
     for users in 10 ** 4, 10 ** 6, 10 ** 8:
         wanted = machines_for(users)
         cells = [f"{wanted[name]:,.2f}" for name in ("the size of the store", "logins", "deliveries", "scripts put")]
-        print(f"| {users:,} | {' | '.join(cells)} | {users * A_DAY * BUSY / 86_400:,.0f} |")
+        row(f"{users:,}", *cells, f"{users * A_DAY * BUSY / 86_400:,.0f}")
 
 
 def front(counts=(10 ** 4, 10 ** 6)):
     """What a look into the front's table costs, with SQLite itself."""
-    print("\n| Users in the front's table | MB | a look, us | a user moves, ms |\n|---|---:|---:|---:|")
+    print()
+    head("Users in the front's table", "MB", "a look, us", "a user moves, ms")
     for count in counts:
         with tempfile.TemporaryDirectory() as room:
             table = sqlite3.connect(f"{room}/users.db")
@@ -135,7 +139,7 @@ def front(counts=(10 ** 4, 10 ** 6)):
             move = (time.perf_counter() - began) / 50
             size = table.execute("SELECT page_count * page_size FROM pragma_page_count(), pragma_page_size()").fetchone()[0]
             table.close()
-        print(f"| {count:,} | {size / 1e6:.1f} | {look * 1e6:.0f} | {move * 1e3:.1f} |")
+        row(f"{count:,}", f"{size / 1e6:.1f}", f"{look * 1e6:.0f}", f"{move * 1e3:.1f}")
 
 
 def main():

@@ -7,11 +7,10 @@ A message has 100 kB or 1 MB of fields of one name, one field or many of 100 oct
 on it by `sieved try`: the least of 15 runs, less that of an empty script, a hundredth of it for each test. Run it with `chrt -f 1` beside
 other work.
 """
-import os, subprocess, sys, time
+from measure import head, least, program_of, ran, row, words_of
 
-HERE = os.path.dirname(os.path.abspath(__file__))
-SIEVED = os.path.abspath(sys.argv[1] if len(sys.argv) > 1 else f"{HERE}/../crates/sieved/out/sieved")
-RUNS, TESTS = 15, 100
+SIEVED, _ = program_of(words_of(__doc__))
+TESTS = 100
 REQUIRE = b'require ["relational", "comparator-i;ascii-numeric"];\n'
 FORMS = {
     "`:value`": b'header :value "gt" "x-big" "zzz%d"',
@@ -28,22 +27,18 @@ def message(count, size):
 
 
 def took(script, octets):
-    given, least = b"%d\n" % len(script) + script + octets, []
-    for _ in range(RUNS):
-        began = time.perf_counter()
-        done = subprocess.run([SIEVED], input=given, capture_output=True)
-        least.append(time.perf_counter() - began)
-        assert (done.returncode, done.stdout) == (0, b"file INBOX\n"), done
-    return min(least) * 1_000_000
+    given = b"%d\n" % len(script) + script + octets
+    assert ran([SIEVED], given).out == b"file INBOX\n"
+    return least([SIEVED], given) * 1000
 
 
 def main():
-    print(f"| A test over, us | {' | '.join(FORMS)} |\n|---|{'---:|' * len(FORMS)}")
+    head("A test over, us", *FORMS)
     for name, (count, size) in FIELDS.items():
         octets = message(count, size)
         empty = took(b"keep;\n", octets)
         tests = {form: REQUIRE + b"".join(b"if " + text % at + b" { discard; }\n" for at in range(TESTS)) for form, text in FORMS.items()}
-        print(f"| {name} | {' | '.join(f'{max(took(script, octets) - empty, 0) / TESTS:.1f}' for script in tests.values())} |")
+        row(name, *(f"{max(took(script, octets) - empty, 0) / TESTS:.1f}" for script in tests.values()))
 
 
 if __name__ == "__main__":

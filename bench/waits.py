@@ -9,12 +9,12 @@ whole runs less the run of an empty script, by turns, the least of 40, for each 
 AUTHENTICATE, with 10,000 rounds of SHA-256, beside as many of `openssl speed` at 64 octets without the processor's SHA instructions.
 It needs root, dovecot-core, dovecot-sieve and openssl; a peer that isn't there is left out.
 """
-import base64, os, re, shutil, socket, subprocess, sys, tempfile, time
+import base64, os, re, shutil, socket, subprocess, tempfile, time
+import measure
+from measure import SALT, head, program_of, ran, row, words_of
 
-HERE = os.path.dirname(os.path.abspath(__file__))
-SIEVED = os.path.abspath(sys.argv[1] if len(sys.argv) > 1 else f"{HERE}/../crates/sieved/out/sieved")
+SIEVED = measure.SIEVED
 RUNS = 40
-SALT = "00112233445566778899aabbccddeeff"
 SMALL = b"From: bob@example.net\r\nTo: alice@example.org\r\nSubject: Lunch today\r\nMessage-ID: <m1@example.net>\r\n\r\nHi\r\n"
 LARGE = SMALL + (b"x" * 76 + b"\r\n") * (30_000_000 // 78)
 DOVECOT = """mail_location = maildir:{room}/mail
@@ -36,16 +36,7 @@ plugin {{
 """
 
 
-def ran(words, given, env=None):
-    began = time.perf_counter()
-    done = subprocess.run(words, stdin=given, stdout=subprocess.DEVNULL, stderr=subprocess.PIPE, env=env)
-    took = time.perf_counter() - began
-    if done.returncode:
-        raise SystemExit(f"{words}: {done.returncode}: {done.stderr.decode(errors='replace')}")
-    return took * 1000
-
-
-def least(calls, runs=RUNS):
+def by_turns(calls, runs=RUNS):
     """The least of some runs of each, by turns, in milliseconds."""
     took = [[call() for call in calls] for _ in range(runs)]
     return [min(each) for each in zip(*took)]
@@ -83,15 +74,11 @@ class Room:
 
     def opened(self, name, words):
         with open(f"{self.room}/{name}", "rb") as given:
-            return ran(words, given)
+            return ran(words, given).ms
 
     def by_sieve_test(self, script, message):
         words = ["sieve-test", "-C", "-c", f"{self.room}/dovecot.conf", f"{self.room}/{script}", f"{self.room}/{message}"]
-        return lambda: ran(words, subprocess.DEVNULL, self.env)
-
-
-def row(what, ours, theirs, goal):
-    print(f"| {what} | {ours} | {theirs} | {goal} |", flush=True)
+        return lambda: ran(words, env=self.env).ms
 
 
 def part_rules(room):
@@ -100,7 +87,7 @@ def part_rules(room):
         calls = [room.by_sieved("rules.sieve", "small.eml"), room.by_sieved("empty.sieve", "small.eml")]
         peer = shutil.which("sieve-test")
         calls += [room.by_sieve_test("rules.sieve", "small.eml"), room.by_sieve_test("empty.sieve", "small.eml")] if peer else []
-        took = least(calls)
+        took = by_turns(calls)
         each = [(took[at] - took[at + 1]) * 1000 / count for at in range(0, len(took), 2)]
         goal = "1.2 us" if count == 800 else ""
         row(f"a rule of {count}", f"{each[0]:.2f} us", f"sieve-test {each[1]:.2f} us" if peer else "", goal)
@@ -109,7 +96,7 @@ def part_rules(room):
 def part_try(room):
     peer = shutil.which("sieve-test")
     calls = [room.by_sieved("empty.sieve", "large.eml")] + ([room.by_sieve_test("empty.sieve", "large.eml")] if peer else [])
-    took = least(calls, 15)
+    took = by_turns(calls, 15)
     row("`try` of 30 MB", f"{took[0]:.1f} ms", f"sieve-test {took[1]:.1f} ms" if peer else "", "15 ms")
 
 
@@ -118,7 +105,7 @@ def part_deliver(room):
         for name in os.listdir(room.room):
             if name.startswith("mail.db"):
                 os.remove(f"{room.room}/{name}")
-        ran([SIEVED, "init", "--db", f"{room.room}/mail.db"], subprocess.DEVNULL)
+        ran([SIEVED, "init", "--db", f"{room.room}/mail.db"])
         room.write("password", b"secret\n")
         room.opened("password", [SIEVED, "adduser", "--db", f"{room.room}/mail.db", "--salt", SALT, "alice", "alice@example.org"])
         return room.opened("large.eml", [SIEVED, "deliver", "--db", f"{room.room}/mail.db", "--to", "alice@example.org", "alice"])
@@ -126,11 +113,11 @@ def part_deliver(room):
     def theirs():
         shutil.rmtree(f"{room.room}/mail", ignore_errors=True)
         with open(f"{room.room}/large.eml", "rb") as given:
-            return ran(["setpriv", "--reuid=nobody", "--regid=nogroup", "--clear-groups", peer, "-c", f"{room.room}/dovecot.conf", "-f", "bob@example.net"], given, room.env)
+            return ran(["setpriv", "--reuid=nobody", "--regid=nogroup", "--clear-groups", peer, "-c", f"{room.room}/dovecot.conf", "-f", "bob@example.net"], given, env=room.env).ms
 
     peer = "/usr/lib/dovecot/dovecot-lda"
     calls = [ours] + ([theirs] if os.path.exists(peer) else [])
-    took = least(calls, 10)
+    took = by_turns(calls, 10)
     row("`deliver` of 30 MB into an empty store", f"{took[0]:.0f} ms", f"dovecot-lda {took[1]:.0f} ms" if len(took) > 1 else "", "150 ms")
 
 
@@ -152,7 +139,7 @@ def logged_in(port):
 
 
 def part_login(room):
-    ran([SIEVED, "init", "--db", f"{room.room}/login.db"], subprocess.DEVNULL)
+    ran([SIEVED, "init", "--db", f"{room.room}/login.db"])
     room.write("password", b"secret\n")
     room.opened("password", [SIEVED, "adduser", "--db", f"{room.room}/login.db", "--salt", SALT, "alice", "alice@example.org"])
     words = [SIEVED, "daemon", "--db", f"{room.room}/login.db", "--managesieve", "0", "--quiet"]
@@ -170,11 +157,13 @@ def part_login(room):
 
 
 def main():
+    global SIEVED
+    SIEVED, words = program_of(words_of(__doc__))
     parts = {"rules": part_rules, "try": part_try, "deliver": part_deliver, "login": part_login}
-    print("| What | sieved | beside it | goal |\n|---|---:|---:|---:|")
+    head("What", "sieved", "beside it", "goal")
     with tempfile.TemporaryDirectory() as folder:
         room = Room(folder)
-        for name in sys.argv[2:] or parts:
+        for name in words or parts:
             parts[name](room)
 
 

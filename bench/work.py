@@ -7,34 +7,15 @@ It makes a program crate of bench/work/main.rt.txt beside a copy of this reposit
 used), in FOLDER or in a new one, and proves and builds it with `rt run`; or it takes a program that was built so. The work is reckoned here,
 by the words of docs/SCRIPTS.md. Each time is the least of three.
 """
-import argparse, os, random, subprocess, tempfile
+import argparse, os, random, tempfile
+from measure import built, head, ran, row
 
 HERE = os.path.dirname(os.path.abspath(__file__))
-ROOT = os.path.dirname(HERE)
-LINE = "work: octets sieve_syntax sieve_code sieve_exec std_io\n"
+NEEDS = "octets sieve_syntax sieve_code sieve_exec std_io"
 LIMIT = 200_000_000
 SCRIPT = 262_144
 HEADER = 1_048_576
 REQUIRE = b'require ["relational", "comparator-i;ascii-numeric", "imap4flags", "date", "mailbox", "envelope", "subaddress"];\n'
-
-
-def made(folder):
-    """The program, built beside the crates that it stands on."""
-    rows = dict(row.rstrip("\n").split(":", 1) for row in open(f"{ROOT}/crates.txt") if ":" in row and not row.startswith("#"))
-    needed, names = set(), LINE.split(":")[1].split()
-    while names:
-        name = names.pop()
-        if name in rows and name not in needed:
-            needed.add(name)
-            names += rows[name].split()
-    os.makedirs(f"{folder}/crates/work/src", exist_ok=True)
-    for name in needed:
-        if not os.path.exists(f"{folder}/crates/{name}"):
-            subprocess.run(["cp", "-al", f"{ROOT}/crates/{name}", f"{folder}/crates/{name}"], check=True)
-    open(f"{folder}/crates.txt", "w").writelines([f"{name}:{row}\n" for name, row in rows.items() if name in needed] + [LINE])
-    open(f"{folder}/crates/work/src/main.rt", "w").write(open(f"{HERE}/work/main.rt.txt").read())
-    subprocess.run(["rt", "run", "--", "/dev/null", "/dev/null"], cwd=f"{folder}/crates/work", check=True, stdout=subprocess.DEVNULL)
-    return f"{folder}/crates/work/out/work"
 
 
 # ---- the work, by docs/SCRIPTS.md
@@ -160,23 +141,24 @@ def took(program, folder, script, message):
     open(f"{folder}/message", "wb").write(message)
     least = None
     for _ in range(3):
-        words = subprocess.run([program, f"{folder}/script", f"{folder}/message"], check=True, capture_output=True, text=True).stdout.split()
+        words = ran([program, f"{folder}/script", f"{folder}/message"]).out.decode().split()
         if len(words) < 3:
             return words[0], 0, 0
-        row = (words[0], int(words[1]) / 1e6, int(words[2]) / 1e6)
-        least = row if least is None or row[2] < least[2] else least
+        found = (words[0], int(words[1]) / 1e6, int(words[2]) / 1e6)
+        least = found if least is None or found[2] < least[2] else least
     return least
 
 
 def main():
-    words = argparse.ArgumentParser()
+    words = argparse.ArgumentParser(description=__doc__, formatter_class=argparse.RawDescriptionHelpFormatter)
     words.add_argument("--draws", type=int, default=200)
     words.add_argument("--seed", type=int, default=1)
     words.add_argument("--program")
     words.add_argument("folder", nargs="?")
     asked = words.parse_args()
     folder = asked.folder or tempfile.mkdtemp()
-    program = asked.program or made(folder)
+    with open(f"{HERE}/work/main.rt.txt") as file:
+        program = asked.program or built(folder, "work", NEEDS, {"src/main.rt": file.read()}, ["/dev/null", "/dev/null"])
     draw = random.Random(asked.seed)
     rows = []
     while len(rows) < asked.draws:
@@ -189,9 +171,9 @@ def main():
     rows.sort(reverse=True)
     near = [row for row in rows if row[2] > 0.9 * LIMIT]
     print(f"{len(rows)} drawn, {len(near)} of them within a tenth of the limit; their mean {sum(row[0] for row in near) / max(1, len(near)):.0f} ms")
-    print("| Run, ms | Header, ms | Work, millions | ns a unit | What |\n|---:|---:|---:|---:|---|")
+    head("What", "run, ms", "header, ms", "work, millions", "ns a unit")
     for run, read, work, _, what in rows[:12]:
-        print(f"| {run:.1f} | {read:.1f} | {work / 1e6:.1f} | {run * 1e6 / work:.2f} | {what} |")
+        row(what, f"{run:.1f}", f"{read:.1f}", f"{work / 1e6:.1f}", f"{run * 1e6 / work:.2f}")
 
 
 main()

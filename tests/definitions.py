@@ -1,5 +1,5 @@
 #!/usr/bin/env python3
-"""Prints docs/DEFINITIONS.md: the definitions that contracts of public functions name, in the words of their own comments.
+"""Prints docs/DEFINITIONS.md: the definitions that are met in several contracts, in the words of their own comments.
 
   tests/definitions.py > docs/DEFINITIONS.md
 """
@@ -11,11 +11,12 @@ HEAD = """# Definitions
 What the words of contracts mean: by crate, from the lowest up, and by file below `crates/CRATE/specs/`. `tests/definitions.py`
 prints this page from the comments of these files; to change a row, change the comment.
 
-Listed are the definitions that contracts of public functions name, and those that four other files of definitions or more use. A
-function is public if its crate's `lib.rt` hands it out: by its name, by its module or with its type. A name in lower case counts
-only if two clauses or more have it: of a single clause, the function's own comment says the same. All others are in the same
-files, beside these. A row has one definition, several that share a comment, or several short ones with their words in order,
-separated by semicolons. "This" is what the first column says. Crates of tests are left out.
+Listed is what a reader meets in several places: the definitions that two clauses of public functions name, those that four other
+files of definitions use, and, of names with a capital, those that one clause and two files name. A function is public if its
+crate's `lib.rt` hands it out: by its name, by its module or with its type. Of what a single clause names, the function's own
+comment says the same. All others are in the same files, beside these. A row has one definition, several that share a comment, or
+several short ones with their words in order, separated by semicolons. "This" is what the first column says. Crates of tests are
+left out.
 """
 # Within a module with parameters a definition is indented, as the fields of a record are.
 DEFINED = re.compile(r"(?:\s+(?=abbrev |unfoldable |pub record |pub data ))?(?:unfoldable |abbrev |record |data )*pub (?:record |data )?(?!mod\b|use\b)(\w+)")
@@ -170,7 +171,8 @@ def wanted():
     places = collections.defaultdict(set)
     for found in in_clauses | in_files:
         crate, file, name = found
-        if in_files[found] >= USES or in_clauses[found] > (0 if name[0].isupper() else 1):
+        clauses_of, files_of = in_clauses[found], in_files[found]
+        if clauses_of >= 2 or files_of >= USES or name[0].isupper() and clauses_of and files_of >= 2:
             places[crate, file].add(name)
     return places
 
