@@ -321,8 +321,8 @@ def largest():
     for number in range(31):
         wrote(old, "put", name, f"s{number}", data=b"keep;")
     told = f"file {folder}\nfile INBOX\nsend carol@example.com\n".encode()
-    for sender, said in (("bob@example.net", b"vacation sent\n"), ("b" * 1_012 + "@example.net", None)):
-        whole = wrote(old, "deliver", "--from", sender, "--to", f"{name}@example.org", name, data=head.ljust(33_554_432, b"x"))
+    for sender, said, filler in (("bob@example.net", b"vacation sent\n", b"x"), ("b" * 1_012 + "@example.net", None, b"y")):
+        whole = wrote(old, "deliver", "--from", sender, "--to", f"{name}@example.org", name, data=head.ljust(33_554_432, filler))
         assert whole.startswith(told) and said in (None, whole[len(told):]), whole
     base = sqlite3.connect(old.file)
     assert base.execute("SELECT max(length(flags)) FROM copy").fetchall() == [(12_899,)]

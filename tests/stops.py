@@ -37,7 +37,8 @@ fileinto "b";\r
 redirect "carol@example.com";\r
 vacation "Away.";\r
 """
-MAIL = b"From: bob@example.net\r\nTo: alice@example.org\r\nSubject: %d\r\n\r\n" + b"A line of a message.\r\n" * 400
+# A message with a name of its own, by which it is another one to send on.
+MAIL = b"From: bob@example.net\r\nTo: alice@example.org\r\nMessage-ID: <%d@example.net>\r\n\r\n" + b"A line of a message.\r\n" * 400
 LONG = b"# a script that takes some pages\r\n" * 300
 
 
@@ -487,7 +488,7 @@ def deliver():
     assert [shown[2] for shown in (before, after)][0] == (0, b"") and after[2][1].count(b"\n") == 2, (before[2], after[2])
     assert after[5:9] == ((0, MAIL % 0), (0, MAIL % 1), (0, MAIL % 1), (0, MAIL % 1)), after[5:9]
     moments = [[row[3] for row in dict(shown[-1])["reply"]] for shown in (before, after)]
-    assert moments == [[], [1700000000]], moments
+    assert moments == [[], [1700000000] * 2], ("of the reply, and of what was sent on", moments)
     return sweep(log, look, judge)
 
 
@@ -539,7 +540,7 @@ def exported():
     return sweep(log, look, lambda state, answers: "as after" if state[0] == after else "as before" if state[0] == before else None)
 
 
-SEEN = b'require "imap4flags"; if not header :is "subject" "1" { setflag "\\\\Seen"; }\r\n'
+SEEN = b'require "imap4flags"; if not header :is "message-id" "<1@example.net>" { setflag "\\\\Seen"; }\r\n'
 
 
 def with_mail(script=None, parts=("tmp", "new", "cur")):
