@@ -274,7 +274,7 @@ def details():
 
 
 def breeds():
-    """16 redirects to addresses of one's own, delivered back."""
+    """16 redirects to addresses of one's own, of a message that comes again and again: it is sent on once, and then held back."""
     def prepare(daemon):
         daemon.activate("alice", b"".join(b'redirect "alice+%d@example.org";\r\n' % at for at in range(16)))
         return [sends(daemon, LETTER, b"alice")] * 4
