@@ -16,3 +16,4 @@ mod DateExamples
 pub mod MachineLemmas
 pub mod MailboxLemmas
 pub mod WorkLemmas
+pub mod StepLemmas

@@ -1,5 +1,5 @@
 //! Laws of the definitions, each the contract of a function that does nothing.
-ghost use Rattle.std.specs.Prelude.{◌≡◌, ◌↔◌, ◌⊎◌, ℕ, List, [], Some, IsTrue, false};
+ghost use Rattle.std.specs.Prelude.{◌≡◌, ◌↔◌, ◌⊎◌, ℕ, ◌+◌, ◌*◌, ◌≤◌, List, [], Some, IsTrue, true, false, length, sum_by};
 ghost use Rattle.std.specs.List.{list_all};
 ghost use Rattle.mail_head.specs.Fields.{is_name};
 ghost use Rattle.mail_head.specs.Heads.{fields_of, size_of};
@@ -18,6 +18,8 @@ ghost use Rattle.sieve_exec.specs.Outcomes.{outcome_at, work_of};
 ghost use Rattle.sieve_exec.specs.Parts.{IsUser, IsDetail, user_of, detail_of, Cuts, local_of, domain_of};
 ghost use Rattle.sieve_exec.specs.Holding.{TestHolds};
 ghost use Rattle.sieve_exec.specs.Truth.{truth_at, truth_by};
+ghost use Rattle.sieve_exec.specs.Work.{is_long, sizes_of, contains_work, pattern_work};
+ghost use Rattle.sieve_match.specs.Costs.{search_steps, pattern_steps};
 
 /// A test that looks at the message, its envelope or the flags is true exactly if it holds.
 pub fn truth_of_a_check()
@@ -65,4 +67,17 @@ pub fn parts_of_a_local_part()
 pub fn invalid_names()
     ensures { (message : List ℕ) (envelope : Envelope) (when : When) (name : List ℕ) → (list_all is_name name ≡ false) ⊎ (name ≡ [])
         → field_values (mail_spec_of message envelope when) name ≡ [] }
+{}
+
+/// The steps that `contains` and `matches` take with a key and all values are at most the work that is counted for it, and at most three
+/// times that for a pattern of at most 63 octets. A table for a shorter key is made once for each name of fields.
+pub fn steps_of_keys()
+    ensures long_key { (names : ℕ) (key : List ℕ) (values : List (List ℕ)) → is_long key ≡ true
+        → sum_by (λ value. search_steps (length key) (length value)) values ≤ contains_work names (sizes_of values) key }
+    ensures short_key { (names : ℕ) (key : List ℕ) (values : List (List ℕ)) → is_long key ≡ false
+        → sum_by length values + names * (length key + 256) ≤ contains_work names (sizes_of values) key }
+    ensures long_pattern { (pattern : List ℕ) (values : List (List ℕ)) → is_long pattern ≡ true
+        → sum_by (λ value. pattern_steps pattern (length value)) values ≤ pattern_work (sizes_of values) pattern }
+    ensures pattern { (pattern : List ℕ) (values : List (List ℕ))
+        → sum_by (λ value. pattern_steps pattern (length value)) values ≤ 3 * pattern_work (sizes_of values) pattern }
 {}

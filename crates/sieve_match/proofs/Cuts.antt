@@ -1,5 +1,5 @@
 -- What a cut keeps of a key.
-use Rattle.std.proofs.Common.{◌≡◌, ℕ, ◌+◌, ◌-◌, ◌<◌, max, sym, subst, arith}
+use Rattle.std.proofs.Common.{◌≡◌, ℕ, ◌+◌, ◌-◌, ◌<◌, max, sym, subst, arith, inl, inr}
 use Rattle.memchr.specs.Critical.{IsCutPlace, NoPeriodBelow}
 use Rattle.memchr.proofs.lemmas.CriticalLemmas.{IsCut-long, IsCut-small}
 use Rattle.memchr.proofs.lemmas.SearchLemmas.{IsShift-large, IsShift-small}
@@ -29,6 +29,8 @@ module _ (x : ℕ → ℕ) (m : ℕ) (cut : Cut) (per : ℕ) (h : IsCutPlace x m
         short = subst (NoPeriodBelow x m) (sym shift) parts.2;
         after = λ k l. absurd (omega arith);
         repeats = λ k l. absurd (omega arith);
+        reaches = inl (omega arith);
+        left = omega arith;
       }
 
   -- they repeat it: it is the key's period, and what is left of the key after it is kept
@@ -46,4 +48,6 @@ module _ (x : ℕ → ℕ) (m : ℕ) (cut : Cut) (per : ℕ) (h : IsCutPlace x m
         short = subst (NoPeriodBelow x m) (sym shift) parts.4;
         after = λ k l. omega arith;
         repeats = λ k l. subst (λ d. x k ≡ x (k + d)) (sym shift) (parts.3 k (omega arith));
+        reaches = inr (omega arith);
+        left = omega arith;
       }

@@ -9,3 +9,6 @@ pub mod Cursors
 pub mod GlobExamples
 pub mod Patterns
 pub mod Steps
+pub mod Counts
+pub mod CostExamples
+pub mod Units

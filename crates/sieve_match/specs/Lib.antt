@@ -7,3 +7,5 @@ pub mod Numbers
 pub mod Glob
 pub mod Reading
 pub mod Segments
+pub mod Costs
+pub mod Units

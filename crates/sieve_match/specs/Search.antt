@@ -1,5 +1,5 @@
 -- What the search for a key by Two-Way keeps of the key, and where the key is in a value.
-use Rattle.std.specs.Prelude.{◌≡◌, ◌≢◌, ◌==◌, ℕ, Bool, ◌+◌, ◌<◌, ◌≤◌, List, Option, length, slice_index}
+use Rattle.std.specs.Prelude.{◌≡◌, ◌≢◌, ◌==◌, ℕ, Bool, ◌⊎◌, ◌+◌, ◌<◌, ◌≤◌, List, Option, length, slice_index}
 use Rattle.memchr.specs.Critical.{IsCritical, NoPeriodBelow}
 use Rattle.memchr.specs.Find.{IsFirst}
 use Rattle.memchr.specs.TwoWay.{OccursIn}
@@ -42,7 +42,8 @@ unfoldable pub Precedes : Order → ℕ → ℕ → Type 0
 Precedes Rising a b = a < b
 Precedes Falling a b = b < a
 
--- a key of m octets is cut at a critical position, has no period below the shift, and what is kept is repeated after the shift
+-- a key of m octets is cut at a critical position, has no period below the shift, and what is kept is repeated after the
+-- shift. A shift reaches past what was compared right of the cut, and is as long as what is left of it
 pub record IsKeyCut (x : ℕ → ℕ) (m : ℕ) (cut : Cut) : Type 0 where
   pub below : cut.critical.index < m
   pub critical : IsCritical x m cut.critical.index
@@ -51,3 +52,5 @@ pub record IsKeyCut (x : ℕ → ℕ) (m : ℕ) (cut : Cut) : Type 0 where
   pub short : NoPeriodBelow x m cut.shift
   pub after : (k : ℕ) → k < cut.keep.index → cut.critical.index ≤ k + cut.shift
   pub repeats : (k : ℕ) → k < cut.keep.index → x k ≡ x (k + cut.shift)
+  pub reaches : (m ≤ cut.shift + cut.critical.index) ⊎ (m ≤ cut.shift + cut.keep.index)
+  pub left : cut.critical.index ≤ cut.shift

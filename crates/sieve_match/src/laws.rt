@@ -1,6 +1,8 @@
 //! Laws of the definitions, each the contract of a function that does nothing.
-ghost use Rattle.std.specs.Prelude.{◌≡◌, ◌↔◌, ◌⊎◌, ℕ, List, Option};
+ghost use Rattle.std.specs.Prelude.{◌≡◌, ◌↔◌, ◌⊎◌, ℕ, ◌*◌, ◌≤◌, true, List, length, Option};
 ghost use Rattle.sieve_match.specs.Comparators.{EqualBy};
+ghost use Rattle.sieve_match.specs.Costs.{search_steps, pattern_steps, is_long_key};
+ghost use Rattle.sieve_match.specs.Units.{key_units, pattern_units};
 ghost use Rattle.sieve_match.specs.Sorting.{ComesBefore};
 ghost use Rattle.sieve_match.specs.Numbers.{StandsForNumber, number_at, IsBelow, EqualNumbers};
 
@@ -21,4 +23,13 @@ pub fn order_of_numbers()
 /// A text stands for exactly one number, or for infinity.
 pub fn number_of_a_text()
     ensures { (text : List ℕ) (number : Option ℕ) → StandsForNumber text number ↔ number ≡ number_at text }
+{}
+
+/// The bounds on the steps of a search are at most three times the work that a run counts for it, and for a key or pattern of more
+/// than 63 octets at most that work.
+pub fn steps_and_work()
+    ensures long_key { (key : List ℕ) (n : ℕ) → is_long_key key ≡ true → search_steps (length key) n ≤ key_units key n }
+    ensures key { (key : List ℕ) (n : ℕ) → search_steps (length key) n ≤ 2 * key_units key n }
+    ensures long_pattern { (pattern : List ℕ) (n : ℕ) → is_long_key pattern ≡ true → pattern_steps pattern n ≤ pattern_units pattern n }
+    ensures pattern { (pattern : List ℕ) (n : ℕ) → pattern_steps pattern n ≤ 3 * pattern_units pattern n }
 {}

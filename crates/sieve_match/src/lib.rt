@@ -6,7 +6,9 @@ ghost use Rattle.std.specs.Prelude.{◌≡◌, ◌↔◌, ◌⊎◌, ℕ, ◌+�
 ghost use Rattle.std.specs.Char.{to_ascii_uppercase};
 ghost use Rattle.std.proofs.lemmas.Str.Ascii.{uppercase-uppercase};
 ghost use Rattle.sieve_match.specs.Comparators.{EqualBy, ContainsBy, SameFrom};
+ghost use Rattle.sieve_match.specs.Costs.{search_steps};
 
+pub mod counting;
 mod glob;
 pub mod laws;
 mod masks;
@@ -19,13 +21,16 @@ mod spelling;
 mod twoway;
 
 pub use crate::pattern::GlobItem;
-pub use glob::matches;
+use counting::Steps;
+pub use glob::{matches, matches_counted};
 pub use masks::{MAX_PLACES, Masks};
 pub use numeric::{are_equal_numbers, compare_numbers};
 pub use order::compare;
-pub use places::{contains_places, places_of};
+pub use places::{contains_places, contains_places_counted, places_counted, places_of};
 pub use spelling::{Key, KeyCursor, PlainKey};
-pub use twoway::find;
+use std::marker::Brand;
+use std::sync::ledger::{Blank, Ledger};
+pub use twoway::{find, find_counted};
 
 /// A comparator (RFC 4790, section 4): octets are the same if their images are.
 pub trait Comparator {
@@ -129,5 +134,27 @@ fn same_run<C: Comparator>(key: &[u8], value: &[u8], from: usize, count: usize) 
 pub fn contains<C: Comparator>(key: &[u8], value: &[u8]) -> bool
     ensures { IsTrue result ↔ ContainsBy C.image_of key.now value.now }
 {
-    find::<C, PlainKey>(&PlainKey { octets: key }, value, 0).is_some()
+    contains_uncounted::<C, Brand>(key, value, Blank::new(1))
+}
+
+// The same, with a ledger that nobody reads.
+fn contains_uncounted<C: Comparator, L: Ledger>(key: &[u8], value: &[u8], blank: Blank) -> bool
+    requires name { blank.name ≡ L.name }
+    requires parts { blank.parts ≡ L.parts }
+    requires some { 0 < blank.parts }
+    ensures { IsTrue result ↔ ContainsBy C.image_of key.now value.now }
+{
+    contains_counted::<C, L>(key, value, &mut Steps::new(blank))
+}
+
+/// The same, with the steps that it takes added to `steps`: linear in key and value.
+pub fn contains_counted<C: Comparator, L: Ledger>(
+    key: &[u8],
+    value: &[u8],
+    steps: &mut Steps<L>,
+) -> bool
+    ensures found { IsTrue result ↔ ContainsBy C.image_of key.now value.now }
+    ensures cost { steps.new ≤ steps.old + search_steps (length key.now) (length value.now) }
+{
+    find_counted::<C, PlainKey, L>(&PlainKey { octets: key }, value, 0, steps).is_some()
 }

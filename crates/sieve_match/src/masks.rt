@@ -1,13 +1,19 @@
 //! The search for a few consecutive places by Shift-Or (Baeza-Yates and Gonnet, 1992): one bit of a number for each place.
-ghost use Rattle.std.specs.Prelude.{◌≡◌, ◌≢◌, ◌==◌, ◌↔◌, ℕ, Bool, true, ◌+◌, ◌<◌, ◌≤◌, length, slice_index, IsTrue};
+ghost use Rattle.std.specs.Prelude.{◌≡◌, ◌≢◌, ◌==◌, ◌↔◌, ℕ, Bool, true, ◌+◌, ◌-◌, ◌<◌, ◌≤◌, length, slice_index, IsTrue};
 ghost use Rattle.std.specs.Int.{bit_at};
 ghost use Rattle.memchr.specs.Find.{IsFirst};
 ghost use Rattle.sieve_match.specs.Unasked.{AreUnasked};
 
 use crate::Comparator;
+use crate::counting::{Steps, Watched};
+use std::marker::Brand;
+use std::sync::ledger::{Blank, Ledger};
 
 /// The most places of masks.
 pub const MAX_PLACES: usize = 63;
+
+/// How many numbers masks have.
+pub(crate) const TABLE: usize = 256;
 
 /// Consecutive places, each of which takes one octet: one with a given image, or any. Their size is 2 kB.
 #[derive(Clone, Copy)]
@@ -49,6 +55,7 @@ fn is_clear(number: u64, bit: usize) -> bool
 }
 
 impl Masks {
+    ghost use Rattle.sieve_match.specs.Costs.{search_end};
     ghost use Rattle.sieve_match.specs.Places.{AreMasks, FitsAt};
 
     /// No place.
@@ -90,12 +97,54 @@ impl Masks {
         requires { from ≤ length value.now }
         ensures { (fits : ℕ → ℕ → Bool) (n : ℕ) → AreMasks fits n self.now → IsFirst (FitsAt fits n value.now) from (length value.now + 1) result }
     {
+        self.find_uncounted::<Brand>(value, from, Blank::new(1))
+    }
+
+    // The same, with a ledger that nobody reads.
+    fn find_uncounted<L: Ledger>(&self, value: &[u8], from: usize, blank: Blank) -> Option<usize>
+        requires name { blank.name ≡ L.name }
+        requires parts { blank.parts ≡ L.parts }
+        requires some { 0 < blank.parts }
+        requires start { from ≤ length value.now }
+        ensures { (fits : ℕ → ℕ → Bool) (n : ℕ) → AreMasks fits n self.now → IsFirst (FitsAt fits n value.now) from (length value.now + 1) result }
+    {
+        self.find_counted::<L>(value, from, &mut Steps::new(blank))
+    }
+
+    /// The same, with the steps that it takes added to `steps`: one for each octet up to the match's end.
+    pub fn find_counted<L: Ledger>(
+        &self,
+        value: &[u8],
+        from: usize,
+        steps: &mut Steps<L>,
+    ) -> Option<usize>
+        requires { from ≤ length value.now }
+        ensures found { (fits : ℕ → ℕ → Bool) (n : ℕ) → AreMasks fits n self.now → IsFirst (FitsAt fits n value.now) from (length value.now + 1) result }
+        ensures cost { steps.new ≤ steps.old + (search_end (length value.now) result - from) + self.now.len }
+        ensures all { steps.new + from ≤ steps.old + length value.now }
+    {
+        self.find_watched::<L>(&Watched::new(value), from, steps)
+    }
+
+    // The same in a value whose octets are looked at by steps.
+    pub(crate) fn find_watched<L: Ledger>(
+        &self,
+        value: &Watched,
+        from: usize,
+        steps: &mut Steps<L>,
+    ) -> Option<usize>
+        requires { from ≤ length value.now }
+        ensures found { (fits : ℕ → ℕ → Bool) (n : ℕ) → AreMasks fits n self.now → IsFirst (FitsAt fits n value.now) from (length value.now + 1) result }
+        ensures cost { steps.new ≤ steps.old + (search_end (length value.now) result - from) + self.now.len }
+        ensures all { steps.new + from ≤ steps.old + length value.now }
+    {
         if self.len == 0 {
             return Some(from);
         }
         let mut state = !1u64;
         for i in from..value.len() {
-            state |= self.octets[value[i] as usize] & self.choosy;
+            let octet = value.octet(i, steps);
+            state |= self.octets[octet as usize] & self.choosy;
             state <<= 1;
             if is_clear(state, self.len) {
                 return Some(i + 1 - self.len);

@@ -1,5 +1,5 @@
 //! How a pattern spells its items.
-ghost use Rattle.std.specs.Prelude.{◌≡◌, ◌+◌, ◌<◌, ◌≤◌, ◌∷◌, length, drop};
+ghost use Rattle.std.specs.Prelude.{◌≡◌, ◌+◌, ◌<◌, ◌≤◌, ◌∷◌, length, drop, slice_index};
 ghost use Rattle.sieve_match.specs.Glob.{unquoted_item, items};
 
 /// The octet that spells a star.
@@ -60,6 +60,8 @@ pub(crate) fn read_item(pattern: &[u8], place: usize) -> (GlobItem, usize)
     ensures within { result.1 ≤ length pattern.now }
     ensures item { items (drop place pattern.now) ≡ result.0 ∷ items (drop result.1 pattern.now) }
     ensures star { result.0 ≡ GlobItem.Star → result.1 ≡ place + 1 }
+    ensures asterisk { result.0 ≡ GlobItem.Star → slice_index pattern.now place ≡ ANY_RUN }
+    ensures question { result.0 ≡ GlobItem.One → slice_index pattern.now place ≡ ANY_OCTET }
 {
     let octet = pattern[place];
     if octet == QUOTE && place + 1 < pattern.len() {

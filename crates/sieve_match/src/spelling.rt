@@ -11,7 +11,7 @@ pub struct KeyCursor {
     pub place: usize,
 }
 
-/// A list of octets that is read from the beginning, or from a spot that was reached before.
+/// A list of octets that is read from the beginning, or from a spot that was search_end before.
 pub trait Key {
     // The number of octets.
     ghost size: { Self → ℕ };

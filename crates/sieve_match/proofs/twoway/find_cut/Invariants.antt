@@ -1,4 +1,4 @@
-use Rattle.std.proofs.Common.{◌-◌, ◌≡◌, ℕ, ◌+◌, ◌<◌, ◌≤◌, length}
+use Rattle.std.proofs.Common.{◌-◌, ◌*◌, ◌≡◌, ℕ, ◌+◌, ◌<◌, ◌≤◌, max, length}
 use Rattle.memchr.specs.Find.{Nowhere}
 use Rattle.sieve_match.specs.Search.{image_at, image_in, StandsAt}
 use Rattle.sieve_match.proofs.twoway.find_cut.Given as goal
@@ -12,6 +12,7 @@ invariant-loop-pos g l = record {
   short : l.known.index < g.K.Key.size l.key;
   same : (k : ℕ) → k < l.known.index
       → image_at g.C.Comparator.image_of (g.K.Key.octet_at l.key) k ≡ image_in g.C.Comparator.image_of l.value (l.pos + k);
+  cost : l.steps + 4 * l.from + l.cut.critical.index ≤ l.fn.steps + 4 * l.pos + max l.cut.critical.index l.known.index;
 }
 
 abbrev pub decreases-loop-pos : goal.decreases-loop-pos

@@ -3,6 +3,7 @@ use Rattle.memchr.proofs.lemmas.SuffixLemmas.{IsScan-accept, IsScan-skip, IsScan
 use Rattle.sieve_match.specs.Search.{image_at, Precedes}
 use Rattle.sieve_match.proofs.Orders.{Precedes-trans, Precedes-irrefl}
 use Rattle.sieve_match.proofs.Cuts.{IsScan-same}
+use Rattle.sieve_match.proofs.Counts.{scan_ahead}
 use Rattle.sieve_match.proofs.twoway.greatest_suffix.Goals as goal
 
 pub loop-other-preserved-in-Less : goal.loop-other-preserved-in-Less
@@ -30,6 +31,8 @@ loop-other-preserved-in-Less g c =
       ordered = omega arith;
       abreast = refl;
       scan = IsScan-same refl (omega arith) (omega arith) (IsScan-accept (Precedes order) (Precedes-trans order) (Precedes-irrefl order) x m old.scan room won);
+      cost = omega (arith, old.cost, c.tick.ensures, scan_ahead old.scan, old.scan.short, ordered, next);
+      all = omega (arith, old.all, c.tick.ensures, ordered, next);
     }
 
 pub loop-other-preserved-in-Greater : goal.loop-other-preserved-in-Greater
@@ -58,6 +61,8 @@ loop-other-preserved-in-Greater g c =
       abreast = refl;
       scan = IsScan-same (omega arith) (omega arith) (omega arith)
           (IsScan-skip (Precedes order) (Precedes-trans order) (Precedes-irrefl order) x m old.scan room lost);
+      cost = omega (arith, old.cost, c.tick.ensures, next);
+      all = omega (arith, old.all, c.tick.ensures, ordered, next);
     }
 
 pub loop-other-preserved-then-other-candidate : goal.loop-other-preserved-then-other-candidate
@@ -85,6 +90,8 @@ loop-other-preserved-then-other-candidate g c =
       abreast = refl;
       scan = IsScan-same refl (omega arith) (omega arith)
           (IsScan-block (Precedes order) (Precedes-trans order) (Precedes-irrefl order) x m old.scan room (sym a ∙ c.in-Equal.ensures ∙ b) (omega arith));
+      cost = omega (arith, old.cost, c.tick.ensures, next);
+      all = omega (arith, old.all, c.tick.ensures, ordered, next);
     }
 
 pub loop-other-preserved : goal.loop-other-preserved
@@ -114,6 +121,8 @@ loop-other-preserved g c =
       abreast = omega arith;
       scan = IsScan-same refl refl (omega arith)
           (IsScan-push (Precedes order) (Precedes-trans order) (Precedes-irrefl order) x m old.scan room (sym a ∙ c.in-Equal.ensures ∙ b) (omega arith));
+      cost = omega (arith, old.cost, c.tick.ensures, next);
+      all = omega (arith, old.all, c.tick.ensures, ordered, next);
     }
 
 pub returns-clause-suffix : goal.returns-clause-suffix
@@ -124,3 +133,8 @@ returns-clause-suffix g c =
     let ordered = old.ordered in
     let within = old.scan.within in
     IsScan-end (Precedes order) (Precedes-trans order) (Precedes-irrefl order) x _ old.scan (omega (arith, c.loop-other-test.false, c.len-m.ensures))
+
+pub returns-clause-cost : goal.returns-clause-cost
+returns-clause-cost g c =
+    let old = c.loop-other.invariant in
+    omega (arith, old.cost, scan_ahead old.scan, old.scan.within, old.scan.some, old.ordered)

@@ -13,6 +13,8 @@ invariant-loop-other g l = record {
   abreast : l.current.index + l.candidate.index ≡ l.best.index + l.other.index;
   scan : IsScan (Precedes l.order) (image_at g.C.Comparator.image_of (g.K.Key.octet_at l.key)) (g.K.Key.size l.key)
       l.best.index l.period l.candidate.index (l.other.index - l.candidate.index);
+  cost : l.steps + 1 ≤ l.fn.steps + l.best.index + l.other.index;
+  all : l.fn.steps + l.other.index ≤ l.steps + 1;
 }
 
 abbrev pub decreases-loop-other : goal.decreases-loop-other

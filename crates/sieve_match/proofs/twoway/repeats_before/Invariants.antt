@@ -10,6 +10,7 @@ invariant-loop-front g l = record {
   within : l.front.index ≤ l.critical;
   same : (k : ℕ) → k < l.front.index
       → image_at g.C.Comparator.image_of (g.K.Key.octet_at l.key) k ≡ image_at g.C.Comparator.image_of (g.K.Key.octet_at l.key) (k + l.fn.back.index);
+  cost : l.steps ≡ l.fn.steps + l.front.index;
 }
 
 abbrev pub decreases-loop-front : goal.decreases-loop-front

@@ -1,10 +1,4 @@
--- What the state says of the octets so far, before which the places take none.
-use Rattle.std.proofs.Common.{ℕ, ◌+◌, ◌-◌, ◌≤◌, slice_index}
-use Rattle.sieve_match.proofs.MaskLemmas.{IsState, Window, taken}
 use Rattle.sieve_match.proofs.masks.Masks.find.Given as goal
 
-abbrev pub invariant-loop-i : goal.invariant-loop-i
-invariant-loop-i l = record {
-  state : IsState (taken l.self) (λ t. slice_index l.value (l.from + t)) l.self.len (l.i - l.from) l.state;
-  none : (k : ℕ) → l.from ≤ k → k + l.self.len ≤ l.i → Window (taken l.self) (slice_index l.value) l.self.len k → ⊥;
-}
+abbrev pub ghosts-find_uncounted : goal.ghosts-find_uncounted
+ghosts-find_uncounted a = record { name = a.blank.name; parts = a.blank.parts }

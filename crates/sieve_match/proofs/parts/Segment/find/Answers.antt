@@ -1,4 +1,4 @@
-use Rattle.std.proofs.Common.{ℕ, ◌+◌, List, length, drop, get_or, slice_index, sym, arith}
+use Rattle.std.proofs.Common.{◌≡◌, ℕ, suc, ◌+◌, ◌-◌, ◌*◌, List, length, drop, get_or, slice_index, sym, ap, ◌∙◌, arith, suc-mul}
 use Rattle.std.proofs.lemmas.Bool.{false≢true}
 use Rattle.memchr.proofs.lemmas.FindLemmas.{IsFirst-agree, Nowhere-more}
 use Rattle.sieve_match.specs.Search.{StandsAt}
@@ -14,8 +14,8 @@ invariant_of-key g c =
     let self = c.args.self.now in
     record { within = omega (arith, c.requires.segment.counted, segment_len-within (items (drop self.from self.pattern.now))) }
 
-pub returns-then-self : goal.returns-then-self
-returns-then-self g c =
+pub returns-then-self-clause-found : goal.returns-then-self-clause-found
+returns-then-self-clause-found g c =
     let f : ℕ → ℕ = g.C.Comparator.image_of in
     let self = c.args.self.now in
     let v : List ℕ = c.args.value.now in
@@ -31,10 +31,19 @@ returns-then-self g c =
       fits = h.fits;
       reads = λ j b. sym (Exact-takes f (get_or is j Star) (octets j) (slice_index v (k + j)) (literal j b) (h.takes j b));
     })
-    c.find.result c.find.ensures
+    c.find_watched.result c.find_watched.ensures.found
 
 pub loop-at-preserved : goal.loop-at-preserved
-loop-at-preserved g c = Nowhere-more c.loop-at.invariant (λ stands. false≢true (c.if-stands_at.ensures.1 stands))
+loop-at-preserved g c =
+    let cost = c.loop-at.invariant.cost in
+    let more = c.stands_at.ensures.cost in
+    let from = c.loop-at.auto.at in
+    let place : c.loop-at.at + 1 - c.args.from ≡ suc (c.loop-at.at - c.args.from) = omega arith in
+    let product = ap (λ n. n * c.args.self.now.count) place ∙ suc-mul (c.loop-at.at - c.args.from) c.args.self.now.count in
+    record {
+      none = Nowhere-more c.loop-at.invariant.none (λ stands. false≢true (c.if-stands_at.ensures.stands.1 stands));
+      cost = omega (arith, product);
+    }
 
-pub returns : goal.returns
-returns g c = λ k low high. c.loop-at.invariant k low (omega (arith, c.loop-at-test.false))
+pub returns-clause-found : goal.returns-clause-found
+returns-clause-found g c = λ k low high. c.loop-at.invariant.none k low (omega (arith, c.loop-at-test.false))

@@ -11,7 +11,7 @@ use Rattle.sieve_match.proofs.parts.Segment.masks.Goals as goal
 use Rattle.sieve_match.proofs.parts.Segment.masks.Goals.{in-One, in-Exact}
 
 pub loop-j-init : goal.loop-j-init
-loop-j-init g c = record { cursor = refl; known = c.new-masks.ensures _ }
+loop-j-init g c = record { cursor = refl; known = c.new-masks.ensures _; cost = omega (arith, c.add.ensures) }
 
 pub read_item-item-requires : goal.read_item-item-requires
 read_item-item-requires g c =
@@ -45,4 +45,5 @@ loop-j-preserved g c =
         | in-Exact w ↦ subst (AreMasks (item_takes_at f is) (j + 1)) (sym w.masks-is)
             (w.push.ensures (item_takes_at f is) j c.loop-j.invariant.known (λ b within. ap (λ i. takes f i b) (here ∙ w.in-Exact.is)))
       ];
+      cost = omega (arith, c.loop-j.invariant.cost, c.tick.ensures);
     }

@@ -7,11 +7,12 @@ use Rattle.sieve_match.specs.declared.pattern.GlobItem.TheVariants.{Star, Exact}
 use Rattle.sieve_match.proofs.Cursors.{item_at, left_after}
 use Rattle.sieve_match.proofs.Patterns.{items-past, Exact-octet}
 use Rattle.sieve_match.proofs.Steps.{segment_len-nil, segment_len-star, segment_len-one, segment_len-exact}
+use Rattle.sieve_match.proofs.Counts.{has_question}
 use Rattle.sieve_match.proofs.parts.Segment.read.Goals as goal
 use Rattle.sieve_match.proofs.parts.Segment.read.Goals.{in-One, in-Exact, else-loop-end-test, then-loop-end-test+in-Star}
 
 pub loop-end-preserved : goal.loop-end-preserved
-loop-end-preserved c =
+loop-end-preserved g c =
     let old = c.loop-end.invariant in
     let read = c.read_item-item.ensures in
     let is : List GlobItem = items (drop c.args.from c.args.pattern.now) in
@@ -42,10 +43,18 @@ loop-end-preserved c =
             subst (λ n. get_or is n Star ≡ Exact (item_octet (get_or is n Star))) last (Exact-octet (get_or is count Star) w.in-Exact.field-0 (here ∙ w.in-Exact.is)))
             (cases_lt j count)
       ];
+      spelled = omega (arith, old.spelled);
+      question = λ no. elim c.match-item.branch [
+        | in-One w ↦ has_question c.args.pattern.now c.loop-end.end c.loop-end-test.true (read.question w.in-One.is)
+        | in-Exact w ↦ old.question (sym w.literal-is ∙ no)
+      ];
+      some = λ no. omega arith;
+      cost = omega (arith, old.cost, c.tick.ensures);
+      all = omega (arith, old.all, c.tick.ensures);
     }
 
 pub returns-clause-segment : goal.returns-clause-segment
-returns-clause-segment c =
+returns-clause-segment g c =
     let old = c.loop-end.invariant in
     let p : List ℕ = c.args.pattern.now in
     let end : ℕ = c.loop-end.end in

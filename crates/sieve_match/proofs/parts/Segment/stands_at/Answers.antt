@@ -1,4 +1,4 @@
-use Rattle.std.proofs.Common.{◌≡◌, ℕ, ◌+◌, ◌∷◌, List, drop, get_or, sym, ◌∙◌, arith, below_more}
+use Rattle.std.proofs.Common.{◌≡◌, ℕ, ◌+◌, ◌∷◌, List, drop, get_or, sym, ap, ◌∙◌, arith, below_more}
 use Rattle.std.proofs.lemmas.Bool.{false≢true}
 use Rattle.sieve_match.specs.Glob.{items}
 use Rattle.sieve_match.specs.declared.pattern.GlobItem.{GlobItem}
@@ -16,8 +16,8 @@ read_item-item-requires g c =
     inside_pattern self.pattern.now c.loop-j.place is c.loop-j.j c.loop-j.invariant.cursor
     (omega (arith, c.requires.segment.counted, segment_len-within is, c.loop-j-test.true))
 
-pub returns-in-Star : goal.returns-in-Star
-returns-in-Star g c =
+pub returns-in-Star-clause-stands : goal.returns-in-Star-clause-stands
+returns-in-Star-clause-stands g c =
     let self = c.args.self.now in
     let is : List GlobItem = items (drop self.from self.pattern.now) in
     let left : drop c.loop-j.j is ≡ c.read_item-item.result.0 ∷ items (drop c.read_item-item.result.1 self.pattern.now) =
@@ -28,8 +28,8 @@ returns-in-Star g c =
           (stands.takes c.loop-j.j c.loop-j-test.true)),
     )
 
-pub returns-then-image : goal.returns-then-image
-returns-then-image g c =
+pub returns-then-image-clause-stands : goal.returns-then-image-clause-stands
+returns-then-image-clause-stands g c =
     let self = c.args.self.now in
     let is : List GlobItem = items (drop self.from self.pattern.now) in
     let left : drop c.loop-j.j is ≡ c.read_item-item.result.0 ∷ items (drop c.read_item-item.result.1 self.pattern.now) =
@@ -39,7 +39,7 @@ returns-then-image g c =
       λ stands. absurd (c.if-image.true (c.image.ensures
           ∙ Exact-takes g.C.Comparator.image_of (get_or is c.loop-j.j Star) c.in-Exact.octet (get_or c.args.value.now (c.args.at + c.loop-j.j) 0) (here ∙ c.in-Exact.is)
           (stands.takes c.loop-j.j c.loop-j-test.true)
-          ∙ sym c.image-in-Exact.ensures)),
+          ∙ sym (c.image-in-Exact.ensures ∙ ap g.C.Comparator.image_of c.octet-seen.ensures.octet))),
     )
 
 pub loop-j-preserved : goal.loop-j-preserved
@@ -57,6 +57,7 @@ loop-j-preserved g c =
       same = below_more _ _ c.loop-j.invariant.same (elim c.match-item.branch [
         | in-One w ↦ Takes-one f (get_or is j Star) x (here ∙ w.in-One.is)
         | in-Exact+else-image w ↦ Takes-exact f (get_or is j Star) w.in-Exact.octet x (here ∙ w.in-Exact.is)
-            (sym w.image.ensures ∙ w.if-image.false ∙ w.image-in-Exact.ensures)
+            (sym w.image.ensures ∙ w.if-image.false ∙ w.image-in-Exact.ensures ∙ ap f c.octet-seen.ensures.octet)
       ]);
+      cost = omega (arith, c.loop-j.invariant.cost, c.octet-seen.ensures.cost);
     }

@@ -9,4 +9,5 @@ invariant-loop-j g l = record {
   cursor : items (drop l.place l.self.pattern.now) ≡ drop l.j (items (drop l.self.from l.self.pattern.now));
   same : (k : ℕ) → k < l.j
       → TakesOctet g.C.Comparator.image_of (slice_index_or (items (drop l.self.from l.self.pattern.now)) k Star) (slice_index l.value (l.at + k));
+  cost : l.steps ≡ l.fn.steps + l.j;
 }
