@@ -86,8 +86,8 @@ held_notice all fresh going = cond (nat_lt going fresh) (Some full_text) (cond (
 abbrev pub kept_handles : ℕ → List Addr → List (List ℕ)
 kept_handles moment targets = map (λ target. sent_handle (moment / half_day) (address_spelling target)) targets
 
--- the keys of moments that are over, all of half days before the last one; 32 of them at most, the oldest first, where a message is sent
--- on at all
+-- the keys of moments that are over, all of half days before the last one; 32 of them at most, the oldest first, if the script
+-- asks to send the message on at all, whether or not it is sent
 abbrev pub over_keys : Account → ℕ → List Addr → List ReplyKey
 over_keys a moment [] = []
 over_keys a moment (target ∷ more) = map reply_key_of (first_between (3 ∷ []) (3 ∷ four_octets (moment / half_day - 1)) a.replies)
