@@ -6,18 +6,19 @@ store beside it, and killed.
 
 Prints a line for each trial, a last one that counts them, and ends with 1 where one failed. `tests/run` runs it, with --quick, which
 does a tenth of what is done many times. It needs python3 alone.
-The trials: says, examples, octets, rubbish, silent, fifty, sixty, crowd, places, knocks, waiters, busy, share, deaf, stalls, guesses, hostile, waits, away, fails,
-rests, tells, killed, growth; without a word, all.
+The trials: says, examples, octets, rubbish, silent, fifty, sixty, crowd, places, limits, knocks, waiters, busy, share, deaf, stalls, guesses, hostile, waits, away,
+fails, rests, tells, killed, growth; without a word, all.
 """
 import fcntl, os, random, re, select, shutil, socket, subprocess, threading, time
 import trials
 from hostile import RULES, SESSION, Ledger, memory, said, until_ok
-from lmtp import Peer, greet
+from lmtp import Peer, daemon, greet
 from managesieve import HERE, SIEVED, Client, Gone, Store, connect, end
 
 CASES = f"{HERE}/../crates/test_runs/data"
 PROGRAM = [SIEVED]
 TRYLATER = b"NO (TRYLATER)"
+TOO_FEW = b"sieved: bad argument\nsieved: too few open files are allowed: raise the limit (LimitNOFILE, ulimit -n)\n"
 # Who has an account in the conversations of the cases.
 TALKERS = "alice", "bob", "carol", "cutter", "erin"
 
@@ -75,10 +76,7 @@ def says():
     assert os.stat(f"{store.file}.daemon").st_mode & 0o777 == 0o600
     end(server)
     # A descriptor for each of 70 places, and 32.
-    few = lambda count: subprocess.run(["sh", "-c", f'ulimit -n {count}; exec "$@"', "sh", *store.words("daemon", *port, "--check")], capture_output=True, timeout=20)
-    refused = few(101)
-    assert (refused.returncode, refused.stderr) == (64, b"sieved: bad argument\nsieved: too few open files are allowed: raise the limit (LimitNOFILE, ulimit -n)\n"), refused
-    assert few(102).returncode == 0
+    assert [limited(count, store, *port, "--check") for count in (101, 102)] == [(64, TOO_FEW), (0, b"")]
     server, _ = store.daemon()
     end(server)
     return "statuses 0, 64, 65 and 75, each with its line; a second daemon and a taken port; after a kill the next one begins"
@@ -255,6 +253,54 @@ def places():
     assert opened < 15 and worst < 1, (opened, worst)
     assert farewell == b'BYE "Idle."\r\n' and stays and next_one, (farewell, stays)
     return f"300 silent clients come within {opened:.1f} s, and beside them a new one logs in within {worst * 1000:.0f} ms; who failed a login goes first"
+
+
+def limits():
+    """How many places there are is what --clients and --senders say: a third client of two waits, or has the place of one that isn't
+    logged in; of one place of LMTP one without a recipient makes room, in 50 ms without LHLO, and one with a recipient doesn't."""
+    store = new_store("alice")
+    db, port = ["--db", store.file], ["--managesieve", "0"]
+    for word, counts in ("--clients", ("0", "1001")), ("--senders", ("0", "101")):
+        for count in *counts, "4294967297", "18446744073709551616", "-1", "1.5", "x", "":
+            assert told_of(store, *db, *port, word, count) == (64, "", "sieved: bad argument\n"), (word, count)
+            assert told_of(store, *db, *port, word, count, "--check") == (64, "", "sieved: bad argument\n"), (word, count)
+    for words, needed in ("--clients 1 --senders 1", 34), ("--clients 01 --senders 100", 133), ("--clients 1000 --senders 100", 1132):
+        few = [limited(needed - 1, store, *port, *words.split(), "--check"), limited(needed, store, *port, *words.split(), "--check")]
+        assert few == [(64, TOO_FEW), (0, b"")], (words, few)
+    server, sieve, lmtp = daemon(store, *port, "--lmtp", "0", "--clients", "2", "--senders", "1")
+    guest, user = connect(sieve), logged_in(sieve)
+    other = logged_in(sieve)
+    farewell = guest.reply()[-1]
+    third = connect(sieve, greeted=False)
+    waited = not select.select([third.sock], [], [], 0.5)[0]
+    user.ask(b"LOGOUT")
+    third.reply()
+    assert third.log_in("alice").startswith(b"OK") and other.ask(b"NOOP")[-1].startswith(b"OK")
+    silent, began = Peer(lmtp), time.time()
+    ready = Peer(lmtp)
+    soon, told = time.time() - began, silent.reply()
+    greet(ready)
+    began = time.time()
+    taken = Peer(lmtp)
+    late = time.time() - began
+    greet(taken)
+    assert taken.open(b"alice@x") == [b"250 2.1.5 Ok\r\n"]
+    next_one = Peer(lmtp, greeted=False)
+    stays = not select.select([next_one.sock], [], [], 1.5)[0]
+    assert taken.say(b"DATA\r\n")[0].startswith(b"354") and taken.say(b"Hi\r\n.\r\n")[0].startswith(b"250")
+    taken.say(b"QUIT\r\n")
+    next_one.reply()
+    end(server)
+    assert farewell == b'BYE "Idle."\r\n' and waited and stays and told.startswith(b"421"), (farewell, waited, stays, told)
+    assert soon < 0.5 < late < 5, (soon, late)
+    return (f"of 2 clients one that isn't logged in makes room, else the third waits; of one of LMTP one without LHLO goes within {soon * 1000:.0f} ms, with it "
+            f"within {late * 1000:.0f}, and one with a recipient stays; 34, 133 and 1132 descriptors are needed")
+
+
+def limited(count, store, *words):
+    """Status and errors of a daemon that may open that many descriptors."""
+    done = subprocess.run(["sh", "-c", f'ulimit -n {count}; exec "$@"', "sh", *store.words("daemon", *words)], capture_output=True, timeout=20)
+    return done.returncode, done.stderr
 
 
 def knocks():
@@ -697,7 +743,7 @@ def growth():
     return f"resident {figures[first][0]} kB after {first} connections, {figures[last][0]} kB after {last}; descriptors {figures[first][1]} and {figures[last][1]}"
 
 
-TRIALS = [says, examples, octets, rubbish, silent, fifty, sixty, crowd, places, knocks, waiters, busy, share, deaf, stalls, guesses, hostile, waits, away, fails, rests, tells, killed, growth]
+TRIALS = [says, examples, octets, rubbish, silent, fifty, sixty, crowd, places, limits, knocks, waiters, busy, share, deaf, stalls, guesses, hostile, waits, away, fails, rests, tells, killed, growth]
 
 
 if __name__ == "__main__":

@@ -1,7 +1,8 @@
 #!/usr/bin/env python3
 """Tries the documents: every command of README as it stands, the limits of their lines, their links, those of the package and its
 version, the form of decisions, the completion for bash, that scripts can be run, that names of crates, types and definitions
-are of one thing each, that DEFINITIONS is what tests/definitions.py prints, and that the wrong bodies of planted.rows can be planted.
+are of one thing each, that DEFINITIONS is what tests/definitions.py prints, that the wrong bodies of planted.rows can be planted,
+and that the capabilities that are listed are those that there are.
 
   tests/documents.py [--sieved SIEVED] [TRIAL ..]
 """
@@ -276,6 +277,19 @@ def planted():
     return f"{len(names)} wrong bodies, beside {len(edits)} edits of the gate"
 
 
+def capabilities():
+    """SCRIPTS lists the capabilities that the code has, and a server names those of them that a script needs `require` for."""
+    read = lambda path: open(f"{TOP}/{path}").read()
+    names = re.findall(r'Capability::\w+ => b"([^"]+)"', read("crates/sieve_syntax/src/capability.rt"))
+    listed = read("docs/SCRIPTS.md").split("The names that `require` takes are", 1)[1].split(", as they are written here", 1)[0]
+    assert sorted(re.findall(r"`([^`]+)`", listed)) == sorted(names), (listed, names)
+    free = ["comparator-i;octet", "comparator-i;ascii-casemap"]
+    line = " ".join(name for name in names if name not in free)
+    for path in "crates/managesieve_sessions/src/replies.rt", "crates/managesieve_sessions/specs/Replies.antt":
+        assert f'"{line}"' in read(path), (path, line)
+    return f"{len(names)} capabilities, {len(line.split())} of them named by a server"
+
+
 def planted_rows():
     loader = importlib.machinery.SourceFileLoader("planted", f"{TOP}/tests/planted")
     spec = importlib.util.spec_from_loader("planted", loader)
@@ -284,7 +298,7 @@ def planted_rows():
     return module
 
 
-TRIALS = {"modes": modes, "readme": readme, "lines": lines, "links": links, "decisions": decisions, "version": version, "package": package, "completion": completion, "names": names, "definitions": definitions, "planted": planted}
+TRIALS = {"modes": modes, "readme": readme, "lines": lines, "links": links, "decisions": decisions, "version": version, "package": package, "completion": completion, "names": names, "definitions": definitions, "planted": planted, "capabilities": capabilities}
 
 
 def program(path):

@@ -2,13 +2,14 @@
 """Tries that nobody holds up the others: while some users and strangers of `sieved daemon` do their worst, another user's commands and
 mail are timed.
 
-  tests/others.py [--quick] [--sieved SIEVED] [TRIAL ..]     SIEVED: the program, crates/sieved/out/sieved where none is named
+  tests/others.py [--busy] [--quick] [--sieved SIEVED] [TRIAL ..]     SIEVED: the program, crates/sieved/out/sieved where none is named
 
 Each trial is one thing that was seen to stop a host, or one that `drawn` draws from a grammar of scripts and messages. Beside it another
 user asks NOOP and has mail delivered, over connections that were there before. What is told is the greatest time of each; a trial fails
 where one passes the bound of that trial: 0.3 s, and 0.6 s beside messages of more than 10 MB. Each is tried three times, and the best of
 these counts, since what else runs on the machine only adds to it; with --quick a fifth is asked, and the first try that passes is the
-last one. The load runs in processes of its own. Where the system allows it the daemon and who measures come before all else.
+last one. With --busy the bounds are five times as long: so the gate runs it, on whatever machine. The load runs in processes of its
+own. Where the system allows it the daemon and who measures come before all else.
 
 Prints a line for each trial, a last one that counts them, and ends with 1 where one failed. It needs python3 alone.
 """
@@ -22,9 +23,19 @@ PROGRAM = [SIEVED]
 SEED = 20_261_128
 # Bounds in seconds: beside small messages, and beside messages of more than 10 MB, whose insert alone takes 6 to 12 ms a MB.
 SMALL, LARGE = 0.3, 0.6
+# On a machine that does other things they are five times as long: what once stopped a host took a hundred times as long, or more.
+SLACK = 1
 # As much as a header by LMTP may have, less some octets for its other fields.
 HEADER = 1_046_000
 LETTER = b"From: c@example.net\r\nTo: bob@example.org\r\nSubject: x\r\n\r\nHi\r\n"
+
+
+def environment():
+    """That of the package's unit, which says how the C library gives memory back."""
+    unit = os.path.join(os.path.dirname(os.path.abspath(__file__)), "../packaging/systemd/sieved-lmtp.service")
+    with open(unit) as lines:
+        told = [line.strip().split("=", 1)[1] for line in lines if line.startswith("Environment=")]
+    return dict(os.environ, **dict(word.split("=", 1) for word in told))
 
 
 def come_first():
@@ -44,7 +55,7 @@ class Daemon:
         self.store = Store(users, PROGRAM[0])
         words = self.store.words("daemon", "--managesieve", "0", "--lmtp", "0", *words)
         self.errors = tempfile.TemporaryFile()
-        self.process = subprocess.Popen(words, stdin=subprocess.DEVNULL, stdout=subprocess.PIPE, stderr=self.errors)
+        self.process = subprocess.Popen(words, stdin=subprocess.DEVNULL, stdout=subprocess.PIPE, stderr=self.errors, env=environment())
         self.sieve, self.lmtp = (int(self.process.stdout.readline().rsplit(b":", 1)[1]) for _ in range(2))
 
     def log_in(self, user):
@@ -130,11 +141,11 @@ def beside(prepare, bound=SMALL, words=(), users=("alice", "bob")):
             most = daemon.stop()
         if best is None or max(figures) < max(best[:2]):
             best = *figures, most
-        if trials.QUICK and max(best[:2]) < bound:
+        if trials.QUICK and max(best[:2]) < SLACK * bound:
             break
     noop, mail, most = best
     said = f"NOOP {1000 * noop:.0f} ms, mail {1000 * mail:.0f} ms at most; {most / 1000:.0f} MB"
-    assert max(noop, mail) < bound, said
+    assert max(noop, mail) < SLACK * bound, said
     return said
 
 
@@ -268,6 +279,39 @@ def twenty():
     return scripted(text, headed(b"Subject: " + b"ac" * (HEADER // 2) + b"\r\n"), 19)
 
 
+def late():
+    """Four clients ask NOOP each millisecond: mail of a user that takes much time still gets on, at half of its speed alone or more."""
+    text = b"".join(b'if header :contains "subject" "%s%d" { discard; }\r\n' % (b"ac" * 30, at) for at in range(40))
+    message = headed(b"Subject: " + b"ac" * (HEADER // 2) + b"\r\n")
+    users = ["alice", "bob", "carol", "dave", "erin"]
+
+    def speed(askers):
+        daemon = Daemon(users=users)
+        try:
+            daemon.activate("alice", text)
+            peer, count = daemon.peer(), 0
+
+            def asks(user):
+                def load():
+                    client = daemon.log_in(user)
+                    while True:
+                        client.ask(b"NOOP")
+                        time.sleep(0.001)
+                return load
+            with Beside(*map(asks, askers)):
+                until = time.perf_counter() + (1 if trials.QUICK else 4)
+                while time.perf_counter() < until:
+                    peer.deliver(message, b"alice")
+                    count += 1
+        finally:
+            daemon.stop()
+        return count
+    alone, beside_others = speed([]), speed(users[1:])
+    said = f"{beside_others} messages, {alone} alone"
+    assert 2 * beside_others >= alone, said
+    return said
+
+
 def details():
     """One message to alice+1 .. alice+1000."""
     return beside(lambda daemon: [sends(daemon, LETTER, *(b"alice+%d" % at for at in range(1, 1_001)))])
@@ -359,5 +403,8 @@ def drawn():
 
 if __name__ == "__main__":
     come_first()
-    TRIALS = [keys, pattern, addresses, fields, rules, stars, largest, recipients, large, mailboxes, silent, logins, away, twenty, details, breeds, seventy, drawn]
+    if sys.argv[1:2] == ["--busy"]:
+        SLACK = 5
+        del sys.argv[1]
+    TRIALS = [keys, pattern, addresses, fields, rules, stars, largest, recipients, large, mailboxes, silent, logins, away, twenty, late, details, breeds, seventy, drawn]
     trials.main({trial.__name__: trial for trial in TRIALS}, lambda program: PROGRAM.__setitem__(0, program))

@@ -3,9 +3,9 @@
 
   tests/store_files.py [--sieved SIEVED] [TRIAL ..]       SIEVED: the program, crates/sieved/out/sieved where none is named
 
-The trials: made, kept, traced, sessions, failing, large, log, full, slow; without a word, all. Prints a line for each; the last one counts them, and the
-status is 1 where one failed. `tests/run` runs it. It needs python3 on Linux; `traced` and `failing` need strace, `full` the right to
-mount a tmpfs, `slow` needs cc.
+The trials: made, kept, traced, sessions, failing, large, log, full, slow, replaced; without a word, all. Prints a line for each; the
+last one counts them, and the status is 1 where one failed. `tests/run` runs it. It needs python3 on Linux; `traced` and `failing` need strace, `full` the right to
+mount a tmpfs, `slow` and `replaced` need cc.
 """
 import os, re, resource, shutil, signal, slow_disk, socket, sqlite3, stat, subprocess, sys, tempfile, time
 from contextlib import closing
@@ -354,6 +354,28 @@ def slow(new):
     return f"{1000 * spans[0]:.0f} ms, and {1000 * spans[1]:.0f} ms where each sync takes 100 ms more"
 
 
+def replaced(new):
+    """Where another store comes to the path while a message is being written, `deliver` ends as one that failed, so that it is
+    tried again; both stores are sound, and the second try is in the new one. Where nothing is put there it ends well."""
+    if not shutil.which("cc"):
+        raise LeftOut("cc")
+    place, other = new().make(), new().make()
+    slow = {**os.environ, **slow_disk.environment(400)}
+    command = [PROGRAM, "deliver", "--db", place.db, "--to", "alice@example.org", "alice"]
+    for is_replaced in True, False:
+        began = subprocess.Popen(command, stdin=subprocess.PIPE, stdout=subprocess.PIPE, stderr=subprocess.PIPE, env=slow)
+        began.stdin.write(MAIL)
+        began.stdin.close()
+        time.sleep(0.3)
+        if is_replaced:
+            os.rename(place.db, f"{place.db}.old")
+            os.rename(other.db, place.db)
+        status, told = began.wait(60), began.stderr.read()
+        assert (status, told) == ((75, FAILED) if is_replaced else (0, b"")), (is_replaced, status, told)
+    assert place.count() == 1, place.count()
+    return "75 where the file was replaced meanwhile, and 0 where it wasn't"
+
+
 def strace():
     path = shutil.which("strace")
     if path is None:
@@ -361,7 +383,7 @@ def strace():
     return path
 
 
-TRIALS = [made, kept, traced, sessions, failing, large, log, full, slow]
+TRIALS = [made, kept, traced, sessions, failing, large, log, full, slow, replaced]
 
 
 def tried(trial):

@@ -16,6 +16,8 @@ import accounttexts
 DAY = 86400
 HALF_DAY = 43200
 MOST_WAITING = 1000
+MOST_SENT = 16
+MOST_WRITTEN = 64 * 1024 * 1024
 SESSIONS = {1: "uma", 2: "uma", 3: "vic", 4: "vic", 5: "wes"}
 RECEIVED = "Received: x\r\n" * 101
 PASSWORDS = {"uma": "secret", "vic": "secret", "wes": "pass word"}
@@ -80,8 +82,11 @@ def deliver(acc, sender, message, moment, default=None):
         acc["notices"].append((moment, meaning))
         return ["file INBOX", "notice " + meaning]
     folders, targets, vacation = meaning
-    fresh = [target for target in targets if not was_sent(acc, message, target, moment)]
-    going = fresh[:MOST_WAITING - len(acc["queue"])]
+    known = sent_to(acc, message, moment)
+    fresh = [target for target in targets if target not in known]
+    limits = [(MOST_WAITING - len(acc["queue"]), "queue is full"), (max(1, MOST_WRITTEN // len(octets)), "too large to be sent on to all"),
+              (max(0, MOST_SENT - len(known)), "sent on to 16 addresses before")]
+    going = fresh[:min(most for most, _ in limits)]
     if len(going) < len(targets) and "INBOX" not in folders:
         folders = folders + ["INBOX"]
     lines = []
@@ -92,25 +97,26 @@ def deliver(acc, sender, message, moment, default=None):
         acc["queue"].append((acc["ids"], "redirect", sender, target, len(octets)))
         acc["ids"] += 1
         lines.append("send " + target)
-    if targets:
-        remember(acc, message, going, moment)
+    remember(acc, message, going, moment)
     if vacation:
         lines.append(answer(acc, sender, message, vacation, moment))
     if len(going) < len(targets):
-        notice = "queue is full" if len(going) < len(fresh) else "sent on before"
+        notice = next((text for most, text in limits if most < len(fresh)), "sent on before")
         acc["notices"].append((moment, notice))
         lines.append("notice " + notice)
     return lines or ["discard"]
 
 
-def name_of(message):
-    """A message that is sent on is the same by its Message-ID, or without one by its body."""
-    return ("id", message["id"]) if message["id"] else ("body", message["text"] + "\r\n")
+def names_of(message):
+    """A message that is sent on is the same by its Message-ID, or without one by its body; one that was sent on without it is known by its body."""
+    names = [b"\x01" + message["id"].encode()] if message["id"] else []
+    return [hashlib.sha256(name).digest() for name in names + [b"\x02" + (message["text"] + "\r\n").encode()]]
 
 
-def was_sent(acc, message, target, moment):
-    """The message was sent to the target less than 12 hours from this moment, whichever comes first."""
-    return any(key[1:] == (target, name_of(message)) and abs(moment - kept) < HALF_DAY for key, kept in acc["sent"].items())
+def sent_to(acc, message, moment):
+    """The addresses to which the message was sent less than 12 hours from this moment, whichever comes first, one for each time."""
+    names = names_of(message)
+    return [target for (_, name, target), kept in acc["sent"].items() if name in names and abs(moment - kept) < HALF_DAY]
 
 
 def remember(acc, message, going, moment):
@@ -119,7 +125,7 @@ def remember(acc, message, going, moment):
     for key in sorted(key for key in acc["sent"] if key[0] < half - 1)[:32]:
         del acc["sent"][key]
     for target in going:
-        acc["sent"][(half, target, name_of(message))] = moment
+        acc["sent"][(half, names_of(message)[0], target)] = moment
 
 
 def answer(acc, sender, message, vacation, moment):

@@ -128,10 +128,10 @@ def body_of(subject):
 
 
 def sent(subject, target=b"carol@example.com", moment=CLOCK):
-    """What is kept of a letter without a Message-ID that is sent on (docs/STORE.md): octet 3, the half day in four octets, and the address;
-    the SHA-256 of octet 2 and the body."""
-    key = b"\x03" + (moment // 43_200).to_bytes(4, "big") + target
-    return (b"reply", key, hashlib.sha256(b"\x02" + body_of(subject).encode()).digest(), moment)
+    """What is kept of a letter without a Message-ID that is sent on (docs/STORE.md): octet 3, the half day, counted from 1, in four octets,
+    the SHA-256 of octet 2 and the body, octet 0 and the address; and that SHA-256 again."""
+    name = hashlib.sha256(b"\x02" + body_of(subject).encode()).digest()
+    return (b"reply", b"\x03" + (moment // 43_200 + 1).to_bytes(4, "big") + name + b"\x00" + target, name, moment)
 
 
 def vacation(subject, moment=CLOCK, address="alice@example.org", sender="bob@example.net"):
@@ -163,6 +163,22 @@ parts += [(b"redirect", 1, b"bob@example.net", b"carol@example.com", letter("one
 parts += [(b"notice", 1, CLOCK, b"more than 100 Received fields")]
 FULL = dict(owner=owner(), parts=parts, numbers=(10_000, 8, 4, 2), active=b"main")
 exports(account(**FULL))
+title("what is over of messages that were sent on goes with the next delivery by a script, also one that keeps only (docs/STORE.md)")
+said("put --db F --activate alice other", b"stored other\n", [b"keep;"])
+KEEP = "deliver --db F --from bob@example.net --to alice@example.org --at %d alice"
+HALF = 43_200
+LAST = (CLOCK // HALF + 2) * HALF - 1
+parts_with = lambda kept, copies: account(owner=owner(), numbers=(10_000, 8 + copies, 4, 2), active=b"other",
+    parts=[(b"script", b"main", SCRIPT), (b"script", b"other", b"keep;"), (b"reply", b"\x01h", b"bob@example.net", CLOCK)] + kept
+    + [part for part in parts if part[0] in (b"mail", b"copy")] + [(b"mail", 8 + at, b"INBOX", letter("kept")) for at in range(copies)]
+    + [part for part in parts if part[0] in (b"redirect", b"answer", b"notice")])
+said(KEEP % LAST, b"file INBOX\n", [letter("kept")])
+exports(parts_with(sorted([sent("one"), sent("two")]), 1))
+said(KEEP % (LAST + 1), b"file INBOX\n", [letter("kept")])
+exports(parts_with([], 2))
+row("new", "-", "done")
+said("init --db F", b"ready\n")
+imports(account(**FULL))
 title("what left a folder is in no text; the next copy of the message stands for it, and no number is given twice")
 said("drain --db F alice b m", b"drained 2\n")
 said("done --db F alice 1", b"taken 1\n")

@@ -22,7 +22,7 @@ use cli_subcommands::{AddUserArgs, DeliverArgs, InitArgs, ShowArgs, StoreLocatio
 use sieve_exec::When;
 use std::alloc::Global;
 use std::io::{Read, Write};
-use store_accounts::Store;
+use store_accounts::{Refusal, Store};
 use store_engine::{Envelope, Report, add_user, deliver};
 use store_lock::Keeper;
 
@@ -139,6 +139,11 @@ pub fn run_deliver<R: Read, W: Write, K: Keeper>(
 }
 
 /// Delivers the message, in a store that is taken and handed back.
+///
+/// # Errors
+///
+/// Those of [`deliver`]; and `Store`, so that the sender tries again, where the file at the path is no longer the one that was
+/// opened: what was delivered isn't in the file to which the path leads now.
 fn deliver_in_store<K: Keeper>(
     alloc: Global,
     location: StoreLocation<'_>,
@@ -158,8 +163,13 @@ fn deliver_in_store<K: Keeper>(
 {
     let mut store = take_store(location, false, keeper)?;
     let delivered = deliver(alloc, &mut store, user, envelope, message, when, default);
+    let is_there = keeper.is_there(location.path);
     keeper.hand_back(store);
-    Ok(delivered?)
+    let report = delivered?;
+    if !is_there {
+        return Err(RunFault::Refused(Refusal::Store));
+    }
+    Ok(report)
 }
 
 /// `show`: a message of a user's folder, by its number from 1. No other message is read.

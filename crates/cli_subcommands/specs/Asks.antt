@@ -194,6 +194,8 @@ pub record IsDaemonArgs (line : RawArgs) (m : ArgMatches) (a : DaemonArgs) : Typ
   pub default : option_copied a.default ≡ arg_value m (codes "default")
   pub host : option_copied a.host ≡ arg_value m (codes "host")
   pub memory : option_copied a.memory ≡ arg_value m (codes "memory")
+  pub clients : option_copied a.clients ≡ arg_value m (codes "clients")
+  pub senders : option_copied a.senders ≡ arg_value m (codes "senders")
   pub quiet : IsFlag m (codes "quiet") a.quiet
   pub check : IsFlag m (codes "check") a.check
 

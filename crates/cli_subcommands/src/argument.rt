@@ -48,6 +48,8 @@ pub enum CliArgument {
     AndClose,
     Until,
     Memory,
+    Clients,
+    Senders,
     Files,
 }
 
@@ -115,7 +117,9 @@ impl CliArgument {
             | CliArgument::HostName
             | CliArgument::MostRows
             | CliArgument::Until
-            | CliArgument::Memory => Form::Option,
+            | CliArgument::Memory
+            | CliArgument::Clients
+            | CliArgument::Senders => Form::Option,
             CliArgument::Name
             | CliArgument::Address
             | CliArgument::User
@@ -169,6 +173,8 @@ impl CliArgument {
             CliArgument::AndClose => "and-close",
             CliArgument::Until => "until",
             CliArgument::Memory => "memory",
+            CliArgument::Clients => "clients",
+            CliArgument::Senders => "senders",
             CliArgument::Files => "file",
         }
     }
@@ -186,8 +192,12 @@ impl CliArgument {
             | CliArgument::AndClose => "",
             CliArgument::Separator => ".|/",
             CliArgument::From | CliArgument::To | CliArgument::AnyTo => "A",
-            CliArgument::At | CliArgument::Number | CliArgument::Sessions | CliArgument::Until =>
-                "N",
+            CliArgument::At
+            | CliArgument::Number
+            | CliArgument::Sessions
+            | CliArgument::Until
+            | CliArgument::Clients
+            | CliArgument::Senders => "N",
             CliArgument::Zone => "ZONE",
             CliArgument::Most | CliArgument::MostRows => "K",
             CliArgument::Smtp => "ADDRESS:PORT|PATH",
@@ -253,6 +263,9 @@ impl CliArgument {
             CliArgument::Until =>
                 "Takes the notices up to this second since 1970, once they are printed",
             CliArgument::Memory => "How much all connections may hold, in MiB [default: 64]",
+            CliArgument::Clients =>
+                "How many clients of ManageSieve may be there at once [default: 50]",
+            CliArgument::Senders => "How many clients of LMTP may be there at once [default: 20]",
             CliArgument::Files => "Files that have a script each [default: standard input]",
         }
     }
@@ -288,6 +301,8 @@ impl CliArgument {
                 | CliArgument::AndClose
                 | CliArgument::Until
                 | CliArgument::Memory
+                | CliArgument::Clients
+                | CliArgument::Senders
                 | CliArgument::Files
         )
     }

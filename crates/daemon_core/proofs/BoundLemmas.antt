@@ -49,7 +49,7 @@ all_held left (it ∷ entries) = all_held (left - held_by it.1.receiver) entries
 -- ---- a text that is dropped, and then octets that come
 
 hosts : (d m e : MailDaemon) → SameHost d m → SameHost m e → SameHost d e
-hosts d m e one two = record { names = two.names ∙ one.names; host = two.host ∙ one.host; memory = two.memory ∙ one.memory }
+hosts d m e one two = record { names = two.names ∙ one.names; host = two.host ∙ one.host; memory = two.memory ∙ one.memory; places = two.places ∙ one.places }
 
 connections_over : (d m e : MailDaemon) (id : ℕ) (x y : Option LmtpConnection) → ChangesLmtpConnection d id x m → ChangesLmtpConnection m id y e → ChangesLmtpConnection d id y e
 connections_over d m e id x y one two = λ other. two other ∙ (ap (λ p. cond (is_same_id id other) y p) (one other) ∙ twice_by (is_same_id id other) x y (lmtp_connection_at d other))

@@ -17,7 +17,10 @@ use Rattle.net_loop.specs.declared.act.Act.TheVariants.{Timed, Sent, Noted, Full
 use Rattle.daemon_core.specs.Acts.{no_line, line_after_acts, AreRight, LeadsBy, IsMadeOr}
 use Rattle.daemon_core.specs.StoreAccess.{AreOthers}
 use Rattle.daemon_core.specs.ClientStates.{new_client_state, session_due_by, never}
-use Rattle.daemon_core.specs.Eviction.{silent_rank, kept_rank, want_claim, kept_claim, since_claim, silence_span}
+use Rattle.daemon_core.specs.DaemonRules.{managesieve, lmtp}
+use Rattle.daemon_core.specs.MailRules.{limit_for}
+use Rattle.daemon_core.specs.declared.mail.Places.{Places}
+use Rattle.daemon_core.specs.Eviction.{silent_rank, kept_rank, want_claim, kept_claim, since_claim, silence_span, many_silent}
 use Rattle.net_loop.specs.declared.machine.Want.TheVariants as wants
 use Rattle.daemon_core.specs.Waiting.{Allows, said_at_once, is_failure}
 use Rattle.daemon_core.specs.declared.note.Note.{Note}
@@ -147,6 +150,21 @@ not_ours sessions c there is = let never : Some c ≡ None = sym there ∙ is.0 
 never_late_while_it_waits : (c : Client) → session_due_by (waits.Store 0 5) (new_client_state 0) c ≡ never
 never_late_while_it_waits c = refl
 
+-- ---- places
+
+abbrev few : Places
+few = record { clients = 2; senders = 1 }
+
+two_of_managesieve : limit_for few managesieve ≡ 2
+two_of_managesieve = refl
+
+one_of_lmtp : limit_for few lmtp ≡ 1
+one_of_lmtp = refl
+
+-- a near miss: of another kind
+none_of_another_kind : limit_for few 2 ≡ 0
+none_of_another_kind = refl
+
 -- ---- who makes room
 
 -- who isn't logged in after 50 ms claims that, and one of 49 doesn't
@@ -173,6 +191,20 @@ flooded_then = refl
 
 left_alone_else : since_claim 999 (silence_span false false) (Some 0) ≡ None
 left_alone_else = refl
+
+-- three quarters of the places are many: 15 of 20, and of few at least one
+many_of_twenty : many_silent 20 ≡ 15
+many_of_twenty = refl
+
+many_of_three : many_silent 3 ≡ 2
+many_of_three = refl
+
+many_of_one : many_silent 1 ≡ 1
+many_of_one = refl
+
+-- a near miss: of seven that isn't five and a quarter, and not six
+not_rounded_up : many_silent 7 ≡ 6 → ⊥
+not_rounded_up is = cc
 
 -- a near miss: one that has said LHLO has its second among many that haven't
 left_alone_behind_hello : since_claim 999 (silence_span true true) (Some 0) ≡ None

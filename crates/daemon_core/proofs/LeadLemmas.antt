@@ -182,7 +182,7 @@ module _ {R : Type 0} (view : View R) (d e : MailDaemon) (r q : R) where
   unauthenticated_goes : (s : Service) (kind id : ℕ) → makes_room (mail_rules view) d s kind ≡ Some id → (w : World) → IsWorld view r d.daemon.clients.sessions w → IsUnauthenticated w id
   unauthenticated_goes s kind id room w is =
       let its = claims_one (mail_rules view) d s kind id room in
-      let nobody = no_user_goes s.moment (is_flooded d.lmtp_connections.entries) (lmtp_connection_at d id) (client_state_at d.daemon id) (client_at d.daemon.clients.sessions id) its.0 its.1 in
+      let nobody = no_user_goes s.moment (is_flooded d.places.senders d.lmtp_connections.entries) (lmtp_connection_at d id) (client_state_at d.daemon id) (client_at d.daemon.clients.sessions id) its.0 its.1 in
       unauthenticated_of (get w.sessions id) (subst (λ c. has_login c ≡ false) (is.sessions id) nobody)
 
   -- where memory was lacking for a connection, that is what follows says

@@ -26,18 +26,13 @@ use Rattle.daemon_core.specs.declared.client_state.ClientState.{ClientState}
 use Rattle.daemon_core.specs.declared.client_state.SessionWait.{SessionWait}
 use Rattle.daemon_core.specs.declared.client_state.SessionWait.TheVariants as waits
 
--- the kinds of the connections of ManageSieve and of LMTP, and how many of the first there may be
+-- the kind of the connections of ManageSieve
 abbrev pub managesieve : ℕ
 managesieve = 0
 
+-- the kind of the connections of LMTP
 abbrev pub lmtp : ℕ
 lmtp = 1
-
-abbrev pub max_clients : ℕ
-max_clients = 50
-
-abbrev pub limit_of : ℕ → ℕ
-limit_of kind = if kind == managesieve then max_clients else 0
 
 abbrev pub client_state_at : Daemon → ℕ → Option ClientState
 client_state_at d id = tree.get nat_cmp d.states id
@@ -181,10 +176,11 @@ patience_of d = least_patience (patience_by d.holding) d.states.entries
 
 -- ---- all of it
 
--- what the daemon makes of what happens to a client of ManageSieve
+-- what the daemon makes of what happens to a client of ManageSieve. It lets none come: how many may is known with those of LMTP
+-- beside it (`mail_rules`)
 abbrev pub daemon_rules : {R : Type 0} → View R → Rules Daemon Note R
 daemon_rules view = record {
-  limit = limit_of;
+  limit = λ d kind. 0;
   claim = λ d now id. unauthenticated_claim now (client_state_at d id) (client_at d.clients.sessions id);
   wants = λ d id. want_of (client_state_at d id) (client_at d.clients.sessions id);
   has_work = λ d now. has_work d.holding now;

@@ -1,5 +1,5 @@
 -- Who claims to go when another one of its kind wants its place, and all are taken.
-use Rattle.std.specs.Prelude.{ℕ, ◌+◌, ◌-◌, ◌==◌, nat_le, Bool, true, false, if◌then◌else◌, List, [], ◌∷◌, Option, Some, None, is_some}
+use Rattle.std.specs.Prelude.{ℕ, ◌+◌, ◌-◌, ◌*◌, ◌/◌, max, ◌==◌, nat_le, Bool, true, false, if◌then◌else◌, List, [], ◌∷◌, Option, Some, None, is_some}
 use Rattle.managesieve_sessions.specs.Clients.{Client, has_failed}
 use Rattle.lmtp_connections.specs.Stands.{owed_since, has_said_hello}
 use Rattle.lmtp_connections.specs.declared.connection.LmtpConnection.{LmtpConnection}
@@ -23,9 +23,9 @@ first_span = 50
 abbrev pub sender_span : ℕ
 sender_span = 1000
 
--- how many are many: three quarters of the places
-abbrev pub many_silent : ℕ
-many_silent = 15
+-- how many are many, of this many places: three quarters of them, rounded down, and at least one
+abbrev pub many_silent : ℕ → ℕ
+many_silent senders = max 1 (senders * 3 / 4)
 
 -- one that waits for the answer to a login that failed, since then
 abbrev pub kept_span : ℕ
@@ -81,9 +81,9 @@ abbrev pub silent_in : List (ℕ × LmtpConnection) → ℕ
 silent_in [] = 0
 silent_in (it ∷ entries) = silent_by (has_said_hello it.1) + silent_in entries
 
--- many haven't
-abbrev pub is_flooded : List (ℕ × LmtpConnection) → Bool
-is_flooded entries = (many_silent - silent_in entries) == 0
+-- of this many places those of clients that haven't are many
+abbrev pub is_flooded : ℕ → List (ℕ × LmtpConnection) → Bool
+is_flooded senders entries = (many_silent senders - silent_in entries) == 0
 
 abbrev pub silence_span : Bool → Bool → ℕ
 silence_span true flooded = sender_span

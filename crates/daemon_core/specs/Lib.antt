@@ -8,6 +8,7 @@ pub mod Holding
 pub mod Holds
 pub mod MailActs
 pub mod MailRules
+pub mod PlaceLimits
 pub mod Moves
 pub mod ClientStates
 pub mod Eviction

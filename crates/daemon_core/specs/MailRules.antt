@@ -16,7 +16,7 @@ use Rattle.net_loop.specs.Talk.{is_same_id}
 use Rattle.net_loop.specs.declared.machine.Want.{Want}
 use Rattle.net_loop.specs.declared.machine.Want.TheVariants as want
 use Rattle.daemon_core.specs.Bounds.{held, bound, own, octet_room, FitsClient, PassesBound}
-use Rattle.daemon_core.specs.DaemonRules.{lmtp, limit_of, client_state_at, least, patience_of, DaemonOpens, DaemonGives, DaemonGoes, DoesWork, LacksFor, DaemonCloses, Forgets}
+use Rattle.daemon_core.specs.DaemonRules.{lmtp, managesieve, client_state_at, least, patience_of, DaemonOpens, DaemonGives, DaemonGoes, DoesWork, LacksFor, DaemonCloses, Forgets}
 use Rattle.daemon_core.specs.LmtpSteps.{DoesOne}
 use Rattle.daemon_core.specs.StoreAccess.{View}
 use Rattle.daemon_core.specs.Holds.{has_work}
@@ -24,17 +24,15 @@ use Rattle.daemon_core.specs.ClientStates.{client_at, want_of, due_of}
 use Rattle.daemon_core.specs.Eviction.{is_flooded, claim_by_kind}
 use Rattle.daemon_core.specs.Waiting.{idle}
 use Rattle.daemon_core.specs.declared.mail.MailDaemon.{MailDaemon}
+use Rattle.daemon_core.specs.declared.mail.Places.{Places}
 use Rattle.daemon_core.specs.declared.note.Note.{Note}
 use Rattle.daemon_core.specs.declared.client_state.Fit.{Fit}
 use Rattle.daemon_core.specs.declared.client_state.Fit.TheVariants as fit
 use Rattle.daemon_core.specs.declared.client_state.ClientState.{ClientState}
 
--- how many connections of LMTP there may be
-abbrev pub max_senders : ℕ
-max_senders = 20
-
-abbrev pub limit_for : ℕ → ℕ
-limit_for kind = if kind == lmtp then max_senders else limit_of kind
+-- how many connections of a kind there may be
+abbrev pub limit_for : Places → ℕ → ℕ
+limit_for places kind = if kind == lmtp then places.senders else if kind == managesieve then places.clients else 0
 
 abbrev pub lmtp_connection_at : MailDaemon → ℕ → Option LmtpConnection
 lmtp_connection_at d id = tree.get nat_cmp d.lmtp_connections id
@@ -48,6 +46,7 @@ pub record SameHost (d e : MailDaemon) : Type 0 where
   pub names : e.names ≡ d.names
   pub host : e.host ≡ d.host
   pub memory : e.memory ≡ d.memory
+  pub places : e.places ≡ d.places
 
 -- and what is known of clients of LMTP
 pub record SameLmtpConnections (d e : MailDaemon) : Type 0 where
@@ -237,8 +236,8 @@ pub record ClosesBy (d : MailDaemon) (id : ℕ) (e : MailDaemon) : Type 0 where
 -- what the daemon makes of what happens to any client, of ManageSieve or of LMTP
 abbrev pub mail_rules : {R : Type 0} → View R → Rules MailDaemon Note R
 mail_rules view = record {
-  limit = limit_for;
-  claim = λ d now id. claim_by_kind now (is_flooded d.lmtp_connections.entries) (lmtp_connection_at d id) (client_state_at d.daemon id) (client_at d.daemon.clients.sessions id);
+  limit = λ d kind. limit_for d.places kind;
+  claim = λ d now id. claim_by_kind now (is_flooded d.places.senders d.lmtp_connections.entries) (lmtp_connection_at d id) (client_state_at d.daemon id) (client_at d.daemon.clients.sessions id);
   wants = λ d id. wants_by (lmtp_connection_at d id) (want_of (client_state_at d.daemon id) (client_at d.daemon.clients.sessions id));
   has_work = λ d now. has_work d.daemon.holding now;
   patience = patience_for;

@@ -22,9 +22,6 @@ const FIRST_SPAN: u64 = 50;
 /// For how many milliseconds any other client of LMTP is left alone before one of its recipients is accepted.
 const SENDER_SPAN: u64 = 1000;
 
-/// How many clients of LMTP that haven't said LHLO are many: three quarters of the places.
-const MANY_SILENT: usize = 15;
-
 /// Once at most this many milliseconds are left for which the answer to a login that failed is kept back, its client may make room, and
 /// doesn't hear it: it has waited for 500 then, so who guesses passwords keeps each place that long.
 const KEPT_LEFT: u64 = 1500;
@@ -164,11 +161,19 @@ fn span_by(hello: bool, flooded: bool) -> u64
     }
 }
 
-/// Whether at least 15 LMTP clients haven't said LHLO yet. Time is linear in all LMTP connections.
-pub fn is_flooded(lmtp_connections: &BTreeMap<u32, LmtpConnection>) -> bool
-    ensures { result ≡ eviction.is_flooded lmtp_connections.now.entries }
+/// Whether many LMTP clients haven't said LHLO yet, where there are places for that many. Time is linear in all LMTP connections.
+pub fn is_flooded(senders: u32, lmtp_connections: &BTreeMap<u32, LmtpConnection>) -> bool
+    ensures { result ≡ eviction.is_flooded senders lmtp_connections.now.entries }
 {
-    less_silent(MANY_SILENT, lmtp_connections) == 0
+    less_silent(many_silent(senders), lmtp_connections) == 0
+}
+
+/// How many are many: three quarters of the places, rounded down, and at least one.
+fn many_silent(senders: u32) -> usize
+    ensures { result ≡ eviction.many_silent senders }
+{
+    let quarters = senders as usize * 3 / 4;
+    if quarters < 1 { 1 } else { quarters }
 }
 
 /// `most` less how many of them haven't.

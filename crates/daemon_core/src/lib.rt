@@ -22,4 +22,4 @@ mod step;
 pub mod store_access;
 mod want;
 
-pub use machine::{LMTP, MANAGESIEVE, MAX_CLIENTS, MAX_SENDERS};
+pub use machine::{LMTP, MANAGESIEVE};

@@ -19,34 +19,23 @@ use std::alloc::AllocError;
 /// The kind of the connections of ManageSieve.
 pub const MANAGESIEVE: u32 = 0;
 
-/// How many clients of ManageSieve may be there at once. A session holds one item and a piece at most: 2 MiB and 12 KiB.
-pub const MAX_CLIENTS: usize = 50;
-
 /// The kind of the connections of LMTP.
 pub const LMTP: u32 = 1;
 
-/// How many clients of LMTP may be there at once.
-pub const MAX_SENDERS: usize = 20;
-
 impl<O: StoreAccess> Machine<O> for MailDaemon {
     ghost use Rattle.daemon_core.specs.MailRules.{mail_rules};
+    ghost use Rattle.daemon_core.specs.PlaceLimits.{mail_keeps_limits};
 
     ghost rules = { mail_rules O.store.view };
 
     fn limit(&self, kind: u32) -> usize {
-        if kind == LMTP {
-            MAX_SENDERS
-        } else if kind == MANAGESIEVE {
-            MAX_CLIENTS
-        } else {
-            0
-        }
+        self.places.limit(kind)
     }
 
     fn claim(&self, now: u64, id: u32) -> Option<Claim> {
         match self.lmtp_connections.get(&id) {
             Some(connection) => {
-                let flooded = is_flooded(&self.lmtp_connections);
+                let flooded = is_flooded(self.places.senders, &self.lmtp_connections);
                 claim_of_sender(&self.daemon.clients, now, flooded, id, connection)
             }
             None => claim_of_unauthenticated(&self.daemon, now, id),
@@ -118,6 +107,8 @@ impl<O: StoreAccess> Machine<O> for MailDaemon {
     fn close(&mut self, _now: u64, id: u32) {
         leave_by(self, id)
     }
+
+    ghost keeps_limits = { mail_keeps_limits O.store.view };
 }
 
 fn want_for(wanted: Wanted) -> Want

@@ -1,5 +1,5 @@
 -- Whose turn it is to hold the store.
-use Rattle.std.specs.Prelude.{◌≡◌, ◌⊎◌, ℕ, ◌-◌, ◌==◌, nat_lt, Bool, true, false, if◌then◌else◌, List, [], ◌∷◌, ◌++◌, find, Option, Some, None}
+use Rattle.std.specs.Prelude.{◌≡◌, ◌⊎◌, ℕ, ◌-◌, ◌==◌, ◌||◌, nat_lt, not, Bool, true, false, if◌then◌else◌, List, [], ◌∷◌, ◌++◌, find, Option, Some, None}
 use Rattle.std.specs.List.{list_any}
 use Rattle.std.specs.Ordering.{nat_cmp}
 use Rattle.std.specs.BTreeMap as tree
@@ -20,9 +20,19 @@ abbrev pub is_first : ℕ → Option ℕ → Bool
 is_first id None = true
 is_first id (Some first) = first == id
 
--- of those it came first, or there is none
-abbrev pub comes_next : ℕ → ℕ → List ℕ → tree.BTreeMap ℕ ℕ → Bool
-comes_next id now ids asked = is_first id (find (asks id now asked) ids)
+-- the same, and its account used little recently
+abbrev pub asks_early : (ℕ → Bool) → ℕ → ℕ → tree.BTreeMap ℕ ℕ → ℕ → Bool
+asks_early late id now asked other = if late other then false else asks id now asked other
+
+-- by the first of those who ask whose account used little: it is that one; if there is none, its account used little, or of all it came
+-- first
+abbrev pub is_next : Bool → ℕ → Option ℕ → Option ℕ → Bool
+is_next late id (Some early) first = early == id
+is_next late id None first = is_first id first || not late
+
+-- of those who ask it came first of those whose account used little, or of all if there is none of these
+abbrev pub comes_next : (ℕ → Bool) → ℕ → ℕ → List ℕ → tree.BTreeMap ℕ ℕ → Bool
+comes_next late id now ids asked = is_next (late id) id (find (asks_early late id now asked) ids) (find (asks id now asked) ids)
 
 -- one that waits has its place, or the last one; none if memory was lacking
 abbrev pub Joins : ℕ → List ℕ → List ℕ → Type 0

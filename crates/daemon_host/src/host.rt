@@ -26,7 +26,7 @@ use maildir_moves::{Moving, Route, span_behind};
 use net_loop::act::Act;
 use net_loop::outcome::{self, Accepted, Input, Output, Wake};
 use net_loop::outside::{Clock, Outside, Sockets};
-use net_shares::{Scheduler, TimeAccount};
+use net_shares::{Grace, Scheduler, TimeAccount};
 use net_sockets::SystemSockets;
 use octets::{Octets, as_deref};
 use sieve_exec::When;
@@ -44,6 +44,16 @@ use store_lock::{Keeper, StoreUnavailable};
 /// After a step of more than this many microseconds another connection has its turn.
 const MAX_STEP: u64 = 5_000;
 
+/// One that is held up asks for the store again this many microseconds later.
+const HOLD: u64 = 5_000;
+
+/// A message of more octets fills SQLite's log (1,000 pages of 4 KiB): the next change moves that into the file first.
+const MAX_LOGGED: usize = 4_000_000;
+
+/// At most this many times in a row it is waited for the next command of one that was served: each time those who are kept waiting may
+/// say something.
+const MAX_WAITS: u32 = 64;
+
 /// What is answered to a command whose answer is no longer in the file at the path (RFC 5804, 1.3).
 const TRY_LATER: &[u8] = b"NO (TRYLATER) \"Try later.\"\r\n";
 
@@ -51,7 +61,8 @@ const TRY_LATER: &[u8] = b"NO (TRYLATER) \"Try later.\"\r\n";
 ///
 /// The store is taken without waiting, and not while somebody waits for it; if it fails it is given back at the next look, and left
 /// alone for a while. If the file at the path is another one after an act, or none, the act is answered as one that failed, and the
-/// store is given back: the next act takes it anew, by its path. Connections that wait for it get it in the order in which they came.
+/// store is given back: the next act takes it anew, by its path. Of the connections that wait for it those come first whose account used
+/// little time recently.
 #[derive(Drop)]
 pub struct Host<'a, N: Net + time::Clock, E: Write + Drop, K: Keeper + Drop, T: MailSink + Drop> {
     alloc: Global,
@@ -73,6 +84,16 @@ pub struct Host<'a, N: Net + time::Clock, E: Write + Drop, K: Keeper + Drop, T: 
     looked: Option<u64>,
     /// Who had how much of the time, and who waits behind the others for it.
     turns: Scheduler,
+    /// How long those may still be kept waiting for the next command of one whose account used little time.
+    grace: Grace,
+    /// When a user of such an account was served last, if the clock could be read.
+    served: Option<Instant>,
+    /// Whose large message lies in SQLite's log: the next long act is in that account's time, since it moves the message into the file.
+    logged: Option<TimeAccount>,
+    /// How many microseconds acts have taken since the last wait.
+    acted: u64,
+    /// One that waits for the store was put off, since the sockets come first.
+    held_up: bool,
     /// When the current act began, if the clock could be read.
     begun: Option<Instant>,
     /// The last step took long.
@@ -116,6 +137,11 @@ impl<'a, N: Net + time::Clock, E: Write + Drop, K: Keeper + Drop, T: MailSink + 
             queue: StoreTurns::new(alloc),
             looked: None,
             turns: Scheduler::new(alloc),
+            grace: Grace::none(),
+            served: None,
+            logged: None,
+            acted: 0,
+            held_up: false,
             begun: None,
             long: false,
             news: HostLog::new(alloc, errors, quiet),
@@ -154,7 +180,71 @@ impl<'a, N: Net + time::Clock, E: Write + Drop, K: Keeper + Drop, T: MailSink + 
         }
         self.news.note_slow(what, &account, micros);
         let now = self.sockets.now();
-        let _ = self.turns.charge(id, account, now, micros);
+        self.charge(id, account, now, micros);
+        self.note_act(id, now, micros);
+    }
+
+    /// Charges the microseconds of an act to the account of a connection, or to the one whose large message lies in SQLite's log.
+    fn charge(&mut self, id: u32, account: TimeAccount, now: u64, micros: u64)
+        ensures same { self.new.held ≡ self.old.held }
+        ensures default { self.new.default ≡ self.old.default }
+    {
+        let owner = if micros > MAX_STEP {
+            take(&mut self.logged)
+        } else {
+            None
+        };
+        match owner {
+            Some(owner) => {
+                let _ = self.turns.charge(id, owner, now, micros);
+                let _ = self.turns.enter(id, account);
+            }
+            None => {
+                let _ = self.turns.charge(id, account, now, micros);
+            }
+        }
+    }
+
+    /// Ends a delivery. That of a large message is in its user's own time, and so is the next long act.
+    fn end_delivery(&mut self, id: u32, request: &DeliveryRequest)
+        ensures same { self.new.held ≡ self.old.held }
+        ensures default { self.new.default ≡ self.old.default }
+    {
+        let user = request.user.as_slice();
+        let is_large = request.message.len() > MAX_LOGGED;
+        if is_large {
+            self.logged = None;
+        }
+        self.end_act_of(id, user, b"delivery");
+        if !is_large {
+            return;
+        }
+        if let Ok(name) = Octets::from_slice(self.alloc, user) {
+            self.logged = Some(TimeAccount::User(name));
+        }
+    }
+
+    /// Notes that an act of a connection took that many microseconds, up to a moment in milliseconds.
+    fn note_act(&mut self, id: u32, now: u64, micros: u64)
+        ensures same { self.new.held ≡ self.old.held }
+        ensures default { self.new.default ≡ self.old.default }
+    {
+        self.acted = self.acted.saturating_add(micros);
+        if self.turns.is_late(id, now) {
+            self.grace.earn(micros);
+        } else if is_user(self.turns.account(id)) {
+            self.served = self.begun;
+        }
+    }
+
+    /// From now on the acts of a connection are a user's, as far as is known.
+    fn enter_user(&mut self, id: u32, user: &[u8])
+        ensures same { self.new.held ≡ self.old.held }
+        ensures default { self.new.default ≡ self.old.default }
+    {
+        if let Ok(name) = Octets::from_slice(self.alloc, user) {
+            let _ = self.turns.enter(id, TimeAccount::User(name));
+        }
     }
 
     /// The same, for a user.
@@ -192,13 +282,67 @@ impl<'a, N: Net + time::Clock, E: Write + Drop, K: Keeper + Drop, T: MailSink + 
         }
     }
 
+    /// Ends the act of a connection that looked for a user's account; if there is one, the next acts are that user's.
+    fn end_lookup(&mut self, id: u32, user: &[u8], lookup: Lookup)
+        ensures same { self.new.held ≡ self.old.held }
+        ensures default { self.new.default ≡ self.old.default }
+    {
+        self.end_act(id, TimeAccount::Senders, b"lookup");
+        if is_known(lookup) {
+            self.enter_recipient(id, user);
+        }
+    }
+
+    /// From now on the acts of a connection are a recipient's, if that account used little time: the text for another one is read in the
+    /// time of all senders.
+    fn enter_recipient(&mut self, id: u32, user: &[u8])
+        ensures same { self.new.held ≡ self.old.held }
+        ensures default { self.new.default ≡ self.old.default }
+    {
+        self.enter_user(id, user);
+        let now = self.sockets.now();
+        if self.turns.is_late(id, now) {
+            let _ = self.turns.enter(id, TimeAccount::Senders);
+        }
+    }
+
     /// Whether the store may be asked now for a connection: it is its turn, the store didn't fail, and nobody waits for it.
     fn may_ask(&mut self, id: u32) -> bool
         ensures shown { StillShown K.S.Store K.tells K.holds self.old.held self.new.held }
         ensures default { self.new.default ≡ self.old.default }
     {
         let now = self.sockets.now();
-        self.queue.comes_next(id, now) && !self.news.has_failed() && !self.is_awaited()
+        if self.is_held_up(id, now) {
+            return false;
+        }
+        self.queue.comes_next(id, now, &self.turns) && !self.news.has_failed() && !self.is_awaited()
+    }
+
+    /// Whether the sockets come before a connection whose account used much time: since the last wait acts took long, or a user whose
+    /// account used little was served so lately that the next command may come. So nobody waits for two long acts.
+    fn is_held_up(&mut self, id: u32, now: u64) -> bool
+        ensures same { self.new.held ≡ self.old.held }
+        ensures default { self.new.default ≡ self.old.default }
+    {
+        if !self.turns.is_late(id, now) {
+            return false;
+        }
+        if self.acted <= MAX_STEP && !self.held_up {
+            if !self.has_grace() {
+                return false;
+            }
+            self.grace.pay(HOLD);
+        }
+        self.held_up = true;
+        true
+    }
+
+    /// Whether a user whose account used little time was served so lately that the next command may come, and others may be kept waiting.
+    fn has_grace(&self) -> bool {
+        match micros_since(self.system, self.served) {
+            Some(passed) => self.grace.may_wait(passed),
+            None => false,
+        }
     }
 
     /// A connection waits for the store.
@@ -230,6 +374,59 @@ impl<'a, N: Net + time::Clock, E: Write + Drop, K: Keeper + Drop, T: MailSink + 
         ensures { StillShown K.S.Store K.tells K.holds self.old.held self.new.held }
     {
         self.news.has_failed() || self.is_lost() || self.is_awaited()
+    }
+
+    /// Chooses, of those that a wait told of and those that waited, who goes on: all whose accounts used little time recently; if there is
+    /// none, and none says more within the grace, one of the others. One that used far too much lets those go first that wait for the
+    /// store.
+    fn choose(&mut self, ready: &mut VecDeque<Wake>) {
+        self.put_off_late(ready);
+        for _ in 0..MAX_WAITS {
+            if !self.may_wait(ready) {
+                break;
+            }
+            self.wait_for_more(ready);
+        }
+        if ready.iter().any(|wake| is_users(&self.turns, *wake)) {
+            self.served = start(self.system);
+        }
+        let now = self.sockets.now();
+        if !self.held_up || self.turns.has_lighter(now) {
+            let _ = self.turns.let_one_go(now, ready);
+        }
+        self.acted = 0;
+        self.held_up = false;
+        self.begin_act();
+    }
+
+    /// Keeps of all those whose accounts used little time recently; the others wait.
+    fn put_off_late(&mut self, ready: &mut VecDeque<Wake>) {
+        let now = self.sockets.now();
+        let _ = self.turns.put_off_late(now, ready);
+    }
+
+    /// Whether all whose turn it could be used much time, and one that used little was served so lately that its next command may come.
+    fn may_wait(&self, ready: &VecDeque<Wake>) -> bool
+        ensures { result ≡ true → ready.now.items ≡ [] }
+    {
+        ready.is_empty() && self.has_late() && self.has_grace()
+    }
+
+    /// Whether one that used much time waits for its turn.
+    fn has_late(&self) -> bool {
+        self.held_up || self.turns.has_waiting()
+    }
+
+    /// Waits a millisecond at most for one whose account used little time.
+    fn wait_for_more(&mut self, ready: &mut VecDeque<Wake>)
+        requires { ready.old.items ≡ [] }
+    {
+        let begun = start(self.system);
+        let _ = self.sockets.wait(1, ready);
+        if let Some(micros) = micros_since(self.system, begun) {
+            self.grace.pay(micros);
+        }
+        self.put_off_late(ready);
     }
 
     /// Applies an event to the store, if that may be asked and is available.
@@ -370,7 +567,7 @@ impl<'a, N: Net + time::Clock, E: Write + Drop, K: Keeper + Drop, T: MailSink + 
         self.held.move_next(route, now, fresh)
     }
 
-    /// Takes the store, if it isn't held and isn't left alone.
+    /// Takes the store, if it isn't held and isn't left alone. The time for that is nobody's: a new act begins.
     fn reach(&mut self)
         ensures shown { StillShown K.S.Store K.tells K.holds self.old.held self.new.held }
         ensures sink { self.new.held.sink ≡ self.old.held.sink }
@@ -387,6 +584,7 @@ impl<'a, N: Net + time::Clock, E: Write + Drop, K: Keeper + Drop, T: MailSink + 
                 self.news.leave_alone(refusal, self.held.cause(), now)
             }
         }
+        self.begin_act();
     }
 
     /// Gives the store back. After a failure it is left alone for a while.
@@ -415,6 +613,30 @@ fn user_of(clients: &Clients, id: u32) -> Option<&[u8]> {
     match clients.session(id) {
         Some(session) => session.user(),
         None => None,
+    }
+}
+
+/// Whether a wake is of a user's connection.
+fn is_users(turns: &Scheduler, wake: Wake) -> bool {
+    match wake {
+        Wake::Ready(id) => is_user(turns.account(id)),
+        Wake::Knock(_) => false,
+    }
+}
+
+/// Whether an account is known, and a user's.
+fn is_user(account: Option<&TimeAccount>) -> bool {
+    match account {
+        Some(TimeAccount::User(_)) => true,
+        _ => false,
+    }
+}
+
+/// Whether an account was found.
+fn is_known(lookup: Lookup) -> bool {
+    match lookup {
+        Lookup::Known => true,
+        _ => false,
     }
 }
 
@@ -530,12 +752,10 @@ impl<N: Net + time::Clock, E: Write + Drop, K: Keeper + Drop, T: MailSink + Drop
     fn wait(&mut self, within: u32, ready: &mut VecDeque<Wake>) -> Result<(), outcome::WaitError> {
         let now = self.sockets.now();
         self.news.tell_status(now);
-        let within = if self.turns.has_waiting() { 0 } else { within };
+        let within = if self.has_late() { 0 } else { within };
         match self.sockets.wait(within, ready) {
             Ok(()) => {
-                let now = self.sockets.now();
-                let _ = self.turns.order(now, ready);
-                self.begin_act();
+                self.choose(ready);
                 Ok(())
             }
             Err(fault) => {
@@ -645,7 +865,7 @@ impl<N: Net + time::Clock, E: Write + Drop, K: Keeper + Drop, T: MailSink + Drop
         match self.try_find_account(id, user) {
             Some(lookup) => {
                 self.queue.leave(id);
-                self.end_act(id, TimeAccount::Senders, b"lookup");
+                self.end_lookup(id, user, lookup);
                 Some(lookup)
             }
             None => {
@@ -661,10 +881,11 @@ impl<N: Net + time::Clock, E: Write + Drop, K: Keeper + Drop, T: MailSink + Drop
         _clients: &mut Clients,
         request: &DeliveryRequest,
     ) -> Option<Answer> {
+        self.enter_user(id, request.user.as_slice());
         match self.try_deliver(id, request) {
             Some(answer) => {
                 self.queue.leave(id);
-                self.end_act_of(id, request.user.as_slice(), b"delivery");
+                self.end_delivery(id, request);
                 Some(answer)
             }
             None => {

@@ -1,9 +1,11 @@
-//! Who waits for the store, in the order in which they came.
+//! Who waits for the store, and whose turn it is.
 ghost use Rattle.std.specs.Prelude.{◌≡◌, ◌==◌, [], not, filter, find, option_copied};
+ghost use Rattle.net_shares.specs.Order.{late_at};
 ghost use Rattle.std.specs.Ordering.{nat_cmp};
 ghost use Rattle.std.specs.BTreeMap as tree;
 ghost use Rattle.daemon_host.specs.Queue as q;
 
+use net_shares::Scheduler;
 use std::alloc::Global;
 use std::collections::BTreeMap;
 
@@ -30,21 +32,34 @@ impl StoreTurns {
         }
     }
 
-    /// Whether it is the turn of this one, which asks now, at a moment in milliseconds: of those who asked of late it came first, or no
-    /// other did. Time is linear in those who wait.
-    pub fn comes_next(&self, id: u32, now: u64) -> bool
-        ensures { result ≡ q.comes_next id now self.now.ids.items self.now.asked }
+    /// Whether it is the turn of this one, which asks now, at a moment in milliseconds: of those who asked of late and whose accounts used
+    /// little time recently it came first; if there is none, its account used little, or of all who asked it came first. Time is linear in
+    /// those who wait.
+    pub fn comes_next(&self, id: u32, now: u64, turns: &Scheduler) -> bool
+        ensures { result ≡ q.comes_next (late_at turns.now now) id now self.now.ids.items self.now.asked }
     {
-        is_first(id, self.first_of_late(id, now))
+        match self.first_early(id, now, turns) {
+            Some(early) => *early == id,
+            None => is_first(id, self.first_that_asks(id, now)) || !turns.is_late(id, now),
+        }
     }
 
     /// The first of those who asked of late, among whom this one is.
-    fn first_of_late(&self, id: u32, now: u64) -> Option<&u32>
+    fn first_that_asks(&self, id: u32, now: u64) -> Option<&u32>
         ensures { option_copied result ≡ find (q.asks id now self.now.asked) self.now.ids.items }
     {
         self.ids
             .iter()
             .find(|other| asks(id, now, &self.asked, **other))
+    }
+
+    /// The first of them whose account used little time.
+    fn first_early(&self, id: u32, now: u64, turns: &Scheduler) -> Option<&u32>
+        ensures { option_copied result ≡ find (q.asks_early (late_at turns.now now) id now self.now.asked) self.now.ids.items }
+    {
+        self.ids
+            .iter()
+            .find(|other| asks_early(id, now, &self.asked, turns, **other))
     }
 
     /// One waits, and asks at that moment. It keeps its place if it has one.
@@ -88,6 +103,13 @@ fn asks(id: u32, now: u64, asked: &BTreeMap<u32, u64>, other: u32) -> bool
         Some(moment) => now.saturating_sub(*moment) < PATIENCE,
         None => false,
     }
+}
+
+/// The same, and its account used little time recently.
+fn asks_early(id: u32, now: u64, asked: &BTreeMap<u32, u64>, turns: &Scheduler, other: u32) -> bool
+    ensures { result ≡ q.asks_early (late_at turns.now now) id now asked.now other }
+{
+    !turns.is_late(other, now) && asks(id, now, asked, other)
 }
 
 /// Forgets when it asked.

@@ -16,9 +16,9 @@ use Rattle.net_loop.specs.declared.turn.Turn.{Turn}
 use Rattle.net_loop.specs.declared.turn.Turn.TheVariants.{Free, Rested, Waked, Sweep, Accepting, Busy, OutOfMemory, Leaving}
 use Rattle.net_loop.specs.Life.{Move, PassesMoves, kind_by, kind_on, Distinct, Bounded}
 use Rattle.net_loop.specs.Moves.{Moment}
-use Rattle.net_loop.specs.Rules.{Rules}
+use Rattle.net_loop.specs.Rules.{Rules, SameLimits, KeepsLimits}
 use Rattle.net_loop.specs.Talk.{is_same_id, client_of, client_kind, Comes, ClientStays, ClientAnswers, ClientSends, ClientParts, OrNothing, Shuts, DropsOctets, At, ClientTalks}
-use Rattle.net_loop.specs.Turns.{TurnAllows, open_count, Yields, MayAccept, ServiceOpens, ReadEnds, Fails, Lacks, MayEnd, RestsOrCalm, Calm, MayWait}
+use Rattle.net_loop.specs.Turns.{TurnAllows, open_count, Yields, MayAccept, ServiceOpens, HeardOrLacking, Silent, Parting, ReadEnds, Fails, Lacks, MayEnd, RestsOrCalm, Calm, MayWait}
 use Rattle.net_loop.proofs.LifeLemmas.{cut, talks_of, turns_of}
 use Rattle.net_loop.proofs.TalkLemmas.{one_number}
 
@@ -301,11 +301,62 @@ kept_act rules m k r q s u id kind o (Dropped n count) said t talks kept is =
 kept_act rules m k r q s u id kind o act said t talks kept is =
     keeps_or id kind (client_of s id) (client_of u id) s.turn u.turn (same_keeps kind (client_of s id) (client_of u id) talks) (λ h. absurd (over rules m k r q s u id act said t h)) (kept is)
 
+-- ---- how many may be is fixed
+
+silent_keeps : {M N R : Type 0} (rules : Rules M N R) (m k : M) (said : List ℕ) → Silent m said k → SameLimits rules m k
+silent_keeps rules m k said t kind = ap (λ x. rules.limit x kind) t.0
+
+opening_keeps : {M N R : Type 0} (rules : Rules M N R) (m k : M) (now n door : ℕ) (said : List ℕ) (u : Service) → KeepsLimits rules → ServiceOpens rules m now n door said k u → SameLimits rules m k
+opening_keeps rules m k now n door said u keeps (inl h) = keeps.opens m now door n said k h.0
+opening_keeps rules m k now n door said u keeps (inr h) = elim h.2 [ inl opens ↦ keeps.opens m now door n said k opens | inr lacks ↦ keeps.lacks m n k lacks ]
+
+hearing_keeps : {M N R : Type 0} (rules : Rules M N R) (m k : M) (now id kind count : ℕ) (piece said : List ℕ) (turn : Turn) → KeepsLimits rules
+    → HeardOrLacking (rules.gives m now id piece said k) (rules.lacks m id k) id kind count said turn → SameLimits rules m k
+hearing_keeps rules m k now id kind count piece said turn keeps (inl h) = keeps.gives m now id piece said k h.0
+hearing_keeps rules m k now id kind count piece said turn keeps (inr h) = keeps.lacks m id k h.0
+
+parting_keeps : {M N R : Type 0} (rules : Rules M N R) (m k : M) (s u : Service) (id : ℕ) (said : List ℕ) → KeepsLimits rules → Parting rules m s id said k u → SameLimits rules m k
+parting_keeps rules m k s u id said keeps (inl h) = keeps.lates m s.moment id said k h.1
+parting_keeps rules m k s u id said keeps (inr (inl h)) = λ kind. ap (λ x. rules.limit x kind) h.2.0
+parting_keeps rules m k s u id said keeps (inr (inr h)) = keeps.lacks m id k h.2
+
+lacking_keeps : {M N R : Type 0} (rules : Rules M N R) (m k : M) (s u : Service) (id : ℕ) → KeepsLimits rules → Lacks rules m s id k u → SameLimits rules m k
+lacking_keeps rules m k s u id keeps (inl h) = λ kind. ap (λ x. rules.limit x kind) h.2
+lacking_keeps rules m k s u id keeps (inr (inl h)) = keeps.lacks m id k h.0
+lacking_keeps rules m k s u id keeps (inr (inr h)) = λ kind. ap (λ x. rules.limit x kind) h.0
+
+same_limits : {M N R : Type 0} (rules : Rules M N R) (m k : M) (r q : R) (s u : Service) (act : Act N) (said : List ℕ) → KeepsLimits rules → TurnAllows rules m r s act said k q u → SameLimits rules m k
+same_limits rules m k r q s u (Late n) said keeps t = parting_keeps rules m k s u n said keeps t.2
+same_limits rules m k r q s u (Displaced n) said keeps t = parting_keeps rules m k s u n said keeps t.1
+same_limits rules m k r q s u (Worked note) said keeps t = keeps.works m r s.moment note k q t.0
+same_limits rules m k r q s u (Came n door) said keeps t = opening_keeps rules m k s.moment n door said u keeps t.3
+same_limits rules m k r q s u (Heard n piece) said keeps t = hearing_keeps rules m k s.moment n (client_kind (client_of s n)) t.count piece said u.turn keeps t.goes
+same_limits rules m k r q s u (Noted n note) said keeps t = keeps.steps m r s.moment n note said k q t.0
+same_limits rules m k r q s u (Full n) said keeps t = lacking_keeps rules m k s u n keeps t.1
+same_limits rules m k r q s u (Ended n) said keeps t = keeps.closes m s.moment n k t.0
+same_limits rules m k r q s u (Woke within wakes) said keeps t = silent_keeps rules m k said t.0
+same_limits rules m k r q s u (Timed moment) said keeps t = silent_keeps rules m k said t.0
+same_limits rules m k r q s u (Began wake) said keeps t = silent_keeps rules m k said t.0
+same_limits rules m k r q s u (Resumed n) said keeps t = silent_keeps rules m k said t.0
+same_limits rules m k r q s u (NoneCame door) said keeps t = silent_keeps rules m k said t.0
+same_limits rules m k r q s u (Crowded door) said keeps t = silent_keeps rules m k said t.0
+same_limits rules m k r q s u (Listened door) said keeps t = silent_keeps rules m k said t.0
+same_limits rules m k r q s u (InUse n) said keeps t = silent_keeps rules m k said t.0
+same_limits rules m k r q s u (ReadBlocked n) said keeps t = silent_keeps rules m k said t.0
+same_limits rules m k r q s u (Over n) said keeps t = silent_keeps rules m k said t.0
+same_limits rules m k r q s u (Sent n octets) said keeps t = silent_keeps rules m k said t.0
+same_limits rules m k r q s u (WriteBlocked n) said keeps t = silent_keeps rules m k said t.0
+same_limits rules m k r q s u (Lost n) said keeps t = silent_keeps rules m k said t.0
+same_limits rules m k r q s u (Waits n) said keeps t = silent_keeps rules m k said t.0
+same_limits rules m k r q s u (Again n) said keeps t = silent_keeps rules m k said t.0
+same_limits rules m k r q s u (Shut n) said keeps t = silent_keeps rules m k said t.0
+same_limits rules m k r q s u (Dropped n count) said keeps t = silent_keeps rules m k said t.0
+
 -- ---- how many
 
-record Held {M N R : Type 0} (rules : Rules M N R) (open_kind : ℕ → Option ℕ) (s : Service) : Type 0 where
+record Held (limit : ℕ → ℕ) (open_kind : ℕ → Option ℕ) (s : Service) : Type 0 where
   kept : (id kind : ℕ) → open_kind id ≡ Some kind → IsKept id kind (client_of s id) s.turn
-  few : (kind : ℕ) (ids : List ℕ) → Distinct (λ id. open_kind id ≡ Some kind) ids → length ids ≤ rules.limit kind
+  few : (kind : ℕ) (ids : List ℕ) → Distinct (λ id. open_kind id ≡ Some kind) ids → length ids ≤ limit kind
 
 differ-flips : (a b : ℕ) → is_same_id a b ≡ false → is_same_id b a ≡ false
 differ-flips a b is = go (is_same_id b a) refl
@@ -330,11 +381,12 @@ still_open : (b : Bool) (kind : ℕ) (o : Option ℕ) → cond b None o ≡ Some
 still_open true kind o h = let never : ⊥ = cc in absurd never
 still_open false kind o h = h
 
-few_came : {M N R : Type 0} (rules : Rules M N R) (open_kind : ℕ → Option ℕ) (s : Service) (n door kind : ℕ) (ids : List ℕ) → Held rules open_kind s → MayAccept rules s door
-    → Distinct (λ id. kind_by {N = N} id (open_kind id) (Came n door) ≡ Some kind) ids → length ids ≤ rules.limit kind
-few_came {N = N} rules open_kind s n door kind ids held admits d = go (door == kind) refl
+few_came : {M N R : Type 0} (rules : Rules M N R) (m : M) (limit : ℕ → ℕ) (open_kind : ℕ → Option ℕ) (s : Service) (n door kind : ℕ) (ids : List ℕ)
+    → ((of : ℕ) → rules.limit m of ≡ limit of) → Held limit open_kind s → MayAccept rules m s door
+    → Distinct (λ id. kind_by {N = N} id (open_kind id) (Came n door) ≡ Some kind) ids → length ids ≤ limit kind
+few_came {N = N} rules m limit open_kind s n door kind ids same held admits d = go (door == kind) refl
   where
-    go : (b : Bool) → (door == kind) ≡ b → length ids ≤ rules.limit kind
+    go : (b : Bool) → (door == kind) ≡ b → length ids ≤ limit kind
     go true is =
         let others : Distinct (λ id. is_of kind (client_of s id) ≡ true) (without n ids) =
         weaker (λ id. (kind_by {N = N} id (open_kind id) (Came n door) ≡ Some kind) × (is_same_id id n ≡ false)) (λ id. is_of kind (client_of s id) ≡ true) (without n ids)
@@ -342,38 +394,40 @@ few_came {N = N} rules open_kind s n door kind ids held admits d = go (door == k
         (others_differ (λ id. kind_by {N = N} id (open_kind id) (Came n door) ≡ Some kind) n ids d) in
         let some : length (without n ids) ≤ open_count kind s = no_more kind s.clients.entries (without n ids) others in
         let one : length ids ≤ length (without n ids) + 1 = one_taken_out (λ id. kind_by {N = N} id (open_kind id) (Came n door) ≡ Some kind) n ids d in
-        let place : open_count kind s < rules.limit kind = subst (λ k. open_count k s < rules.limit k) (one_number door kind (unsigned_tied door kind ∙ is)) admits.place in
-        omega (arith, some, one, place)
+        let place : open_count kind s < rules.limit m kind = subst (λ k. open_count k s < rules.limit m k) (one_number door kind (unsigned_tied door kind ∙ is)) admits.place in
+        omega (arith, some, one, place, same kind)
     go false is = held.few kind ids (weaker (λ id. kind_by {N = N} id (open_kind id) (Came n door) ≡ Some kind) (λ id. open_kind id ≡ Some kind) ids (λ id h. other_kind (is_same_id n id) door kind (open_kind id) is h) d)
 
-few_act : {M N R : Type 0} (rules : Rules M N R) (m k : M) (r q : R) (s u : Service) (open_kind : ℕ → Option ℕ) (act : Act N) (said : List ℕ) (kind : ℕ) (ids : List ℕ) → Held rules open_kind s → TurnAllows rules m r s act said k q u
-    → Distinct (λ id. kind_by id (open_kind id) act ≡ Some kind) ids → length ids ≤ rules.limit kind
-few_act rules m k r q s u open_kind (Came n door) said kind ids held t d = few_came rules open_kind s n door kind ids held t.0 d
-few_act {N = N} rules m k r q s u open_kind (Ended n) said kind ids held t d =
+few_act : {M N R : Type 0} (rules : Rules M N R) (m k : M) (r q : R) (s u : Service) (limit : ℕ → ℕ) (open_kind : ℕ → Option ℕ) (act : Act N) (said : List ℕ) (kind : ℕ) (ids : List ℕ)
+    → ((of : ℕ) → rules.limit m of ≡ limit of) → Held limit open_kind s → TurnAllows rules m r s act said k q u
+    → Distinct (λ id. kind_by id (open_kind id) act ≡ Some kind) ids → length ids ≤ limit kind
+few_act rules m k r q s u limit open_kind (Came n door) said kind ids same held t d = few_came rules m limit open_kind s n door kind ids same held t.0 d
+few_act {N = N} rules m k r q s u limit open_kind (Ended n) said kind ids same held t d =
     held.few kind ids (weaker (λ id. kind_by {N = N} id (open_kind id) (Ended n) ≡ Some kind) (λ id. open_kind id ≡ Some kind) ids (λ id h. still_open (is_same_id n id) kind (open_kind id) h) d)
-few_act rules m k r q s u open_kind _ said kind ids held t d = held.few kind ids d
+few_act rules m k r q s u limit open_kind _ said kind ids same held t d = held.few kind ids d
 
-held_on : {M N R : Type 0} (rules : Rules M N R) (m : Moment M N R) (moves : List (Move N)) (n : Moment M N R) (open_kind : ℕ → Option ℕ) → PassesMoves rules m moves n → Held rules open_kind m.service
-    → Held rules (λ id. kind_on id (open_kind id) moves) n.service
-held_on rules m [] n open_kind passes held = subst (λ (k : Moment _ _ _). Held rules open_kind k.service) (sym passes) held
-held_on rules m (move ∷ moves) n open_kind passes held =
-    held_on rules passes.0 moves n (λ id. kind_by id (open_kind id) move.act) passes.4
+held_on : {M N R : Type 0} (rules : Rules M N R) (m : Moment M N R) (moves : List (Move N)) (n : Moment M N R) (limit : ℕ → ℕ) (open_kind : ℕ → Option ℕ) → KeepsLimits rules → PassesMoves rules m moves n
+    → ((of : ℕ) → rules.limit m.machine of ≡ limit of) → Held limit open_kind m.service → Held limit (λ id. kind_on id (open_kind id) moves) n.service
+held_on rules m [] n limit open_kind keeps passes same held = subst (λ (k : Moment _ _ _). Held limit open_kind k.service) (sym passes) held
+held_on rules m (move ∷ moves) n limit open_kind keeps passes same held =
+    let turns = turns_of rules m passes.0 passes.1 move passes.2 passes.3 in
+    held_on rules passes.0 moves n limit (λ id. kind_by id (open_kind id) move.act) keeps passes.4
+    (λ of. same_limits rules m.machine passes.0.machine m.rest passes.0.rest m.service passes.0.service move.act move.said keeps turns of ∙ same of)
     (record {
       kept = λ id kind is. kept_act rules m.machine passes.0.machine m.rest passes.0.rest m.service passes.0.service id kind (open_kind id) move.act move.said
-          (turns_of rules m passes.0 passes.1 move passes.2 passes.3) (talks_of rules m passes.0 passes.1 move id passes.2 passes.3) (held.kept id kind) is;
-      few = λ kind ids d. few_act rules m.machine passes.0.machine m.rest passes.0.rest m.service passes.0.service open_kind move.act move.said kind ids held
-          (turns_of rules m passes.0 passes.1 move passes.2 passes.3) d;
+          turns (talks_of rules m passes.0 passes.1 move id passes.2 passes.3) (held.kept id kind) is;
+      few = λ kind ids d. few_act rules m.machine passes.0.machine m.rest passes.0.rest m.service passes.0.service limit open_kind move.act move.said kind ids same held turns d;
     })
 
 none_yet : (limit kind : ℕ) (ids : List ℕ) → Distinct (λ id. None ≡ Some kind) ids → length ids ≤ limit
 none_yet limit kind [] d = omega arith
 none_yet limit kind (id ∷ ids) d = let is = d.0 in let never : ⊥ = cc in absurd never
 
-pub bounded : {M N R : Type 0} (rules : Rules M N R) → Bounded rules
-bounded rules = λ m n some rest fresh passes kind ids d.
+pub bounded : {M N R : Type 0} (rules : Rules M N R) → KeepsLimits rules → Bounded rules
+bounded rules keeps = λ m n some rest fresh passes kind ids d.
     let first = cut rules m some rest n passes in
-    let held = held_on rules m some first.0 (λ id. None) first.1 (record {
+    let held = held_on rules m some first.0 (rules.limit m.machine) (λ id. None) keeps first.1 (λ of. refl) (record {
       kept = λ id of is. let never : ⊥ = cc in absurd never;
-      few = λ of others differ. none_yet (rules.limit of) of others differ;
+      few = λ of others differ. none_yet (rules.limit m.machine of) of others differ;
     }) in
     held.few kind ids d

@@ -1,5 +1,5 @@
 -- Right cases of the definitions, and near misses.
-use Rattle.std.proofs.Common.{◌≡◌, ℕ, ◌-◌, ◌^◌, true, false, if◌then◌else◌, List, [], ◌∷◌, Option, Some, None, refl, arith}
+use Rattle.std.proofs.Common.{◌≡◌, ℕ, ◌+◌, ◌-◌, ◌^◌, true, false, if◌then◌else◌, List, [], ◌∷◌, Option, Some, None, refl, arith}
 use Rattle.net_loop.specs.declared.act.Act.TheVariants.{Woke, Began, Timed, Waits, Resumed, Came, Sent, Noted, Ended}
 use Rattle.net_loop.specs.declared.machine.Claim.{Claim}
 use Rattle.net_loop.specs.declared.machine.Want.TheVariants as want
@@ -11,7 +11,7 @@ use Rattle.net_loop.specs.declared.service.Phase.TheVariants as phase
 use Rattle.net_loop.specs.declared.turn.Task.TheVariants.{Send, Hear, Step, Rest, HangUp, Drain, End}
 use Rattle.net_loop.specs.Moves.{ReadyAfter, WaitingAfter, MomentAfter, SinceAfter, LeavesRest}
 use Rattle.net_loop.specs.Life.{Move, AreOpen}
-use Rattle.net_loop.specs.Rules.{Rules}
+use Rattle.net_loop.specs.Rules.{Rules, KeepsLimits}
 use Rattle.net_loop.specs.Talk.{shut_from, ClientSends, ClientTalks, is_late_at, newcomer, gathers, task, task_by}
 use Rattle.net_loop.proofs.TalkLemmas.{hear_quiet}
 use Rattle.net_loop.specs.Room.{goes_before, best_from, best_number, may_go}
@@ -217,6 +217,42 @@ not_behind_its_end told = let is = told.0 in cc
 
 not_another_kind : AreOpen 8 (came 1 7 ∷ []) (1 ∷ []) → ⊥
 not_another_kind told = let is = told.0 in cc
+
+-- ---- how many may be
+
+-- a machine that counts who came, by limits of its own
+abbrev counted : (ℕ → ℕ → ℕ) → Rules ℕ ℕ ℕ
+counted limit = record {
+  limit = limit;
+  claim = λ m now id. None;
+  wants = λ m id. want.More;
+  has_work = λ m now. false;
+  patience = λ m. 0;
+  deadline = λ m id. 0;
+  opens = λ m now kind id said n. n ≡ m + 1;
+  gives = λ m now id piece said n. n ≡ m;
+  steps = λ m r now id note said n q. n ≡ m;
+  lates = λ m now id said n. n ≡ m;
+  works = λ m r now note n q. n ≡ m;
+  lacks = λ m id n. n ≡ m;
+  closes = λ m now id n. n ≡ m;
+}
+
+-- two of a kind may be, however many came
+two_may_be : KeepsLimits (counted (λ m kind. 2))
+two_may_be = record {
+  opens = λ m now kind id said n is of. refl;
+  gives = λ m now id piece said n is of. refl;
+  steps = λ m r now id note said n q is of. refl;
+  lates = λ m now id said n is of. refl;
+  works = λ m r now note n q is of. refl;
+  lacks = λ m id n is of. refl;
+  closes = λ m now id n is of. refl;
+}
+
+-- a near miss: who comes takes one away
+not_one_less_for_each : KeepsLimits (counted (λ m kind. 9 - m)) → ⊥
+not_one_less_for_each keeps = let is : 8 ≡ 9 = keeps.opens 0 0 7 1 [] 1 refl 7 in omega (arith, is)
 
 -- ---- one connection
 

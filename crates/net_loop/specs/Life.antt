@@ -156,11 +156,11 @@ Distinct Is (id ∷ ids) = Is id × (list_any (λ other. is_same_id other id) id
 abbrev pub AreOpen : {N : Type 0} → ℕ → List (Move N) → List ℕ → Type 0
 AreOpen kind moves ids = Distinct (λ id. kind_on id None moves ≡ Some kind) ids
 
--- at each prefix of the acts no more connections of a kind are open than the machine's limit says
+-- at each prefix of the acts no more connections of a kind are open than the machine's limit said when the life began
 abbrev pub Bounded : {M N R : Type 0} → Rules M N R → Type 0
 Bounded {M = M} {N = N} {R = R} rules =
     (m n : Moment M N R) (some rest : List (Move N)) → Fresh m.service → PassesMoves rules m (some ++ rest) n
-    → (kind : ℕ) (ids : List ℕ) → AreOpen kind some ids → length ids ≤ rules.limit kind
+    → (kind : ℕ) (ids : List ℕ) → AreOpen kind some ids → length ids ≤ rules.limit m.machine kind
 
 -- ---- what waits told
 

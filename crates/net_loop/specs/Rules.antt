@@ -7,12 +7,12 @@ use Rattle.net_loop.specs.declared.machine.Want.{Want}
 use Rattle.net_loop.specs.Told.{Telling}
 
 -- of a machine M that notes N and acts on R, all of the outside that is neither sockets nor clock: how many connections of a
--- kind may be open; of a connection by its number whether it may make room at a moment, when that many are, what it wants,
+-- kind may be open, which no happening changes (`KeepsLimits`); of a connection by its number whether it may make room at a moment, when that many are, what it wants,
 -- and the moment by which it is late; whether it has work of its own at a moment, and for how long it may rest. Then, for each
 -- happening (at a moment, if one comes first), what it says to that connection and the machine after it; a step and work of its own
 -- may change R. A rule may allow more than one. `lates`: it was late or made room, and ends. `lacks`: memory was lacking for it
 pub record Rules (M N R : Type 0) : Type 1 where
-  pub limit : ℕ → ℕ
+  pub limit : M → ℕ → ℕ
   pub claim : M → ℕ → ℕ → Option Claim
   pub wants : M → ℕ → Want
   pub has_work : M → ℕ → Bool
@@ -25,6 +25,20 @@ pub record Rules (M N R : Type 0) : Type 1 where
   pub works : M → R → ℕ → N → M → R → Type 0
   pub lacks : M → ℕ → M → Type 0
   pub closes : M → ℕ → ℕ → M → Type 0
+
+-- as many connections of each kind may be open as before
+abbrev pub SameLimits : {M N R : Type 0} → Rules M N R → M → M → Type 0
+SameLimits rules m n = (kind : ℕ) → rules.limit n kind ≡ rules.limit m kind
+
+-- whatever happens to a machine, its limits are those that it had: so they are fixed when a life begins
+pub record KeepsLimits {M N R : Type 0} (rules : Rules M N R) : Type 0 where
+  pub opens : (m : M) (now kind id : ℕ) (said : List ℕ) (n : M) → rules.opens m now kind id said n → SameLimits rules m n
+  pub gives : (m : M) (now id : ℕ) (piece said : List ℕ) (n : M) → rules.gives m now id piece said n → SameLimits rules m n
+  pub steps : (m : M) (r : R) (now id : ℕ) (note : N) (said : List ℕ) (n : M) (q : R) → rules.steps m r now id note said n q → SameLimits rules m n
+  pub lates : (m : M) (now id : ℕ) (said : List ℕ) (n : M) → rules.lates m now id said n → SameLimits rules m n
+  pub works : (m : M) (r : R) (now : ℕ) (note : N) (n : M) (q : R) → rules.works m r now note n q → SameLimits rules m n
+  pub lacks : (m : M) (id : ℕ) (n : M) → rules.lacks m id n → SameLimits rules m n
+  pub closes : (m : M) (now id : ℕ) (n : M) → rules.closes m now id n → SameLimits rules m n
 
 -- a machine continued with a connection, and noted it in one act
 pub record MachineSteps {M N R : Type 0} (rules : Rules M N R) (seen : List (Act N)) (m : M) (r : R) (now id : ℕ) (said : List ℕ)

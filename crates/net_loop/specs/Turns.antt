@@ -26,8 +26,8 @@ abbrev pub open_count : ℕ → Service → ℕ
 open_count kind s = length (filter (λ (c : Client). c.kind == kind) (tree.values s.clients))
 
 -- one more of that kind may come
-abbrev pub HasPlace : {M N R : Type 0} → Rules M N R → ℕ → Service → Type 0
-HasPlace rules kind s = open_count kind s < rules.limit kind
+abbrev pub HasPlace : {M N R : Type 0} → Rules M N R → M → ℕ → Service → Type 0
+HasPlace rules m kind s = open_count kind s < rules.limit m kind
 
 -- it is the turn of this connection, and that is to be done on it
 pub record Tasks {M N R : Type 0} (rules : Rules M N R) (m : M) (s : Service) (id count : ℕ) (wanted : Task) : Type 0 where
@@ -87,16 +87,16 @@ abbrev pub MayWait : {M N R : Type 0} → Rules M N R → M → Service → Type
 MayWait rules m s = (s.turn ≡ Rested) ⊎ (Calm rules m s × (rules.has_work m s.moment ≡ false))
 
 -- at the listener: one may come, under a number that is free
-pub record MayAccept {M N R : Type 0} (rules : Rules M N R) (s : Service) (kind : ℕ) : Type 0 where
+pub record MayAccept {M N R : Type 0} (rules : Rules M N R) (m : M) (s : Service) (kind : ℕ) : Type 0 where
   pub knocked : Bool
   pub door : s.turn ≡ Accepting kind knocked
-  pub place : HasPlace rules kind s
+  pub place : HasPlace rules m kind s
   pub free : client_of s s.next ≡ None
 
 -- at the listener: no more may come
-pub record NoPlace {M N R : Type 0} (rules : Rules M N R) (s : Service) (kind : ℕ) (knocked : Bool) : Type 0 where
+pub record NoPlace {M N R : Type 0} (rules : Rules M N R) (m : M) (s : Service) (kind : ℕ) (knocked : Bool) : Type 0 where
   pub door : s.turn ≡ Accepting kind knocked
-  pub full : ¬ HasPlace rules kind s
+  pub full : ¬ HasPlace rules m kind s
 
 -- the next number
 abbrev pub after_number : ℕ → ℕ
@@ -236,11 +236,11 @@ pub record MayWork {M N R : Type 0} (rules : Rules M N R) (m : M) (s : Service) 
   pub work : rules.has_work m s.moment ≡ true
 
 -- the next number is that of a connection, and is passed over
-pub record Passed {M N R : Type 0} (rules : Rules M N R) (s : Service) (id : ℕ) (t : Service) : Type 0 where
+pub record Passed {M N R : Type 0} (rules : Rules M N R) (m : M) (s : Service) (id : ℕ) (t : Service) : Type 0 where
   pub kind : ℕ
   pub knocked : Bool
   pub door : s.turn ≡ Accepting kind knocked
-  pub place : HasPlace rules kind s
+  pub place : HasPlace rules m kind s
   pub number : id ≡ s.next
   pub taken : IsSome (client_of s id)
   pub next : t.next ≡ after_number id
@@ -249,7 +249,7 @@ pub record Passed {M N R : Type 0} (rules : Rules M N R) (s : Service) (id : ℕ
 -- there is no place, and nobody makes room
 pub record Crowds {M N R : Type 0} (rules : Rules M N R) (m : M) (s : Service) (kind : ℕ) : Type 0 where
   pub knocked : Bool
-  pub none : NoPlace rules s kind knocked
+  pub none : NoPlace rules m s kind knocked
   pub nobody : makes_room rules m s kind ≡ None
 
 -- the acts that a turn allows, what the machine says at them and becomes, and whose turn follows
@@ -260,12 +260,12 @@ TurnAllows rules m r s (Late id) said n q t = (s.turn ≡ Sweep) × (first_late 
 TurnAllows rules m r s (Began wake) said n q t = Silent m said n × RestsOrCalm rules m s × (t.turn ≡ turn_for_wake wake s)
 TurnAllows rules m r s (Resumed id) said n q t = Silent m said n × RestsOrCalm rules m s × ResumesFirst rules m s id × (t.turn ≡ turn_at id (client_of s id))
 TurnAllows rules m r s (Worked note) said n q t = rules.works m r s.moment note n q × (said ≡ []) × MayWork rules m s × (t.turn ≡ Rested)
-TurnAllows rules m r s (Came id kind) said n q t = MayAccept rules s kind × (id ≡ s.next) × (t.next ≡ after_number id) × ServiceOpens rules m s.moment id kind said n t
-TurnAllows rules m r s (NoneCame kind) said n q t = Silent m said n × MayAccept rules s kind × (t.turn ≡ Free)
+TurnAllows rules m r s (Came id kind) said n q t = MayAccept rules m s kind × (id ≡ s.next) × (t.next ≡ after_number id) × ServiceOpens rules m s.moment id kind said n t
+TurnAllows rules m r s (NoneCame kind) said n q t = Silent m said n × MayAccept rules m s kind × (t.turn ≡ Free)
 TurnAllows rules m r s (Crowded kind) said n q t = Silent m said n × Crowds rules m s kind × (t.turn ≡ Free)
-TurnAllows rules m r s (Displaced id) said n q t = ((kind : ℕ) × NoPlace rules s kind true × (makes_room rules m s kind ≡ Some id)) × Parting rules m s id said n t
-TurnAllows rules m r s (Listened kind) said n q t = Silent m said n × NoPlace rules s kind false × IsSome (makes_room rules m s kind) × (t.turn ≡ Free)
-TurnAllows rules m r s (InUse id) said n q t = Silent m said n × Passed rules s id t
+TurnAllows rules m r s (Displaced id) said n q t = ((kind : ℕ) × NoPlace rules m s kind true × (makes_room rules m s kind ≡ Some id)) × Parting rules m s id said n t
+TurnAllows rules m r s (Listened kind) said n q t = Silent m said n × NoPlace rules m s kind false × IsSome (makes_room rules m s kind) × (t.turn ≡ Free)
+TurnAllows rules m r s (InUse id) said n q t = Silent m said n × Passed rules m s id t
 TurnAllows rules m r s (Heard id piece) said n q t = ServiceHears rules m s id piece said n t
 TurnAllows rules m r s (ReadBlocked id) said n q t = Silent m said n × ReadEnds rules m s id Free t.turn
 TurnAllows rules m r s (Over id) said n q t = Silent m said n × ReadEnds rules m s id (Leaving id (client_kind (client_of s id))) t.turn

@@ -66,7 +66,7 @@ fn crowd_once<O: Sockets + Clock, M: Machine<O>>(
     kind: u32,
     knocked: bool,
 )
-    requires { NoPlace M.rules service.old kind knocked }
+    requires { NoPlace M.rules machine.old service.old kind knocked }
     ensures { LoopActs O.told M.rules (loop_state outside.old machine.old service.old) (loop_state outside.new machine.new service.new) }
 {
     let Some(id) = find_room(machine, service, kind) else {
@@ -89,7 +89,7 @@ fn displace_once<O: Sockets + Clock, M: Machine<O>>(
     kind: u32,
     id: u32,
 )
-    requires none { NoPlace M.rules service.old kind true }
+    requires none { NoPlace M.rules machine.old service.old kind true }
     requires one { makes_room M.rules machine.old service.old kind ≡ Some id }
     ensures { LoopActs O.told M.rules (loop_state outside.old machine.old service.old) (loop_state outside.new machine.new service.new) }
 {
@@ -207,7 +207,7 @@ fn accept_once<O: Sockets + Clock, M: Machine<O>>(
     kind: u32,
     id: u32,
 )
-    requires admits { MayAccept M.rules service.old kind }
+    requires admits { MayAccept M.rules machine.old service.old kind }
     requires next { id ≡ service.old.next }
     ensures { LoopActs O.told M.rules (loop_state outside.old machine.old service.old) (loop_state outside.new machine.new service.new) }
 {

@@ -15,7 +15,7 @@ pub fn apart<O: Outside, M: Machine<O>>()
     ensures { Apart M.rules }
 {}
 
-/// At each prefix of the acts no more connections of a kind are open than `Machine::limit` says.
+/// At each prefix of the acts no more connections of a kind are open than `Machine::limit` said when the life began.
 pub fn bounded<O: Outside, M: Machine<O>>()
     ensures { Bounded M.rules }
 {}

@@ -1,6 +1,6 @@
 //! What is served.
 ghost use Rattle.std.specs.Prelude.{◌≡◌, [], OnOk, OnErr};
-ghost use Rattle.net_loop.specs.Rules.{Rules, StepsIf, WorksIf, IdlesIf, machine_state, step_at};
+ghost use Rattle.net_loop.specs.Rules.{Rules, KeepsLimits, StepsIf, WorksIf, IdlesIf, machine_state, step_at};
 ghost use Rattle.net_loop.specs.Told.{ToldBefore};
 
 use crate::outside::Outside;
@@ -39,9 +39,9 @@ pub struct Claim {
 pub trait Machine<O: Outside> {
     ghost rules: { Rules Self O.Note O.Rest };
 
-    /// How many connections of that kind may be open at once.
+    /// How many connections of that kind may be open at once. No happening changes it (`keeps_limits`).
     fn limit(&self, kind: u32) -> usize
-        ensures { result ≡ rules.limit kind };
+        ensures { result ≡ rules.limit self.now kind };
 
     /// Whether a connection may make room at that moment for one of its kind that knocks, when as many are open as may be, and before
     /// which others it does. It is asked again for each that knocks: if one that has just come may go, those who knock push each other out.
@@ -120,4 +120,6 @@ pub trait Machine<O: Outside> {
     /// A connection is gone.
     fn close(&mut self, now: u64, id: u32)
         ensures { rules.closes self.old now id self.new };
+
+    ghost keeps_limits: { KeepsLimits rules };
 }

@@ -1,11 +1,12 @@
 -- Right cases of the definitions, and near misses.
-use Rattle.std.proofs.Common.{◌≡◌, ◌==◌, ℕ, Bool, true, false, List, [], ◌∷◌, refl}
+use Rattle.std.proofs.Common.{◌≡◌, ◌==◌, ℕ, Bool, true, false, List, [], ◌∷◌, filter, Option, Some, refl}
 use Rattle.net_loop.specs.declared.outcome.Wake.{Wake}
 use Rattle.net_loop.specs.declared.outcome.Wake.TheVariants.{Knock, Ready}
 use Rattle.net_shares.specs.declared.time_account.TimeAccount.TheVariants.{Unauthenticated, Senders, User}
 use Rattle.net_shares.specs.declared.share.Share.{Share}
 use Rattle.net_shares.specs.Shares.{is_same_account, spent_in, with_spent, spent_by, with_share}
-use Rattle.net_shares.specs.Order.{all_wakes, served, waiting}
+use Rattle.net_shares.specs.Graces.{earned_by, paid_by, may_wait}
+use Rattle.net_shares.specs.Order.{all_wakes, early, next_late, served, waiting}
 
 -- one that had 40 ms in the third slot and 20 in the one before
 abbrev share : Share
@@ -42,25 +43,38 @@ abbrev second : Wake → Bool
 second (Ready id) = id == 2
 second (Knock kind) = false
 
-goes_behind : served second (Ready 1 ∷ Ready 2 ∷ Ready 3 ∷ []) ≡ Ready 1 ∷ Ready 3 ∷ []
+goes_behind : early second (Ready 1 ∷ Ready 2 ∷ Ready 3 ∷ []) ≡ Ready 1 ∷ Ready 3 ∷ []
 goes_behind = refl
 
-waits_then : waiting second (Ready 1 ∷ Ready 2 ∷ Ready 3 ∷ []) ≡ Ready 2 ∷ []
+waits_then : filter second (Ready 1 ∷ Ready 2 ∷ Ready 3 ∷ []) ≡ Ready 2 ∷ []
 waits_then = refl
 
--- where there is nobody else it goes on
-goes_alone : served second (Ready 2 ∷ []) ≡ Ready 2 ∷ []
-goes_alone = refl
+-- of two that had too much the first goes on, and the other waits
+abbrev none_heavy : Wake → Bool
+none_heavy wake = false
 
--- a near miss: of two that had too much one goes on, and the other waits
-abbrev each : Wake → Bool
-each wake = true
-
-one_goes : served each (Ready 2 ∷ Ready 4 ∷ []) ≡ Ready 2 ∷ []
+one_goes : next_late none_heavy (Ready 2 ∷ Ready 4 ∷ []) ≡ Some (Ready 2)
 one_goes = refl
 
-the_other_waits : waiting each (Ready 2 ∷ Ready 4 ∷ []) ≡ Ready 4 ∷ []
+goes_alone : served [] (Some (Ready 2)) ≡ Ready 2 ∷ []
+goes_alone = refl
+
+the_other_waits : waiting [] (Some (Ready 2)) (Ready 2 ∷ Ready 4 ∷ []) ≡ Ready 4 ∷ []
 the_other_waits = refl
+
+-- if the first had far too much, the other goes; and the first, if there is none
+the_other_goes : next_late second (Ready 2 ∷ Ready 4 ∷ []) ≡ Some (Ready 4)
+the_other_goes = refl
+
+all_heavy : next_late second (Ready 2 ∷ []) ≡ Some (Ready 2)
+all_heavy = refl
+
+-- near misses: where others go on, all of them keep waiting
+others_go : served (Ready 1 ∷ []) (Some (Ready 2)) ≡ Ready 1 ∷ []
+others_go = refl
+
+keeps_waiting : waiting (Ready 1 ∷ []) (Some (Ready 2)) (Ready 2 ∷ []) ≡ Ready 2 ∷ []
+keeps_waiting = refl
 
 -- one of which a wait tells again is there once
 told_once : all_wakes (Ready 2 ∷ []) (Ready 2 ∷ Ready 3 ∷ []) ≡ Ready 2 ∷ Ready 3 ∷ []
@@ -79,3 +93,21 @@ known_then = refl
 -- a near miss: another account of a name that begins so had nothing
 not_by_its_beginning : with_share (User (97 ∷ 98 ∷ [])) 3 5 (share ∷ []) ≡ share ∷ record { account = User (97 ∷ 98 ∷ []); slot = 3; spent = 5; before = 0 } ∷ []
 not_by_its_beginning = refl
+
+-- an act of 20 ms pays five waits of a millisecond, or one of five, and no more
+pays_five : paid_by 5000 (earned_by 20000 (record { earned = 0 })) ≡ record { earned = 0 }
+pays_five = refl
+
+may_wait_then : may_wait 1999 (record { earned = 20000 }) ≡ true
+may_wait_then = refl
+
+-- near misses: two milliseconds after who used little was served, and where less is earned
+not_later : may_wait 2000 (record { earned = 200000 }) ≡ false
+not_later = refl
+
+not_unpaid : may_wait 0 (record { earned = 19999 }) ≡ false
+not_unpaid = refl
+
+-- however long acts took, no more is kept than pays 50 ms
+no_more : earned_by 1000000 (record { earned = 7 }) ≡ record { earned = 200000 }
+no_more = refl

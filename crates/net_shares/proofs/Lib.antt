@@ -1,2 +1,3 @@
 mod Examples
 pub mod FirstLemmas
+pub mod GraceLemmas

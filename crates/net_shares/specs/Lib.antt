@@ -1,2 +1,3 @@
+pub mod Graces
 pub mod Order
 pub mod Shares

@@ -1,9 +1,9 @@
 //! Who waits after the others.
-ghost use Rattle.std.specs.Prelude.{◌≡◌, ◌/◌, [], not, filter, true, false, Some, IfOk, OnOk, OnErr, IsTrue, option_copied};
+ghost use Rattle.std.specs.Prelude.{◌≡◌, ◌/◌, [], not, filter, find, true, false, Some, IfOk, OnOk, OnErr, IsTrue, is_some, option_copied};
 ghost use Rattle.std.specs.Ordering.{nat_cmp};
 ghost use Rattle.std.specs.BTreeMap as tree;
 ghost use Rattle.net_shares.specs.Order as o;
-ghost use Rattle.net_shares.specs.Order.{Orders, Unordered};
+ghost use Rattle.net_shares.specs.Order.{PutsOffLate, LetsOneGo, Unordered};
 ghost use Rattle.net_shares.specs.Shares as s;
 
 use crate::share::Shares;
@@ -15,6 +15,9 @@ use std::mem::swap;
 
 /// Connections of an account that used more than this many microseconds recently wait after all others.
 const MAX_SPENT: u64 = 50_000;
+
+/// Of these, connections of an account that used more than this many microseconds wait after the others.
+const MAX_LATE: u64 = 200_000;
 
 /// How much time accounts used, for which account each connection had its last act, and the wakes of those that wait after the
 /// others.
@@ -94,22 +97,97 @@ impl Scheduler {
         !self.put_off.is_empty()
     }
 
-    /// Chooses, of the new wakes in `ready` and of those that waited, who goes on now: all whose accounts used little time recently, or if
-    /// there are none, the first of the others. All others wait for the next call.
+    /// Whether the account of a connection used too much time recently, if it is known.
+    pub fn is_late(&self, id: u32, now: u64) -> bool
+        ensures { result ≡ o.late_at self.now now id }
+    {
+        is_late(&self.shares, &self.accounts, now, &Wake::Ready(id))
+    }
+
+    /// Of the new wakes in `ready` and of those that waited, all go on whose accounts used little time recently; all others wait.
     ///
     /// Lack of memory is the only error; then accounts aren't compared: either all go on, or only the new ones
     /// while the others keep waiting.
-    pub fn order(&mut self, now: u64, ready: &mut VecDeque<Wake>) -> Result<(), AllocError>
-        ensures ok { OnOk result (Orders now self.old ready.old.items self.new ready.new.items) }
+    pub fn put_off_late(&mut self, now: u64, ready: &mut VecDeque<Wake>) -> Result<(), AllocError>
+        ensures ok { OnOk result (PutsOffLate now self.old ready.old.items self.new ready.new.items) }
         ensures err { OnErr result (Unordered self.old.put_off.items ready.old.items self.new.put_off.items ready.new.items) }
     {
         if !join(&mut self.put_off, ready) {
             return Err(AllocError);
         }
-        let mut late = late_of(&self.shares, &self.accounts, now, ready)?;
-        part(&self.shares, &self.accounts, now, ready, &mut late);
+        let late = late_of(&self.shares, &self.accounts, now, ready)?;
+        leave_early(&self.shares, &self.accounts, now, ready);
         self.put_off = late;
         Ok(())
+    }
+
+    /// Whether one waits whose account didn't use far too much time.
+    pub fn has_lighter(&self, now: u64) -> bool
+        ensures { result ≡ is_some (find (λ wake. not (o.heavy_in self.now now wake)) self.now.put_off.items) }
+    {
+        self.first_not_heavy(now).is_some()
+    }
+
+    /// If nobody goes on, one of those that wait does: the first whose account didn't use far too much time, or if there is none, the first.
+    ///
+    /// Lack of memory is the only error; nothing changes then.
+    pub fn let_one_go(&mut self, now: u64, ready: &mut VecDeque<Wake>) -> Result<(), AllocError>
+        ensures ok { OnOk result (LetsOneGo now self.old ready.old.items self.new ready.new.items) }
+        ensures err { OnErr result ((self.new ≡ self.old) × (ready.new.items ≡ ready.old.items)) }
+    {
+        if !ready.is_empty() {
+            return Ok(());
+        }
+        let Some(next) = self.next_late(now) else {
+            return Ok(());
+        };
+        if ready.push_back(next).is_err() {
+            return Err(AllocError);
+        }
+        leave_one(&mut self.put_off, next);
+        Ok(())
+    }
+
+    /// Who goes on of those that wait.
+    fn next_late(&self, now: u64) -> Option<Wake>
+        ensures { result ≡ o.next_late (o.heavy_in self.now now) self.now.put_off.items }
+    {
+        match self.first_not_heavy(now) {
+            Some(wake) => Some(*wake),
+            None => match self.put_off.front() {
+                Some(wake) => Some(*wake),
+                None => None,
+            },
+        }
+    }
+
+    /// The first of those that wait whose account didn't use far too much time.
+    fn first_not_heavy(&self, now: u64) -> Option<&Wake>
+        ensures { option_copied result ≡ find (λ wake. not (o.heavy_in self.now now wake)) self.now.put_off.items }
+    {
+        self.put_off
+            .iter()
+            .find(|wake| !is_heavy(&self.shares, &self.accounts, now, *wake))
+    }
+}
+
+/// Leaves out one of those that wait.
+fn leave_one(waited: &mut VecDeque<Wake>, one: Wake)
+    ensures { waited.new.items ≡ filter (λ other. not (o.same_wake other one)) waited.old.items }
+{
+    waited.retain(|other| !is_same(*other, one));
+}
+
+/// Whether the wake is of a connection whose account used far too much time recently.
+fn is_heavy(shares: &Shares, accounts: &BTreeMap<u32, TimeAccount>, now: u64, wake: &Wake) -> bool
+    ensures { result ≡ o.is_heavy_wake shares.now.entries.items accounts.now now wake.now }
+{
+    match wake {
+        Wake::Ready(id) => match accounts.get(id) {
+            Some(account) => shares.spent(account, now) > MAX_LATE,
+            None => false,
+        },
+        Wake::Knock(_) => false,
     }
 }
 
@@ -152,26 +230,6 @@ fn is_same(wake: Wake, other: Wake) -> bool
     }
 }
 
-/// Of all, those go on that aren't late; if all are late, the first of them.
-fn part(
-    shares: &Shares,
-    accounts: &BTreeMap<u32, TimeAccount>,
-    now: u64,
-    all: &mut VecDeque<Wake>,
-    late: &mut VecDeque<Wake>,
-)
-    requires { late.old.items ≡ filter (o.is_late_wake shares.now.entries.items accounts.now now) all.old.items }
-    ensures served { all.new.items ≡ o.served (o.is_late_wake shares.now.entries.items accounts.now now) all.old.items }
-    ensures waiting { late.new.items ≡ o.waiting (o.is_late_wake shares.now.entries.items accounts.now now) all.old.items }
-{
-    if late.len() == all.len() {
-        all.truncate(1);
-        let _ = late.pop_front();
-    } else {
-        leave_early(shares, accounts, now, all);
-    }
-}
-
 /// Keeps those that aren't late.
 fn leave_early(
     shares: &Shares,
@@ -179,7 +237,7 @@ fn leave_early(
     now: u64,
     wakes: &mut VecDeque<Wake>,
 )
-    ensures { wakes.new.items ≡ filter (λ wake. not (o.is_late_wake shares.now.entries.items accounts.now now wake)) wakes.old.items }
+    ensures { wakes.new.items ≡ o.early (o.is_late_wake shares.now.entries.items accounts.now now) wakes.old.items }
 {
     wakes.retain(|wake| !is_late(shares, accounts, now, wake));
 }

@@ -1,5 +1,5 @@
 -- The definitions at a few mails: what they fit, and what is near it that they don't.
-use Rattle.std.proofs.Common.{◌≡◌, lit<, ℕ, List, true, false, Some, None, inl, inr, [], ◌∷◌, ◌++◌, codes, decimal, refl, arith, pos, neg_ℤ, rules}
+use Rattle.std.proofs.Common.{◌≡◌, ◌||◌, lit<, ℕ, Bool, List, true, false, Some, None, inl, inr, [], ◌∷◌, ◌++◌, codes, decimal, refl, ap, arith, pos, neg_ℤ, rules}
 use Rattle.std.proofs.lemmas.Int.{ints}
 use Rattle.sieve_syntax.specs.declared.tree.checks.Matching.TheVariants.{Is, Contains, Matches, Value, Count}
 use Rattle.sieve_syntax.specs.declared.tree.checks.Relation.TheVariants as R
@@ -18,6 +18,8 @@ use Rattle.sieve_exec.specs.Matches.{matches_key, matches_some}
 use Rattle.sieve_exec.specs.Counts.{fields_counted, envelope_counted}
 use Rattle.sieve_exec.specs.Parts.{CutsAtFirst, IsAddressPart, address_part_of, Cuts, CutsAtLast, IsEnvelopePart, envelope_part_of}
 use Rattle.sieve_exec.specs.FlagKeys.{flag_keys}
+use Rattle.sieve_exec.specs.Images.{text_image, has_image, AreApart, AnswerFor}
+use Rattle.sieve_exec.specs.Ready.{is_looked_up}
 use Rattle.sieve_exec.specs.Holding.{IsBeyond, IsEnvelopeAddress, SomeAddress}
 use Rattle.sieve_exec.specs.Truth.{flag_holds}
 
@@ -207,3 +209,41 @@ flags_counted = refl
 -- where there are none, no key is in one, not even the empty one
 no_flags : flag_holds [] (record { comparator = Octet; matching = Contains; keys = [] ∷ [] }) ≡ false
 no_flags = refl
+
+-- ---- lists that are asked once
+
+-- names that differ in case have one image, and keys by i;octet don't
+image_of_case : text_image AsciiCasemap (codes "To") ≡ text_image AsciiCasemap (codes "tO")
+image_of_case = refl
+
+image_as_it_stands : text_image Octet (codes "To") ≡ codes "To"
+image_as_it_stands = refl
+
+-- a name is there in another case, and not with an octet more
+name_there : has_image AsciiCasemap (codes "to" ∷ []) (text_image AsciiCasemap (codes "TO")) ≡ true
+name_there = refl
+
+name_longer : has_image AsciiCasemap (codes "to" ∷ []) (text_image AsciiCasemap (codes "too")) ≡ false
+name_longer = refl
+
+-- two names are apart, and one in two cases isn't
+names_apart : AreApart AsciiCasemap (codes "to" ∷ codes "too" ∷ [])
+names_apart = (refl, (refl, tt))
+
+one_name : AreApart AsciiCasemap (codes "to" ∷ codes "TO" ∷ []) → ⊥
+one_name apart = let no : true ≡ false = apart.0 in absurd (cc no)
+
+-- one name answers for itself in another case, and no name for none
+one_answers : AnswerFor AsciiCasemap (codes "to" ∷ codes "TO" ∷ []) (codes "to" ∷ [])
+one_answers test goes = twice (test (codes "to")) (test (codes "TO")) (goes (codes "to") (codes "TO") refl)
+  where
+    twice : (one other : Bool) → one ≡ other → (one || false) ≡ (one || (other || false))
+    twice true other same = refl
+    twice false other same = ap (λ b. b || false) same
+
+none_answers : AnswerFor AsciiCasemap (codes "to" ∷ []) [] → ⊥
+none_answers answer = let no : false ≡ true = answer (λ text. true) (λ one other same. refl) in absurd (cc no)
+
+-- keys of `:is` are looked up, but not where numbers are compared, nor where a value has to be searched
+looked_up_by : (is_looked_up AsciiCasemap Is ≡ true) × (is_looked_up AsciiNumeric Is ≡ false) × (is_looked_up Octet Contains ≡ false)
+looked_up_by = (refl, refl, refl)

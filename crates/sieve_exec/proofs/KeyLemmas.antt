@@ -1,6 +1,6 @@
 -- Values asked key by key, or keys value by value.
-use Rattle.std.proofs.Common.{◌≡◌, ◌↔◌, IsTrue, ℕ, Bool, true, false, ◌||◌, length, slice_index, List, [], ◌∷◌, Option, Some, None, refl, sym, ap, ◌∙◌}
-use Rattle.std.specs.List.{list_any}
+use Rattle.std.proofs.Common.{◌≡◌, ◌↔◌, IsTrue, ℕ, Bool, true, false, ◌||◌, length, slice_index, List, [], ◌∷◌, map, Option, Some, None, refl, sym, ap, ◌∙◌}
+use Rattle.std.specs.List.{list_any, filter_map, cons_option}
 use Rattle.sieve_syntax.specs.declared.tree.checks.Collation.{Collation}
 use Rattle.sieve_syntax.specs.declared.tree.checks.Matching.{Matching}
 use Rattle.std.specs.Char.{to_ascii_uppercase}
@@ -11,7 +11,7 @@ use Rattle.sieve_match.specs.Search.{fits_key}
 use Rattle.sieve_match.specs.declared.masks.Masks.{Masks}
 use Rattle.sieve_syntax.specs.declared.tree.checks.Collation.TheVariants.{Octet, AsciiCasemap, AsciiNumeric}
 use Rattle.sieve_syntax.specs.declared.tree.checks.Matching.TheVariants.{Is, Contains, Matches, Value, Count}
-use Rattle.sieve_exec.specs.Matches.{matches_key}
+use Rattle.sieve_exec.specs.Matches.{matches_key, matches_some}
 use Rattle.sieve_exec.specs.Ready.{IsReady, some_passes}
 use Rattle.sieve_exec.proofs.MatchLemmas.{image_decides}
 use Rattle.sieve_exec.specs.Truth.{part_matches}
@@ -35,11 +35,24 @@ pub swapped : {X Y : Type 0} (test : X → Y → Bool) (xs : List X) (ys : List 
 swapped test [] ys = sym (none_pass ys)
 swapped test (x ∷ xs) ys = ap (λ b. list_any (λ y. test x y) ys || b) (swapped test xs ys) ∙ sym (any_or (λ y. test x y) (λ y. list_any (λ z. test z y) xs) ys)
 
--- a part that is there or not, key by key
-pub part_by_keys : (collation : Collation) (matching : Matching) (keys : List (List ℕ)) (part : Option (List ℕ))
-    → part_matches collation matching keys part ≡ list_any (λ key. some_passes (matches_key collation matching key) part) keys
-part_by_keys collation matching keys None = sym (none_pass keys)
-part_by_keys collation matching keys (Some part) = refl
+-- the parts that are there
+pub any_part : {X : Type 0} (part : X → Option (List ℕ)) (test : List ℕ → Bool) (xs : List X) → list_any (λ x. some_passes test (part x)) xs ≡ list_any test (filter_map part xs)
+any_part part test [] = refl
+any_part part test (x ∷ xs) = split (part x) (any_part part test xs)
+  where
+    split : (found : Option (List ℕ)) → list_any (λ x. some_passes test (part x)) xs ≡ list_any test (filter_map part xs)
+        → (some_passes test found || list_any (λ x. some_passes test (part x)) xs) ≡ list_any test (cons_option found (filter_map part xs))
+    split None rest = rest
+    split (Some one) rest = ap (λ b. test one || b) rest
+
+-- a part that is there or not
+pub part_passes : (collation : Collation) (matching : Matching) (keys : List (List ℕ)) (part : Option (List ℕ)) → part_matches collation matching keys part ≡ some_passes (matches_some collation matching keys) part
+part_passes collation matching keys None = refl
+part_passes collation matching keys (Some part) = refl
+
+pub any_mapped : {X Y : Type 0} (test : Y → Bool) (f : X → Y) (xs : List X) → list_any (λ x. test (f x)) xs ≡ list_any test (map f xs)
+any_mapped test f [] = refl
+any_mapped test f (x ∷ xs) = ap (λ b. test (f x) || b) (any_mapped test f xs)
 
 pub any_same : {X : Type 0} (p q : X → Bool) (xs : List X) → ((x : X) → p x ≡ q x) → list_any p xs ≡ list_any q xs
 any_same p q [] each = refl

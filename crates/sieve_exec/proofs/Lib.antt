@@ -6,10 +6,11 @@ pub mod PartLemmas
 pub mod DateLemmas
 pub mod TruthLemmas
 pub mod FrontLemmas
-pub mod UnflaggedLemmas
 pub mod IndexLemmas
 pub mod JoinedLemmas
 pub mod KeyLemmas
+pub mod ImageLemmas
+pub mod AlikeLemmas
 pub mod NameLemmas
 mod Examples
 mod DateExamples

@@ -11,4 +11,5 @@ pub mod Joined
 pub mod Work
 pub mod Outcomes
 pub mod Runs
+pub mod Images
 pub mod Ready

@@ -1,25 +1,31 @@
 //! What `address` looks at: the addresses of fields (RFC 5228, 5.1).
 ghost use Rattle.std.specs.Prelude.{◌≡◌, ◌≤◌, IfOk, cond, map, count_by};
 ghost use Rattle.std.specs.List.{list_any, flat_map};
+ghost use Rattle.std.specs.Ordering.{nat_cmp};
+ghost use Rattle.std.specs.Cmp.Lexicographic.{slice_cmp};
+ghost use Rattle.std.specs.BTreeSet.{contains};
 ghost use Rattle.mail_head.specs.Heads.{unfold_of};
 ghost use Rattle.mail_address.specs.Reading.{addrs};
 ghost use Rattle.sieve_exec.specs.Counts.{has_part};
+ghost use Rattle.sieve_exec.specs.Images.{text_image};
 ghost use Rattle.sieve_exec.specs.Indexes.{is_address_key};
 ghost use Rattle.sieve_exec.specs.Parts.{address_part_of};
-ghost use Rattle.sieve_exec.specs.Ready.{key_spec_of, matches_of, some_passes};
-ghost use Rattle.sieve_exec.specs.Truth.{address_matches};
+ghost use Rattle.sieve_exec.specs.Ready.{matches_of, some_passes};
 ghost use Rattle.sieve_exec.specs.Work.{AreSizesWithin, sizes_of_addresses};
 
-use crate::field_cache::{FieldTest, FieldValues};
+use crate::field_cache::{FieldCount, FieldTest, FieldValues};
+use crate::images::is_image;
 use crate::joined_address::{JoinedAddress, push_joined};
 use crate::mail::Mail;
 use crate::ready_key::ReadyKey;
+use crate::ready_keys::{ReadyKeys, Values};
 use crate::sizes::Sizes;
 use mail_address::addresses;
 use mail_head::unfold_value;
 use octets::{List, Octets};
-use sieve_syntax::{Address, AddressPart};
+use sieve_syntax::{Address, AddressPart, Collation};
 use std::alloc::{AllocError, Global};
+use std::collections::BTreeSet;
 
 /// The names of the fields that have addresses, in lower case.
 const ADDRESS_FIELDS: [&[u8]; 14] = [
@@ -67,25 +73,64 @@ impl FieldValues for List<JoinedAddress> {
     }
 }
 
-impl FieldTest<List<JoinedAddress>> for Address {
-    ghost use Rattle.std.specs.Prelude.{count_by};
+/// The keys of a test `address`, prepared, and the part that is compared with them.
+#[derive(Drop)]
+pub struct ReadyAddress<'t> {
+    pub(crate) part: AddressPart,
+    pub(crate) keys: ReadyKeys<'t>,
+}
+
+impl FieldTest<List<JoinedAddress>> for ReadyAddress<'_> {
     ghost use Rattle.std.specs.List.{list_any};
+    ghost use Rattle.sieve_exec.specs.Parts.{address_part_of};
+    ghost use Rattle.sieve_exec.specs.Truth.{part_matches};
+
+    ghost passes = { λ ready found. list_any (λ one. part_matches ready.keys.collation ready.keys.matching ready.keys.keys (address_part_of ready.part one)) found };
+
+    fn holds_of(&self, alloc: Global, values: &List<JoinedAddress>) -> Result<bool, AllocError> {
+        if values.is_empty() {
+            return Ok(false);
+        }
+        let parts = Parts {
+            part: self.part,
+            found: values.as_slice(),
+        };
+        self.keys.match_some(alloc, &parts)
+    }
+}
+
+/// A part of addresses; those without it are left out.
+#[derive(Drop)]
+pub struct Parts<'v> {
+    part: AddressPart,
+    found: &'v [JoinedAddress],
+}
+
+impl Values for Parts<'_> {
+    ghost use Rattle.std.specs.List.{filter_map};
+    ghost use Rattle.sieve_exec.specs.Parts.{address_part_of};
+
+    ghost texts = { λ parts. filter_map (address_part_of parts.part) parts.found.now };
+
+    fn some_matches(&self, key: &ReadyKey<'_>) -> bool {
+        some_matches(self.part, self.found, key)
+    }
+
+    fn some_is_image(
+        &self,
+        alloc: Global,
+        collation: Collation,
+        images: &BTreeSet<Octets>,
+    ) -> Result<bool, AllocError> {
+        some_is_image(alloc, collation, images, self.part, self.found)
+    }
+}
+
+impl FieldCount<List<JoinedAddress>> for Address {
+    ghost use Rattle.std.specs.Prelude.{count_by};
     ghost use Rattle.sieve_exec.specs.Counts.{has_part};
-    ghost use Rattle.sieve_exec.specs.Truth.{address_matches};
-
-    ghost names = { λ address. address.fields };
-
-    ghost passes = { λ address found. list_any (address_matches address) found };
 
     ghost counted = { λ address found. count_by (has_part address.part) found };
-
-    fn fields(&self) -> &[Octets] {
-        self.fields.as_slice()
-    }
-
-    fn holds_of(&self, values: &List<JoinedAddress>) -> bool {
-        address_matches(self, values.as_slice())
-    }
 
     fn count_of(&self, values: &List<JoinedAddress>) -> usize {
         count_parts(self.part, values.as_slice())
@@ -145,39 +190,53 @@ fn count_part(part: AddressPart, one: &JoinedAddress) -> usize
     }
 }
 
-/// Whether the part of some address matches some key.
-fn address_matches(address: &Address, found: &[JoinedAddress]) -> bool
-    ensures { result ≡ list_any (address_matches address.now) found.now }
-{
-    !found.is_empty() && key_matches(address, found)
-}
-
-/// Whether some key matches the part of some address. A key is prepared once for all addresses.
-fn key_matches(address: &Address, found: &[JoinedAddress]) -> bool
-    ensures { result ≡ list_any (λ key. list_any (λ one. some_passes (matches_of (key_spec_of address.now.comparator address.now.matching key)) (address_part_of address.now.part one)) found.now) address.now.keys }
-{
-    for key in address.keys.as_slice() {
-        let ready = ReadyKey::new(address.comparator, address.matching, key.as_slice());
-        if ready_matches(&ready, address.part, found) {
-            return true;
-        }
-    }
-    false
-}
-
 /// Whether the part of some address matches a key.
-fn ready_matches(ready: &ReadyKey<'_>, part: AddressPart, found: &[JoinedAddress]) -> bool
-    ensures { result ≡ list_any (λ one. some_passes (matches_of ready.now) (address_part_of part one)) found.now }
+fn some_matches(part: AddressPart, found: &[JoinedAddress], key: &ReadyKey<'_>) -> bool
+    ensures { result ≡ list_any (λ one. some_passes (matches_of key.now) (address_part_of part one)) found.now }
 {
-    found.iter().any(|one| one_matches(ready, part, one))
+    found.iter().any(|one| one_matches(part, one, key))
 }
 
 /// Whether the part of an address is there and matches a key.
-fn one_matches(ready: &ReadyKey<'_>, part: AddressPart, one: &JoinedAddress) -> bool
-    ensures { result ≡ some_passes (matches_of ready.now) (address_part_of part one.now) }
+fn one_matches(part: AddressPart, one: &JoinedAddress, key: &ReadyKey<'_>) -> bool
+    ensures { result ≡ some_passes (matches_of key.now) (address_part_of part one.now) }
 {
     match one.part(part) {
-        Some(text) => ready.matches(text),
+        Some(text) => key.matches(text),
         None => false,
+    }
+}
+
+/// Whether a set has the image of the part of some address.
+fn some_is_image(
+    alloc: Global,
+    collation: Collation,
+    images: &BTreeSet<Octets>,
+    part: AddressPart,
+    found: &[JoinedAddress],
+) -> Result<bool, AllocError>
+    ensures { IfOk result (λ there. there ≡ list_any (λ one. some_passes (λ text. contains (slice_cmp nat_cmp) images.now (text_image collation text)) (address_part_of part one)) found.now) }
+{
+    for one in found {
+        if one_is_image(alloc, collation, images, part, one)? {
+            return Ok(true);
+        }
+    }
+    Ok(false)
+}
+
+/// Whether the part of an address is there and a set has its image.
+fn one_is_image(
+    alloc: Global,
+    collation: Collation,
+    images: &BTreeSet<Octets>,
+    part: AddressPart,
+    one: &JoinedAddress,
+) -> Result<bool, AllocError>
+    ensures { IfOk result (λ there. there ≡ some_passes (λ text. contains (slice_cmp nat_cmp) images.now (text_image collation text)) (address_part_of part one.now)) }
+{
+    match one.part(part) {
+        Some(text) => is_image(alloc, collation, images, text),
+        None => Ok(false),
     }
 }

@@ -5,8 +5,9 @@ ghost use Rattle.sieve_syntax.specs.Valid.{IsMailboxName};
 ghost use Rattle.sieve_exec.specs.Indexes.{raws_keyed};
 ghost use Rattle.sieve_exec.specs.Work.{IsLeft, text_size, header_sizes, address_sizes, envelope_sizes as envelope_sizes_of, first_size, short_sizes, fields_work, date_work, keys_work, values_work, work_by};
 ghost use Rattle.sieve_exec.specs.Counts.{is_counted, envelope_counted};
-ghost use Rattle.sieve_exec.specs.Truth.{truth_by, is_beyond, header_holds, address_holds, envelope_holds, some_named_matches, envelope_matches};
+ghost use Rattle.sieve_exec.specs.Truth.{truth_by, is_beyond, header_holds, some_text_matches, address_holds, some_address_matches, envelope_holds, some_named_matches, envelope_matches};
 
+use crate::address::ReadyAddress;
 use crate::date::{current_holds, date_holds};
 use crate::envelope::part_in;
 use crate::field_cache::FieldCache;
@@ -14,6 +15,7 @@ use crate::flags::flag_holds;
 use crate::joined_address::JoinedAddress;
 use crate::mail::Mail;
 use crate::matching::{count_matches, is_count, matches_some};
+use crate::ready_keys::ReadyKeys;
 use crate::work::{
     SHORT, envelope_sizes, spend, spend_flags, spend_keys, spend_names, spend_text, spend_texts,
     spend_values,
@@ -66,8 +68,9 @@ impl<'m, 'a> CachedMail<'m, 'a> {
     /// RFC 5231; RFC 5232, 4; RFC 5260, 4 and 5; RFC 5490, 3.1).
     ///
     /// A value is compared with each key: for each pair the time is that of `is`, `contains` or `matches`, or of one pass over both, and
-    /// if a test is the first to ask for a field, also linear in the field's values. Each
-    /// `date` reads the one value that it looks at, and `hasflag` looks only at the flags.
+    /// if a test is the first to ask for a field, also linear in the field's values. Of long lists `header` and `address` ask each name
+    /// and key once, and with many values a key of `:is` is looked up ([`ReadyKeys`]). Each `date` reads the one value that it looks at,
+    /// and `hasflag` looks only at the flags.
     pub fn evaluate(
         &mut self,
         alloc: Global,
@@ -196,9 +199,10 @@ impl<'m, 'a> CachedMail<'m, 'a> {
         ensures kept { self.new ≡ self.old }
     {
         if !is_count(header.matching) {
-            return self.texts.holds(alloc, header);
+            return self.some_text_matches(alloc, header);
         }
-        let count = self.texts.count(alloc, header)?;
+        let names = header.fields.as_slice();
+        let count = self.texts.count(alloc, names, header)?;
         Ok(count_matches(
             header.comparator,
             header.matching,
@@ -207,21 +211,49 @@ impl<'m, 'a> CachedMail<'m, 'a> {
         ))
     }
 
+    /// Whether some text of the fields matches some key.
+    fn some_text_matches(&mut self, alloc: Global, header: &Header) -> Result<bool, AllocError>
+        ensures truth { IfOk result (λ holds. holds ≡ some_text_matches self.old header.now) }
+        ensures kept { self.new ≡ self.old }
+    {
+        let names = header.fields.as_slice();
+        let keys = header.keys.as_slice();
+        let sizes = self.texts.sizes_for(alloc, names, keys)?;
+        let ready = ReadyKeys::new(alloc, header.comparator, header.matching, keys, sizes)?;
+        self.texts.holds(alloc, names, &ready)
+    }
+
     /// Whether `address` holds (RFC 5228, 5.1; RFC 5231, 4.2).
     fn address_holds(&mut self, alloc: Global, address: &Address) -> Result<bool, AllocError>
         ensures truth { IfOk result (λ holds. holds ≡ address_holds self.old address.now) }
         ensures kept { self.new ≡ self.old }
     {
         if !is_count(address.matching) {
-            return self.addresses.holds(alloc, address);
+            return self.some_address_matches(alloc, address);
         }
-        let count = self.addresses.count(alloc, address)?;
+        let names = address.fields.as_slice();
+        let count = self.addresses.count(alloc, names, address)?;
         Ok(count_matches(
             address.comparator,
             address.matching,
             address.keys.as_slice(),
             count,
         ))
+    }
+
+    /// Whether the part of some address of the fields matches some key.
+    fn some_address_matches(&mut self, alloc: Global, address: &Address) -> Result<bool, AllocError>
+        ensures truth { IfOk result (λ holds. holds ≡ some_address_matches self.old address.now) }
+        ensures kept { self.new ≡ self.old }
+    {
+        let names = address.fields.as_slice();
+        let keys = address.keys.as_slice();
+        let sizes = self.addresses.sizes_for(alloc, names, keys)?;
+        let ready = ReadyAddress {
+            part: address.part,
+            keys: ReadyKeys::new(alloc, address.comparator, address.matching, keys, sizes)?,
+        };
+        self.addresses.holds(alloc, names, &ready)
     }
 }
 

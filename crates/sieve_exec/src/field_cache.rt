@@ -4,9 +4,11 @@ ghost use Rattle.std.specs.List.{list_any};
 ghost use Rattle.octets.specs.Ascii.{lowered};
 ghost use Rattle.sieve_exec.specs.Work.{AreSizesWithin, named_sizes};
 
+use crate::images::{FEW, distinct};
 use crate::mail::Mail;
 use crate::sizes::Sizes;
 use octets::Octets;
+use sieve_syntax::Collation;
 use std::alloc::{AllocError, Global};
 use std::collections::BTreeMap;
 use std::marker::Model;
@@ -34,21 +36,20 @@ pub trait FieldValues: Sized + Drop {
 
 /// A test that looks at what is read from fields.
 pub trait FieldTest<V: FieldValues> {
-    ghost use Rattle.std.specs.Prelude.{◌≡◌, ℕ, List, Bool};
-
-    ghost names: { Self → List (List ℕ) };
+    ghost use Rattle.std.specs.Prelude.{◌≡◌, Bool, IfOk};
 
     ghost passes: { Self → V → Bool };
 
-    ghost counted: { Self → V → ℕ };
-
-    /// The names of the fields, as they were written.
-    fn fields(&self) -> &[Octets]
-        ensures { result.now ≡ names self.now };
-
     /// Whether the test holds of what was read from the fields with one name.
-    fn holds_of(&self, values: &V) -> bool
-        ensures { result ≡ passes self.now values.now };
+    fn holds_of(&self, alloc: Global, values: &V) -> Result<bool, AllocError>
+        ensures { IfOk result (λ holds. holds ≡ passes self.now values.now) };
+}
+
+/// A test that counts what is read from fields.
+pub trait FieldCount<V: FieldValues> {
+    ghost use Rattle.std.specs.Prelude.{◌≡◌, ℕ};
+
+    ghost counted: { Self → V → ℕ };
 
     /// How many values the test counts in what was read from the fields with one name.
     fn count_of(&self, values: &V) -> usize
@@ -99,17 +100,54 @@ impl<'m, 'a, V: FieldValues> FieldCache<'m, 'a, V> {
         Ok(Octets::from_vec(key))
     }
 
-    /// Whether a test holds of the fields with one of its names. The fields with a name are read when the first test asks for them.
+    /// Whether a test holds of the fields with one of these names. The fields with a name are read when the first test asks for them.
+    /// Of more than a few names each is asked once, whatever its case: for n names n log n comparisons of them.
     pub(crate) fn holds<T: FieldTest<V>>(
         &mut self,
         alloc: Global,
+        names: &[Octets],
         test: &T,
     ) -> Result<bool, AllocError>
-        ensures holds { IfOk result (λ holds. holds ≡ list_any (λ name. T.passes test.now (V.keyed self.old (lowered name))) (T.names test.now)) }
+        ensures holds { IfOk result (λ holds. holds ≡ list_any (λ name. T.passes test.now (V.keyed self.old (lowered name))) names.now) }
         ensures kept { self.new ≡ self.old }
     {
-        for name in test.fields() {
+        if names.len() <= FEW {
+            return self.holds_of_names(alloc, names, test);
+        }
+        let names = distinct(alloc, Collation::AsciiCasemap, names)?;
+        self.holds_of_slices(alloc, names.as_slice(), test)
+    }
+
+    /// Whether a test holds of the fields with one of these names, as they stand.
+    fn holds_of_names<T: FieldTest<V>>(
+        &mut self,
+        alloc: Global,
+        names: &[Octets],
+        test: &T,
+    ) -> Result<bool, AllocError>
+        ensures holds { IfOk result (λ holds. holds ≡ list_any (λ name. T.passes test.now (V.keyed self.old (lowered name))) names.now) }
+        ensures kept { self.new ≡ self.old }
+    {
+        for name in names {
             if self.holds_at(alloc, name.as_slice(), test)? {
+                return Ok(true);
+            }
+        }
+        Ok(false)
+    }
+
+    /// The same of names that are slices.
+    fn holds_of_slices<T: FieldTest<V>>(
+        &mut self,
+        alloc: Global,
+        names: &[&[u8]],
+        test: &T,
+    ) -> Result<bool, AllocError>
+        ensures holds { IfOk result (λ holds. holds ≡ list_any (λ name. T.passes test.now (V.keyed self.old (lowered name.now))) names.now) }
+        ensures kept { self.new ≡ self.old }
+    {
+        for name in names {
+            if self.holds_at(alloc, name, test)? {
                 return Ok(true);
             }
         }
@@ -139,6 +177,22 @@ impl<'m, 'a, V: FieldValues> FieldCache<'m, 'a, V> {
         Ok(Some(sizes))
     }
 
+    /// How large the values that many keys are compared with are; nothing is looked at for a few keys.
+    pub(crate) fn sizes_for(
+        &mut self,
+        alloc: Global,
+        names: &[Octets],
+        keys: &[Octets],
+    ) -> Result<Sizes, AllocError>
+        ensures { self.new ≡ self.old }
+    {
+        if keys.len() <= FEW {
+            return Ok(Sizes::NONE);
+        }
+        let sizes = self.sizes(alloc, names, u64::MAX)?;
+        Ok(sizes.unwrap_or(Sizes::NONE))
+    }
+
     /// How large the values of the fields with a name are, whose ASCII case is ignored.
     fn sizes_at(
         &mut self,
@@ -161,24 +215,25 @@ impl<'m, 'a, V: FieldValues> FieldCache<'m, 'a, V> {
         Ok(sizes)
     }
 
-    /// How many values a test counts in the fields with its names.
-    pub(crate) fn count<T: FieldTest<V>>(
+    /// How many values a test counts in the fields with these names.
+    pub(crate) fn count<T: FieldCount<V>>(
         &mut self,
         alloc: Global,
+        names: &[Octets],
         test: &T,
     ) -> Result<u128, AllocError>
-        ensures count { IfOk result (λ count. count ≡ sum_by (λ name. T.counted test.now (V.keyed self.old (lowered name))) (T.names test.now)) }
+        ensures count { IfOk result (λ count. count ≡ sum_by (λ name. T.counted test.now (V.keyed self.old (lowered name))) names.now) }
         ensures kept { self.new ≡ self.old }
     {
         let mut total: u128 = 0;
-        for name in test.fields() {
+        for name in names {
             total += self.count_at(alloc, name.as_slice(), test)? as u128;
         }
         Ok(total)
     }
 
     /// How many values a test counts in the fields with a name, whose ASCII case is ignored.
-    fn count_at<T: FieldTest<V>>(
+    fn count_at<T: FieldCount<V>>(
         &mut self,
         alloc: Global,
         name: &[u8],
@@ -211,12 +266,12 @@ impl<'m, 'a, V: FieldValues> FieldCache<'m, 'a, V> {
     {
         let key = self.key_of(alloc, name)?;
         if let Some(values) = self.known.get(&key) {
-            let holds = test.holds_of(values);
+            let holds = test.holds_of(alloc, values)?;
             self.room = key.into_vec();
             return Ok(holds);
         }
         let values = V::read(alloc, self.mail, &key)?;
-        let holds = test.holds_of(&values);
+        let holds = test.holds_of(alloc, &values)?;
         self.known.insert(key, values)?;
         Ok(holds)
     }

@@ -2,19 +2,25 @@
 ghost use Rattle.std.specs.Prelude.{◌≡◌, IfOk, map};
 ghost use Rattle.std.specs.List.{list_any};
 ghost use Rattle.mail_head.specs.Heads.{unfold_of};
+ghost use Rattle.std.specs.Ordering.{nat_cmp};
+ghost use Rattle.std.specs.Cmp.Lexicographic.{slice_cmp};
+ghost use Rattle.std.specs.BTreeSet.{contains};
+ghost use Rattle.sieve_exec.specs.Images.{text_image};
 ghost use Rattle.sieve_exec.specs.Mails.{text_shown};
-ghost use Rattle.sieve_exec.specs.Ready.{key_spec_of, matches_of};
-ghost use Rattle.sieve_exec.specs.Truth.{text_matches};
+ghost use Rattle.sieve_exec.specs.Ready.{matches_of};
 
-use crate::field_cache::{FieldTest, FieldValues};
+use crate::field_cache::{FieldCount, FieldTest, FieldValues};
+use crate::images::is_image;
 use crate::mail::Mail;
 use crate::ready_key::ReadyKey;
+use crate::ready_keys::{ReadyKeys, Values};
 use crate::sizes::{Sizes, sizes_in};
 use mail_head::unfold_value;
 use mail_words::decoded;
 use octets::{Octets, Texts, trim_blanks};
-use sieve_syntax::Header;
+use sieve_syntax::{Collation, Header};
 use std::alloc::{AllocError, Global};
+use std::collections::BTreeSet;
 
 impl FieldValues for Texts {
     ghost use Rattle.sieve_exec.specs.Indexes.{texts_keyed};
@@ -36,24 +42,41 @@ impl FieldValues for Texts {
     }
 }
 
-impl FieldTest<Texts> for Header {
-    ghost use Rattle.std.specs.Prelude.{length};
+impl FieldTest<Texts> for ReadyKeys<'_> {
     ghost use Rattle.std.specs.List.{list_any};
-    ghost use Rattle.sieve_exec.specs.Truth.{text_matches};
+    ghost use Rattle.sieve_exec.specs.Ready.{matches_some_of};
 
-    ghost names = { λ header. header.fields };
+    ghost passes = { λ keys texts. list_any (matches_some_of keys) texts };
 
-    ghost passes = { λ header texts. list_any (text_matches header) texts };
+    fn holds_of(&self, alloc: Global, values: &Texts) -> Result<bool, AllocError> {
+        if values.is_empty() {
+            return Ok(false);
+        }
+        self.match_some(alloc, values)
+    }
+}
+
+impl Values for Texts {
+    ghost texts = { λ texts. texts };
+
+    fn some_matches(&self, key: &ReadyKey<'_>) -> bool {
+        some_matches(self.as_slice(), key)
+    }
+
+    fn some_is_image(
+        &self,
+        alloc: Global,
+        collation: Collation,
+        images: &BTreeSet<Octets>,
+    ) -> Result<bool, AllocError> {
+        some_is_image(alloc, collation, images, self.as_slice())
+    }
+}
+
+impl FieldCount<Texts> for Header {
+    ghost use Rattle.std.specs.Prelude.{length};
 
     ghost counted = { λ header texts. length texts };
-
-    fn fields(&self) -> &[Octets] {
-        self.fields.as_slice()
-    }
-
-    fn holds_of(&self, values: &Texts) -> bool {
-        text_matches(self, values.as_slice())
-    }
 
     fn count_of(&self, values: &Texts) -> usize {
         values.len()
@@ -80,29 +103,26 @@ fn text_in(alloc: Global, raw: &[u8]) -> Result<Octets, AllocError>
     Octets::from_slice(alloc, trim_blanks(text.as_slice()))
 }
 
-/// Whether some text matches some key.
-fn text_matches(header: &Header, texts: &[Octets]) -> bool
-    ensures { result ≡ list_any (text_matches header.now) texts.now }
+/// Whether some text matches a key.
+fn some_matches(texts: &[Octets], key: &ReadyKey<'_>) -> bool
+    ensures { result ≡ list_any (matches_of key.now) texts.now }
 {
-    !texts.is_empty() && key_matches(header, texts)
+    texts.iter().any(|text| key.matches(text.as_slice()))
 }
 
-/// Whether some key matches some text. A key is prepared once for all texts.
-fn key_matches(header: &Header, texts: &[Octets]) -> bool
-    ensures { result ≡ list_any (λ key. list_any (matches_of (key_spec_of header.now.comparator header.now.matching key)) texts.now) header.now.keys }
+/// Whether a set has the image of some text.
+fn some_is_image(
+    alloc: Global,
+    collation: Collation,
+    images: &BTreeSet<Octets>,
+    texts: &[Octets],
+) -> Result<bool, AllocError>
+    ensures { IfOk result (λ there. there ≡ list_any (λ text. contains (slice_cmp nat_cmp) images.now (text_image collation text)) texts.now) }
 {
-    for key in header.keys.as_slice() {
-        let ready = ReadyKey::new(header.comparator, header.matching, key.as_slice());
-        if ready_matches(&ready, texts) {
-            return true;
+    for text in texts {
+        if is_image(alloc, collation, images, text.as_slice())? {
+            return Ok(true);
         }
     }
-    false
-}
-
-/// Whether some text matches a key.
-fn ready_matches(ready: &ReadyKey<'_>, texts: &[Octets]) -> bool
-    ensures { result ≡ list_any (matches_of ready.now) texts.now }
-{
-    texts.iter().any(|text| ready.matches(text.as_slice()))
+    Ok(false)
 }

@@ -4,38 +4,22 @@ ghost use Rattle.std.specs.List.{list_all};
 ghost use Rattle.mail_head.specs.Fields.{is_name};
 ghost use Rattle.mail_head.specs.Heads.{fields_of, size_of};
 ghost use Rattle.mail_head.specs.Prefixes.{IsHeaderPrefix};
-ghost use Rattle.sieve_syntax.specs.Before.{outcome_in, IsUnflaggedCheck};
-ghost use Rattle.sieve_syntax.specs.Languages.{unflagged};
-ghost use Rattle.sieve_syntax.specs.Means.{MeansIn};
 ghost use Rattle.sieve_syntax.specs.RunState.{RunState};
 ghost use Rattle.sieve_syntax.specs.Tree.{Commands};
-ghost use Rattle.sieve_syntax.specs.Work.{within_work};
 ghost use Rattle.sieve_syntax.specs.declared.tree.checks.MailCheck.{MailCheck};
 ghost use Rattle.sieve_exec.specs.declared.envelope.Envelope.{Envelope};
 ghost use Rattle.sieve_exec.specs.declared.when.When.{When};
 ghost use Rattle.sieve_exec.specs.Mails.{MailSpec, mail_spec_of, field_values, with_size};
-ghost use Rattle.sieve_exec.specs.Outcomes.{outcome_at, work_of};
+ghost use Rattle.sieve_exec.specs.Outcomes.{outcome_at};
 ghost use Rattle.sieve_exec.specs.Parts.{IsUser, IsDetail, user_of, detail_of, Cuts, local_of, domain_of};
 ghost use Rattle.sieve_exec.specs.Holding.{TestHolds};
-ghost use Rattle.sieve_exec.specs.Truth.{truth_at, truth_by};
+ghost use Rattle.sieve_exec.specs.Truth.{truth_at};
 ghost use Rattle.sieve_exec.specs.Work.{is_long, sizes_of, contains_work, pattern_work};
 ghost use Rattle.sieve_match.specs.Costs.{search_steps, pattern_steps};
 
 /// A test that looks at the message, its envelope or the flags is true exactly if it holds.
 pub fn truth_of_a_check()
     ensures { (mail : MailSpec) (so_far : RunState) (check : MailCheck) → IsTrue (truth_at mail so_far check) ↔ TestHolds mail so_far.flags check }
-{}
-
-/// A test that the language before `imap4flags` (RFC 5232) had doesn't look at the flags.
-pub fn truth_without_flags()
-    ensures { (mail : MailSpec) (one other : List (List ℕ)) (check : MailCheck) → IsUnflaggedCheck check → truth_by mail one check ≡ truth_by mail other check }
-{}
-
-/// So a text that meant a tree in that language has on every mail the outcome that it had then, when tests looked only at the mail,
-/// apart from the limit of work.
-pub fn outcome_without_flags()
-    ensures { (mail : MailSpec) (text : List ℕ) (tree : Commands) → MeansIn unflagged text tree
-        → outcome_at mail tree ≡ within_work (work_of mail tree) (outcome_in unflagged (λ so_far. truth_by mail []) tree) }
 {}
 
 /// The outcome of a script on a message depends only on the message's fields and its size.

@@ -9,6 +9,7 @@ mod envelope;
 mod field_cache;
 mod flags;
 mod header;
+mod images;
 mod index;
 mod joined_address;
 pub mod laws;
@@ -20,8 +21,10 @@ mod matching;
 mod outcome;
 mod raw_values;
 mod ready_key;
+mod ready_keys;
 mod run_state;
 mod sizes;
+mod slices;
 mod when;
 mod work;
 

@@ -54,7 +54,7 @@ one_carried own moment mail deeds a one two after other is was =
     let held = held_of a mail deeds in
     let same = one_response own moment mail (last_reply a mail.from) (room_in a - length done.sent) deeds.reply is.response was.response is.is_response was.is_response in (
       is.reported ∙ (ap (λ x. report_of done x held) same ∙ sym was.reported),
-      is.changed ∙ (ap (λ x. adds_notice_if_any moment held (responds mail x (acts mail done (over_keys a moment deeds.sent) a))) same ∙ sym was.changed),
+      is.changed ∙ (ap (λ x. adds_notice_if_any moment held (responds mail x (acts mail done (over_keys a moment) a))) same ∙ sym was.changed),
     )
 
 one_delivered : (own : Addr) (moment : ℕ) (mail : MailSpec) (disposition : Disposition) (a : Account) (one two : Report) (after other : Account)

@@ -1,7 +1,8 @@
-pub mod TextLemmas
-pub mod SentLemmas
 pub mod VacationLemmas
 pub mod PlanLemmas
 pub mod DeliveryLemmas
 pub mod DeliveryLaws
+pub mod SentLaws
+pub mod OverLaws
+pub mod FoundLaws
 mod Examples

@@ -26,7 +26,7 @@ use Rattle.store_accounts.specs.declared.reply.ReplyKey.{ReplyKey}
 use Rattle.store_accounts.specs.declared.report.Report.{Report}
 use Rattle.store_accounts.specs.declared.report.VacationReport.{VacationReport}
 use Rattle.store_accounts.specs.declared.report.VacationReport.TheVariants as V
-use Rattle.sieve_plan.specs.Sent.{fresh, going, held_notice, kept_handles, redirect_key, over_keys}
+use Rattle.sieve_plan.specs.Sent.{fresh, going, held_notice, kept_handles, limits, redirect_key, over_keys}
 use Rattle.sieve_plan.specs.Views.{last_reply}
 
 -- ---- what becomes of a message
@@ -147,7 +147,7 @@ redirects mail targets a = fold (λ b target. queues kind.Redirect mail.from (ad
 abbrev pub with_inbox : List Placement → List Placement
 with_inbox filed = cond (is_filed filed inbox) filed (filed ++ unflagged_copy inbox ∷ [])
 
--- what is done of the deeds: the message goes to those addresses to which it wasn't sent before, as long as there is room; where it
+-- what is done of the deeds: the message goes to those addresses to which it wasn't sent before, as far as the limits let it; where it
 -- doesn't go to one it is in INBOX, once
 abbrev pub done_of : Account → MailSpec → Actions → Actions
 done_of a mail deeds =
@@ -156,11 +156,11 @@ done_of a mail deeds =
 
 -- why it doesn't go to one
 abbrev pub held_of : Account → MailSpec → Actions → Option (List ℕ)
-held_of a mail deeds = held_notice (length deeds.sent) (length (fresh a mail deeds.sent)) (length (going a mail deeds.sent))
+held_of a mail deeds = held_notice (limits a mail) (length deeds.sent) (length (fresh a mail deeds.sent))
 
 -- what is over is forgotten, and what was sent on is remembered
 abbrev pub remembers_going : MailSpec → List Addr → List ReplyKey → Account → Account
-remembers_going mail going over a = keeps_sent (redirect_key mail) mail.moment (kept_handles mail.moment going) (forgets over a)
+remembers_going mail going over a = keeps_sent (redirect_key mail) mail.moment (kept_handles mail going) (forgets over a)
 
 -- a copy of the message joins the end of each folder, with its flags, then the message is queued, and that is remembered
 abbrev pub acts : MailSpec → Actions → List ReplyKey → Account → Account
@@ -195,7 +195,7 @@ pub record CarriesOut (own : Addr) (moment : ℕ) (mail : MailSpec) (deeds : Act
   pub response : Response
   pub is_response : Responds own moment mail (last_reply a mail.from) (room_in a - length (done_of a mail deeds).sent) deeds.reply response
   pub reported : report ≡ report_of (done_of a mail deeds) response (held_of a mail deeds)
-  pub changed : a2 ≡ adds_notice_if_any moment (held_of a mail deeds) (responds mail response (acts mail (done_of a mail deeds) (over_keys a moment deeds.sent) a))
+  pub changed : a2 ≡ adds_notice_if_any moment (held_of a mail deeds) (responds mail response (acts mail (done_of a mail deeds) (over_keys a moment) a))
 
 -- the message is filed into INBOX, and a notice is added to the others; nothing is sent
 pub record LeavesNotice (moment : ℕ) (mail : MailSpec) (text : List ℕ) (a : Account) (report : Report) (a2 : Account) : Type 0 where

@@ -1,4 +1,5 @@
 pub mod Sent
+pub mod Few
 pub mod Views
 pub mod Delivered
 pub mod Plans

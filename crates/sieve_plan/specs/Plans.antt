@@ -1,5 +1,5 @@
 -- Plans of deliveries, by what they are to do.
-use Rattle.std.specs.Prelude.{◌≡◌, ◌-◌, ℕ, Bool, cond, length, nat_lt, take, List, [], ◌∷◌, Option, None, Some}
+use Rattle.std.specs.Prelude.{◌≡◌, ◌-◌, ℕ, cond, length, nat_lt, List, [], ◌∷◌, Option, None, Some}
 use Rattle.mail_address.specs.declared.address.Addr.{Addr}
 use Rattle.mail_flags.specs.declared.placement.Placement.{Placement}
 use Rattle.sieve_syntax.specs.RunState.{inbox}
@@ -18,11 +18,12 @@ use Rattle.store_accounts.specs.declared.report.VacationReport.{VacationReport}
 use Rattle.sieve_plan.specs.declared.disposition.Deeds.{Deeds}
 use Rattle.sieve_plan.specs.declared.disposition.Disposition.{Disposition as Found}
 use Rattle.sieve_plan.specs.declared.disposition.Disposition.TheVariants as found
+use Rattle.sieve_plan.specs.declared.limits.Limits.{Limits}
 use Rattle.sieve_plan.specs.declared.notice.NoticeCause.{NoticeCause}
 use Rattle.sieve_plan.specs.declared.notice.NoticeCause.TheVariants.{Loop, Invalid, Failed}
 use Rattle.sieve_plan.specs.declared.vacation.VacationPlan.{VacationPlan}
 use Rattle.sieve_plan.specs.declared.view.AccountView.{AccountView}
-use Rattle.sieve_plan.specs.Sent.{held_notice, kept_handles, redirect_key}
+use Rattle.sieve_plan.specs.Sent.{full_text, held_notice, kept_handles, large_text, let_through, limits_by, many_text, not_among, redirect_key}
 use Rattle.sieve_plan.specs.Views.{IsViewOf}
 use Rattle.sieve_plan.specs.Delivered.{Disposition, Acts, Tells, Response, Silent, NoRoom, Quiet, Sent, Responds, failure_text, invalid_text, loop_text, vacation_report, report_of, notice_report, unflagged_copy, with_inbox}
 
@@ -48,26 +49,27 @@ IsOfView view mail (Tells text) a = Unit {0}
 
 -- ---- what a view says of the deeds
 
--- of the addresses those of which it isn't said that the message was sent there before
-abbrev pub unsent : List Bool → List Addr → List Addr
-unsent [] targets = []
-unsent (before ∷ more) [] = []
-unsent (before ∷ more) (target ∷ targets) = cond before (unsent more targets) (target ∷ unsent more targets)
+-- the limits, as the code has them
+abbrev pub limits_of : Limits → List (ℕ × List ℕ)
+limits_of limits = (limits.room, full_text) ∷ (limits.by_size, large_text) ∷ (limits.left, many_text) ∷ []
 
 abbrev pub fresh_by : AccountView → Actions → List Addr
-fresh_by view deeds = unsent view.before deeds.sent
+fresh_by view deeds = not_among view.known deeds.sent
 
-abbrev pub going_by : AccountView → Actions → List Addr
-going_by view deeds = take view.room (fresh_by view deeds)
+abbrev pub limits_in : AccountView → MailSpec → List (ℕ × List ℕ)
+limits_in view mail = limits_by view.room (length mail.octets) (length view.known)
 
-abbrev pub filed_by : AccountView → Actions → List Placement
-filed_by view deeds = cond (nat_lt (length (going_by view deeds)) (length deeds.sent)) (with_inbox deeds.filed) deeds.filed
+abbrev pub going_by : AccountView → MailSpec → Actions → List Addr
+going_by view mail deeds = let_through (limits_in view mail) (fresh_by view deeds)
 
-abbrev pub deeds_by : AccountView → Actions → Actions
-deeds_by view deeds = record { filed = filed_by view deeds; sent = going_by view deeds; reply = deeds.reply }
+abbrev pub filed_by : AccountView → MailSpec → Actions → List Placement
+filed_by view mail deeds = cond (nat_lt (length (going_by view mail deeds)) (length deeds.sent)) (with_inbox deeds.filed) deeds.filed
 
-abbrev pub notice_by : AccountView → Actions → Option (List ℕ)
-notice_by view deeds = held_notice (length deeds.sent) (length (fresh_by view deeds)) (length (going_by view deeds))
+abbrev pub deeds_by : AccountView → MailSpec → Actions → Actions
+deeds_by view mail deeds = record { filed = filed_by view mail deeds; sent = going_by view mail deeds; reply = deeds.reply }
+
+abbrev pub notice_by : AccountView → MailSpec → Actions → Option (List ℕ)
+notice_by view mail deeds = held_notice (limits_in view mail) (length deeds.sent) (length (fresh_by view deeds))
 
 -- ---- plans
 
@@ -99,19 +101,19 @@ unsent_plan vacation = record { vacation = vacation; reply = None }
 -- the message is remembered under the keys of these addresses, if it goes to some; what is over is forgotten
 pub record IsMemoryOf (over : List ReplyKey) (mail : MailSpec) (going : List Addr) (memory : SentMemory) : Type 0 where
   pub message : (target : Addr) (more : List Addr) → going ≡ target ∷ more → memory.message ≡ redirect_key mail
-  pub handles : memory.handles ≡ kept_handles mail.moment going
+  pub handles : memory.handles ≡ kept_handles mail going
   pub forgotten : memory.forgotten ≡ over
 
 -- a plan that carries out the deeds as far as the view lets it, and a response to the sender
 pub record IsActingPlan (view : AccountView) (mail : MailSpec) (deeds : Actions) (plan : Plan) : Type 0 where
   pub response : Response
-  pub is_response : Responds view.address mail.moment mail (λ key. view.last) (view.room - length (going_by view deeds)) deeds.reply response
+  pub is_response : Responds view.address mail.moment mail (λ key. view.last) (view.room - length (going_by view mail deeds)) deeds.reply response
   pub message : plan.message.now ≡ mail.octets
   pub sender : plan.sender.now ≡ mail.from
   pub at : plan.moment ≡ mail.moment
-  pub filed : plan.filed ≡ filed_by view deeds
-  pub report : plan.report ≡ report_of (deeds_by view deeds) response (notice_by view deeds)
-  pub memory : IsMemoryOf view.over mail (going_by view deeds) plan.memory
+  pub filed : plan.filed ≡ filed_by view mail deeds
+  pub report : plan.report ≡ report_of (deeds_by view mail deeds) response (notice_by view mail deeds)
+  pub memory : IsMemoryOf view.over mail (going_by view mail deeds) plan.memory
   pub reply : plan.reply ≡ reply_of response
 
 -- a plan that files the message into INBOX and leaves a notice

@@ -1,5 +1,5 @@
 //! What a delivery is to write and to report.
-ghost use Rattle.std.specs.Prelude.{◌≡◌, ◌≤◌, ◌<◌, ◌^◌, ℕ, true, cond, length, IfOk, List, Option, map, take};
+ghost use Rattle.std.specs.Prelude.{◌≡◌, ◌≤◌, ◌<◌, ◌^◌, ℕ, true, cond, length, IfOk, List, Option, map};
 ghost use Rattle.mail_address.specs.declared.address.Addr.{Addr as Address};
 ghost use Rattle.sieve_exec.specs.Mails.{mail_spec_of};
 ghost use Rattle.mail_address.specs.Spelling.{address_spelling};
@@ -7,12 +7,13 @@ ghost use Rattle.store_accounts.specs.Account.{Account, delivers};
 ghost use Rattle.store_accounts.specs.Cells.{borrowed_octets};
 ghost use Rattle.sieve_plan.specs.Delivered.{Delivers, DeliversAs, has_long_header, with_inbox};
 ghost use Rattle.sieve_plan.specs.Plans.{IsActingPlan, IsMemoryOf, IsNoticePlan, IsOfView, deeds_in, disposition_in};
-ghost use Rattle.sieve_plan.specs.Sent.{held_notice, redirect_key, sent_handle};
+ghost use Rattle.sieve_plan.specs.Sent.{redirect_key, sent_handle};
 
 use crate::disposition::{Deeds, Disposition};
-use crate::notice::{BEFORE_TEXT, FULL_TEXT, LONG_TEXT};
-use crate::sent::{HALF_DAY, redirect_key, sent_handle};
-use crate::texts::{fresh, inbox, mailboxes, with_inbox};
+use crate::limits::Limits;
+use crate::notice::LONG_TEXT;
+use crate::sent::{half_of, redirect_key, sent_handle};
+use crate::texts::{inbox, mailboxes, not_among, with_inbox};
 use crate::vacation::{VacationPlan, plan_vacation};
 use crate::view::AccountView;
 use mail_address::Addr;
@@ -116,16 +117,17 @@ fn act<'m>(
     let AccountView {
         address,
         last,
-        before,
+        known,
         room,
         over,
     } = view;
     let Deeds { filed, sent, reply } = deeds;
-    let fresh = fresh(alloc, sent.as_slice(), before.as_slice())?;
-    let fresh_count = fresh.len();
-    let going = first_ones(fresh, room);
+    let limits = Limits::new(room, mail.message().len(), known.len());
+    let fresh = not_among(alloc, known.as_slice(), sent.as_slice())?;
+    let held = limits.held_notice(sent.len(), fresh.len());
+    let going = limits.let_through(fresh);
     let filed = filed_as(alloc, filed, going.len() < sent.len())?;
-    let left = room - going.len() as u64;
+    let left = room.saturating_sub(going.len() as u64);
     let VacationPlan { vacation, reply } = plan_vacation(
         alloc,
         &address,
@@ -136,7 +138,6 @@ fn act<'m>(
     )?;
     let names = mailboxes(alloc, filed.as_slice())?;
     let memory = memory_of(alloc, mail, going.as_slice(), over)?;
-    let held = held_notice(sent.len(), fresh_count, going.len());
     let notice = copied(alloc, held)?;
     Ok(Plan {
         message: mail.message(),
@@ -168,30 +169,6 @@ fn filed_as(
     Ok(filed)
 }
 
-/// The first ones, as many as there is room for.
-fn first_ones(texts: Texts, room: u64) -> Texts
-    ensures { result ≡ take room texts }
-{
-    let mut vec = texts.into_vec();
-    if room < vec.len() as u64 {
-        vec.truncate(room as usize);
-    }
-    Texts::from_vec(vec)
-}
-
-/// Why the message isn't sent on to all addresses, by how many there are, to how many it wasn't sent before, and to how many it goes.
-fn held_notice(all: usize, fresh: usize, going: usize) -> Option<&'static [u8]>
-    ensures { borrowed_octets result ≡ held_notice all fresh going }
-{
-    if going < fresh {
-        return Some(FULL_TEXT);
-    }
-    if fresh < all {
-        return Some(BEFORE_TEXT);
-    }
-    None
-}
-
 /// A copy of the text, if there is one.
 fn copied(alloc: Global, text: Option<&[u8]>) -> Result<Option<Octets>, AllocError>
     ensures { IfOk result (λ copy. copy ≡ borrowed_octets text.entry) }
@@ -213,7 +190,8 @@ fn memory_of(
     ensures { IfOk result (λ memory. (targets : List Address) → going.now ≡ map address_spelling targets → IsMemoryOf over mail.now targets memory) }
 {
     let message = key_if_sent(alloc, mail, going)?;
-    let handles = handles_of(alloc, mail.moment() / HALF_DAY, going)?;
+    let half = half_of(mail.moment());
+    let handles = handles_of(alloc, half, message.as_slice(), going)?;
     Ok(SentMemory {
         message,
         handles,
@@ -221,7 +199,7 @@ fn memory_of(
     })
 }
 
-/// What stands for the mail, if it goes to some address.
+/// The key of the mail, if it goes to some address.
 fn key_if_sent(alloc: Global, mail: &Mail<'_>, going: &[Octets]) -> Result<Octets, AllocError>
     ensures { IfOk result (λ key. 0 < length going.now → key ≡ redirect_key mail.now) }
 {
@@ -232,13 +210,13 @@ fn key_if_sent(alloc: Global, mail: &Mail<'_>, going: &[Octets]) -> Result<Octet
 }
 
 /// The handles' keys under which it is kept that a message went to these addresses in this half day.
-fn handles_of(alloc: Global, half: u64, going: &[Octets]) -> Result<Texts, AllocError>
+fn handles_of(alloc: Global, half: u64, key: &[u8], going: &[Octets]) -> Result<Texts, AllocError>
     requires { half < 2 ^ 32 }
-    ensures { IfOk result (λ handles. handles ≡ map (sent_handle half) going.now) }
+    ensures { IfOk result (λ handles. handles ≡ map (sent_handle half key.now) going.now) }
 {
     let mut handles = Texts::new(alloc);
     for target in going {
-        handles.push(sent_handle(alloc, half, target.as_slice())?)?;
+        handles.push(sent_handle(alloc, half, key, target.as_slice())?)?;
     }
     Ok(handles)
 }

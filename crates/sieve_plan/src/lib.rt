@@ -4,6 +4,7 @@
 mod delivery;
 mod disposition;
 pub mod laws;
+mod limits;
 mod long_header;
 mod looping;
 mod notice;
@@ -18,5 +19,5 @@ pub use disposition::{Deeds, Disposition, dispose};
 pub use long_header::has_long_header;
 pub use notice::{NoticeCause, failure_text};
 pub use outcome::evaluate_script;
-pub use sent::{HALF_DAY, half_key, is_near_if, redirect_key, sent_handle};
+pub use sent::{half_handle, half_of, is_near_if, redirect_keys, sent_end, sent_handle};
 pub use view::AccountView;

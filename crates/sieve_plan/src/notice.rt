@@ -36,7 +36,13 @@ pub(crate) const LONG_TEXT: &[u8] = b"header larger than 1 MiB";
 /// The notice on a message for which there was no room in the queue.
 pub(crate) const FULL_TEXT: &[u8] = b"queue is full";
 
-/// The notice on a message that was sent on before.
+/// The notice on a message that is too large for one delivery to write it for each address.
+pub(crate) const LARGE_TEXT: &[u8] = b"too large to be sent on to all";
+
+/// The notice on a message that was sent on as often as one may be.
+pub(crate) const MANY_TEXT: &[u8] = b"sent on to 16 addresses before";
+
+/// The notice on a message that was sent on to an address before.
 pub(crate) const BEFORE_TEXT: &[u8] = b"sent on before";
 
 /// The notice on a run that failed (RFC 5228, 2.10.6): `more than 16 redirects`. Takes no memory.

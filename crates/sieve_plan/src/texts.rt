@@ -4,7 +4,7 @@ ghost use Rattle.std.specs.Cmp.Lexicographic.{pointwise};
 ghost use Rattle.mail_address.specs.Spelling.{address_spelling};
 ghost use Rattle.sieve_syntax.specs.RunState.{inbox as inbox_of, is_filed};
 ghost use Rattle.sieve_plan.specs.Delivered.{unflagged_copy, with_inbox};
-ghost use Rattle.sieve_plan.specs.Plans.{unsent};
+ghost use Rattle.sieve_plan.specs.Sent.{is_among_texts, not_among};
 
 use mail_address::{Addr, spell_address};
 use mail_flags::Placement;
@@ -35,22 +35,29 @@ pub(crate) fn mailboxes(alloc: Global, filed: &[Placement]) -> Result<Texts, All
     Ok(texts)
 }
 
-/// The addresses to which the message wasn't sent before, as they are written. `before` says of each whether it was.
-pub(crate) fn fresh(alloc: Global, targets: &[Addr], before: &[bool]) -> Result<Texts, AllocError>
-    ensures { IfOk result (λ texts. texts ≡ map address_spelling (unsent before.now targets.now)) }
+/// The addresses that aren't among the known ones, as they are spelled.
+pub(crate) fn not_among(
+    alloc: Global,
+    known: &[Octets],
+    targets: &[Addr],
+) -> Result<Texts, AllocError>
+    ensures { IfOk result (λ texts. texts ≡ map address_spelling (not_among known.now targets.now)) }
 {
     let mut texts = Texts::new(alloc);
-    let mut rest = before;
     for target in targets {
-        let Some((was_sent, more)) = rest.split_first() else {
-            return Ok(texts);
-        };
-        rest = more;
-        if !*was_sent {
-            texts.push(spell_address(alloc, target)?)?;
+        let text = spell_address(alloc, target)?;
+        if !is_among_texts(known, text.as_slice()) {
+            texts.push(text)?;
         }
     }
     Ok(texts)
+}
+
+/// Whether one of the texts is this one.
+fn is_among_texts(texts: &[Octets], text: &[u8]) -> bool
+    ensures { result ≡ is_among_texts texts.now text.now }
+{
+    texts.iter().any(|other| other.as_slice() == text)
 }
 
 /// The mailboxes, INBOX among them: without flags where it isn't there.

@@ -3,7 +3,7 @@ use Rattle.std.proofs.Common.{◌≡◌, inl, inr, ◌++◌, ℕ, ◌≤◌, ◌
 use Rattle.sieve_lex.specs.declared.token.Mark.TheVariants as K
 use Rattle.sieve_syntax.specs.declared.table.keyword.Keyword.{Keyword}
 use Rattle.sieve_syntax.specs.declared.table.keyword.Keyword.TheVariants as W
-use Rattle.sieve_syntax.specs.declared.table.capability.Capabilities.{Capabilities}
+use Rattle.sieve_syntax.specs.Capabilities.{Capabilities}
 use Rattle.sieve_syntax.specs.Lexemes.{Lexeme, keyword, tag, number, text, mark, misfit}
 use Rattle.sieve_syntax.specs.Chains.{Chain}
 use Rattle.sieve_syntax.specs.Tree.{TestTree, yes, CommandTree, require, choose, stop, act, Branches, no_branches, branch, Commands, no_commands, command, depth, depth_of, branches_depth}

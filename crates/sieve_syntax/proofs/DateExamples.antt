@@ -6,24 +6,17 @@ use Rattle.mail_dates.specs.Parts.{part_named}
 use Rattle.mail_dates.specs.Words.{is_named, number_in, two_digits}
 use Rattle.mail_dates.specs.Zones.{offset_of, numeric_of}
 use Rattle.mail_dates.proofs.ZoneLaws.{numeric_again}
-use Rattle.sieve_lex.specs.declared.token.Content.TheVariants as C
 use Rattle.sieve_syntax.specs.declared.table.tag.Tag.TheVariants as T
 use Rattle.sieve_syntax.specs.declared.table.tag_group.TagValue.TheVariants as S
 use Rattle.sieve_syntax.specs.declared.parser.argument.Argument.{Argument}
 use Rattle.sieve_syntax.specs.declared.parser.argument.Argument.TheVariants as A
-use Rattle.sieve_syntax.specs.declared.tree.checks.MailCheck.TheVariants as Q
 use Rattle.sieve_syntax.specs.declared.tree.checks.Collation.TheVariants as L
 use Rattle.sieve_syntax.specs.declared.tree.checks.CurrentDate.{CurrentDate}
 use Rattle.sieve_syntax.specs.declared.tree.checks.DateTest.{DateTest}
 use Rattle.sieve_syntax.specs.declared.tree.checks.DateZone.TheVariants as Z
 use Rattle.sieve_syntax.specs.declared.tree.checks.Matching.TheVariants as M
-use Rattle.sieve_syntax.specs.Before.{IsUndatedCheck, EachAsksIn}
-use Rattle.sieve_syntax.specs.Languages.{lexeme_in, is_undated_capability, today, undated}
-use Rattle.sieve_syntax.specs.Lexemes.{tag}
 use Rattle.sieve_syntax.specs.Table.{SaysDate, SaysCurrentDate}
 use Rattle.sieve_syntax.specs.Tags.{IsTagValue}
-use Rattle.sieve_syntax.specs.Tree.{looks, choose, branch, no_branches, Commands, no_commands, command}
-use Rattle.sieve_syntax.specs.Valid.{is_capability}
 
 -- `:zone "+0200"` is two hours east of UTC, and `:zone "+2400"` none
 zone : IsTagValue (S.Zone (pos 120)) (A.Tag T.Zone ∷ (A.Text (codes "+0200") ∷ [])) []
@@ -59,17 +52,3 @@ now = record { name = codes "weekday"; zone = refl; comparator = refl; matching 
 -- and has no zone of its own
 no_original : (positional : List Argument) (current : CurrentDate) → SaysCurrentDate (S.OriginalZone ∷ []) positional current → ⊥
 no_original positional current says = let e : None ≡ Some current.zone = says.zone in absurd (cc e)
-
--- `:zone` was no tag before `date`, nor was `date` a name for `require`
-zone_undated : (lexeme_in undated (C.Tag (codes "zone")) ≡ tag T.Other) × (lexeme_in today (C.Tag (codes "Zone")) ≡ tag T.Zone)
-zone_undated = (refl, refl)
-
-date_undated : (is_undated_capability (codes "date") ≡ false) × (is_capability (codes "date") ≡ true)
-date_undated = (refl, refl)
-
--- a test of a date is none of that language
-abbrev asking : Commands
-asking = command (choose (branch (looks (Q.CurrentDate (record { zone = None; comparator = L.Octet; matching = M.Is; part = E.Year; keys = [] }))) no_commands no_branches)) no_commands
-
-no_test : EachAsksIn IsUndatedCheck asking → ⊥
-no_test each = each.0.0

@@ -22,7 +22,8 @@ use Rattle.sieve_syntax.specs.Positional.{one_list}
 use Rattle.sieve_syntax.specs.declared.table.tag_group.TagValue.{TagValue}
 use Rattle.sieve_syntax.specs.Tags.{IsAllowed, strings_of}
 use Rattle.sieve_syntax.specs.Tree.{require, Commands, no_commands, command}
-use Rattle.sieve_syntax.specs.Valid.{granted_by, required, after_requires, IsValid}
+use Rattle.sieve_syntax.specs.Capabilities.{granted_by}
+use Rattle.sieve_syntax.specs.Valid.{required, after_requires, IsValid}
 use Rattle.sieve_syntax.proofs.RequireLemmas.{require_keyword, requires_of, required_of, parted}
 use Rattle.sieve_syntax.proofs.TagLemmas.{none_there}
 

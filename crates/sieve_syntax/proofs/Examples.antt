@@ -36,7 +36,8 @@ use Rattle.sieve_syntax.specs.Table.{SaysSize, SaysAddress, SaysEnvelope, NamesP
 use Rattle.sieve_syntax.specs.Tests.{IsTest, ReadsTest}
 use Rattle.sieve_syntax.specs.Grammar.{ReadsScript}
 use Rattle.sieve_syntax.specs.Tree.{TestTree, yes, looks, not_of, all_of, any_of, no_tests, test, list_depth, not_depth, CommandTree, choose, stop, act, no_branches, branch, Commands, no_commands, command, depth}
-use Rattle.sieve_syntax.specs.Valid.{IsMailboxName, IsValid, is_capability}
+use Rattle.sieve_syntax.specs.Capabilities.{all_capabilities, knows_name}
+use Rattle.sieve_syntax.specs.Valid.{IsMailboxName, IsValid}
 use Rattle.sieve_syntax.specs.Means.{Means}
 use Rattle.sieve_syntax.specs.RunState.{RunState, TwoVacations}
 use Rattle.sieve_syntax.specs.Meaning.{outcome, Done, Failed}
@@ -154,10 +155,10 @@ fileinto_bare : IsValid (command (act (D.FileInto (record { mailbox = codes "a";
 fileinto_bare valid = let e : false ≡ true = valid.stand.0.0 in absurd (cc e)
 
 -- capabilities are compared by octets
-known : is_capability (codes "comparator-i;octet") ≡ true
+known : knows_name all_capabilities (codes "comparator-i;octet") ≡ true
 known = refl
 
-unknown : is_capability (codes "FileInto") ≡ false
+unknown : knows_name all_capabilities (codes "FileInto") ≡ false
 unknown = refl
 
 -- the three depths

@@ -3,7 +3,6 @@ use Rattle.std.proofs.Common.{◌≡◌, ◌∙◌, ◌∷◌, ◌||◌, ℕ, Bo
 use Rattle.std.specs.Prelude.{codes, cond, length, nat_lt}
 use Rattle.mail_flags.specs.Flags.{has}
 use Rattle.mail_flags.specs.declared.placement.Placement.{Placement}
-use Rattle.sieve_lex.specs.declared.token.Content.TheVariants as C
 use Rattle.sieve_syntax.specs.declared.table.keyword.Keyword.TheVariants as W
 use Rattle.sieve_syntax.specs.declared.table.tag.Tag.TheVariants as T
 use Rattle.sieve_syntax.specs.declared.table.tag_group.TagValue.{TagValue}
@@ -18,10 +17,8 @@ use Rattle.sieve_syntax.specs.declared.tree.checks.MailCheck.TheVariants as Q
 use Rattle.sieve_syntax.specs.declared.tree.checks.Collation.TheVariants as L
 use Rattle.sieve_syntax.specs.declared.tree.checks.HasFlag.{HasFlag}
 use Rattle.sieve_syntax.specs.declared.tree.checks.Matching.TheVariants as M
-use Rattle.sieve_syntax.specs.Before.{IsUnflaggedCheck, IsUnflaggedAction, EachIn, EachAsksIn}
 use Rattle.sieve_syntax.specs.Chains.{Chain}
-use Rattle.sieve_syntax.specs.Languages.{lexeme_in, is_unflagged_capability, today, unflagged}
-use Rattle.sieve_syntax.specs.Lexemes.{tag}
+use Rattle.sieve_syntax.specs.Capabilities.{all_capabilities}
 use Rattle.sieve_syntax.specs.Meaning.{Outcome, Done, Failed, done_by, outcome_after, outcome}
 use Rattle.sieve_syntax.specs.RunState.{RunState, TooManyMailboxes, Going, max_mailboxes, is_filed, has_room, with_filed, flags_given}
 use Rattle.sieve_syntax.specs.RunState as F
@@ -30,7 +27,7 @@ use Rattle.sieve_syntax.specs.Table.{SaysHasFlag, IsPlainCommand}
 use Rattle.sieve_syntax.specs.Tags.{IsTagValue, IsAllowed}
 use Rattle.sieve_syntax.specs.Trace.{actions_run}
 use Rattle.sieve_syntax.specs.Tree.{looks, CommandTree, require, choose, act, branch, no_branches, Commands, no_commands, command}
-use Rattle.sieve_syntax.specs.Valid.{is_capability, IsValid}
+use Rattle.sieve_syntax.specs.Valid.{IsValid}
 use Rattle.sieve_syntax.proofs.Examples.{into}
 use Rattle.sieve_syntax.proofs.LanguageExamples.{one_known}
 use Rattle.sieve_syntax.proofs.TagLemmas.{none_there, first_there, plain_none}
@@ -92,20 +89,10 @@ abbrev setting : Commands
 setting = command (act (SetFlag (codes "\\Deleted" ∷ []))) no_commands
 
 required : IsValid (command (require (codes "imap4flags" ∷ [])) setting)
-required = record { known = one_known is_capability (codes "imap4flags") refl; stand = (refl, tt); shallow = lit≤ tt }
+required = record { known = one_known all_capabilities (codes "imap4flags") refl; stand = (refl, tt); shallow = lit≤ tt }
 
 not_required : IsValid setting → ⊥
 not_required valid = let e : false ≡ true = valid.stand.0 in absurd (cc e)
-
--- `:flags` was no tag before `imap4flags`, nor was `imap4flags` a name for `require`
-flags_before : (lexeme_in unflagged (C.Tag (codes "flags")) ≡ tag T.Other) × (lexeme_in today (C.Tag (codes "Flags")) ≡ tag T.Flags)
-flags_before = (refl, refl)
-
-name_before : (is_unflagged_capability (codes "imap4flags") ≡ false) × (is_capability (codes "imap4flags") ≡ true)
-name_before = (refl, refl)
-
-no_setting : EachIn IsUnflaggedAction setting → ⊥
-no_setting each = each.0
 
 -- ---- what is done
 
@@ -192,9 +179,6 @@ run_before = refl
 
 not_run : actions_run asks_for_a (asking (SetFlag (codes "B" ∷ [])) (SetFlag (codes "A" ∷ []))) ≡ SetFlag (codes "B" ∷ []) ∷ (SetFlag (codes "A" ∷ []) ∷ [])
 not_run = refl
-
-no_test : EachAsksIn IsUnflaggedCheck (asking Discard Discard) → ⊥
-no_test each = each.1.0.0
 
 -- ---- into how many mailboxes a message goes
 

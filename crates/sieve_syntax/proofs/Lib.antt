@@ -20,6 +20,7 @@ pub mod TraceLemmas
 pub mod OutcomeLemmas
 pub mod EntityLemmas
 pub mod DecodingLemmas
+pub mod CapabilityLemmas
 pub mod LanguageLemmas
 pub mod LanguageLaws
 pub mod LanguageExamples

@@ -18,10 +18,9 @@ use Rattle.sieve_syntax.specs.declared.tree.action.Action.{Action}
 use Rattle.sieve_syntax.specs.declared.tree.action.Action.TheVariants.{Keep, Discard, FileInto, Redirect, Vacation, SetFlag, AddFlag, RemoveFlag}
 use Rattle.sieve_syntax.specs.declared.tree.checks.MailCheck.{MailCheck}
 use Rattle.sieve_syntax.specs.declared.tree.vacation.VacationArgs.{VacationArgs}
-use Rattle.sieve_syntax.specs.Before.{IsUnflaggedAction}
 use Rattle.sieve_syntax.specs.RunState.{RunState, at_first, max_targets, max_mailboxes, TwoVacations, TooManyRedirects, TooManyMailboxes, Flow, Going, Stopped, Failed, and_then, inbox, mailbox_named, is_filed, has_room, with_filed, flags_given, cancelled_after, filed_into, same_target, sent_to, replied_by, performed}
 use Rattle.sieve_syntax.specs.Meaning.{Actions, actions_of, done_by, outcome_after, outcome}
-use Rattle.sieve_syntax.specs.Trace.{actions_run, in_turn, KeepsImplicitly, OnDone, NamesWithoutRepeats, FilesIntoInboxAlone, FilesWithoutFlags, NamesFlags, FilesWithFlags}
+use Rattle.sieve_syntax.specs.Trace.{actions_run, in_turn, KeepsImplicitly, OnDone, NamesWithoutRepeats, FilesIntoInboxAlone, NamesFlags, FilesWithFlags}
 use Rattle.sieve_syntax.specs.Tree.{Commands}
 use Rattle.sieve_syntax.proofs.TraceLemmas.{outcome_in_turn}
 
@@ -257,61 +256,6 @@ implicitly_kept truth commands all =
     step (Going state) so = untouched_end state so
     step (Stopped state) so = untouched_end state so
     step (Failed failure) so = tt
-
--- ---- where no action gives or sets flags, no copy has any
-
-abbrev HasNone : Placement → Type 0
-HasNone one = one.flags ≡ []
-
-record IsBare (state : RunState) : Type 0 where
-  flags : state.flags ≡ []
-  filed : All HasNone state.filed
-
-bare_given : (given : Option (List (List ℕ))) (state : RunState) → given ≡ None → IsBare state → flags_given given state ≡ []
-bare_given given state none so = ap (λ g. flags_given g state) none ∙ ap flags_text so.flags
-
-bare_filed : (mailbox flags : List ℕ) (copy : Bool) (state : RunState) → flags ≡ [] → IsBare state → OnState IsBare (filed_into mailbox flags copy state)
-bare_filed mailbox flags copy state none so = step (has_room state.filed mailbox)
-  where
-    step : (room : Bool) → OnState IsBare (cond room (Going (with_copy mailbox flags copy state)) (Failed TooManyMailboxes))
-    step true = record { flags = so.flags; filed = all_filed HasNone state.filed (copy_in mailbox flags) so.filed none }
-    step false = tt
-
-bare_sent : (target : Addr) (copy : Bool) (state : RunState) → IsBare state → OnState IsBare (sent_to target copy state)
-bare_sent target copy state so = step (list_any (λ there. same_target there target) state.sent) (nat_lt (length state.sent) max_targets)
-  where
-    step : (there room : Bool)
-        → OnState IsBare (cond there (Going (record state { cancelled = cancelled_after copy state })) (cond room (Going (record state { sent = state.sent ++ target ∷ []; cancelled = cancelled_after copy state })) (Failed TooManyRedirects)))
-    step true room = record { flags = so.flags; filed = so.filed }
-    step false true = record { flags = so.flags; filed = so.filed }
-    step false false = tt
-
-bare_reply : (args : VacationArgs) (state : RunState) → IsBare state → OnState IsBare (replied_by args state)
-bare_reply args state so = step state.reply
-  where
-    step : (reply : Option VacationArgs) → OnState IsBare (elim reply [
-      | None ↦ Going (record state { reply = Some args })
-      | Some _ ↦ Failed TwoVacations
-    ])
-    step None = record { flags = so.flags; filed = so.filed }
-    step (Some _) = tt
-
-bare_action : (action : Action) (state : RunState) → IsUnflaggedAction action → IsBare state → OnState IsBare (performed action state)
-bare_action (Keep given) state may so = bare_filed inbox (flags_given given state) false state (bare_given given state may so) so
-bare_action Discard state may so = record { flags = so.flags; filed = so.filed }
-bare_action (FileInto filing) state may so = bare_filed (mailbox_named filing.mailbox) (flags_given filing.flags state) filing.copy state (bare_given filing.flags state may so) so
-bare_action (Redirect redirect) state may so = bare_sent redirect.target redirect.copy state so
-bare_action (Vacation args) state may so = bare_reply args state so
-bare_action (SetFlag texts) state may so = absurd may
-bare_action (AddFlag texts) state may so = absurd may
-bare_action (RemoveFlag texts) state may so = absurd may
-
-pub unflagged_bare : (truth : RunState → MailCheck → Bool) (commands : Commands) → All IsUnflaggedAction (actions_run truth commands) → OnDone FilesWithoutFlags (outcome truth commands)
-unflagged_bare truth commands all =
-    subst (OnDone FilesWithoutFlags) (sym (outcome_in_turn truth commands))
-    (in_the_end IsBare FilesWithoutFlags (λ state so. record { bare = so.filed }) (λ state so. bare_filed inbox (flags_given None state) true state (bare_given None state refl so) so)
-    (in_turn (actions_run truth commands) at_first)
-    (kept_in_turn IsBare IsUnflaggedAction bare_action (actions_run truth commands) all at_first (record { flags = refl; filed = λ k other within. absurd (omega (arith, within)) })))
 
 -- ---- whatever the texts are, the flags of a copy are flags
 

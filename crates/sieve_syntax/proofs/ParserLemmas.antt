@@ -4,7 +4,7 @@ use Rattle.sieve_lex.specs.declared.token.Mark.TheVariants as K
 use Rattle.sieve_syntax.specs.declared.table.keyword.Keyword.{Keyword}
 use Rattle.sieve_syntax.specs.declared.table.keyword.Keyword.TheVariants as W
 use Rattle.sieve_syntax.specs.declared.parser.argument.Argument.{Argument}
-use Rattle.sieve_syntax.specs.declared.table.capability.Capabilities.{Capabilities}
+use Rattle.sieve_syntax.specs.Capabilities.{Capabilities}
 use Rattle.sieve_syntax.specs.Lexemes.{Lexeme, mark}
 use Rattle.sieve_syntax.specs.Arguments.{AreArguments}
 use Rattle.sieve_syntax.specs.Table.{IsPlainCommand}

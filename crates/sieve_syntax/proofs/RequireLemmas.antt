@@ -1,5 +1,5 @@
 -- Lemmas on the requires at the front, and on whole scripts.
-use Rattle.std.proofs.Common.{◌≡◌, ◌||◌, ℕ, ◌≤◌, ◌<◌, ◌+◌, List, [], ◌∷◌, ◌++◌, append_assoc, length, map, codes, refl, sym, ap, ◌∙◌, subst, arith}
+use Rattle.std.proofs.Common.{◌≡◌, ◌||◌, ℕ, ◌≤◌, ◌<◌, ◌+◌, List, [], ◌∷◌, ◌++◌, append_assoc, length, map, refl, sym, ap, ◌∙◌, subst, arith}
 use Rattle.std.specs.List.{list_any, All}
 use Rattle.std.proofs.Common.{length-append}
 use Rattle.std.proofs.Math.ListN.{get_or-append}
@@ -12,16 +12,17 @@ use Rattle.sieve_lex.specs.declared.token.Mark.TheVariants as K
 use Rattle.sieve_syntax.specs.declared.table.keyword.Keyword.{Keyword}
 use Rattle.sieve_syntax.specs.declared.table.keyword.Keyword.TheVariants as W
 use Rattle.sieve_syntax.specs.declared.parser.argument.Argument.{Argument}
-use Rattle.sieve_syntax.specs.declared.table.capability.Capabilities.{Capabilities}
+use Rattle.sieve_syntax.specs.declared.capability.Capability.{Capability}
+use Rattle.sieve_syntax.specs.Capabilities.{Capabilities, all_capabilities, KnowsName, is_name_of, granted_by, granted_too}
 use Rattle.sieve_syntax.specs.Lexemes.{Lexeme, keyword, mark}
 use Rattle.sieve_syntax.specs.Arguments.{AreArguments}
 use Rattle.sieve_syntax.specs.Chains.{Chain}
 use Rattle.sieve_syntax.specs.Table.{IsList, IsPlainCommand}
 use Rattle.sieve_syntax.specs.Tree.{CommandTree, require, choose, stop, act, no_branches, branch, Commands, no_commands, command, depth}
 use Rattle.sieve_syntax.specs.View.{commands_of}
-use Rattle.sieve_syntax.specs.Valid.{max_blocks, IsCapability, is_capability_named, MayStand, MayAllStand, required, after_requires, granted_by, IsValid}
+use Rattle.sieve_syntax.specs.Valid.{max_blocks, MayStand, MayAllStand, required, after_requires, IsValid}
 use Rattle.sieve_syntax.specs.Grammar.{IsStatement, IsCommand, AreCommands, ReadsCommand, ReadsScript}
-use Rattle.sieve_syntax.specs.Steps.{TakesAll, TakesRequire, TakesRequires, IsPastRequires, all_names, granted_too}
+use Rattle.sieve_syntax.specs.Steps.{TakesAll, TakesRequire, TakesRequires, IsPastRequires, all_names}
 
 -- the arguments of a `require`
 module _ (after : List Lexeme) (args : List Argument) (next : List Lexeme) (only : (other : List Argument) (to : List Lexeme) → AreArguments other after to → (other ≡ args) × (to ≡ next)) where
@@ -126,11 +127,9 @@ all_names-push (first ∷ more) names = ap (λ l. first ++ l) (all_names-push mo
 -- what one `require` more grants
 pub granted_push : (old new : Capabilities) (each : List (List (List ℕ))) (names : List (List ℕ)) → old ≡ granted_by (all_names each) → new ≡ granted_too old names → new ≡ granted_by (all_names (each ++ names ∷ []))
 granted_push old new each names was made =
-    let also : (keyword : List ℕ) → list_any (is_capability_named keyword) (all_names each) || list_any (is_capability_named keyword) names ≡ list_any (is_capability_named keyword) (all_names (each ++ names ∷ [])) =
-    λ keyword. sym (list_any-append (is_capability_named keyword) (all_names each) names) ∙ ap (list_any (is_capability_named keyword)) (sym (all_names-push each names)) in
-    let now : granted_too (granted_by (all_names each)) names ≡ granted_by (all_names (each ++ names ∷ [])) =
-    λ i. record { fileinto = also (codes "fileinto") i; envelope = also (codes "envelope") i; vacation = also (codes "vacation") i; copy = also (codes "copy") i; seconds = also (codes "vacation-seconds") i; subaddress = also (codes "subaddress") i; relational = also (codes "relational") i; numeric = also (codes "comparator-i;ascii-numeric") i; mailbox = also (codes "mailbox") i; date = also (codes "date") i; flags = also (codes "imap4flags") i } in
-    made ∙ ap (λ g. granted_too g names) was ∙ now
+    let also : (c : Capability) → granted_too (granted_by (all_names each)) names c ≡ granted_by (all_names (each ++ names ∷ [])) c =
+    λ c. sym (list_any-append (is_name_of c) (all_names each) names) ∙ ap (list_any (is_name_of c)) (sym (all_names-push each names)) in
+    made ∙ ap (λ g. granted_too g names) was ∙ (λ i c. also c i)
 
 module _ (whole : List Lexeme) (each : List (List (List ℕ))) (rest : List Lexeme) (so : IsSoFar TakesRequire IsPastRequires whole each rest) where
   -- no `require` follows
@@ -148,12 +147,12 @@ module _ (whole : List Lexeme) (each : List (List (List ℕ))) (rest : List Lexe
 
     module _ (names : List (List ℕ)) (next : List Lexeme) (found : IsStatement (require names) W.Require mid next × ((other : List (List ℕ)) (end : List Lexeme) → IsStatement (require other) W.Require mid end → (other ≡ names) × (end ≡ next))) where
       -- names of which one is not known
-      pub requires_unknown : (All IsCapability names → ⊥) → (others : List (List (List ℕ))) (to : List Lexeme) → TakesRequires others whole to → ⊥
+      pub requires_unknown : (All (KnowsName all_capabilities) names → ⊥) → (others : List (List (List ℕ))) (to : List Lexeme) → TakesRequires others whole to → ⊥
       requires_unknown unknown others to takes =
-          chain_fails TakesRequire IsPastRequires whole each rest so goes_on (λ other end at. unknown (subst (All IsCapability) (found.1 other end (after_require rest mid opens other end at.0)).0 at.1)) others to takes.0 takes.1
+          chain_fails TakesRequire IsPastRequires whole each rest so goes_on (λ other end at. unknown (subst (All (KnowsName all_capabilities)) (found.1 other end (after_require rest mid opens other end at.0)).0 at.1)) others to takes.0 takes.1
 
       -- one `require` more
-      pub requires_more : All IsCapability names → IsSoFar TakesRequire IsPastRequires whole (each ++ names ∷ []) next
+      pub requires_more : All (KnowsName all_capabilities) names → IsSoFar TakesRequire IsPastRequires whole (each ++ names ∷ []) next
       requires_more known =
           chain_more TakesRequire IsPastRequires whole each rest names next so ((W.Require, (mid, (opens, found.0))), known) (λ other end at. found.1 other end (after_require rest mid opens other end at.0)) goes_on
 
@@ -240,11 +239,11 @@ module _ (granted : Capabilities) where
       other (act action) name after may' is = past_keyword name after (λ same. let e = (subst (λ w. IsStatement (act action) w after to) same is).1.1.tree_is in cc)
 
   -- a script is requires and then commands
-  pub parted : (cs : Commands) (from : List Lexeme) → ReadsScript cs from → All IsCapability (required cs) → MayAllStand granted (after_requires cs) → (mid : List Lexeme) × (TakesRequires (requires_of cs) from mid × AreCommands (after_requires cs) mid [])
+  pub parted : (cs : Commands) (from : List Lexeme) → ReadsScript cs from → All (KnowsName all_capabilities) (required cs) → MayAllStand granted (after_requires cs) → (mid : List Lexeme) × (TakesRequires (requires_of cs) from mid × AreCommands (after_requires cs) mid [])
   parted no_commands from same known may = ([], ((same, tt), refl))
   parted (command (require names) more) from reads known may =
-      let rest = parted more reads.0 reads.1.1 (all_right IsCapability names (required more) known) may in
-      (rest.0, (((reads.0, ((reads.1.0, all_left IsCapability names (required more) known), rest.1.0.0)), rest.1.0.1), rest.1.1))
+      let rest = parted more reads.0 reads.1.1 (all_right (KnowsName all_capabilities) names (required more) known) may in
+      (rest.0, (((reads.0, ((reads.1.0, all_left (KnowsName all_capabilities) names (required more) known), rest.1.0.0)), rest.1.0.1), rest.1.1))
   parted (command (choose branches) more) from reads known may = (from, ((refl, past_command (choose branches) from reads.0 may.0 reads.1.0), reads))
   parted (command stop more) from reads known may = (from, ((refl, past_command stop from reads.0 may.0 reads.1.0), reads))
   parted (command (act action) more) from reads known may = (from, ((refl, past_command (act action) from reads.0 may.0 reads.1.0), reads))
@@ -254,9 +253,9 @@ module _ (granted : Capabilities) where
   joined [] cs from mid same are = subst (λ l. AreCommands cs l []) (sym same) are
   joined (names ∷ more) cs from mid chain are = (chain.0, (chain.1.0.0, joined more cs chain.0 mid chain.1.1 are))
 
-all_known : (each : List (List (List ℕ))) (from mid : List Lexeme) → Chain TakesRequire each from mid → All IsCapability (all_names each)
+all_known : (each : List (List (List ℕ))) (from mid : List Lexeme) → Chain TakesRequire each from mid → All (KnowsName all_capabilities) (all_names each)
 all_known [] from mid same = λ k d below. absurd (omega (arith, below))
-all_known (names ∷ more) from mid chain = All-append IsCapability names (all_names more) chain.1.0.1 (all_known more chain.0 mid chain.1.1)
+all_known (names ∷ more) from mid chain = All-append (KnowsName all_capabilities) names (all_names more) chain.1.0.1 (all_known more chain.0 mid chain.1.1)
 
 -- a script without requires that may stand is no script
 pub script_no_requires : (from : List Lexeme) → ((each : List (List (List ℕ))) (to : List Lexeme) → TakesRequires each from to → ⊥) → (tree : Commands) → ReadsScript tree from → IsValid tree → ⊥
@@ -303,7 +302,7 @@ script_found from mid granted each more trees grants requires all parts =
     let same : granted ≡ granted_by (required (with_requires each (commands_of more))) = grants ∙ ap granted_by (sym names) in
     let after : commands_of more ≡ after_requires (with_requires each (commands_of more)) = sym (after_with granted each (commands_of more) stand) in
     let valid : IsValid (with_requires each (commands_of more)) = record {
-      known = subst (All IsCapability) (sym names) (all_known each from mid requires.0);
+      known = subst (All (KnowsName all_capabilities)) (sym names) (all_known each from mid requires.0);
       stand = subst (λ cs. MayAllStand (granted_by (required (with_requires each (commands_of more)))) cs) after (subst (λ g. MayAllStand g (commands_of more)) same stand);
       shallow = omega (arith, with_depth each (commands_of more));
     } in

@@ -20,6 +20,7 @@ use Rattle.sieve_lex.proofs.Named.{identifier_found}
 use Rattle.sieve_lex.proofs.Marks.{mark_found}
 use Rattle.sieve_lex.proofs.Gaps.{tail_all}
 use Rattle.sieve_lex.proofs.Next.{IsAhead, next_found, next_only, next_further}
+use Rattle.sieve_syntax.proofs.LanguageLemmas.{all_lexemes}
 use Rattle.sieve_syntax.specs.declared.table.keyword.Keyword.{Keyword}
 use Rattle.sieve_syntax.specs.declared.table.keyword.Keyword.TheVariants as W
 use Rattle.sieve_syntax.specs.declared.parser.argument.Argument.{Argument}
@@ -149,4 +150,4 @@ bare_tokens (t ∷ ts) h =
 keeps_nothing : (tree : Commands) → Means (codes "keep") tree → ⊥
 keeps_nothing tree m =
     let P : List Token → Type 0 = λ ts. ReadsScript tree (as_read (lexemes_of (contents_of ts))) in
-    keyword_alone tree (subst P (bare_tokens m.tokens m.spelled.spelled) m.read)
+    keyword_alone tree (subst P (bare_tokens m.tokens m.spelled.spelled) (subst (λ l. ReadsScript tree (as_read l)) (all_lexemes (contents_of m.tokens)) m.read))

@@ -14,6 +14,7 @@ pub mod TagValues
 pub mod Tests
 pub mod RunState
 pub mod Tree
+pub mod Capabilities
 pub mod Valid
 pub mod View
 pub mod Meaning
@@ -21,4 +22,4 @@ pub mod Work
 pub mod Languages
 pub mod Means
 pub mod Trace
-pub mod Before
+pub mod Growth

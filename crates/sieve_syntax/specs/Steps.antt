@@ -1,15 +1,15 @@
 -- What the steps of the parser read: what comes first by the grammar, if it is permitted there.
-use Rattle.std.specs.Prelude.{◌≡◌, ◌≤◌, ◌+◌, ◌||◌, ℕ, List, [], ◌∷◌, ◌++◌, map, All}
+use Rattle.std.specs.Prelude.{◌≡◌, ◌≤◌, ◌+◌, ℕ, List, [], ◌∷◌, ◌++◌, map, All}
 use Rattle.sieve_lex.specs.declared.token.Mark.TheVariants as K
 use Rattle.sieve_syntax.specs.declared.table.keyword.Keyword.{Keyword}
 use Rattle.sieve_syntax.specs.declared.table.keyword.Keyword.TheVariants as W
-use Rattle.sieve_syntax.specs.declared.table.capability.Capabilities.{Capabilities}
+use Rattle.sieve_syntax.specs.Capabilities.{Capabilities, all_capabilities, KnowsName, granted_by}
 use Rattle.sieve_syntax.specs.Lexemes.{Lexeme, keyword, mark}
 use Rattle.sieve_syntax.specs.Chains.{Chain}
 use Rattle.sieve_syntax.specs.Tests.{Marked, IsTest, AreTests, ReadsTest}
 use Rattle.sieve_syntax.specs.Grammar.{Braced, IsPastBranches, IsCommand, AreCommands, ReadsCommand}
 use Rattle.sieve_syntax.specs.Tree.{TestTree, yes, Tests, lists_depth, nots_depth, CommandTree, require, Commands, depth, depth_of}
-use Rattle.sieve_syntax.specs.Valid.{max_lists, max_nots, IsCapability, granted_by, MayBeCondition, MayAllTest, MayStand, MayAllStand}
+use Rattle.sieve_syntax.specs.Valid.{max_lists, max_nots, MayBeCondition, MayAllTest, MayStand, MayAllStand}
 
 -- a test comes first that is permitted there: at most that many test lists and that many `not`s enclose any test
 -- within it
@@ -85,7 +85,7 @@ TakesAll granted room trees from to = Chain (TakesCommand granted room) trees fr
 
 -- a `require` of known capabilities comes first
 abbrev pub TakesRequire : List (List ℕ) → List Lexeme → List Lexeme → Type 0
-TakesRequire names from to = ReadsCommand (require names) from to × All IsCapability names
+TakesRequire names from to = ReadsCommand (require names) from to × All (KnowsName all_capabilities) names
 
 -- no `require` comes first
 abbrev pub IsPastRequires : List Lexeme → Type 0
@@ -96,22 +96,6 @@ IsPastRequires _ = Unit {0}
 abbrev pub all_names : List (List (List ℕ)) → List (List ℕ)
 all_names [] = []
 all_names (names ∷ more) = names ++ all_names more
-
--- what is granted, together with what these names grant
-abbrev pub granted_too : Capabilities → List (List ℕ) → Capabilities
-granted_too granted names = record {
-  fileinto = granted.fileinto || (granted_by names).fileinto;
-  envelope = granted.envelope || (granted_by names).envelope;
-  vacation = granted.vacation || (granted_by names).vacation;
-  copy = granted.copy || (granted_by names).copy;
-  seconds = granted.seconds || (granted_by names).seconds;
-  subaddress = granted.subaddress || (granted_by names).subaddress;
-  relational = granted.relational || (granted_by names).relational;
-  numeric = granted.numeric || (granted_by names).numeric;
-  mailbox = granted.mailbox || (granted_by names).mailbox;
-  date = granted.date || (granted_by names).date;
-  flags = granted.flags || (granted_by names).flags;
-}
 
 -- requires come first, up to another command or the end
 abbrev pub TakesRequires : List (List (List ℕ)) → List Lexeme → List Lexeme → Type 0

@@ -89,10 +89,6 @@ pub record FilesIntoInboxAlone (actions : Actions) : Type 0 where
   pub filed : map (λ (one : Placement). one.mailbox) actions.filed ≡ inbox ∷ []
   pub sent : actions.sent ≡ []
 
--- no copy has flags
-pub record FilesWithoutFlags (actions : Actions) : Type 0 where
-  pub bare : All (λ (one : Placement). one.flags ≡ []) actions.filed
-
 -- the text of a copy names flags: names of flags, none twice, and no more than a message may have
 abbrev pub NamesFlags : Placement → Type 0
 NamesFlags one = (flags : List (List ℕ)) × AreFlags flags × (one.flags ≡ flags_text flags)

@@ -1,8 +1,6 @@
 -- What a valid tree has to be besides what the grammar demands.
-use Rattle.std.specs.Prelude.{◌≡◌, ◌≢◌, ◌≤◌, ◌||◌, ℕ, Bool, true, false, not, is_some, List, [], ◌++◌, codes, length, All, nat_eq}
-use Rattle.std.specs.List.{list_any}
+use Rattle.std.specs.Prelude.{◌≡◌, ◌≢◌, ◌≤◌, ◌||◌, ℕ, Bool, true, false, not, is_some, List, [], ◌++◌, length, All}
 use Rattle.std.specs.Str.{IsUtf8}
-use Rattle.std.specs.Cmp.Lexicographic.{pointwise}
 use Rattle.sieve_syntax.specs.declared.tree.action.Action.{Action}
 use Rattle.sieve_syntax.specs.declared.tree.action.Action.TheVariants.{Keep, Discard, FileInto, Redirect, Vacation, SetFlag, AddFlag, RemoveFlag}
 use Rattle.sieve_syntax.specs.declared.tree.checks.AddressPart.{AddressPart}
@@ -13,7 +11,8 @@ use Rattle.sieve_syntax.specs.declared.tree.checks.Matching.{Matching}
 use Rattle.sieve_syntax.specs.declared.tree.checks.Matching.TheVariants.{Contains, Matches, Value, Count}
 use Rattle.sieve_syntax.specs.declared.tree.checks.MailCheck.{MailCheck}
 use Rattle.sieve_syntax.specs.declared.tree.checks.MailCheck.TheVariants.{Size, Exists, Header, Address, Envelope, MailboxExists, Date, CurrentDate, HasFlag}
-use Rattle.sieve_syntax.specs.declared.table.capability.Capabilities.{Capabilities}
+use Rattle.sieve_syntax.specs.declared.capability.Capability.TheVariants as C
+use Rattle.sieve_syntax.specs.Capabilities.{Capabilities, all_capabilities, KnowsName, granted_by}
 use Rattle.sieve_syntax.specs.Reasons.{IsReason}
 use Rattle.sieve_syntax.specs.Tree.{TestTree, yes, no, looks, not_of, all_of, any_of, Tests, no_tests, test, list_depth, not_depth, CommandTree, require, choose, stop, act, Branches, no_branches, branch, Commands, no_commands, command, depth}
 
@@ -24,50 +23,9 @@ pub record IsMailboxName (name : List ℕ) : Type 0 where
   pub plain : All (λ octet. (32 ≤ octet) × (octet ≢ 127)) name
   pub utf8 : IsUtf8 name
 
--- names of capabilities are compared by octets
-abbrev pub is_capability_named : List ℕ → List ℕ → Bool
-is_capability_named capability name = pointwise nat_eq name capability
-
--- the capabilities that `require` may name
-abbrev pub is_capability : List ℕ → Bool
-is_capability name =
-    is_capability_named (codes "fileinto") name
-    || (is_capability_named (codes "envelope") name
-    || (is_capability_named (codes "vacation") name
-    || (is_capability_named (codes "comparator-i;octet") name
-    || (is_capability_named (codes "comparator-i;ascii-casemap") name
-    || (is_capability_named (codes "copy") name
-    || (is_capability_named (codes "vacation-seconds") name
-    || (is_capability_named (codes "subaddress") name
-    || (is_capability_named (codes "relational") name
-    || (is_capability_named (codes "comparator-i;ascii-numeric") name
-    || (is_capability_named (codes "encoded-character") name
-    || (is_capability_named (codes "mailbox") name
-    || (is_capability_named (codes "date") name
-    || is_capability_named (codes "imap4flags") name))))))))))))
-
-abbrev pub IsCapability : List ℕ → Type 0
-IsCapability name = is_capability name ≡ true
-
--- what these names of capabilities grant (RFC 5228, 3.2); `i;octet` and `i;ascii-casemap` may be used without
-abbrev pub granted_by : List (List ℕ) → Capabilities
-granted_by names = record {
-  fileinto = list_any (is_capability_named (codes "fileinto")) names;
-  envelope = list_any (is_capability_named (codes "envelope")) names;
-  vacation = list_any (is_capability_named (codes "vacation")) names;
-  copy = list_any (is_capability_named (codes "copy")) names;
-  seconds = list_any (is_capability_named (codes "vacation-seconds")) names;
-  subaddress = list_any (is_capability_named (codes "subaddress")) names;
-  relational = list_any (is_capability_named (codes "relational")) names;
-  numeric = list_any (is_capability_named (codes "comparator-i;ascii-numeric")) names;
-  mailbox = list_any (is_capability_named (codes "mailbox")) names;
-  date = list_any (is_capability_named (codes "date")) names;
-  flags = list_any (is_capability_named (codes "imap4flags")) names;
-}
-
 -- `vacation` may be used: `vacation-seconds` implies it (RFC 6131, 2)
 abbrev pub may_use_vacation : Capabilities → Bool
-may_use_vacation granted = granted.vacation || granted.seconds
+may_use_vacation granted = granted C.Vacation || granted C.VacationSeconds
 
 -- what is used is granted
 abbrev pub Permits : (granted used : Bool) → Type 0
@@ -81,7 +39,7 @@ is_subaddress _ = false
 
 -- a part of an address that may be named if this is granted
 abbrev pub MayNamePart : Capabilities → AddressPart → Type 0
-MayNamePart granted part = Permits granted.subaddress (is_subaddress part)
+MayNamePart granted part = Permits (granted C.Subaddress) (is_subaddress part)
 
 -- a match type that only `relational` has (RFC 5231)
 abbrev pub is_relational : Matching → Bool
@@ -103,21 +61,21 @@ seeks_part _ = false
 -- how values may be matched if this is granted: a number has no parts (RFC 4790, 9.1)
 abbrev pub MayMatch : Capabilities → Collation → Matching → Type 0
 MayMatch granted comparator matching =
-    Permits granted.relational (is_relational matching) × Permits granted.numeric (is_numeric comparator)
+    Permits (granted C.Relational) (is_relational matching) × Permits (granted C.AsciiNumeric) (is_numeric comparator)
     × Permits (not (is_numeric comparator)) (seeks_part matching)
 
 -- an action that is permitted if this is granted
 abbrev pub MayAct : Capabilities → Action → Type 0
-MayAct granted (Keep given) = Permits granted.flags (is_some given)
+MayAct granted (Keep given) = Permits (granted C.Imap4flags) (is_some given)
 MayAct granted Discard = Unit {0}
 MayAct granted (FileInto filing) =
-    (granted.fileinto ≡ true) × Permits granted.copy filing.copy × Permits granted.mailbox filing.create × Permits granted.flags (is_some filing.flags)
+    (granted C.FileInto ≡ true) × Permits (granted C.Copy) filing.copy × Permits (granted C.Mailbox) filing.create × Permits (granted C.Imap4flags) (is_some filing.flags)
     × IsMailboxName filing.mailbox
-MayAct granted (Redirect redirect) = Permits granted.copy redirect.copy
-MayAct granted (Vacation args) = (may_use_vacation granted ≡ true) × Permits granted.seconds (is_some args.seconds) × IsReason args
-MayAct granted (SetFlag texts) = granted.flags ≡ true
-MayAct granted (AddFlag texts) = granted.flags ≡ true
-MayAct granted (RemoveFlag texts) = granted.flags ≡ true
+MayAct granted (Redirect redirect) = Permits (granted C.Copy) redirect.copy
+MayAct granted (Vacation args) = (may_use_vacation granted ≡ true) × Permits (granted C.VacationSeconds) (is_some args.seconds) × IsReason args
+MayAct granted (SetFlag texts) = granted C.Imap4flags ≡ true
+MayAct granted (AddFlag texts) = granted C.Imap4flags ≡ true
+MayAct granted (RemoveFlag texts) = granted C.Imap4flags ≡ true
 
 -- a test of the message, or of the flags that are set, that is permitted if this is granted
 abbrev pub MayCheck : Capabilities → MailCheck → Type 0
@@ -126,11 +84,11 @@ MayCheck granted (Exists fields) = Unit {0}
 MayCheck granted (Header header) = MayMatch granted header.comparator header.matching
 MayCheck granted (Address address) = MayNamePart granted address.part × MayMatch granted address.comparator address.matching
 MayCheck granted (Envelope envelope) =
-    (granted.envelope ≡ true) × MayNamePart granted envelope.part × MayMatch granted envelope.comparator envelope.matching
-MayCheck granted (MailboxExists names) = granted.mailbox ≡ true
-MayCheck granted (Date date) = (granted.date ≡ true) × MayMatch granted date.comparator date.matching
-MayCheck granted (CurrentDate current) = (granted.date ≡ true) × MayMatch granted current.comparator current.matching
-MayCheck granted (HasFlag flag) = (granted.flags ≡ true) × MayMatch granted flag.comparator flag.matching
+    (granted C.Envelope ≡ true) × MayNamePart granted envelope.part × MayMatch granted envelope.comparator envelope.matching
+MayCheck granted (MailboxExists names) = granted C.Mailbox ≡ true
+MayCheck granted (Date date) = (granted C.Date ≡ true) × MayMatch granted date.comparator date.matching
+MayCheck granted (CurrentDate current) = (granted C.Date ≡ true) × MayMatch granted current.comparator current.matching
+MayCheck granted (HasFlag flag) = (granted C.Imap4flags ≡ true) × MayMatch granted flag.comparator flag.matching
 
 -- a test that is permitted if this is granted
 abbrev mutual
@@ -190,14 +148,14 @@ after_requires no_commands = no_commands
 after_requires (command (require names) more) = after_requires more
 after_requires (command first more) = command first more
 
--- a valid script, given the names that `require` knows: `require` precedes every other command and names only what is
--- known, an extension is used only if it is required, blocks are nested no deeper than they may be, and no more test lists
+-- a valid script, where these capabilities are offered: `require` precedes every other command and names only what is
+-- offered, an extension is used only if it is required, blocks are nested no deeper than they may be, and no more test lists
 -- and, counted separately, `not`s enclose a test than may
-pub record IsValidIn (knows : List ℕ → Bool) (commands : Commands) : Type 0 where
-  pub known : All (λ name. knows name ≡ true) (required commands)
+pub record IsValidIn (offered : Capabilities) (commands : Commands) : Type 0 where
+  pub known : All (KnowsName offered) (required commands)
   pub stand : MayAllStand (granted_by (required commands)) (after_requires commands)
   pub shallow : depth commands ≤ max_blocks
 
 -- a valid script
 abbrev pub IsValid : Commands → Type 0
-IsValid = IsValidIn is_capability
+IsValid = IsValidIn all_capabilities

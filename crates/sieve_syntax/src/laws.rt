@@ -1,8 +1,8 @@
 //! Laws of the definitions, each the contract of a function that does nothing.
 ghost use Rattle.std.specs.Prelude.{◌≡◌, ◌↔◌, ℕ, Bool, true, List, All};
 ghost use Rattle.sieve_syntax.specs.declared.tree.checks.MailCheck.{MailCheck};
-ghost use Rattle.sieve_syntax.specs.Before.{outcome_in, StillMeans, MeansFormerly, MeansUndated, MeansUnflagged};
-ghost use Rattle.sieve_syntax.specs.Languages.{today, language_before_copy, former, undated, unflagged};
+ghost use Rattle.sieve_syntax.specs.Capabilities.{Capabilities, IsWithin};
+ghost use Rattle.sieve_syntax.specs.Growth.{StillMeans};
 ghost use Rattle.sieve_syntax.specs.Meaning.{outcome_after, outcome};
 ghost use Rattle.sieve_syntax.specs.Means.{MeansIn, Means};
 ghost use Rattle.sieve_syntax.specs.Reasons.{is_entity, IsEntity};
@@ -43,28 +43,8 @@ pub fn entity_of_a_reason()
     ensures { (text : List ℕ) → (is_entity text ≡ true) ↔ IsEntity text }
 {}
 
-/// A text that meant a tree before `subaddress` (RFC 5233), `relational` (RFC 5231), `comparator-i;ascii-numeric` (RFC 4790, 9.1),
-/// `encoded-character` (RFC 5228, 2.4.2.4) and `mailbox` (RFC 5490), when each string stood for itself, means the same tree now. It
-/// uses none of these, and on every mail its outcome is what it was before.
-pub fn scripts_of_former_language()
-    ensures { (text : List ℕ) (tree : Commands) → MeansIn former text tree → MeansFormerly text tree }
-{}
-
-/// A text that meant a tree before `date` (RFC 5260) means the same tree now. None of its tests asks for a date or a flag, none of its
-/// actions gives or sets flags, and on every mail its outcome is what it was before.
-pub fn scripts_of_undated_language()
-    ensures { (text : List ℕ) (tree : Commands) → MeansIn undated text tree → MeansUndated text tree }
-{}
-
-/// A text that meant a tree before `imap4flags` (RFC 5232) means the same tree now. None of its tests asks for a flag, none of its
-/// actions gives or sets flags, and on every mail its outcome is what it was before, and no copy has flags.
-pub fn scripts_of_unflagged_language()
-    ensures { (text : List ℕ) (tree : Commands) → MeansIn unflagged text tree → MeansUnflagged text tree }
-{}
-
-/// A text that meant a tree before `:copy` (RFC 3894) and `:seconds` (RFC 6131) means the same tree now. The tree has neither, and
-/// on every mail its outcome is what it was before, when each `fileinto` and each `redirect` cancelled the implicit keep.
-pub fn scripts_of_before()
-    ensures still { (text : List ℕ) (tree : Commands) → MeansIn language_before_copy text tree → StillMeans text tree }
-    ensures today { (truth : RunState → MailCheck → Bool) (tree : Commands) → outcome truth tree ≡ outcome_in today truth tree }
+/// A text that is a script where some capabilities are offered is one where more are: it means the same tree, so the outcome on every
+/// mail is the same, and that tree uses nothing that came with the others.
+pub fn scripts_of_a_smaller_language()
+    ensures { (few more : Capabilities) (text : List ℕ) (tree : Commands) → IsWithin few more → MeansIn few text tree → StillMeans few more text tree }
 {}

@@ -1,6 +1,7 @@
 //! The commands of a Sieve script, and what they mean (RFC 5228, 8.2).
 #![tactic(auto)]
 
+mod capability;
 mod error;
 pub mod laws;
 mod parser;
@@ -8,6 +9,7 @@ mod script;
 mod table;
 mod tree;
 
+pub use capability::Capability;
 pub use mail_dates::DatePart;
 pub use script::{Script, check};
 pub use sieve_lex::{FaultKind, ScriptError, ScriptFault};

@@ -7,7 +7,7 @@ use cli_run::fault::RunFault;
 use cli_run::fault_with_cause::FaultWithCause;
 use cli_subcommands as words;
 use daemon_core::life;
-use daemon_core::mail::MailDaemon;
+use daemon_core::mail::{MailDaemon, Places};
 use daemon_host::host::Host;
 use maildir_files::MailSink;
 use maildir_moves::Route;
@@ -100,7 +100,7 @@ fn begin<N: Net + Files, D: AsFd, E: Write, K: Keeper>(
     errors: &mut E,
     keeper: &mut K,
 ) -> Result<Option<Listening>, FaultWithCause> {
-    look_at_limit()?;
+    look_at_limit(asked.places)?;
     look_at_store(words.path, errors, keeper)?;
     look_at_mail(system, asked.mail)?;
     let listening = listen(system, alloc, asked, descriptor)?;
@@ -112,8 +112,8 @@ fn begin<N: Net + Files, D: AsFd, E: Write, K: Keeper>(
 
 /// Checks that the process may open as many descriptors as the daemon needs: with too few it could neither accept clients nor open
 /// the store, and would still look healthy.
-fn look_at_limit() -> Result<(), FaultWithCause> {
-    if are_enough() {
+fn look_at_limit(places: Places) -> Result<(), FaultWithCause> {
+    if are_enough(places) {
         return Ok(());
     }
     Err(FaultWithCause {
@@ -187,7 +187,14 @@ fn live<N: Net + Clock, E: Write + Drop, K: Keeper + Drop, T: MailSink + Drop>(
         Ok(name) => name,
         Err(refused) => return host.refuse(FaultWithCause::from(refused)),
     };
-    let mut daemon = MailDaemon::new(alloc, asked.names, name, asked.mail.is_some(), asked.memory);
+    let mut daemon = MailDaemon::new(
+        alloc,
+        asked.names,
+        name,
+        asked.mail.is_some(),
+        asked.memory,
+        asked.places,
+    );
     let mut service = Service::new(alloc);
     match life::serve_clients(&mut host, &mut daemon, &mut service, u64::MAX) {
         Ok(()) => 0,

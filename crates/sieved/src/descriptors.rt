@@ -1,5 +1,5 @@
 //! How many descriptors the daemon needs, and may have.
-use daemon_core::{MAX_CLIENTS, MAX_SENDERS};
+use daemon_core::mail::Places;
 
 /// The number of descriptors for all but clients: 3 standard streams, 2 listeners, the one that events are waited for on, 4 for
 /// the store and its directory, 3 for locks, 3 for a Maildir, 1 for a client that finds no place, and 15 in reserve.
@@ -10,16 +10,16 @@ pub const TOO_FEW: &str =
     "too few open files are allowed: raise the limit (LimitNOFILE, ulimit -n)";
 
 /// Whether the process may open a descriptor for each client and for all else. If the limit can't be read, it may.
-pub fn are_enough() -> bool {
+pub fn are_enough(places: Places) -> bool {
     match allowed() {
-        Some(allowed) => needed(MAX_CLIENTS as u64, MAX_SENDERS as u64) <= allowed,
+        Some(allowed) => needed(places) <= allowed,
         None => true,
     }
 }
 
-/// The number of descriptors that the daemon needs for this many clients of ManageSieve and LMTP.
-fn needed(clients: u64, senders: u64) -> u64 {
-    clients.saturating_add(senders).saturating_add(OTHERS)
+/// The number of descriptors that the daemon needs where that many clients may be there.
+fn needed(places: Places) -> u64 {
+    places.clients as u64 + places.senders as u64 + OTHERS
 }
 
 /// The number of descriptors that the process may have, if the system tells.

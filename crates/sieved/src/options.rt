@@ -1,7 +1,8 @@
 //! What the arguments of `daemon` ask for.
 use cli_run::fault::RunFault;
-use cli_run::values::{mebibytes_of, port_of, separator_of, zone_of};
+use cli_run::values::{decimal, mebibytes_of, port_of, separator_of, zone_of};
 use cli_subcommands::DaemonArgs;
+use daemon_core::mail::Places;
 use lmtp_dialogue::Names;
 use mail_dates::HostZone;
 use maildir_files::Separator;
@@ -12,6 +13,18 @@ const MAX_HOST: usize = 255;
 
 /// How much all connections together may hold unless the arguments say otherwise, in MiB.
 const MEMORY: u32 = 64;
+
+/// How many clients may be there at once unless the arguments say otherwise.
+const PLACES: Places = Places {
+    clients: 50,
+    senders: 20,
+};
+
+/// The most clients of ManageSieve for which there may be places. Some acts look at each connection, so with many more all would wait.
+const MAX_CLIENTS: u32 = 1_000;
+
+/// The same of LMTP. Their messages are delivered one by one, so more would only wait.
+const MAX_SENDERS: u32 = 100;
 
 /// Where clients of LMTP connect.
 #[derive(Clone, Copy)]
@@ -47,6 +60,7 @@ pub struct DaemonOptions<'a> {
     pub host: &'a str,
     /// How much all connections together may hold, in KiB.
     pub memory: u32,
+    pub places: Places,
 }
 
 /// Reads the arguments of `daemon`.
@@ -70,6 +84,10 @@ pub fn read_options(words: DaemonArgs<'_>) -> Result<DaemonOptions<'_>, RunFault
         zone: zone_of(words.zone)?,
         host: host_of(words.host)?,
         memory: memory_of(words.memory)?,
+        places: Places {
+            clients: places_of(words.clients, PLACES.clients, MAX_CLIENTS)?,
+            senders: places_of(words.senders, PLACES.senders, MAX_SENDERS)?,
+        },
     })
 }
 
@@ -125,4 +143,15 @@ fn memory_of(text: Option<&str>) -> Result<u32, RunFault> {
         Some(text) => mebibytes_of(text)?,
     };
     Ok(mebibytes.saturating_mul(1_024))
+}
+
+/// How many clients may be there at once: from 1 to that many, in decimal digits.
+fn places_of(text: Option<&str>, default: u32, most: u32) -> Result<u32, RunFault> {
+    let Some(text) = text else {
+        return Ok(default);
+    };
+    match u32::try_from(decimal(text)?) {
+        Ok(count) if count >= 1 && count <= most => Ok(count),
+        _ => Err(RunFault::BadArgument),
+    }
 }

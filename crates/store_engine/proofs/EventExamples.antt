@@ -1,18 +1,20 @@
 -- The events of accounts on small cases: what is right, and beside it what nearly is.
 use Rattle.std.proofs.Common.{◌≡◌, ℕ, true, false, cond, List, [], ◌∷◌, codes, Some, None, MatchBool, refl, sym, ap, ◌∙◌, subst, inl, inr, Option, pos, rules}
 use Rattle.std.proofs.lemmas.Int.{ints}
-use Rattle.std.proofs.Math.Seq.{take-nil}
 use Rattle.std.specs.FinMap.{get, insert, get-empty}
 use Rattle.mail_address.specs.declared.address.Addr.{Addr}
 use Rattle.mail_address.specs.Outbound.{IsBareAddress}
 use Rattle.sasl_plain.specs.Password.{digest_of}
 use Rattle.sieve_syntax.specs.RunState.{inbox}
+use Rattle.sieve_exec.specs.Mails.{mail_spec_of}
 use Rattle.sieve_exec.specs.declared.envelope.Envelope.{Envelope}
-use Rattle.store_accounts.specs.Account.{bytes_cmp, Account, Accounts, no_accounts, is_closed_account, open_one, open_account_of, has_mail, files_copies, new_user, room_in, with_user, takes_out}
+use Rattle.store_accounts.specs.Account.{bytes_cmp, Account, Accounts, no_accounts, is_closed_account, open_one, open_account_of, has_mail, files_copies, forgets, new_user, with_user, takes_out}
 use Rattle.store_tables.specs.declared.queue.QueuedKind.TheVariants.{Redirect}
 use Rattle.store_accounts.specs.declared.queue.QueuedMessage.{QueuedMessage}
 use Rattle.store_accounts.specs.declared.refusal.Refusal.TheVariants.{NoUser, BadMoment, UserExists, UserHasMail, BadUser, NoRow}
+use Rattle.sieve_plan.specs.Sent.{over_keys}
 use Rattle.sieve_plan.specs.Delivered.{Acts, kept, Silent, report_of, unflagged_copy}
+use Rattle.sieve_plan.proofs.PlanLemmas.{none_goes, none_told}
 use Rattle.store_engine.specs.declared.answer.Answer.{Answer}
 use Rattle.store_engine.specs.declared.answer.Answer.TheVariants.{Delivered, Added, Taken, Refused}
 use Rattle.store_engine.specs.Limits.{IsNewUser}
@@ -90,20 +92,22 @@ module _ (a : Account) (open_is : is_closed_account a ≡ false) where
   unknown_user_late : Delivery no_accounts alice envelope message too_late (Refused BadMoment) no_accounts
   unknown_user_late = record { refused = refl; stays = refl }
 
-  -- without an active script the message joins INBOX
-  filed : (own : Addr) → IsBareAddress a.address own → a.active ≡ None → Delivery one alice envelope message at_five (Delivered (report_of kept Silent None)) (insert one alice (files_copies (unflagged_copy inbox ∷ []) message a))
+  -- without an active script the message joins INBOX, and what is over of messages that were sent on goes
+  filed : (own : Addr) → IsBareAddress a.address own → a.active ≡ None → Delivery one alice envelope message at_five (Delivered (report_of kept Silent None)) (insert one alice (forgets (over_keys a 5) (files_copies (unflagged_copy inbox ∷ []) message a)))
   unfolding one
-  filed own address none = subst (λ o. DeliversIn one alice at_five envelope message o (Delivered (report_of kept Silent None)) (insert one alice (files_copies (unflagged_copy inbox ∷ []) message a))) (sym open_alice)
+  filed own address none =
+      let mail = mail_spec_of message envelope at_five.when in
+      subst (λ o. DeliversIn one alice at_five envelope message o (Delivered (report_of kept Silent None)) (insert one alice (forgets (over_keys a 5) (files_copies (unflagged_copy inbox ∷ []) message a)))) (sym open_alice)
       (record {
         report = report_of kept Silent None;
-        account = files_copies (unflagged_copy inbox ∷ []) message a;
+        account = forgets (over_keys a 5) (files_copies (unflagged_copy inbox ∷ []) message a);
         delivers = record {
           own = own;
           address = address;
           delivers = record {
             disposition = Acts kept;
             disposes = rw none refl;
-            delivers = record { response = Silent; is_response = refl; reported = rw (take-nil {A = Addr} (room_in a)) refl; changed = rw (take-nil {A = Addr} (room_in a)) refl };
+            delivers = record { response = Silent; is_response = refl; reported = rw (none_goes a mail, none_told a mail) refl; changed = rw (none_goes a mail, none_told a mail) refl };
           };
         };
         reported = refl;

@@ -1,30 +1,30 @@
 -- Reads of an account that was entered, in turn, and maybe none.
-use Rattle.std.proofs.Common.{◌≡◌, ℕ, ◌+◌, ◌-◌, ◌/◌, ◌<◌, ◌==◌, ◌||◌, Bool, true, false, length, get_or, map, take, List, [], ◌∷◌, ◌++◌, Option, Some, None, Ok, Err, Result, OnOk, IfOk, IfErr, IfSome, IsTrue, refl, sym, ap, ◌∙◌, subst}
-use Rattle.std.proofs.Math.Bool.{or_assoc, or-false}
+use Rattle.std.proofs.Common.{◌≡◌, ℕ, ◌+◌, ◌-◌, ◌<◌, ◌==◌, Bool, true, false, cond, length, get_or, map, filter, take, drop, List, [], ◌∷◌, ◌++◌, Option, Some, None, Ok, Err, Result, OnOk, IfOk, IfErr, IfSome, IsTrue, refl, sym, ap, ◌∙◌, subst}
+use Rattle.std.specs.Prelude.{flat_map}
 use Rattle.std.proofs.lemmas.Bool.{eqb-true, false≢true}
-use Rattle.std.proofs.lemmas.List.{append-nil, map_more, nil_from_length}
+use Rattle.std.proofs.lemmas.Grind.{flat_map-append}
+use Rattle.std.proofs.lemmas.List.{append-nil, append_assoc, map-append, nil_from_length, take_more}
+use Rattle.std.proofs.lemmas.List.Elements.{filter_more}
 use Rattle.std.specs.FinMap.{get}
 use Rattle.sqlite.specs.State.{State, HasCleanDisk}
 use Rattle.mail_address.specs.declared.address.Addr.{Addr}
 use Rattle.mail_address.specs.Outbound.{IsBareAddress}
-use Rattle.mail_address.specs.Spelling.{address_spelling}
 use Rattle.sieve_syntax.specs.Meaning.{Actions}
 use Rattle.sieve_exec.specs.Mails.{MailSpec}
 use Rattle.sieve_plan.specs.declared.view.AccountView.{AccountView}
 use Rattle.sieve_plan.specs.Delivered.{Disposition, Acts, Tells}
 use Rattle.sieve_plan.specs.Plans.{IsOfView}
-use Rattle.sieve_plan.specs.Sent.{half_day, is_near_if, over_keys, sent_handle, was_sent}
-use Rattle.sieve_plan.specs.Views.{asks_room, last_of}
+use Rattle.sieve_plan.specs.Sent.{half_of, is_near_if, near_targets, over_keys, known_in_half, known_targets, known_under}
+use Rattle.sieve_plan.specs.Views.{asks_room, known_of, last_of}
 use Rattle.store_tables.proofs.ResultLemmas.{on_any, on_ok}
 use Rattle.store_accounts.specs.declared.refusal.Refusal.{Refusal}
 use Rattle.store_accounts.specs.Account.{Account, room_in}
 use Rattle.store_accounts.specs.Promises.{ReadsEntered}
-use Rattle.store_accounts.specs.ReplyRows.{first_between, reply_key_of}
-use Rattle.sieve_vacation.specs.Handles.{four_octets}
+use Rattle.store_accounts.specs.declared.reply.ReplyKey.{ReplyKey}
 use Rattle.store_accounts.specs.Refusals.{IsTransient}
 use Rattle.store_accounts.proofs.AfterLemmas.{seen_before, seen_failed, seen_none, seen_ok, seen_read, seen_shows, seen_then}
 use Rattle.store_accounts.proofs.KeepLemmas.{none_if, none_ok}
-use Rattle.store_engine.specs.Lookups.{IsRecalled, Recalls, was_sent_to}
+use Rattle.store_engine.specs.Lookups.{IsRecalled, Recalls}
 
 if_there : {X : Type 0} (Part : X → Account → Type 0) (q : Result X Refusal) (o : Option Account) → ((a : Account) → IfOk q (λ x. Part x a)) → IfOk q (λ x. IfSome o (Part x))
 if_there Part (Err e) o made = tt
@@ -145,38 +145,67 @@ pub recalls_besides : {X Y : Type 0} (user : List ℕ) (P : X → Account → Ty
     → (y : Y) → q ≡ Ok y → Recalls user (Besides P x Q) a c (Ok y)
 recalls_besides user P Q a b c r x was early q late y is = recalls_both user P Q a b c r x was early q late y is (Besides P x Q) y (λ account one two. (one, two))
 
+-- and what the second one answers is the answer
+pub recalls_then : {X Y : Type 0} (user : List ℕ) (P : X → Account → Type 0) (Q R : Y → Account → Type 0) (a b c : State) (r : Result X Refusal) (x : X) → r ≡ Ok x → Recalls user P a b r → (q : Result Y Refusal) → Recalls user Q b c q
+    → ((y : Y) (account : Account) → P x account → Q y account → R y account) → Recalls user R a c q
+recalls_then user P Q R a b c r x was early (Ok y) late both = recalls_both user P Q a b c r x was early (Ok y) late y refl R y (both y)
+recalls_then user P Q R a b c r x was early (Err e) late both = recalls_both_failed user P Q a b c r x was early (Err e) late R (Err e) tt late.named
+
 -- ---- what a delivery has to know
 
 pub told_recalled : (view : AccountView) (address : Addr) (mail : MailSpec) (disposition : Disposition) (text : List ℕ) (a : Account) → disposition ≡ Tells text → view.address ≡ address → IsRecalled view address mail disposition a
 told_recalled view address mail disposition text a is same = record { same = same; of = λ bare. subst (λ d. IsOfView view mail d a) (sym is) tt }
 
-pub deeds_recalled : (view : AccountView) (address : Addr) (mail : MailSpec) (deeds : Actions) (a : Account) → view.address ≡ address → view.last ≡ last_of a mail.from deeds.reply → view.before ≡ map (λ target. was_sent_to a mail target) deeds.sent
-    → (asks_room deeds ≡ true → view.room ≡ room_in a) → view.over ≡ over_keys a mail.moment deeds.sent → IsRecalled view address mail (Acts deeds) a
-deeds_recalled view address mail deeds a same last before room over =
-    record { same = same; of = λ bare. record { address = subst (IsBareAddress a.address) (sym same) bare; last = last; before = before; room = room; over = over } }
+pub deeds_recalled : (view : AccountView) (address : Addr) (mail : MailSpec) (deeds : Actions) (a : Account) → view.address ≡ address → view.last ≡ last_of a mail.from deeds.reply → view.known ≡ known_of a mail deeds.sent
+    → (asks_room deeds ≡ true → view.room ≡ room_in a) → view.over ≡ over_keys a mail.moment → IsRecalled view address mail (Acts deeds) a
+deeds_recalled view address mail deeds a same last known room over =
+    record { same = same; of = λ bare. record { address = subst (IsBareAddress a.address) (sym same) bare; last = last; known = known; room = room; over = over } }
 
--- what is kept near a moment under the keys of one half day
-abbrev pub IsNearIn : (moment : ℕ) (message target : List ℕ) (half : ℕ) → Bool → Account → Type 0
-IsNearIn moment message target half near a = near ≡ is_near_if moment (get a.replies (sent_handle half target, message))
+-- ---- where a message was sent
 
--- the three half days in which it may be kept
-pub sent_near : (a : Account) (moment before : ℕ) (message text target : List ℕ) (early here late : Bool) → text ≡ target → before ≡ moment / half_day - 1 → IsNearIn moment message text before early a → IsNearIn moment message text (moment / half_day) here a
-    → IsNearIn moment message text (moment / half_day + 1) late a → ((early || here) || late) ≡ was_sent a moment message target
-sent_near a moment before message text target early here late spelled last is_early is_here is_late =
-    let near : ℕ → Bool = λ half. is_near_if moment (get a.replies (sent_handle half text, message)) in
-    subst (λ (t : List ℕ). ((early || here) || late) ≡ was_sent a moment message t) spelled
-    (or_assoc early here late
-    ∙ (ap (λ b. b || (here || late)) (is_early ∙ ap near last)
-    ∙ (ap (λ b. near (moment / half_day - 1) || (b || late)) is_here
-    ∙ ap (λ b. near (moment / half_day - 1) || (near (moment / half_day) || b)) (is_late ∙ sym (or-false (near (moment / half_day + 1)))))))
+-- behind what is known, what was found
+abbrev pub Adds : (Account → List (List ℕ)) → List (List ℕ) → List (List ℕ) → Account → Type 0
+Adds found known all a = all ≡ known ++ found a
 
--- one address more was asked for
-pub sent_more : (a : Account) (moment : ℕ) (message : List ℕ) (targets : List Addr) (i : ℕ) (target : Addr) (before next : List Bool) (was : Bool) → i < length targets → target ≡ get_or targets i target
-    → before ≡ map (λ t. was_sent a moment message (address_spelling t)) (take i targets) → was ≡ was_sent a moment message (address_spelling target) → next ≡ before ++ was ∷ [] → next ≡ map (λ t. was_sent a moment message (address_spelling t)) (take (i + 1) targets)
-sent_more a moment message targets i target before next was within item so_far here is =
-    is ∙ (ap (λ b. before ++ b ∷ []) here ∙ (ap (λ l. l ++ was_sent a moment message (address_spelling target) ∷ []) so_far ∙ sym (map_more (λ t. was_sent a moment message (address_spelling t)) targets i target within ∙ ap (λ t. map (λ u. was_sent a moment message (address_spelling u)) (take i targets) ++ was_sent a moment message (address_spelling t) ∷ []) (sym item))))
+-- a thing more, or not
+one_more : {X : Type 0} (f : X → List ℕ) (b : Bool) (x : X) (xs : List X) (known all : List (List ℕ)) → all ≡ known ++ map f xs → cond b (all ++ f x ∷ []) all ≡ known ++ map f (xs ++ cond b (x ∷ []) [])
+one_more f true x xs known all is = ap (λ l. l ++ f x ∷ []) is ∙ (append_assoc known (map f xs) (f x ∷ []) ∙ ap (λ l. known ++ l) (sym (map-append f xs (x ∷ []))))
+one_more f false x xs known all is = is ∙ ap (λ l. known ++ map f l) (sym (append-nil xs))
 
--- what is over, where the message is sent on
-pub over_some : (a : Account) (moment : ℕ) (targets : List Addr) → (targets ≡ [] → ⊥) → over_keys a moment targets ≡ map reply_key_of (first_between (3 ∷ []) (sent_handle (moment / half_day - 1) []) a.replies)
-over_some a moment [] some = absurd (some refl)
-over_some a moment (target ∷ more) some = ap (λ l. map reply_key_of (first_between (3 ∷ []) (3 ∷ l) a.replies)) (sym (append-nil (four_octets (moment / half_day - 1))))
+-- one key more was looked at
+pub near_more : (a : Account) (moment before : ℕ) (keys : List ReplyKey) (i : ℕ) (key : ReplyKey) (known all next : List (List ℕ)) (kept : Option ℕ) (near : Bool) → i < length keys → key ≡ get_or keys i key
+    → all ≡ known ++ near_targets a moment before (take i keys) → kept ≡ get a.replies (key.handle, key.sender) → is_near_if moment kept ≡ near → next ≡ cond near (all ++ drop before key.handle ∷ []) all → next ≡ known ++ near_targets a moment before (take (i + 1) keys)
+near_more a moment before keys i key known all next kept near within item so_far found test is =
+    let f : ReplyKey → List ℕ = λ k. drop before k.handle in
+    let p : ReplyKey → Bool = λ k. is_near_if moment (get a.replies (k.handle, k.sender)) in
+    let tested : near ≡ p key = sym test ∙ ap (is_near_if moment) found in
+    let more : filter p (take (i + 1) keys) ≡ filter p (take i keys) ++ cond (p key) (key ∷ []) [] = filter_more p keys i key within ∙ ap (λ k. filter p (take i keys) ++ cond (p k) (k ∷ []) []) (sym item) in
+    is ∙ (ap (λ b. cond b (all ++ drop before key.handle ∷ []) all) tested ∙ (one_more f (p key) key (filter p (take i keys)) known all so_far ∙ ap (λ l. known ++ map f l) (sym more)))
+
+-- one half day behind the other, and one key behind the other
+pub three_halves : (a : Account) (moment : ℕ) (key : List ℕ) (known early here late : List (List ℕ)) → early ≡ known ++ known_in_half a moment key (half_of moment - 1) → here ≡ early ++ known_in_half a moment key (half_of moment) → late ≡ here ++ known_in_half a moment key (half_of moment + 1)
+    → late ≡ known ++ known_under a moment key
+three_halves a moment key known early here late is_early is_here is_late =
+    let one = known_in_half a moment key (half_of moment - 1) in
+    let two = known_in_half a moment key (half_of moment) in
+    let three = known_in_half a moment key (half_of moment + 1) in
+    is_late
+    ∙ (ap (λ l. l ++ three) (is_here ∙ ap (λ l. l ++ two) is_early)
+    ∙ (append_assoc (known ++ one) two three
+    ∙ (append_assoc known one (two ++ three) ∙ ap (λ l. known ++ (one ++ (two ++ l))) (sym (append-nil three)))))
+
+pub keys_more : (a : Account) (moment : ℕ) (keys : List (List ℕ)) (i : ℕ) (key : List ℕ) (known next : List (List ℕ)) → i < length keys → key ≡ get_or keys i key → known ≡ flat_map (known_under a moment) (take i keys) → next ≡ known ++ known_under a moment key
+    → next ≡ flat_map (known_under a moment) (take (i + 1) keys)
+keys_more a moment keys i key known next within item so_far is =
+    let f = known_under a moment in
+    is
+    ∙ (ap (λ l. l ++ f key) so_far
+    ∙ (sym (flat_map_last f (take i keys) key) ∙ ap (flat_map f) (sym (take_more keys i key within ∙ ap (λ k. take i keys ++ k ∷ []) (sym item)))))
+  where
+    flat_map_last : (f : List ℕ → List (List ℕ)) (xs : List (List ℕ)) (x : List ℕ) → flat_map f (xs ++ x ∷ []) ≡ flat_map f xs ++ f x
+    flat_map_last f xs x = flat_map-append f xs (x ∷ []) ∙ ap (λ l. flat_map f xs ++ l) (append-nil (f x))
+
+-- where it was sent, if it is to be sent on
+pub known_some : (a : Account) (mail : MailSpec) (targets : List Addr) → (targets ≡ [] → ⊥) → known_targets a mail ≡ known_of a mail targets
+known_some a mail [] some = absurd (some refl)
+known_some a mail (target ∷ more) some = refl

@@ -281,12 +281,12 @@ notes_sound moment (Some text) a own = record { address = own.address; scripts =
 delivers_sound : (addr : Addr) (moment : ℕ) (mail : MailSpec) (disposition : Disposition) (a a2 : Account) (report : Report) → IsSoundAccount a → DeliversAs addr moment mail disposition a report a2 → IsSoundAccount a2
 delivers_sound addr moment mail (Acts deeds) a a2 report own is =
     let done = done_of a mail deeds in
-    let over = over_keys a moment deeds.sent in
+    let over = over_keys a moment in
     let sent = redirects mail done.sent (files_copies done.filed mail.octets a) in
     subst IsSoundAccount (sym is.changed)
     (notes_sound moment (held_of a mail deeds) (responds mail is.response (acts mail done over a))
     (responds_sound mail is.response (acts mail done over a)
-    (keeps_sound (redirect_key mail) mail.moment (kept_handles mail.moment done.sent) (forgets over sent)
+    (keeps_sound (redirect_key mail) mail.moment (kept_handles mail done.sent) (forgets over sent)
     (forgets_sound over sent (redirects_sound mail done.sent (files_copies done.filed mail.octets a) (sound_filed a own mail.octets done.filed))))))
 delivers_sound addr moment mail (Tells text) a a2 report own is =
     let kept = sound_filed a own mail.octets (unflagged_copy inbox ∷ []) in

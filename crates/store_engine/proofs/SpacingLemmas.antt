@@ -42,7 +42,7 @@ use Rattle.store_accounts.specs.declared.refusal.Refusal.{Refusal}
 use Rattle.managesieve_sessions.specs.Scripts.{carried_out, obeyed}
 use Rattle.sieve_plan.specs.Views.{last_reply}
 use Rattle.sieve_plan.specs.Delivered.{Disposition, Acts, Tells, Response, Silent, NoRoom, Quiet, Sent, Sends, FollowsDecision, Responds, acts, done_of, held_of, redirects, responds, vacation_report, DeliversAs}
-use Rattle.sieve_plan.specs.Sent.{half_day, redirect_key, over_keys, sent_handle}
+use Rattle.sieve_plan.specs.Sent.{half_handle, half_of, redirect_key, over_keys, sent_handle}
 use Rattle.store_engine.specs.declared.event.Event.{Event}
 use Rattle.store_engine.specs.declared.event.Event.TheVariants.{Open, Give, Step, GiveUp, Close, Deliver, AddUser, Import, TakeOut, TakeMail, DoUpkeep}
 use Rattle.store_engine.specs.declared.answer.Answer.{Answer}
@@ -148,9 +148,9 @@ no_between : (handle : Handle) (below sender : List ℕ) → is_key_between (3 �
 no_between (Named name) below sender = refl
 no_between (Same subject from mime reason) below sender = refl
 
-no_sent : (handle : Handle) (half : ℕ) (target : List ℕ) → handle_key_of handle ≡ sent_handle half target → ⊥
-no_sent (Named name) half target same = absurd (let first : ◌≡◌ {A = ℕ} 1 3 = cc in omega (arith, first))
-no_sent (Same subject from mime reason) half target same = absurd (let first : ◌≡◌ {A = ℕ} 2 3 = cc in omega (arith, first))
+no_sent : (handle : Handle) (half : ℕ) (key target : List ℕ) → handle_key_of handle ≡ sent_handle half key target → ⊥
+no_sent (Named name) half key target same = absurd (let first : ◌≡◌ {A = ℕ} 1 3 = cc in omega (arith, first))
+no_sent (Same subject from mime reason) half key target same = absurd (let first : ◌≡◌ {A = ℕ} 2 3 = cc in omega (arith, first))
 
 -- a key that is over
 abbrev IsOver : List ℕ → ReplyKey → Type 0
@@ -161,8 +161,8 @@ over_apart below key thread over = false_from_ne_true _ (λ tied.
     let same = same_place thread (key.handle, key.sender) tied in
     false≢true (sym (no_between thread.handle below thread.sender) ∙ (ap (is_key_between (3 ∷ []) (3 ∷ below)) same ∙ over)))
 
-sent_apart : (half : ℕ) (target message : List ℕ) (thread : Thread) → is_eq (reply_cmp (place thread) (sent_handle half target, message)) ≡ false
-sent_apart half target message thread = false_from_ne_true _ (λ tied. no_sent thread.handle half target (ap (λ (k : List ℕ × List ℕ). k.0) (same_place thread (sent_handle half target, message) tied)))
+sent_apart : (half : ℕ) (target message : List ℕ) (thread : Thread) → is_eq (reply_cmp (place thread) (sent_handle half message target, message)) ≡ false
+sent_apart half target message thread = false_from_ne_true _ (λ tied. no_sent thread.handle half message target (ap (λ (k : List ℕ × List ℕ). k.0) (same_place thread (sent_handle half message target, message) tied)))
 
 -- what is forgotten is no thread's
 forgot_keep : (below : List ℕ) (over : List ReplyKey) (kept_moment : ReplyMoments) (thread : Thread) → AllByRecursion (IsOver below) over
@@ -174,11 +174,11 @@ forgot_keep below (key ∷ over) kept_moment thread all =
 
 -- nor what is kept
 sent_keep : (message : List ℕ) (moment half : ℕ) (targets : List Addr) (a : Account) (thread : Thread)
-    → get (keeps_sent message moment (map (λ target. sent_handle half (address_spelling target)) targets) a).replies (place thread) ≡ get a.replies (place thread)
+    → get (keeps_sent message moment (map (λ target. sent_handle half message (address_spelling target)) targets) a).replies (place thread) ≡ get a.replies (place thread)
 sent_keep message moment half [] a thread = refl
 sent_keep message moment half (target ∷ more) a thread =
-    sent_keep message moment half more (keeps_moment (sent_handle half (address_spelling target), message) moment a) thread
-    ∙ (get-insert reply_total a.replies (sent_handle half (address_spelling target), message) moment (place thread) ∙ ap (λ b. cond b (Some moment) (get a.replies (place thread))) (sent_apart half (address_spelling target) message thread))
+    sent_keep message moment half more (keeps_moment (sent_handle half message (address_spelling target), message) moment a) thread
+    ∙ (get-insert reply_total a.replies (sent_handle half message (address_spelling target), message) moment (place thread) ∙ ap (λ b. cond b (Some moment) (get a.replies (place thread))) (sent_apart half (address_spelling target) message thread))
 
 -- the keys that are over
 all_taken : {X : Type 0} (P : X → Type 0) (n : ℕ) (xs : List X) → AllByRecursion P xs → AllByRecursion P (take n xs)
@@ -199,18 +199,17 @@ all_mapped : {X Y : Type 0} (P : Y → Type 0) (f : X → Y) (xs : List X) → A
 all_mapped P f [] all = tt
 all_mapped P f (x ∷ xs) all = (all.0, all_mapped P f xs all.1)
 
-are_over : (a : Account) (moment : ℕ) (targets : List Addr) → AllByRecursion (IsOver (four_octets (moment / half_day - 1))) (over_keys a moment targets)
-are_over a moment [] = tt
-are_over a moment (target ∷ more) =
-    let is = is_key_between (3 ∷ []) (3 ∷ four_octets (moment / half_day - 1)) in
-    all_mapped (IsOver (four_octets (moment / half_day - 1))) reply_key_of (take 32 (filter is (keys a.replies))) (all_taken (λ key. is key ≡ true) 32 (filter is (keys a.replies)) (all_passed is (keys a.replies)))
+are_over : (a : Account) (moment : ℕ) → AllByRecursion (IsOver (four_octets (half_of moment - 1))) (over_keys a moment)
+are_over a moment =
+    let is = is_key_between (3 ∷ []) (half_handle (half_of moment - 1)) in
+    all_mapped (IsOver (four_octets (half_of moment - 1))) reply_key_of (take 32 (filter is (keys a.replies))) (all_taken (λ key. is key ≡ true) 32 (filter is (keys a.replies)) (all_passed is (keys a.replies)))
 
 -- so all the deeds leave what is kept of a thread
 acts_keep : (mail : MailSpec) (deeds : Actions) (below : List ℕ) (over : List ReplyKey) (a : Account) (thread : Thread) → AllByRecursion (IsOver below) over
     → get (acts mail deeds over a).replies (place thread) ≡ get a.replies (place thread)
 acts_keep mail deeds below over a thread all =
     let mid = redirects mail deeds.sent (files_copies deeds.filed mail.octets a) in
-    sent_keep (redirect_key mail) mail.moment (mail.moment / half_day) deeds.sent (forgets over mid) thread
+    sent_keep (redirect_key mail) mail.moment (half_of mail.moment) deeds.sent (forgets over mid) thread
     ∙ (forgot_keep below over mid.replies thread all ∙ ap (λ m. get m (place thread)) (redirects_keep mail deeds.sent (files_copies deeds.filed mail.octets a)))
 
 -- and so does a notice
@@ -296,8 +295,8 @@ delivers_keeps : (own : Addr) (moment : ℕ) (mail : MailSpec) (disposition : Di
     → IsNoSooner (kept_in (Some a) thread) (kept_in (Some a2) thread)
 delivers_keeps own moment mail (Acts deeds) a a2 report thread is =
     let done = done_of a mail deeds in
-    let b = acts mail done (over_keys a moment deeds.sent) a in
-    let same = acts_keep mail done (four_octets (moment / half_day - 1)) (over_keys a moment deeds.sent) a thread (are_over a moment deeds.sent) in
+    let b = acts mail done (over_keys a moment) a in
+    let same = acts_keep mail done (four_octets (half_of moment - 1)) (over_keys a moment) a thread (are_over a moment) in
     subst (λ o. IsNoSooner (kept_in (Some a) thread) o) (sym (ap (λ c. kept_in (Some c) thread) is.changed ∙ notes_keep moment (held_of a mail deeds) (responds mail is.response b) thread))
     (responds_keeps own moment mail (room_in a - length done.sent) deeds.reply a b is.response thread same is.is_response)
 delivers_keeps own moment mail (Tells text) a a2 report thread is = no_sooner_is (kept_in (Some a) thread) (kept_in (Some a2) thread) (ap (λ b. kept_in (Some b) thread) is.changed)
@@ -481,7 +480,7 @@ delivered_one : (own : Addr) (user : List ℕ) (moment : ℕ) (mail : MailSpec) 
 delivered_one own user moment mail (Acts deeds) a a2 report is =
     subst (λ v. IsOneFor (Some a) (Some a2) (entries_if v user mail.from moment deeds.reply)) (sym (ap (λ r. r.vacation) is.reported))
     (subst (λ b. IsOneFor (Some a) (Some b) (entries_if (vacation_report is.response) user mail.from moment deeds.reply)) (sym is.changed)
-    (carried_one own user moment mail (room_in a - length (done_of a mail deeds).sent) deeds.reply (held_of a mail deeds) a (acts mail (done_of a mail deeds) (over_keys a moment deeds.sent) a) is.response is.is_response))
+    (carried_one own user moment mail (room_in a - length (done_of a mail deeds).sent) deeds.reply (held_of a mail deeds) a (acts mail (done_of a mail deeds) (over_keys a moment) a) is.response is.is_response))
 delivered_one own user moment mail (Tells text) a a2 report is = go report.vacation
   where
     go : (v : VacationReport) → IsOneFor (Some a) (Some a2) (entries_if v user mail.from moment None)

@@ -1,15 +1,13 @@
 -- What the engine reads of one user's account.
-use Rattle.std.specs.Prelude.{◌≡◌, ℕ, Bool, cond, List, Option, Some, None, option_map, Result, IfOk, IfErr, IfSome, IsTrue, OnOk}
+use Rattle.std.specs.Prelude.{◌≡◌, ℕ, cond, List, Option, Some, None, option_map, Result, IfOk, IfErr, IfSome, IsTrue, OnOk}
 use Rattle.std.specs.FinMap.{get}
 use Rattle.sqlite.specs.State.{State, HasCleanDisk}
 use Rattle.mail_address.specs.declared.address.Addr.{Addr}
 use Rattle.mail_address.specs.Outbound.{IsBareAddress}
-use Rattle.mail_address.specs.Spelling.{address_spelling}
 use Rattle.sieve_exec.specs.Mails.{MailSpec}
 use Rattle.sieve_plan.specs.declared.view.AccountView.{AccountView}
 use Rattle.sieve_plan.specs.Delivered.{Disposition}
 use Rattle.sieve_plan.specs.Plans.{IsOfView}
-use Rattle.sieve_plan.specs.Sent.{redirect_key, was_sent}
 use Rattle.store_accounts.specs.declared.refusal.Refusal.{Refusal}
 use Rattle.store_accounts.specs.declared.refusal.Refusal.TheVariants.{NoUser, UserExists, UserHasMail}
 use Rattle.store_accounts.specs.Account.{Account, is_closed_account, is_removed, has_mail}
@@ -44,10 +42,6 @@ pub record Recalls {X : Type 0} (user : List ℕ) (Part : X → Account → Type
   pub live : HasCleanDisk new → IsTrue old.is_open → OnOk result (IsTrue new.is_open)
   pub shut : HasCleanDisk new → IsTrue new.is_open → IsTrue old.is_open
   pub named : IfErr result IsTransient
-
--- the mail was sent to the address less than 12 hours from its moment
-abbrev pub was_sent_to : Account → MailSpec → Addr → Bool
-was_sent_to a mail target = was_sent a mail.moment (redirect_key mail) (address_spelling target)
 
 -- what a delivery has to know of the account, beside this address, which is the account's
 pub record IsRecalled (view : AccountView) (address : Addr) (mail : MailSpec) (disposition : Disposition) (a : Account) : Type 0 where

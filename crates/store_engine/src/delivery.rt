@@ -1,12 +1,11 @@
 //! The delivery of a message.
-ghost use Rattle.std.specs.Prelude.{◌≡◌, ◌⊎◌, ◌≤◌, ◌<◌, ◌^◌, true, map, Err, OnOk, IfOk, IfErr, IfSome, option_copied};
+ghost use Rattle.std.specs.Prelude.{◌≡◌, ◌⊎◌, ◌≤◌, ◌<◌, ◌^◌, ◌++◌, true, drop, flat_map, Err, OnOk, IfOk, IfErr, IfSome, option_copied};
 ghost use Rattle.sqlite.specs.Held.{state};
 ghost use Rattle.sqlite.specs.State.{HasCleanDisk};
-ghost use Rattle.mail_address.specs.Spelling.{address_spelling};
 ghost use Rattle.sieve_plan.specs.Delivered.{Acts};
 ghost use Rattle.sieve_plan.specs.Plans.{deeds_in, disposition_in};
-ghost use Rattle.sieve_plan.specs.Sent.{is_near_if, over_keys, sent_handle, was_sent};
-ghost use Rattle.sieve_plan.specs.Views.{asks_room, last_of};
+ghost use Rattle.sieve_plan.specs.Sent.{near_targets, over_keys, known_in_half, known_under};
+ghost use Rattle.sieve_plan.specs.Views.{asks_room, known_of, last_of};
 ghost use Rattle.store_accounts.specs.Account.{delivers, room_in};
 ghost use Rattle.store_accounts.specs.Cells.{borrowed_octets};
 ghost use Rattle.store_accounts.specs.Connection.{IsSettled};
@@ -17,17 +16,17 @@ ghost use Rattle.std.specs.FinMap.{get};
 ghost use Rattle.store_engine.specs.AccountEvents.{absence as absence_of, script_or_default};
 ghost use Rattle.store_engine.specs.Hosts.{ActsDelivery, IsSpacedDelivery, RefusesDelivery};
 ghost use Rattle.store_engine.specs.Limits as limits;
-ghost use Rattle.store_engine.specs.Lookups.{LooksUp, IsLookup, IsRecalled, Recalls, was_sent_to};
+ghost use Rattle.store_engine.specs.Lookups.{LooksUp, IsLookup, IsRecalled, Recalls};
 ghost use Rattle.store_engine.specs.Terms.{terms_of};
 
 use crate::account::{ActiveScript, active_script};
 use crate::limits::limit_refusal;
-use mail_address::{Addr, bare_address, spell_address};
-use octets::{List, Octets};
+use mail_address::{Addr, bare_address};
+use octets::{List, Octets, Texts};
 use sieve_exec::{Envelope, Mail, When};
 use sieve_plan::{
-    AccountView, Deeds, Disposition, HALF_DAY, dispose, half_key, has_long_header, is_near_if,
-    plan, plan_unread, redirect_key, sent_handle,
+    AccountView, Deeds, Disposition, dispose, half_handle, half_of, has_long_header, is_near_if,
+    plan, plan_unread, redirect_keys, sent_end, sent_handle,
 };
 use sieve_syntax::VacationArgs;
 use sieve_vacation::{MAX_MOMENT, handle_key, has_short_texts};
@@ -95,8 +94,8 @@ pub fn deliver<S: Alter>(
 }
 
 /// What a delivery has to know of the user's account, which was entered, for this to become of a mail. Rows are found by their
-/// keys: one of the response that is asked for, three for each address; and if rows are to join the queue the numbers of 1,000
-/// of it, and if the message is sent on 32 keys that are over, at most.
+/// keys: one of the response that is asked for; if the message is to be sent on those of each of its one or two keys and of three
+/// half days, 32 at most; if rows are to join the queue the numbers of 1,000 of it; and 32 keys that are over, at most.
 fn recall<S: Alter>(
     alloc: Global,
     store: &mut Store<S>,
@@ -113,7 +112,7 @@ fn recall<S: Alter>(
         Disposition::Tells(_) => Ok(AccountView {
             address,
             last: None,
-            before: List::new(alloc),
+            known: Texts::new(alloc),
             room: 0,
             over: List::new(alloc),
         }),
@@ -132,15 +131,14 @@ fn recall_deeds<S: Alter>(
     requires { mail.now.moment ≤ MAX_MOMENT }
     ensures { Recalls user.now (λ view a. IsRecalled view address mail.now (Acts (deeds_in deeds.now)) a) (state S.Store store.old) (state S.Store store.new) result }
 {
-    let targets = deeds.sent.as_slice();
     let last = recall_last(alloc, store, user, mail.from(), deeds.reply.as_ref())?;
-    let before = recall_sent(alloc, store, user, mail, targets)?;
+    let known = recall_known(alloc, store, user, mail, deeds.sent.as_slice())?;
     let room = recall_room(store, user, deeds)?;
-    let over = recall_over(alloc, store, user, mail.moment(), targets)?;
+    let over = recall_over(alloc, store, user, mail.moment())?;
     Ok(AccountView {
         address,
         last,
-        before,
+        known,
         room,
         over,
     })
@@ -167,89 +165,117 @@ fn recall_last<S: Alter>(
     store.last_reply_of(user, key.as_slice(), sender)
 }
 
-/// Of each address whether the message was sent there before.
-fn recall_sent<S: Alter>(
+/// The addresses to which the message was sent before, if it is to be sent to some.
+fn recall_known<S: Alter>(
     alloc: Global,
     store: &mut Store<S>,
     user: &[u8],
     mail: &Mail<'_>,
     targets: &[Addr],
-) -> Result<List<bool>, Refusal>
+) -> Result<Texts, Refusal>
     requires { mail.now.moment ≤ MAX_MOMENT }
-    ensures { Recalls user.now (λ before a. before ≡ map (λ target. was_sent_to a mail.now target) targets.now) (state S.Store store.old) (state S.Store store.new) result }
+    ensures { Recalls user.now (λ known a. known ≡ known_of a mail.now targets.now) (state S.Store store.old) (state S.Store store.new) result }
 {
     if targets.is_empty() {
-        return Ok(List::new(alloc));
+        return Ok(Texts::new(alloc));
     }
-    let message = redirect_key(alloc, mail)?;
-    recall_each(
+    let keys = redirect_keys(alloc, mail)?;
+    recall_sent(alloc, store, user, keys.as_slice(), mail.moment())
+}
+
+/// The addresses to which a message with one of these keys was sent less than 12 hours from this moment.
+fn recall_sent<S: Alter>(
+    alloc: Global,
+    store: &mut Store<S>,
+    user: &[u8],
+    keys: &[Octets],
+    moment: u64,
+) -> Result<Texts, Refusal>
+    requires { moment ≤ MAX_MOMENT }
+    ensures { Recalls user.now (λ known a. known ≡ flat_map (known_under a moment) keys.now) (state S.Store store.old) (state S.Store store.new) result }
+{
+    let mut known = Texts::new(alloc);
+    for key in keys {
+        known = recall_under(alloc, store, user, key.as_slice(), moment, known)?;
+    }
+    Ok(known)
+}
+
+/// Those of one key, behind what is known.
+fn recall_under<S: Alter>(
+    alloc: Global,
+    store: &mut Store<S>,
+    user: &[u8],
+    key: &[u8],
+    moment: u64,
+    known: Texts,
+) -> Result<Texts, Refusal>
+    requires { moment ≤ MAX_MOMENT }
+    ensures { Recalls user.now (λ all a. all ≡ known ++ known_under a moment key.now) (state S.Store store.old) (state S.Store store.new) result }
+{
+    let half = half_of(moment);
+    let early = recall_in(alloc, store, user, key, moment, half - 1, known)?;
+    let here = recall_in(alloc, store, user, key, moment, half, early)?;
+    recall_in(alloc, store, user, key, moment, half + 1, here)
+}
+
+/// Those of one key and one half day, behind what is known.
+fn recall_in<S: Alter>(
+    alloc: Global,
+    store: &mut Store<S>,
+    user: &[u8],
+    key: &[u8],
+    moment: u64,
+    half: u64,
+    known: Texts,
+) -> Result<Texts, Refusal>
+    requires { half < 2 ^ 32 }
+    ensures { Recalls user.now (λ all a. all ≡ known ++ known_in_half a moment key.now half) (state S.Store store.old) (state S.Store store.new) result }
+{
+    let from = sent_handle(alloc, half, key, &[])?;
+    let below = sent_end(alloc, half, key)?;
+    let keys = store.reply_keys_between(user, from.as_slice(), below.as_slice())?;
+    recall_near(
         alloc,
         store,
         user,
-        message.as_slice(),
-        mail.moment(),
-        targets,
+        moment,
+        from.len(),
+        keys.as_slice(),
+        known,
     )
 }
 
-/// The same of the message that this stands for.
-fn recall_each<S: Alter>(
+/// What stands behind this many octets of those handles' keys under which a moment near this one is kept, behind what is known.
+fn recall_near<S: Alter>(
     alloc: Global,
     store: &mut Store<S>,
     user: &[u8],
-    message: &[u8],
     moment: u64,
-    targets: &[Addr],
-) -> Result<List<bool>, Refusal>
-    requires { moment ≤ MAX_MOMENT }
-    ensures { Recalls user.now (λ before a. before ≡ map (λ target. was_sent a moment message.now (address_spelling target)) targets.now) (state S.Store store.old) (state S.Store store.new) result }
+    before: usize,
+    keys: &[ReplyKey],
+    known: Texts,
+) -> Result<Texts, Refusal>
+    ensures { Recalls user.now (λ all a. all ≡ known ++ near_targets a moment before keys.now) (state S.Store store.old) (state S.Store store.new) result }
 {
-    let mut before = List::new(alloc);
-    for target in targets {
-        let sent_before = was_sent(alloc, store, user, message, target, moment)?;
-        before.push(sent_before)?;
+    let mut all = known;
+    for key in keys {
+        let kept = store.moment_of(user, key.handle.as_slice(), key.sender.as_slice())?;
+        if is_near_if(moment, kept) {
+            all.push(Octets::from_slice(alloc, behind(key.handle.as_slice(), before))?)?;
+        }
     }
-    Ok(before)
+    Ok(all)
 }
 
-/// Whether the message was sent to the address less than 12 hours from this moment.
-fn was_sent<S: Alter>(
-    alloc: Global,
-    store: &mut Store<S>,
-    user: &[u8],
-    message: &[u8],
-    target: &Addr,
-    moment: u64,
-) -> Result<bool, Refusal>
-    requires { moment ≤ MAX_MOMENT }
-    ensures { Recalls user.now (λ was a. was ≡ was_sent a moment message.now (address_spelling target.now)) (state S.Store store.old) (state S.Store store.new) result }
+/// What stands behind this many octets; nothing where there are no more.
+fn behind(handle: &[u8], before: usize) -> &[u8]
+    ensures { result.now ≡ drop before handle.now }
 {
-    let target = spell_address(alloc, target)?;
-    let target = target.as_slice();
-    let half = moment / HALF_DAY;
-    let early = half.saturating_sub(1);
-    let was_early = is_kept(alloc, store, user, message, target, moment, early)?;
-    let was_here = is_kept(alloc, store, user, message, target, moment, half)?;
-    let was_late = is_kept(alloc, store, user, message, target, moment, half + 1)?;
-    Ok(was_early || was_here || was_late)
-}
-
-/// Whether a moment near this one is kept of the half day.
-fn is_kept<S: Alter>(
-    alloc: Global,
-    store: &mut Store<S>,
-    user: &[u8],
-    message: &[u8],
-    target: &[u8],
-    moment: u64,
-    half: u64,
-) -> Result<bool, Refusal>
-    requires { half < 2 ^ 32 }
-    ensures { Recalls user.now (λ kept a. kept ≡ is_near_if moment (get a.replies (sent_handle half target.now, message.now))) (state S.Store store.old) (state S.Store store.new) result }
-{
-    let key = sent_handle(alloc, half, target)?;
-    let kept = store.moment_of(user, key.as_slice(), message)?;
-    Ok(is_near_if(moment, kept))
+    if before < handle.len() {
+        return &handle[before..];
+    }
+    &[]
 }
 
 /// How many rows may join the queue, if the deeds bring some.
@@ -262,21 +288,17 @@ fn recall_room<S: Alter>(store: &mut Store<S>, user: &[u8], deeds: &Deeds) -> Re
     store.room_of(user)
 }
 
-/// The keys of what is kept and over, if the message is sent on.
+/// The keys of what is kept and over.
 fn recall_over<S: Alter>(
     alloc: Global,
     store: &mut Store<S>,
     user: &[u8],
     moment: u64,
-    targets: &[Addr],
 ) -> Result<List<ReplyKey>, Refusal>
     requires { moment ≤ MAX_MOMENT }
-    ensures { Recalls user.now (λ over a. over ≡ over_keys a moment targets.now) (state S.Store store.old) (state S.Store store.new) result }
+    ensures { Recalls user.now (λ over a. over ≡ over_keys a moment) (state S.Store store.old) (state S.Store store.new) result }
 {
-    if targets.is_empty() {
-        return Ok(List::new(alloc));
-    }
-    let below = half_key(alloc, (moment / HALF_DAY).saturating_sub(1))?;
+    let below = half_handle(alloc, half_of(moment) - 1)?;
     store.reply_keys_between(user, &[3], below.as_slice())
 }
 

@@ -11,7 +11,7 @@ mod others;
 mod total;
 
 use accounts::{Accounts, new_shelf};
-use daemon_core::mail::MailDaemon;
+use daemon_core::mail::{MailDaemon, Places};
 use dialogue::Dialogues;
 use lmtp_dialogue::Names;
 use net_loop::service::Service;
@@ -72,6 +72,12 @@ const SHARED: [&str; 1] = ["mail-share.daemon"];
 
 /// How many KiB the connections of the others may hold.
 const MEMORY: u32 = 65_536;
+
+/// How many clients a daemon may have at once.
+const PLACES: Places = Places {
+    clients: 50,
+    senders: 20,
+};
 
 /// The dialogues of LMTP.
 const DIALOGUES: &str = "lmtp.cases";
@@ -249,7 +255,7 @@ fn play_daemon(
     let mut player = Player {
         alloc,
         outside: FakeAccess::new(alloc, shelf),
-        machine: MailDaemon::new(alloc, Names::Local, host, moves, memory),
+        machine: MailDaemon::new(alloc, Names::Local, host, moves, memory, PLACES),
         service: Service::new(alloc),
         owner: Accounts { alloc },
         checks: List::new(alloc),

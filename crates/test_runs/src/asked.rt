@@ -172,7 +172,9 @@ fn add(out: &mut Octets, asked: Subcommand<'_>) -> Result<(), AllocError> {
                 ],
             )?;
             add_given(out, "zone", asked.zone)?;
-            add_given(out, "default", asked.default)
+            add_given(out, "default", asked.default)?;
+            add_given(out, "clients", asked.clients)?;
+            add_given(out, "senders", asked.senders)
         }
         Subcommand::Check(asked) => add_texts(out, &["check", asked.file.unwrap_or("no file")]),
     }

@@ -1,11 +1,11 @@
 -- What the echo makes of what happens.
-use Rattle.std.specs.Prelude.{◌≡◌, ℕ, ◌+◌, ◌%◌, ◌^◌, ◌==◌, ◌&&◌, ◌||◌, nat_le, nat_lt, not, if◌then◌else◌, List, [], ◌∷◌, Option, Some, None}
+use Rattle.std.specs.Prelude.{◌≡◌, refl, ℕ, ◌+◌, ◌%◌, ◌^◌, ◌==◌, ◌&&◌, ◌||◌, nat_le, nat_lt, not, if◌then◌else◌, List, [], ◌∷◌, Option, Some, None}
 use Rattle.std.specs.BTreeMap as tree
 use Rattle.std.specs.Ordering.{nat_cmp}
 use Rattle.net_loop.specs.declared.machine.Claim.{Claim}
 use Rattle.net_loop.specs.declared.machine.Want.{Want}
 use Rattle.net_loop.specs.declared.machine.Want.TheVariants as want
-use Rattle.net_loop.specs.Rules.{Rules}
+use Rattle.net_loop.specs.Rules.{Rules, KeepsLimits}
 use Rattle.test_sockets.specs.declared.echo_outside.EchoNote.{EchoNote}
 use Rattle.test_sockets.specs.declared.echo_outside.EchoNote.TheVariants.{Answered, Added, Ticked}
 use Rattle.test_sockets.specs.declared.echo.EchoClient.{EchoClient}
@@ -48,7 +48,7 @@ echo_farewell = 101 ∷ 110 ∷ 100 ∷ 13 ∷ 10 ∷ []
 
 abbrev pub echo_rules : Rules Echo EchoNote ℕ
 echo_rules = record {
-  limit = λ kind. if kind == 1 then 64 else 2;
+  limit = λ m kind. if kind == 1 then 64 else 2;
   claim = λ m now id. echo_claim_by now (echo_client_of m id);
   wants = λ m id. echo_want_by (echo_client_of m id);
   has_work = λ m now. not (nat_lt now m.due);
@@ -61,4 +61,16 @@ echo_rules = record {
   works = λ m r now note n q. (note ≡ Ticked) × (q ≡ r) × (n.due ≡ (now + 1000) % 2 ^ 64);
   lacks = λ m id n. n.due ≡ m.due;
   closes = λ m now id n. (echo_client_of n id ≡ None) × (n.due ≡ m.due);
+}
+
+-- its limits are the same for each
+pub echo_keeps_limits : KeepsLimits echo_rules
+echo_keeps_limits = record {
+  opens = λ m now kind id said n opens of. refl;
+  gives = λ m now id piece said n gives of. refl;
+  steps = λ m r now id note said n q steps of. refl;
+  lates = λ m now id said n lates of. refl;
+  works = λ m r now note n q works of. refl;
+  lacks = λ m id n lacks of. refl;
+  closes = λ m now id n closes of. refl;
 }

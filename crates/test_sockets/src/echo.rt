@@ -1,7 +1,7 @@
 //! A machine that says back each line.
 ghost use Rattle.std.specs.Prelude.{◌≡◌, ◌<◌, ◌==◌, ◌&&◌, [], length, IfSome, find, option_map, if◌then◌else◌, not, None, Some};
 ghost use Rattle.std.specs.BTreeMap as tree;
-ghost use Rattle.test_sockets.specs.EchoRules.{echo_rules, echo_claim_by, echo_want_by, echo_deadline_by, echo_client_of};
+ghost use Rattle.test_sockets.specs.EchoRules.{echo_rules, echo_keeps_limits, echo_claim_by, echo_want_by, echo_deadline_by, echo_client_of};
 
 use crate::echo_outside::EchoOutside;
 use net_loop::machine::{Claim, Machine, Want};
@@ -294,4 +294,6 @@ impl<O: EchoOutside> Machine<O> for Echo {
     fn close(&mut self, now: u64, id: u32) {
         let _ = self.clients.remove(&id);
     }
+
+    ghost keeps_limits = { echo_keeps_limits };
 }

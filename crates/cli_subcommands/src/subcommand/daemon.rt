@@ -12,6 +12,7 @@ pub static DAEMON: SubcommandRow = SubcommandRow {
 --mail: INBOX moves into DIR/USER, another folder into its directory there (folders --maildir --separator), one message after ten events.
 Prints `listening on 127.0.0.1:P`, `listening on PATH` or `listening on -` for each once all listen. Ends by a signal alone.
 --memory: of what isn't answered and of mail that comes in; from 1 to 65536. A client without room is told BYE, mail 452.
+--clients: from 1 to 1000. --senders: from 1 to 100. Where all places are taken one that isn't logged in, or has no recipient, makes room.
 Status 0: all is right (--check). 64: wrong words or numbers, or no socket at PATH. 65: no store, no DIR. 75: can't listen, another daemon, or try again later.",
     arguments: &[
         CliArgument::Db,
@@ -24,6 +25,8 @@ Status 0: all is right (--check). 64: wrong words or numbers, or no socket at PA
         CliArgument::Default,
         CliArgument::Host,
         CliArgument::Memory,
+        CliArgument::Clients,
+        CliArgument::Senders,
         CliArgument::Quiet,
         CliArgument::Check,
     ],
@@ -52,6 +55,10 @@ pub struct DaemonArgs<'a> {
     pub host: Option<&'a str>,
     /// How much all connections together may hold, in MiB, in decimal: for ManageSieve what isn't answered yet, for LMTP lines and texts.
     pub memory: Option<&'a str>,
+    /// How many clients of ManageSieve may be there at once, in decimal.
+    pub clients: Option<&'a str>,
+    /// How many clients of LMTP may be there at once, in decimal.
+    pub senders: Option<&'a str>,
     /// Whether deliveries that were made aren't logged.
     pub quiet: bool,
     /// Whether to check only what would go wrong.
@@ -73,6 +80,8 @@ impl<'a> DaemonArgs<'a> {
             default: given.value(CliArgument::Default),
             host: given.value(CliArgument::Host),
             memory: given.value(CliArgument::Memory),
+            clients: given.value(CliArgument::Clients),
+            senders: given.value(CliArgument::Senders),
             quiet: given.flag(CliArgument::Quiet),
             check: given.flag(CliArgument::Check),
         }

@@ -1,5 +1,6 @@
 //! Commands and blocks, by recursive descent: one pass, and no deeper than blocks may be nested.
 ghost use Rattle.std.specs.Prelude.{◌≡◌, ◌↔◌, ◌++◌, ◌∷◌, [], ℕ, List, IfOk, IsTrue, MatchBool, map};
+ghost use Rattle.sieve_syntax.specs.Capabilities.{granted_by};
 ghost use Rattle.sieve_syntax.specs.declared.table.keyword.Keyword.TheVariants as W;
 ghost use Rattle.sieve_syntax.specs.Lexemes.{Lexemes, keyword};
 ghost use Rattle.sieve_syntax.specs.Parsing.{Parses, ParsesMore};
@@ -8,12 +9,12 @@ ghost use Rattle.sieve_syntax.specs.View.{branch_view, command_view, commands_vi
 ghost use Rattle.sieve_syntax.specs.Grammar.{IsPastBranches};
 ghost use Rattle.sieve_syntax.specs.Steps.{TakesCommand, TakesAfter, TakesBlock, TakesBranch, TakesElsifs, TakesElse, IsPastElsif, IsPastElse, TakesAll, IsStop};
 
+use crate::capability::Capabilities;
 use crate::error::ParseError;
 use crate::parser::argument::read_arguments;
 use crate::parser::lexeme::Lexeme;
 use crate::parser::reader::Reader;
 use crate::parser::test_parser::read_test;
-use crate::table::capability::Capabilities;
 use crate::table::command::plain_command;
 use crate::table::keyword::Keyword;
 use crate::tree::command::{Branch, Command};
@@ -32,11 +33,11 @@ const MAX_NOTS: usize = 32;
 pub(crate) fn read_commands(
     alloc: Global,
     reader: &mut Reader<'_>,
-    granted: Capabilities,
+    granted: &Capabilities,
     room: usize,
     commands: Vec<Command>,
 ) -> Result<Vec<Command>, ParseError>
-    ensures { ParsesMore (λ all. map command_view all.items) (TakesAll granted room) (map command_view commands.items) reader.old reader.new result }
+    ensures { ParsesMore (λ all. map command_view all.items) (TakesAll (granted_by granted.now) room) (map command_view commands.items) reader.old reader.new result }
 {
     let mut commands = commands;
     'commands: while !is_stop(reader) {
@@ -50,10 +51,10 @@ pub(crate) fn read_commands(
 fn read_command(
     alloc: Global,
     reader: &mut Reader<'_>,
-    granted: Capabilities,
+    granted: &Capabilities,
     room: usize,
 ) -> Result<Command, ParseError>
-    ensures { Parses command_view (TakesCommand granted room) reader.old reader.new result }
+    ensures { Parses command_view (TakesCommand (granted_by granted.now) room) reader.old reader.new result }
 {
     let name = reader.read_keyword()?;
     match name {
@@ -67,10 +68,10 @@ fn read_command(
 fn read_if(
     alloc: Global,
     reader: &mut Reader<'_>,
-    granted: Capabilities,
+    granted: &Capabilities,
     room: usize,
 ) -> Result<Command, ParseError>
-    ensures { Parses command_view (TakesAfter granted room W.If) reader.old reader.new result }
+    ensures { Parses command_view (TakesAfter (granted_by granted.now) room W.If) reader.old reader.new result }
 {
     let first = read_branch(alloc, reader, granted, room)?;
     let one = vec![in alloc; first]?;
@@ -84,10 +85,10 @@ fn read_if(
 fn read_branch(
     alloc: Global,
     reader: &mut Reader<'_>,
-    granted: Capabilities,
+    granted: &Capabilities,
     room: usize,
 ) -> Result<Branch, ParseError>
-    ensures { Parses branch_view (TakesBranch granted room) reader.old reader.new result }
+    ensures { Parses branch_view (TakesBranch (granted_by granted.now) room) reader.old reader.new result }
 {
     let test = read_test(alloc, reader, granted, MAX_LISTS, MAX_NOTS)?;
     let block = read_block(alloc, reader, granted, room)?;
@@ -99,11 +100,11 @@ fn read_branch(
 fn read_elsifs(
     alloc: Global,
     reader: &mut Reader<'_>,
-    granted: Capabilities,
+    granted: &Capabilities,
     room: usize,
     branches: Vec<Branch>,
 ) -> Result<Vec<Branch>, ParseError>
-    ensures { ParsesMore (λ all. map branch_view all.items) (TakesElsifs granted room) (map branch_view branches.items) reader.old reader.new result }
+    ensures { ParsesMore (λ all. map branch_view all.items) (TakesElsifs (granted_by granted.now) room) (map branch_view branches.items) reader.old reader.new result }
 {
     let mut branches = branches;
     'elsifs: while take_elsif(reader) {
@@ -117,12 +118,12 @@ fn read_elsifs(
 fn read_else(
     alloc: Global,
     reader: &mut Reader<'_>,
-    granted: Capabilities,
+    granted: &Capabilities,
     room: usize,
     branches: Vec<Branch>,
 ) -> Result<Vec<Branch>, ParseError>
     requires { IsPastElsif reader.old }
-    ensures { ParsesMore (λ all. map branch_view all.items) (TakesElse granted room) (map branch_view branches.items) reader.old reader.new result }
+    ensures { ParsesMore (λ all. map branch_view all.items) (TakesElse (granted_by granted.now) room) (map branch_view branches.items) reader.old reader.new result }
 {
     let mut branches = branches;
     if take_else(reader) {
@@ -140,10 +141,10 @@ fn read_else(
 fn read_block(
     alloc: Global,
     reader: &mut Reader<'_>,
-    granted: Capabilities,
+    granted: &Capabilities,
     room: usize,
 ) -> Result<Vec<Command>, ParseError>
-    ensures { Parses (λ v. commands_view v.items) (TakesBlock granted room) reader.old reader.new result }
+    ensures { Parses (λ v. commands_view v.items) (TakesBlock (granted_by granted.now) room) reader.old reader.new result }
 {
     reader.read_mark(Mark::OpenBrace)?;
     if room == 0 {
@@ -170,12 +171,12 @@ fn no_commands(alloc: Global, reader: &Reader<'_>) -> Result<Vec<Command>, Alloc
 fn read_statement(
     alloc: Global,
     reader: &mut Reader<'_>,
-    granted: Capabilities,
+    granted: &Capabilities,
     room: usize,
     name: Keyword,
 ) -> Result<Command, ParseError>
     requires { name ≡ W.If → ⊥ }
-    ensures { Parses command_view (TakesAfter granted room name) reader.old reader.new result }
+    ensures { Parses command_view (TakesAfter (granted_by granted.now) room name) reader.old reader.new result }
 {
     let args = read_arguments(alloc, reader)?;
     let command = plain_command(alloc, name, args.as_slice(), granted)?;

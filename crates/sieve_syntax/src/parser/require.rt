@@ -5,16 +5,17 @@ ghost use Rattle.sieve_syntax.specs.Lexemes.{Lexemes, keyword};
 ghost use Rattle.sieve_syntax.specs.Parsing.{IfParseFault, Parses, StandsNowhere};
 ghost use Rattle.sieve_syntax.specs.Tree.{CommandTree, Commands, require};
 ghost use Rattle.sieve_syntax.specs.View.{command_view, commands_view};
-ghost use Rattle.sieve_syntax.specs.Valid.{granted_by, IsValid};
+ghost use Rattle.sieve_syntax.specs.Capabilities.{granted_by};
+ghost use Rattle.sieve_syntax.specs.Valid.{IsValid};
 ghost use Rattle.sieve_syntax.specs.Grammar.{IsStatement, ReadsScript};
 ghost use Rattle.sieve_syntax.specs.Steps.{TakesRequires, ReadsRequires, ReadsRequiresAlone, IsPastRequires, all_names};
 
+use crate::capability::Capabilities;
 use crate::error::ParseError;
 use crate::parser::argument::read_arguments;
 use crate::parser::command_parser::read_commands;
 use crate::parser::lexeme::Lexeme;
 use crate::parser::reader::Reader;
-use crate::table::capability::{Capabilities, grant};
 use crate::table::keyword::Keyword;
 use crate::table::positional::read_list;
 use crate::tree::command::Command;
@@ -35,7 +36,7 @@ pub(crate) fn read_script(
     ensures fault { IfParseFault result ((tree : Commands) → ReadsScript tree reader.old → IsValid tree → ⊥) }
 {
     let (opening, granted) = read_requires(alloc, reader)?;
-    let commands = read_commands(alloc, reader, granted, MAX_BLOCKS, opening)?;
+    let commands = read_commands(alloc, reader, &granted, MAX_BLOCKS, opening)?;
     reader.read_end()?;
     Ok(commands)
 }
@@ -45,27 +46,15 @@ fn read_requires(
     alloc: Global,
     reader: &mut Reader<'_>,
 ) -> Result<(Vec<Command>, Capabilities), ParseError>
-    ensures found { IfOk result (λ r. ReadsRequires (map command_view r.0.items) r.1 reader.old reader.new) }
-    ensures only { IfOk result (λ r. ReadsRequiresAlone (map command_view r.0.items) r.1 reader.old reader.new) }
+    ensures found { IfOk result (λ r. ReadsRequires (map command_view r.0.items) (granted_by r.1) reader.old reader.new) }
+    ensures only { IfOk result (λ r. ReadsRequiresAlone (map command_view r.0.items) (granted_by r.1) reader.old reader.new) }
     ensures fault { IfParseFault result (StandsNowhere TakesRequires reader.old) }
 {
     let mut found = Vec::new(alloc);
-    let mut granted = Capabilities {
-        fileinto: false,
-        envelope: false,
-        vacation: false,
-        copy: false,
-        seconds: false,
-        subaddress: false,
-        relational: false,
-        numeric: false,
-        mailbox: false,
-        date: false,
-        flags: false,
-    };
+    let mut granted = Capabilities::none(alloc);
     'found: while take_require(reader) {
         let names = read_names(alloc, reader)?;
-        granted = grant(granted, names.as_slice())?;
+        granted.grant(alloc, names.as_slice())?;
         found.push(Command::Require(names))?;
     }
     Ok((found, granted))

@@ -1,6 +1,7 @@
 //! Tests, by recursive descent: no deeper than test lists and `not`s may enclose them.
 ghost use Rattle.std.specs.Prelude.{◌≡◌, ◌++◌, ◌∷◌, ℕ, List, IfOk, map};
 ghost use Rattle.sieve_lex.specs.declared.token.Mark.TheVariants as K;
+ghost use Rattle.sieve_syntax.specs.Capabilities.{granted_by};
 ghost use Rattle.sieve_syntax.specs.declared.table.keyword.Keyword.TheVariants as W;
 ghost use Rattle.sieve_syntax.specs.Chains.{Chain};
 ghost use Rattle.sieve_syntax.specs.Lexemes.{Lexemes, mark};
@@ -9,10 +10,10 @@ ghost use Rattle.sieve_syntax.specs.Tree.{TestTree};
 ghost use Rattle.sieve_syntax.specs.View.{test_view, tests_view};
 ghost use Rattle.sieve_syntax.specs.Steps.{TakesTest, AsksAfter, TakesMoreTests, TakesTests};
 
+use crate::capability::Capabilities;
 use crate::error::ParseError;
 use crate::parser::argument::{read_arguments, read_separator};
 use crate::parser::reader::Reader;
-use crate::table::capability::Capabilities;
 use crate::table::keyword::Keyword;
 use crate::table::test::plain_test;
 use crate::tree::test::Test;
@@ -24,11 +25,11 @@ use std::alloc::Global;
 pub(crate) fn read_test(
     alloc: Global,
     reader: &mut Reader<'_>,
-    granted: Capabilities,
+    granted: &Capabilities,
     lists: usize,
     nots: usize,
 ) -> Result<Test, ParseError>
-    ensures { Parses test_view (TakesTest granted lists nots) reader.old reader.new result }
+    ensures { Parses test_view (TakesTest (granted_by granted.now) lists nots) reader.old reader.new result }
 {
     let name = reader.read_keyword()?;
     match name {
@@ -44,11 +45,11 @@ pub(crate) fn read_test(
 fn read_not(
     alloc: Global,
     reader: &mut Reader<'_>,
-    granted: Capabilities,
+    granted: &Capabilities,
     lists: usize,
     nots: usize,
 ) -> Result<Test, ParseError>
-    ensures { Parses test_view (AsksAfter granted lists nots W.Not) reader.old reader.new result }
+    ensures { Parses test_view (AsksAfter (granted_by granted.now) lists nots W.Not) reader.old reader.new result }
 {
     if nots == 0 {
         return Err(ParseError::Fault(FaultKind::TooDeep));
@@ -62,11 +63,11 @@ fn read_not(
 fn read_tests(
     alloc: Global,
     reader: &mut Reader<'_>,
-    granted: Capabilities,
+    granted: &Capabilities,
     lists: usize,
     nots: usize,
 ) -> Result<Vec<Test>, ParseError>
-    ensures { Parses (λ v. tests_view v.items) (TakesTests granted lists nots) reader.old reader.new result }
+    ensures { Parses (λ v. tests_view v.items) (TakesTests (granted_by granted.now) lists nots) reader.old reader.new result }
 {
     reader.read_mark(Mark::OpenParen)?;
     if lists == 0 {
@@ -82,12 +83,12 @@ fn read_tests(
 fn read_more_tests(
     alloc: Global,
     reader: &mut Reader<'_>,
-    granted: Capabilities,
+    granted: &Capabilities,
     lists: usize,
     nots: usize,
     tests: Vec<Test>,
 ) -> Result<Vec<Test>, ParseError>
-    ensures { ParsesMore (λ all. map test_view all.items) (TakesMoreTests granted lists nots) (map test_view tests.items) reader.old reader.new result }
+    ensures { ParsesMore (λ all. map test_view all.items) (TakesMoreTests (granted_by granted.now) lists nots) (map test_view tests.items) reader.old reader.new result }
 {
     let mut tests = tests;
     'tests: while read_separator(reader, Mark::CloseParen)? {
@@ -100,7 +101,7 @@ fn read_more_tests(
 fn read_plain(
     alloc: Global,
     reader: &mut Reader<'_>,
-    granted: Capabilities,
+    granted: &Capabilities,
     lists: usize,
     nots: usize,
     name: Keyword,
@@ -108,7 +109,7 @@ fn read_plain(
     requires no_not { name ≡ W.Not → ⊥ }
     requires no_allof { name ≡ W.AllOf → ⊥ }
     requires no_anyof { name ≡ W.AnyOf → ⊥ }
-    ensures { Parses test_view (AsksAfter granted lists nots name) reader.old reader.new result }
+    ensures { Parses test_view (AsksAfter (granted_by granted.now) lists nots name) reader.old reader.new result }
 {
     let args = read_arguments(alloc, reader)?;
     let test = plain_test(alloc, name, args.as_slice(), granted)?;

@@ -1,16 +1,18 @@
 //! The table of commands without a block: what may follow each name (RFC 5228, 3 and 4; RFC 5230; RFC 5232).
 ghost use Rattle.std.specs.Prelude.{◌≡◌, ◌↔◌, true, IsTrue, IfOk};
+ghost use Rattle.sieve_syntax.specs.Capabilities.{granted_by};
 ghost use Rattle.sieve_syntax.specs.Parsing.{IfParseFault, FindsFit};
 ghost use Rattle.sieve_syntax.specs.Tree.{CommandTree};
 ghost use Rattle.sieve_syntax.specs.View.{command_view};
 ghost use Rattle.sieve_syntax.specs.Table.{IsPlainCommand, IsList, IsKeep, IsFileInto, IsRedirect};
 ghost use Rattle.sieve_syntax.specs.Vacations.{IsVacation};
 ghost use Rattle.sieve_syntax.specs.Valid.{IsMailboxName, MayAct, MayStand};
+ghost use Rattle.sieve_syntax.specs.declared.capability.Capability.TheVariants.{Imap4flags};
 ghost use Rattle.sieve_syntax.specs.declared.tree.action.Action.TheVariants as D;
 
+use crate::capability::{Capabilities, Capability};
 use crate::error::ParseError;
 use crate::parser::argument::Argument;
-use crate::table::capability::{Capabilities, require};
 use crate::table::file_into::read_file_into;
 use crate::table::keep::read_keep;
 use crate::table::keyword::Keyword;
@@ -34,11 +36,11 @@ pub(crate) fn plain_command(
     alloc: Global,
     keyword: Keyword,
     args: &[Argument<'_>],
-    granted: Capabilities,
+    granted: &Capabilities,
 ) -> Result<Command, ParseError>
-    ensures found { IfOk result (λ c. IsPlainCommand keyword args.now (command_view c) × MayStand granted (command_view c)) }
+    ensures found { IfOk result (λ c. IsPlainCommand keyword args.now (command_view c) × MayStand (granted_by granted.now) (command_view c)) }
     ensures only { IfOk result (λ c. (other : CommandTree) → IsPlainCommand keyword args.now other → other ≡ command_view c) }
-    ensures fault { IfParseFault result ((other : CommandTree) → IsPlainCommand keyword args.now other → MayStand granted other → ⊥) }
+    ensures fault { IfParseFault result ((other : CommandTree) → IsPlainCommand keyword args.now other → MayStand (granted_by granted.now) other → ⊥) }
 {
     match keyword {
         // Syntax: stop (RFC 5228, 3.3)
@@ -99,12 +101,12 @@ pub(crate) fn plain_command(
 fn permitted_keep(
     alloc: Global,
     args: &[Argument<'_>],
-    granted: Capabilities,
+    granted: &Capabilities,
 ) -> Result<Option<Texts>, ParseError>
-    ensures { FindsFit (IsKeep args.now) (λ given. MayAct granted (D.Keep given)) result }
+    ensures { FindsFit (IsKeep args.now) (λ given. MayAct (granted_by granted.now) (D.Keep given)) result }
 {
     let given = read_keep(alloc, args)?;
-    require(granted.flags, given.is_some())?;
+    granted.require_if(given.is_some(), Capability::Imap4flags)?;
     Ok(given)
 }
 
@@ -112,11 +114,11 @@ fn permitted_keep(
 fn permitted_flags(
     alloc: Global,
     args: &[Argument<'_>],
-    granted: Capabilities,
+    granted: &Capabilities,
 ) -> Result<Texts, ParseError>
-    ensures { FindsFit (IsList args.now) (λ texts. granted.flags ≡ true) result }
+    ensures { FindsFit (IsList args.now) (λ texts. (granted_by granted.now) Imap4flags ≡ true) result }
 {
-    require(granted.flags, true)?;
+    granted.require(Capability::Imap4flags)?;
     let texts = read_list(alloc, args)?;
     Ok(texts)
 }
@@ -125,15 +127,15 @@ fn permitted_flags(
 fn permitted_filing(
     alloc: Global,
     args: &[Argument<'_>],
-    granted: Capabilities,
+    granted: &Capabilities,
 ) -> Result<FileInto, ParseError>
-    ensures { FindsFit (IsFileInto args.now) (λ filing. MayAct granted (D.FileInto filing)) result }
+    ensures { FindsFit (IsFileInto args.now) (λ filing. MayAct (granted_by granted.now) (D.FileInto filing)) result }
 {
-    require(granted.fileinto, true)?;
+    granted.require(Capability::FileInto)?;
     let filing = read_file_into(alloc, args)?;
-    require(granted.copy, filing.copy)?;
-    require(granted.mailbox, filing.create)?;
-    require(granted.flags, filing.flags.is_some())?;
+    granted.require_if(filing.copy, Capability::Copy)?;
+    granted.require_if(filing.create, Capability::Mailbox)?;
+    granted.require_if(filing.flags.is_some(), Capability::Imap4flags)?;
     if !is_mailbox(filing.mailbox.as_slice()) {
         return Err(ParseError::Fault(FaultKind::BadMailbox));
     }
@@ -144,12 +146,12 @@ fn permitted_filing(
 fn permitted_redirect(
     alloc: Global,
     args: &[Argument<'_>],
-    granted: Capabilities,
+    granted: &Capabilities,
 ) -> Result<Redirect, ParseError>
-    ensures { FindsFit (IsRedirect args.now) (λ redirect. MayAct granted (D.Redirect redirect)) result }
+    ensures { FindsFit (IsRedirect args.now) (λ redirect. MayAct (granted_by granted.now) (D.Redirect redirect)) result }
 {
     let redirect = read_redirect(alloc, args)?;
-    require(granted.copy, redirect.copy)?;
+    granted.require_if(redirect.copy, Capability::Copy)?;
     Ok(redirect)
 }
 
@@ -157,13 +159,13 @@ fn permitted_redirect(
 fn permitted_vacation(
     alloc: Global,
     args: &[Argument<'_>],
-    granted: Capabilities,
+    granted: &Capabilities,
 ) -> Result<Vacation, ParseError>
-    ensures { FindsFit (IsVacation args.now) (λ vacation. MayAct granted (D.Vacation vacation)) result }
+    ensures { FindsFit (IsVacation args.now) (λ vacation. MayAct (granted_by granted.now) (D.Vacation vacation)) result }
 {
-    require(granted.may_use_vacation(), true)?;
+    granted.require_some(Capability::Vacation, Capability::VacationSeconds)?;
     let vacation = read_vacation(alloc, args)?;
-    require(granted.seconds, vacation.seconds.is_some())?;
+    granted.require_if(vacation.seconds.is_some(), Capability::VacationSeconds)?;
     check_reason(&vacation)?;
     Ok(Vacation::new(alloc, vacation)?)
 }

@@ -1,5 +1,4 @@
 //! The tables of the language: a file for each table, or for the arguments of one of its elements.
-pub mod capability;
 pub mod command;
 pub mod file_into;
 pub mod keep;

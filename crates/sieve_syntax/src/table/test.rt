@@ -1,5 +1,6 @@
 //! The table of tests without a test in them: what may follow each name (RFC 5228, 5).
 ghost use Rattle.std.specs.Prelude.{◌≡◌, IfOk, OnOk};
+ghost use Rattle.sieve_syntax.specs.Capabilities.{granted_by};
 ghost use Rattle.sieve_syntax.specs.Parsing.{IfParseFault, FindsFit};
 ghost use Rattle.sieve_syntax.specs.declared.tree.checks.MailCheck.TheVariants as C;
 ghost use Rattle.sieve_syntax.specs.Tree.{TestTree};
@@ -7,9 +8,9 @@ ghost use Rattle.sieve_syntax.specs.View.{test_view};
 ghost use Rattle.sieve_syntax.specs.Table.{IsPlainTest, IsList, IsHeaderTest, IsAddressTest, IsEnvelopeTest, IsDateTest, IsCurrentDateTest, IsHasFlagTest};
 ghost use Rattle.sieve_syntax.specs.Valid.{MayCheck, MayMatch, MayTest};
 
+use crate::capability::{Capabilities, Capability};
 use crate::error::ParseError;
 use crate::parser::argument::Argument;
-use crate::table::capability::{Capabilities, require};
 use crate::table::keyword::Keyword;
 use crate::table::positional::{no_arguments, read_list};
 use crate::table::test_arguments::{
@@ -29,11 +30,11 @@ pub(crate) fn plain_test(
     alloc: Global,
     keyword: Keyword,
     args: &[Argument<'_>],
-    granted: Capabilities,
+    granted: &Capabilities,
 ) -> Result<Test, ParseError>
-    ensures found { IfOk result (λ t. IsPlainTest keyword args.now (test_view t) × MayTest granted (test_view t)) }
+    ensures found { IfOk result (λ t. IsPlainTest keyword args.now (test_view t) × MayTest (granted_by granted.now) (test_view t)) }
     ensures only { IfOk result (λ t. (other : TestTree) → IsPlainTest keyword args.now other → other ≡ test_view t) }
-    ensures fault { IfParseFault result ((other : TestTree) → IsPlainTest keyword args.now other → MayTest granted other → ⊥) }
+    ensures fault { IfParseFault result ((other : TestTree) → IsPlainTest keyword args.now other → MayTest (granted_by granted.now) other → ⊥) }
 {
     match keyword {
         // Syntax: true (RFC 5228, 5.10)
@@ -96,15 +97,15 @@ pub(crate) fn plain_test(
 /// Returns a fault if values may not be matched like this: `relational` and `comparator-i;ascii-numeric` have to be required if they
 /// are used (RFC 5231; RFC 5228, 2.7.3), and a number has no parts (RFC 4790, 9.1).
 fn require_match(
-    granted: Capabilities,
+    granted: &Capabilities,
     comparator: Collation,
     matching: Matching,
 ) -> Result<(), ParseError>
-    ensures granted { OnOk result (MayMatch granted comparator matching) }
-    ensures fault { IfParseFault result (MayMatch granted comparator matching → ⊥) }
+    ensures granted { OnOk result (MayMatch (granted_by granted.now) comparator matching) }
+    ensures fault { IfParseFault result (MayMatch (granted_by granted.now) comparator matching → ⊥) }
 {
-    require(granted.relational, matching.is_relational())?;
-    require(granted.numeric, comparator.is_numeric())?;
+    granted.require_if(matching.is_relational(), Capability::Relational)?;
+    granted.require_if(comparator.is_numeric(), Capability::AsciiNumeric)?;
     if comparator.is_numeric() && matching.seeks_part() {
         return Err(ParseError::Fault(FaultKind::WrongArgument));
     }
@@ -115,9 +116,9 @@ fn require_match(
 fn permitted_header(
     alloc: Global,
     args: &[Argument<'_>],
-    granted: Capabilities,
+    granted: &Capabilities,
 ) -> Result<Header, ParseError>
-    ensures { FindsFit (IsHeaderTest args.now) (λ header. MayCheck granted (C.Header header)) result }
+    ensures { FindsFit (IsHeaderTest args.now) (λ header. MayCheck (granted_by granted.now) (C.Header header)) result }
 {
     let header = read_header(alloc, args)?;
     require_match(granted, header.comparator, header.matching)?;
@@ -128,12 +129,12 @@ fn permitted_header(
 fn permitted_address(
     alloc: Global,
     args: &[Argument<'_>],
-    granted: Capabilities,
+    granted: &Capabilities,
 ) -> Result<Address, ParseError>
-    ensures { FindsFit (IsAddressTest args.now) (λ address. MayCheck granted (C.Address address)) result }
+    ensures { FindsFit (IsAddressTest args.now) (λ address. MayCheck (granted_by granted.now) (C.Address address)) result }
 {
     let address = read_address(alloc, args)?;
-    require(granted.subaddress, address.part.is_subaddress())?;
+    granted.require_if(address.part.is_subaddress(), Capability::Subaddress)?;
     require_match(granted, address.comparator, address.matching)?;
     Ok(address)
 }
@@ -142,13 +143,13 @@ fn permitted_address(
 fn permitted_envelope(
     alloc: Global,
     args: &[Argument<'_>],
-    granted: Capabilities,
+    granted: &Capabilities,
 ) -> Result<EnvelopeTest, ParseError>
-    ensures { FindsFit (IsEnvelopeTest args.now) (λ envelope. MayCheck granted (C.Envelope envelope)) result }
+    ensures { FindsFit (IsEnvelopeTest args.now) (λ envelope. MayCheck (granted_by granted.now) (C.Envelope envelope)) result }
 {
-    require(granted.envelope, true)?;
+    granted.require(Capability::Envelope)?;
     let envelope = read_envelope(alloc, args)?;
-    require(granted.subaddress, envelope.part.is_subaddress())?;
+    granted.require_if(envelope.part.is_subaddress(), Capability::Subaddress)?;
     require_match(granted, envelope.comparator, envelope.matching)?;
     Ok(envelope)
 }
@@ -157,11 +158,11 @@ fn permitted_envelope(
 fn permitted_names(
     alloc: Global,
     args: &[Argument<'_>],
-    granted: Capabilities,
+    granted: &Capabilities,
 ) -> Result<Texts, ParseError>
-    ensures { FindsFit (IsList args.now) (λ names. MayCheck granted (C.MailboxExists names)) result }
+    ensures { FindsFit (IsList args.now) (λ names. MayCheck (granted_by granted.now) (C.MailboxExists names)) result }
 {
-    require(granted.mailbox, true)?;
+    granted.require(Capability::Mailbox)?;
     let names = read_list(alloc, args)?;
     Ok(names)
 }
@@ -170,11 +171,11 @@ fn permitted_names(
 fn permitted_date(
     alloc: Global,
     args: &[Argument<'_>],
-    granted: Capabilities,
+    granted: &Capabilities,
 ) -> Result<DateTest, ParseError>
-    ensures { FindsFit (IsDateTest args.now) (λ date. MayCheck granted (C.Date date)) result }
+    ensures { FindsFit (IsDateTest args.now) (λ date. MayCheck (granted_by granted.now) (C.Date date)) result }
 {
-    require(granted.date, true)?;
+    granted.require(Capability::Date)?;
     let date = read_date_test(alloc, args)?;
     require_match(granted, date.comparator, date.matching)?;
     Ok(date)
@@ -184,11 +185,11 @@ fn permitted_date(
 fn permitted_current(
     alloc: Global,
     args: &[Argument<'_>],
-    granted: Capabilities,
+    granted: &Capabilities,
 ) -> Result<CurrentDate, ParseError>
-    ensures { FindsFit (IsCurrentDateTest args.now) (λ current. MayCheck granted (C.CurrentDate current)) result }
+    ensures { FindsFit (IsCurrentDateTest args.now) (λ current. MayCheck (granted_by granted.now) (C.CurrentDate current)) result }
 {
-    require(granted.date, true)?;
+    granted.require(Capability::Date)?;
     let current = read_current_date(alloc, args)?;
     require_match(granted, current.comparator, current.matching)?;
     Ok(current)
@@ -198,11 +199,11 @@ fn permitted_current(
 fn permitted_has_flag(
     alloc: Global,
     args: &[Argument<'_>],
-    granted: Capabilities,
+    granted: &Capabilities,
 ) -> Result<HasFlag, ParseError>
-    ensures { FindsFit (IsHasFlagTest args.now) (λ flag. MayCheck granted (C.HasFlag flag)) result }
+    ensures { FindsFit (IsHasFlagTest args.now) (λ flag. MayCheck (granted_by granted.now) (C.HasFlag flag)) result }
 {
-    require(granted.flags, true)?;
+    granted.require(Capability::Imap4flags)?;
     let flag = read_has_flag(alloc, args)?;
     require_match(granted, flag.comparator, flag.matching)?;
     Ok(flag)

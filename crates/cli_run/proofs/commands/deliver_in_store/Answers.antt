@@ -16,19 +16,19 @@ returns-in_err-store-clause-puts g c tells =
     put_denied (HasDenied g.K.Keeper.refuses g.K.Keeper.will_wait c.args.location) (Deliver c.args.user.now c.args.envelope c.args.message.now c.args.when (borrowed_octets c.args.default)) Delivered c.in_err-store.field-0.0 c.from_residual.result (search rules)
     c.in_err-store.ensures.denied (g.K.Keeper.holds c.args.keeper.now) (g.K.Keeper.holds c.take_store.new.keeper) (c.in_err-store.ensures.refused tells)
 
-pub returns-in_err-delivered-clause-puts : goal.returns-in_err-delivered-clause-puts
-returns-in_err-delivered-clause-puts g c tells =
+pub returns-in_err-report-clause-puts : goal.returns-in_err-report-clause-puts
+returns-in_err-report-clause-puts g c tells =
     let got = c.in_ok-store.ensures.taken tells in
     let sure = g.met.K.Keeper.sure c.deliver-delivered.new.store tells in
     let Denied = HasDenied g.K.Keeper.refuses g.K.Keeper.will_wait c.args.location in
-    let refusal = c.in_err-delivered.field-0.0 in
+    let refusal = c.in_err-report.field-0.0 in
     let event = Deliver c.args.user.now c.args.envelope c.args.message.now c.args.when (borrowed_octets c.args.default) in
-    let is : c.from_residual-in_err-delivered.result ≡ Err (Refused refusal) = search rules in
+    let is : c.from_residual-in_err-report.result ≡ Err (Refused refusal) = search rules in
     subst (λ r. TurnsTables (Puts Denied event Delivered r) (g.K.Keeper.holds c.args.keeper.now) (g.K.Keeper.holds c.hand_back.new.self)) (sym is)
     (carried_turned (g.K.Keeper.holds c.args.keeper.now) (g.K.Keeper.holds c.hand_back.new.self) (state g.K.S.Store c.in_ok-store.store) (state g.K.S.Store c.deliver-delivered.new.store) got.0 got.2 sure.0 sure.1
     (c.hand_back.ensures.held tells) (Puts Denied event Delivered (Err (Refused refusal)))
     (λ clean accounts shown.
-    let turned = c.in_err-delivered.ensures.acts.carries clean accounts shown in
+    let turned = c.in_err-report.ensures.acts.carries clean accounts shown in
     (turned.0, delivery_refused Denied c.args.user.now c.args.envelope c.args.message.now c.args.when (borrowed_octets c.args.default) refusal accounts turned.0 turned.1, turned.2)))
 
 pub returns-clause-puts : goal.returns-clause-puts
@@ -39,5 +39,5 @@ returns-clause-puts g c tells =
     carried_turned (g.K.Keeper.holds c.args.keeper.now) (g.K.Keeper.holds c.hand_back.new.self) (state g.K.S.Store c.in_ok-store.store) (state g.K.S.Store c.deliver-delivered.new.store) got.0 got.2 sure.0 sure.1
     (c.hand_back.ensures.held tells) _
     (λ clean accounts shown.
-    let turned = c.in_ok-delivered.ensures.acts.carries clean accounts shown in
-    (turned.0, delivery_made Denied c.args.user.now c.args.envelope c.args.message.now c.args.when (borrowed_octets c.args.default) c.in_ok-delivered.field-0 accounts turned.0 turned.1, turned.2))
+    let turned = c.in_ok-report.ensures.acts.carries clean accounts shown in
+    (turned.0, delivery_made Denied c.args.user.now c.args.envelope c.args.message.now c.args.when (borrowed_octets c.args.default) c.in_ok-report.report accounts turned.0 turned.1, turned.2))

@@ -17,5 +17,5 @@ returns-clause-drops c = λ _.
       dropped = c.drop_text.ensures.dropped;
       lmtp_connections = put.0;
       daemon = refl;
-      host = record { names = refl; host = refl; memory = refl };
+      host = record { names = refl; host = refl; memory = refl; places = refl };
     }

@@ -18,5 +18,5 @@ returns-clause-ok c =
       empty = c.in-Ok.ensures.empty;
       lmtp_connections = put.0;
       daemon = c.forget.ensures;
-      host = record { names = refl; host = refl; memory = refl };
+      host = record { names = refl; host = refl; memory = refl; places = refl };
     }

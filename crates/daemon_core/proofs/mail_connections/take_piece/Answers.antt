@@ -19,5 +19,5 @@ returns-clause-ok c =
       held = c.hear.ensures.held;
       lmtp_connections = put.0;
       daemon = refl;
-      host = record { names = refl; host = refl; memory = refl };
+      host = record { names = refl; host = refl; memory = refl; places = refl };
     }

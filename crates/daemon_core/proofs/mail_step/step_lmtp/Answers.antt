@@ -18,5 +18,5 @@ returns-in-Ok-clause-ok g c = λ tell.
     record {
       note = one.0;
       grows = one.1;
-      steps = inl (record { before = c.in-Some.connection.now; was = was; after = c.do_next.new.connection; does = does; lmtp_connections = put.0; host = record { names = refl; host = refl; memory = refl } });
+      steps = inl (record { before = c.in-Some.connection.now; was = was; after = c.do_next.new.connection; does = does; lmtp_connections = put.0; host = record { names = refl; host = refl; memory = refl; places = refl } });
     }

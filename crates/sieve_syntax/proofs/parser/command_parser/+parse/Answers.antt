@@ -2,6 +2,7 @@ use Rattle.std.proofs.Common.{◌≡◌, ap, sym, ◌∙◌, ◌++◌, ◌∷◌
 use Rattle.std.proofs.Common.{refl}
 use Rattle.std.proofs.lemmas.List.{map-append, append-nil}
 use Rattle.std.proofs.lemmas.Result.{err_from_is_err_and}
+use Rattle.sieve_syntax.specs.Capabilities.{granted_by}
 use Rattle.sieve_syntax.specs.Tree.{yes}
 use Rattle.sieve_syntax.specs.View.{branch_view, command_view, commands_view}
 use Rattle.sieve_syntax.specs.Steps.{TakesCommand, IsStop}
@@ -16,27 +17,27 @@ pub read_branch-returns-in_err-test : goal.read_branch-returns-in_err-test
 read_branch-returns-in_err-test t c =
     let h = c.in_err-test.ensures in
     let p = err_from_is_err_and c.from_residual.result c.from_residual.ensures.1 in
-    rw (p.1, p.2) (fault_on _ _ _ (branch_no_test c.args.granted c.args.room _) h)
+    rw (p.1, p.2) (fault_on _ _ _ (branch_no_test (granted_by c.args.granted.now) c.args.room _) h)
 
 pub read_branch-returns-in_err-block : goal.read_branch-returns-in_err-block
 read_branch-returns-in_err-block t c =
     let h = c.in_ok-test.ensures in
     let e = c.in_err-block.ensures in
     let p = err_from_is_err_and c.from_residual-in_err-block.result c.from_residual-in_err-block.ensures.1 in
-    rw (p.1, p.2) (fault_on _ _ _ (branch_no_block c.args.granted c.args.room _ _ _ h.1) e)
+    rw (p.1, p.2) (fault_on _ _ _ (branch_no_block (granted_by c.args.granted.now) c.args.room _ _ _ h.1) e)
 
 pub read_branch-returns : goal.read_branch-returns
 read_branch-returns t c =
     let h = c.in_ok-test.ensures in
     let e = c.in_ok-block.ensures in
-    rw view-Branch (branch_found c.args.granted c.args.room _ _ _ h.1 h.0 _ _ e)
+    rw view-Branch (branch_found (granted_by c.args.granted.now) c.args.room _ _ _ h.1 h.0 _ _ e)
 
 pub read_else-returns-in_err-block : goal.read_else-returns-in_err-block
 read_else-returns-in_err-block t c =
     let opens = rw c.if-take_else.true at c.take_else.ensures in
     let e = c.in_err-block.ensures in
     let p = err_from_is_err_and c.from_residual.result c.from_residual.ensures.1 in
-    rw (p.1, p.2) (fault_on _ _ _ (else_fails c.args.granted c.args.room _ _ opens) e)
+    rw (p.1, p.2) (fault_on _ _ _ (else_fails (granted_by c.args.granted.now) c.args.room _ _ opens) e)
 
 pub read_else-returns : goal.read_else-returns
 read_else-returns t c =
@@ -47,7 +48,7 @@ read_else-returns t c =
           rw (w.branches-is, w.reader-is) (
             ((yes, commands_view w.in_ok-block.block.items) ∷ [], (added, (_, (opens, (refl, w.in_ok-block.ensures.0))))),
             λ last to takes.
-                let found = else_only c.args.granted c.args.room _ _ opens (commands_view w.in_ok-block.block.items) _ w.in_ok-block.ensures.1 last to takes in
+                let found = else_only (granted_by c.args.granted.now) c.args.room _ _ opens (commands_view w.in_ok-block.block.items) _ w.in_ok-block.ensures.1 last to takes in
                 (added ∙ ap (λ l. map branch_view c.args.branches.items ++ l) (sym found.0), found.1),
           )
       | read_else-else-take_else w ↦
@@ -56,7 +57,7 @@ read_else-returns t c =
           rw (w.branches-is, w.reader-is) (
             ([], (none, (sym kept.1, kept.0 c.requires))),
             λ last to takes.
-                let found = else_none c.args.granted c.args.room _ (kept.0 c.requires) last to takes in
+                let found = else_none (granted_by c.args.granted.now) c.args.room _ (kept.0 c.requires) last to takes in
                 (none ∙ ap (λ l. map branch_view c.args.branches.items ++ l) (sym found.0), found.1 ∙ sym kept.1),
           )
     ]
@@ -67,13 +68,13 @@ read_elsifs-returns-in_err-read_branch t c =
     let opens = rw c.elsifs-test.true at c.take_elsif.ensures in
     let e = c.in_err-read_branch.ensures in
     let p = err_from_is_err_and c.from_residual.result c.from_residual.ensures.1 in
-    rw (p.1, p.2) (fault_on _ _ _ (elsifs_fail c.args.granted c.args.room _ l.invariant.0 l.reader l.invariant.1.1 _ opens) e)
+    rw (p.1, p.2) (fault_on _ _ _ (elsifs_fail (granted_by c.args.granted.now) c.args.room _ l.invariant.0 l.reader l.invariant.1.1 _ opens) e)
 
 pub read_elsifs-elsifs-smaller : goal.read_elsifs-elsifs-smaller
 read_elsifs-elsifs-smaller t c =
     let l = c.elsifs in
     let opens = rw c.elsifs-test.true at c.take_elsif.ensures in
-    elsif_shorter c.args.granted c.args.room _ l.invariant.0 l.reader l.invariant.1.1 _ opens _ _ c.in_ok-read_branch.ensures.0
+    elsif_shorter (granted_by c.args.granted.now) c.args.room _ l.invariant.0 l.reader l.invariant.1.1 _ opens _ _ c.in_ok-read_branch.ensures.0
 
 pub read_elsifs-elsifs-preserved : goal.read_elsifs-elsifs-preserved
 read_elsifs-elsifs-preserved t c =
@@ -85,7 +86,7 @@ read_elsifs-elsifs-preserved t c =
       l.invariant.0 ++ made ∷ [],
       (
         push-branch l.branches.items _ c.in_ok-read_branch.field-0 c.in_ok-push.ensures.items ∙ ap (λ bs. bs ++ made ∷ []) started ∙ append_assoc (map branch_view c.args.branches.items) l.invariant.0 (made ∷ []),
-        elsifs_more c.args.granted c.args.room _ l.invariant.0 l.reader l.invariant.1.1 _ opens made _ found,
+        elsifs_more (granted_by c.args.granted.now) c.args.room _ l.invariant.0 l.reader l.invariant.1.1 _ opens made _ found,
       ),
     )
 
@@ -95,7 +96,7 @@ read_elsifs-returns t c =
     let ended = rw c.elsifs-test.false at c.take_elsif.ensures in (
       (l.invariant.0, (l.invariant.1.0, rw ended.1 (l.invariant.1.1.joins, ended.0))),
       λ each to takes.
-          let found = elsifs_end c.args.granted c.args.room _ l.invariant.0 l.reader l.invariant.1.1 ended.0 each to takes in
+          let found = elsifs_end (granted_by c.args.granted.now) c.args.room _ l.invariant.0 l.reader l.invariant.1.1 ended.0 each to takes in
           (l.invariant.1.0 ∙ ap (λ bs. map branch_view c.args.branches.items ++ bs) (sym found.0), found.1 ∙ sym ended.1),
     )
 
@@ -103,13 +104,13 @@ pub read_if-returns-in_err-first : goal.read_if-returns-in_err-first
 read_if-returns-in_err-first t c =
     let e = c.in_err-first.ensures in
     let p = err_from_is_err_and c.from_residual.result c.from_residual.ensures.1 in
-    rw (p.1, p.2) (fault_on _ _ _ (if_no_first c.args.granted c.args.room _) e)
+    rw (p.1, p.2) (fault_on _ _ _ (if_no_first (granted_by c.args.granted.now) c.args.room _) e)
 
 pub read_if-returns-in_err-branches : goal.read_if-returns-in_err-branches
 read_if-returns-in_err-branches t c =
     let e = c.in_err-branches.ensures in
     let p = err_from_is_err_and c.from_residual-in_err-branches.result c.from_residual-in_err-branches.ensures.1 in
-    rw (p.1, p.2) (fault_on _ _ _ (if_no_elsifs c.args.granted c.args.room _ _ _ c.in_ok-first.ensures) e)
+    rw (p.1, p.2) (fault_on _ _ _ (if_no_elsifs (granted_by c.args.granted.now) c.args.room _ _ _ c.in_ok-first.ensures) e)
 
 pub read_if-returns-in_err-branches-2 : goal.read_if-returns-in_err-branches-2
 read_if-returns-in_err-branches-2 t c =
@@ -117,7 +118,7 @@ read_if-returns-in_err-branches-2 t c =
     let only = rw one at c.in_ok-branches.ensures.1 in
     let e = c.in_err-branches-2.ensures in
     let p = err_from_is_err_and c.from_residual-in_err-branches-2.result c.from_residual-in_err-branches-2.ensures.1 in
-    rw (p.1, p.2) (fault_on _ _ _ (if_no_else c.args.granted c.args.room _ _ _ c.in_ok-first.ensures _ _ only) e)
+    rw (p.1, p.2) (fault_on _ _ _ (if_no_else (granted_by c.args.granted.now) c.args.room _ _ _ c.in_ok-first.ensures _ _ only) e)
 
 pub read_if-returns : goal.read_if-returns
 read_if-returns t c =
@@ -127,36 +128,36 @@ read_if-returns t c =
     let last = c.in_ok-branches-2.ensures.0 in
     let alone = c.in_ok-branches-2.ensures.1 in
     rw view-If (
-      if_takes c.args.granted c.args.room _ _ _ c.in_ok-first.ensures _ _ only _ _ alone each.0 last.0 each.1.0 each.1.1 last.1.0 last.1.1,
-      if_only c.args.granted c.args.room _ _ _ c.in_ok-first.ensures _ _ only _ _ alone,
+      if_takes (granted_by c.args.granted.now) c.args.room _ _ _ c.in_ok-first.ensures _ _ only _ _ alone each.0 last.0 each.1.0 each.1.1 last.1.0 last.1.1,
+      if_only (granted_by c.args.granted.now) c.args.room _ _ _ c.in_ok-first.ensures _ _ only _ _ alone,
     )
 
 pub read_block-returns-in_err-block : goal.read_block-returns-in_err-block
 read_block-returns-in_err-block t c =
     let e = c.in_err-block.ensures in
     let p = err_from_is_err_and c.from_residual-in_err-block.result c.from_residual-in_err-block.ensures.1 in
-    rw (p.1, p.2) (fault_on _ _ _ (block_no_inside c.args.granted c.args.room _ (omega arith) _ _ c.in_ok-read_mark.ensures.found) e)
+    rw (p.1, p.2) (fault_on _ _ _ (block_no_inside (granted_by c.args.granted.now) c.args.room _ (omega arith) _ _ c.in_ok-read_mark.ensures.found) e)
 
 pub read_block-returns-in_err-read_mark-2 : goal.read_block-returns-in_err-read_mark-2
 read_block-returns-in_err-read_mark-2 t c =
     let only = rw c.in_ok-none.ensures at c.in_ok-block.ensures.1 in
     let e = c.in_err-read_mark-2.ensures.fault in
     let p = err_from_is_err_and c.from_residual-in_err-read_mark-2.result c.from_residual-in_err-read_mark-2.ensures.1 in
-    rw (p.1, p.2) (fault_on _ _ _ (block_no_close c.args.granted c.args.room (c.args.room - 1) (omega arith) _ _ c.in_ok-read_mark.ensures.found _ _ only) e)
+    rw (p.1, p.2) (fault_on _ _ _ (block_no_close (granted_by c.args.granted.now) c.args.room (c.args.room - 1) (omega arith) _ _ c.in_ok-read_mark.ensures.found _ _ only) e)
 
 pub read_block-returns : goal.read_block-returns
 read_block-returns t c =
     let only = rw c.in_ok-none.ensures at c.in_ok-block.ensures.1 in
     let found = rw c.in_ok-none.ensures at c.in_ok-block.ensures.0 in
     let all = rw (← found.1.0) at found.1.1 in
-    block_found c.args.granted c.args.room (c.args.room - 1) (omega arith) _ _ c.in_ok-read_mark.ensures.found _ _ only all _ c.in_ok-read_mark-2.ensures.found
+    block_found (granted_by c.args.granted.now) c.args.room (c.args.room - 1) (omega arith) _ _ c.in_ok-read_mark.ensures.found _ _ only all _ c.in_ok-read_mark-2.ensures.found
 
 pub read_commands-returns-in_err-read_command : goal.read_commands-returns-in_err-read_command
 read_commands-returns-in_err-read_command t c =
     let l = c.commands in
     let e = c.in_err-read_command.ensures in
     let p = err_from_is_err_and c.from_residual.result c.from_residual.ensures.1 in
-    rw (p.1, p.2) (fault_on _ _ _ (commands_stop c.args.granted c.args.room _ l.invariant.0 l.reader l.invariant.1.1 (λ stops. let no = c.commands-test.ensures.1 stops in cc)) e)
+    rw (p.1, p.2) (fault_on _ _ _ (commands_stop (granted_by c.args.granted.now) c.args.room _ l.invariant.0 l.reader l.invariant.1.1 (λ stops. let no = c.commands-test.ensures.1 stops in cc)) e)
 
 pub read_commands-commands-smaller : goal.read_commands-commands-smaller
 read_commands-commands-smaller t c = reads_longer _ _ _ c.in_ok-read_command.ensures.0.0
@@ -170,7 +171,7 @@ read_commands-commands-preserved t c =
       l.invariant.0 ++ command_view made ∷ [],
       (
         ap (map command_view) c.in_ok-push.ensures.items ∙ map-append command_view l.commands.items (made ∷ []) ∙ ap (λ trees. trees ++ command_view made ∷ []) started ∙ append_assoc (map command_view c.args.commands.items) l.invariant.0 (command_view made ∷ []),
-        chain_more (TakesCommand c.args.granted c.args.room) IsStop _ l.invariant.0 l.reader (command_view made) _ l.invariant.1.1 found.0 found.1 (λ stops. let no = c.commands-test.ensures.1 stops in cc),
+        chain_more (TakesCommand (granted_by c.args.granted.now) c.args.room) IsStop _ l.invariant.0 l.reader (command_view made) _ l.invariant.1.1 found.0 found.1 (λ stops. let no = c.commands-test.ensures.1 stops in cc),
       ),
     )
 
@@ -180,6 +181,6 @@ read_commands-returns t c =
     let stops = c.commands-test.ensures.0 (search rules) in (
       (l.invariant.0, (l.invariant.1.0, (l.invariant.1.1.joins, stops))),
       λ more to all.
-          let found = commands_end c.args.granted c.args.room _ l.invariant.0 l.reader l.invariant.1.1 stops more to all in
+          let found = commands_end (granted_by c.args.granted.now) c.args.room _ l.invariant.0 l.reader l.invariant.1.1 stops more to all in
           (l.invariant.1.0 ∙ ap (λ trees. map command_view c.args.commands.items ++ trees) (sym found.0), found.1),
     )

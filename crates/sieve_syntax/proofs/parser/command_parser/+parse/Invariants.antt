@@ -1,4 +1,5 @@
 use Rattle.std.proofs.Common.{◌≡◌, ◌+◌, ◌*◌, ◌++◌, List, length, map}
+use Rattle.sieve_syntax.specs.Capabilities.{granted_by}
 use Rattle.sieve_syntax.specs.Tree.{TestTree, CommandTree, Commands}
 use Rattle.sieve_syntax.specs.View.{command_view, branch_view}
 use Rattle.sieve_syntax.specs.Steps.{TakesCommand, TakesElsif, IsPastElsif, IsStop}
@@ -29,7 +30,7 @@ decreases-read_block l = 8 * l.room
 abbrev pub invariant-read_commands-commands : goal.invariant-read_commands-commands
 invariant-read_commands-commands l =
     (more : List CommandTree) × ((map command_view l.commands.items ≡ map command_view l.initial.commands.items ++ more)
-    × IsSoFar (TakesCommand l.granted l.room) IsStop l.initial.reader more l.reader)
+    × IsSoFar (TakesCommand (granted_by l.granted) l.room) IsStop l.initial.reader more l.reader)
 
 abbrev pub decreases-read_commands-commands : goal.decreases-read_commands-commands
 decreases-read_commands-commands l = length l.reader
@@ -37,7 +38,7 @@ decreases-read_commands-commands l = length l.reader
 abbrev pub invariant-read_elsifs-elsifs : goal.invariant-read_elsifs-elsifs
 invariant-read_elsifs-elsifs l =
     (each : List (TestTree × Commands)) × ((map branch_view l.branches.items ≡ map branch_view l.initial.branches.items ++ each)
-    × IsSoFar (TakesElsif l.granted l.room) IsPastElsif l.initial.reader each l.reader)
+    × IsSoFar (TakesElsif (granted_by l.granted) l.room) IsPastElsif l.initial.reader each l.reader)
 
 abbrev pub decreases-read_elsifs-elsifs : goal.decreases-read_elsifs-elsifs
 decreases-read_elsifs-elsifs l = length l.reader

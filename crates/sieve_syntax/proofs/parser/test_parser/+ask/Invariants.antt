@@ -1,5 +1,6 @@
 use Rattle.std.proofs.Common.{◌≡◌, ◌+◌, ◌*◌, ◌++◌, List, length, map}
 use Rattle.sieve_lex.specs.declared.token.Mark.TheVariants as K
+use Rattle.sieve_syntax.specs.Capabilities.{granted_by}
 use Rattle.sieve_syntax.specs.Tree.{TestTree}
 use Rattle.sieve_syntax.specs.View.{test_view}
 use Rattle.sieve_syntax.specs.Steps.{TakesNextTest}
@@ -22,7 +23,7 @@ decreases-read_more_tests l = 4 * (l.lists + l.nots) + 3
 abbrev pub invariant-read_more_tests-tests : goal.invariant-read_more_tests-tests
 invariant-read_more_tests-tests l =
     (more : List TestTree) × ((map test_view l.tests.items ≡ map test_view l.initial.tests.items ++ more)
-    × IsSoFar (TakesNextTest l.granted l.lists l.nots) (IsMarked K.CloseParen) l.initial.reader more l.reader)
+    × IsSoFar (TakesNextTest (granted_by l.granted) l.lists l.nots) (IsMarked K.CloseParen) l.initial.reader more l.reader)
 
 abbrev pub decreases-read_more_tests-tests : goal.decreases-read_more_tests-tests
 decreases-read_more_tests-tests l = length l.reader
