@@ -22,4 +22,5 @@ pub mod Work
 pub mod Languages
 pub mod Means
 pub mod Trace
+pub mod Handover
 pub mod Growth
