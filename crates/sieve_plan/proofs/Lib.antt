@@ -6,3 +6,5 @@ pub mod SentLaws
 pub mod OverLaws
 pub mod FoundLaws
 mod Examples
+mod HandoverExamples
+pub mod HandoverLaws

@@ -6,7 +6,7 @@ use Rattle.sieve_syntax.specs.Tree.{Commands}
 use Rattle.sieve_syntax.specs.Means.{Means}
 use Rattle.sieve_syntax.specs.RunState.{Failure}
 use Rattle.sieve_syntax.specs.Meaning.{Actions}
-use Rattle.sieve_syntax.specs.Handover.{Handover, nothing_left, begins_from, RunEnd, Ended, Broken, end_of_run}
+use Rattle.sieve_plan.specs.Handover.{Handover, nothing_left, begins_from, RunEnd, Ended, Broken, end_of_run}
 use Rattle.sieve_syntax.specs.Work.{max_work, all_take}
 use Rattle.sieve_exec.specs.Mails.{MailSpec}
 use Rattle.sieve_exec.specs.Truth.{truth_at}

@@ -22,5 +22,4 @@ pub mod Work
 pub mod Languages
 pub mod Means
 pub mod Trace
-pub mod Handover
 pub mod Growth

@@ -1,0 +1,145 @@
+-- What a script leaves to the next one, on small cases: one that is right, and one that nearly is.
+use Rattle.std.proofs.Common.{◌≡◌, ◌∷◌, ℕ, Bool, true, false, List, [], Some, None, refl, ap, cond}
+use Rattle.std.specs.Prelude.{Option, codes, map, replicate}
+use Rattle.mail_address.specs.declared.address.Addr.{Addr}
+use Rattle.mail_flags.specs.declared.placement.Placement.{Placement}
+use Rattle.sieve_syntax.specs.declared.tree.action.Action.{Action}
+use Rattle.sieve_syntax.specs.declared.tree.action.Action.TheVariants.{Keep, Discard, FileInto, Redirect, Vacation, SetFlag, AddFlag, RemoveFlag}
+use Rattle.sieve_syntax.specs.declared.tree.checks.MailCheck.{MailCheck}
+use Rattle.sieve_syntax.specs.declared.tree.checks.MailCheck.TheVariants as Q
+use Rattle.sieve_syntax.specs.declared.tree.vacation.VacationArgs.{VacationArgs}
+use Rattle.sieve_syntax.specs.RunState.{RunState, at_first, inbox, TwoVacations, TooManyRedirects, TooManyMailboxes, TooMuchWork}
+use Rattle.sieve_syntax.specs.Meaning.{Actions}
+use Rattle.sieve_syntax.specs.Work.{max_work}
+use Rattle.sieve_syntax.specs.Tree.{looks, CommandTree, choose, stop, act, branch, no_branches, Commands, no_commands, command}
+use Rattle.sieve_plan.specs.Handover.{Handover, nothing_left, begins_from, RunEnd, Ended, Broken, end_of_run}
+
+-- ---- scripts
+
+abbrev in_row : List Action → Commands
+in_row [] = no_commands
+in_row (action ∷ more) = command (act action) (in_row more)
+
+abbrev into : List ℕ → Action
+into mailbox = FileInto (record { mailbox = mailbox; copy = false; create = false; flags = None })
+
+abbrev copied : List ℕ → Action
+copied mailbox = FileInto (record { mailbox = mailbox; copy = true; create = false; flags = None })
+
+abbrev flagged_into : List ℕ → List ℕ → Action
+flagged_into mailbox flag = FileInto (record { mailbox = mailbox; copy = true; create = false; flags = Some (flag ∷ []) })
+
+abbrev seen : List ℕ
+seen = codes "\\Seen"
+
+abbrev junk : List ℕ
+junk = codes "$Junk"
+
+abbrev bob : Addr
+bob = record { local = codes "bob"; domain = codes "example.net" }
+
+abbrev away : List ℕ → VacationArgs
+away reason = record { days = None; seconds = None; subject = None; from = None; addresses = []; mime = false; handle = None; reason = reason }
+
+abbrev at : List ℕ → List ℕ → Placement
+at mailbox flags = record { mailbox = mailbox; flags = flags }
+
+-- how a run ends whose tests take no work
+abbrev end_of : Commands → Handover → RunEnd
+end_of commands left = end_of_run (λ state check. false) (λ state check. 0) max_work commands left
+
+abbrev left_by : RunEnd → Handover
+left_by (Ended done next) = next
+left_by (Broken failure) = nothing_left
+
+abbrev done_by : RunEnd → Option Actions
+done_by (Ended done next) = Some done
+done_by (Broken failure) = None
+
+-- what a script of these actions leaves where nothing was left to it, and what is done where no other runs
+abbrev leaves_first : List Action → Handover
+leaves_first actions = left_by (end_of (in_row actions) nothing_left)
+
+-- what is done by two scripts
+abbrev both : List Action → List Action → Option Actions
+both one two = done_by (end_of (in_row two) (leaves_first one))
+
+abbrev filed : List Placement → Option Actions
+filed copies = Some (record { filed = copies; sent = []; reply = None })
+
+-- ---- how it begins
+
+-- where nothing is left a run begins as today
+first : begins_from nothing_left ≡ at_first
+first = refl
+
+-- ---- whether the message is still to be kept
+
+-- the implicit keep stands, or `keep` was executed, behind a `fileinto` and a `discard` too; near misses: these alone
+implicit : ((leaves_first []).is_kept ≡ true) × ((leaves_first (copied (codes "x") ∷ [])).is_kept ≡ true) × ((leaves_first (Redirect (record { target = bob; copy = true }) ∷ [])).is_kept ≡ true)
+implicit = (refl, refl, refl)
+
+executed : ((leaves_first (Keep None ∷ [])).is_kept ≡ true) × ((leaves_first (into (codes "x") ∷ Keep None ∷ [])).is_kept ≡ true) × ((leaves_first (Discard ∷ Keep None ∷ [])).is_kept ≡ true)
+executed = (refl, refl, refl)
+
+cancelled : ((leaves_first (into (codes "x") ∷ [])).is_kept ≡ false) × ((leaves_first (Discard ∷ [])).is_kept ≡ false) × ((leaves_first (Redirect (record { target = bob; copy = false }) ∷ [])).is_kept ≡ false)
+cancelled = (refl, refl, refl)
+
+-- `stop` ends its own script alone; near miss: the next doesn't run
+stopped : (left_by (end_of (command stop (command (act Discard) no_commands)) nothing_left)).is_kept ≡ true
+stopped = refl
+
+-- a `fileinto` that names INBOX, in any case, is no keep
+inbox_is_no_keep : ((leaves_first (into (codes "inbox") ∷ [])).is_kept ≡ false) × ((leaves_first (into (codes "inbox") ∷ [])).filed ≡ at inbox [] ∷ [])
+inbox_is_no_keep = (refl, refl)
+
+-- ---- INBOX
+
+-- a `keep` isn't done yet: a later script may discard the message
+kept_no_more : both (Keep None ∷ []) (Discard ∷ []) ≡ filed []
+kept_no_more = refl
+
+-- a `fileinto` of INBOX is, with `:copy` too, and also beside a `keep`
+filed_for_all : (both (copied (codes "INBOX") ∷ []) (Discard ∷ []) ≡ filed (at inbox [] ∷ [])) × (both (copied (codes "INBOX") ∷ Keep None ∷ []) (Discard ∷ []) ≡ filed (at inbox [] ∷ []))
+filed_for_all = (refl, refl)
+
+-- INBOX gets one copy in all
+one_copy : (both (Keep None ∷ []) (Keep None ∷ []) ≡ filed (at inbox [] ∷ [])) × (both (copied (codes "INBOX") ∷ []) (Keep None ∷ []) ≡ filed (at inbox [] ∷ []))
+    × (both (into (codes "x") ∷ Keep None ∷ []) [] ≡ filed (at (codes "x") [] ∷ at inbox [] ∷ []))
+one_copy = (refl, refl, refl)
+
+-- ---- flags
+
+-- those of `setflag` stand at the next one's beginning, which may change them
+flags_stand : ((begins_from (leaves_first (SetFlag (seen ∷ []) ∷ []))).flags ≡ seen ∷ []) × (both (SetFlag (seen ∷ []) ∷ []) (into (codes "x") ∷ []) ≡ filed (at (codes "x") seen ∷ []))
+    × (both (SetFlag (seen ∷ []) ∷ []) [] ≡ filed (at inbox seen ∷ [])) × (both (SetFlag (seen ∷ []) ∷ []) (RemoveFlag (seen ∷ []) ∷ []) ≡ filed (at inbox [] ∷ []))
+flags_stand = (refl, refl, refl, refl)
+
+-- those of `keep :flags` are the implicit keep's, whatever the next one sets; none on a `fileinto`; none where a later one says `keep`
+flags_of_keep : (both (Keep (Some (seen ∷ [])) ∷ []) [] ≡ filed (at inbox seen ∷ [])) × (both (Keep (Some (seen ∷ [])) ∷ []) (SetFlag (junk ∷ []) ∷ []) ≡ filed (at inbox seen ∷ []))
+    × (both (Keep (Some (seen ∷ [])) ∷ []) (copied (codes "x") ∷ []) ≡ filed (at (codes "x") [] ∷ at inbox seen ∷ [])) × (both (Keep (Some (seen ∷ [])) ∷ []) (Keep None ∷ []) ≡ filed (at inbox [] ∷ []))
+flags_of_keep = (refl, refl, refl, refl)
+
+-- a `keep` without `:flags` has those that are set where it is executed (RFC 5232, 5)
+flags_at_keep : (both (SetFlag (seen ∷ []) ∷ Keep None ∷ []) (RemoveFlag (seen ∷ []) ∷ []) ≡ filed (at inbox seen ∷ [])) × (both (SetFlag (seen ∷ []) ∷ Keep None ∷ []) (copied (codes "x") ∷ []) ≡ filed (at (codes "x") seen ∷ at inbox seen ∷ []))
+flags_at_keep = (refl, refl)
+
+-- ---- a mailbox once, a target once
+
+-- the first script's copy stands, with its flags, in its place; within one script the last flags win
+copy_stands : (both (flagged_into (codes "x") seen ∷ []) (flagged_into (codes "x") junk ∷ Discard ∷ []) ≡ filed (at (codes "x") seen ∷ []))
+    × (done_by (end_of (in_row (flagged_into (codes "x") seen ∷ flagged_into (codes "x") junk ∷ Discard ∷ [])) nothing_left) ≡ filed (at (codes "x") junk ∷ []))
+copy_stands = (refl, refl)
+
+sent_once : both (Redirect (record { target = bob; copy = true }) ∷ []) (Redirect (record { target = bob; copy = false }) ∷ []) ≡ Some (record { filed = []; sent = bob ∷ []; reply = None })
+sent_once = refl
+
+-- ---- `vacation`
+
+-- the first script that executes one answers, and a later script's is passed over; two within one script are a failure
+answered : both (Vacation (away (codes "A")) ∷ []) (Vacation (away (codes "B")) ∷ Discard ∷ []) ≡ Some (record { filed = []; sent = []; reply = Some (away (codes "A")) })
+answered = refl
+
+answered_twice : (end_of (in_row (Vacation (away (codes "B")) ∷ Vacation (away (codes "C")) ∷ [])) (leaves_first (Vacation (away (codes "A")) ∷ [])) ≡ Broken TwoVacations)
+    × (end_of (in_row (Vacation (away (codes "B")) ∷ Vacation (away (codes "C")) ∷ [])) nothing_left ≡ Broken TwoVacations)
+answered_twice = (refl, refl)
