@@ -16,20 +16,20 @@ use Rattle.sieve_plan.specs.Handover.{Handover, nothing_left, begins_from, RunEn
 
 -- ---- scripts
 
-abbrev in_row : List Action → Commands
+abbrev pub in_row : List Action → Commands
 in_row [] = no_commands
 in_row (action ∷ more) = command (act action) (in_row more)
 
-abbrev into : List ℕ → Action
+abbrev pub into : List ℕ → Action
 into mailbox = FileInto (record { mailbox = mailbox; copy = false; create = false; flags = None })
 
-abbrev copied : List ℕ → Action
+abbrev pub copied : List ℕ → Action
 copied mailbox = FileInto (record { mailbox = mailbox; copy = true; create = false; flags = None })
 
 abbrev flagged_into : List ℕ → List ℕ → Action
 flagged_into mailbox flag = FileInto (record { mailbox = mailbox; copy = true; create = false; flags = Some (flag ∷ []) })
 
-abbrev seen : List ℕ
+abbrev pub seen : List ℕ
 seen = codes "\\Seen"
 
 abbrev junk : List ℕ
@@ -38,33 +38,33 @@ junk = codes "$Junk"
 abbrev bob : Addr
 bob = record { local = codes "bob"; domain = codes "example.net" }
 
-abbrev away : List ℕ → VacationArgs
+abbrev pub away : List ℕ → VacationArgs
 away reason = record { days = None; seconds = None; subject = None; from = None; addresses = []; mime = false; handle = None; reason = reason }
 
-abbrev at : List ℕ → List ℕ → Placement
+abbrev pub at : List ℕ → List ℕ → Placement
 at mailbox flags = record { mailbox = mailbox; flags = flags }
 
 -- how a run ends whose tests take no work
-abbrev end_of : Commands → Handover → RunEnd
+abbrev pub end_of : Commands → Handover → RunEnd
 end_of commands left = end_of_run (λ state check. false) (λ state check. 0) max_work commands left
 
 abbrev left_by : RunEnd → Handover
 left_by (Ended done next) = next
 left_by (Broken failure) = nothing_left
 
-abbrev done_by : RunEnd → Option Actions
+abbrev pub done_by : RunEnd → Option Actions
 done_by (Ended done next) = Some done
 done_by (Broken failure) = None
 
 -- what a script of these actions leaves where nothing was left to it, and what is done where no other runs
-abbrev leaves_first : List Action → Handover
+abbrev pub leaves_first : List Action → Handover
 leaves_first actions = left_by (end_of (in_row actions) nothing_left)
 
 -- what is done by two scripts
-abbrev both : List Action → List Action → Option Actions
+abbrev pub both : List Action → List Action → Option Actions
 both one two = done_by (end_of (in_row two) (leaves_first one))
 
-abbrev filed : List Placement → Option Actions
+abbrev pub filed : List Placement → Option Actions
 filed copies = Some (record { filed = copies; sent = []; reply = None })
 
 -- ---- how it begins

@@ -8,7 +8,7 @@ use Rattle.std.proofs.Math.Seq.{drop-append_seam}
 use Rattle.std.proofs.lemmas.Bool.{ltb-true}
 use Rattle.std.proofs.lemmas.Cmp.{nat_list_eq_equiv}
 use Rattle.std.proofs.lemmas.List.{append-nil, append_assoc, drop-map, length-append, length-map, map-append}
-use Rattle.std.proofs.lemmas.List.Elements.{All-contains, All-contains_itself, Contains-append_left}
+use Rattle.std.proofs.lemmas.List.Elements.{All-contains_itself, All-filter, Contains-append_left, filter-append}
 use Rattle.std.proofs.lemmas.Map.Keys.{IsDistinct-push}
 use Rattle.std.proofs.lemmas.Slice.Eq.{bytes_eq-Decides}
 use Rattle.mail_flags.specs.declared.placement.Placement.{Placement}
@@ -24,11 +24,11 @@ use Rattle.sieve_syntax.specs.Trace.{NamesWithoutRepeats}
 use Rattle.sieve_syntax.specs.Tree.{CommandTree, require, choose, stop, act, Branches, no_branches, branch, Commands, no_commands, command}
 use Rattle.sieve_syntax.specs.Work.{all_take, max_work, outcome_within}
 use Rattle.sieve_syntax.proofs.OutcomeLemmas.{filed_anew}
-use Rattle.sieve_plan.specs.Handover.{Handover, nothing_left, begins_from, actions_from, keeps_implicitly, filed_behind, first_reply, done_behind, without_inbox, filed_for_good, leaves, RunEnd, Ended, Broken, ended_with, ended_by, end_of_run}
+use Rattle.sieve_plan.specs.Handover.{Handover, nothing_left, begins_from, actions_from, implicit_flags, keeps_implicitly, files_inbox, for_good, StandsAmong, filed_behind, first_reply, done_behind, without_inbox, filed_for_good, leaves, RunEnd, Ended, Broken, ended_with, ended_by, end_of_run}
 
 -- ---- a run to which nothing was left
 
-abbrev outcome_of : RunEnd → Outcome
+abbrev pub outcome_of : RunEnd → Outcome
 outcome_of (Ended done next) = M.Done done
 outcome_of (Broken failure) = M.Failed failure
 
@@ -239,3 +239,177 @@ extends left (Vacation args) state so = replied_extends left args state so
 extends left (SetFlag texts) state so = so
 extends left (AddFlag texts) state so = so
 extends left (RemoveFlag texts) state so = so
+
+-- ---- lists of copies
+
+-- what is filed behind others goes into the mailboxes that the run filed into
+same_mailboxes : (before filed : List Placement) (rest : List (List ℕ)) → mailboxes_of filed ≡ mailboxes_of before ++ rest → mailboxes_of (filed_behind before filed) ≡ mailboxes_of filed
+same_mailboxes before filed rest is =
+    let f : Placement → List ℕ = λ one. one.mailbox in
+    let long = length-map before f in
+    map-append f before (drop (length before) filed)
+    ∙ ap (λ l. mailboxes_of before ++ l)
+    (sym (drop-map f (length before) filed)
+    ∙ (ap (drop (length before)) is ∙ (ap (λ n. drop n (mailboxes_of before ++ rest)) (sym long) ∙ drop-append_seam (mailboxes_of before) rest)))
+    ∙ sym is
+
+same_length : (before filed : List Placement) (rest : List (List ℕ)) → mailboxes_of filed ≡ mailboxes_of before ++ rest → length (filed_behind before filed) ≡ length filed
+same_length before filed rest is =
+    let f : Placement → List ℕ = λ one. one.mailbox in
+    sym (length-map (filed_behind before filed) f) ∙ (ap length (same_mailboxes before filed rest is) ∙ length-map filed f)
+
+-- without INBOX there are no more, and they are apart still
+passed_all : (p : Placement → Bool) (P : List ℕ → Type 0) (filed : List Placement) → AllByRecursion P (mailboxes_of filed) → AllByRecursion P (mailboxes_of (filter p filed))
+passed_all p P [] all = tt
+passed_all p P (one ∷ more) (so, all) = step (p one) (passed_all p P more all)
+  where
+    step : (passes : Bool) → AllByRecursion P (mailboxes_of (filter p more)) → AllByRecursion P (mailboxes_of (cond passes (one ∷ filter p more) (filter p more)))
+    step true rest = (so, rest)
+    step false rest = rest
+
+passed_apart : (p : Placement → Bool) (filed : List Placement) → IsDistinct (pointwise nat_eq) (mailboxes_of filed) → IsDistinct (pointwise nat_eq) (mailboxes_of (filter p filed))
+unfolding IsDistinct
+passed_apart p [] apart = tt
+passed_apart p (one ∷ more) (new, apart) = step (p one) (passed_all p (λ other. pointwise nat_eq one.mailbox other ≡ false) more new) (passed_apart p more apart)
+  where
+    step : (passes : Bool) → AllByRecursion (λ other. pointwise nat_eq one.mailbox other ≡ false) (mailboxes_of (filter p more)) → IsDistinct (pointwise nat_eq) (mailboxes_of (filter p more))
+        → IsDistinct (pointwise nat_eq) (mailboxes_of (cond passes (one ∷ filter p more) (filter p more)))
+    step true others rest = (others, rest)
+    step false others rest = rest
+
+no_more : (p : Placement → Bool) (filed : List Placement) → length (filter p filed) ≤ length filed
+no_more p [] = omega arith
+no_more p (one ∷ more) = let rest = no_more p more in step (p one) rest
+  where
+    step : (passes : Bool) → length (filter p more) ≤ length more → length (cond passes (one ∷ filter p more) (filter p more)) ≤ length (one ∷ more)
+    step true low = omega (arith, low)
+    step false low = omega (arith, low)
+
+-- where INBOX has no copy, none goes
+all_others : (filed : List Placement) → is_filed filed inbox ≡ false → without_inbox filed ≡ filed
+all_others [] is = refl
+all_others (there ∷ more) is = step (pointwise nat_eq there.mailbox inbox) is (all_others more)
+  where
+    step : (same : Bool) → (same || is_filed more inbox) ≡ false → (is_filed more inbox ≡ false → without_inbox more ≡ more)
+        → cond (not same) (there ∷ without_inbox more) (without_inbox more) ≡ there ∷ more
+    step true is later = absurd (cc is)
+    step false is later = ap (λ l. there ∷ l) (later is)
+
+all_before : {X : Type 0} (before more : List X) → All (Contains (before ++ more)) before
+all_before before more = λ k d below. Contains-append_left before more _ (All-contains_itself before k d below)
+
+-- ---- a run that ends
+
+none_new : (left : Handover) → AreApart left.filed left.sent → Extends left left.filed left.sent
+none_new left apart = record { apart = apart; new_mailboxes = []; mailboxes = sym (append-nil (mailboxes_of left.filed)); new_addresses = []; addresses = sym (append-nil left.sent) }
+
+reply_stands : (one later : Option VacationArgs) (args : VacationArgs) → one ≡ Some args → first_reply one later ≡ Some args
+reply_stands None later args is = absurd (cc is)
+reply_stands (Some first) later args is = is
+
+either_false : (a b : Bool) → (a || b) ≡ false → a ≡ false
+either_false true b is = is
+either_false false b is = refl
+
+module _ (left : Handover) (kept : RunState) (so : Extends left kept.filed kept.sent) where
+  stands_behind : StandsAmong (for_good left) (done_behind left kept)
+  stands_behind = record {
+    filed = all_before left.filed (drop (length left.filed) kept.filed);
+    sent = subst (λ l. All (Contains l) left.sent) (sym so.addresses) (all_before left.sent so.new_addresses);
+    reply = reply_stands left.reply kept.reply;
+  }
+
+  once_behind : NamesWithoutRepeats (done_behind left kept)
+  once_behind =
+      let long = same_length left.filed kept.filed so.new_mailboxes so.mailboxes in
+      record {
+        mailboxes = subst (IsDistinct (pointwise nat_eq)) (sym (same_mailboxes left.filed kept.filed so.new_mailboxes so.mailboxes)) so.apart.mailboxes;
+        addresses = so.apart.addresses;
+        few_mailboxes = omega (arith, long, so.apart.few_mailboxes);
+        few_addresses = so.apart.few_addresses;
+      }
+
+-- what is for good, given whether INBOX is among it: it is apart, it is done, and what was left is among it
+for_good_apart : (named : Bool) (done : Actions) → NamesWithoutRepeats done → AreApart (filed_for_good named done.filed) done.sent
+for_good_apart true done once = record { mailboxes = once.mailboxes; addresses = once.addresses; few_mailboxes = once.few_mailboxes; few_addresses = once.few_addresses }
+for_good_apart false done once =
+    let low = no_more (λ there. not (pointwise nat_eq there.mailbox inbox)) done.filed in
+    record {
+      mailboxes = passed_apart (λ there. not (pointwise nat_eq there.mailbox inbox)) done.filed once.mailboxes;
+      addresses = once.addresses;
+      few_mailboxes = omega (arith, low, once.few_mailboxes);
+      few_addresses = once.few_addresses;
+    }
+
+for_good_done : (named : Bool) (filed : List Placement) → All (Contains filed) (filed_for_good named filed)
+for_good_done true filed = All-contains_itself filed
+for_good_done false filed = All-filter (λ there. not (pointwise nat_eq there.mailbox inbox)) (Contains filed) filed (All-contains_itself filed)
+
+left_for_good : (before more : List Placement) (other : Bool) → All (Contains (filed_for_good (is_filed before inbox || other) (before ++ more))) before
+left_for_good before more other = step (is_filed before inbox || other) refl
+  where
+    step : (named : Bool) → (is_filed before inbox || other) ≡ named → All (Contains (filed_for_good named (before ++ more))) before
+    step true is = all_before before more
+    step false is =
+        let p : Placement → Bool = λ there. not (pointwise nat_eq there.mailbox inbox) in
+        let same : without_inbox (before ++ more) ≡ before ++ without_inbox more = filter-append p before more ∙ ap (λ l. l ++ without_inbox more) (all_others before (either_false (is_filed before inbox) other is)) in
+        subst (λ l. All (Contains l) before) (sym same) (all_before before (without_inbox more))
+
+-- what is so of a run that ended: what was left stands in what is done, and in what is left; that is done too; each mailbox and each
+-- address is there once
+pub record IsGoodEnd (left : Handover) (done : Actions) (next : Handover) : Type 0 where
+  pub stands : StandsAmong (for_good left) done
+  pub stays : StandsAmong (for_good left) (for_good next)
+  pub is_done : StandsAmong (for_good next) done
+  pub once : NamesWithoutRepeats done
+  pub apart : AreApart next.filed next.sent
+
+abbrev OnEnded : (Actions → Handover → Type 0) → RunEnd → Type 0
+OnEnded P (Ended done next) = P done next
+OnEnded P (Broken failure) = Unit {0}
+
+good_leaves : (actions : List Action) (left : Handover) (at_end kept : RunState) → Extended left kept → IsGoodEnd left (done_behind left kept) (leaves actions left at_end (done_behind left kept))
+good_leaves actions left at_end kept so =
+    let named = list_any files_inbox actions in
+    let stands = stands_behind left kept so in
+    record {
+      stands = stands;
+      stays = record { filed = left_for_good left.filed (drop (length left.filed) kept.filed) named; sent = stands.sent; reply = stands.reply };
+      is_done = record {
+        filed = for_good_done (is_filed left.filed inbox || named) (filed_behind left.filed kept.filed);
+        sent = All-contains_itself kept.sent;
+        reply = λ args is. is;
+      };
+      once = once_behind left kept so;
+      apart = for_good_apart (is_filed left.filed inbox || named) (done_behind left kept) (once_behind left kept so);
+    }
+
+good_with : (actions : List Action) (left : Handover) (at_end : RunState) (flow : Flow) → OnFlow (Extended left) flow → OnEnded (IsGoodEnd left) (ended_with actions left at_end flow)
+good_with actions left at_end (Going kept) so = good_leaves actions left at_end kept so
+good_with actions left at_end (Stopped kept) so = good_leaves actions left at_end kept so
+good_with actions left at_end (Failed failure) so = tt
+
+implicit_extends : (left : Handover) (at_end : RunState) → Extended left at_end → OnFlow (Extended left) (keeps_implicitly left at_end)
+implicit_extends left at_end so = step at_end.cancelled (filed_extends left inbox (implicit_flags left.keep_flags at_end) true at_end so)
+  where
+    step : (cancelled : Bool) → OnFlow (Extended left) (filed_into inbox (implicit_flags left.keep_flags at_end) true at_end)
+        → OnFlow (Extended left) (cond cancelled (Going at_end) (filed_into inbox (implicit_flags left.keep_flags at_end) true at_end))
+    step true keeps = so
+    step false keeps = keeps
+
+good_by : (actions : List Action) (left : Handover) (flow : Flow) → OnFlow (Extended left) flow → OnEnded (IsGoodEnd left) (ended_by actions left flow)
+good_by actions left (Going at_end) so = good_with actions left at_end (keeps_implicitly left at_end) (implicit_extends left at_end so)
+good_by actions left (Stopped at_end) so = good_with actions left at_end (keeps_implicitly left at_end) (implicit_extends left at_end so)
+good_by actions left (Failed failure) so = tt
+
+good_run : (truth : RunState → MailCheck → Bool) (work : RunState → MailCheck → ℕ) (most : ℕ) (tree : Commands) (left : Handover) → AreApart left.filed left.sent
+    → OnEnded (IsGoodEnd left) (end_of_run truth work most tree left)
+good_run truth work most tree left apart = step (nat_lt most (all_take truth work tree (begins_from left)))
+  where
+    step : (much : Bool) → OnEnded (IsGoodEnd left) (cond much (Broken TooMuchWork) (ended_by (actions_from truth tree left) left (does_all truth tree (begins_from left))))
+    step true = tt
+    step false = good_by (actions_from truth tree left) left (does_all truth tree (begins_from left)) (kept_by_all (Extended left) (extends left) truth tree (begins_from left) (none_new left apart))
+
+pub good_end : (truth : RunState → MailCheck → Bool) (work : RunState → MailCheck → ℕ) (most : ℕ) (tree : Commands) (left : Handover) (done : Actions) (next : Handover)
+    → AreApart left.filed left.sent → end_of_run truth work most tree left ≡ Ended done next → IsGoodEnd left done next
+good_end truth work most tree left done next apart is = subst (OnEnded (IsGoodEnd left)) is (good_run truth work most tree left apart)

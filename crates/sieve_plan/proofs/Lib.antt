@@ -8,3 +8,5 @@ pub mod FoundLaws
 mod Examples
 mod HandoverExamples
 pub mod HandoverLaws
+pub mod SequenceLaws
+mod SequenceExamples

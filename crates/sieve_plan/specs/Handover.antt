@@ -1,7 +1,7 @@
 -- What a script leaves to the one behind it, and a run that begins with it (RFC 5228, 2.10; RFC 5230; RFC 5232). Scripts that run one
 -- behind the other on a message are scripts of their own: a `stop` ends its own alone, and what a script requires is granted to it alone.
-use Rattle.std.specs.Prelude.{ℕ, Bool, true, false, cond, not, ◌||◌, List, [], ◌∷◌, ◌++◌, drop, length, nat_eq, nat_lt, Option, Some, None}
-use Rattle.std.specs.List.{filter, list_any}
+use Rattle.std.specs.Prelude.{◌≡◌, ℕ, Bool, true, false, cond, not, ◌||◌, List, [], ◌∷◌, ◌++◌, drop, length, nat_eq, nat_lt, Option, Some, None}
+use Rattle.std.specs.List.{filter, list_any, All, Contains}
 use Rattle.std.specs.Cmp.Lexicographic.{pointwise}
 use Rattle.mail_address.specs.declared.address.Addr.{Addr}
 use Rattle.mail_flags.specs.declared.placement.Placement.{Placement}
@@ -124,3 +124,15 @@ abbrev pub end_of_run : (RunState → MailCheck → Bool) → (RunState → Mail
 end_of_run truth work most commands left =
     cond (nat_lt most (all_take truth work commands (begins_from left))) (Broken TooMuchWork)
     (ended_by (actions_from truth commands left) left (does_all truth commands (begins_from left)))
+
+-- ---- what stands
+
+-- what is done whatever comes behind, where a later script discards the message too
+abbrev pub for_good : Handover → Actions
+for_good left = record { filed = left.filed; sent = left.sent; reply = left.reply }
+
+-- what some deeds do, all of them do: the same copies with the same flags, the same addresses, the same answer
+pub record StandsAmong (some all : Actions) : Type 0 where
+  pub filed : All (Contains all.filed) some.filed
+  pub sent : All (Contains all.sent) some.sent
+  pub reply : (args : VacationArgs) → some.reply ≡ Some args → all.reply ≡ Some args

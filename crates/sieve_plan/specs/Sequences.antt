@@ -1,6 +1,6 @@
 -- A delivery by the host's scripts and the user's, one behind the other (RFC 5228, 2.10). What each leaves to the next is said in
 -- `Handover`.
-use Rattle.std.specs.Prelude.{◌≡◌, ◌+◌, ◌-◌, ◌++◌, ◌⊎◌, ℕ, MatchBool, codes, cond, is_some, length, map, List, [], ◌∷◌, Option, None, Some}
+use Rattle.std.specs.Prelude.{◌≡◌, ◌+◌, ◌-◌, ◌++◌, ◌⊎◌, ℕ, MatchBool, true, codes, length, map, List, [], ◌∷◌, Option, None, Some}
 use Rattle.mail_address.specs.declared.address.Addr.{Addr}
 use Rattle.sieve_syntax.specs.Tree.{Commands}
 use Rattle.sieve_syntax.specs.Means.{Means}
@@ -90,9 +90,10 @@ pub record RunsToEnd (mail : MailSpec) (script : SequenceScript) (state next : S
   pub work : next.host_work ≡ host_work_behind script.whose (all_take (truth_at mail) (work_at mail) tree (begins_from state.left)) state.host_work
 
 -- it fails for this reason: its text means no tree, or its run fails
-pub data FailsFor (mail : MailSpec) (script : SequenceScript) (state : SequenceState) : List ℕ → Type 0 where
-  IsInvalid : ((tree : Commands) → Means script.text tree → ⊥) → FailsFor mail script state invalid_text
-  Breaks : (tree : Commands) (failure : Failure) → Means script.text tree → end_at mail script.whose tree state ≡ Broken failure → FailsFor mail script state (failure_text failure)
+pub data FailsFor (mail : MailSpec) (script : SequenceScript) (state : SequenceState) (why : List ℕ) : Type 0 where
+  IsInvalid : ((tree : Commands) → Means script.text tree → ⊥) → why ≡ invalid_text → FailsFor mail script state why
+  Breaks : (tree : Commands) (failure : Failure) → Means script.text tree → end_at mail script.whose tree state ≡ Broken failure → why ≡ failure_text failure
+      → FailsFor mail script state why
 
 -- the notice on a failure of a host's script says whose it was
 abbrev pub told_of : Whose → List ℕ → List ℕ
@@ -125,6 +126,11 @@ SettlesInTurn mail [] state settled = settled ≡ settled_well state.done
 SettlesInTurn mail (script ∷ more) state settled =
     SettlesFailed mail script state settled
     ⊎ ((next : SequenceState) × RunsToEnd mail script state next × MatchBool next.left.is_kept (SettlesInTurn mail more next settled) (settled ≡ settled_well next.done))
+
+-- these scripts run to their ends in turn, and each leaves the message to be kept
+abbrev pub RunInTurn : MailSpec → List SequenceScript → (from to : SequenceState) → Type 0
+RunInTurn mail [] from to = from ≡ to
+RunInTurn mail (script ∷ more) from to = (next : SequenceState) × RunsToEnd mail script from next × (next.left.is_kept ≡ true) × RunInTurn mail more next to
 
 -- no script runs: the message is kept, and this is told
 abbrev pub settled_unrun : List ℕ → Settled
