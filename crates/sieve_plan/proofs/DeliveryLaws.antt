@@ -41,7 +41,7 @@ one_follows own moment mail args last (suc room) D.Send one two (reply, (is, her
     here ∙ (ap (λ r. Sent (handle_key_of (handle_of args)) r (latest last moment)) (one_reply args mail own moment reply other is was) ∙ sym there)
 one_follows own moment mail args last room (D.Quiet reason) one two is was = is ∙ sym was
 
-one_response : (own : Addr) (moment : ℕ) (mail : MailSpec) (last : List ℕ → Option ℕ) (room : ℕ) (reply : Option VacationArgs) (one two : Response)
+pub one_response : (own : Addr) (moment : ℕ) (mail : MailSpec) (last : List ℕ → Option ℕ) (room : ℕ) (reply : Option VacationArgs) (one two : Response)
     → Responds own moment mail last room reply one → Responds own moment mail last room reply two → one ≡ two
 one_response own moment mail last room None one two is was = is ∙ sym was
 one_response own moment mail last room (Some args) one two is was =

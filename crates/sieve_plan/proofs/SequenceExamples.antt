@@ -1,7 +1,6 @@
 -- The host's scripts and the user's on small cases: one that is right, and one that nearly is. The texts are those of these trees.
-use Rattle.std.proofs.Common.{◌≡◌, ◌∷◌, ◌++◌, ℕ, Bool, true, false, List, [], Some, None, refl, sym, ap, subst, ◌∙◌, inl, inr}
-use Rattle.std.specs.Prelude.{Option, MatchBool, codes, not}
-use Rattle.std.specs.List.{filter}
+use Rattle.std.proofs.Common.{◌≡◌, ◌∷◌, ◌++◌, ℕ, Bool, true, false, List, [], Some, None, refl, sym, ap, subst, ◌∙◌, inl, inr, arith}
+use Rattle.std.specs.Prelude.{Option, MatchBool, codes, get_or, length}
 use Rattle.mail_address.specs.declared.address.Addr.{Addr}
 use Rattle.mail_flags.specs.declared.placement.Placement.{Placement}
 use Rattle.sieve_syntax.specs.declared.tree.action.Action.{Action}
@@ -107,7 +106,8 @@ module _ (mail : MailSpec) (host user : List ℕ) where
 
 -- no script of the host's runs on a message that may go round in a loop, nor on one with a long header
 none_run : (host : HostScripts) (text : Option (List ℕ)) (mail : MailSpec) → has_long_header mail.octets ≡ true → SettlesUnder host text mail (settled_unrun long_text)
-none_run host text mail long = subst (λ b. MatchBool b (settled_unrun long_text ≡ settled_unrun long_text) _) (sym long) refl
+none_run host text mail long =
+    subst (λ b. MatchBool b (settled_unrun long_text ≡ settled_unrun long_text) (MatchBool (is_looping mail) (settled_unrun long_text ≡ settled_unrun loop_text) (SettlesInTurn mail (sequence_of host text) at_beginning (settled_unrun long_text)))) (sym long) refl
 
 none_run_in_loop : (host : HostScripts) (text : Option (List ℕ)) (mail : MailSpec) → has_long_header mail.octets ≡ false → is_looping mail ≡ true → SettlesUnder host text mail (settled_unrun loop_text)
 none_run_in_loop host text mail short loops =
@@ -120,48 +120,63 @@ none_run_in_loop host text mail short loops =
 abbrev second : Handover → List Action → Option Actions
 second left actions = done_by (end_of (in_row actions) left)
 
+abbrev copies_in : Option Actions → List Placement
+copies_in None = []
+copies_in (Some done) = done.filed
+
+abbrev first_flag : List Placement → ℕ
+first_flag [] = 0
+first_flag (copy ∷ more) = length copy.flags
+
+abbrev reason_in : Option Actions → ℕ
+reason_in None = 0
+reason_in (Some done) = elim done.reply [
+  | None ↦ 0
+  | Some args ↦ get_or args.reason 0 0
+]
+
+none_is_one : (copy : Placement) → [] ≡ copy ∷ [] → ⊥
+none_is_one copy same = cc
+
 -- the first one's keep is done, whatever the second does
 abbrev keep_done_twice : List Action → List Action → Option Actions
 keep_done_twice one two = second (record (leaves_first one) { filed = at inbox [] ∷ (leaves_first one).filed }) two
 
 not_keep_done_twice : both (Keep None ∷ []) (Discard ∷ []) ≡ keep_done_twice (Keep None ∷ []) (Discard ∷ []) → ⊥
-not_keep_done_twice same = let is : filed [] ≡ filed (at inbox [] ∷ []) = same in cc
+not_keep_done_twice same = none_is_one (at inbox []) (ap copies_in same)
 
 -- `fileinto "INBOX"` is taken for a keep
 abbrev fileinto_inbox_undone : List Action → List Action → Option Actions
 fileinto_inbox_undone one two = second (record (leaves_first one) { filed = without_inbox (leaves_first one).filed }) two
 
 not_fileinto_inbox_undone : both (copied inbox ∷ []) (Discard ∷ []) ≡ fileinto_inbox_undone (copied inbox ∷ []) (Discard ∷ []) → ⊥
-not_fileinto_inbox_undone same = let is : filed (at inbox [] ∷ []) ≡ filed [] = same in cc
+not_fileinto_inbox_undone same = none_is_one (at inbox []) (sym (ap copies_in same))
 
 -- the last `vacation` answers
 abbrev vacation_by_the_last : List Action → List Action → Option Actions
 vacation_by_the_last one two = second (record (leaves_first one) { reply = None }) two
 
 not_vacation_by_the_last : both (Vacation (away (codes "A")) ∷ []) (Vacation (away (codes "B")) ∷ []) ≡ vacation_by_the_last (Vacation (away (codes "A")) ∷ []) (Vacation (away (codes "B")) ∷ []) → ⊥
-not_vacation_by_the_last same =
-    let is : Some (record { filed = at inbox [] ∷ []; sent = []; reply = Some (away (codes "A")) }) ≡ Some (record { filed = at inbox [] ∷ []; sent = []; reply = Some (away (codes "B")) }) = same in
-    cc
+not_vacation_by_the_last same = let is : 65 ≡ 66 = ap reason_in same in absurd (omega (arith, is))
 
 -- flags end with their script
 abbrev flags_forgotten_between : List Action → List Action → Option Actions
 flags_forgotten_between one two = second (record (leaves_first one) { flags = [] }) two
 
 not_flags_forgotten_between : both (SetFlag (seen ∷ []) ∷ []) (into x ∷ []) ≡ flags_forgotten_between (SetFlag (seen ∷ []) ∷ []) (into x ∷ []) → ⊥
-not_flags_forgotten_between same = let is : filed (at x seen ∷ []) ≡ filed (at x [] ∷ []) = same in cc
+not_flags_forgotten_between same = let is : 5 ≡ 0 = ap (λ done. first_flag (copies_in done)) same in absurd (omega (arith, is))
 
 module _ (mail : MailSpec) (host user : List ℕ) where
   -- the second script runs though the first discarded
   not_second_script_though_discarded : Means host (in_row (Discard ∷ [])) → SettlesInTurn mail (sequence_of (host_before host) (Some user)) at_beginning (settled_well (files_only (at x [] ∷ []))) → ⊥
   not_second_script_though_discarded one is =
       let same = one_in_turn mail (sequence_of (host_before host) (Some user)) at_beginning (settled_well (files_only [])) (settled_well (files_only (at x [] ∷ []))) (host_discards mail host user one) is in
-      let filed_none : [] ≡ at x [] ∷ [] = ap (λ (s : Settled). s.deeds.filed) same in
-      cc
+      none_is_one (at x []) (ap (λ (s : Settled). s.deeds.filed) same)
 
   -- the user's failure undoes what the host's did
   not_failure_of_the_second_undoes_the_first : Means host (in_row (copied x ∷ [])) → Means user twice
       → SettlesInTurn mail (sequence_of (host_before host) (Some user)) at_beginning (settled_unrun (codes "vacation executed twice")) → ⊥
   not_failure_of_the_second_undoes_the_first one two is =
       let same = one_in_turn mail (sequence_of (host_before host) (Some user)) at_beginning _ (settled_unrun (codes "vacation executed twice")) (user_fails mail host user one two) is in
-      let filed_alone : at x [] ∷ at inbox [] ∷ [] ≡ at inbox [] ∷ [] = ap (λ (s : Settled). s.deeds.filed) same in
-      cc
+      let is : 2 ≡ 1 = ap (λ (s : Settled). length s.deeds.filed) same in
+      absurd (omega (arith, is))

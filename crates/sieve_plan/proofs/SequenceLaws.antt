@@ -23,12 +23,15 @@ use Rattle.sieve_exec.specs.Mails.{MailSpec}
 use Rattle.sieve_exec.specs.Outcomes.{outcome_at}
 use Rattle.sieve_exec.specs.Truth.{truth_at}
 use Rattle.sieve_exec.specs.Work.{work_at}
-use Rattle.store_accounts.specs.Account.{Account, room_in, adds_notice}
+use Rattle.store_accounts.specs.Account.{Account, room_in, adds_notice, adds_notice_if_any}
 use Rattle.store_accounts.specs.declared.report.Report.{Report}
+use Rattle.sieve_plan.specs.Sent.{over_keys}
+use Rattle.sieve_plan.specs.Views.{last_reply}
 use Rattle.sieve_plan.specs.Delivered.{Disposition, Acts, Tells, Disposes, DisposesUnder, DisposesUnlessLooping, DisposesUnlessLong, disposition_of, failure_text, loop_text, long_text, invalid_text, is_looping, has_long_header, kept, Response, Silent, acts, done_of, held_of, report_of, responds, CarriesOut, LeavesNotice, DeliversAs, Delivers}
 use Rattle.sieve_plan.specs.Handover.{Handover, nothing_left, begins_from, filed_behind, first_reply, done_behind, leaves, for_good, StandsAmong, RunEnd, Ended, Broken}
-use Rattle.sieve_plan.specs.Sequences.{Whose, Before, Own, After, SequenceScript, HostScripts, no_host_scripts, sequence_of, SequenceState, at_beginning, end_at, max_host_work, work_limit, host_work_behind, RunsToEnd, FailsFor, IsInvalid, Breaks, told_of, Settled, settled_well, settled_unrun, SettlesFailed, SettlesInTurn, RunInTurn, SettlesUnder, CarriesOutSettled, DeliversInSequence}
-use Rattle.sieve_plan.proofs.PlanLemmas.{none_goes, none_told}
+use Rattle.sieve_plan.specs.Sequences.{Whose, Before, Own, After, SequenceScript, HostScripts, no_host_scripts, sequence_of, SequenceState, at_beginning, end_at, max_host_work, work_limit, host_work_behind, RunsToEnd, FailsFor, IsInvalid, Breaks, told_of, Settled, settled_well, settled_unrun, SettlesFailed, SettlesInTurn, RunInTurn, SettlesUnder, notice_left, forgotten_unless, CarriesOutSettled, DeliversInSequence}
+use Rattle.sieve_plan.proofs.DeliveryLaws.{one_response}
+use Rattle.sieve_plan.proofs.PlanLemmas.{none_goes}
 use Rattle.sieve_plan.proofs.HandoverLaws.{outcome_of, alone, AreApart, IsGoodEnd, good_end}
 
 -- ---- a script has one end
@@ -361,3 +364,34 @@ host_work_so_far mail (script ∷ others) from to low (next, runs, still, later)
 -- the host's scripts take a quarter of a run's work among them all
 pub host_work_bounded : (mail : MailSpec) (ran : List SequenceScript) (state : SequenceState) → RunInTurn mail ran at_beginning state → state.host_work ≤ 50_000_000
 host_work_bounded mail ran state run = host_work_so_far mail ran at_beginning state (omega arith) run
+
+-- ---- one report
+
+one_under : (host : HostScripts) (text : Option (List ℕ)) (mail : MailSpec) (one two : Settled) → SettlesUnder host text mail one → SettlesUnder host text mail two → one ≡ two
+one_under host text mail one two is was = unless_long (has_long_header mail.octets) is was
+  where
+    unless_looping : (looping : Bool) → MatchBool looping (one ≡ settled_unrun loop_text) (SettlesInTurn mail (sequence_of host text) at_beginning one)
+        → MatchBool looping (two ≡ settled_unrun loop_text) (SettlesInTurn mail (sequence_of host text) at_beginning two) → one ≡ two
+    unless_looping true here there = here ∙ sym there
+    unless_looping false here there = one_in_turn mail (sequence_of host text) at_beginning one two here there
+
+    unless_long : (long : Bool) → MatchBool long (one ≡ settled_unrun long_text) (MatchBool (is_looping mail) (one ≡ settled_unrun loop_text) (SettlesInTurn mail (sequence_of host text) at_beginning one))
+        → MatchBool long (two ≡ settled_unrun long_text) (MatchBool (is_looping mail) (two ≡ settled_unrun loop_text) (SettlesInTurn mail (sequence_of host text) at_beginning two)) → one ≡ two
+    unless_long true here there = here ∙ sym there
+    unless_long false here there = unless_looping (is_looping mail) here there
+
+one_carried_out : (own : Addr) (moment : ℕ) (mail : MailSpec) (settled : Settled) (a : Account) (one two : Report) (after other : Account)
+    → CarriesOutSettled own moment mail settled a one after → CarriesOutSettled own moment mail settled a two other → (one ≡ two) × (after ≡ other)
+one_carried_out own moment mail settled a one two after other is was =
+    let done = done_of a mail settled.deeds in
+    let notice = notice_left settled.notice (held_of a mail settled.deeds) in
+    let same = one_response own moment mail (last_reply a mail.from) (room_in a - length done.sent) settled.deeds.reply is.response was.response is.is_response was.is_response in (
+      is.reported ∙ (ap (λ x. report_of done x notice) same ∙ sym was.reported),
+      is.changed ∙ (ap (λ x. adds_notice_if_any moment notice (responds mail x (acts mail done (forgotten_unless settled.notice (over_keys a moment)) a))) same ∙ sym was.changed),
+    )
+
+pub one_delivery_in_sequence : (own : Addr) (host : HostScripts) (mail : MailSpec) (text : Option (List ℕ)) (a : Account) (one two : Report) (after other : Account)
+    → DeliversInSequence own host mail text a one after → DeliversInSequence own host mail text a two other → (one ≡ two) × (after ≡ other)
+one_delivery_in_sequence own host mail text a one two after other is was =
+    let same = one_under host text mail is.settled was.settled is.settles was.settles in
+    one_carried_out own mail.moment mail was.settled a one two after other (subst (λ s. CarriesOutSettled own mail.moment mail s a one after) same is.delivers) was.delivers
