@@ -11,7 +11,8 @@ It needs root and dovecot-sieve; dovecot-lda runs as nobody.
 """
 import glob, os, random, subprocess, sys, tempfile
 from concurrent.futures import ThreadPoolExecutor
-from dataclasses import dataclass, replace
+from dataclasses import dataclass
+from itertools import combinations
 from typing import Optional
 
 sys.path.insert(0, os.path.dirname(os.path.abspath(__file__)))
@@ -53,6 +54,8 @@ class Left:
     keep_flags: Optional[frozenset] = None
     reply: Optional[str] = None
     is_kept: bool = True
+    # Whether one of the scripts executed `discard`, which only "again" asks for.
+    discarded: bool = False
 
 
 @dataclass(frozen=True)
@@ -67,63 +70,68 @@ class Broken(Exception):
     pass
 
 
-def with_filed(filed, mailbox, flags):
+def with_filed(filed, mailbox, flags, slips):
     """In its place where it is there, with the new flags; else at the end."""
     if mailbox in dict(filed):
-        return tuple((name, flags if name == mailbox else had) for name, had in filed)
+        return filed if "order" in slips else tuple((name, flags if name == mailbox else had) for name, had in filed)
     return (*filed, (mailbox, flags))
 
 
-def run(script, left):
+def run(script, left, slips=frozenset()):
     """What is done where no other runs, and what is left to the next."""
     filed, sent, flags, reply, cancelled = left.filed, left.sent, left.flags, None, False
-    executed = named = False
+    executed = named = discarded = False
+    cancels = lambda is_there: not ("again" in slips and is_there)
     for action, *words in script:
         if action == "stop":
             break
         if action == "keep":
-            filed, cancelled, executed = with_filed(filed, "INBOX", flags if words[0] is None else words[0]), True, True
+            filed, cancelled, executed = with_filed(filed, "INBOX", flags if words[0] is None else words[0], slips), True, True
         elif action == "discard":
-            cancelled = True
+            cancelled, discarded = cancelled or cancels(left.discarded), True
         elif action == "fileinto":
             copy, given, mailbox = words
-            filed, cancelled = with_filed(filed, mailbox, flags if given is None else given), cancelled or not copy
+            filed = with_filed(filed, mailbox, flags if given is None else given, slips)
+            cancelled = cancelled or not copy and cancels(mailbox in dict(left.filed))
             named = named or mailbox == "INBOX"
         elif action == "redirect":
             copy, target = words
-            sent, cancelled = sent if target in sent else (*sent, target), cancelled or not copy
+            sent = sent if target in sent else (*sent, target)
+            cancelled = cancelled or not copy and cancels(target in left.sent)
             if len(sent) > MOST_TARGETS:
                 raise Broken
         elif action == "vacation":
-            if reply is not None:
+            if reply is not None and not ("answered" in slips and left.reply is not None):
                 raise Broken
             reply = words[0]
         else:
             flags = {"setflag": words[0], "addflag": flags | words[0], "removeflag": flags - words[0]}[action]
-    kept = filed if cancelled else with_filed(filed, "INBOX", flags if left.keep_flags is None else left.keep_flags)
+    kept = filed if cancelled else with_filed(filed, "INBOX", flags if left.keep_flags is None else left.keep_flags, slips)
     done = Done(left.filed + kept[len(left.filed):], sent, left.reply or reply)
     for_good = done.filed if named or "INBOX" in dict(left.filed) else tuple(it for it in done.filed if it[0] != "INBOX")
-    return done, Left(for_good, sent, flags, dict(filed)["INBOX"] if executed else left.keep_flags, done.reply, executed or not cancelled)
+    keep_flags = dict(filed)["INBOX"] if executed else left.keep_flags
+    return done, Left(for_good, sent, flags, keep_flags, done.reply, executed or not cancelled, discarded or left.discarded)
 
 
-def meaning(scripts):
-    """What a sequence comes to, and the place of the script that failed."""
+def meaning(scripts, slips=frozenset()):
+    """What a sequence comes to; with slips, what it would come to by those of REASONS."""
     done, left = Done(), Left()
-    for place, script in enumerate(scripts):
+    for script in scripts:
         try:
-            done, left = run(script, left)
+            done, left = run(script, left, slips)
         except Broken:
-            return done, place
+            unflagged = Done(left.filed if "INBOX" in dict(left.filed) else (*left.filed, ("INBOX", NONE)), left.sent, left.reply)
+            return unflagged if "failed" in slips else done
         if not left.is_kept:
             break
-    return done, None
+    return done
 
 
 # ---- what dovecot-lda does
 
 def text(script):
     def strings(flags):
-        return "[" + ", ".join(f'"{flag}"' for flag in sorted(flag.replace("\\", "\\\\") for flag in flags)) + "]"
+        return "[" + ", ".join('"{}"'.format(flag.replace("\\", "\\\\")) for flag in sorted(flags) or [""]) + "]"
     def line(action, *words):
         if action == "keep":
             return f"keep{'' if words[0] is None else ' :flags ' + strings(words[0])};"
@@ -186,9 +194,9 @@ def went_out(sent):
     return sorted(targets), reply
 
 
-def by_definitions(before, user, after):
-    done, failed = meaning([*before, *([] if user is None else [user]), *after])
-    return (sorted(done.filed, key=repr), sorted(done.sent), done.reply), failed
+def by_definitions(before, user, after, slips=frozenset()):
+    done = meaning([*before, *([] if user is None else [user]), *after], slips)
+    return sorted(done.filed, key=repr), sorted(done.sent), done.reply
 
 
 # ---- cases by hand
@@ -204,13 +212,12 @@ MANY = [("redirect", True, f"u{n}@example.net") for n in range(MOST_TARGETS + 1)
 X, Y, INBOX = ("x", NONE), ("y", NONE), ("INBOX", NONE)
 INBOX_SEEN, INBOX_FLAGGED = ("INBOX", SEEN), ("INBOX", FLAGGED)
 
-# The reasons why Pigeonhole does otherwise.
+# The ways in which Pigeonhole does otherwise.
 REASONS = {
     "failed": "after a failure its copy in INBOX has no flags; ours has those that the scripts before it gave it",
-    "again": "a target or a mailbox that an earlier script has already leaves its implicit keep standing",
+    "again": "a mailbox, a target or a `discard` that an earlier script had leaves its implicit keep standing, so that INBOX has the message too",
     "answered": "two vacations within one script are no failure where an earlier script answered",
-    "inbox": "a keep beside a `fileinto` of INBOX in one script gives INBOX's copy no other flags",
-    "order": "of a `fileinto` and a later one into the same mailbox, or a keep, within one script the first one's flags count",
+    "order": "of two filings into one mailbox within one script, a keep among them, the first one's flags count",
 }
 
 # Name, before, user, after; folders, targets, reply; and where Pigeonhole does otherwise its folders, targets and reply, and the reason.
@@ -258,7 +265,8 @@ CASES = [
     ("INBOX's copy stands behind a failure", [], [("fileinto", True, SEEN, "INBOX"), ("keep", SEEN)], [MANY], [INBOX_SEEN], [], None),
     ("flags behind a failure", [[SET_SEEN]], MANY, [], [INBOX_SEEN], [], None, [INBOX], [], None, "failed"),
     ("keep :flags behind a failure", [], [("keep", SEEN)], [MANY], [INBOX_SEEN], [], None, [INBOX], [], None, "failed"),
-    ("flags of INBOX's copy", [[COPY_INBOX, SET_SEEN]], [STOP], [], [INBOX_SEEN], [], None, [INBOX], [], None, "inbox"),
+    ("flags of INBOX's copy", [[COPY_INBOX, SET_SEEN]], [STOP], [], [INBOX_SEEN], [], None, [INBOX], [], None, "order"),
+    ("a second discard", [[DISCARD, KEEP]], [DISCARD], [], [], [], None, [INBOX], [], None, "again"),
 ]
 
 
@@ -266,8 +274,9 @@ def tried(case):
     name, before, user, after, folders, sent, reply, *theirs = case
     says = sorted(folders, key=repr), sorted(sent), reply
     lda = (sorted(theirs[0], key=repr), sorted(theirs[1]), theirs[2]) if theirs else says
-    modelled, found = by_definitions(before, user, after)[0], by_lda(before, user, after)
+    modelled, found = by_definitions(before, user, after), by_lda(before, user, after)
     told = [] if modelled == says else [f"{name}: the case says {says}, `meaning` {modelled}"]
+    told += [] if not theirs or by_definitions(before, user, after, frozenset(theirs[3:])) == lda else [f"{name}: not by {theirs[3]}"]
     return told + ([] if found == lda else [f"{name}: dovecot-lda {found}, expected {lda}"])
 
 
@@ -302,33 +311,16 @@ def drawn_sequence(seed):
     return scripts(2), draw.choice([None, *[drawn_script(draw)] * 4]), scripts(1)
 
 
-def reason(before, user, after, ours, theirs, failed):
-    """Why the two may differ there, if it is one of REASONS."""
-    scripts = [*before, *([] if user is None else [user]), *after]
-    (filed, sent, reply), (files, sends, replies) = ours, theirs
-    names = lambda copies: [name for name, _ in copies]
-    vacations = [sum(it[0] == "vacation" for it in script) for script in scripts]
-    if failed is not None and vacations[failed] > 1 and any(vacations[:failed]):
-        return "answered"
-    def repeats(kind):
-        seen = [{it[-1] for it in script if it[0] == kind} for script in scripts]
-        return any(one & other for at, one in enumerate(seen) for other in seen[at + 1:])
-    if (repeats("fileinto") or repeats("redirect")) and (filed, sent) != (files, sends) and set(names(filed)) | {"INBOX", "x", "y"} >= set(names(files)):
-        return "again"
-    if failed is not None and sent == sends and reply == replies and names(filed) == names(files):
-        return "failed"
-    def mixed(script):
-        into = [it[-1] if it[0] == "fileinto" else "INBOX" for it in script if it[0] in ("fileinto", "keep")] + ["INBOX"]
-        return len(set(into)) < len(into)
-    if any(map(mixed, scripts)) and sent == sends and reply == replies and names(filed) == names(files):
-        return "order"
-    return None
+def reasons(before, user, after, theirs):
+    """The fewest of REASONS by which the other one comes to that."""
+    each = [frozenset(some) for count in range(len(REASONS) + 1) for some in combinations(REASONS, count)]
+    return next((some for some in each if by_definitions(before, user, after, some) == theirs), None)
 
 
 def compared(seed):
     before, user, after = drawn_sequence(seed)
-    (ours, failed), theirs = by_definitions(before, user, after), by_lda(before, user, after)
-    return None if ours == theirs else (seed, ours, theirs, reason(before, user, after, ours, theirs, failed))
+    ours, theirs = by_definitions(before, user, after), by_lda(before, user, after)
+    return None if ours == theirs else (seed, ours, theirs, reasons(before, user, after, theirs))
 
 
 def drawn():
@@ -342,7 +334,7 @@ def drawn():
         before, user, after = drawn_sequence(seed)
         print(f"seed {seed}: definitions {ours}, dovecot-lda {theirs}\n" + "\n".join(f"  {name}: {text(script)!r}" for name, scripts in (("before", before), ("user", [] if user is None else [user]), ("after", after)) for script in scripts), flush=True)
     assert not unknown, f"{len(unknown)} of {count} differ without a known reason"
-    why = ", ".join(f"{name} {sum(it[3] == name for it in found)}" for name in REASONS)
+    why = ", ".join(f"{name} {sum(name in it[3] for it in found)}" for name in REASONS)
     return f"{count} sequences: {count - len(found)} the same, {len(found)} differ for known reasons ({why})"
 
 
