@@ -68,8 +68,11 @@ module _ (mail : MailSpec) (host user : List ℕ) where
   host_stands : Means host (in_row (copied x ∷ [])) → Means user (in_row (Discard ∷ [])) → SettlesInTurn mail (sequence_of (host_before host) (Some user)) at_beginning (settled_well (files_only (at x [] ∷ [])))
   host_stands one two =
       let state = next_of (end_at mail Before (in_row (copied x ∷ [])) at_beginning) in
-      inr (state, record { tree = in_row (copied x ∷ []); means = one; ends = refl; work = refl },
-      inr (next_of (end_at mail Own (in_row (Discard ∷ [])) state), record { tree = in_row (Discard ∷ []); means = two; ends = refl; work = refl }, refl))
+      inr (
+        state,
+        record { tree = in_row (copied x ∷ []); means = one; ends = refl; work = refl },
+        inr (next_of (end_at mail Own (in_row (Discard ∷ [])) state), record { tree = in_row (Discard ∷ []); means = two; ends = refl; work = refl }, refl),
+      )
 
   -- where the host's discards, the user's doesn't run
   host_discards : Means host (in_row (Discard ∷ [])) → SettlesInTurn mail (sequence_of (host_before host) (Some user)) at_beginning (settled_well (files_only []))
@@ -83,15 +86,21 @@ module _ (mail : MailSpec) (host user : List ℕ) where
   user_fails : Means host (in_row (copied x ∷ [])) → Means user twice
       → SettlesInTurn mail (sequence_of (host_before host) (Some user)) at_beginning (record { deeds = files_only (at x [] ∷ at inbox [] ∷ []); notice = Some (codes "vacation executed twice") })
   user_fails one two =
-      inr (next_of (end_at mail Before (in_row (copied x ∷ [])) at_beginning), record { tree = in_row (copied x ∷ []); means = one; ends = refl; work = refl },
-      inl (record { why = codes "vacation executed twice"; fails = Breaks twice _ two refl refl; stands = refl; told = refl }))
+      inr (
+        next_of (end_at mail Before (in_row (copied x ∷ [])) at_beginning),
+        record { tree = in_row (copied x ∷ []); means = one; ends = refl; work = refl },
+        inl (record { why = codes "vacation executed twice"; fails = Breaks twice _ two refl refl; stands = refl; told = refl }),
+      )
 
   -- so it is where its text is no script
   user_is_invalid : Means host (in_row (copied x ∷ [])) → ((tree : Commands) → Means user tree → ⊥)
       → SettlesInTurn mail (sequence_of (host_before host) (Some user)) at_beginning (record { deeds = files_only (at x [] ∷ at inbox [] ∷ []); notice = Some (codes "script is not valid") })
   user_is_invalid one none =
-      inr (next_of (end_at mail Before (in_row (copied x ∷ [])) at_beginning), record { tree = in_row (copied x ∷ []); means = one; ends = refl; work = refl },
-      inl (record { why = invalid_text; fails = IsInvalid none refl; stands = refl; told = refl }))
+      inr (
+        next_of (end_at mail Before (in_row (copied x ∷ [])) at_beginning),
+        record { tree = in_row (copied x ∷ []); means = one; ends = refl; work = refl },
+        inl (record { why = invalid_text; fails = IsInvalid none refl; stands = refl; told = refl }),
+      )
 
   -- the host's fails: the user's doesn't run, and the notice says whose it was
   host_fails : Means host twice → SettlesInTurn mail (sequence_of (host_before host) (Some user)) at_beginning (settled_unrun (codes "before: vacation executed twice"))
@@ -101,8 +110,11 @@ module _ (mail : MailSpec) (host user : List ℕ) where
   after_fails : Means host twice → Means user (in_row (copied x ∷ Keep (Some (seen ∷ [])) ∷ []))
       → SettlesInTurn mail (sequence_of (host_after host) (Some user)) at_beginning (record { deeds = files_only (at x [] ∷ at inbox seen ∷ []); notice = Some (codes "after: vacation executed twice") })
   after_fails one two =
-      inr (next_of (end_at mail Own (in_row (copied x ∷ Keep (Some (seen ∷ [])) ∷ [])) at_beginning), record { tree = in_row (copied x ∷ Keep (Some (seen ∷ [])) ∷ []); means = two; ends = refl; work = refl },
-      inl (record { why = codes "vacation executed twice"; fails = Breaks twice _ one refl refl; stands = refl; told = refl }))
+      inr (
+        next_of (end_at mail Own (in_row (copied x ∷ Keep (Some (seen ∷ [])) ∷ [])) at_beginning),
+        record { tree = in_row (copied x ∷ Keep (Some (seen ∷ [])) ∷ []); means = two; ends = refl; work = refl },
+        inl (record { why = codes "vacation executed twice"; fails = Breaks twice _ one refl refl; stands = refl; told = refl }),
+      )
 
 -- no script of the host's runs on a message that may go round in a loop, nor on one with a long header
 none_run : (host : HostScripts) (text : Option (List ℕ)) (mail : MailSpec) → has_long_header mail.octets ≡ true → SettlesUnder host text mail (settled_unrun long_text)

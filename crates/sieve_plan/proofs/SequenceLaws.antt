@@ -56,7 +56,7 @@ module _ (mail : MailSpec) (script : SequenceScript) (state : SequenceState) whe
       let done : one.done ≡ two.done = ap (λ e. done_in e one.done) ends in
       let left : one.left ≡ two.left = ap (λ e. left_in e one.left) ends in
       let work : one.host_work ≡ two.host_work =
-          is.work ∙ (ap (λ t. host_work_behind script.whose (all_take (truth_at mail) (work_at mail) t (begins_from state.left)) state.host_work) trees ∙ sym was.work) in
+      is.work ∙ (ap (λ t. host_work_behind script.whose (all_take (truth_at mail) (work_at mail) t (begins_from state.left)) state.host_work) trees ∙ sym was.work) in
       λ i. record { left = left i; done = done i; host_work = work i }
 
   never_both : (next : SequenceState) (why : List ℕ) → RunsToEnd mail script state next → FailsFor mail script state why → ⊥
