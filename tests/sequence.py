@@ -70,10 +70,10 @@ class Broken(Exception):
     pass
 
 
-def with_filed(filed, mailbox, flags, slips):
+def with_filed(filed, mailbox, flags):
     """In its place where it is there, with the new flags; else at the end."""
     if mailbox in dict(filed):
-        return filed if "order" in slips else tuple((name, flags if name == mailbox else had) for name, had in filed)
+        return tuple((name, flags if name == mailbox else had) for name, had in filed)
     return (*filed, (mailbox, flags))
 
 
@@ -82,22 +82,23 @@ def run(script, left, slips=frozenset()):
     filed, sent, flags, reply, cancelled = left.filed, left.sent, left.flags, None, False
     executed = named = discarded = False
     cancels = lambda is_there: not ("again" in slips and is_there)
+    keeps = lambda flags: filed if "inbox" in slips and named else with_filed(filed, "INBOX", flags)
     for action, *words in script:
         if action == "stop":
             break
         if action == "keep":
-            filed, cancelled, executed = with_filed(filed, "INBOX", flags if words[0] is None else words[0], slips), True, True
+            filed, cancelled, executed = keeps(flags if words[0] is None else words[0]), True, True
         elif action == "discard":
             cancelled, discarded = cancelled or cancels(left.discarded), True
         elif action == "fileinto":
             copy, given, mailbox = words
-            filed = with_filed(filed, mailbox, flags if given is None else given, slips)
-            cancelled = cancelled or not copy and cancels(mailbox in dict(left.filed))
+            cancelled = cancelled or not copy and cancels(mailbox in dict(filed))
+            filed = with_filed(filed, mailbox, flags if given is None else given)
             named = named or mailbox == "INBOX"
         elif action == "redirect":
             copy, target = words
+            cancelled = cancelled or not copy and cancels(target in sent)
             sent = sent if target in sent else (*sent, target)
-            cancelled = cancelled or not copy and cancels(target in left.sent)
             if len(sent) > MOST_TARGETS:
                 raise Broken
         elif action == "vacation":
@@ -106,7 +107,7 @@ def run(script, left, slips=frozenset()):
             reply = words[0]
         else:
             flags = {"setflag": words[0], "addflag": flags | words[0], "removeflag": flags - words[0]}[action]
-    kept = filed if cancelled else with_filed(filed, "INBOX", flags if left.keep_flags is None else left.keep_flags, slips)
+    kept = filed if cancelled else keeps(flags if left.keep_flags is None else left.keep_flags)
     done = Done(left.filed + kept[len(left.filed):], sent, left.reply or reply)
     for_good = done.filed if named or "INBOX" in dict(left.filed) else tuple(it for it in done.filed if it[0] != "INBOX")
     keep_flags = dict(filed)["INBOX"] if executed else left.keep_flags
@@ -215,9 +216,9 @@ INBOX_SEEN, INBOX_FLAGGED = ("INBOX", SEEN), ("INBOX", FLAGGED)
 # The ways in which Pigeonhole does otherwise.
 REASONS = {
     "failed": "after a failure its copy in INBOX has no flags; ours has those that the scripts before it gave it",
-    "again": "a mailbox, a target or a `discard` that an earlier script had leaves its implicit keep standing, so that INBOX has the message too",
+    "again": "a mailbox or a target that was named before, or a `discard` that an earlier script had, leaves the implicit keep standing, so that INBOX has the message too",
     "answered": "two vacations within one script are no failure where an earlier script answered",
-    "order": "of two filings into one mailbox within one script, a keep among them, the first one's flags count",
+    "inbox": "of a `fileinto` of INBOX and a keep within one script the flags of the `fileinto` count, whichever comes last",
 }
 
 # Name, before, user, after; folders, targets, reply; and where Pigeonhole does otherwise its folders, targets and reply, and the reason.
@@ -265,7 +266,7 @@ CASES = [
     ("INBOX's copy stands behind a failure", [], [("fileinto", True, SEEN, "INBOX"), ("keep", SEEN)], [MANY], [INBOX_SEEN], [], None),
     ("flags behind a failure", [[SET_SEEN]], MANY, [], [INBOX_SEEN], [], None, [INBOX], [], None, "failed"),
     ("keep :flags behind a failure", [], [("keep", SEEN)], [MANY], [INBOX_SEEN], [], None, [INBOX], [], None, "failed"),
-    ("flags of INBOX's copy", [[COPY_INBOX, SET_SEEN]], [STOP], [], [INBOX_SEEN], [], None, [INBOX], [], None, "order"),
+    ("flags of INBOX's copy", [[COPY_INBOX, SET_SEEN]], [STOP], [], [INBOX_SEEN], [], None, [INBOX], [], None, "inbox"),
     ("a second discard", [[DISCARD, KEEP]], [DISCARD], [], [], [], None, [INBOX], [], None, "again"),
 ]
 

@@ -1,17 +1,16 @@
 -- What a script leaves to the next one, on small cases: one that is right, and one that nearly is.
-use Rattle.std.proofs.Common.{◌≡◌, ◌∷◌, ℕ, Bool, true, false, List, [], Some, None, refl, ap, cond}
-use Rattle.std.specs.Prelude.{Option, codes, map, replicate}
+use Rattle.std.proofs.Common.{◌≡◌, ◌∷◌, ℕ, true, false, List, [], Some, None, refl}
+use Rattle.std.specs.Prelude.{Option, codes, replicate}
 use Rattle.mail_address.specs.declared.address.Addr.{Addr}
 use Rattle.mail_flags.specs.declared.placement.Placement.{Placement}
 use Rattle.sieve_syntax.specs.declared.tree.action.Action.{Action}
-use Rattle.sieve_syntax.specs.declared.tree.action.Action.TheVariants.{Keep, Discard, FileInto, Redirect, Vacation, SetFlag, AddFlag, RemoveFlag}
-use Rattle.sieve_syntax.specs.declared.tree.checks.MailCheck.{MailCheck}
+use Rattle.sieve_syntax.specs.declared.tree.action.Action.TheVariants.{Keep, Discard, FileInto, Redirect, Vacation, SetFlag, RemoveFlag}
 use Rattle.sieve_syntax.specs.declared.tree.checks.MailCheck.TheVariants as Q
 use Rattle.sieve_syntax.specs.declared.tree.vacation.VacationArgs.{VacationArgs}
-use Rattle.sieve_syntax.specs.RunState.{RunState, at_first, inbox, TwoVacations, TooManyRedirects, TooManyMailboxes, TooMuchWork}
+use Rattle.sieve_syntax.specs.RunState.{at_first, inbox, TwoVacations, TooManyRedirects, TooManyMailboxes, TooMuchWork}
 use Rattle.sieve_syntax.specs.Meaning.{Actions}
 use Rattle.sieve_syntax.specs.Work.{max_work}
-use Rattle.sieve_syntax.specs.Tree.{looks, CommandTree, choose, stop, act, branch, no_branches, Commands, no_commands, command}
+use Rattle.sieve_syntax.specs.Tree.{looks, choose, stop, act, branch, no_branches, Commands, no_commands, command}
 use Rattle.sieve_plan.specs.Handover.{Handover, nothing_left, begins_from, RunEnd, Ended, Broken, end_of_run}
 
 -- ---- scripts
@@ -37,6 +36,9 @@ junk = codes "$Junk"
 
 abbrev bob : Addr
 bob = record { local = codes "bob"; domain = codes "example.net" }
+
+abbrev carol : Addr
+carol = record { local = codes "carol"; domain = codes "example.net" }
 
 abbrev pub away : List ℕ → VacationArgs
 away reason = record { days = None; seconds = None; subject = None; from = None; addresses = []; mime = false; handle = None; reason = reason }
@@ -143,3 +145,30 @@ answered = refl
 answered_twice : (end_of (in_row (Vacation (away (codes "B")) ∷ Vacation (away (codes "C")) ∷ [])) (leaves_first (Vacation (away (codes "A")) ∷ [])) ≡ Broken TwoVacations)
     × (end_of (in_row (Vacation (away (codes "B")) ∷ Vacation (away (codes "C")) ∷ [])) nothing_left ≡ Broken TwoVacations)
 answered_twice = (refl, refl)
+
+-- ---- limits of all together
+
+-- behind sixteen targets there is no other, but one of them again; and what is sent by two is sent by both
+targets_of_all : (end_of (in_row (Redirect (record { target = carol; copy = true }) ∷ [])) (record nothing_left { sent = replicate 16 bob }) ≡ Broken TooManyRedirects)
+    × ((left_by (end_of (in_row (Redirect (record { target = bob; copy = true }) ∷ [])) (record nothing_left { sent = replicate 16 bob }))).sent ≡ replicate 16 bob)
+targets_of_all = (refl, refl)
+
+-- behind a hundred mailboxes there is no other, INBOX for the implicit keep neither; one of them again
+mailboxes_of_all : (end_of (in_row (into (codes "y") ∷ [])) (record nothing_left { filed = replicate 100 (at (codes "x") []) }) ≡ Broken TooManyMailboxes)
+    × (end_of (in_row []) (record nothing_left { filed = replicate 100 (at (codes "x") []) }) ≡ Broken TooManyMailboxes)
+    × ((left_by (end_of (in_row (into (codes "x") ∷ [])) (record nothing_left { filed = replicate 100 (at (codes "x") []) }))).filed ≡ replicate 100 (at (codes "x") []))
+mailboxes_of_all = (refl, refl, refl)
+
+-- a run that takes as much work as it may, and one that takes more
+abbrev asking : Commands
+asking = command (choose (branch (looks (Q.Exists [])) no_commands no_branches)) no_commands
+
+work_of_run : ((left_by (end_of_run (λ state check. true) (λ state check. 3) 3 asking nothing_left)).is_kept ≡ true) × (end_of_run (λ state check. true) (λ state check. 3) 2 asking nothing_left ≡ Broken TooMuchWork)
+work_of_run = (refl, refl)
+
+-- ---- a script that does nothing
+
+-- changes nothing: what the first one alone comes to
+idle : (both (copied inbox ∷ SetFlag (seen ∷ []) ∷ []) [] ≡ done_by (end_of (in_row (copied inbox ∷ SetFlag (seen ∷ []) ∷ [])) nothing_left))
+    × (both (SetFlag (seen ∷ []) ∷ Keep None ∷ SetFlag (junk ∷ []) ∷ []) [] ≡ done_by (end_of (in_row (SetFlag (seen ∷ []) ∷ Keep None ∷ SetFlag (junk ∷ []) ∷ [])) nothing_left))
+idle = (refl, refl)

@@ -1,5 +1,5 @@
 -- What a run makes of what was left to it.
-use Rattle.std.proofs.Common.{◌≡◌, ◌≤◌, ◌&&◌, ◌||◌, ℕ, suc, Bool, true, false, cond, List, [], ◌∷◌, ◌++◌, drop, length, map, Option, Some, None, refl, sym, ap, subst, ◌∙◌, arith}
+use Rattle.std.proofs.Common.{◌≡◌, ◌≤◌, ◌&&◌, ◌||◌, ℕ, Bool, true, false, cond, List, [], ◌∷◌, ◌++◌, drop, length, map, Option, Some, None, refl, sym, ap, subst, ◌∙◌, arith}
 use Rattle.std.specs.Prelude.{nat_eq, nat_lt, not}
 use Rattle.std.specs.List.{filter, list_any, All, AllByRecursion, Contains, IsDistinct}
 use Rattle.std.specs.Cmp.{IsEquivalence}
@@ -17,7 +17,7 @@ use Rattle.sieve_syntax.specs.declared.tree.action.Action.{Action}
 use Rattle.sieve_syntax.specs.declared.tree.action.Action.TheVariants.{Keep, Discard, FileInto, Redirect, Vacation, SetFlag, AddFlag, RemoveFlag}
 use Rattle.sieve_syntax.specs.declared.tree.checks.MailCheck.{MailCheck}
 use Rattle.sieve_syntax.specs.declared.tree.vacation.VacationArgs.{VacationArgs}
-use Rattle.sieve_syntax.specs.RunState.{RunState, at_first, max_targets, max_mailboxes, Failure, TwoVacations, TooManyRedirects, TooManyMailboxes, TooMuchWork, Flow, Going, Stopped, Failed, and_then, inbox, mailbox_named, is_filed, has_room, with_filed, flags_given, cancelled_after, filed_into, kept_implicitly, same_target, sent_to, replied_by, performed}
+use Rattle.sieve_syntax.specs.RunState.{RunState, at_first, max_targets, max_mailboxes, TwoVacations, TooManyRedirects, TooManyMailboxes, TooMuchWork, Flow, Going, Stopped, Failed, and_then, inbox, mailbox_named, is_filed, with_filed, flags_given, cancelled_after, filed_into, kept_implicitly, same_target, sent_to, replied_by, performed}
 use Rattle.sieve_syntax.specs.Meaning.{holds, does, chooses, does_all, Actions, Outcome, done_by, outcome_after}
 use Rattle.sieve_syntax.specs.Meaning as M
 use Rattle.sieve_syntax.specs.Trace.{NamesWithoutRepeats}
@@ -54,7 +54,7 @@ alone truth work tree = step (nat_lt max_work (all_take truth work tree at_first
 
 -- ---- what each action keeps, a script keeps
 
-abbrev OnFlow : (RunState → Type 0) → Flow → Type 0
+abbrev pub OnFlow : (RunState → Type 0) → Flow → Type 0
 OnFlow P (Going state) = P state
 OnFlow P (Stopped state) = P state
 OnFlow P (Failed failure) = Unit {0}
@@ -62,7 +62,7 @@ OnFlow P (Failed failure) = Unit {0}
 abbrev IsKept : (RunState → Type 0) → Type 0
 IsKept P = (action : Action) (state : RunState) → P state → OnFlow P (performed action state)
 
-then_kept : (P : RunState → Type 0) (flow : Flow) (next : RunState → Flow) → OnFlow P flow → ((state : RunState) → P state → OnFlow P (next state)) → OnFlow P (and_then flow next)
+pub then_kept : (P : RunState → Type 0) (flow : Flow) (next : RunState → Flow) → OnFlow P flow → ((state : RunState) → P state → OnFlow P (next state)) → OnFlow P (and_then flow next)
 then_kept P (Going state) next so keeps = keeps state so
 then_kept P (Stopped state) next so keeps = so
 then_kept P (Failed failure) next so keeps = tt
@@ -83,14 +83,14 @@ mutual
   kept_by_branches P keeps truth (branch condition block more) state so =
       either_kept P (holds (truth state) condition) (does_all truth block state) (chooses truth more state) (kept_by_all P keeps truth block state so) (kept_by_branches P keeps truth more state so)
 
-  kept_by_all : (P : RunState → Type 0) → IsKept P → (truth : RunState → MailCheck → Bool) (commands : Commands) (state : RunState) → P state → OnFlow P (does_all truth commands state)
+  pub kept_by_all : (P : RunState → Type 0) → IsKept P → (truth : RunState → MailCheck → Bool) (commands : Commands) (state : RunState) → P state → OnFlow P (does_all truth commands state)
   kept_by_all P keeps truth no_commands state so = so
   kept_by_all P keeps truth (command first more) state so =
       then_kept P (does truth first state) (does_all truth more) (kept_by P keeps truth first state so) (λ next still. kept_by_all P keeps truth more next still)
 
 -- ---- what was left stands, and each mailbox and each address is there once
 
-abbrev mailboxes_of : List Placement → List (List ℕ)
+abbrev pub mailboxes_of : List Placement → List (List ℕ)
 mailboxes_of filed = map (λ (one : Placement). one.mailbox) filed
 
 -- the copies and the addresses are apart, and not too many
@@ -101,14 +101,14 @@ pub record AreApart (filed : List Placement) (sent : List Addr) : Type 0 where
   pub few_addresses : length sent ≤ max_targets
 
 -- they are, and those that were left come first
-record Extends (left : Handover) (filed : List Placement) (sent : List Addr) : Type 0 where
-  apart : AreApart filed sent
-  new_mailboxes : List (List ℕ)
-  mailboxes : mailboxes_of filed ≡ mailboxes_of left.filed ++ new_mailboxes
-  new_addresses : List Addr
-  addresses : sent ≡ left.sent ++ new_addresses
+pub record Extends (left : Handover) (filed : List Placement) (sent : List Addr) : Type 0 where
+  pub apart : AreApart filed sent
+  pub new_mailboxes : List (List ℕ)
+  pub mailboxes : mailboxes_of filed ≡ mailboxes_of left.filed ++ new_mailboxes
+  pub new_addresses : List Addr
+  pub addresses : sent ≡ left.sent ++ new_addresses
 
-abbrev Extended : Handover → RunState → Type 0
+abbrev pub Extended : Handover → RunState → Type 0
 Extended left state = Extends left state.filed state.sent
 
 both : (a b : Bool) → (a && b) ≡ true → (a ≡ true) × (b ≡ true)
@@ -129,12 +129,12 @@ turned : {K : Type 0} {eq : K → K → Bool} → IsEquivalence eq → (y : K) (
 turned laws y [] = refl
 turned laws y (x ∷ xs) = λ i. laws.symm y x i || turned laws y xs i
 
-any_mailbox : (p : List ℕ → Bool) (filed : List Placement) → list_any p (mailboxes_of filed) ≡ list_any (λ there. p there.mailbox) filed
+pub any_mailbox : (p : List ℕ → Bool) (filed : List Placement) → list_any p (mailboxes_of filed) ≡ list_any (λ there. p there.mailbox) filed
 any_mailbox p [] = refl
 any_mailbox p (one ∷ more) = λ i. p one.mailbox || any_mailbox p more i
 
 -- where a mailbox has a copy, one more adds no mailbox
-filed_again : (filed : List Placement) (new : Placement) → is_filed filed new.mailbox ≡ true → mailboxes_of (with_filed filed new) ≡ mailboxes_of filed
+pub filed_again : (filed : List Placement) (new : Placement) → is_filed filed new.mailbox ≡ true → mailboxes_of (with_filed filed new) ≡ mailboxes_of filed
 filed_again [] new is = absurd (cc is)
 filed_again (there ∷ more) new is = step (filed_again more new) (pointwise nat_eq there.mailbox new.mailbox) refl is
   where
@@ -230,7 +230,7 @@ replied_extends left args state so = step state.reply
     step None = so
     step (Some _) = tt
 
-extends : (left : Handover) (action : Action) (state : RunState) → Extended left state → OnFlow (Extended left) (performed action state)
+pub extends : (left : Handover) (action : Action) (state : RunState) → Extended left state → OnFlow (Extended left) (performed action state)
 extends left (Keep given) state so = filed_extends left inbox (flags_given given state) false state so
 extends left Discard state so = so
 extends left (FileInto filing) state so = filed_extends left (mailbox_named filing.mailbox) (flags_given filing.flags state) filing.copy state so
@@ -243,7 +243,7 @@ extends left (RemoveFlag texts) state so = so
 -- ---- lists of copies
 
 -- what is filed behind others goes into the mailboxes that the run filed into
-same_mailboxes : (before filed : List Placement) (rest : List (List ℕ)) → mailboxes_of filed ≡ mailboxes_of before ++ rest → mailboxes_of (filed_behind before filed) ≡ mailboxes_of filed
+pub same_mailboxes : (before filed : List Placement) (rest : List (List ℕ)) → mailboxes_of filed ≡ mailboxes_of before ++ rest → mailboxes_of (filed_behind before filed) ≡ mailboxes_of filed
 same_mailboxes before filed rest is =
     let f : Placement → List ℕ = λ one. one.mailbox in
     let long = length-map before f in
@@ -300,7 +300,7 @@ all_before before more = λ k d below. Contains-append_left before more _ (All-c
 
 -- ---- a run that ends
 
-none_new : (left : Handover) → AreApart left.filed left.sent → Extends left left.filed left.sent
+pub none_new : (left : Handover) → AreApart left.filed left.sent → Extends left left.filed left.sent
 none_new left apart = record { apart = apart; new_mailboxes = []; mailboxes = sym (append-nil (mailboxes_of left.filed)); new_addresses = []; addresses = sym (append-nil left.sent) }
 
 reply_stands : (one later : Option VacationArgs) (args : VacationArgs) → one ≡ Some args → first_reply one later ≡ Some args
@@ -364,7 +364,7 @@ pub record IsGoodEnd (left : Handover) (done : Actions) (next : Handover) : Type
   pub once : NamesWithoutRepeats done
   pub apart : AreApart next.filed next.sent
 
-abbrev OnEnded : (Actions → Handover → Type 0) → RunEnd → Type 0
+abbrev pub OnEnded : (Actions → Handover → Type 0) → RunEnd → Type 0
 OnEnded P (Ended done next) = P done next
 OnEnded P (Broken failure) = Unit {0}
 
@@ -389,7 +389,7 @@ good_with actions left at_end (Going kept) so = good_leaves actions left at_end 
 good_with actions left at_end (Stopped kept) so = good_leaves actions left at_end kept so
 good_with actions left at_end (Failed failure) so = tt
 
-implicit_extends : (left : Handover) (at_end : RunState) → Extended left at_end → OnFlow (Extended left) (keeps_implicitly left at_end)
+pub implicit_extends : (left : Handover) (at_end : RunState) → Extended left at_end → OnFlow (Extended left) (keeps_implicitly left at_end)
 implicit_extends left at_end so = step at_end.cancelled (filed_extends left inbox (implicit_flags left.keep_flags at_end) true at_end so)
   where
     step : (cancelled : Bool) → OnFlow (Extended left) (filed_into inbox (implicit_flags left.keep_flags at_end) true at_end)

@@ -9,4 +9,5 @@ mod Examples
 mod HandoverExamples
 pub mod HandoverLaws
 pub mod SequenceLaws
+pub mod InboxLaws
 mod SequenceExamples

@@ -1,20 +1,18 @@
 -- The host's scripts and the user's on small cases: one that is right, and one that nearly is. The texts are those of these trees.
-use Rattle.std.proofs.Common.{◌≡◌, ◌∷◌, ◌++◌, ℕ, Bool, true, false, List, [], Some, None, refl, sym, ap, subst, ◌∙◌, inl, inr, arith}
+use Rattle.std.proofs.Common.{◌≡◌, ◌∷◌, ℕ, true, false, List, [], Some, None, refl, sym, ap, subst, inl, inr, arith}
 use Rattle.std.specs.Prelude.{Option, MatchBool, codes, get_or, length}
-use Rattle.mail_address.specs.declared.address.Addr.{Addr}
 use Rattle.mail_flags.specs.declared.placement.Placement.{Placement}
 use Rattle.sieve_syntax.specs.declared.tree.action.Action.{Action}
-use Rattle.sieve_syntax.specs.declared.tree.action.Action.TheVariants.{Keep, Discard, FileInto, Redirect, Vacation, SetFlag}
-use Rattle.sieve_syntax.specs.declared.tree.vacation.VacationArgs.{VacationArgs}
+use Rattle.sieve_syntax.specs.declared.tree.action.Action.TheVariants.{Keep, Discard, Vacation, SetFlag}
 use Rattle.sieve_syntax.specs.RunState.{inbox}
 use Rattle.sieve_syntax.specs.Meaning.{Actions}
 use Rattle.sieve_syntax.specs.Means.{Means}
-use Rattle.sieve_syntax.specs.Tree.{act, Commands, no_commands, command}
+use Rattle.sieve_syntax.specs.Tree.{Commands}
 use Rattle.sieve_exec.specs.Mails.{MailSpec}
 use Rattle.sieve_plan.specs.Delivered.{invalid_text, long_text, loop_text, has_long_header, is_looping, kept}
-use Rattle.sieve_plan.specs.Handover.{Handover, nothing_left, without_inbox, RunEnd, Ended, Broken}
-use Rattle.sieve_plan.specs.Sequences.{Whose, Before, Own, After, SequenceScript, HostScripts, no_host_scripts, sequence_of, SequenceState, at_beginning, work_limit, end_at, IsInvalid, Breaks, told_of, Settled, settled_well, settled_unrun, SettlesInTurn, SettlesUnder, notice_left}
-use Rattle.sieve_plan.proofs.HandoverExamples.{in_row, into, copied, seen, away, at, end_of, leaves_first, done_by, both, filed}
+use Rattle.sieve_plan.specs.Handover.{Handover, without_inbox, RunEnd, Ended, Broken}
+use Rattle.sieve_plan.specs.Sequences.{Before, Own, After, HostScripts, no_host_scripts, sequence_of, SequenceState, at_beginning, work_limit, end_at, IsInvalid, Breaks, told_of, Settled, settled_well, settled_unrun, SettlesInTurn, SettlesUnder, notice_left}
+use Rattle.sieve_plan.proofs.HandoverExamples.{in_row, into, copied, seen, away, at, end_of, leaves_first, done_by, both}
 use Rattle.sieve_plan.proofs.SequenceLaws.{one_in_turn}
 
 -- ---- what a sequence is

@@ -1,20 +1,18 @@
 -- Laws of the host's scripts and the user's.
-use Rattle.std.proofs.Common.{◌≡◌, ◌≤◌, ◌+◌, ◌-◌, ◌++◌, ◌⊎◌, ℕ, zero, suc, Bool, true, false, cond, List, [], ◌∷◌, drop, length, Option, Some, None, refl, sym, ap, subst, ◌∙◌, arith, inl, inr}
-use Rattle.std.specs.Prelude.{MatchBool, nat_eq, nat_lt, ◌↔◌}
-use Rattle.std.specs.List.{All, Contains, IsDistinct}
-use Rattle.std.specs.Cmp.Lexicographic.{pointwise}
+use Rattle.std.proofs.Common.{◌≡◌, ◌≤◌, ◌-◌, ◌++◌, ℕ, Bool, true, false, cond, List, [], ◌∷◌, length, Option, Some, None, refl, sym, ap, subst, ◌∙◌, arith, inl, inr}
+use Rattle.std.specs.Prelude.{MatchBool, nat_lt, ◌↔◌}
+use Rattle.std.specs.List.{Contains, IsDistinct}
 use Rattle.std.proofs.Math.Seq.{drop-length}
 use Rattle.std.proofs.lemmas.Bool.Decides.{nat_tests}
 use Rattle.std.proofs.lemmas.List.{append-nil}
-use Rattle.std.proofs.lemmas.List.Elements.{All-contains, All-contains_itself, All-weaker}
+use Rattle.std.proofs.lemmas.List.Elements.{All-contains, All-weaker}
 use Rattle.mail_address.specs.declared.address.Addr.{Addr}
 use Rattle.mail_flags.specs.declared.placement.Placement.{Placement}
 use Rattle.sieve_syntax.specs.declared.tree.action.Action.TheVariants.{Discard}
 use Rattle.sieve_syntax.specs.Tree.{act, Commands, no_commands, command}
 use Rattle.sieve_syntax.specs.Means.{Means}
 use Rattle.sieve_syntax.specs.RunState.{RunState, Failure, TooMuchWork}
-use Rattle.sieve_syntax.specs.Meaning.{Actions, Outcome}
-use Rattle.sieve_syntax.specs.Meaning as M
+use Rattle.sieve_syntax.specs.Meaning.{Actions}
 use Rattle.sieve_syntax.specs.Trace.{NamesWithoutRepeats}
 use Rattle.sieve_syntax.specs.Work.{all_take}
 use Rattle.sieve_syntax.specs.declared.tree.vacation.VacationArgs.{VacationArgs}
@@ -27,9 +25,9 @@ use Rattle.store_accounts.specs.Account.{Account, room_in, adds_notice, adds_not
 use Rattle.store_accounts.specs.declared.report.Report.{Report}
 use Rattle.sieve_plan.specs.Sent.{over_keys}
 use Rattle.sieve_plan.specs.Views.{last_reply}
-use Rattle.sieve_plan.specs.Delivered.{Disposition, Acts, Tells, Disposes, DisposesUnder, DisposesUnlessLooping, DisposesUnlessLong, disposition_of, failure_text, loop_text, long_text, invalid_text, is_looping, has_long_header, kept, Response, Silent, acts, done_of, held_of, report_of, responds, CarriesOut, LeavesNotice, DeliversAs, Delivers}
-use Rattle.sieve_plan.specs.Handover.{Handover, nothing_left, begins_from, filed_behind, first_reply, done_behind, leaves, for_good, StandsAmong, RunEnd, Ended, Broken}
-use Rattle.sieve_plan.specs.Sequences.{Whose, Before, Own, After, SequenceScript, HostScripts, no_host_scripts, sequence_of, SequenceState, at_beginning, end_at, max_host_work, work_limit, host_work_behind, RunsToEnd, FailsFor, IsInvalid, Breaks, told_of, Settled, settled_well, settled_unrun, SettlesFailed, SettlesInTurn, RunInTurn, SettlesUnder, notice_left, forgotten_unless, CarriesOutSettled, DeliversInSequence}
+use Rattle.sieve_plan.specs.Delivered.{Disposition, Acts, Tells, Disposes, DisposesUnder, DisposesUnlessLooping, DisposesUnlessLong, disposition_of, failure_text, loop_text, long_text, invalid_text, is_looping, has_long_header, kept, Silent, acts, done_of, held_of, report_of, responds, DeliversAs, Delivers}
+use Rattle.sieve_plan.specs.Handover.{Handover, begins_from, filed_behind, first_reply, done_behind, leaves, for_good, StandsAmong, RunEnd, Ended, Broken}
+use Rattle.sieve_plan.specs.Sequences.{Whose, Before, Own, After, SequenceScript, HostScripts, no_host_scripts, sequence_of, SequenceState, at_beginning, end_at, max_host_work, work_limit, host_work_behind, RunsToEnd, FailsFor, IsInvalid, Breaks, told_of, Settled, settled_well, settled_unrun, SettlesInTurn, RunInTurn, SettlesUnder, notice_left, forgotten_unless, CarriesOutSettled, DeliversInSequence}
 use Rattle.sieve_plan.proofs.DeliveryLaws.{one_response}
 use Rattle.sieve_plan.proofs.PlanLemmas.{none_goes}
 use Rattle.sieve_plan.proofs.HandoverLaws.{outcome_of, alone, AreApart, IsGoodEnd, good_end}
@@ -106,12 +104,12 @@ one_in_turn mail (script ∷ more) state one two (inr (next, runs, so)) was = st
 -- ---- what stands
 
 -- what is so of the state at each place of a sequence
-record IsGoodState (state : SequenceState) : Type 0 where
-  apart : AreApart state.left.filed state.left.sent
-  is_done : StandsAmong (for_good state.left) state.done
-  once : NamesWithoutRepeats state.done
+pub record IsGoodState (state : SequenceState) : Type 0 where
+  pub apart : AreApart state.left.filed state.left.sent
+  pub is_done : StandsAmong (for_good state.left) state.done
+  pub once : NamesWithoutRepeats state.done
 
-good_beginning : IsGoodState at_beginning
+pub good_beginning : IsGoodState at_beginning
 unfolding IsDistinct
 good_beginning = record {
   apart = record { mailboxes = tt; addresses = tt; few_mailboxes = omega arith; few_addresses = omega arith };
@@ -122,7 +120,7 @@ good_beginning = record {
 good_run_to_end : (mail : MailSpec) (script : SequenceScript) (state next : SequenceState) → IsGoodState state → RunsToEnd mail script state next → IsGoodEnd state.left next.done next.left
 good_run_to_end mail script state next good runs = good_end (truth_at mail) (work_at mail) _ runs.tree state.left next.done next.left good.apart runs.ends
 
-good_next : (mail : MailSpec) (script : SequenceScript) (state next : SequenceState) → IsGoodState state → RunsToEnd mail script state next → IsGoodState next
+pub good_next : (mail : MailSpec) (script : SequenceScript) (state next : SequenceState) → IsGoodState state → RunsToEnd mail script state next → IsGoodState next
 good_next mail script state next good runs =
     let ended = good_run_to_end mail script state next good runs in
     record { apart = ended.apart; is_done = ended.is_done; once = ended.once }

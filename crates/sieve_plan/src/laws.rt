@@ -8,6 +8,7 @@ ghost use Rattle.mail_head.specs.Heads.{body_of};
 ghost use Rattle.sieve_syntax.specs.declared.tree.action.Action.TheVariants.{Discard};
 ghost use Rattle.sieve_syntax.specs.Meaning.{Actions};
 ghost use Rattle.sieve_syntax.specs.Means.{Means};
+ghost use Rattle.sieve_syntax.specs.RunState.{inbox, is_filed};
 ghost use Rattle.sieve_syntax.specs.Trace.{NamesWithoutRepeats};
 ghost use Rattle.sieve_syntax.specs.Tree.{act, no_commands, command};
 ghost use Rattle.sieve_exec.specs.Mails.{MailSpec};
@@ -62,11 +63,13 @@ pub fn delivery_in_sequence()
 {}
 
 /// What scripts did for good stands, whatever runs behind them. Each mailbox and each address is there once, so INBOX too, at most 100
-/// and 16 of all together. The host's scripts take a quarter of a run's work among them all.
+/// and 16 of all together. Where the user is told of a failure INBOX has the message. The host's scripts take a quarter of a run's work among them all.
 pub fn scripts_in_sequence()
     ensures stands { (mail : MailSpec) (ran more : List SequenceScript) (state : SequenceState) (settled : Settled) → RunInTurn mail ran at_beginning state
         → SettlesInTurn mail (ran ++ more) at_beginning settled → StandsAmong (for_good state.left) settled.deeds }
     ensures once { (mail : MailSpec) (scripts : List SequenceScript) (settled : Settled) → SettlesInTurn mail scripts at_beginning settled → NamesWithoutRepeats settled.deeds }
+    ensures told { (mail : MailSpec) (scripts : List SequenceScript) (settled : Settled) (text : List ℕ) → SettlesInTurn mail scripts at_beginning settled
+        → settled.notice ≡ Some text → is_filed settled.deeds.filed inbox ≡ true }
     ensures work { (mail : MailSpec) (ran : List SequenceScript) (state : SequenceState) → RunInTurn mail ran at_beginning state → state.host_work ≤ 50_000_000 }
 {}
 
