@@ -1,13 +1,15 @@
 -- What a script leaves to the next one, on small cases: one that is right, and one that nearly is.
-use Rattle.std.proofs.Common.{◌≡◌, ◌∷◌, ℕ, true, false, List, [], Some, None, refl}
+use Rattle.std.proofs.Common.{◌≡◌, ◌∷◌, ℕ, Bool, true, false, List, [], Some, None, refl}
 use Rattle.std.specs.Prelude.{Option, codes, replicate}
 use Rattle.mail_address.specs.declared.address.Addr.{Addr}
+use Rattle.mail_flags.specs.Flags.{has}
 use Rattle.mail_flags.specs.declared.placement.Placement.{Placement}
 use Rattle.sieve_syntax.specs.declared.tree.action.Action.{Action}
 use Rattle.sieve_syntax.specs.declared.tree.action.Action.TheVariants.{Keep, Discard, FileInto, Redirect, Vacation, SetFlag, RemoveFlag}
+use Rattle.sieve_syntax.specs.declared.tree.checks.MailCheck.{MailCheck}
 use Rattle.sieve_syntax.specs.declared.tree.checks.MailCheck.TheVariants as Q
 use Rattle.sieve_syntax.specs.declared.tree.vacation.VacationArgs.{VacationArgs}
-use Rattle.sieve_syntax.specs.RunState.{at_first, inbox, TwoVacations, TooManyRedirects, TooManyMailboxes, TooMuchWork}
+use Rattle.sieve_syntax.specs.RunState.{RunState, at_first, inbox, TwoVacations, TooManyRedirects, TooManyMailboxes, TooMuchWork}
 use Rattle.sieve_syntax.specs.Meaning.{Actions}
 use Rattle.sieve_syntax.specs.Work.{max_work}
 use Rattle.sieve_syntax.specs.Tree.{looks, choose, stop, act, branch, no_branches, Commands, no_commands, command}
@@ -116,6 +118,17 @@ one_copy = (refl, refl, refl)
 flags_stand : ((begins_from (leaves_first (SetFlag (seen ∷ []) ∷ []))).flags ≡ seen ∷ []) × (both (SetFlag (seen ∷ []) ∷ []) (into (codes "x") ∷ []) ≡ filed (at (codes "x") seen ∷ []))
     × (both (SetFlag (seen ∷ []) ∷ []) [] ≡ filed (at inbox seen ∷ [])) × (both (SetFlag (seen ∷ []) ∷ []) (RemoveFlag (seen ∷ []) ∷ []) ≡ filed (at inbox [] ∷ []))
 flags_stand = (refl, refl, refl, refl)
+
+-- a test of the next one sees them; near miss: it doesn't
+abbrev if_flagged : Commands
+if_flagged = command (choose (branch (looks (Q.Exists [])) (in_row (Discard ∷ [])) no_branches)) no_commands
+
+abbrev sees_seen : RunState → MailCheck → Bool
+sees_seen so_far check = has so_far.flags seen
+
+flags_are_seen : ((left_by (end_of_run sees_seen (λ state check. 0) max_work if_flagged (leaves_first (SetFlag (seen ∷ []) ∷ [])))).is_kept ≡ false)
+    × ((left_by (end_of_run sees_seen (λ state check. 0) max_work if_flagged (leaves_first (Keep (Some (seen ∷ [])) ∷ [])))).is_kept ≡ true)
+flags_are_seen = (refl, refl)
 
 -- those of `keep :flags` are the implicit keep's, whatever the next one sets; none on a `fileinto`; none where a later one says `keep`
 flags_of_keep : (both (Keep (Some (seen ∷ [])) ∷ []) [] ≡ filed (at inbox seen ∷ [])) × (both (Keep (Some (seen ∷ [])) ∷ []) (SetFlag (junk ∷ []) ∷ []) ≡ filed (at inbox seen ∷ []))

@@ -10,4 +10,5 @@ mod HandoverExamples
 pub mod HandoverLaws
 pub mod SequenceLaws
 pub mod InboxLaws
+pub mod SequencePlanLemmas
 mod SequenceExamples

@@ -37,13 +37,13 @@ remembered over mail [] memory a is = rw (is.handles, is.forgotten) refl
 remembered over mail (target ∷ more) memory a is = rw (is.handles, is.forgotten, is.message target more refl) refl
 
 -- what is sent on and remembered does what the deeds do
-done : (mail : MailSpec) (deeds : Actions) (over : List ReplyKey) (memory : SentMemory) (a : Account) → IsMemoryOf over mail deeds.sent memory
+pub done : (mail : MailSpec) (deeds : Actions) (over : List ReplyKey) (memory : SentMemory) (a : Account) → IsMemoryOf over mail deeds.sent memory
     → remembers_sent memory mail.moment (sends_on mail.from mail.octets (map address_spelling deeds.sent) (files_copies deeds.filed mail.octets a)) ≡ acts mail deeds over a
 done mail deeds over memory a is =
     ap (remembers_sent memory mail.moment) (sent_on mail deeds.sent (files_copies deeds.filed mail.octets a)) ∙ remembered over mail deeds.sent memory (redirects mail deeds.sent (files_copies deeds.filed mail.octets a)) is
 
 -- and what is replied does what the response does
-answered : (mail : MailSpec) (response : Response) (a : Account) → replies_if_any mail.from (reply_of response) a ≡ responds mail response a
+pub answered : (mail : MailSpec) (response : Response) (a : Account) → replies_if_any mail.from (reply_of response) a ≡ responds mail response a
 answered mail Silent a = refl
 answered mail NoRoom a = refl
 answered mail (Quiet reason) a = refl
@@ -88,17 +88,17 @@ asks_reply [] args = refl
 asks_reply (target ∷ more) args = refl
 
 module _ (view : AccountView) (mail : MailSpec) (deeds : Actions) (a : Account) (of : IsViewOf view mail deeds a) where
-  going_are : going_by view mail deeds ≡ going a mail deeds.sent
+  pub going_are : going_by view mail deeds ≡ going a mail deeds.sent
   going_are = through_same a mail deeds.reply view.room view.known deeds.sent of.known of.room
 
-  done_are : deeds_by view mail deeds ≡ done_of a mail deeds
+  pub done_are : deeds_by view mail deeds ≡ done_of a mail deeds
   done_are = rw going_are refl
 
-  held_is : notice_by view mail deeds ≡ held_of a mail deeds
+  pub held_is : notice_by view mail deeds ≡ held_of a mail deeds
   held_is = held_same a mail deeds.reply view.room view.known deeds.sent of.known of.room
 
   -- the response is made with what is kept, and with the room that is left
-  responds_along : (reply : Option VacationArgs) (targets : List Addr) (count : ℕ) (response : Response) → view.last ≡ last_of a mail.from reply → (asks_for targets reply ≡ true → view.room ≡ room_in a)
+  pub responds_along : (reply : Option VacationArgs) (targets : List Addr) (count : ℕ) (response : Response) → view.last ≡ last_of a mail.from reply → (asks_for targets reply ≡ true → view.room ≡ room_in a)
       → Responds view.address mail.moment mail (λ key. view.last) (view.room - count) reply response → Responds view.address mail.moment mail (last_reply a mail.from) (room_in a - count) reply response
   responds_along None targets count response last room is = is
   responds_along (Some args) targets count response last room is =

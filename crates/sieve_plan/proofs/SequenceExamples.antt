@@ -28,6 +28,9 @@ in_order = (refl, refl, refl)
 nobody_has_one : (mail : MailSpec) → SettlesInTurn mail (sequence_of no_host_scripts None) at_beginning (settled_well kept)
 nobody_has_one mail = refl
 
+nobody_drops_it : (mail : MailSpec) → SettlesInTurn mail (sequence_of no_host_scripts None) at_beginning (settled_well (record { filed = []; sent = []; reply = None })) → ⊥
+nobody_drops_it mail is = let same : 0 ≡ 1 = ap (λ (s : Settled). length s.deeds.filed) is in absurd (omega (arith, same))
+
 -- a failure of the host's is told as theirs, the user's as it is today
 whose_it_was : (told_of Before (codes "a") ≡ codes "before: a") × (told_of Own (codes "a") ≡ codes "a") × (told_of After (codes "a") ≡ codes "after: a")
 whose_it_was = (refl, refl, refl)

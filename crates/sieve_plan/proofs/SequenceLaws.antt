@@ -172,6 +172,16 @@ good_so_far : (mail : MailSpec) (ran : List SequenceScript) (from to : SequenceS
 good_so_far mail [] from to good same = subst IsGoodState same good
 good_so_far mail (script ∷ others) from to good (next, runs, still, later) = good_so_far mail others next to (good_next mail script from next good runs) later
 
+-- what is done so far is what these scripts come to where no other is behind them
+pub ran_settles : (mail : MailSpec) (ran : List SequenceScript) (from to : SequenceState) → RunInTurn mail ran from to → SettlesInTurn mail ran from (settled_well to.done)
+ran_settles mail [] from to same = ap (λ (state : SequenceState). settled_well state.done) (sym same)
+ran_settles mail (script ∷ others) from to (next, runs, still, later) =
+    inr (
+      next,
+      runs,
+      subst (λ b. MatchBool b (SettlesInTurn mail others next (settled_well to.done)) (settled_well to.done ≡ settled_well next.done)) (sym still) (ran_settles mail others next to later),
+    )
+
 -- what was done for good is done in the end
 pub none_undoes : (mail : MailSpec) (ran more : List SequenceScript) (state : SequenceState) (settled : Settled) → RunInTurn mail ran at_beginning state
     → SettlesInTurn mail (ran ++ more) at_beginning settled → StandsAmong (for_good state.left) settled.deeds

@@ -5,3 +5,4 @@ pub mod Delivered
 pub mod Handover
 pub mod Sequences
 pub mod Plans
+pub mod SequencePlans

@@ -150,7 +150,7 @@ abbrev pub notice_left : Option (List ℕ) → Option (List ℕ) → Option (Lis
 notice_left None held = held
 notice_left (Some text) held = Some text
 
--- what is over is forgotten_unless, unless there was a failure
+-- what is over is forgotten, unless there was a failure
 abbrev pub forgotten_unless : Option (List ℕ) → List ReplyKey → List ReplyKey
 forgotten_unless None over = over
 forgotten_unless (Some text) over = []

@@ -78,6 +78,7 @@ pub fn scripts_in_sequence()
 pub fn end_of_a_sequence()
     ensures failure { (mail : MailSpec) (ran more : List SequenceScript) (script : SequenceScript) (state : SequenceState) (why : List ℕ) (settled : Settled) → RunInTurn mail ran at_beginning state
         → FailsFor mail script state why → SettlesInTurn mail (ran ++ script ∷ more) at_beginning settled → settled ≡ record { deeds = state.done; notice = Some (told_of script.whose why) } }
+    ensures without { (mail : MailSpec) (ran : List SequenceScript) (state : SequenceState) → RunInTurn mail ran at_beginning state → SettlesInTurn mail ran at_beginning (settled_well state.done) }
     ensures last { (mail : MailSpec) (ran more : List SequenceScript) (script : SequenceScript) (state next : SequenceState) (settled : Settled) → RunInTurn mail ran at_beginning state
         → RunsToEnd mail script state next → next.left.is_kept ≡ false → SettlesInTurn mail (ran ++ script ∷ more) at_beginning settled → settled ≡ settled_well next.done }
     ensures discarded { (mail : MailSpec) (before after : List SequenceScript) (text : List ℕ) (state : SequenceState) (settled : Settled) → RunInTurn mail before at_beginning state
