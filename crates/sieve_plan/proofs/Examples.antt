@@ -11,7 +11,6 @@ use Rattle.sieve_syntax.specs.RunState.{TwoVacations, TooManyRedirects, TooManyM
 use Rattle.sieve_syntax.specs.Meaning.{Actions, Failed}
 use Rattle.sieve_syntax.specs.declared.tree.vacation.VacationArgs.{VacationArgs}
 use Rattle.sieve_exec.specs.Mails.{MailSpec}
-use Rattle.sieve_vacation.specs.Handles.{four_octets}
 use Rattle.sieve_vacation.specs.declared.reason.ReplyDecision.TheVariants as D
 use Rattle.sieve_vacation.specs.declared.reason.Reason.TheVariants as R
 use Rattle.store_accounts.specs.Account.{Account, latest, files_copies, forgets, new_account, adds_notice, remembers, reply_cmp, room_in}
