@@ -1,5 +1,5 @@
 -- The host's scripts and the user's on small cases: one that is right, and one that nearly is. The texts are those of these trees.
-use Rattle.std.proofs.Common.{◌≡◌, ◌∷◌, ℕ, true, false, List, [], Some, None, refl, sym, ap, subst, inl, inr, arith}
+use Rattle.std.proofs.Common.{◌≡◌, ◌∷◌, ◌*◌, ℕ, true, false, List, [], Some, None, refl, sym, ap, subst, inl, inr, arith}
 use Rattle.std.specs.Prelude.{Option, MatchBool, codes, get_or, length}
 use Rattle.mail_flags.specs.declared.placement.Placement.{Placement}
 use Rattle.sieve_syntax.specs.declared.tree.action.Action.{Action}
@@ -8,10 +8,11 @@ use Rattle.sieve_syntax.specs.RunState.{inbox}
 use Rattle.sieve_syntax.specs.Meaning.{Actions}
 use Rattle.sieve_syntax.specs.Means.{Means}
 use Rattle.sieve_syntax.specs.Tree.{Commands}
+use Rattle.sieve_syntax.specs.Work.{max_work}
 use Rattle.sieve_exec.specs.Mails.{MailSpec}
 use Rattle.sieve_plan.specs.Delivered.{invalid_text, long_text, loop_text, has_long_header, is_looping, kept}
 use Rattle.sieve_plan.specs.Handover.{Handover, without_inbox, RunEnd, Ended, Broken}
-use Rattle.sieve_plan.specs.Sequences.{Before, Own, After, HostScripts, no_host_scripts, sequence_of, SequenceState, at_beginning, work_limit, end_at, IsInvalid, Breaks, told_of, Settled, settled_well, settled_unrun, SettlesInTurn, SettlesUnder, notice_left}
+use Rattle.sieve_plan.specs.Sequences.{Before, Own, After, HostScripts, no_host_scripts, sequence_of, SequenceState, at_beginning, max_host_work, work_limit, end_at, IsInvalid, Breaks, told_of, Settled, settled_well, settled_unrun, SettlesInTurn, SettlesUnder, notice_left}
 use Rattle.sieve_plan.proofs.HandoverExamples.{in_row, into, copied, seen, away, at, end_of, leaves_first, done_by, both}
 use Rattle.sieve_plan.proofs.SequenceLaws.{one_in_turn}
 
@@ -38,6 +39,9 @@ whose_it_was = (refl, refl, refl)
 -- the user's work is its own; the host's others have what the first ones left of a quarter of that
 work_of_each : (work_limit Own 50_000_000 ≡ 200_000_000) × (work_limit Before 0 ≡ 50_000_000) × (work_limit After 20_000_000 ≡ 30_000_000) × (work_limit After 50_000_000 ≡ 0)
 work_of_each = (refl, refl, refl, refl)
+
+a_quarter : max_host_work * 4 ≡ max_work
+a_quarter = refl
 
 -- a failure is told before mail that isn't sent on
 told_first : (notice_left (Some (codes "a")) (Some (codes "b")) ≡ Some (codes "a")) × (notice_left None (Some (codes "b")) ≡ Some (codes "b")) × (notice_left None None ≡ None)
