@@ -12,7 +12,7 @@ use Rattle.mail_dates.specs.Reading.{next_state, after_gap, cut, piece, reads, a
 use Rattle.sieve_syntax.specs.declared.tree.checks.DateZone.TheVariants.{Given, Original}
 use Rattle.sieve_exec.specs.declared.when.When.{When}
 use Rattle.sieve_exec.specs.Mails.{MailSpec, mail_spec_of}
-use Rattle.sieve_exec.specs.Dates.{IsAfterLast, IsFieldDate, IsDateCount, IsDateShown, field_date}
+use Rattle.sieve_exec.specs.Extension.Date.{IsAfterLast, IsFieldDate, IsDateCount, IsDateShown, field_date}
 use Rattle.sieve_exec.proofs.DateLemmas.{behind_again, field_date_is, field_date_again}
 
 -- what stands behind the last semicolon, and not behind the first

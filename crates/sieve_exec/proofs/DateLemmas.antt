@@ -21,7 +21,7 @@ use Rattle.mail_dates.proofs.FindingLaws.{date_of_is, date_of_again, same_moment
 use Rattle.mail_dates.proofs.MomentLaws.{one_same, one_moment}
 use Rattle.mail_dates.proofs.WordLemmas.{then_some}
 use Rattle.sieve_exec.specs.Mails.{MailSpec, field_values}
-use Rattle.sieve_exec.specs.Dates.{is_semicolon, IsAfterLast, is_received, IsDatePart, IsFieldDate, IsDateCount, IsDateShown, after_last, date_part_of, first_date, field_date, date_count, shown_passes, found_passes}
+use Rattle.sieve_exec.specs.Extension.Date.{is_semicolon, IsAfterLast, is_received, IsDatePart, IsFieldDate, IsDateCount, IsDateShown, after_last, date_part_of, first_date, field_date, date_count, shown_passes, found_passes}
 
 -- ---- what stands behind the last semicolon
 

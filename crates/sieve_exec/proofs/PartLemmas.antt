@@ -10,7 +10,9 @@ use Rattle.mail_address.specs.declared.address.Addr.{Addr}
 use Rattle.memchr.specs.Find.{Nowhere, NoneBefore, NoneAfter, Passes, is_byte}
 use Rattle.sieve_syntax.specs.declared.tree.checks.AddressPart.{AddressPart}
 use Rattle.sieve_syntax.specs.declared.tree.checks.AddressPart.TheVariants.{All, LocalPart, Domain, User, Detail}
-use Rattle.sieve_exec.specs.Parts.{is_plus, has_plus, CutsAtFirst, IsUser, IsDetail, user_of, detail_of, IsAddressPart, address_part_of, is_at, has_at, CutsAtLast, Cuts, local_of, domain_of, IsEnvelopePart, envelope_part_of}
+use Rattle.sieve_exec.specs.Extension.Subaddress.{is_plus, has_plus, CutsAtFirst, IsUser, IsDetail, user_of, detail_of}
+use Rattle.sieve_exec.specs.Parts.{IsAddressPart, address_part_of, is_at, has_at, CutsAtLast, Cuts, local_of, domain_of}
+use Rattle.sieve_exec.specs.Extension.Envelope.{IsEnvelopePart, envelope_part_of}
 
 -- an octet other than the last `@`
 goes_on : (at later : Bool) (text : List ℕ) → at ≡ false → cond (at && not later) [] text ≡ text

@@ -20,15 +20,18 @@ use Rattle.mail_address.specs.Reading.{addrs}
 use Rattle.mail_address.proofs.Lists.{addrs-are, addrs-only}
 use Rattle.mail_dates.specs.Parts.{part_text}
 use Rattle.mail_dates.proofs.FindingLaws.{moment_decides}
-use Rattle.sieve_exec.specs.FlagKeys.{flag_keys}
-use Rattle.sieve_exec.specs.Dates.{field_date, date_count}
+use Rattle.sieve_exec.specs.Extension.Imap4flags.{flag_keys}
+use Rattle.sieve_exec.specs.Extension.Date.{field_date, date_count, date_matches}
 use Rattle.sieve_exec.proofs.DateLemmas.{count_decides, found_decides}
-use Rattle.sieve_exec.specs.Mails.{MailSpec, field_values, field_texts, has_addresses, field_addresses}
-use Rattle.sieve_exec.specs.Matches.{MatchesSome}
-use Rattle.sieve_exec.specs.Parts.{IsAddressPart, address_part_of, IsEnvelopePart, envelope_part_of}
-use Rattle.sieve_exec.specs.Counts.{is_count, is_some_of, fields_counted, addresses_counted, envelope_counted}
-use Rattle.sieve_exec.specs.Holding.{IsBeyond, IsEnvelopeAddress, SomeAddress, TestHolds}
-use Rattle.sieve_exec.specs.Truth.{is_beyond, is_mailbox, is_some_there, part_matches, envelope_matches, date_matches, truth_by}
+use Rattle.sieve_exec.specs.Mails.{MailSpec, field_values, field_texts, has_addresses, field_addresses, is_some_of}
+use Rattle.sieve_exec.specs.Matches.{MatchesSome, part_matches}
+use Rattle.sieve_exec.specs.Parts.{IsAddressPart, address_part_of}
+use Rattle.sieve_exec.specs.Extension.Envelope.{IsEnvelopePart, envelope_part_of, envelope_counted, IsEnvelopeAddress, envelope_matches}
+use Rattle.sieve_exec.specs.Extension.Relational.{is_count}
+use Rattle.sieve_exec.specs.Counts.{fields_counted, addresses_counted}
+use Rattle.sieve_exec.specs.Holding.{IsBeyond, SomeAddress, TestHolds}
+use Rattle.sieve_exec.specs.Truth.{is_beyond, is_some_there, truth_by}
+use Rattle.sieve_exec.specs.Extension.Mailbox.{is_mailbox}
 use Rattle.sieve_exec.proofs.Decisions.{decides_as, any_decides, all_decides}
 use Rattle.sieve_exec.proofs.MatchLemmas.{matches_some_decides}
 use Rattle.sieve_exec.proofs.PartLemmas.{given, part_of_is, part_of_only, part_is, part_only}

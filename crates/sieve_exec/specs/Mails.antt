@@ -74,3 +74,8 @@ has_addresses name = list_any (λ field. pointwise nat_eq field (lowered name)) 
 -- the addresses of the unfolded values, which aren't decoded, of the fields with a name; none if such fields have no addresses
 abbrev pub field_addresses : MailSpec → List ℕ → List Addr
 field_addresses mail name = cond (has_addresses name) (flat_map addrs (field_values mail name)) []
+
+-- whether a text isn't empty
+abbrev pub is_some_of : List ℕ → Bool
+is_some_of [] = false
+is_some_of (octet ∷ rest) = true

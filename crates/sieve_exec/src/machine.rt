@@ -1,7 +1,8 @@
 //! The run of flat code.
 ghost use Rattle.std.specs.Prelude.{◌≡◌, ℕ, ◌<◌, ◌+◌, ◌^◌, Option, Some, length, IfOk, OnOk};
 ghost use Rattle.sieve_exec.specs.Truth.{truth_at};
-ghost use Rattle.sieve_exec.specs.Work.{IsPaid, work_at};
+ghost use Rattle.sieve_exec.specs.Sizes.{IsPaid};
+ghost use Rattle.sieve_exec.specs.Work.{work_at};
 ghost use Rattle.sieve_exec.specs.Runs.{run_state_of, failure_view, outcome_view, after_turn, MovesOn};
 ghost use Rattle.sieve_syntax.specs.RunState.{Going};
 ghost use Rattle.sieve_syntax.specs.Meaning.{Failed, outcome_after};
