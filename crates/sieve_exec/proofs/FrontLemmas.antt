@@ -4,6 +4,7 @@ use Rattle.std.proofs.Math.Path.{fun_ext}
 use Rattle.mail_head.specs.Heads.{fields_of, size_of}
 use Rattle.mail_head.specs.Prefixes.{IsHeaderPrefix}
 use Rattle.mail_head.proofs.FrontLemmas.{fields_in_front}
+use Rattle.sieve_syntax.specs.Meaning.{asking_at}
 use Rattle.sieve_syntax.specs.RunState.{RunState}
 use Rattle.sieve_syntax.specs.Tree.{Commands}
 use Rattle.sieve_syntax.specs.Work.{outcome_within}
@@ -41,8 +42,8 @@ same_work mail octets flags (HasFlag test) = refl
 -- so the outcome is the same, whatever they are
 same_outcome : (mail : MailSpec) (octets : List ℕ) (tree : Commands) → outcome_at (record mail { octets = octets }) tree ≡ outcome_at mail tree
 same_outcome mail octets tree =
-    ap (λ truth. outcome_within truth (work_at (record mail { octets = octets })) tree) (fun_ext (λ (so_far : RunState). fun_ext (same_truth mail octets so_far.flags)))
-    ∙ ap (λ work. outcome_within (truth_at mail) work tree) (fun_ext (λ (so_far : RunState). fun_ext (same_work mail octets so_far.flags)))
+    ap (λ truth. outcome_within (asking_at truth) (work_at (record mail { octets = octets })) tree) (fun_ext (λ (so_far : RunState). fun_ext (same_truth mail octets so_far.flags)))
+    ∙ ap (λ work. outcome_within (asking_at (truth_at mail)) work tree) (fun_ext (λ (so_far : RunState). fun_ext (same_work mail octets so_far.flags)))
 
 module _ (envelope : E.Envelope) (when : When) (tree : Commands) where
   -- with the fields and the size of another message

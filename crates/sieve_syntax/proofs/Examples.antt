@@ -40,7 +40,7 @@ use Rattle.sieve_syntax.specs.Capabilities.{all_capabilities, knows_name}
 use Rattle.sieve_syntax.specs.Valid.{IsMailboxName, IsValid}
 use Rattle.sieve_syntax.specs.Means.{Means}
 use Rattle.sieve_syntax.specs.RunState.{RunState, TwoVacations}
-use Rattle.sieve_syntax.specs.Meaning.{outcome, Done, Failed}
+use Rattle.sieve_syntax.specs.Meaning.{TestAsking, outcome, Done, Failed}
 
 -- a copy without flags in a mailbox
 abbrev pub into : List ℕ → Placement
@@ -172,36 +172,36 @@ block_depths : depth (command (choose (branch yes (command (choose (branch yes n
 block_depths = refl
 
 -- `fileinto "inbox"; keep; discard;` files into INBOX once; `Inbox ` is another mailbox
-inbox_once : (truth : RunState → MailCheck → Bool) → outcome truth (command (act (D.FileInto (record { mailbox = codes "inbox"; copy = false; create = false; flags = None }))) (command (act (D.Keep None)) (command (act D.Discard) no_commands))) ≡ Done (record { filed = into (codes "INBOX") ∷ []; sent = []; reply = None })
-inbox_once truth = refl
+inbox_once : (asking : TestAsking) → outcome asking (command (act (D.FileInto (record { mailbox = codes "inbox"; copy = false; create = false; flags = None }))) (command (act (D.Keep None)) (command (act D.Discard) no_commands))) ≡ Done (record { filed = into (codes "INBOX") ∷ []; sent = []; reply = None })
+inbox_once asking = refl
 
-inbox_twice : (truth : RunState → MailCheck → Bool) → outcome truth (command (act (D.FileInto (record { mailbox = codes "Inbox "; copy = false; create = false; flags = None }))) (command (act (D.Keep None)) no_commands)) ≡ Done (record { filed = into (codes "Inbox ") ∷ (into (codes "INBOX") ∷ []); sent = []; reply = None })
-inbox_twice truth = refl
+inbox_twice : (asking : TestAsking) → outcome asking (command (act (D.FileInto (record { mailbox = codes "Inbox "; copy = false; create = false; flags = None }))) (command (act (D.Keep None)) no_commands)) ≡ Done (record { filed = into (codes "Inbox ") ∷ (into (codes "INBOX") ∷ []); sent = []; reply = None })
+inbox_twice asking = refl
 
 -- `redirect` of one address twice sends once, and nothing is kept
-once : (truth : RunState → MailCheck → Bool) → outcome truth (command (act (D.Redirect (record { target = record { local = codes "c"; domain = codes "d" }; copy = false }))) (command (act (D.Redirect (record { target = record { local = codes "c"; domain = codes "d" }; copy = false }))) no_commands)) ≡ Done (record { filed = []; sent = record { local = codes "c"; domain = codes "d" } ∷ []; reply = None })
-once truth = refl
+once : (asking : TestAsking) → outcome asking (command (act (D.Redirect (record { target = record { local = codes "c"; domain = codes "d" }; copy = false }))) (command (act (D.Redirect (record { target = record { local = codes "c"; domain = codes "d" }; copy = false }))) no_commands)) ≡ Done (record { filed = []; sent = record { local = codes "c"; domain = codes "d" } ∷ []; reply = None })
+once asking = refl
 
 -- `fileinto :copy "x";` keeps the message too (RFC 3894, 3.1); `fileinto "x";` doesn't
-copied : (truth : RunState → MailCheck → Bool) → outcome truth (command (act (D.FileInto (record { mailbox = codes "x"; copy = true; create = false; flags = None }))) no_commands) ≡ Done (record { filed = into (codes "x") ∷ (into (codes "INBOX") ∷ []); sent = []; reply = None })
-copied truth = refl
+copied : (asking : TestAsking) → outcome asking (command (act (D.FileInto (record { mailbox = codes "x"; copy = true; create = false; flags = None }))) no_commands) ≡ Done (record { filed = into (codes "x") ∷ (into (codes "INBOX") ∷ []); sent = []; reply = None })
+copied asking = refl
 
-filed_alone : (truth : RunState → MailCheck → Bool) → outcome truth (command (act (D.FileInto (record { mailbox = codes "x"; copy = false; create = false; flags = None }))) no_commands) ≡ Done (record { filed = into (codes "x") ∷ []; sent = []; reply = None })
-filed_alone truth = refl
+filed_alone : (asking : TestAsking) → outcome asking (command (act (D.FileInto (record { mailbox = codes "x"; copy = false; create = false; flags = None }))) no_commands) ≡ Done (record { filed = into (codes "x") ∷ []; sent = []; reply = None })
+filed_alone asking = refl
 
 -- `redirect :copy "c@d"; discard;` keeps nothing: what is cancelled stays cancelled
-copied_and_discarded : (truth : RunState → MailCheck → Bool) → outcome truth (command (act (D.Redirect (record { target = record { local = codes "c"; domain = codes "d" }; copy = true }))) (command (act D.Discard) no_commands)) ≡ Done (record { filed = []; sent = record { local = codes "c"; domain = codes "d" } ∷ []; reply = None })
-copied_and_discarded truth = refl
+copied_and_discarded : (asking : TestAsking) → outcome asking (command (act (D.Redirect (record { target = record { local = codes "c"; domain = codes "d" }; copy = true }))) (command (act D.Discard) no_commands)) ≡ Done (record { filed = []; sent = record { local = codes "c"; domain = codes "d" } ∷ []; reply = None })
+copied_and_discarded asking = refl
 
-discarded_and_copied : (truth : RunState → MailCheck → Bool) → outcome truth (command (act D.Discard) (command (act (D.FileInto (record { mailbox = codes "x"; copy = true; create = false; flags = None }))) no_commands)) ≡ Done (record { filed = into (codes "x") ∷ []; sent = []; reply = None })
-discarded_and_copied truth = refl
+discarded_and_copied : (asking : TestAsking) → outcome asking (command (act D.Discard) (command (act (D.FileInto (record { mailbox = codes "x"; copy = true; create = false; flags = None }))) no_commands)) ≡ Done (record { filed = into (codes "x") ∷ []; sent = []; reply = None })
+discarded_and_copied asking = refl
 
 -- `vacation` keeps the message; a second one fails, after a `discard` too
-answered : (truth : RunState → MailCheck → Bool) (args : VacationArgs) → outcome truth (command (act (D.Vacation args)) no_commands) ≡ Done (record { filed = into (codes "INBOX") ∷ []; sent = []; reply = Some args })
-answered truth args = refl
+answered : (asking : TestAsking) (args : VacationArgs) → outcome asking (command (act (D.Vacation args)) no_commands) ≡ Done (record { filed = into (codes "INBOX") ∷ []; sent = []; reply = Some args })
+answered asking args = refl
 
-twice : (truth : RunState → MailCheck → Bool) (args other : VacationArgs) → outcome truth (command (act D.Discard) (command (act (D.Vacation args)) (command (act (D.Vacation other)) no_commands))) ≡ Failed TwoVacations
-twice truth args other = refl
+twice : (asking : TestAsking) (args other : VacationArgs) → outcome asking (command (act D.Discard) (command (act (D.Vacation args)) (command (act (D.Vacation other)) no_commands))) ≡ Failed TwoVacations
+twice asking args other = refl
 
 apart : (a b : ℕ) → a ≡ 0 → b ≡ 10 → a ≡ b → ⊥
 apart a b p q e = omega arith

@@ -18,6 +18,8 @@ pub mod ScriptExamples
 pub mod DateExamples
 pub mod TraceLemmas
 pub mod OutcomeLemmas
+pub mod LookingLemmas
+mod AskingExamples
 pub mod EntityLemmas
 pub mod DecodingLemmas
 pub mod CapabilityLemmas

@@ -19,6 +19,7 @@ pub mod Valid
 pub mod View
 pub mod Meaning
 pub mod Work
+pub mod Looking
 pub mod Languages
 pub mod Means
 pub mod Trace
