@@ -1,4 +1,4 @@
-use Rattle.sieve_exec.proofs.TruthLemmas.{mailboxes_same}
+use Rattle.sieve_exec.proofs.MailboxTestLemmas.{mailboxes_same}
 use Rattle.sieve_exec.proofs.cached_mail.CachedMail.evaluate.Goals as goal
 
 pub returns-in-Header-clause-truth : goal.returns-in-Header-clause-truth

@@ -6,7 +6,7 @@ use Rattle.mail_dates.specs.DateTimes.{IsMoment}
 use Rattle.sieve_exec.specs.Extension.Relational.{is_count}
 use Rattle.sieve_exec.specs.Extension.Date.{date_matches}
 use Rattle.sieve_exec.proofs.DateLemmas.{moment_found, moment_nowhere, moment_as}
-use Rattle.sieve_exec.proofs.TruthLemmas.{each_asked, other_asked}
+use Rattle.sieve_exec.proofs.Decisions.{each_asked, other_asked}
 use Rattle.sieve_exec.proofs.extension.date.current_holds.Goals as goal
 
 pub returns-in-Some : goal.returns-in-Some
