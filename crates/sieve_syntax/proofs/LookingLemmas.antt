@@ -34,11 +34,11 @@ then_takes_same (Stopped next) one other same = refl
 then_takes_same (Failed failure) one other same = refl
 
 module _ (truth : RunState → MailCheck → Bool) where
-  abbrev asking : TestAsking
-  asking = asking_at truth
+  abbrev asks : TestAsking
+  asks = asking_at truth
 
   mutual
-    test_looks : (tree : TestTree) (so_far : RunState) → holds asking tree so_far ≡ answered (test_truth (truth so_far) tree) so_far
+    test_looks : (tree : TestTree) (so_far : RunState) → holds asks tree so_far ≡ answered (test_truth (truth so_far) tree) so_far
     test_looks yes so_far = refl
     test_looks no so_far = refl
     test_looks (looks check) so_far = refl
@@ -46,40 +46,40 @@ module _ (truth : RunState → MailCheck → Bool) where
     test_looks (all_of inner) so_far = all_look inner so_far
     test_looks (any_of inner) so_far = some_look inner so_far
 
-    all_look : (tests : Tests) (so_far : RunState) → all_hold asking tests so_far ≡ answered (all_true (truth so_far) tests) so_far
+    all_look : (tests : Tests) (so_far : RunState) → all_hold asks tests so_far ≡ answered (all_true (truth so_far) tests) so_far
     all_look no_tests so_far = refl
     all_look (test first more) so_far =
-        ap (λ answer. after_test answer (all_hold asking more) (answered false)) (test_looks first so_far)
-        ∙ all_behind (test_truth (truth so_far) first) (all_true (truth so_far) more) so_far (all_hold asking more so_far) (all_look more so_far)
+        ap (λ answer. after_test answer (all_hold asks more) (answered false)) (test_looks first so_far)
+        ∙ all_behind (test_truth (truth so_far) first) (all_true (truth so_far) more) so_far (all_hold asks more so_far) (all_look more so_far)
 
-    some_look : (tests : Tests) (so_far : RunState) → some_holds asking tests so_far ≡ answered (some_true (truth so_far) tests) so_far
+    some_look : (tests : Tests) (so_far : RunState) → some_holds asks tests so_far ≡ answered (some_true (truth so_far) tests) so_far
     some_look no_tests so_far = refl
     some_look (test first more) so_far =
-        ap (λ answer. after_test answer (answered true) (some_holds asking more)) (test_looks first so_far)
-        ∙ some_behind (test_truth (truth so_far) first) (some_true (truth so_far) more) so_far (some_holds asking more so_far) (some_look more so_far)
+        ap (λ answer. after_test answer (answered true) (some_holds asks more)) (test_looks first so_far)
+        ∙ some_behind (test_truth (truth so_far) first) (some_true (truth so_far) more) so_far (some_holds asks more so_far) (some_look more so_far)
 
   mutual
-    command_looks : (tree : CommandTree) (so_far : RunState) → does asking tree so_far ≡ does_by truth tree so_far
+    command_looks : (tree : CommandTree) (so_far : RunState) → does asks tree so_far ≡ does_by truth tree so_far
     command_looks (require names) so_far = refl
     command_looks (choose branches) so_far = branches_look branches so_far
     command_looks stop so_far = refl
     command_looks (act action) so_far = refl
 
-    branches_look : (branches : Branches) (so_far : RunState) → chooses asking branches so_far ≡ chooses_by truth branches so_far
+    branches_look : (branches : Branches) (so_far : RunState) → chooses asks branches so_far ≡ chooses_by truth branches so_far
     branches_look no_branches so_far = refl
     branches_look (branch condition block more) so_far =
-        ap (λ answer. after_test answer (does_all asking block) (chooses asking more)) (test_looks condition so_far)
+        ap (λ answer. after_test answer (does_all asks block) (chooses asks more)) (test_looks condition so_far)
         ∙ one_of (test_truth (truth so_far) condition) _ _ _ _ (commands_look block so_far) (branches_look more so_far)
 
-    commands_look : (commands : Commands) (so_far : RunState) → does_all asking commands so_far ≡ does_all_by truth commands so_far
+    commands_look : (commands : Commands) (so_far : RunState) → does_all asks commands so_far ≡ does_all_by truth commands so_far
     commands_look no_commands so_far = refl
     commands_look (command first more) so_far =
-        ap (λ flow. and_then flow (does_all asking more)) (command_looks first so_far)
-        ∙ then_same (does_by truth first so_far) (does_all asking more) (does_all_by truth more) (λ next. commands_look more next)
+        ap (λ flow. and_then flow (does_all asks more)) (command_looks first so_far)
+        ∙ then_same (does_by truth first so_far) (does_all asks more) (does_all_by truth more) (λ next. commands_look more next)
 
   module _ (work : RunState → MailCheck → ℕ) where
     mutual
-      test_asked : (tree : TestTree) (so_far : RunState) → asked asking work tree so_far ≡ asked_by (truth so_far) (work so_far) tree
+      test_asked : (tree : TestTree) (so_far : RunState) → asked asks work tree so_far ≡ asked_by (truth so_far) (work so_far) tree
       test_asked yes so_far = refl
       test_asked no so_far = refl
       test_asked (looks check) so_far = refl
@@ -87,44 +87,44 @@ module _ (truth : RunState → MailCheck → Bool) where
       test_asked (all_of inner) so_far = each_asked inner so_far
       test_asked (any_of inner) so_far = any_asked inner so_far
 
-      each_asked : (tests : Tests) (so_far : RunState) → all_asked asking work tests so_far ≡ all_asked_by (truth so_far) (work so_far) tests
+      each_asked : (tests : Tests) (so_far : RunState) → all_asked asks work tests so_far ≡ all_asked_by (truth so_far) (work so_far) tests
       each_asked no_tests so_far = refl
       each_asked (test first more) so_far =
-          ap (λ n. n + after_test (holds asking first so_far) (all_asked asking work more) none_taken) (test_asked first so_far)
+          ap (λ n. n + after_test (holds asks first so_far) (all_asked asks work more) none_taken) (test_asked first so_far)
           ∙ ap (λ n. asked_by (truth so_far) (work so_far) first + n)
-          (ap (λ answer. after_test answer (all_asked asking work more) none_taken) (test_looks first so_far)
+          (ap (λ answer. after_test answer (all_asked asks work more) none_taken) (test_looks first so_far)
           ∙ one_of (test_truth (truth so_far) first) _ _ _ _ (each_asked more so_far) refl)
 
-      any_asked : (tests : Tests) (so_far : RunState) → some_asked asking work tests so_far ≡ some_asked_by (truth so_far) (work so_far) tests
+      any_asked : (tests : Tests) (so_far : RunState) → some_asked asks work tests so_far ≡ some_asked_by (truth so_far) (work so_far) tests
       any_asked no_tests so_far = refl
       any_asked (test first more) so_far =
-          ap (λ n. n + after_test (holds asking first so_far) none_taken (some_asked asking work more)) (test_asked first so_far)
+          ap (λ n. n + after_test (holds asks first so_far) none_taken (some_asked asks work more)) (test_asked first so_far)
           ∙ ap (λ n. asked_by (truth so_far) (work so_far) first + n)
-          (ap (λ answer. after_test answer none_taken (some_asked asking work more)) (test_looks first so_far)
+          (ap (λ answer. after_test answer none_taken (some_asked asks work more)) (test_looks first so_far)
           ∙ one_of (test_truth (truth so_far) first) _ _ _ _ refl (any_asked more so_far))
 
     mutual
-      command_takes : (tree : CommandTree) (so_far : RunState) → takes asking work tree so_far ≡ takes_by truth work tree so_far
+      command_takes : (tree : CommandTree) (so_far : RunState) → takes asks work tree so_far ≡ takes_by truth work tree so_far
       command_takes (require names) so_far = refl
       command_takes (choose branches) so_far = branches_take branches so_far
       command_takes stop so_far = refl
       command_takes (act action) so_far = refl
 
-      branches_take : (branches : Branches) (so_far : RunState) → choice_takes asking work branches so_far ≡ choice_takes_by truth work branches so_far
+      branches_take : (branches : Branches) (so_far : RunState) → choice_takes asks work branches so_far ≡ choice_takes_by truth work branches so_far
       branches_take no_branches so_far = refl
       branches_take (branch condition block more) so_far =
-          ap (λ n. n + after_test (holds asking condition so_far) (all_take asking work block) (choice_takes asking work more)) (test_asked condition so_far)
+          ap (λ n. n + after_test (holds asks condition so_far) (all_take asks work block) (choice_takes asks work more)) (test_asked condition so_far)
           ∙ ap (λ n. asked_by (truth so_far) (work so_far) condition + n)
-          (ap (λ answer. after_test answer (all_take asking work block) (choice_takes asking work more)) (test_looks condition so_far)
+          (ap (λ answer. after_test answer (all_take asks work block) (choice_takes asks work more)) (test_looks condition so_far)
           ∙ one_of (test_truth (truth so_far) condition) _ _ _ _ (commands_take block so_far) (branches_take more so_far))
 
-      commands_take : (commands : Commands) (so_far : RunState) → all_take asking work commands so_far ≡ all_take_by truth work commands so_far
+      commands_take : (commands : Commands) (so_far : RunState) → all_take asks work commands so_far ≡ all_take_by truth work commands so_far
       commands_take no_commands so_far = refl
       commands_take (command first more) so_far =
-          ap (λ n. n + then_takes (does asking first so_far) (all_take asking work more)) (command_takes first so_far)
+          ap (λ n. n + then_takes (does asks first so_far) (all_take asks work more)) (command_takes first so_far)
           ∙ ap (λ n. takes_by truth work first so_far + n)
-          (ap (λ flow. then_takes flow (all_take asking work more)) (command_looks first so_far)
-          ∙ then_takes_same (does_by truth first so_far) (all_take asking work more) (all_take_by truth work more) (λ next. commands_take more next))
+          (ap (λ flow. then_takes flow (all_take asks work more)) (command_looks first so_far)
+          ∙ then_takes_same (does_by truth first so_far) (all_take asks work more) (all_take_by truth work more) (λ next. commands_take more next))
 
 -- tests that only look are asked by their truth
 asked_by_truth : (asking : TestAsking) (truth : RunState → MailCheck → Bool) → OnlyLooks asking truth → asking ≡ asking_at truth
