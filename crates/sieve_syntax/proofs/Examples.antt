@@ -13,31 +13,34 @@ use Rattle.sieve_syntax.specs.declared.table.tag_group.TagValue.TheVariants as S
 use Rattle.sieve_syntax.specs.declared.table.tag_group.TagGroup.TheVariants as P
 use Rattle.sieve_syntax.specs.declared.parser.argument.Argument.{Argument}
 use Rattle.sieve_syntax.specs.declared.tree.checks.Matching.TheVariants as M
-use Rattle.sieve_syntax.specs.declared.tree.checks.Relation.{Relation}
-use Rattle.sieve_syntax.specs.declared.tree.checks.Relation.TheVariants as R
+use Rattle.sieve_syntax.specs.declared.extension.relational.Relation.{Relation}
+use Rattle.sieve_syntax.specs.declared.extension.relational.Relation.TheVariants as R
 use Rattle.sieve_syntax.specs.declared.tree.checks.Collation.TheVariants as C
 use Rattle.sieve_syntax.specs.declared.tree.checks.MailCheck.TheVariants as L
 use Rattle.sieve_syntax.specs.declared.tree.checks.MailCheck.{MailCheck}
 use Rattle.sieve_syntax.specs.declared.tree.checks.Size.{Size}
 use Rattle.sieve_syntax.specs.declared.tree.checks.Address.{Address}
-use Rattle.sieve_syntax.specs.declared.tree.checks.EnvelopeTest.{EnvelopeTest}
+use Rattle.sieve_syntax.specs.declared.extension.envelope.EnvelopeTest.{EnvelopeTest}
 use Rattle.sieve_syntax.specs.declared.tree.checks.Bound.TheVariants as B
 use Rattle.sieve_syntax.specs.declared.tree.checks.AddressPart.TheVariants as H
-use Rattle.sieve_syntax.specs.declared.tree.checks.EnvelopeParts.{EnvelopeParts}
-use Rattle.sieve_syntax.specs.declared.tree.vacation.VacationArgs.{VacationArgs}
+use Rattle.sieve_syntax.specs.declared.extension.envelope.EnvelopeParts.{EnvelopeParts}
+use Rattle.sieve_syntax.specs.declared.extension.vacation.VacationArgs.{VacationArgs}
 use Rattle.sieve_syntax.specs.declared.tree.action.Action.TheVariants as D
 use Rattle.sieve_syntax.specs.Lexemes.{Lexeme, keyword, tag, number, text, mark}
 use Rattle.sieve_syntax.specs.Arguments.{AreStrings, AreArguments}
 use Rattle.std.proofs.lemmas.List.Elements.{Contains-push, Contains-push_cases}
 use Rattle.sieve_syntax.proofs.TagLemmas.{none_there, first_there, plain_none}
 use Rattle.sieve_syntax.specs.Chains.{Chain}
-use Rattle.sieve_syntax.specs.Tags.{group_of, relation_name, IsTagValue, IsAllowed, BeginsUntagged, IsSplit}
-use Rattle.sieve_syntax.specs.Table.{SaysSize, SaysAddress, SaysEnvelope, NamesParts, is_part, IsPlainTest, IsPlainCommand}
+use Rattle.sieve_syntax.specs.Tags.{group_of, IsTagValue, IsAllowed, BeginsUntagged, IsSplit}
+use Rattle.sieve_syntax.specs.Extension.Relational.{relation_name}
+use Rattle.sieve_syntax.specs.Table.{SaysSize, SaysAddress, IsPlainTest, IsPlainCommand}
+use Rattle.sieve_syntax.specs.Extension.Envelope.{SaysEnvelope, NamesParts, is_part}
 use Rattle.sieve_syntax.specs.Tests.{IsTest, ReadsTest}
 use Rattle.sieve_syntax.specs.Grammar.{ReadsScript}
 use Rattle.sieve_syntax.specs.Tree.{TestTree, yes, looks, not_of, all_of, any_of, no_tests, test, list_depth, not_depth, CommandTree, choose, stop, act, no_branches, branch, Commands, no_commands, command, depth}
 use Rattle.sieve_syntax.specs.Capabilities.{all_capabilities, knows_name}
-use Rattle.sieve_syntax.specs.Valid.{IsMailboxName, IsValid}
+use Rattle.sieve_syntax.specs.Extension.FileInto.{IsMailboxName}
+use Rattle.sieve_syntax.specs.Valid.{IsValid}
 use Rattle.sieve_syntax.specs.Means.{Means}
 use Rattle.sieve_syntax.specs.RunState.{RunState, TwoVacations}
 use Rattle.sieve_syntax.specs.Meaning.{TestAsking, outcome, Done, Failed}

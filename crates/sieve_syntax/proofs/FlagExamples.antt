@@ -14,8 +14,9 @@ use Rattle.sieve_syntax.specs.declared.tree.action.Action.{Action}
 use Rattle.sieve_syntax.specs.declared.tree.action.Action.TheVariants.{Keep, Discard, FileInto, SetFlag, AddFlag, RemoveFlag}
 use Rattle.sieve_syntax.specs.declared.tree.checks.MailCheck.{MailCheck}
 use Rattle.sieve_syntax.specs.declared.tree.checks.MailCheck.TheVariants as Q
+use Rattle.sieve_syntax.specs.declared.extension.ExtensionTest.TheVariants as X
 use Rattle.sieve_syntax.specs.declared.tree.checks.Collation.TheVariants as L
-use Rattle.sieve_syntax.specs.declared.tree.checks.HasFlag.{HasFlag}
+use Rattle.sieve_syntax.specs.declared.extension.imap4flags.HasFlag.{HasFlag}
 use Rattle.sieve_syntax.specs.declared.tree.checks.Matching.TheVariants as M
 use Rattle.sieve_syntax.specs.Chains.{Chain}
 use Rattle.sieve_syntax.specs.Capabilities.{all_capabilities}
@@ -23,7 +24,8 @@ use Rattle.sieve_syntax.specs.Meaning.{TestAsking, asking_at, Outcome, Done, Fai
 use Rattle.sieve_syntax.specs.RunState.{RunState, TooManyMailboxes, Going, max_mailboxes, is_filed, has_room, with_filed, flags_given}
 use Rattle.sieve_syntax.specs.RunState as F
 use Rattle.sieve_syntax.specs.Positional.{one_list}
-use Rattle.sieve_syntax.specs.Table.{SaysHasFlag, IsPlainCommand}
+use Rattle.sieve_syntax.specs.Extension.Imap4flags.{SaysHasFlag}
+use Rattle.sieve_syntax.specs.Table.{IsPlainCommand}
 use Rattle.sieve_syntax.specs.Tags.{IsTagValue, IsAllowed}
 use Rattle.sieve_syntax.specs.Trace.{actions_run}
 use Rattle.sieve_syntax.specs.Tree.{looks, CommandTree, require, choose, act, branch, no_branches, Commands, no_commands, command}
@@ -163,7 +165,7 @@ asks_for_a so_far check = has so_far.flags (codes "A")
 -- an action, `if hasflag "a" { discard; }`, and another action
 abbrev asking : Action → Action → Commands
 asking before behind =
-    command (act before) (command (choose (branch (looks (Q.HasFlag (record { comparator = L.AsciiCasemap; matching = M.Is; keys = codes "a" ∷ [] })))
+    command (act before) (command (choose (branch (looks (Q.Extension (X.HasFlag (record { comparator = L.AsciiCasemap; matching = M.Is; keys = codes "a" ∷ [] }))))
     (command (act Discard) no_commands) no_branches)) (command (act behind) no_commands))
 
 -- what is set before it is seen, and what is set behind it isn't

@@ -3,6 +3,15 @@ pub mod Chains
 pub mod FaultLemmas
 pub mod TagLemmas
 pub mod TableLemmas
+pub mod RowLemmas
+pub mod KnownLemmas
+pub mod GrowthLemmas
+pub mod EnvelopeLaws
+pub mod MailboxLaws
+pub mod DateLaws
+pub mod Imap4flagsLaws
+pub mod FileIntoLaws
+pub mod ExtensionLaws
 pub mod ReasonLemmas
 pub mod VacationLemmas
 pub mod ViewLemmas

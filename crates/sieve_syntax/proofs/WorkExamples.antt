@@ -1,10 +1,9 @@
 -- What a run takes, and near misses.
-use Rattle.std.proofs.Common.{◌≡◌, ℕ, ◌+◌, Bool, true, false, not, cond, [], ◌∷◌, None, refl, ap}
-use Rattle.std.specs.Prelude.{codes, nat_lt}
+use Rattle.std.proofs.Common.{◌≡◌, ℕ, ◌+◌, Bool, true, false, not, cond, None, refl}
 use Rattle.sieve_syntax.specs.declared.tree.action.Action.TheVariants.{Keep, Discard, Vacation}
 use Rattle.sieve_syntax.specs.declared.tree.checks.MailCheck.{MailCheck}
-use Rattle.sieve_syntax.specs.declared.tree.vacation.VacationArgs.{VacationArgs}
-use Rattle.sieve_syntax.specs.Meaning.{TestAsking, answered, asking_at, Outcome, Done, Failed, outcome}
+use Rattle.sieve_syntax.specs.declared.extension.vacation.VacationArgs.{VacationArgs}
+use Rattle.sieve_syntax.specs.Meaning.{TestAsking, answered, asking_at, Outcome, Failed, outcome}
 use Rattle.sieve_syntax.specs.RunState.{RunState, at_first, TwoVacations, TooMuchWork}
 use Rattle.sieve_syntax.specs.Tree.{TestTree, yes, no, looks, not_of, all_of, any_of, no_tests, test, choose, stop, act, branch, no_branches, Commands, no_commands, command}
 use Rattle.sieve_syntax.specs.Work.{asked, all_take, max_work, within_work, outcome_within}

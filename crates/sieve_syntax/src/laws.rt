@@ -6,7 +6,7 @@ ghost use Rattle.sieve_syntax.specs.Growth.{StillMeans};
 ghost use Rattle.sieve_syntax.specs.Looking.{outcome_by, all_take_by};
 ghost use Rattle.sieve_syntax.specs.Meaning.{TestAsking, OnlyLooks, outcome_after, outcome};
 ghost use Rattle.sieve_syntax.specs.Means.{MeansIn, Means};
-ghost use Rattle.sieve_syntax.specs.Reasons.{is_entity, IsEntity};
+ghost use Rattle.sieve_syntax.specs.Extension.Vacation.Reasons.{is_entity, IsEntity};
 ghost use Rattle.sieve_syntax.specs.RunState.{RunState, at_first};
 ghost use Rattle.sieve_syntax.specs.Trace.{actions_run, in_turn, KeepsImplicitly, OnDone, NamesWithoutRepeats, FilesIntoInboxAlone, FilesWithFlags};
 ghost use Rattle.sieve_syntax.specs.Tree.{Commands};
