@@ -12,10 +12,10 @@ use Rattle.std.proofs.lemmas.List.{get_or-drop, get_or_default, take-append-drop
 use Rattle.std.proofs.lemmas.List.Folds.{list_any_none}
 use Rattle.octets.proofs.Lists.{some_is}
 use Rattle.memchr.specs.Find.{Nowhere, NoneAfter, Passes, is_byte}
-use Rattle.sieve_syntax.specs.declared.tree.checks.CurrentDate.{CurrentDate}
-use Rattle.sieve_syntax.specs.declared.tree.checks.DateTest.{DateTest}
-use Rattle.sieve_syntax.specs.declared.tree.checks.DateZone.{DateZone}
-use Rattle.sieve_syntax.specs.declared.tree.checks.DateZone.TheVariants.{Host, Given, Original}
+use Rattle.sieve_syntax.specs.declared.extension.date.CurrentDate.{CurrentDate}
+use Rattle.sieve_syntax.specs.declared.extension.date.DateTest.{DateTest}
+use Rattle.sieve_syntax.specs.declared.extension.date.DateZone.{DateZone}
+use Rattle.sieve_syntax.specs.declared.extension.date.DateZone.TheVariants.{Host, Given, Original}
 use Rattle.mail_dates.specs.declared.date_time.DateTime.{DateTime}
 use Rattle.mail_dates.specs.DateTexts.{IsDateText}
 use Rattle.mail_dates.specs.DateTimes.{IsMoment}

@@ -2,7 +2,7 @@
 use Rattle.std.proofs.Common.{decimal, ◌≡◌, Bool, true, ◌⊎◌, inl, inr, ℕ, List, refl, subst}
 use Rattle.std.specs.Bool.{Decides}
 use Rattle.std.proofs.lemmas.Bool.Decides.{Decides-and, Decides-or}
-use Rattle.sieve_syntax.specs.declared.tree.checks.EnvelopeTest.{EnvelopeTest}
+use Rattle.sieve_syntax.specs.declared.extension.envelope.EnvelopeTest.{EnvelopeTest}
 use Rattle.sieve_exec.specs.Mails.{MailSpec}
 use Rattle.sieve_exec.specs.Matches.{MatchesSome}
 use Rattle.sieve_exec.specs.Extension.Relational.{is_count}

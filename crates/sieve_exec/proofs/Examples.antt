@@ -2,7 +2,7 @@
 use Rattle.std.proofs.Common.{◌≡◌, ◌||◌, lit<, ℕ, Bool, List, true, false, Some, None, inl, inr, [], ◌∷◌, ◌++◌, codes, decimal, refl, ap, arith, pos, neg_ℤ, rules}
 use Rattle.std.proofs.lemmas.Int.{ints}
 use Rattle.sieve_syntax.specs.declared.tree.checks.Matching.TheVariants.{Is, Contains, Matches, Value, Count}
-use Rattle.sieve_syntax.specs.declared.tree.checks.Relation.TheVariants as R
+use Rattle.sieve_syntax.specs.declared.extension.relational.Relation.TheVariants as R
 use Rattle.sieve_syntax.specs.declared.tree.checks.AddressPart.TheVariants.{LocalPart, Domain, User, Detail}
 use Rattle.sieve_syntax.specs.declared.tree.checks.AddressPart.TheVariants as part
 use Rattle.sieve_syntax.specs.declared.tree.checks.Bound.TheVariants.{Over, Under}

@@ -1,7 +1,7 @@
 -- `hasflag` is true exactly where it holds.
 use Rattle.std.proofs.Common.{decimal, length, ℕ, List}
 use Rattle.std.specs.Bool.{Decides}
-use Rattle.sieve_syntax.specs.declared.tree.checks.HasFlag.{HasFlag}
+use Rattle.sieve_syntax.specs.declared.extension.imap4flags.HasFlag.{HasFlag}
 use Rattle.sieve_exec.specs.Extension.Relational.{is_count}
 use Rattle.sieve_exec.specs.Extension.Imap4flags.{flag_keys, FlagHolds, flag_holds}
 use Rattle.sieve_exec.proofs.Decisions.{any_decides, counts_decides}

@@ -7,6 +7,7 @@ pub mod DateLemmas
 pub mod EnvelopeLemmas
 pub mod MailboxTestLemmas
 pub mod FlagLemmas
+pub mod ExtensionLemmas
 pub mod TruthLemmas
 pub mod FrontLemmas
 pub mod IndexLemmas

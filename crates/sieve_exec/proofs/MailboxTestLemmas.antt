@@ -4,7 +4,7 @@ use Rattle.std.proofs.Common.{◌≡◌, ◌≢◌, ◌≤◌, ◌↔◌, length
 use Rattle.std.specs.Bool.{Decides}
 use Rattle.std.specs.List.{list_all}
 use Rattle.std.proofs.lemmas.Bool.Decides.{Decides-and, Decides-not, Decides-eqb, Decides-ltb, same_from_decides}
-use Rattle.sieve_syntax.specs.Valid.{IsMailboxName}
+use Rattle.sieve_syntax.specs.Extension.FileInto.{IsMailboxName}
 use Rattle.sieve_exec.specs.Mails.{is_some_of}
 use Rattle.sieve_exec.specs.Extension.Mailbox.{MailboxesExist, is_mailbox}
 use Rattle.sieve_exec.proofs.Decisions.{decides_as, all_decides}

@@ -7,7 +7,7 @@ use Rattle.std.proofs.lemmas.Bool.Decides.{Decides-ltb}
 use Rattle.sieve_syntax.specs.declared.tree.checks.Bound.{Bound}
 use Rattle.sieve_syntax.specs.declared.tree.checks.Bound.TheVariants.{Over, Under}
 use Rattle.sieve_syntax.specs.declared.tree.checks.MailCheck.{MailCheck}
-use Rattle.sieve_syntax.specs.declared.tree.checks.MailCheck.TheVariants.{Size, Exists, Header, Address, Envelope, MailboxExists, Date, CurrentDate, HasFlag}
+use Rattle.sieve_syntax.specs.declared.tree.checks.MailCheck.TheVariants.{Size, Exists, Header, Address, Extension}
 use Rattle.mail_address.specs.declared.address.Addr.{Addr}
 use Rattle.mail_address.specs.Parts.{AreAddresses}
 use Rattle.mail_address.specs.Reading.{addrs}
@@ -21,10 +21,7 @@ use Rattle.sieve_exec.specs.Truth.{is_beyond, is_some_there, truth_by}
 use Rattle.sieve_exec.proofs.Decisions.{decides_as, any_decides, all_decides, counts_decides}
 use Rattle.sieve_exec.proofs.MatchLemmas.{matches_some_decides}
 use Rattle.sieve_exec.proofs.PartLemmas.{part_of_is, part_of_only, part_decides}
-use Rattle.sieve_exec.proofs.DateLemmas.{date_decides, current_decides}
-use Rattle.sieve_exec.proofs.EnvelopeLemmas.{envelope_decides}
-use Rattle.sieve_exec.proofs.MailboxTestLemmas.{mailboxes_decide}
-use Rattle.sieve_exec.proofs.FlagLemmas.{flag_decides}
+use Rattle.sieve_exec.proofs.ExtensionLemmas.{extension_decides}
 
 beyond_decides : (bound : Bound) (size limit : ℕ) → Decides (is_beyond bound size limit) (IsBeyond bound size limit)
 beyond_decides Over size limit = Decides-ltb limit size
@@ -68,8 +65,4 @@ truth_decides mail flags (Address address) =
     (matches_some_decides address.comparator address.matching address.keys (decimal (addresses_counted mail address.part address.fields)))
     (any_decides _ _ (λ name. some_decides _ _ (λ one.
     part_decides address.comparator address.matching address.keys (address_part_of address.part one) (IsAddressPart address.part one) (part_of_is address.part one) (part_of_only address.part one)) mail name) address.fields)
-truth_decides mail flags (Envelope test) = envelope_decides mail test
-truth_decides mail flags (MailboxExists names) = mailboxes_decide names
-truth_decides mail flags (Date test) = date_decides mail test
-truth_decides mail flags (CurrentDate test) = current_decides mail test
-truth_decides mail flags (HasFlag test) = flag_decides flags test
+truth_decides mail flags (Extension test) = extension_decides mail flags test

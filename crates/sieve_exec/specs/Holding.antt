@@ -4,18 +4,15 @@ use Rattle.std.specs.List.{All, Any}
 use Rattle.sieve_syntax.specs.declared.tree.checks.Bound.{Bound}
 use Rattle.sieve_syntax.specs.declared.tree.checks.Bound.TheVariants.{Over, Under}
 use Rattle.sieve_syntax.specs.declared.tree.checks.MailCheck.{MailCheck}
-use Rattle.sieve_syntax.specs.declared.tree.checks.MailCheck.TheVariants.{Size, Exists, Header, Address, Envelope, MailboxExists, Date, CurrentDate, HasFlag}
+use Rattle.sieve_syntax.specs.declared.tree.checks.MailCheck.TheVariants.{Size, Exists, Header, Address, Extension}
 use Rattle.mail_address.specs.declared.address.Addr.{Addr}
 use Rattle.mail_address.specs.Parts.{AreAddresses}
 use Rattle.sieve_exec.specs.Mails.{MailSpec, field_values, field_texts, has_addresses}
 use Rattle.sieve_exec.specs.Matches.{MatchesSome}
 use Rattle.sieve_exec.specs.Parts.{IsAddressPart}
 use Rattle.sieve_exec.specs.Counts.{fields_counted, addresses_counted}
+use Rattle.sieve_exec.specs.Extension.{ExtensionHolds}
 use Rattle.sieve_exec.specs.Extension.Relational.{is_count}
-use Rattle.sieve_exec.specs.Extension.Date.{DateHolds, CurrentDateHolds}
-use Rattle.sieve_exec.specs.Extension.Envelope.{EnvelopeHolds}
-use Rattle.sieve_exec.specs.Extension.Imap4flags.{FlagHolds}
-use Rattle.sieve_exec.specs.Extension.Mailbox.{MailboxesExist}
 
 -- a size over or under a limit; one equal to the limit is neither (RFC 5228, 5.9)
 abbrev pub IsBeyond : Bound → ℕ → ℕ → Type 0
@@ -41,8 +38,4 @@ TestHolds mail flags (Address address) =
     MatchBool (is_count address.matching)
     (MatchesSome address.comparator address.matching address.keys (decimal (addresses_counted mail address.part address.fields)))
     (Any (λ name. SomeAddress mail name (λ one. (part : List ℕ) × IsAddressPart address.part one part × MatchesSome address.comparator address.matching address.keys part)) address.fields)
-TestHolds mail flags (MailboxExists names) = MailboxesExist names
-TestHolds mail flags (Date test) = DateHolds mail test
-TestHolds mail flags (CurrentDate test) = CurrentDateHolds mail test
-TestHolds mail flags (Envelope test) = EnvelopeHolds mail test
-TestHolds mail flags (HasFlag test) = FlagHolds flags test
+TestHolds mail flags (Extension test) = ExtensionHolds mail flags test

@@ -6,18 +6,15 @@ use Rattle.sieve_syntax.specs.declared.tree.checks.Bound.TheVariants.{Over, Unde
 use Rattle.sieve_syntax.specs.declared.tree.checks.Header.{Header as HeaderTest}
 use Rattle.sieve_syntax.specs.declared.tree.checks.Address.{Address as AddressTest}
 use Rattle.sieve_syntax.specs.declared.tree.checks.MailCheck.{MailCheck}
-use Rattle.sieve_syntax.specs.declared.tree.checks.MailCheck.TheVariants.{Size, Exists, Header, Address, Envelope, MailboxExists, Date, CurrentDate, HasFlag}
+use Rattle.sieve_syntax.specs.declared.tree.checks.MailCheck.TheVariants.{Size, Exists, Header, Address, Extension}
 use Rattle.sieve_syntax.specs.RunState.{RunState}
 use Rattle.mail_address.specs.declared.address.Addr.{Addr}
 use Rattle.sieve_exec.specs.Mails.{MailSpec, field_values, field_texts, field_addresses}
 use Rattle.sieve_exec.specs.Matches.{matches_some, count_matches, part_matches}
 use Rattle.sieve_exec.specs.Parts.{address_part_of}
 use Rattle.sieve_exec.specs.Counts.{fields_counted, addresses_counted}
+use Rattle.sieve_exec.specs.Extension.{extension_truth}
 use Rattle.sieve_exec.specs.Extension.Relational.{is_count}
-use Rattle.sieve_exec.specs.Extension.Date.{date_holds, current_holds}
-use Rattle.sieve_exec.specs.Extension.Envelope.{envelope_holds}
-use Rattle.sieve_exec.specs.Extension.Imap4flags.{flag_holds}
-use Rattle.sieve_exec.specs.Extension.Mailbox.{is_mailbox}
 
 -- whether a size is over or under a limit
 abbrev pub is_beyond : Bound → ℕ → ℕ → Bool
@@ -69,11 +66,7 @@ truth_by mail flags (Size size) = is_beyond size.bound mail.size size.limit
 truth_by mail flags (Exists names) = all_exist mail names
 truth_by mail flags (Header header) = header_holds mail header
 truth_by mail flags (Address address) = address_holds mail address
-truth_by mail flags (Envelope test) = envelope_holds mail test
-truth_by mail flags (MailboxExists names) = list_all is_mailbox names
-truth_by mail flags (Date test) = date_holds mail test
-truth_by mail flags (CurrentDate test) = current_holds mail test
-truth_by mail flags (HasFlag test) = flag_holds flags test
+truth_by mail flags (Extension test) = extension_truth mail flags test
 
 -- the same for a run that has done this so far
 abbrev pub truth_at : MailSpec → RunState → MailCheck → Bool

@@ -5,15 +5,12 @@ use Rattle.mail_address.specs.declared.address.Addr.{Addr}
 use Rattle.mail_address.specs.Spelling.{unquoted_address}
 use Rattle.sieve_syntax.specs.declared.tree.checks.Matching.{Matching}
 use Rattle.sieve_syntax.specs.declared.tree.checks.MailCheck.{MailCheck}
-use Rattle.sieve_syntax.specs.declared.tree.checks.MailCheck.TheVariants.{Size, Exists, Header, Address, Envelope, MailboxExists, Date, CurrentDate, HasFlag}
+use Rattle.sieve_syntax.specs.declared.tree.checks.MailCheck.TheVariants.{Size, Exists, Header, Address, Extension}
 use Rattle.sieve_syntax.specs.RunState.{RunState}
 use Rattle.sieve_exec.specs.declared.sizes.Sizes.{Sizes}
 use Rattle.sieve_exec.specs.Mails.{MailSpec, field_texts, field_addresses}
 use Rattle.sieve_exec.specs.Sizes.{text_size, sizes_of, values_work, names_work}
-use Rattle.sieve_exec.specs.Extension.Date.{date_work, current_work}
-use Rattle.sieve_exec.specs.Extension.Envelope.{envelope_work}
-use Rattle.sieve_exec.specs.Extension.Imap4flags.{flags_work}
-use Rattle.sieve_exec.specs.Extension.Mailbox.{mailboxes_work}
+use Rattle.sieve_exec.specs.Extension.{extension_work}
 
 -- ---- values
 
@@ -43,11 +40,7 @@ work_by mail flags (Size size) = 1
 work_by mail flags (Exists names) = names_work names
 work_by mail flags (Header header) = fields_work header.fields header.matching (header_sizes mail header.fields) header.keys
 work_by mail flags (Address address) = fields_work address.fields address.matching (address_sizes mail address.fields) address.keys
-work_by mail flags (Envelope test) = envelope_work mail test
-work_by mail flags (MailboxExists names) = mailboxes_work names
-work_by mail flags (Date test) = date_work mail test
-work_by mail flags (CurrentDate test) = current_work test
-work_by mail flags (HasFlag test) = flags_work flags test
+work_by mail flags (Extension test) = extension_work mail flags test
 
 -- the same for a run that has done this so far
 abbrev pub work_at : MailSpec → RunState → MailCheck → ℕ

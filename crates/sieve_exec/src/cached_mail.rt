@@ -5,11 +5,8 @@ ghost use Rattle.sieve_exec.specs.Work.{header_sizes, address_sizes, fields_work
 ghost use Rattle.sieve_exec.specs.Truth.{truth_by, is_beyond, header_holds, some_text_matches, address_holds, some_address_matches};
 
 use crate::address::ReadyAddress;
-use crate::extension::date::{current_holds, date_holds, spend_current, spend_date};
-use crate::extension::envelope::{envelope_holds, spend_envelope};
-use crate::extension::imap4flags::{flag_holds, spend_flags};
-use crate::extension::mailbox::{are_mailboxes, spend_mailboxes};
 use crate::extension::relational::is_count;
+use crate::extension::{extension_holds, spend_extension};
 use crate::field_cache::FieldCache;
 use crate::joined_address::JoinedAddress;
 use crate::mail::Mail;
@@ -63,8 +60,7 @@ impl<'m, 'a> CachedMail<'m, 'a> {
     ///
     /// A value is compared with each key: for each pair the time is that of `is`, `contains` or `matches`, or of one pass over both, and
     /// if a test is the first to ask for a field, also linear in the field's values. Of long lists `header` and `address` ask each name
-    /// and key once, and with many values a key of `:is` is looked up ([`ReadyKeys`]). Each `date` reads the one value that it looks at,
-    /// and `hasflag` looks only at the flags.
+    /// and key once, and with many values a key of `:is` is looked up ([`ReadyKeys`]).
     pub fn evaluate(
         &mut self,
         alloc: Global,
@@ -79,11 +75,7 @@ impl<'m, 'a> CachedMail<'m, 'a> {
             MailCheck::Exists(names) => self.mail.all_exist(alloc, names.as_slice()),
             MailCheck::Header(header) => self.header_holds(alloc, header),
             MailCheck::Address(address) => self.address_holds(alloc, address),
-            MailCheck::Envelope(test) => Ok(envelope_holds(self.mail, test)),
-            MailCheck::MailboxExists(names) => Ok(are_mailboxes(names.as_slice())),
-            MailCheck::Date(test) => date_holds(alloc, self.mail, test),
-            MailCheck::CurrentDate(test) => current_holds(alloc, self.mail, test),
-            MailCheck::HasFlag(test) => Ok(flag_holds(flags.names(), test)),
+            MailCheck::Extension(test) => extension_holds(alloc, self.mail, flags, test),
         }
     }
 
@@ -106,11 +98,7 @@ impl<'m, 'a> CachedMail<'m, 'a> {
             MailCheck::Exists(names) => Ok(spend_names(left, names.as_slice())),
             MailCheck::Header(header) => self.spend_header(alloc, header, left),
             MailCheck::Address(address) => self.spend_address(alloc, address, left),
-            MailCheck::Envelope(test) => Ok(spend_envelope(self.mail, test, left)),
-            MailCheck::MailboxExists(names) => Ok(spend_mailboxes(names.as_slice(), left)),
-            MailCheck::Date(test) => spend_date(alloc, self.mail, test, left),
-            MailCheck::CurrentDate(test) => Ok(spend_current(test, left)),
-            MailCheck::HasFlag(test) => Ok(spend_flags(flags.names(), test, left)),
+            MailCheck::Extension(test) => spend_extension(alloc, self.mail, flags, test, left),
         }
     }
 

@@ -1,8 +1,7 @@
 //! What a run has done so far.
 ghost use Rattle.std.specs.Prelude.{◌≡◌, Bool, true, not, [], ◌∷◌, ◌++◌, None, IfOk};
 ghost use Rattle.std.specs.List.{list_any};
-ghost use Rattle.sieve_syntax.specs.RunState.{performed, at_first, filed_into, flags_given as flags_given_of, same_target as same_target_of, sent_to};
-ghost use Rattle.sieve_syntax.specs.RunState.{Going};
+ghost use Rattle.sieve_syntax.specs.RunState.{performed, at_first, filed_into, flags_given as flags_given_of, same_target as same_target_of, sent_to, Going};
 ghost use Rattle.sieve_syntax.specs.Meaning.{outcome_after};
 
 use crate::mailboxes::{file, has_room};

@@ -5,10 +5,10 @@ use Rattle.std.specs.Option.{option_and_then}
 use Rattle.std.specs.Cmp.Lexicographic.{pointwise}
 use Rattle.octets.specs.Ascii.{lowered}
 use Rattle.sieve_syntax.specs.declared.tree.checks.Collation.{Collation}
-use Rattle.sieve_syntax.specs.declared.tree.checks.CurrentDate.{CurrentDate}
-use Rattle.sieve_syntax.specs.declared.tree.checks.DateTest.{DateTest}
-use Rattle.sieve_syntax.specs.declared.tree.checks.DateZone.{DateZone}
-use Rattle.sieve_syntax.specs.declared.tree.checks.DateZone.TheVariants.{Host, Given, Original}
+use Rattle.sieve_syntax.specs.declared.extension.date.CurrentDate.{CurrentDate}
+use Rattle.sieve_syntax.specs.declared.extension.date.DateTest.{DateTest}
+use Rattle.sieve_syntax.specs.declared.extension.date.DateZone.{DateZone}
+use Rattle.sieve_syntax.specs.declared.extension.date.DateZone.TheVariants.{Host, Given, Original}
 use Rattle.sieve_syntax.specs.declared.tree.checks.Matching.{Matching}
 use Rattle.mail_dates.specs.declared.date_time.DateTime.{DateTime}
 use Rattle.mail_dates.specs.declared.part.DatePart.{DatePart}

@@ -2,8 +2,8 @@
 use Rattle.std.specs.Prelude.{◌≡◌, ℕ, ◌+◌, Bool, true, cond, ◌&&◌, ◌||◌, ◌⊎◌, is_some, decimal, List, [], ◌∷◌, Option, Some, None, MatchBool}
 use Rattle.sieve_syntax.specs.declared.tree.checks.AddressPart.{AddressPart}
 use Rattle.sieve_syntax.specs.declared.tree.checks.AddressPart.TheVariants.{All, LocalPart, Domain, User, Detail}
-use Rattle.sieve_syntax.specs.declared.tree.checks.EnvelopeParts.{EnvelopeParts}
-use Rattle.sieve_syntax.specs.declared.tree.checks.EnvelopeTest.{EnvelopeTest}
+use Rattle.sieve_syntax.specs.declared.extension.envelope.EnvelopeParts.{EnvelopeParts}
+use Rattle.sieve_syntax.specs.declared.extension.envelope.EnvelopeTest.{EnvelopeTest}
 use Rattle.sieve_exec.specs.declared.sizes.Sizes.{Sizes}
 use Rattle.sieve_exec.specs.Mails.{MailSpec, is_some_of}
 use Rattle.sieve_exec.specs.Matches.{MatchesSome, count_matches, part_matches}

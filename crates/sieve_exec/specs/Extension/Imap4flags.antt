@@ -2,7 +2,7 @@
 use Rattle.std.specs.Prelude.{ℕ, ◌+◌, Bool, true, false, cond, length, decimal, List, sum_by, MatchBool}
 use Rattle.std.specs.List.{filter, flat_map, list_any, Any}
 use Rattle.mail_flags.specs.Flags.{between_blanks}
-use Rattle.sieve_syntax.specs.declared.tree.checks.HasFlag.{HasFlag}
+use Rattle.sieve_syntax.specs.declared.extension.imap4flags.HasFlag.{HasFlag}
 use Rattle.sieve_syntax.specs.declared.tree.checks.Matching.{Matching}
 use Rattle.sieve_syntax.specs.declared.tree.checks.Matching.TheVariants.{Is, Contains}
 use Rattle.sieve_exec.specs.Mails.{is_some_of}

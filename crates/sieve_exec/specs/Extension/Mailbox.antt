@@ -2,7 +2,7 @@
 use Rattle.std.specs.Prelude.{◌==◌, ℕ, Bool, not, ◌&&◌, nat_lt, length, List}
 use Rattle.std.specs.List.{list_all, All}
 use Rattle.std.specs.Str.{is_utf8}
-use Rattle.sieve_syntax.specs.Valid.{IsMailboxName}
+use Rattle.sieve_syntax.specs.Extension.FileInto.{IsMailboxName}
 use Rattle.sieve_exec.specs.Mails.{is_some_of}
 use Rattle.sieve_exec.specs.Sizes.{texts_size}
 

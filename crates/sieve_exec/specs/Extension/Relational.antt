@@ -5,8 +5,8 @@ use Rattle.std.specs.declared.cmp.Ordering.{Ordering}
 use Rattle.std.specs.Ordering.{nat_cmp, is_gt, is_ge, is_lt, is_le, is_eq, is_ne}
 use Rattle.sieve_syntax.specs.declared.tree.checks.Matching.{Matching}
 use Rattle.sieve_syntax.specs.declared.tree.checks.Matching.TheVariants.{Count}
-use Rattle.sieve_syntax.specs.declared.tree.checks.Relation.{Relation}
-use Rattle.sieve_syntax.specs.declared.tree.checks.Relation.TheVariants as R
+use Rattle.sieve_syntax.specs.declared.extension.relational.Relation.{Relation}
+use Rattle.sieve_syntax.specs.declared.extension.relational.Relation.TheVariants as R
 
 -- a value is in a relation to a key, given an order and an equality (RFC 5231, 4)
 abbrev pub Relates : Relation → (List ℕ → List ℕ → Type 0) → (List ℕ → List ℕ → Type 0) → List ℕ → List ℕ → Type 0
