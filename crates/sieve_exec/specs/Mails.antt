@@ -1,5 +1,5 @@
 -- A message with its envelope and when it is delivered, as the tests of a script see it (RFC 5228, 2.4.2 and 5).
-use Rattle.std.specs.Prelude.{ℕ, ℤ, Bool, cond, codes, List, [], ◌∷◌, map, nat_eq, Option, unwrap_or}
+use Rattle.std.specs.Prelude.{ℕ, ℤ, Bool, true, false, cond, codes, List, [], ◌∷◌, map, nat_eq, Option, unwrap_or}
 use Rattle.std.specs.List.{filter, flat_map, list_any}
 use Rattle.std.specs.Cmp.Lexicographic.{pointwise}
 use Rattle.octets.specs.Ascii.{lowered, trimmed}
