@@ -136,7 +136,6 @@ impl RunState {
         self.cancelled = self.cancelled || !copy;
         Ok(None)
     }
-
 }
 
 /// Whether an address is among these.

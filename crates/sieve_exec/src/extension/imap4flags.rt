@@ -21,7 +21,11 @@ impl RunState {
     ghost use Rattle.sieve_exec.specs.Runs.{run_state_of};
 
     /// The text of the flags that a command gives a copy: those of its `:flags`, or otherwise those that are set (RFC 5232, 5).
-    pub(crate) fn flags_given(&self, alloc: Global, given: &Option<Texts>) -> Result<Octets, AllocError>
+    pub(crate) fn flags_given(
+        &self,
+        alloc: Global,
+        given: &Option<Texts>,
+    ) -> Result<Octets, AllocError>
         ensures { IfOk result (λ text. text ≡ flags_given_of given.now (run_state_of self.now)) }
     {
         match given {
