@@ -1,4 +1,9 @@
 -- What each test of an extension owes, a row for each: the room says it.
+pub mod Date
+pub mod Envelope
+pub mod FileInto
+pub mod Imap4flags
+pub mod Mailbox
 use Rattle.std.proofs.Common.{◌≡◌, List}
 use Rattle.sieve_syntax.specs.declared.parser.argument.Argument.{Argument}
 use Rattle.sieve_syntax.specs.declared.table.keyword.Keyword.{Keyword}
@@ -7,11 +12,11 @@ use Rattle.sieve_syntax.specs.declared.extension.ExtensionTest.{ExtensionTest}
 use Rattle.sieve_syntax.specs.declared.extension.ExtensionTest.TheVariants as X
 use Rattle.sieve_syntax.specs.Capabilities.{Capabilities, IsWithin}
 use Rattle.sieve_syntax.specs.Extension.{IsExtensionTest, MayAsk}
-use Rattle.sieve_syntax.proofs.DateLaws.{date_test_same, current_test_same, date_known, current_known, date_grows, current_grows}
-use Rattle.sieve_syntax.proofs.EnvelopeLaws.{envelope_test_same, envelope_known, envelope_grows}
-use Rattle.sieve_syntax.proofs.Imap4flagsLaws.{has_flag_test_same, has_flag_known, has_flag_grows}
+use Rattle.sieve_syntax.proofs.ExtensionLaws.Date.{date_test_same, current_test_same, date_known, current_known, date_grows, current_grows}
+use Rattle.sieve_syntax.proofs.ExtensionLaws.Envelope.{envelope_test_same, envelope_known, envelope_grows}
+use Rattle.sieve_syntax.proofs.ExtensionLaws.Imap4flags.{has_flag_test_same, has_flag_known, has_flag_grows}
 use Rattle.sieve_syntax.proofs.KnownLemmas.{AreKnown}
-use Rattle.sieve_syntax.proofs.MailboxLaws.{mailboxes_test_same, mailboxes_known, mailboxes_grow}
+use Rattle.sieve_syntax.proofs.ExtensionLaws.Mailbox.{mailboxes_test_same, mailboxes_known, mailboxes_grow}
 
 -- a word with arguments stands for one test at most
 pub extension_test_same : (word : Keyword) (args : List Argument) (t u : ExtensionTest) → IsExtensionTest word args t → IsExtensionTest word args u → t ≡ u

@@ -23,7 +23,7 @@ use Rattle.sieve_syntax.proofs.DecodingLemmas.{read_as_written}
 use Rattle.sieve_syntax.proofs.LanguageLemmas.{read_grows, decoded_grows}
 use Rattle.sieve_syntax.proofs.MeansLaws.{means_one}
 use Rattle.sieve_syntax.proofs.ExtensionLaws.{ask_grows}
-use Rattle.sieve_syntax.proofs.FileIntoLaws.{file_into_grows}
+use Rattle.sieve_syntax.proofs.ExtensionLaws.FileInto.{file_into_grows}
 use Rattle.sieve_syntax.proofs.GrowthLemmas.{permits_grow, part_grows, match_grows}
 use Rattle.sieve_syntax.proofs.VacationLemmas.{reply_grows}
 
@@ -80,7 +80,7 @@ module _ (few more : Capabilities) (within : IsWithin few more) where
   check_grows (Exists fields) may = tt
   check_grows (Header header) may = match_grows few more within header.comparator header.matching may
   check_grows (Address address) may = (part_grows few more within address.part may.0, match_grows few more within address.comparator address.matching may.1)
-  check_grows (Extension test) may = ask_grows few more within test may
+  check_grows (Extension extended) may = ask_grows few more within extended may
 
 -- what is so of each action that may stand is so of each in a tree that may
 module _ (P : Action → Type 0) (granted : Capabilities) (each : (action : Action) → MayAct granted action → P action) where

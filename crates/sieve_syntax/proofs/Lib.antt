@@ -6,11 +6,6 @@ pub mod TableLemmas
 pub mod RowLemmas
 pub mod KnownLemmas
 pub mod GrowthLemmas
-pub mod EnvelopeLaws
-pub mod MailboxLaws
-pub mod DateLaws
-pub mod Imap4flagsLaws
-pub mod FileIntoLaws
 pub mod ExtensionLaws
 pub mod ReasonLemmas
 pub mod VacationLemmas

@@ -18,7 +18,7 @@ use Rattle.sieve_syntax.proofs.ArgumentLemmas.{IsMarked, end_none}
 use Rattle.sieve_syntax.proofs.TestLemmas.{is_plain}
 use Rattle.sieve_syntax.proofs.TableLemmas.{size_same, header_same, address_same, keep_same}
 use Rattle.sieve_syntax.proofs.VacationLemmas.{redirect_same, vacation_same}
-use Rattle.sieve_syntax.proofs.FileIntoLaws.{file_into_same}
+use Rattle.sieve_syntax.proofs.ExtensionLaws.FileInto.{file_into_same}
 use Rattle.sieve_syntax.proofs.RowLemmas.{chain_same, call_same, list_same, row_same}
 use Rattle.sieve_syntax.proofs.ExtensionLaws.{extension_test_same}
 

@@ -45,7 +45,7 @@ plain_leaf _ args t is = subst IsLeaf (sym is.tree_is) tt
 
 -- the row of a word that isn't one of the base language's tests is one of the extensions
 pub row_beyond : (word : Keyword) → (word ≡ W.True → ⊥) → (word ≡ W.False → ⊥) → (word ≡ W.Size → ⊥) → (word ≡ W.Exists → ⊥) → (word ≡ W.Header → ⊥) → (word ≡ W.Address → ⊥)
-    → (args : List Argument) (t : TestTree) → IsPlainTest word args t → IsTableRow (IsExtensionTest word) (λ test. looks (L.Extension test)) args t
+    → (args : List Argument) (t : TestTree) → IsPlainTest word args t → IsTableRow (IsExtensionTest word) (λ extended. looks (L.Extension extended)) args t
 row_beyond W.True a b c d e f args t is = absurd (a refl)
 row_beyond W.False a b c d e f args t is = absurd (b refl)
 row_beyond W.Size a b c d e f args t is = absurd (c refl)
@@ -55,7 +55,7 @@ row_beyond W.Address a b c d e f args t is = absurd (f refl)
 row_beyond _ a b c d e f args t is = is
 
 pub row_within : (word : Keyword) → (word ≡ W.True → ⊥) → (word ≡ W.False → ⊥) → (word ≡ W.Size → ⊥) → (word ≡ W.Exists → ⊥) → (word ≡ W.Header → ⊥) → (word ≡ W.Address → ⊥)
-    → (args : List Argument) (t : TestTree) → IsTableRow (IsExtensionTest word) (λ test. looks (L.Extension test)) args t → IsPlainTest word args t
+    → (args : List Argument) (t : TestTree) → IsTableRow (IsExtensionTest word) (λ extended. looks (L.Extension extended)) args t → IsPlainTest word args t
 row_within W.True a b c d e f args t is = absurd (a refl)
 row_within W.False a b c d e f args t is = absurd (b refl)
 row_within W.Size a b c d e f args t is = absurd (c refl)

@@ -80,7 +80,7 @@ IsPlainTest W.Size = IsTableRow IsSizeTest (λ size. looks (C.Size size))
 IsPlainTest W.Exists = IsTableRow IsList (λ fields. looks (C.Exists fields))
 IsPlainTest W.Header = IsTableRow IsHeaderTest (λ header. looks (C.Header header))
 IsPlainTest W.Address = IsTableRow IsAddressTest (λ address. looks (C.Address address))
-IsPlainTest word = IsTableRow (IsExtensionTest word) (λ test. looks (C.Extension test))
+IsPlainTest word = IsTableRow (IsExtensionTest word) (λ extended. looks (C.Extension extended))
 
 -- the commands that end in a semicolon (RFC 5228, 3, 4; RFC 5232, 3)
 abbrev pub IsPlainCommand : Keyword → List Argument → CommandTree → Type 0

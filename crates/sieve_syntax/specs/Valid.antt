@@ -31,7 +31,7 @@ MayCheck granted (Size size) = Unit {0}
 MayCheck granted (Exists fields) = Unit {0}
 MayCheck granted (Header header) = MayMatch granted header.comparator header.matching
 MayCheck granted (Address address) = MayNamePart granted address.part × MayMatch granted address.comparator address.matching
-MayCheck granted (Extension test) = MayAsk granted test
+MayCheck granted (Extension extended) = MayAsk granted extended
 
 -- a test that is permitted if this is granted
 abbrev mutual

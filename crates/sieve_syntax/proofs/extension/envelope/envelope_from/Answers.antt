@@ -1,6 +1,6 @@
 use Rattle.std.proofs.lemmas.Result.{err_from_is_err_and}
 use Rattle.sieve_syntax.proofs.FaultLemmas.{fault_on}
-use Rattle.sieve_syntax.proofs.EnvelopeLaws.{envelope_no_parts}
+use Rattle.sieve_syntax.proofs.ExtensionLaws.Envelope.{envelope_no_parts}
 use Rattle.sieve_syntax.proofs.extension.envelope.envelope_from.Goals as goal
 
 pub returns-in_err-parts : goal.returns-in_err-parts

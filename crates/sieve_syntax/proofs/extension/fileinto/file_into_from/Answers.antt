@@ -1,7 +1,7 @@
 use Rattle.std.proofs.lemmas.Result.{err_from_is_err_and}
 use Rattle.sieve_syntax.proofs.FaultLemmas.{fault_on}
 use Rattle.sieve_syntax.proofs.TableLemmas.{finds_one}
-use Rattle.sieve_syntax.proofs.FileIntoLaws.{file_into_same, file_into_no_text}
+use Rattle.sieve_syntax.proofs.ExtensionLaws.FileInto.{file_into_same, file_into_no_text}
 use Rattle.sieve_syntax.proofs.extension.fileinto.file_into_from.Goals as goal
 
 pub returns-in_err-mailbox : goal.returns-in_err-mailbox
