@@ -2,9 +2,11 @@ use Rattle.std.proofs.Common.{refl, subst}
 use Rattle.std.proofs.lemmas.Result.{err_from_is_err_and}
 use Rattle.sieve_syntax.specs.Capabilities.{granted_by}
 use Rattle.sieve_syntax.specs.declared.tree.action.Action.TheVariants as D
-use Rattle.sieve_syntax.specs.Table.{IsList, IsKeep, IsFileInto, IsRedirect}
+use Rattle.sieve_syntax.specs.Rows.{IsList}
+use Rattle.sieve_syntax.specs.Table.{IsKeep, IsRedirect}
+use Rattle.sieve_syntax.specs.Extension.FileInto.{IsFileInto}
 use Rattle.sieve_syntax.specs.Tree.{stop, act}
-use Rattle.sieve_syntax.specs.Vacations.{IsVacation}
+use Rattle.sieve_syntax.specs.Extension.Vacation.{IsVacation}
 use Rattle.sieve_syntax.specs.Valid.{MayAct, MayStand}
 use Rattle.sieve_syntax.proofs.TableLemmas.{row_only, fit_fault, bare_fault}
 use Rattle.sieve_syntax.proofs.ViewLemmas.{view-Stop, view-Act}
