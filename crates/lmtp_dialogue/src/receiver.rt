@@ -9,8 +9,8 @@ ghost use Rattle.lmtp_dialogue.specs.Turns.{DialogueAnswers, Resolves, DialogueR
 use crate::command::{LmtpCommand, read_lmtp_command};
 use crate::command_line::{Found, find_line, skip_line};
 use crate::message_text::{Text, TextFault};
-use crate::recipients::Recipients;
 use crate::recipient_reply::RecipientReply;
+use crate::recipients::Recipients;
 use crate::reply::{LmtpReply, capabilities, greeting};
 use crate::talk::{MAX_TEXT, Talk};
 use octets::{Octets, Pending};
@@ -294,11 +294,7 @@ impl Receiver {
     /// After the last one the message is dropped.
     ///
     /// Lack of memory is the only error; nothing changes then.
-    pub fn report(
-        &mut self,
-        outcome: &RecipientReply,
-        out: &mut Octets,
-    ) -> Result<(), AllocError>
+    pub fn report(&mut self, outcome: &RecipientReply, out: &mut Octets) -> Result<(), AllocError>
         ensures ok { OnOk result (s.ReceiverGoes (λ d. DialogueReplies d outcome.now) self.old self.new out.old out.new) }
         ensures hello { self.new.talk.hello ≡ self.old.talk.hello }
         ensures held { s.ReceiverHoldsNoMore self.old self.new }
@@ -310,11 +306,7 @@ impl Receiver {
         }
     }
 
-    fn report_next(
-        &mut self,
-        outcome: &RecipientReply,
-        out: &mut Octets,
-    ) -> Result<(), AllocError>
+    fn report_next(&mut self, outcome: &RecipientReply, out: &mut Octets) -> Result<(), AllocError>
         requires { self.old.talk.stage ≡ LmtpStage.Sending }
         ensures ok { OnOk result (s.ReceiverGoes (λ d. DialogueReplies d outcome.now) self.old self.new out.old out.new) }
         ensures hello { self.new.talk.hello ≡ self.old.talk.hello }

@@ -7,8 +7,8 @@ use crate::argument::MailArgument;
 use crate::command::{LmtpCommand, read_lmtp_command};
 use crate::message_text::Text;
 use crate::receiver::{LmtpStage, Lookup, ReceivedMessage};
-use crate::recipients::Recipients;
 use crate::recipient_reply::{RecipientReply, ReplyBuffer};
+use crate::recipients::Recipients;
 use crate::reply::LmtpReply;
 use octets::Octets;
 use std::alloc::{AllocError, Global};
@@ -238,11 +238,7 @@ impl Talk {
     /// Makes a reply after the text, for the next recipient to whom one is owed.
     ///
     /// Lack of memory is the only error; nothing changes then.
-    pub fn report(
-        &mut self,
-        outcome: &RecipientReply,
-        out: &mut Octets,
-    ) -> Result<(), AllocError>
+    pub fn report(&mut self, outcome: &RecipientReply, out: &mut Octets) -> Result<(), AllocError>
         requires sends { self.old.stage ≡ LmtpStage.Sending }
         requires owed { self.old.told < length self.old.recipients }
         ensures ok { OnOk result (s.TalkReports self.old self.new (recipient_lines outcome.now) out.old out.new) }

@@ -21,9 +21,9 @@ ghost use Rattle.store_engine.specs.Terms.{terms_of};
 
 use crate::account::{ActiveScript, active_script};
 use crate::limits::limit_refusal;
+use crate::terms::{HostSettings, LentTerms};
 use mail_address::{Addr, bare_address};
 use octets::{List, Octets, Texts, as_deref};
-use crate::terms::{HostSettings, LentTerms};
 use sieve_exec::{Envelope, Mail};
 use sieve_plan::{
     AccountView, Deeds, Disposition, dispose, half_handle, half_of, has_long_header, is_near_if,
