@@ -11,7 +11,8 @@ use crate::addressee::Addressee;
 use crate::connection::LmtpConnection;
 use crate::demand::{DeliveryRequest, Demand, Question};
 use lmtp_dialogue::{
-    LmtpReply, Next, ReceivedMessage, RecipientReply, TextFault, copy_for, name_forms, was_delivered,
+    LmtpReply, Next, ReceivedMessage, RecipientReply, TextFault, copy_for, name_forms,
+    was_delivered,
 };
 use mail_head::{Head, is_header_longer};
 use octets::Octets;

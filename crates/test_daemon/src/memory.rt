@@ -48,14 +48,7 @@ impl Shelf for MemShelf {
                 terms,
             } => {
                 let (user, message) = (user.as_slice(), message.as_slice());
-                let_delivery(
-                    alloc,
-                    &mut self.store,
-                    user,
-                    envelope,
-                    message,
-                    terms,
-                )
+                let_delivery(alloc, &mut self.store, user, envelope, message, terms)
             }
             Event::AddUser {
                 name,
