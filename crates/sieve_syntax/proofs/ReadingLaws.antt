@@ -107,7 +107,7 @@ plain_same t u name after to end a b =
 leaf_same : (t u : TestTree) (name : Keyword) (after to end : List Lexeme) → IsLeafTest t name after to → IsTest u name after end → (t ≡ u) × (to ≡ end)
 leaf_same t u name after to end a b =
     let other : (w : Keyword) → name ≡ w → IsPlainTest w a.0 t = λ w e. subst (λ v. IsPlainTest v a.0 t) e a.1.1 in
-    plain_same t u name after to end a (is_plain name (other W.Not) (other W.AllOf) (other W.AnyOf) after u end b)
+    plain_same t u name after to end a (is_plain name (λ e. (other W.Not e).is) (λ e. (other W.AllOf e).is) (λ e. (other W.AnyOf e).is) after u end b)
 
 module _ (name : Keyword) (after end : List Lexeme) where
   not_inside : (u : TestTree) → name ≡ W.Not → IsTest u name after end → (inner : TestTree) × ((u ≡ not_of inner) × ReadsTest inner after end)

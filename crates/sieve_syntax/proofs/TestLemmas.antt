@@ -8,14 +8,15 @@ use Rattle.sieve_syntax.specs.Capabilities.{Capabilities}
 use Rattle.sieve_syntax.specs.Lexemes.{Lexeme, keyword, mark}
 use Rattle.sieve_syntax.specs.Arguments.{IsArgument, AreArguments}
 use Rattle.sieve_syntax.specs.Chains.{Chain}
-use Rattle.sieve_syntax.specs.Extension.{IsExtensionTest}
+use Rattle.sieve_syntax.specs.Extension.{IsExtensionTest, MayAsk}
+use Rattle.sieve_syntax.specs.declared.extension.ExtensionTest.{ExtensionTest}
 use Rattle.sieve_syntax.specs.Rows.{IsTableRow}
 use Rattle.sieve_syntax.specs.declared.tree.checks.MailCheck.TheVariants as L
 use Rattle.sieve_syntax.specs.Table.{IsPlainTest}
 use Rattle.sieve_syntax.specs.Tree.{TestTree, yes, no, looks, not_of, all_of, any_of, Tests, no_tests, test, list_depth, lists_depth, not_depth, nots_depth}
 use Rattle.sieve_syntax.specs.declared.error.ParseError.{ParseError}
 use Rattle.sieve_syntax.specs.declared.tree.test.Test.{Test}
-use Rattle.sieve_syntax.specs.Parsing.{Parses, ParsesMore}
+use Rattle.sieve_syntax.specs.Parsing.{OnParseFault, Parses, ParsesMore}
 use Rattle.sieve_syntax.specs.View.{test_view, tests_view, tests_of}
 use Rattle.sieve_syntax.specs.Valid.{MayTest, MayAllTest}
 use Rattle.sieve_syntax.specs.Tests.{IsLeafTest, IsTest, AreTests, AreMoreTests, ReadsTest}
@@ -44,7 +45,7 @@ plain_leaf W.Address args t is = subst IsLeaf (sym is.tree_is) tt
 plain_leaf _ args t is = subst IsLeaf (sym is.tree_is) tt
 
 -- the row of a word that isn't one of the base language's tests is one of the extensions
-pub row_beyond : (word : Keyword) → (word ≡ W.True → ⊥) → (word ≡ W.False → ⊥) → (word ≡ W.Size → ⊥) → (word ≡ W.Exists → ⊥) → (word ≡ W.Header → ⊥) → (word ≡ W.Address → ⊥)
+row_beyond : (word : Keyword) → (word ≡ W.True → ⊥) → (word ≡ W.False → ⊥) → (word ≡ W.Size → ⊥) → (word ≡ W.Exists → ⊥) → (word ≡ W.Header → ⊥) → (word ≡ W.Address → ⊥)
     → (args : List Argument) (t : TestTree) → IsPlainTest word args t → IsTableRow (IsExtensionTest word) (λ extended. looks (L.Extension extended)) args t
 row_beyond W.True a b c d e f args t is = absurd (a refl)
 row_beyond W.False a b c d e f args t is = absurd (b refl)
@@ -54,7 +55,7 @@ row_beyond W.Header a b c d e f args t is = absurd (e refl)
 row_beyond W.Address a b c d e f args t is = absurd (f refl)
 row_beyond _ a b c d e f args t is = is
 
-pub row_within : (word : Keyword) → (word ≡ W.True → ⊥) → (word ≡ W.False → ⊥) → (word ≡ W.Size → ⊥) → (word ≡ W.Exists → ⊥) → (word ≡ W.Header → ⊥) → (word ≡ W.Address → ⊥)
+row_within : (word : Keyword) → (word ≡ W.True → ⊥) → (word ≡ W.False → ⊥) → (word ≡ W.Size → ⊥) → (word ≡ W.Exists → ⊥) → (word ≡ W.Header → ⊥) → (word ≡ W.Address → ⊥)
     → (args : List Argument) (t : TestTree) → IsTableRow (IsExtensionTest word) (λ extended. looks (L.Extension extended)) args t → IsPlainTest word args t
 row_within W.True a b c d e f args t is = absurd (a refl)
 row_within W.False a b c d e f args t is = absurd (b refl)
@@ -63,6 +64,19 @@ row_within W.Exists a b c d e f args t is = absurd (d refl)
 row_within W.Header a b c d e f args t is = absurd (e refl)
 row_within W.Address a b c d e f args t is = absurd (f refl)
 row_within _ a b c d e f args t is = is
+
+-- a word that isn't one of the base language's tests stands for what the extensions say
+module _ (word : Keyword) (no_true : word ≡ W.True → ⊥) (no_false : word ≡ W.False → ⊥) (no_size : word ≡ W.Size → ⊥) (no_exists : word ≡ W.Exists → ⊥) (no_header : word ≡ W.Header → ⊥) (no_address : word ≡ W.Address → ⊥) (args : List Argument) where
+  pub beyond_fault : (granted : Capabilities) (e : ParseError) → OnParseFault e ((x : ExtensionTest) → IsExtensionTest word args x → MayAsk granted x → ⊥) → OnParseFault e ((t : TestTree) → IsPlainTest word args t → MayTest granted t → ⊥)
+  beyond_fault granted e h =
+      fault_on e ((x : ExtensionTest) → IsExtensionTest word args x → MayAsk granted x → ⊥) ((t : TestTree) → IsPlainTest word args t → MayTest granted t → ⊥)
+      (λ none t is may. let row = row_beyond word no_true no_false no_size no_exists no_header no_address args t is in none row.value row.is (subst (MayTest granted) row.tree_is may)) h
+
+  pub beyond_found : (x : ExtensionTest) → IsExtensionTest word args x → IsPlainTest word args (looks (L.Extension x))
+  beyond_found x is = row_within word no_true no_false no_size no_exists no_header no_address args (looks (L.Extension x)) (record { value = x; is = is; tree_is = refl })
+
+  pub beyond_only : (x : ExtensionTest) → ((y : ExtensionTest) → IsExtensionTest word args y → y ≡ x) → (t : TestTree) → IsPlainTest word args t → t ≡ looks (L.Extension x)
+  beyond_only x only t is = let row = row_beyond word no_true no_false no_size no_exists no_header no_address args t is in row.tree_is ∙ ap (λ y. looks (L.Extension y)) (only row.value row.is)
 
 leaf_lists : (t : TestTree) → IsLeaf t → list_depth t ≡ 0
 leaf_lists yes leaf = refl

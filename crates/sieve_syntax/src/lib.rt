@@ -22,8 +22,6 @@ pub use mail_dates::DatePart;
 pub use script::{Script, check};
 pub use sieve_lex::{FaultKind, ScriptError, ScriptFault};
 pub use tree::action::{Action, Redirect};
-pub use tree::checks::{
-    Address, AddressPart, Bound, Collation, Header, MailCheck, Matching, Size,
-};
+pub use tree::checks::{Address, AddressPart, Bound, Collation, Header, MailCheck, Matching, Size};
 pub use tree::command::{Branch, Command};
 pub use tree::test::Test;

@@ -7,8 +7,8 @@ ghost use Rattle.sieve_syntax.specs.Lexemes.{IsFirstLexeme, Lexemes, keyword, ma
 ghost use Rattle.sieve_syntax.specs.Parsing.{IfParseFault};
 
 use crate::error::ParseError;
-use crate::parser::argument::Argument;
 use crate::extension::encoded_character::{Decoding, seen_of};
+use crate::parser::argument::Argument;
 use crate::parser::lexeme::Lexeme;
 use crate::table::keyword::Keyword;
 use sieve_lex::{Cursor, FaultKind, Mark, Packed};

@@ -9,6 +9,7 @@ use Rattle.sieve_syntax.specs.Extension.Date.{IsDateTest, IsCurrentDateTest}
 use Rattle.sieve_syntax.specs.Extension.Imap4flags.{IsHasFlagTest}
 use Rattle.sieve_syntax.specs.Tree.{yes, no, looks}
 use Rattle.sieve_syntax.specs.Valid.{MayCheck, MayTest}
+use Rattle.sieve_syntax.proofs.TestLemmas.{beyond_fault, beyond_found, beyond_only}
 use Rattle.sieve_syntax.proofs.TableLemmas.{row_only, row_fault, fit_fault, bare_fault}
 use Rattle.sieve_syntax.proofs.ViewLemmas.{view-True, view-False, view-Check}
 use Rattle.sieve_syntax.proofs.table.test.plain_test.Goals as goal
@@ -84,3 +85,19 @@ returns-in_ok-address-in-Address-clause-found c = rw (view-Check, c.in-Address.i
 
 pub returns-in_ok-address-in-Address-clause-only : goal.returns-in_ok-address-in-Address-clause-only
 returns-in_ok-address-in-Address-clause-only c = rw (view-Check, c.in-Address.is) (row_only IsAddressTest (λ x. looks (C.Address x)) _ (MayTest (granted_by c.args.granted.now)) _ c.in_ok-address-in-Address.ensures.2)
+
+pub returns-in_err-test-in_default-clause-fault : goal.returns-in_err-test-in_default-clause-fault
+returns-in_err-test-in_default-clause-fault c =
+    let d = c.in_default in
+    let p = err_from_is_err_and c.from_residual-in_err-test-in_default.result c.from_residual-in_err-test-in_default.ensures.1 in
+    rw (p.1, p.2) (beyond_fault c.args.keyword d.not-True d.not-False d.not-Size d.not-Exists d.not-Header d.not-Address c.args.args.now (granted_by c.args.granted.now) _ c.in_err-test-in_default.ensures)
+
+pub returns-in_ok-test-in_default-clause-found : goal.returns-in_ok-test-in_default-clause-found
+returns-in_ok-test-in_default-clause-found c =
+    let d = c.in_default in
+    rw view-Check (beyond_found c.args.keyword d.not-True d.not-False d.not-Size d.not-Exists d.not-Header d.not-Address c.args.args.now _ c.in_ok-test-in_default.ensures.0, c.in_ok-test-in_default.ensures.1)
+
+pub returns-in_ok-test-in_default-clause-only : goal.returns-in_ok-test-in_default-clause-only
+returns-in_ok-test-in_default-clause-only c =
+    let d = c.in_default in
+    rw view-Check (beyond_only c.args.keyword d.not-True d.not-False d.not-Size d.not-Exists d.not-Header d.not-Address c.args.args.now _ c.in_ok-test-in_default.ensures.2)
