@@ -9,7 +9,7 @@ returns c =
     let flags = texts_size c.args.flags.now in
     let keys = texts_size c.args.test.now.keys in
     let octets : c.args.left - c.in_ok-rest.rest ≡ flags = omega (arith, c.in_ok-rest.ensures) in
-    let looked = rw c.as_slice.ensures at c.in_ok-left.ensures in
-    let tried = rw c.as_slice.ensures at c.spend_words.ensures in
+    let looked = rw c.as_slice-keys.ensures at c.in_ok-left.ensures in
+    let tried = rw c.as_slice-keys.ensures at c.spend_words.ensures in
     left_then c.args.left c.in_ok-left.left (flags + keys) _ c.spend_words.result (omega (arith, c.in_ok-rest.ensures, looked))
     (subst (λ o. IsLeft c.in_ok-left.left (sum_by (tried_work o) c.args.test.now.keys) c.spend_words.result) octets tried)
