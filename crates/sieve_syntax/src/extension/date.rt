@@ -129,7 +129,7 @@ fn permitted_current(
 }
 
 /// Reads the arguments of `date`.
-pub(crate) fn read_date_test(alloc: Global, args: &[Argument<'_>]) -> Result<DateTest, ParseError>
+fn read_date_test(alloc: Global, args: &[Argument<'_>]) -> Result<DateTest, ParseError>
     ensures { FindsValue (IsDateTest args.now) result }
 {
     let allowed = &[TagGroup::Zone, TagGroup::Comparator, TagGroup::Matching];
@@ -157,10 +157,7 @@ fn date_from(
 }
 
 /// Reads the arguments of `currentdate`.
-pub(crate) fn read_current_date(
-    alloc: Global,
-    args: &[Argument<'_>],
-) -> Result<CurrentDate, ParseError>
+fn read_current_date(alloc: Global, args: &[Argument<'_>]) -> Result<CurrentDate, ParseError>
     ensures { FindsValue (IsCurrentDateTest args.now) result }
 {
     let allowed = &[TagGroup::Zone, TagGroup::Comparator, TagGroup::Matching];
@@ -211,7 +208,7 @@ fn date_part(name: &[u8]) -> Result<DatePart, ParseError>
 }
 
 /// The zone in which a date is looked at, or the default.
-pub(crate) fn given_zone(tag_values: &[TagValue]) -> DateZone
+fn given_zone(tag_values: &[TagValue]) -> DateZone
     ensures { result ≡ zone_in tag_values.now }
 {
     for tag_value in tag_values {

@@ -80,10 +80,7 @@ fn permitted_envelope(
 }
 
 /// Reads the arguments of `envelope`.
-pub(crate) fn read_envelope(
-    alloc: Global,
-    args: &[Argument<'_>],
-) -> Result<EnvelopeTest, ParseError>
+fn read_envelope(alloc: Global, args: &[Argument<'_>]) -> Result<EnvelopeTest, ParseError>
     ensures { FindsValue (IsEnvelopeTest args.now) result }
 {
     let allowed = &[TagGroup::Comparator, TagGroup::Part, TagGroup::Matching];

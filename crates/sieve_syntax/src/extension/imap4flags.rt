@@ -74,7 +74,7 @@ fn permitted_has_flag(
 }
 
 /// Reads the arguments of `hasflag`.
-pub(crate) fn read_has_flag(alloc: Global, args: &[Argument<'_>]) -> Result<HasFlag, ParseError>
+fn read_has_flag(alloc: Global, args: &[Argument<'_>]) -> Result<HasFlag, ParseError>
     ensures { FindsValue (IsHasFlagTest args.now) result }
 {
     let (tag_values, positional) = split_tags(
