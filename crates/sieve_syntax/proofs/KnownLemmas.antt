@@ -12,11 +12,9 @@ use Rattle.sieve_syntax.specs.declared.table.tag_group.TagValue.{TagValue}
 use Rattle.sieve_syntax.specs.declared.table.tag_group.TagValue.TheVariants as S
 use Rattle.sieve_syntax.specs.declared.table.tag_group.TagGroup.{TagGroup}
 use Rattle.sieve_syntax.specs.Chains.{Chain}
-use Rattle.sieve_syntax.specs.Lexemes.{tag}
 use Rattle.sieve_syntax.specs.Positional.{both_there, string_of, one_number, one_text, one_list, two_lists, text_and_list, two_texts_and_list}
 use Rattle.sieve_syntax.specs.Rows.{IsTableRow}
 use Rattle.sieve_syntax.specs.Tags.{strings_of, IsTagValue, IsAllowed, IsCall}
-use Rattle.sieve_syntax.specs.Tree.{no}
 
 -- a tag that the grammar knows
 abbrev pub IsTag : Tag → Type 0

@@ -1,5 +1,5 @@
 -- What a valid tree has to be besides what the grammar demands.
-use Rattle.std.specs.Prelude.{◌≤◌, ℕ, not, is_some, List, [], ◌++◌, All}
+use Rattle.std.specs.Prelude.{◌≤◌, ℕ, is_some, List, [], ◌++◌, All}
 use Rattle.sieve_syntax.specs.declared.tree.action.Action.{Action}
 use Rattle.sieve_syntax.specs.declared.tree.action.Action.TheVariants.{Keep, Discard, FileInto, Redirect, Vacation, SetFlag, AddFlag, RemoveFlag}
 use Rattle.sieve_syntax.specs.declared.tree.checks.MailCheck.{MailCheck}

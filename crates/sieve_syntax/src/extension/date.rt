@@ -7,10 +7,14 @@ ghost use Rattle.sieve_syntax.specs.declared.parser.argument.Argument.TheVariant
 ghost use Rattle.sieve_syntax.specs.Capabilities.{granted_by};
 ghost use Rattle.sieve_syntax.specs.Extension.Date.{IsCurrentDateTest, IsDateTest, MayAskCurrentDate, MayAskDate, SaysCurrentDate, SaysDate, zone_in};
 ghost use Rattle.sieve_syntax.specs.Extension.Date as spec;
+ghost use Rattle.sieve_syntax.specs.declared.extension.ExtensionTest.TheVariants as X;
+ghost use Rattle.sieve_syntax.specs.Extension.{MayAsk};
 ghost use Rattle.sieve_syntax.specs.Parsing.{FindsFit, FindsValue, IfParseFault};
+ghost use Rattle.sieve_syntax.specs.Rows.{IsTableRow};
 
 use crate::capability::{Capabilities, Capability};
 use crate::error::ParseError;
+use crate::extension::ExtensionTest;
 use crate::parser::argument::Argument;
 use crate::table::comparators::require_match;
 use crate::table::positional::{text_and_list, two_texts_and_list};
@@ -66,11 +70,23 @@ pub enum DateZone {
     Original,
 }
 
-/// The arguments of `date`, if it is permitted.
+/// The test `date`, if it is permitted.
 ///
 /// Syntax: date [<":zone" <time-zone: string>> / ":originalzone"] [COMPARATOR] [MATCH-TYPE] <header-name: string>
 /// <date-part: string> <key-list: string-list>; requires `date` (RFC 5260, 4).
-pub(crate) fn permitted_date(
+pub(crate) fn date_test(
+    alloc: Global,
+    args: &[Argument<'_>],
+    granted: &Capabilities,
+) -> Result<ExtensionTest, ParseError>
+    ensures { FindsFit (IsTableRow IsDateTest X.Date args.now) (MayAsk (granted_by granted.now)) result }
+{
+    let date = permitted_date(alloc, args, granted)?;
+    Ok(ExtensionTest::Date(date))
+}
+
+/// The arguments of `date`, if it is permitted.
+fn permitted_date(
     alloc: Global,
     args: &[Argument<'_>],
     granted: &Capabilities,
@@ -83,11 +99,23 @@ pub(crate) fn permitted_date(
     Ok(date)
 }
 
-/// The arguments of `currentdate`, if it is permitted.
+/// The test `currentdate`, if it is permitted.
 ///
 /// Syntax: currentdate [":zone" <time-zone: string>] [COMPARATOR] [MATCH-TYPE] <date-part: string> <key-list: string-list>;
 /// requires `date` (RFC 5260, 5).
-pub(crate) fn permitted_current(
+pub(crate) fn current_date_test(
+    alloc: Global,
+    args: &[Argument<'_>],
+    granted: &Capabilities,
+) -> Result<ExtensionTest, ParseError>
+    ensures { FindsFit (IsTableRow IsCurrentDateTest X.CurrentDate args.now) (MayAsk (granted_by granted.now)) result }
+{
+    let current = permitted_current(alloc, args, granted)?;
+    Ok(ExtensionTest::CurrentDate(current))
+}
+
+/// The arguments of `currentdate`, if it is permitted.
+fn permitted_current(
     alloc: Global,
     args: &[Argument<'_>],
     granted: &Capabilities,
@@ -101,7 +129,7 @@ pub(crate) fn permitted_current(
 }
 
 /// Reads the arguments of `date`.
-pub(crate) fn read_date_test(alloc: Global, args: &[Argument<'_>]) -> Result<DateTest, ParseError>
+fn read_date_test(alloc: Global, args: &[Argument<'_>]) -> Result<DateTest, ParseError>
     ensures { FindsValue (IsDateTest args.now) result }
 {
     let allowed = &[TagGroup::Zone, TagGroup::Comparator, TagGroup::Matching];
@@ -129,10 +157,7 @@ fn date_from(
 }
 
 /// Reads the arguments of `currentdate`.
-pub(crate) fn read_current_date(
-    alloc: Global,
-    args: &[Argument<'_>],
-) -> Result<CurrentDate, ParseError>
+fn read_current_date(alloc: Global, args: &[Argument<'_>]) -> Result<CurrentDate, ParseError>
     ensures { FindsValue (IsCurrentDateTest args.now) result }
 {
     let allowed = &[TagGroup::Zone, TagGroup::Comparator, TagGroup::Matching];
@@ -183,7 +208,7 @@ fn date_part(name: &[u8]) -> Result<DatePart, ParseError>
 }
 
 /// The zone in which a date is looked at, or the default.
-pub(crate) fn given_zone(tag_values: &[TagValue]) -> DateZone
+fn given_zone(tag_values: &[TagValue]) -> DateZone
     ensures { result ≡ zone_in tag_values.now }
 {
     for tag_value in tag_values {

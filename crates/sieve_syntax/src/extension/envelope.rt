@@ -5,10 +5,14 @@ ghost use Rattle.sieve_syntax.specs.Capabilities.{granted_by};
 ghost use Rattle.sieve_syntax.specs.Extension.Envelope.{IsEnvelopeTest, MayAskEnvelope, NamesParts, SaysEnvelope};
 ghost use Rattle.sieve_syntax.specs.Extension.Envelope as spec;
 ghost use Rattle.sieve_syntax.specs.Lexemes.{same_name};
+ghost use Rattle.sieve_syntax.specs.declared.extension.ExtensionTest.TheVariants as X;
+ghost use Rattle.sieve_syntax.specs.Extension.{MayAsk};
 ghost use Rattle.sieve_syntax.specs.Parsing.{FindsFit, FindsValue};
+ghost use Rattle.sieve_syntax.specs.Rows.{IsTableRow};
 
 use crate::capability::{Capabilities, Capability};
 use crate::error::ParseError;
+use crate::extension::ExtensionTest;
 use crate::extension::subaddress::require_part;
 use crate::parser::argument::Argument;
 use crate::table::comparators::require_match;
@@ -45,11 +49,23 @@ pub struct EnvelopeParts {
     pub to: bool,
 }
 
-/// The arguments of `envelope`, if it is permitted.
+/// The test `envelope`, if it is permitted.
 ///
 /// Syntax: envelope [COMPARATOR] [ADDRESS-PART] [MATCH-TYPE] <envelope-part: string-list> <key-list: string-list>;
 /// requires `envelope`, and `:user` and `:detail` require `subaddress` (RFC 5228, 5.4; RFC 5233).
-pub(crate) fn permitted_envelope(
+pub(crate) fn envelope_test(
+    alloc: Global,
+    args: &[Argument<'_>],
+    granted: &Capabilities,
+) -> Result<ExtensionTest, ParseError>
+    ensures { FindsFit (IsTableRow IsEnvelopeTest X.Envelope args.now) (MayAsk (granted_by granted.now)) result }
+{
+    let envelope = permitted_envelope(alloc, args, granted)?;
+    Ok(ExtensionTest::Envelope(envelope))
+}
+
+/// The arguments of `envelope`, if it is permitted.
+fn permitted_envelope(
     alloc: Global,
     args: &[Argument<'_>],
     granted: &Capabilities,
@@ -64,10 +80,7 @@ pub(crate) fn permitted_envelope(
 }
 
 /// Reads the arguments of `envelope`.
-pub(crate) fn read_envelope(
-    alloc: Global,
-    args: &[Argument<'_>],
-) -> Result<EnvelopeTest, ParseError>
+fn read_envelope(alloc: Global, args: &[Argument<'_>]) -> Result<EnvelopeTest, ParseError>
     ensures { FindsValue (IsEnvelopeTest args.now) result }
 {
     let allowed = &[TagGroup::Comparator, TagGroup::Part, TagGroup::Matching];

@@ -56,7 +56,7 @@ pub(crate) fn permitted_filing(
 }
 
 /// Reads the arguments of `fileinto`.
-pub(crate) fn read_file_into(alloc: Global, args: &[Argument<'_>]) -> Result<FileInto, ParseError>
+fn read_file_into(alloc: Global, args: &[Argument<'_>]) -> Result<FileInto, ParseError>
     ensures { FindsValue (IsFileInto args.now) result }
 {
     let allowed = &[TagGroup::Copy, TagGroup::Create, TagGroup::Flags];

@@ -2,10 +2,14 @@
 ghost use Rattle.std.specs.Prelude.{◌≡◌, IfOk};
 ghost use Rattle.sieve_syntax.specs.Capabilities.{granted_by};
 ghost use Rattle.sieve_syntax.specs.Extension.Imap4flags.{IsFlagList, IsHasFlagTest, MayAskHasFlag, MaySetFlags, SaysHasFlag, flags_in};
+ghost use Rattle.sieve_syntax.specs.declared.extension.ExtensionTest.TheVariants as X;
+ghost use Rattle.sieve_syntax.specs.Extension.{MayAsk};
 ghost use Rattle.sieve_syntax.specs.Parsing.{FindsFit, FindsValue};
+ghost use Rattle.sieve_syntax.specs.Rows.{IsTableRow};
 
 use crate::capability::{Capabilities, Capability};
 use crate::error::ParseError;
+use crate::extension::ExtensionTest;
 use crate::parser::argument::Argument;
 use crate::table::comparators::require_match;
 use crate::table::positional::{list, read_list};
@@ -41,10 +45,22 @@ pub(crate) fn permitted_flags(
     Ok(texts)
 }
 
-/// The arguments of `hasflag`, if it is permitted.
+/// The test `hasflag`, if it is permitted.
 ///
 /// Syntax: hasflag [MATCH-TYPE] [COMPARATOR] <list-of-flags: string-list>; requires `imap4flags` (RFC 5232, 4).
-pub(crate) fn permitted_has_flag(
+pub(crate) fn has_flag_test(
+    alloc: Global,
+    args: &[Argument<'_>],
+    granted: &Capabilities,
+) -> Result<ExtensionTest, ParseError>
+    ensures { FindsFit (IsTableRow IsHasFlagTest X.HasFlag args.now) (MayAsk (granted_by granted.now)) result }
+{
+    let flag = permitted_has_flag(alloc, args, granted)?;
+    Ok(ExtensionTest::HasFlag(flag))
+}
+
+/// The arguments of `hasflag`, if it is permitted.
+fn permitted_has_flag(
     alloc: Global,
     args: &[Argument<'_>],
     granted: &Capabilities,
@@ -58,7 +74,7 @@ pub(crate) fn permitted_has_flag(
 }
 
 /// Reads the arguments of `hasflag`.
-pub(crate) fn read_has_flag(alloc: Global, args: &[Argument<'_>]) -> Result<HasFlag, ParseError>
+fn read_has_flag(alloc: Global, args: &[Argument<'_>]) -> Result<HasFlag, ParseError>
     ensures { FindsValue (IsHasFlagTest args.now) result }
 {
     let (tag_values, positional) = split_tags(

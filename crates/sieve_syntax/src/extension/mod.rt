@@ -18,10 +18,10 @@ pub mod vacation_seconds;
 
 use crate::capability::Capabilities;
 use crate::error::ParseError;
-use crate::extension::date::{CurrentDate, DateTest, permitted_current, permitted_date};
-use crate::extension::envelope::{EnvelopeTest, permitted_envelope};
-use crate::extension::imap4flags::{HasFlag, permitted_has_flag};
-use crate::extension::mailbox::permitted_names;
+use crate::extension::date::{CurrentDate, DateTest, current_date_test, date_test};
+use crate::extension::envelope::{EnvelopeTest, envelope_test};
+use crate::extension::imap4flags::{HasFlag, has_flag_test};
+use crate::extension::mailbox::mailboxes_test;
 use crate::parser::argument::Argument;
 use crate::table::keyword::Keyword;
 use octets::Texts;
@@ -53,26 +53,11 @@ pub(crate) fn extension_test(
     ensures { FindsFit (IsExtensionTest keyword args.now) (MayAsk (granted_by granted.now)) result }
 {
     match keyword {
-        Keyword::Envelope => {
-            let envelope = permitted_envelope(alloc, args, granted)?;
-            Ok(ExtensionTest::Envelope(envelope))
-        }
-        Keyword::MailboxExists => {
-            let names = permitted_names(alloc, args, granted)?;
-            Ok(ExtensionTest::MailboxExists(names))
-        }
-        Keyword::Date => {
-            let date = permitted_date(alloc, args, granted)?;
-            Ok(ExtensionTest::Date(date))
-        }
-        Keyword::CurrentDate => {
-            let current = permitted_current(alloc, args, granted)?;
-            Ok(ExtensionTest::CurrentDate(current))
-        }
-        Keyword::HasFlag => {
-            let flag = permitted_has_flag(alloc, args, granted)?;
-            Ok(ExtensionTest::HasFlag(flag))
-        }
+        Keyword::Envelope => envelope_test(alloc, args, granted),
+        Keyword::MailboxExists => mailboxes_test(alloc, args, granted),
+        Keyword::Date => date_test(alloc, args, granted),
+        Keyword::CurrentDate => current_date_test(alloc, args, granted),
+        Keyword::HasFlag => has_flag_test(alloc, args, granted),
         _ => Err(ParseError::Fault(FaultKind::UnknownTest)),
     }
 }

@@ -6,7 +6,6 @@ ghost use Rattle.sieve_syntax.specs.Tree.{CommandTree};
 ghost use Rattle.sieve_syntax.specs.View.{command_view};
 ghost use Rattle.sieve_syntax.specs.Table.{IsPlainCommand, IsKeep, IsRedirect};
 ghost use Rattle.sieve_syntax.specs.Valid.{MayAct, MayStand};
-ghost use Rattle.sieve_syntax.specs.declared.capability.Capability.TheVariants.{Imap4flags};
 ghost use Rattle.sieve_syntax.specs.declared.tree.action.Action.TheVariants as D;
 
 use crate::capability::{Capabilities, Capability};

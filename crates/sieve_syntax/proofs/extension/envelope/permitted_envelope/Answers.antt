@@ -1,6 +1,6 @@
 use Rattle.std.proofs.Common.{◌≡◌, true}
 use Rattle.std.proofs.lemmas.Result.{err_from_is_err_and}
-use Rattle.sieve_syntax.specs.Capabilities.{granted_by, Permits}
+use Rattle.sieve_syntax.specs.Capabilities.{granted_by}
 use Rattle.sieve_syntax.specs.Extension.Envelope.{IsEnvelopeTest}
 use Rattle.sieve_syntax.specs.Extension.Subaddress.{MayNamePart}
 use Rattle.sieve_syntax.specs.Comparators.{MayMatch}

@@ -1,12 +1,11 @@
 use Rattle.std.proofs.lemmas.Result.{err_from_is_err_and}
-use Rattle.sieve_syntax.specs.Capabilities.{granted_by, Permits}
+use Rattle.sieve_syntax.specs.Capabilities.{granted_by}
 use Rattle.sieve_syntax.specs.declared.tree.checks.MailCheck.TheVariants as C
 use Rattle.sieve_syntax.specs.Table.{IsAddressTest}
 use Rattle.sieve_syntax.specs.Extension.Subaddress.{MayNamePart}
 use Rattle.sieve_syntax.specs.Comparators.{MayMatch}
 use Rattle.sieve_syntax.specs.Valid.{MayCheck}
 use Rattle.sieve_syntax.proofs.FaultLemmas.{fault_on, none_fits, one_unfit}
-use Rattle.sieve_syntax.specs.declared.capability.Capability.TheVariants as Q
 use Rattle.sieve_syntax.proofs.table.test.permitted_address.Goals as goal
 
 pub returns-in_err-address : goal.returns-in_err-address

@@ -4,9 +4,6 @@ use Rattle.sieve_syntax.specs.Capabilities.{granted_by}
 use Rattle.sieve_syntax.specs.declared.tree.checks.MailCheck.TheVariants as C
 use Rattle.sieve_syntax.specs.Table.{IsSizeTest, IsHeaderTest, IsAddressTest}
 use Rattle.sieve_syntax.specs.Rows.{IsList}
-use Rattle.sieve_syntax.specs.Extension.Envelope.{IsEnvelopeTest}
-use Rattle.sieve_syntax.specs.Extension.Date.{IsDateTest, IsCurrentDateTest}
-use Rattle.sieve_syntax.specs.Extension.Imap4flags.{IsHasFlagTest}
 use Rattle.sieve_syntax.specs.Tree.{yes, no, looks}
 use Rattle.sieve_syntax.specs.Valid.{MayCheck, MayTest}
 use Rattle.sieve_syntax.proofs.TestLemmas.{beyond_fault, beyond_found, beyond_only}
