@@ -22,18 +22,18 @@ use Rattle.sieve_syntax.specs.declared.capability.Capability.TheVariants as C
 use Rattle.sieve_syntax.specs.declared.extension.ExtensionTest.{ExtensionTest}
 use Rattle.sieve_syntax.specs.declared.extension.ExtensionTest.TheVariants as X
 use Rattle.sieve_syntax.specs.Capabilities.{Capabilities}
-use Rattle.sieve_syntax.specs.Rows.{IsList, IsTableRow}
+use Rattle.sieve_syntax.specs.Rows.{IsTableRow}
 use Rattle.sieve_syntax.specs.Extension.Date.{IsDateTest, IsCurrentDateTest, MayAskDate, MayAskCurrentDate}
 use Rattle.sieve_syntax.specs.Extension.Envelope.{IsEnvelopeTest, MayAskEnvelope}
 use Rattle.sieve_syntax.specs.Extension.Imap4flags.{IsHasFlagTest, MayAskHasFlag}
-use Rattle.sieve_syntax.specs.Extension.Mailbox.{MayAskMailboxes}
+use Rattle.sieve_syntax.specs.Extension.Mailbox.{IsMailboxesTest, MayAskMailboxes}
 
 -- ---- tests
 
 -- the tests of the extensions: what a word with its arguments stands for
 abbrev pub IsExtensionTest : Keyword → List Argument → ExtensionTest → Type 0
 IsExtensionTest W.Envelope = IsTableRow IsEnvelopeTest X.Envelope
-IsExtensionTest W.MailboxExists = IsTableRow IsList X.MailboxExists
+IsExtensionTest W.MailboxExists = IsTableRow IsMailboxesTest X.MailboxExists
 IsExtensionTest W.Date = IsTableRow IsDateTest X.Date
 IsExtensionTest W.CurrentDate = IsTableRow IsCurrentDateTest X.CurrentDate
 IsExtensionTest W.HasFlag = IsTableRow IsHasFlagTest X.HasFlag

@@ -4,8 +4,8 @@ use Rattle.sieve_syntax.specs.declared.parser.argument.Argument.{Argument}
 use Rattle.sieve_syntax.specs.Tags.{IsCall}
 use Rattle.sieve_syntax.specs.Positional.{one_list}
 
--- require <capabilities: string-list>; exists <header-names: string-list>; mailboxexists <mailbox-names: string-list>;
--- setflag <list-of-flags: string-list>, and addflag and removeflag alike (RFC 5228, 3.2, 5.5; RFC 5490, 3.1; RFC 5232, 3.1 to 3.3)
+-- one list of strings and nothing else, as of require <capabilities: string-list> and exists <header-names: string-list>
+-- (RFC 5228, 3.2 and 5.5)
 abbrev pub IsList : List Argument → List (List ℕ) → Type 0
 IsList = IsCall [] (λ tag_values positional texts. one_list positional ≡ Some texts)
 

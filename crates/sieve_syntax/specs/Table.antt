@@ -19,6 +19,7 @@ use Rattle.sieve_syntax.specs.Extension.Imap4flags.{flags_in}
 use Rattle.sieve_syntax.specs.NamedAddresses.{Names}
 use Rattle.sieve_syntax.specs.Extension.Vacation.{IsVacation}
 use Rattle.sieve_syntax.specs.Extension.FileInto.{IsFileInto}
+use Rattle.sieve_syntax.specs.Extension.Imap4flags.{IsFlagList}
 use Rattle.sieve_syntax.specs.Extension.{IsExtensionTest}
 use Rattle.sieve_syntax.specs.Rows.{IsList, IsTableRow, IsBareWord}
 use Rattle.sieve_syntax.specs.Tree.{TestTree, yes, no, looks, CommandTree, require, stop, act}
@@ -91,7 +92,7 @@ IsPlainCommand W.Discard = IsBareWord (act D.Discard)
 IsPlainCommand W.FileInto = IsTableRow IsFileInto (λ filing. act (D.FileInto filing))
 IsPlainCommand W.Redirect = IsTableRow IsRedirect (λ redirect. act (D.Redirect redirect))
 IsPlainCommand W.Vacation = IsTableRow IsVacation (λ vacation. act (D.Vacation vacation))
-IsPlainCommand W.SetFlag = IsTableRow IsList (λ texts. act (D.SetFlag texts))
-IsPlainCommand W.AddFlag = IsTableRow IsList (λ texts. act (D.AddFlag texts))
-IsPlainCommand W.RemoveFlag = IsTableRow IsList (λ texts. act (D.RemoveFlag texts))
+IsPlainCommand W.SetFlag = IsTableRow IsFlagList (λ texts. act (D.SetFlag texts))
+IsPlainCommand W.AddFlag = IsTableRow IsFlagList (λ texts. act (D.AddFlag texts))
+IsPlainCommand W.RemoveFlag = IsTableRow IsFlagList (λ texts. act (D.RemoveFlag texts))
 IsPlainCommand _ = λ args command. ⊥

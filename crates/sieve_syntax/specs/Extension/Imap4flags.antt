@@ -9,6 +9,7 @@ use Rattle.sieve_syntax.specs.declared.extension.imap4flags.HasFlag.{HasFlag}
 use Rattle.sieve_syntax.specs.Capabilities.{Capabilities}
 use Rattle.sieve_syntax.specs.Comparators.{MayMatch}
 use Rattle.sieve_syntax.specs.Positional.{one_list}
+use Rattle.sieve_syntax.specs.Rows.{IsList}
 use Rattle.sieve_syntax.specs.TagValues.{comparator_in, matching_in}
 use Rattle.sieve_syntax.specs.Tags.{IsCall}
 
@@ -31,6 +32,10 @@ IsHasFlagTest = IsCall (P.Comparator ∷ (P.Matching ∷ [])) SaysHasFlag
 abbrev pub MayAskHasFlag : Capabilities → HasFlag → Type 0
 MayAskHasFlag granted flag = (granted C.Imap4flags ≡ true) × MayMatch granted flag.comparator flag.matching
 
--- what has to be granted for an action on the flags that are set
+-- setflag <list-of-flags: string-list>, and addflag and removeflag alike (RFC 5232, 3.1 to 3.3)
+abbrev pub IsFlagList : List Argument → List (List ℕ) → Type 0
+IsFlagList = IsList
+
+-- what has to be granted for them
 abbrev pub MaySetFlags : Capabilities → Type 0
 MaySetFlags granted = granted C.Imap4flags ≡ true

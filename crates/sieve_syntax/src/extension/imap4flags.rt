@@ -1,9 +1,8 @@
 //! `imap4flags`: `:flags` of `keep` and `fileinto`, `setflag`, `addflag`, `removeflag`, and the test `hasflag` (RFC 5232).
 ghost use Rattle.std.specs.Prelude.{◌≡◌, IfOk};
 ghost use Rattle.sieve_syntax.specs.Capabilities.{granted_by};
-ghost use Rattle.sieve_syntax.specs.Extension.Imap4flags.{IsHasFlagTest, MayAskHasFlag, MaySetFlags, SaysHasFlag, flags_in};
+ghost use Rattle.sieve_syntax.specs.Extension.Imap4flags.{IsFlagList, IsHasFlagTest, MayAskHasFlag, MaySetFlags, SaysHasFlag, flags_in};
 ghost use Rattle.sieve_syntax.specs.Parsing.{FindsFit, FindsValue};
-ghost use Rattle.sieve_syntax.specs.Rows.{IsList};
 
 use crate::capability::{Capabilities, Capability};
 use crate::error::ParseError;
@@ -35,7 +34,7 @@ pub(crate) fn permitted_flags(
     args: &[Argument<'_>],
     granted: &Capabilities,
 ) -> Result<Texts, ParseError>
-    ensures { FindsFit (IsList args.now) (λ texts. MaySetFlags (granted_by granted.now)) result }
+    ensures { FindsFit (IsFlagList args.now) (λ texts. MaySetFlags (granted_by granted.now)) result }
 {
     granted.require(Capability::Imap4flags)?;
     let texts = read_list(alloc, args)?;

@@ -1,9 +1,8 @@
 //! `mailbox`: the tag `:create` of `fileinto`, and the test `mailboxexists` (RFC 5490, 3).
 ghost use Rattle.std.specs.Prelude.{◌≡◌};
 ghost use Rattle.sieve_syntax.specs.Capabilities.{granted_by};
-ghost use Rattle.sieve_syntax.specs.Extension.Mailbox.{MayAskMailboxes, create_in};
+ghost use Rattle.sieve_syntax.specs.Extension.Mailbox.{IsMailboxesTest, MayAskMailboxes, create_in};
 ghost use Rattle.sieve_syntax.specs.Parsing.{FindsFit};
-ghost use Rattle.sieve_syntax.specs.Rows.{IsList};
 
 use crate::capability::{Capabilities, Capability};
 use crate::error::ParseError;
@@ -21,7 +20,7 @@ pub(crate) fn permitted_names(
     args: &[Argument<'_>],
     granted: &Capabilities,
 ) -> Result<Texts, ParseError>
-    ensures { FindsFit (IsList args.now) (λ names. MayAskMailboxes (granted_by granted.now)) result }
+    ensures { FindsFit (IsMailboxesTest args.now) (λ names. MayAskMailboxes (granted_by granted.now)) result }
 {
     granted.require(Capability::Mailbox)?;
     let names = read_list(alloc, args)?;

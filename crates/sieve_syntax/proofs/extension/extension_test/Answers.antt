@@ -5,7 +5,7 @@ use Rattle.sieve_syntax.specs.Extension.{MayAsk}
 use Rattle.sieve_syntax.specs.Extension.Date.{IsDateTest, IsCurrentDateTest}
 use Rattle.sieve_syntax.specs.Extension.Envelope.{IsEnvelopeTest}
 use Rattle.sieve_syntax.specs.Extension.Imap4flags.{IsHasFlagTest}
-use Rattle.sieve_syntax.specs.Rows.{IsList}
+use Rattle.sieve_syntax.specs.Extension.Mailbox.{IsMailboxesTest}
 use Rattle.sieve_syntax.proofs.TableLemmas.{row_fits, fit_fault}
 use Rattle.sieve_syntax.proofs.extension.extension_test.Goals as goal
 
@@ -22,10 +22,10 @@ pub returns-in_err-names-in-MailboxExists : goal.returns-in_err-names-in-Mailbox
 returns-in_err-names-in-MailboxExists c =
     let h = c.in_err-names-in-MailboxExists.ensures in
     let p = err_from_is_err_and c.from_residual-in_err-names-in-MailboxExists.result c.from_residual-in_err-names-in-MailboxExists.ensures.1 in
-    rw (p.1, p.2, c.in-MailboxExists.is) (fit_fault IsList X.MailboxExists _ (MayAsk (granted_by c.args.granted.now)) (λ x. MayAsk (granted_by c.args.granted.now) (X.MailboxExists x)) (λ x may. may) _ h)
+    rw (p.1, p.2, c.in-MailboxExists.is) (fit_fault IsMailboxesTest X.MailboxExists _ (MayAsk (granted_by c.args.granted.now)) (λ x. MayAsk (granted_by c.args.granted.now) (X.MailboxExists x)) (λ x may. may) _ h)
 
 pub returns-in_ok-names-in-MailboxExists : goal.returns-in_ok-names-in-MailboxExists
-returns-in_ok-names-in-MailboxExists c = rw c.in-MailboxExists.is (row_fits IsList X.MailboxExists _ (MayAsk (granted_by c.args.granted.now)) _ c.in_ok-names-in-MailboxExists.ensures)
+returns-in_ok-names-in-MailboxExists c = rw c.in-MailboxExists.is (row_fits IsMailboxesTest X.MailboxExists _ (MayAsk (granted_by c.args.granted.now)) _ c.in_ok-names-in-MailboxExists.ensures)
 
 pub returns-in_err-date-in-Date : goal.returns-in_err-date-in-Date
 returns-in_err-date-in-Date c =

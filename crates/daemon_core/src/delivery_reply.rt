@@ -5,19 +5,18 @@ ghost use Rattle.store_engine.specs.Limits.{is_envelope_address, is_forbidden_oc
 ghost use Rattle.daemon_core.specs.LmtpSteps as lmtp_steps;
 
 use crate::report::line_of_report;
-use lmtp_connections::DeliveryResult;
-use lmtp_dialogue::LmtpReply;
+use lmtp_dialogue::{LmtpReply, RecipientReply};
 use std::alloc::Global;
 use store_engine::{Answer, Refusal};
 
-/// What became of a message that was to be delivered.
-pub fn result_of(alloc: Global, sender: &[u8], answer: Answer) -> DeliveryResult
-    ensures { lmtp_steps.IsDeliveryResult sender.now answer result }
+/// What a recipient is told of what the store answered.
+pub fn reply_for_delivery(alloc: Global, sender: &[u8], answer: Answer) -> RecipientReply
+    ensures { lmtp_steps.IsDeliveryReply sender.now answer result }
 {
     match answer {
-        Answer::Delivered(report) => DeliveryResult::Delivered(line_of_report(alloc, &report)),
-        Answer::Refused(refusal) => DeliveryResult::Refused(reply_to(sender, refusal)),
-        _ => DeliveryResult::Refused(LmtpReply::LocalFault),
+        Answer::Delivered(report) => RecipientReply::Delivered(line_of_report(alloc, &report)),
+        Answer::Refused(refusal) => RecipientReply::Refused(reply_to(sender, refusal)),
+        _ => RecipientReply::Refused(LmtpReply::LocalFault),
     }
 }
 
