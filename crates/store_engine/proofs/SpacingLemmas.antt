@@ -22,7 +22,7 @@ use Rattle.store_accounts.specs.declared.queue.QueuedMessage.{QueuedMessage}
 use Rattle.managesieve_protocol.specs.declared.replies.Status.{Status}
 use Rattle.sieve_exec.specs.Mails.{MailSpec, mail_spec_of}
 use Rattle.sieve_syntax.specs.Meaning.{Actions}
-use Rattle.sieve_syntax.specs.declared.tree.vacation.VacationArgs.{VacationArgs}
+use Rattle.sieve_syntax.specs.declared.extension.vacation.VacationArgs.{VacationArgs}
 use Rattle.sieve_vacation.specs.Cases.{period_of, is_too_soon}
 use Rattle.sieve_vacation.specs.Handles.{Handle, Named, Same, four_octets, handle_of, handle_key_of}
 use Rattle.sieve_vacation.specs.Reasons.{reason_holds, first_of, decision_of}

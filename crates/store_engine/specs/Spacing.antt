@@ -6,7 +6,7 @@ use Rattle.octets.specs.Ascii.{lowered}
 use Rattle.store_text.specs.Text.{IsAccountText}
 use Rattle.store_text.specs.declared.head.AccountHead.{AccountHead}
 use Rattle.store_text.specs.declared.part.Part.{Part}
-use Rattle.sieve_syntax.specs.declared.tree.vacation.VacationArgs.{VacationArgs}
+use Rattle.sieve_syntax.specs.declared.extension.vacation.VacationArgs.{VacationArgs}
 use Rattle.sieve_exec.specs.declared.envelope.Envelope.{Envelope}
 use Rattle.sieve_vacation.specs.Cases.{period_of}
 use Rattle.sieve_vacation.specs.Handles.{Handle, handle_of, handle_key_of}
