@@ -40,6 +40,11 @@ def files(crate, part, ending):
                     yield os.path.relpath(f"{folder}/{name}", root).removesuffix(ending), file.read().split("\n")
 
 
+def file_of(module):
+    """The file of a module below `specs`, whose folders are the modules above it."""
+    return module.replace(".", "/")
+
+
 def handed_out(library):
     """The modules that a `lib.rt` hands out, and the functions and types."""
     text = "\n".join(library)
@@ -76,10 +81,10 @@ def named(crate):
     for path, lines in sources.items():
         text = "\n".join(lines)
         known, short = {}, {}
-        for place, file, listed in re.findall(r"ghost use Rattle\.(\w+)\.specs\.(\w+)\.\{([^}]*)\}", text):
-            known |= {name: (place, file, name) for name in re.findall(r"\w+", listed)}
-        for place, file, alias in re.findall(r"ghost use Rattle\.(\w+)\.specs\.(\w+)(?: as (\w+))?;", text):
-            short[alias or file] = place, file
+        for place, module, listed in re.findall(r"ghost use Rattle\.(\w+)\.specs\.([\w.]+)\.\{([^}]*)\}", text):
+            known |= {name: (place, file_of(module), name) for name in re.findall(r"\w+", listed)}
+        for place, module, alias in re.findall(r"ghost use Rattle\.(\w+)\.specs\.([\w.]+)(?: as (\w+))?;", text):
+            short[alias or module.split(".")[-1]] = place, file_of(module)
         for by, line in clauses(lines):
             if path.split("/")[0] in modules or by in names:
                 yield from {known[name] for name in re.findall(r"\w+", line) if name in known}
@@ -160,8 +165,8 @@ def table(file, lines, listed):
 def used(crate):
     """The definitions that a crate's other definitions use, once for each file."""
     for _, lines in files(crate, "specs", ".antt"):
-        for place, file, listed in re.findall(r"^use Rattle\.(\w+)\.specs\.(\w+)\.\{([^}]*)\}", "\n".join(lines), re.M):
-            yield from {(place, file, name) for name in re.findall(r"\w+", listed)}
+        for place, module, listed in re.findall(r"^use Rattle\.(\w+)\.specs\.([\w.]+)\.\{([^}]*)\}", "\n".join(lines), re.M):
+            yield from {(place, file_of(module), name) for name in re.findall(r"\w+", listed)}
 
 
 def wanted():

@@ -7,7 +7,7 @@ Prints a line for each trial, a last one that counts them, and ends with 1 where
 Debian's postfix, awk and flock, else its trials are left out. Postfix's files are in a folder that goes with the trial, its ports on the
 loopback address; the transport is the line of docs/VARIANTS.md.
 """
-import base64, os, pwd, random, re, shutil, socket, socketserver, subprocess, tempfile, threading, time
+import base64, multiprocessing, os, pwd, random, re, selectors, shutil, socket, socketserver, statistics, subprocess, tempfile, threading, time
 import mailboxes, managesieve, trials
 from contextlib import contextmanager
 from scripts import PROGRAM, small_disk
@@ -456,7 +456,59 @@ def changed_account():
     return "scripts by the new password, answers from the new address"
 
 
-TRIALS = {trial.__name__: trial for trial in (senders, changed_account, rows, bad_days, full_disk, own_faults, stores_and_domains)}
+def knock(ports, count):
+    """Holds so many connections at each port, which say nothing; where one is closed another comes."""
+    waits = selectors.DefaultSelector()
+    for port in ports * count:
+        waits.register(socket.create_connection(("127.0.0.1", port)), selectors.EVENT_READ, port)
+    while True:
+        for key, _ in waits.select():
+            if not said_by(key.fileobj):
+                waits.unregister(key.fileobj)
+                key.fileobj.close()
+                waits.register(socket.create_connection(("127.0.0.1", key.data)), selectors.EVENT_READ, key.data)
+
+
+def said_by(sock):
+    """What a peer said; nothing where it closed the connection, by a reset too."""
+    try:
+        return sock.recv(4096)
+    except ConnectionResetError:
+        return b""
+
+
+def flooded():
+    """300 connections at each port of a daemon, which say nothing and come again. Beside them a new client of ManageSieve is greeted within
+    a second, mostly, and each message that Postfix brings by LMTP, over a connection of its own, arrives. On a busy machine one that
+    doesn't say LHLO at once may be told 421; it comes again."""
+    with a_host() as host:
+        words = [*NOBODY.split(), f"{host.room}/bin/sieved", "daemon", "--db", host.db, "--managesieve", "0", "--lmtp", "0", "--quiet"]
+        daemon = subprocess.Popen(words, stdin=subprocess.DEVNULL, stdout=subprocess.PIPE, stderr=subprocess.DEVNULL)
+        ports = [int(daemon.stdout.readline().rsplit(b":", 1)[1]) for _ in range(2)]
+        subprocess.run(["postconf", "-c", f"{host.room}/etc", "-e", f"mailbox_transport = lmtp:inet:127.0.0.1:{ports[1]}"], check=True)
+        subprocess.run(["postfix", "-c", f"{host.room}/etc", "reload"], stdout=subprocess.DEVNULL, stderr=subprocess.DEVNULL, check=True)
+        flood = multiprocessing.Process(target=knock, args=(ports, 300), daemon=True)
+        flood.start()
+        time.sleep(2)
+        greetings, names, began = [], [b"m%d" % at for at in range(10)], time.time()
+        for name in names:
+            asked = time.time()
+            managesieve.connect(ports[0]).close()
+            greetings.append(time.time() - asked)
+            host.send(b"bob@example.net", subject=name)
+            host.settled()
+        took = time.time() - began
+        assert flood.is_alive()
+        flood.kill()
+        managesieve.end(daemon)
+        put_off = host.log().count("status=deferred")
+        assert statistics.median(greetings) < 1, greetings
+        assert host.arrived() == sorted(names), host.arrived()
+        assert put_off <= 2 and "status=bounced" not in host.log(), host.log()[-2_000:]
+    return f"a client is greeted within {max(greetings) * 1000:.0f} ms, {len(names)} messages, one by one, arrive in {took:.1f} s, {put_off} of them put off once"
+
+
+TRIALS = {trial.__name__: trial for trial in (senders, changed_account, rows, bad_days, full_disk, own_faults, stores_and_domains, flooded)}
 
 if __name__ == "__main__":
     trials.main(TRIALS, lambda program: PROGRAM.__setitem__(0, program))

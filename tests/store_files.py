@@ -371,7 +371,7 @@ def replaced(new):
             os.rename(place.db, f"{place.db}.old")
             os.rename(other.db, place.db)
         status, told = began.wait(60), began.stderr.read()
-        assert (status, told) == ((75, FAILED) if is_replaced else (0, b"")), (is_replaced, status, told)
+        assert (status, told) == ((75, FAILED + b"sieved: file was removed or replaced\n") if is_replaced else (0, b"")), (is_replaced, status, told)
     assert place.count() == 1, place.count()
     return "75 where the file was replaced meanwhile, and 0 where it wasn't"
 

@@ -21,8 +21,8 @@ use Rattle.cli_run.specs.Draining.{IsUnkept, StopsDraining}
 use Rattle.cli_run.specs.Faults.{memory, no_user, store_failed, cause_of, run_fault_lines, faults_told, IsHindered}
 use Rattle.cli_run.specs.Streams.{IsWritten, WriteFailed}
 use Rattle.cli_run.specs.declared.fault.RunFault.{RunFault}
-use Rattle.cli_run.specs.Values.{WritesSalt, IsSalt, IsGivenMoment, IsWhen, IsSeparator, envelope_with}
-use Rattle.sieve_exec.specs.declared.when.When.{When}
+use Rattle.cli_run.specs.Values.{WritesSalt, IsSalt, IsGivenMoment, AreTerms, IsSeparator, envelope_with}
+use Rattle.store_engine.specs.declared.terms.Terms.{Terms}
 use Rattle.cli_run.specs.Subcommands.{IsAddUserEvent, IsPasswdEvent, IsDoneBy, IsStoredBy, IsPutEvent, upkeep_answer, DeniedAtEnd, IsDeliverEvent, IsDoneEvent, TellsEvent, TellsInvalid, HasMessage, ShowsOutgoing, notices_until, user_line}
 
 -- ---- values
@@ -147,22 +147,24 @@ notices-before h = cc
 added-swapped : (password : List ℕ) → IsAddUserEvent (Some digits) None alice home (Some (codes "secret\nmore")) (AddUser home alice salt password) → ⊥
 added-swapped password h = let e = h.same in cc
 
-is_deliver_event : (clock : Option ℕ) (default : Option (List ℕ)) (when : When) → IsWhen (Some (codes "5")) None clock when
-    → IsDeliverEvent (envelope_with [] home) (Some (codes "5")) None alice clock default (Some (codes "M")) (Deliver alice (envelope_with [] home) (codes "M") when default)
-is_deliver_event clock default when is = record { message = codes "M"; read = refl; when = when; dated = is; same = refl }
+is_deliver_event : (clock : Option ℕ) (default : Option (List ℕ)) (terms : Terms) → AreTerms (Some (codes "5")) None clock default terms
+    → IsDeliverEvent (envelope_with [] home) (Some (codes "5")) None alice clock default (Some (codes "M")) (Deliver alice (envelope_with [] home) (codes "M") terms)
+is_deliver_event clock default terms is = record { message = codes "M"; read = refl; terms = terms; under = is; same = refl }
 
 -- near misses: for the recipient's name in place of the user's; at the clock's moment; with another message; without the host's default script
-is_deliver_event-elsewhere : (clock : Option ℕ) (default : Option (List ℕ)) (when : When) → IsDeliverEvent (envelope_with [] home) (Some (codes "5")) None alice clock default (Some (codes "M")) (Deliver home (envelope_with [] home) (codes "M") when default) → ⊥
-is_deliver_event-elsewhere clock default when h = let e = h.same in cc
+is_deliver_event-elsewhere : (clock : Option ℕ) (default : Option (List ℕ)) (terms : Terms) → IsDeliverEvent (envelope_with [] home) (Some (codes "5")) None alice clock default (Some (codes "M")) (Deliver home (envelope_with [] home) (codes "M") terms) → ⊥
+is_deliver_event-elsewhere clock default terms h = let e = h.same in cc
 
-is_deliver_event-late : (default : Option (List ℕ)) (when : When) → when.moment ≡ 7 → IsDeliverEvent (envelope_with [] home) (Some (codes "5")) None alice (Some 7) default (Some (codes "M")) (Deliver alice (envelope_with [] home) (codes "M") when default) → ⊥
-is_deliver_event-late default when late h = let same : when ≡ h.when = let e = h.same in cc in moment-ignored (subst (Writes (codes "5")) (sym (ap (λ (w : When). w.moment) same) ∙ late) h.dated.0)
+is_deliver_event-late : (default : Option (List ℕ)) (terms : Terms) → terms.when.moment ≡ 7 → IsDeliverEvent (envelope_with [] home) (Some (codes "5")) None alice (Some 7) default (Some (codes "M")) (Deliver alice (envelope_with [] home) (codes "M") terms) → ⊥
+is_deliver_event-late default terms late h = let same : terms ≡ h.terms = let e = h.same in cc in moment-ignored (subst (Writes (codes "5")) (sym (ap (λ (t : Terms). t.when.moment) same) ∙ late) h.under.dated)
 
-is_deliver_event-other : (clock : Option ℕ) (default : Option (List ℕ)) (when : When) → IsDeliverEvent (envelope_with [] home) (Some (codes "5")) None alice clock default (Some (codes "M")) (Deliver alice (envelope_with [] home) (codes "MM") when default) → ⊥
-is_deliver_event-other clock default when h = let same : codes "MM" ≡ h.message = let e = h.same in cc in let no : codes "MM" ≡ codes "M" = same ∙ h.read in cc
+is_deliver_event-other : (clock : Option ℕ) (default : Option (List ℕ)) (terms : Terms) → IsDeliverEvent (envelope_with [] home) (Some (codes "5")) None alice clock default (Some (codes "M")) (Deliver alice (envelope_with [] home) (codes "MM") terms) → ⊥
+is_deliver_event-other clock default terms h = let same : codes "MM" ≡ h.message = let e = h.same in cc in let no : codes "MM" ≡ codes "M" = same ∙ h.read in cc
 
-is_deliver_event-bare : (clock : Option ℕ) (default : List ℕ) (when : When) → IsDeliverEvent (envelope_with [] home) (Some (codes "5")) None alice clock (Some default) (Some (codes "M")) (Deliver alice (envelope_with [] home) (codes "M") when None) → ⊥
-is_deliver_event-bare clock default when h = let same : None ≡ Some default = let e = h.same in cc in cc
+is_deliver_event-bare : (clock : Option ℕ) (default : List ℕ) (terms : Terms) → terms.host.default ≡ None → IsDeliverEvent (envelope_with [] home) (Some (codes "5")) None alice clock (Some default) (Some (codes "M")) (Deliver alice (envelope_with [] home) (codes "M") terms) → ⊥
+is_deliver_event-bare clock default terms bare h =
+    let same : terms ≡ h.terms = let e = h.same in cc in
+    let no : None ≡ Some default = sym bare ∙ ap (λ (t : Terms). t.host.default) same ∙ h.under.scripted in cc
 
 dequeued : IsDoneEvent alice (codes "5") (TakeOut alice 5)
 dequeued = record { id = 5; written = five; same = refl }

@@ -34,8 +34,7 @@ use Rattle.cli_run.specs.declared.fault.RunFault.TheVariants.{Refused, Stream, B
 use Rattle.cli_run.specs.Draining.{TurnsTables}
 use Rattle.cli_run.specs.Faults.{memory, status_of, IsFailure, IsSudden, IsHindered, IsPrinted}
 use Rattle.cli_run.specs.Promise.{world_of_accounts}
-use Rattle.sieve_exec.specs.declared.when.When.{When}
-use Rattle.store_engine.specs.Terms.{terms}
+use Rattle.store_engine.specs.declared.terms.Terms.{Terms}
 use Rattle.cli_run.specs.Subcommands.{FinishesPrinted, DeniedAtEnd, TellsEvent, MakesEvent, RefusesEvent, Puts, DoesEvent, Shows, FindsIn, ShowsNothing, DoesRead, HasMessage, DoesInit, LacksNothing, account_part}
 use Rattle.cli_run.specs.Transitions.{from_to}
 
@@ -168,14 +167,14 @@ module _ (held new : Database) (taken given : State) (opened : OpensAs held take
 -- ---- an event of the machine
 
 -- where the machine refuses an event of accounts, none changes
-delivers_kept : (user message : List ℕ) (envelope : Envelope) (when : When) (default : Option (List ℕ)) (accounts later : Accounts) (refusal : Refusal) → Delivery accounts user envelope message (terms when default) (answer.Refused refusal) later → later ≡ accounts
-delivers_kept user message envelope when default accounts later refusal = under (limit_refusal envelope message when.moment)
+delivers_kept : (user message : List ℕ) (envelope : Envelope) (terms : Terms) (accounts later : Accounts) (refusal : Refusal) → Delivery accounts user envelope message terms (answer.Refused refusal) later → later ≡ accounts
+delivers_kept user message envelope terms accounts later refusal = under (limit_refusal envelope message terms.when.moment)
   where
-    by : (o : Option Account) → DeliversIn accounts user (terms when default) envelope message o (answer.Refused refusal) later → later ≡ accounts
+    by : (o : Option Account) → DeliversIn accounts user terms envelope message o (answer.Refused refusal) later → later ≡ accounts
     by None h = h.stays
     by (Some a) h = absurd (let no = h.reported in cc)
 
-    under : (limit : Option Refusal) → DeliversUnder limit accounts user (terms when default) envelope message (answer.Refused refusal) later → later ≡ accounts
+    under : (limit : Option Refusal) → DeliversUnder limit accounts user terms envelope message (answer.Refused refusal) later → later ≡ accounts
     under (Some e) h = h.stays
     under None h = by (open_account_of accounts user) h
 
@@ -235,20 +234,20 @@ module _ (event : Event) (Row : Accounts → Answer → Accounts → Type 0) (Ma
       )
 
 -- a delivery
-module _ (Denied : RunFault → Type 0) (user : List ℕ) (envelope : Envelope) (message : List ℕ) (when : When) (default : Option (List ℕ)) where
+module _ (Denied : RunFault → Type 0) (user : List ℕ) (envelope : Envelope) (message : List ℕ) (terms : Terms) where
   abbrev Row : Accounts → Answer → Accounts → Type 0
-  Row accounts = Delivery accounts user envelope message (terms when default)
+  Row accounts = Delivery accounts user envelope message terms
 
   abbrev May : Refusal → Type 0
-  May = MayRefuseDelivery envelope message when.moment
+  May = MayRefuseDelivery envelope message terms.when.moment
 
-  pub delivery_made : (report : Report) (accounts later : Accounts) → TurnsBy Row May (answer.Delivered report) accounts later → Puts Denied (Deliver user envelope message when default) answer.Delivered (Ok report) accounts later
-  delivery_made = put_by (Deliver user envelope message when default) Row May (λ accounts later said row. (later, row, refl)) (λ accounts. delivery_may user message envelope when default (world_of_accounts accounts))
-      (delivers_kept user message envelope when default) Denied answer.Delivered
+  pub delivery_made : (report : Report) (accounts later : Accounts) → TurnsBy Row May (answer.Delivered report) accounts later → Puts Denied (Deliver user envelope message terms) answer.Delivered (Ok report) accounts later
+  delivery_made = put_by (Deliver user envelope message terms) Row May (λ accounts later said row. (later, row, refl)) (λ accounts. delivery_may user message envelope terms (world_of_accounts accounts))
+      (delivers_kept user message envelope terms) Denied answer.Delivered
 
-  pub delivery_refused : (refusal : Refusal) (accounts later : Accounts) → TurnsBy Row May (answer.Refused refusal) accounts later → Puts {X = Report} Denied (Deliver user envelope message when default) answer.Delivered (Err (Refused refusal)) accounts later
-  delivery_refused = refused_by (Deliver user envelope message when default) Row May (λ accounts later said row. (later, row, refl)) (λ accounts. delivery_may user message envelope when default (world_of_accounts accounts))
-      (delivers_kept user message envelope when default) Denied answer.Delivered
+  pub delivery_refused : (refusal : Refusal) (accounts later : Accounts) → TurnsBy Row May (answer.Refused refusal) accounts later → Puts {X = Report} Denied (Deliver user envelope message terms) answer.Delivered (Err (Refused refusal)) accounts later
+  delivery_refused = refused_by (Deliver user envelope message terms) Row May (λ accounts later said row. (later, row, refl)) (λ accounts. delivery_may user message envelope terms (world_of_accounts accounts))
+      (delivers_kept user message envelope terms) Denied answer.Delivered
 
 -- a new user
 module _ (Denied : RunFault → Type 0) (name address salt password : List ℕ) where

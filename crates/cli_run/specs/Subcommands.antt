@@ -56,10 +56,10 @@ use Rattle.cli_run.specs.Promise.{first_line, world_of_accounts, status_after}
 use Rattle.cli_run.specs.Streams.{ReadsAll, AppendsSome, InputFailed, IsWritten}
 use Rattle.cli_run.specs.Transitions.{StreamMove, TablesMove}
 use Rattle.cli_run.specs.TryScript.{Tries}
-use Rattle.cli_run.specs.Values.{IsNoNumber, IsNoUntil, IsSalt, HasNoSalt, IsWhen, HasNoWhen, IsSeparator, HasNoSeparator, envelope_with}
+use Rattle.cli_run.specs.Values.{IsNoNumber, IsNoUntil, IsSalt, HasNoSalt, AreTerms, HasNoWhen, IsSeparator, HasNoSeparator, envelope_with}
 use Rattle.cli_run.specs.declared.fault.RunFault.{RunFault}
 use Rattle.sieve_exec.specs.declared.envelope.Envelope.{Envelope}
-use Rattle.sieve_exec.specs.declared.when.When.{When}
+use Rattle.store_engine.specs.declared.terms.Terms.{Terms}
 use Rattle.cli_run.specs.declared.fault.RunFault.TheVariants.{Refused, Stream, NoMessage, NoScript, Invalid, BadInput, BadArgument}
 
 -- ---- how a subcommand ends, whatever it does
@@ -128,9 +128,9 @@ upkeep_answer (upkeep.TakeNotices until) = answer.NoticesTaken
 pub record IsDeliverEvent (envelope : Envelope) (at zone : Option (List ℕ)) (user : List ℕ) (clock : Option ℕ) (default given : Option (List ℕ)) (event : Event) : Type 0 where
   pub message : List ℕ
   pub read : ReadsAll given message
-  pub when : When
-  pub dated : IsWhen at zone clock when
-  pub same : event ≡ Deliver user envelope message when default
+  pub terms : Terms
+  pub under : AreTerms at zone clock default terms
+  pub same : event ≡ Deliver user envelope message terms
 
 -- `put`: all that was read is the text of the user's script with this name
 pub record IsPutEvent (user name : List ℕ) (activate : Bool) (given : Option (List ℕ)) (event : Event) : Type 0 where
@@ -166,7 +166,7 @@ pub record IsImportEvent (given : Option (List ℕ)) (event : Event) : Type 0 wh
 -- what is printed of an event that was made, by its answer
 abbrev pub TellsEvent : Event → Answer → List ℕ → Type 0
 TellsEvent (AddUser name address salt password) answer.Added text = text ≡ ended_line (codes "added " ++ name)
-TellsEvent (Deliver user envelope message when default) (answer.Delivered report) text = text ≡ delivery_report report
+TellsEvent (Deliver user envelope message terms) (answer.Delivered report) text = text ≡ delivery_report report
 TellsEvent (Import file) answer.Imported text = text ≡ ended_line (codes "imported " ++ file.head.owner.name)
 TellsEvent (TakeOut user id) (answer.Taken row) text = text ≡ ended_line (codes "taken " ++ decimal id)
 TellsEvent (DoUpkeep user upkeep) answer.Changed text = text ≡ ended_line (codes "changed " ++ user)

@@ -8,6 +8,7 @@ use Rattle.store_engine.specs.Tree.{Commands}
 use Rattle.store_engine.specs.Means.{Means}
 use Rattle.sieve_exec.specs.declared.envelope.Envelope.{Envelope}
 use Rattle.sieve_exec.specs.declared.when.When.{When}
+use Rattle.store_engine.specs.declared.terms.Terms.{Terms}
 use Rattle.cli_subcommands.specs.declared.subcommand.try_script.TryArgs.{TryArgs}
 use Rattle.sieve_exec.specs.Mails.{mail_spec_of}
 use Rattle.sieve_exec.specs.Outcomes.{outcome_at}
@@ -19,7 +20,7 @@ use Rattle.cli_run.specs.declared.answer.TryAnswer.TheVariants.{Report, Refusal}
 use Rattle.cli_run.specs.Faults.{status_of, run_fault_line, memory, IsPrinted}
 use Rattle.cli_run.specs.Framing.{IsFramed}
 use Rattle.cli_run.specs.Transitions.{StreamMove}
-use Rattle.cli_run.specs.Values.{IsWhen, HasNoWhen, envelope_with}
+use Rattle.cli_run.specs.Values.{AreTerms, HasNoWhen, envelope_with}
 use Rattle.cli_run.specs.Streams.{InputFailed, IsWriteCut, IsWritten}
 use Rattle.cli_reports.specs.Reports.{ended_line, outcome_report}
 
@@ -102,6 +103,6 @@ TriesNothing fault output errors status = (status ≡ status_of fault) × (outpu
 -- or they have no moment, and the clock has none
 abbrev pub Tries : TryArgs → Option ℕ → Option (List ℕ) → StreamMove → StreamMove → ℕ → Type 0
 Tries asked clock given output errors status =
-    ((when : When) × IsWhen (option_copied asked.at) (option_copied asked.zone) clock when × RunsTry (envelope_with asked.from.now asked.to.now) when given output errors status)
+    ((terms : Terms) × AreTerms (option_copied asked.at) (option_copied asked.zone) clock None terms × RunsTry (envelope_with asked.from.now asked.to.now) terms.when given output errors status)
     ⊎ (HasNoWhen (option_copied asked.at) (option_copied asked.zone) × TriesNothing BadArgument output errors status)
     ⊎ ((option_copied asked.at ≡ None) × (clock ≡ None) × TriesNothing Stream output errors status)

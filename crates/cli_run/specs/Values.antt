@@ -8,7 +8,7 @@ use Rattle.octets.specs.Decimal.{Writes}
 use Rattle.mail_dates.specs.HostZones.{IsZoneText, IsOffsetAt}
 use Rattle.mail_dates.specs.declared.host_zone.HostZone.{HostZone}
 use Rattle.sieve_exec.specs.declared.envelope.Envelope.{Envelope}
-use Rattle.sieve_exec.specs.declared.when.When.{When}
+use Rattle.store_engine.specs.declared.terms.Terms.{Terms}
 
 -- the text isn't a number of 64 bits
 abbrev pub IsNoNumber : List ℕ → Type 0
@@ -63,13 +63,13 @@ abbrev pub IsHostZone : Option (List ℕ) → HostZone → Type 0
 IsHostZone (Some text) zone = IsZoneText text zone
 IsHostZone None zone = (moment : ℕ) → IsOffsetAt zone moment (pos 0)
 
--- at that moment the host's zone is as the argument says
-abbrev pub IsZoned : Option (List ℕ) → When → Type 0
-IsZoned text when = (zone : HostZone) × IsHostZone text zone × IsOffsetAt zone when.moment when.zone
-
--- the moment that the argument has in decimal, or else the clock's, and the host's zone at it
-abbrev pub IsWhen : Option (List ℕ) → Option (List ℕ) → Option ℕ → When → Type 0
-IsWhen at zone clock when = IsGivenMoment at clock when.moment × IsZoned zone when
+-- under what a message is delivered: at the moment that the argument has in decimal, or else the clock's, in the zone of the argument, by a
+-- host with this default script
+pub record AreTerms (at zone : Option (List ℕ)) (clock : Option ℕ) (default : Option (List ℕ)) (terms : Terms) : Type 0 where
+  pub dated : IsGivenMoment at clock terms.when.moment
+  pub zoned : IsHostZone zone terms.host.zone
+  pub clocked : IsOffsetAt terms.host.zone terms.when.moment terms.when.zone
+  pub scripted : terms.host.default ≡ default
 
 -- the argument is there, and isn't a zone
 abbrev pub HasNoZone : Option (List ℕ) → Type 0

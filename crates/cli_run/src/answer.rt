@@ -20,11 +20,10 @@ use crate::kept_input::KeptInput;
 use cli_reports::{report_fault, report_outcome};
 use mail_head::SizeCount;
 use octets::Octets;
-use sieve_exec::When;
 use sieve_lex::ScriptError;
 use std::alloc::Global;
 use store_accounts::Refusal;
-use store_engine::{Envelope, Outcome, attempt, attempt_on_prefix};
+use store_engine::{Envelope, LentTerms, Outcome, attempt, attempt_on_prefix};
 
 /// The answer to an input that is a script and a message.
 #[derive(Drop)]
@@ -50,17 +49,17 @@ impl TryAnswer {
 pub fn answer_to(
     alloc: Global,
     envelope: Envelope,
-    when: When,
+    terms: LentTerms<'_>,
     input: &KeptInput,
 ) -> Result<TryAnswer, RunFault>
-    ensures answer { IfOk result (λ answer. (came : List ℕ) → KeepsInput came input.now.octets.items input.now.count → AnswersInput envelope when came answer) }
+    ensures answer { IfOk result (λ answer. (came : List ℕ) → KeepsInput came input.now.octets.items input.now.count → AnswersInput envelope terms.entry.when came answer) }
     ensures none { IfErr result (λ fault. (came : List ℕ) → KeepsInput came input.now.octets.items input.now.count → IsUnanswered (IsNoInput came) fault) }
 {
     match split(input.kept()) {
         Some(framed) => answer_on(
             alloc,
             envelope,
-            when,
+            terms,
             framed.script,
             framed.message,
             input.count(),
@@ -73,16 +72,16 @@ pub fn answer_to(
 fn answer_on(
     alloc: Global,
     envelope: Envelope,
-    when: When,
+    terms: LentTerms<'_>,
     script: &[u8],
     front: &[u8],
     count: Option<SizeCount>,
 ) -> Result<TryAnswer, RunFault>
     ensures answer { IfOk result (λ answer. (input message : List ℕ) → IsFramed input script.now message → IsMessagePrefix front.now count message
-        → AnswersInput envelope when input answer) }
+        → AnswersInput envelope terms.entry.when input answer) }
     ensures memory { IfErr result (λ fault. fault ≡ memory) }
 {
-    match outcome_on(alloc, script, envelope, front, count, when) {
+    match outcome_on(alloc, script, envelope, front, count, terms) {
         Ok(outcome) => report(alloc, outcome),
         Err(ScriptError::Fault(fault)) => Ok(TryAnswer::Refusal(report_fault(alloc, fault)?)),
         Err(ScriptError::Memory) => Err(RunFault::Refused(Refusal::Memory)),
@@ -96,17 +95,17 @@ fn outcome_on(
     envelope: Envelope,
     front: &[u8],
     count: Option<SizeCount>,
-    when: When,
+    terms: LentTerms<'_>,
 ) -> Result<Outcome, ScriptError>
     ensures valid { IfOk result (λ done. (tree : Commands) × Means script.now tree) }
     ensures done { IfOk result (λ done. (tree : Commands) (message : List ℕ) → Means script.now tree → IsMessagePrefix front.now count message
-        → outcome_view done ≡ outcome_at (mail_spec_of message envelope when) tree) }
+        → outcome_view done ≡ outcome_at (mail_spec_of message envelope terms.entry.when) tree) }
     ensures fault { IfFault result ((tree : Commands) → Means script.now tree → ⊥) }
     ensures line { IfFaultLine result (λ line. (1 ≤ line) × (line ≤ 1 + line_ends script.now)) }
 {
     match count {
-        Some(count) => attempt_on_prefix(alloc, script, envelope, front, count.size(), when),
-        None => attempt(alloc, script, envelope, front, when),
+        Some(count) => attempt_on_prefix(alloc, script, envelope, front, count.size(), terms),
+        None => attempt(alloc, script, envelope, front, terms),
     }
 }
 

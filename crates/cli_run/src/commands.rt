@@ -4,7 +4,7 @@ ghost use Rattle.sqlite.specs.Held.{state};
 ghost use Rattle.store_lock.specs.Taken.{IsStoreTaken};
 ghost use Rattle.store_engine.specs.declared.answer.Answer.TheVariants.{Delivered, Added};
 ghost use Rattle.store_engine.specs.declared.event.Event.TheVariants as machine;
-ghost use Rattle.store_accounts.specs.Cells.{borrowed_octets};
+ghost use Rattle.store_engine.specs.Terms.{terms_of};
 ghost use Rattle.cli_run.specs.Draining.{TurnsTables};
 ghost use Rattle.cli_run.specs.Promise.{status_after};
 ghost use Rattle.cli_run.specs.Serving.{HasDenied, HasGiven};
@@ -17,13 +17,13 @@ use crate::account_read::{MessageOf, read_once};
 use crate::fault::RunFault;
 use crate::report::print_report;
 use crate::stream::{read_all, write_all, write_line};
-use crate::values::{decimal, envelope_of, first_input_line, given_salt, when_of};
+use crate::values::{decimal, envelope_of, first_input_line, given_salt, terms_for};
 use cli_subcommands::{AddUserArgs, DeliverArgs, InitArgs, ShowArgs, StoreLocation};
-use sieve_exec::When;
+use octets::Octets;
 use std::alloc::Global;
 use std::io::{Read, Write};
 use store_accounts::{Refusal, Store};
-use store_engine::{Envelope, Report, add_user, deliver};
+use store_engine::{Envelope, LentTerms, Report, add_user, deliver};
 use store_lock::Keeper;
 
 /// `init`: a new store.
@@ -106,7 +106,7 @@ pub fn run_deliver<R: Read, W: Write, K: Keeper>(
     alloc: Global,
     asked: DeliverArgs<'_>,
     clock: Option<u64>,
-    default: Option<&[u8]>,
+    default: Option<Octets>,
     input: &mut R,
     output: &mut W,
     keeper: &mut K,
@@ -118,11 +118,11 @@ pub fn run_deliver<R: Read, W: Write, K: Keeper>(
         (HasNoWhen (option_copied asked.entry.at) (option_copied asked.entry.zone))
         (DeniedAtEnd (HasDenied K.refuses K.will_wait asked.entry.location) (R.remaining input.new))
         (IsDeliverEvent (envelope_with asked.entry.from.now asked.entry.to.now) (option_copied asked.entry.at) (option_copied asked.entry.zone)
-        asked.entry.user.now clock (borrowed_octets default.entry) (R.remaining input.old))
+        asked.entry.user.now clock default (R.remaining input.old))
         (from_to (W.contents output.old) (W.contents output.new)) result (from_to (K.holds keeper.old) (K.holds keeper.new)) }
     ensures given { OnOk result (HasGiven K.gives K.will_wait asked.entry.location) }
 {
-    let when = when_of(asked.at, asked.zone, clock)?;
+    let terms = terms_for(asked.at, asked.zone, clock, default)?;
     let envelope = envelope_of(alloc, asked.from, asked.to)?;
     let message = read_all(alloc, input)?;
     let report = deliver_in_store(
@@ -131,8 +131,7 @@ pub fn run_deliver<R: Read, W: Write, K: Keeper>(
         asked.user.as_bytes(),
         envelope,
         message.as_slice(),
-        when,
-        default,
+        terms.lend(),
         keeper,
     )?;
     print_report(&report, output)
@@ -150,19 +149,18 @@ fn deliver_in_store<K: Keeper>(
     user: &[u8],
     envelope: Envelope,
     message: &[u8],
-    when: When,
-    default: Option<&[u8]>,
+    terms: LentTerms<'_>,
     keeper: &mut K,
 ) -> Result<Report, RunFault>
     ensures late { status_after result ≢ 64 }
     ensures back { K.is_out keeper.old ≡ false → K.is_out keeper.new ≡ false }
     ensures puts { IsTrue K.tells → TurnsTables
-        (Puts (HasDenied K.refuses K.will_wait location.entry) (machine.Deliver user.now envelope message.now when (borrowed_octets default.entry)) Delivered result)
+        (Puts (HasDenied K.refuses K.will_wait location.entry) (machine.Deliver user.now envelope message.now (terms_of terms.entry)) Delivered result)
         (K.holds keeper.old) (K.holds keeper.new) }
     ensures given { OnOk result (HasGiven K.gives K.will_wait location.entry) }
 {
     let mut store = take_store(location, false, keeper)?;
-    let delivered = deliver(alloc, &mut store, user, envelope, message, when, default);
+    let delivered = deliver(alloc, &mut store, user, envelope, message, terms);
     let is_there = keeper.is_there(location.path);
     keeper.hand_back(store);
     let report = delivered?;

@@ -1,6 +1,5 @@
 //! A run of the program: reads the arguments and does what they ask for.
 ghost use Rattle.std.specs.Prelude.{◌≡◌, false, None, IsTrue, IfSome, Ok, OnOk, option_copied};
-ghost use Rattle.store_accounts.specs.Cells.{borrowed_octets};
 ghost use Rattle.cli_run.specs.Draining.{HasRefused, sink_mails};
 ghost use Rattle.cli_run.specs.Faults.{cause_of, status_of, text_said, run_fault_lines, faults_told, AreTold};
 ghost use Rattle.cli_run.specs.Promise.{status_after};
@@ -24,11 +23,12 @@ use crate::stream::write_all;
 use crate::try_script::try_run;
 use crate::upkeep::{run_address, run_open, run_passwd, run_remove};
 use crate::users::run_users;
-use crate::values::{envelope_of, when_of};
+use crate::values::{envelope_of, terms_for};
 use clap::Error;
 use clap::error::ErrorKind;
 use cli_subcommands::{ArgsError, RawArgs, Subcommand, TryArgs, read_command_line};
 use maildir_files::MailSink;
+use octets::Octets;
 use std::alloc::{AllocError, Global};
 use std::format;
 use std::io::{Read, Write};
@@ -55,14 +55,14 @@ pub fn run_program<R: Read, W: Write, E: Write, K: Keeper, T: MailSink>(
     keeper: &mut K,
     clock: Option<u64>,
     random: Option<[u8; 16]>,
-    default: Option<&[u8]>,
+    default: Option<Octets>,
     sink: &mut T,
 ) -> u8
     ensures unread { result ≡ 64 → input.new ≡ input.old }
     ensures reads { result ≡ 0 → ReadsAllOrNone R.remaining input.old input.new }
     ensures back { K.is_out keeper.old ≡ false → K.is_out keeper.new ≡ false }
     ensures runs { IsTrue K.tells → RunsWords
-        (surroundings (HasDenied K.refuses K.will_wait) (HasRefused T.refuses) clock random (borrowed_octets default.entry))
+        (surroundings (HasDenied K.refuses K.will_wait) (HasRefused T.refuses) clock random default)
         (run_reached (HasGiven K.gives K.will_wait) (T.is_at sink.new) (cause_of (K.said keeper.new) (text_said (T.said sink.new))))
         (run_streams (from_to (R.remaining input.old) (R.remaining input.new)) (from_to (W.contents output.old) (W.contents output.new))
         (from_to (E.contents errors.old) (E.contents errors.new)))
@@ -87,14 +87,14 @@ pub fn run_subcommand<R: Read, W: Write, E: Write, K: Keeper, T: MailSink>(
     keeper: &mut K,
     clock: Option<u64>,
     random: Option<[u8; 16]>,
-    default: Option<&[u8]>,
+    default: Option<Octets>,
     sink: &mut T,
 ) -> u8
     ensures unread { result ≡ 64 → input.new ≡ input.old }
     ensures reads { result ≡ 0 → ReadsAllOrNone R.remaining input.old input.new }
     ensures back { K.is_out keeper.old ≡ false → K.is_out keeper.new ≡ false }
     ensures runs { IsTrue K.tells → RunsAs
-        (surroundings (HasDenied K.refuses K.will_wait) (HasRefused T.refuses) clock random (borrowed_octets default.entry))
+        (surroundings (HasDenied K.refuses K.will_wait) (HasRefused T.refuses) clock random default)
         (run_reached (HasGiven K.gives K.will_wait) (T.is_at sink.new) (cause_of (K.said keeper.new) (text_said (T.said sink.new))))
         (run_streams (from_to (R.remaining input.old) (R.remaining input.new)) (from_to (W.contents output.old) (W.contents output.new))
         (from_to (E.contents errors.old) (E.contents errors.new)))
@@ -127,12 +127,12 @@ fn try_script<R: Read, W: Write, E: Write>(
     ensures runs { Tries asked.entry clock (R.remaining input.old) (from_to (W.contents output.old) (W.contents output.new))
         (from_to (E.contents errors.old) (E.contents errors.new)) result }
 {
-    let when = match when_of(asked.at, asked.zone, clock) {
-        Ok(when) => when,
+    let terms = match terms_for(asked.at, asked.zone, clock, None) {
+        Ok(terms) => terms,
         Err(fault) => return refuse(errors, fault),
     };
     match envelope_of(alloc, asked.from, asked.to) {
-        Ok(envelope) => try_run(alloc, envelope, when, input, output, errors),
+        Ok(envelope) => try_run(alloc, envelope, terms.lend(), input, output, errors),
         Err(_) => refuse(errors, RunFault::Refused(Refusal::Memory)),
     }
 }
@@ -146,14 +146,14 @@ fn act<R: Read, W: Write, K: Keeper, T: MailSink>(
     keeper: &mut K,
     clock: Option<u64>,
     random: Option<[u8; 16]>,
-    default: Option<&[u8]>,
+    default: Option<Octets>,
     sink: &mut T,
 ) -> Result<(), RunFault>
     ensures unread { status_after result ≡ 64 → input.new ≡ input.old }
     ensures reads { OnOk result (ReadsAllOrNone R.remaining input.old input.new) }
     ensures back { K.is_out keeper.old ≡ false → K.is_out keeper.new ≡ false }
     ensures does { IsTrue K.tells → DoesSubcommand
-        (surroundings (HasDenied K.refuses K.will_wait) (HasRefused T.refuses) clock random (borrowed_octets default.entry))
+        (surroundings (HasDenied K.refuses K.will_wait) (HasRefused T.refuses) clock random default)
         (from_to (R.remaining input.old) (R.remaining input.new)) (sink_mails T.tells (T.kept sink.old) (T.kept sink.new))
         (from_to (W.contents output.old) (W.contents output.new)) asked.entry result (from_to (K.holds keeper.old) (K.holds keeper.new)) }
     ensures reaches { OnOk result (ReachesStore (HasGiven K.gives K.will_wait) (T.is_at sink.new) asked.entry) }

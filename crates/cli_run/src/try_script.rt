@@ -8,10 +8,9 @@ use crate::answer::{TryAnswer, answer_to};
 use crate::fault::{RunFault, refuse};
 use crate::kept_input::KeptInput;
 use crate::stream::write_all;
-use sieve_exec::When;
 use std::alloc::Global;
 use std::io::{Read, Write};
-use store_engine::Envelope;
+use store_engine::{Envelope, LentTerms};
 
 /// Reads a script and a message from the input, and prints on the output what the script does with the message under
 /// the envelope, if it is delivered then. What goes wrong is reported on the errors. Returns the exit status.
@@ -20,16 +19,16 @@ use store_engine::Envelope;
 pub fn try_run<R: Read, W: Write, E: Write>(
     alloc: Global,
     envelope: Envelope,
-    when: When,
+    terms: LentTerms<'_>,
     input: &mut R,
     output: &mut W,
     errors: &mut E,
 ) -> u8
     ensures reads { result ≡ 0 → ReadsToEnd R.remaining input.old input.new }
-    ensures runs { RunsTry envelope when (R.remaining input.old) (from_to (W.contents output.old) (W.contents output.new))
+    ensures runs { RunsTry envelope terms.entry.when (R.remaining input.old) (from_to (W.contents output.old) (W.contents output.new))
         (from_to (E.contents errors.old) (E.contents errors.new)) result }
 {
-    match print_answer(alloc, envelope, when, input, output) {
+    match print_answer(alloc, envelope, terms, input, output) {
         Ok(TryAnswer::Report(_)) => 0,
         Ok(TryAnswer::Refusal(_)) => 65,
         Err(fault) => refuse(errors, fault),
@@ -39,14 +38,14 @@ pub fn try_run<R: Read, W: Write, E: Write>(
 fn print_answer<R: Read, W: Write>(
     alloc: Global,
     envelope: Envelope,
-    when: When,
+    terms: LentTerms<'_>,
     input: &mut R,
     output: &mut W,
 ) -> Result<TryAnswer, RunFault>
     ensures reads { OnOk result (ReadsToEnd R.remaining input.old input.new) }
-    ensures leaves { LeavesOutput envelope when (R.remaining input.old) (W.contents output.old) (W.contents output.new) result }
+    ensures leaves { LeavesOutput envelope terms.entry.when (R.remaining input.old) (W.contents output.old) (W.contents output.new) result }
 {
-    let answer = answer_of(alloc, envelope, when, input)?;
+    let answer = answer_of(alloc, envelope, terms, input)?;
     write_all(output, answer.text())?;
     Ok(answer)
 }
@@ -55,13 +54,13 @@ fn print_answer<R: Read, W: Write>(
 fn answer_of<R: Read>(
     alloc: Global,
     envelope: Envelope,
-    when: When,
+    terms: LentTerms<'_>,
     input: &mut R,
 ) -> Result<TryAnswer, RunFault>
-    ensures answer { IfOk result (λ answer. OfInput (R.remaining input.old) (λ came. AnswersInput envelope when came answer)) }
+    ensures answer { IfOk result (λ answer. OfInput (R.remaining input.old) (λ came. AnswersInput envelope terms.entry.when came answer)) }
     ensures none { IfErr result (HasNoAnswer (R.remaining input.old)) }
     ensures reads { OnOk result (ReadsToEnd R.remaining input.old input.new) }
 {
     let front = KeptInput::read(alloc, input)?;
-    answer_to(alloc, envelope, when, &front)
+    answer_to(alloc, envelope, terms, &front)
 }

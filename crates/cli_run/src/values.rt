@@ -4,16 +4,15 @@ ghost use Rattle.std.specs.List.{prefix_len};
 ghost use Rattle.octets.specs.Decimal.{Writes};
 ghost use Rattle.cli_run.specs.Promise as promise;
 ghost use Rattle.cli_run.specs.Promise.{is_in_line};
-ghost use Rattle.cli_run.specs.Values.{IsNoNumber, HasNoNumber, IsNoPort, IsNoSize, IsNoUntil, WritesSalt, IsNoSalt, IsSalt, HasNoSalt, IsGivenMoment, IsHostZone, IsWhen, HasNoZone, HasNoWhen, IsSeparator, HasNoSeparator, envelope_with};
+ghost use Rattle.cli_run.specs.Values.{IsNoNumber, HasNoNumber, IsNoPort, IsNoSize, IsNoUntil, WritesSalt, IsNoSalt, IsSalt, HasNoSalt, IsGivenMoment, IsHostZone, AreTerms, HasNoZone, HasNoWhen, IsSeparator, HasNoSeparator, envelope_with};
 
 use crate::fault::RunFault;
 use hex::FromHex;
 use mail_dates::HostZone;
 use maildir_files::Separator;
 use octets::{Octets, parse_decimal};
-use sieve_exec::When;
 use std::alloc::{AllocError, Global};
-use store_engine::Envelope;
+use store_engine::{Envelope, HostSettings, Terms};
 
 /// The last moment that the database can hold.
 const MAX_UNTIL: u64 = 9_223_372_036_854_775_807;
@@ -137,19 +136,22 @@ pub fn zone_of(text: Option<&str>) -> Result<HostZone, RunFault>
     }
 }
 
-/// The moment in the arguments, or else the clock's, in seconds since 1970, and the host's zone at that moment.
-pub fn when_of(at: Option<&str>, zone: Option<&str>, clock: Option<u64>) -> Result<When, RunFault>
-    ensures ok { IfOk result (IsWhen (option_copied at.entry) (option_copied zone.entry) clock) }
+/// Under what a message is delivered: at the moment in the arguments, or else the clock's, in seconds since 1970, in their zone, by a
+/// host with this default script.
+pub fn terms_for(
+    at: Option<&str>,
+    zone: Option<&str>,
+    clock: Option<u64>,
+    default: Option<Octets>,
+) -> Result<Terms, RunFault>
+    ensures ok { IfOk result (AreTerms (option_copied at.entry) (option_copied zone.entry) clock default) }
     ensures right { OnOk result (HasNoWhen (option_copied at.entry) (option_copied zone.entry) → ⊥) }
     ensures fault { IfErr result (λ fault. ((fault ≡ RunFault.BadArgument) × HasNoWhen (option_copied at.entry) (option_copied zone.entry))
         ⊎ ((fault ≡ RunFault.Stream) × (option_copied at.entry ≡ None) × (clock ≡ None))) }
 {
     let zone = zone_of(zone)?;
     let moment = moment_of(at, clock)?;
-    Ok(When {
-        moment,
-        zone: zone.at(moment),
-    })
+    Ok(HostSettings { zone, default }.into_terms(moment))
 }
 
 /// The envelope of these addresses.

@@ -6,7 +6,7 @@ use Rattle.store_engine.specs.declared.answer.Answer.{Answer}
 use Rattle.store_engine.specs.declared.clients.Clients.{Clients}
 use Rattle.lmtp_connections.specs.Connections.{LmtpStep, Answered, Declined, Asked, Away, Brought}
 use Rattle.lmtp_connections.specs.Stands.{ConnectionKeeps, ConnectionDoes, Demands, AsksIt, ConnectionHoldsNoMore}
-use Rattle.lmtp_connections.specs.declared.addressee.DeliveryResult.{DeliveryResult}
+use Rattle.lmtp_dialogue.specs.declared.recipient_reply.RecipientReply.{RecipientReply}
 use Rattle.lmtp_connections.specs.declared.demand.Demand.TheVariants as demand
 use Rattle.lmtp_connections.specs.declared.demand.DeliveryRequest.{DeliveryRequest}
 use Rattle.lmtp_connections.specs.declared.demand.Question.{Question}
@@ -15,7 +15,7 @@ use Rattle.net_loop.specs.declared.act.Act.TheVariants.{Noted}
 use Rattle.net_loop.specs.Told.{Telling, TellsIf}
 use Rattle.net_loop.specs.Rules.{step_at}
 use Rattle.daemon_core.specs.Holds.{asked_at}
-use Rattle.daemon_core.specs.LmtpSteps.{IsDeliveryResult, DoesOneIf, lmtp_moment}
+use Rattle.daemon_core.specs.LmtpSteps.{IsDeliveryReply, DoesOneIf, lmtp_moment}
 use Rattle.daemon_core.specs.StoreAccess.{View, StoreFacts, access_state, FindsAccount, DeliversMessage, StillShowsIf, delivery_of}
 use Rattle.daemon_core.specs.declared.daemon.Daemon.{Daemon}
 use Rattle.daemon_core.specs.declared.daemon.Holding.{Holding}
@@ -97,12 +97,12 @@ module _ {O R : Type 0} (told : Telling O Note R) (store : StoreFacts O R) (sure
     record { lmtp_step = Away; is = refl; does = does; spare = λ size. other_step room size Away refl; held = less; stores = looks.0 (sure p tell); states = refl; holding = refl },
   )
 
-  pub answer_delivery : (request : DeliveryRequest) (answer : Answer) (became : DeliveryResult) → DeliversMessage told store id request (access_state o d.clients.sessions) (Some answer) (access_state p c.sessions) → IsDeliveryResult request.sender answer became
+  pub answer_delivery : (request : DeliveryRequest) (answer : Answer) (became : RecipientReply) → DeliversMessage told store id request (access_state o d.clients.sessions) (Some answer) (access_state p c.sessions) → IsDeliveryReply request.sender answer became
       → ConnectionDoes now (Brought request became) said before after → (h : Holding) → h ≡ asked_at now d.holding → One (record d { clients = c; holding = h })
   answer_delivery request answer became delivers is does h had = λ tell. (
-    note.Did delivers.1.0 (delivery_of request (terms delivers.0 (store.default o))) answer,
+    note.Did delivers.1.0 (delivery_of request (terms delivers.0 (store.host o))) answer,
     delivers.1.2 tell,
-    record { lmtp_step = Brought request became; is = (request, terms delivers.0 (store.default o), became, refl, is, refl); does = does; spare = λ size. other_step room size (Brought request became) refl; held = less; stores = delivers.1.1 (sure p tell); states = refl; holding = had },
+    record { lmtp_step = Brought request became; is = (request, terms delivers.0 (store.host o), became, refl, is, refl); does = does; spare = λ size. other_step room size (Brought request became) refl; held = less; stores = delivers.1.1 (sure p tell); states = refl; holding = had },
   )
 
   pub unbrought : (request : DeliveryRequest) → DeliversMessage told store id request (access_state o d.clients.sessions) None (access_state p c.sessions) → ConnectionDoes now Away said before after → One (record d { clients = c })

@@ -8,7 +8,7 @@ use Rattle.lmtp_dialogue.specs.declared.receiver.Lookup.TheVariants.{Unknown}
 use Rattle.lmtp_dialogue.specs.declared.reply.LmtpReply.TheVariants.{NoSuchUser, LocalFault, BadSender}
 use Rattle.lmtp_connections.specs.Connections.{LmtpStep, Away, Declined}
 use Rattle.lmtp_connections.specs.declared.connection.LmtpConnection.{LmtpConnection}
-use Rattle.lmtp_connections.specs.declared.addressee.DeliveryResult.TheVariants.{Delivered, Refused}
+use Rattle.lmtp_dialogue.specs.declared.recipient_reply.RecipientReply.TheVariants.{Delivered, Refused}
 use Rattle.store_accounts.specs.Account.{Account, known_one}
 use Rattle.store_accounts.specs.declared.refusal.Refusal.TheVariants.{NoUser, Store, BadEnvelope}
 use Rattle.store_engine.specs.World.{World, Runs}
@@ -25,7 +25,7 @@ use Rattle.daemon_core.specs.ClientStates.{client_at}
 use Rattle.daemon_core.specs.declared.client_state.Fit.TheVariants as fit
 use Rattle.daemon_core.proofs.SumLemmas.{full_connection}
 use Rattle.daemon_core.specs.declared.mail.MailDaemon.{MailDaemon}
-use Rattle.daemon_core.specs.LmtpSteps.{IsLmtpStep, IsDeliveryResult, one_line, refusal_reply}
+use Rattle.daemon_core.specs.LmtpSteps.{IsLmtpStep, IsDeliveryReply, one_line, refusal_reply}
 use Rattle.daemon_core.specs.MailActs.{MailLine, new_mail, sent_more, TellsOn}
 use Rattle.daemon_core.specs.declared.note.Note.{Note}
 use Rattle.daemon_core.specs.declared.note.Note.TheVariants as note
@@ -35,17 +35,17 @@ use Rattle.daemon_core.specs.declared.note.Note.TheVariants as note
 in_one_line : one_line (codes "file INBOX\nvacation quiet 8\n") ≡ codes "file INBOX, vacation quiet 8"
 in_one_line = refl
 
-put_off_for_a_fault : IsDeliveryResult [] (answer.Refused Store) (Refused LocalFault)
+put_off_for_a_fault : IsDeliveryReply [] (answer.Refused Store) (Refused LocalFault)
 put_off_for_a_fault = refl
 
 of_a_bad_sender : refusal_reply (codes "a\nb") BadEnvelope ≡ BadSender
 of_a_bad_sender = refl
 
 -- near misses: a delivery that was refused is told as made; one for which the host is to blame bounces
-not_as_made : (report : List ℕ) → IsDeliveryResult [] (answer.Refused NoUser) (Delivered report) → ⊥
+not_as_made : (report : List ℕ) → IsDeliveryReply [] (answer.Refused NoUser) (Delivered report) → ⊥
 not_as_made report is = cc
 
-not_bounced : IsDeliveryResult [] (answer.Refused Store) (Refused NoSuchUser) → ⊥
+not_bounced : IsDeliveryReply [] (answer.Refused Store) (Refused NoSuchUser) → ⊥
 not_bounced is = let never : Refused NoSuchUser ≡ Refused LocalFault = is in cc
 
 -- ---- what a note tells
@@ -55,7 +55,7 @@ away_is = refl
 
 -- near misses: the step of a session is no step for a client of LMTP, nor is an event that asks no store
 not_a_step : (told : Answer) (lmtp_step : LmtpStep) → IsLmtpStep (note.Did [] (Step 1) told) lmtp_step → ⊥
-not_a_step told lmtp_step is = let never : Step 1 ≡ Deliver is.0.user (record { from = is.0.sender; to = is.0.recipient }) is.0.message is.1.when is.1.default = is.3 in cc
+not_a_step told lmtp_step is = let never : Step 1 ≡ Deliver is.0.user (record { from = is.0.sender; to = is.0.recipient }) is.0.message is.1 = is.3 in cc
 
 not_freed : (told : Answer) (lmtp_step : LmtpStep) → IsLmtpStep (note.Freed (Step 1) told) lmtp_step → ⊥
 not_freed told lmtp_step is = is

@@ -10,8 +10,8 @@ use Rattle.store_engine.specs.Limits.{is_envelope_address}
 use Rattle.store_engine.specs.declared.answer.Answer.{Answer}
 use Rattle.store_engine.specs.declared.answer.Answer.TheVariants as answer
 use Rattle.lmtp_connections.specs.Connections.{LmtpStep, Answered, Declined, Asked, Away, Brought}
-use Rattle.lmtp_connections.specs.declared.addressee.DeliveryResult.{DeliveryResult}
-use Rattle.lmtp_connections.specs.declared.addressee.DeliveryResult.TheVariants.{Delivered, Refused}
+use Rattle.lmtp_dialogue.specs.declared.recipient_reply.RecipientReply.{RecipientReply}
+use Rattle.lmtp_dialogue.specs.declared.recipient_reply.RecipientReply.TheVariants.{Delivered, Refused}
 use Rattle.lmtp_connections.specs.declared.demand.DeliveryRequest.{DeliveryRequest}
 use Rattle.lmtp_connections.specs.Stands.{ConnectionDoes, ConnectionHoldsNoMore}
 use Rattle.lmtp_connections.specs.declared.connection.LmtpConnection.{LmtpConnection}
@@ -23,7 +23,7 @@ use Rattle.daemon_core.specs.Holds.{holding_behind}
 use Rattle.daemon_core.specs.StoreAccess.{View, IsEventDone, IsAccountAsked, NothingDone, delivery_of}
 use Rattle.daemon_core.specs.declared.daemon.Daemon.{Daemon}
 use Rattle.daemon_core.specs.declared.note.Note.{Note}
-use Rattle.store_engine.specs.Terms.{Terms}
+use Rattle.store_engine.specs.declared.terms.Terms.{Terms}
 use Rattle.daemon_core.specs.declared.note.Note.TheVariants as note
 
 -- the lines of a report as one line: a comma and a space for each line end but the last one
@@ -48,10 +48,10 @@ refusal_reply sender Memory = NoRoom
 refusal_reply sender refusal = LocalFault
 
 -- what became of a message that was to be delivered: a delivery is reported, or if memory was lacking for the report just told
-abbrev pub IsDeliveryResult : List ℕ → Answer → DeliveryResult → Type 0
-IsDeliveryResult sender (answer.Delivered report) became = (became ≡ Delivered (one_line (delivery_report report))) ⊎ (became ≡ Delivered [])
-IsDeliveryResult sender (answer.Refused refusal) became = became ≡ Refused (refusal_reply sender refusal)
-IsDeliveryResult sender other became = became ≡ Refused LocalFault
+abbrev pub IsDeliveryReply : List ℕ → Answer → RecipientReply → Type 0
+IsDeliveryReply sender (answer.Delivered report) became = (became ≡ Delivered (one_line (delivery_report report))) ⊎ (became ≡ Delivered [])
+IsDeliveryReply sender (answer.Refused refusal) became = became ≡ Refused (refusal_reply sender refusal)
+IsDeliveryReply sender other became = became ≡ Refused LocalFault
 
 -- the step that a note tells; a MAIL that is refused for lack of room is answered too
 abbrev pub IsLmtpStep : Note → LmtpStep → Type 0
@@ -59,7 +59,7 @@ IsLmtpStep note.Answered lmtp_step = (lmtp_step ≡ Answered) ⊎ ((size : ℕ) 
 IsLmtpStep (note.Asked others user lookup) lmtp_step = lmtp_step ≡ Asked user lookup
 IsLmtpStep note.Away lmtp_step = lmtp_step ≡ Away
 IsLmtpStep (note.Did others event told) lmtp_step =
-    (request : DeliveryRequest) × (terms : Terms) × (became : DeliveryResult) × (event ≡ delivery_of request terms) × IsDeliveryResult request.sender told became × (lmtp_step ≡ Brought request became)
+    (request : DeliveryRequest) × (terms : Terms) × (became : RecipientReply) × (event ≡ delivery_of request terms) × IsDeliveryReply request.sender told became × (lmtp_step ≡ Brought request became)
 IsLmtpStep other lmtp_step = ⊥
 
 -- and what it makes of the store

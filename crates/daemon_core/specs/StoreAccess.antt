@@ -8,7 +8,9 @@ use Rattle.store_accounts.specs.Account.{Accounts, known_one}
 use Rattle.sieve_exec.specs.declared.when.When.{When}
 use Rattle.sqlite.specs.State.{State, HasCleanDisk}
 use Rattle.store_engine.specs.Hosts.{SessionMap, HasClients, KeepsClients}
-use Rattle.store_engine.specs.Terms.{Terms, terms}
+use Rattle.store_engine.specs.Terms.{terms}
+use Rattle.store_engine.specs.declared.terms.HostSettings.{HostSettings}
+use Rattle.store_engine.specs.declared.terms.Terms.{Terms}
 use Rattle.store_engine.specs.World.{World, Clients, Next, Runs}
 use Rattle.store_engine.specs.declared.answer.Answer.{Answer}
 use Rattle.store_engine.specs.declared.event.Event.{Event}
@@ -33,8 +35,8 @@ pub record StoreFacts (O R : Type 0) : Type 1 where
   pub view : View R
   -- the disk returned what was written
   pub clean : R → Type 0
-  -- the text of the script by which the host has mail delivered to an account without an active one, if it has one
-  pub default : O → Option (List ℕ)
+  -- what the host says of each delivery
+  pub host : O → HostSettings
   -- which messages the sink has, if mail moves on; of one that doesn't tell them this may be any
   pub has : R → List KeptMail → Type 0
 
@@ -154,9 +156,9 @@ FindsAccount told store id user before None after =
 
 -- the event of a message for one recipient, on these terms
 abbrev pub delivery_of : DeliveryRequest → Terms → Event
-delivery_of request terms = Deliver request.user (record { from = request.sender; to = request.recipient }) request.message terms.when terms.default
+delivery_of request terms = Deliver request.user (record { from = request.sender; to = request.recipient }) request.message terms
 
--- the same as `AppliesEvent`, at a moment and in a zone that the call has read, with the default script that the store's host has
+-- the same as `AppliesEvent`, at a moment and in a zone that the call has read, under what the store's host says
 abbrev pub DeliversMessage : {O R : Type 0} → Telling O Note R → StoreFacts O R → ℕ → DeliveryRequest → AccessState O → Option Answer → AccessState O → Type 0
 DeliversMessage told store id request before answer after =
-    (when : When) × AppliesEvent told store id (delivery_of request (terms when (store.default before.outside))) before answer after
+    (when : When) × AppliesEvent told store id (delivery_of request (terms when (store.host before.outside))) before answer after

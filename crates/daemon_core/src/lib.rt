@@ -4,7 +4,7 @@
 
 pub mod client_state;
 pub mod daemon;
-mod delivery_result;
+mod delivery_reply;
 mod eviction;
 pub mod life;
 mod look;

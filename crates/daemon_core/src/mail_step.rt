@@ -9,12 +9,13 @@ ghost use Rattle.lmtp_connections.specs.Stands.{Demands, HasSlot};
 ghost use Rattle.lmtp_connections.specs.declared.demand.Demand.TheVariants as demands;
 
 use crate::daemon::Daemon;
-use crate::delivery_result::result_of;
+use crate::delivery_reply::reply_for_delivery;
 use crate::mail::MailDaemon;
 use crate::mail_connections::lack_by;
 use crate::memory_room::room;
 use crate::store_access::StoreAccess;
-use lmtp_connections::{DeliveryRequest, Demand, LmtpConnection, Question, ReplyBuffer};
+use lmtp_connections::{DeliveryRequest, Demand, LmtpConnection, Question};
+use lmtp_dialogue::ReplyBuffer;
 use octets::Octets;
 use std::alloc::{AllocError, Global};
 
@@ -168,7 +169,7 @@ fn deliver<O: StoreAccess>(
     match outside.deliver(id, &mut daemon.clients, &request) {
         Some(answer) => {
             daemon.holding = daemon.holding.asked_at(now);
-            let became = result_of(alloc, request.sender.as_slice(), answer);
+            let became = reply_for_delivery(alloc, request.sender.as_slice(), answer);
             connection.answer_delivery(now, &request, became, room)
         }
         None => {

@@ -18,7 +18,7 @@ use store_engine::{Answer, Clients, Event};
 /// until it is given back.
 pub trait StoreAccess: Outside<Note = Note> {
     /// What is known of the store: which accounts it shows, what an open after a crash at this moment may find, whether the disk
-    /// returned what was written, the host's default script, and which messages the sink has.
+    /// returned what was written, the host's settings, and which messages the sink has.
     ghost store: { StoreFacts Self Self.Rest };
 
     /// Applies an event to the store and its sessions, and answers it once its change is durable. None if the store isn't available now.
@@ -40,7 +40,7 @@ pub trait StoreAccess: Outside<Note = Note> {
         ensures found { IfSome result IsFinding }
         ensures asks { FindsAccount Self.told store id user.now (access_state self.old clients.old.sessions) result (access_state self.new clients.new.sessions) };
 
-    /// Delivers a message to the store, at the moment that the clock shows now, with the host's default script, and answers it once
+    /// Delivers a message to the store, at the moment that the clock shows now, under what the host says, and answers it once
     /// its change is durable. None if the store isn't available now.
     fn deliver(
         &mut self,

@@ -35,7 +35,7 @@ use Rattle.daemon_core.proofs.MoveLemmas.{let_none, moved_then}
 use Rattle.daemon_core.proofs.StillLemmas.{still_then}
 use Rattle.daemon_core.specs.StoreAccess.{View, ViewStillShows, IsEventDone, IsAccountAsked, IsFoundIn, NothingDone, delivery_of}
 use Rattle.daemon_host.specs.Held.{SinkHasMail, ShowsBy, LeavesBy}
-use Rattle.store_engine.specs.Terms.{Terms}
+use Rattle.store_engine.specs.declared.terms.Terms.{Terms}
 use Rattle.daemon_host.specs.declared.host_store.HostStore.{HostStore}
 
 -- tables of ours are tables that `open` takes
@@ -151,7 +151,7 @@ pub delivered_as : (request : DeliveryRequest) (terms : Terms) (user message : L
 delivered_as request terms user message envelope old new kept r is_user is_envelope is_message acts =
     let own : Envelope = record { from = request.sender; to = request.recipient } in
     account_event (delivery_of request terms) (λ accounts. Delivery accounts request.user own request.message terms) (MayRefuseDelivery own request.message terms.when.moment) (λ w answer next done. done)
-    (delivery_may request.user request.message own terms.when terms.default) old new kept Delivered r (delivery_acts request terms user message envelope old new r is_user is_envelope is_message acts)
+    (delivery_may request.user request.message own terms) old new kept Delivered r (delivery_acts request terms user message envelope old new r is_user is_envelope is_message acts)
 
 -- and what a crash leaves of it
 pub delivered_crash : (request : DeliveryRequest) (terms : Terms) (user message : List ℕ) (envelope : Envelope) (old new : State) (kept : SessionMap) (r : Result Report Refusal)
@@ -160,7 +160,7 @@ pub delivered_crash : (request : DeliveryRequest) (terms : Terms) (user message 
 delivered_crash request terms user message envelope old new kept r is_user is_envelope is_message acts =
     let own : Envelope = record { from = request.sender; to = request.recipient } in
     account_crash (delivery_of request terms) (λ accounts. Delivery accounts request.user own request.message terms) (MayRefuseDelivery own request.message terms.when.moment) (λ w answer next done. done)
-    (delivery_may request.user request.message own terms.when terms.default) old new kept r (answer_by Delivered r) (delivery_acts request terms user message envelope old new r is_user is_envelope is_message acts)
+    (delivery_may request.user request.message own terms) old new kept r (answer_by Delivered r) (delivery_acts request terms user message envelope old new r is_user is_envelope is_message acts)
 
 -- what a sink keeps, as the daemon sees it
 pub has_kept : {K S T : Type 0} (tells : Bool) (kept : T → List KeptMail) (r q : HostStore K T S) (m : Moving) → KeepsIt tells (kept r.sink) (kept q.sink) m → HasKept (SinkHasMail tells kept) m r q

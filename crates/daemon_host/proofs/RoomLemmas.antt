@@ -19,7 +19,7 @@ use Rattle.daemon_core.specs.StoreAccess.{View, IsEventDone, delivery_of}
 use Rattle.daemon_host.specs.Events.{is_full}
 use Rattle.daemon_host.specs.Held.{lacking, answer_told, IsToldAs}
 use Rattle.sieve_exec.specs.declared.when.When.{When}
-use Rattle.store_engine.specs.Terms.{Terms, terms}
+use Rattle.store_engine.specs.declared.terms.Terms.{Terms}
 
 -- no cause that is seen is the store's
 abbrev is_seen : Refusal → Bool
@@ -54,11 +54,11 @@ module _ (accounts later : Accounts) (user : List ℕ) (terms : Terms) (envelope
   never_under None seen it = never_in (open_account_of accounts user) it
   never_under (Some e) seen it = of_store e (seen e refl) it.refused
 
-lacks_next : (w next : World) (user : List ℕ) (when : When) (default : Option (List ℕ)) (envelope : Envelope) (message : List ℕ) → Next w (Deliver user envelope message when default) (Refused Store) next → Next w (Deliver user envelope message when default) (Refused Memory) next
-lacks_next w next user when default envelope message (inl made) = never_under w.accounts made.0 user (terms when default) envelope message (limit_refusal envelope message when.moment) (limit_seen envelope message when.moment) made.1
-lacks_next w next user when default envelope message (inr refused) =
+lacks_next : (w next : World) (user : List ℕ) (terms : Terms) (envelope : Envelope) (message : List ℕ) → Next w (Deliver user envelope message terms) (Refused Store) next → Next w (Deliver user envelope message terms) (Refused Memory) next
+lacks_next w next user terms envelope message (inl made) = never_under w.accounts made.0 user terms envelope message (limit_refusal envelope message terms.when.moment) (limit_seen envelope message terms.when.moment) made.1
+lacks_next w next user terms envelope message (inr refused) =
     let same : refused.refusal ≡ Store = let is = refused.refused in cc in
-    inr (record { refusal = Memory; may = subst (λ r. MayRefuseEvent w (Deliver user envelope message when default) r) same refused.may; refused = refl; stays = refused.stays })
+    inr (record { refusal = Memory; may = subst (λ r. MayRefuseEvent w (Deliver user envelope message terms) r) same refused.may; refused = refl; stays = refused.stays })
 
 -- so what is told of it is an answer to the same event
 lacking_done : {R : Type 0} (view : View R) (request : DeliveryRequest) (terms : Terms) (r q : R) (kept : SessionMap) → IsEventDone view [] (delivery_of request terms) (Refused Store) r kept q kept → IsEventDone view [] (delivery_of request terms) (Refused Memory) r kept q kept
@@ -72,7 +72,7 @@ lacking_done view request terms r q kept done = λ w at.
         between = it.1.between;
         theirs = it.1.theirs;
         apart = it.1.apart;
-        ours = lacks_next it.1.between it.0 request.user terms.when terms.default own request.message it.1.ours;
+        ours = lacks_next it.1.between it.0 request.user terms own request.message it.1.ours;
       },
       record { is = it.2.is; left = it.2.left },
     )

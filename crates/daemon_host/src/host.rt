@@ -20,7 +20,6 @@ use daemon_core::note::Note;
 use daemon_core::store_access::StoreAccess;
 use lmtp_connections::DeliveryRequest;
 use lmtp_dialogue::Lookup;
-use mail_dates::HostZone;
 use maildir_files::MailSink;
 use maildir_moves::{Moving, Route, span_behind};
 use net_loop::act::Act;
@@ -28,8 +27,7 @@ use net_loop::outcome::{self, Accepted, Input, Output, Wake};
 use net_loop::outside::{Clock, Outside, Sockets};
 use net_shares::{Grace, Scheduler, TimeAccount};
 use net_sockets::SystemSockets;
-use octets::{Octets, as_deref};
-use sieve_exec::When;
+use octets::Octets;
 use sqlite::ErrorCode;
 use std::alloc::Global;
 use std::collections::VecDeque;
@@ -38,7 +36,7 @@ use std::mem::take;
 use std::net::Net;
 use std::time;
 use std::time::{Instant, SystemTime};
-use store_engine::{Answer, Clients, Event, Refusal};
+use store_engine::{Answer, Clients, Event, HostSettings, LentTerms, Refusal};
 use store_lock::{Keeper, StoreUnavailable};
 
 /// After a step of more than this many microseconds another connection has its turn.
@@ -74,10 +72,8 @@ pub struct Host<'a, N: Net + time::Clock, E: Write + Drop, K: Keeper + Drop, T: 
     /// Where mail moves on to, if it does.
     route: Option<Route>,
     path: &'a str,
-    /// The zone in which mail is delivered.
-    zone: HostZone,
-    /// The text of the script for accounts without an active one.
-    default: Option<Octets>,
+    /// What the host says of each delivery.
+    settings: HostSettings,
     /// Which connections wait for the store.
     queue: StoreTurns,
     /// The moment at which nobody waited for it, if that was so when it was last looked.
@@ -108,9 +104,8 @@ impl<'a, N: Net + time::Clock, E: Write + Drop, K: Keeper + Drop, T: MailSink + 
     K,
     T,
 > {
-    /// The store isn't held yet. Mail is delivered in the zone, and by the script `default` to an account without an active one. What
-    /// goes wrong with the store is told on the errors, and what becomes of messages; if `quiet`, nothing of those that were
-    /// delivered.
+    /// The store isn't held yet. Mail is delivered under the settings. What goes wrong with the store is told on the errors, and what
+    /// becomes of messages; if `quiet`, nothing of those that were delivered.
     pub fn new(
         alloc: Global,
         system: &'a N,
@@ -119,8 +114,7 @@ impl<'a, N: Net + time::Clock, E: Write + Drop, K: Keeper + Drop, T: MailSink + 
         sink: T,
         route: Option<Route>,
         path: &'a str,
-        zone: HostZone,
-        default: Option<Octets>,
+        settings: HostSettings,
         quiet: bool,
         errors: E,
     ) -> Host<'a, N, E, K, T> {
@@ -132,8 +126,7 @@ impl<'a, N: Net + time::Clock, E: Write + Drop, K: Keeper + Drop, T: MailSink + 
             held: HostStore::new(keeper, sink),
             route,
             path,
-            zone,
-            default,
+            settings,
             queue: StoreTurns::new(alloc),
             looked: None,
             turns: Scheduler::new(alloc),
@@ -161,7 +154,7 @@ impl<'a, N: Net + time::Clock, E: Write + Drop, K: Keeper + Drop, T: MailSink + 
     /// Begins an act.
     fn begin_act(&mut self)
         ensures same { self.new.held ≡ self.old.held }
-        ensures default { self.new.default ≡ self.old.default }
+        ensures settings { self.new.settings ≡ self.old.settings }
     {
         self.begun = start(self.system);
     }
@@ -169,7 +162,7 @@ impl<'a, N: Net + time::Clock, E: Write + Drop, K: Keeper + Drop, T: MailSink + 
     /// Ends an act of a connection, of that kind and for that account; the next one begins.
     fn end_act(&mut self, id: u32, account: TimeAccount, what: &[u8])
         ensures same { self.new.held ≡ self.old.held }
-        ensures default { self.new.default ≡ self.old.default }
+        ensures settings { self.new.settings ≡ self.old.settings }
     {
         let Some(micros) = micros_since(self.system, self.begun) else {
             return;
@@ -187,7 +180,7 @@ impl<'a, N: Net + time::Clock, E: Write + Drop, K: Keeper + Drop, T: MailSink + 
     /// Charges the microseconds of an act to the account of a connection, or to the one whose large message lies in SQLite's log.
     fn charge(&mut self, id: u32, account: TimeAccount, now: u64, micros: u64)
         ensures same { self.new.held ≡ self.old.held }
-        ensures default { self.new.default ≡ self.old.default }
+        ensures settings { self.new.settings ≡ self.old.settings }
     {
         let owner = if micros > MAX_STEP {
             take(&mut self.logged)
@@ -208,7 +201,7 @@ impl<'a, N: Net + time::Clock, E: Write + Drop, K: Keeper + Drop, T: MailSink + 
     /// Ends a delivery. That of a large message is in its user's own time, and so is the next long act.
     fn end_delivery(&mut self, id: u32, request: &DeliveryRequest)
         ensures same { self.new.held ≡ self.old.held }
-        ensures default { self.new.default ≡ self.old.default }
+        ensures settings { self.new.settings ≡ self.old.settings }
     {
         let user = request.user.as_slice();
         let is_large = request.message.len() > MAX_LOGGED;
@@ -227,7 +220,7 @@ impl<'a, N: Net + time::Clock, E: Write + Drop, K: Keeper + Drop, T: MailSink + 
     /// Notes that an act of a connection took that many microseconds, up to a moment in milliseconds.
     fn note_act(&mut self, id: u32, now: u64, micros: u64)
         ensures same { self.new.held ≡ self.old.held }
-        ensures default { self.new.default ≡ self.old.default }
+        ensures settings { self.new.settings ≡ self.old.settings }
     {
         self.acted = self.acted.saturating_add(micros);
         if self.turns.is_late(id, now) {
@@ -240,7 +233,7 @@ impl<'a, N: Net + time::Clock, E: Write + Drop, K: Keeper + Drop, T: MailSink + 
     /// From now on the acts of a connection are a user's, as far as is known.
     fn enter_user(&mut self, id: u32, user: &[u8])
         ensures same { self.new.held ≡ self.old.held }
-        ensures default { self.new.default ≡ self.old.default }
+        ensures settings { self.new.settings ≡ self.old.settings }
     {
         if let Ok(name) = Octets::from_slice(self.alloc, user) {
             let _ = self.turns.enter(id, TimeAccount::User(name));
@@ -250,7 +243,7 @@ impl<'a, N: Net + time::Clock, E: Write + Drop, K: Keeper + Drop, T: MailSink + 
     /// The same, for a user.
     fn end_act_of(&mut self, id: u32, user: &[u8], what: &[u8])
         ensures same { self.new.held ≡ self.old.held }
-        ensures default { self.new.default ≡ self.old.default }
+        ensures settings { self.new.settings ≡ self.old.settings }
     {
         if let Ok(name) = Octets::from_slice(self.alloc, user) {
             self.end_act(id, TimeAccount::User(name), what);
@@ -260,7 +253,7 @@ impl<'a, N: Net + time::Clock, E: Write + Drop, K: Keeper + Drop, T: MailSink + 
     /// The same of a step that asked no store, for the account for which the connection had its last act.
     fn end_free_act(&mut self, id: u32)
         ensures same { self.new.held ≡ self.old.held }
-        ensures default { self.new.default ≡ self.old.default }
+        ensures settings { self.new.settings ≡ self.old.settings }
     {
         let account = match self.turns.account(id) {
             Some(account) => account.try_clone(self.alloc),
@@ -274,7 +267,7 @@ impl<'a, N: Net + time::Clock, E: Write + Drop, K: Keeper + Drop, T: MailSink + 
     /// The same, for who is logged in at a client of ManageSieve.
     fn end_step(&mut self, id: u32, clients: &Clients)
         ensures same { self.new.held ≡ self.old.held }
-        ensures default { self.new.default ≡ self.old.default }
+        ensures settings { self.new.settings ≡ self.old.settings }
     {
         match user_of(clients, id) {
             Some(user) => self.end_act_of(id, user, b"command"),
@@ -285,7 +278,7 @@ impl<'a, N: Net + time::Clock, E: Write + Drop, K: Keeper + Drop, T: MailSink + 
     /// Ends the act of a connection that looked for a user's account; if there is one, the next acts are that user's.
     fn end_lookup(&mut self, id: u32, user: &[u8], lookup: Lookup)
         ensures same { self.new.held ≡ self.old.held }
-        ensures default { self.new.default ≡ self.old.default }
+        ensures settings { self.new.settings ≡ self.old.settings }
     {
         self.end_act(id, TimeAccount::Senders, b"lookup");
         if is_known(lookup) {
@@ -297,7 +290,7 @@ impl<'a, N: Net + time::Clock, E: Write + Drop, K: Keeper + Drop, T: MailSink + 
     /// time of all senders.
     fn enter_recipient(&mut self, id: u32, user: &[u8])
         ensures same { self.new.held ≡ self.old.held }
-        ensures default { self.new.default ≡ self.old.default }
+        ensures settings { self.new.settings ≡ self.old.settings }
     {
         self.enter_user(id, user);
         let now = self.sockets.now();
@@ -309,7 +302,7 @@ impl<'a, N: Net + time::Clock, E: Write + Drop, K: Keeper + Drop, T: MailSink + 
     /// Whether the store may be asked now for a connection: it is its turn, the store didn't fail, and nobody waits for it.
     fn may_ask(&mut self, id: u32) -> bool
         ensures shown { StillShown K.S.Store K.tells K.holds self.old.held self.new.held }
-        ensures default { self.new.default ≡ self.old.default }
+        ensures settings { self.new.settings ≡ self.old.settings }
     {
         let now = self.sockets.now();
         if self.is_held_up(id, now) {
@@ -322,7 +315,7 @@ impl<'a, N: Net + time::Clock, E: Write + Drop, K: Keeper + Drop, T: MailSink + 
     /// account used little was served so lately that the next command may come. So nobody waits for two long acts.
     fn is_held_up(&mut self, id: u32, now: u64) -> bool
         ensures same { self.new.held ≡ self.old.held }
-        ensures default { self.new.default ≡ self.old.default }
+        ensures settings { self.new.settings ≡ self.old.settings }
     {
         if !self.turns.is_late(id, now) {
             return false;
@@ -348,7 +341,7 @@ impl<'a, N: Net + time::Clock, E: Write + Drop, K: Keeper + Drop, T: MailSink + 
     /// A connection waits for the store.
     fn await_turn(&mut self, id: u32)
         ensures same { self.new.held ≡ self.old.held }
-        ensures default { self.new.default ≡ self.old.default }
+        ensures settings { self.new.settings ≡ self.old.settings }
     {
         let now = self.sockets.now();
         self.queue.join(id, now);
@@ -358,7 +351,7 @@ impl<'a, N: Net + time::Clock, E: Write + Drop, K: Keeper + Drop, T: MailSink + 
     fn is_awaited(&mut self) -> bool
         ensures shown { StillShown K.S.Store K.tells K.holds self.old.held self.new.held }
         ensures sink { self.new.held.sink ≡ self.old.held.sink }
-        ensures default { self.new.default ≡ self.old.default }
+        ensures settings { self.new.settings ≡ self.old.settings }
     {
         let now = self.sockets.now();
         if self.held.has_store() && self.looked == Some(now) {
@@ -491,18 +484,19 @@ impl<'a, N: Net + time::Clock, E: Write + Drop, K: Keeper + Drop, T: MailSink + 
 
     /// Delivers a message at the moment that the clock shows, if the store may be asked and is available.
     fn try_deliver(&mut self, id: u32, request: &DeliveryRequest) -> Option<Answer>
-        ensures { (when : When) × ((kept : SessionMap) → HostBrings K.S.Store K.tells K.holds (delivery_of request.now (terms when self.old.default)) result (access_state self.old.held kept) (access_state self.new.held kept)) }
+        ensures { (when : When) × ((kept : SessionMap) → HostBrings K.S.Store K.tells K.holds (delivery_of request.now (terms when self.old.settings)) result (access_state self.old.held kept) (access_state self.new.held kept)) }
     {
-        let when = when_in(self.system, &self.zone);
+        let when = self.settings.at(seconds(self.system)).when;
         if !self.may_ask(id) {
             return None;
         }
         let begun = start(self.system);
         self.reach();
-        match self
-            .held
-            .deliver(self.alloc, request, when, as_deref(&self.default))
-        {
+        let terms = LentTerms {
+            when,
+            host: &self.settings,
+        };
+        match self.held.deliver(self.alloc, request, terms) {
             Some(answer) => {
                 let code = self.held.code();
                 note_time(&mut self.news, self.system, begun);
@@ -571,7 +565,7 @@ impl<'a, N: Net + time::Clock, E: Write + Drop, K: Keeper + Drop, T: MailSink + 
     fn reach(&mut self)
         ensures shown { StillShown K.S.Store K.tells K.holds self.old.held self.new.held }
         ensures sink { self.new.held.sink ≡ self.old.held.sink }
-        ensures default { self.new.default ≡ self.old.default }
+        ensures settings { self.new.settings ≡ self.old.settings }
     {
         if self.held.has_store() || self.news.lasts(self.sockets.now()) {
             return;
@@ -715,15 +709,6 @@ fn micros_since<C: time::Clock>(clock: &C, begun: Option<Instant>) -> Option<u64
     Some(passed.as_secs().min(3600) * 1000000 + passed.subsec_micros() as u64)
 }
 
-/// When it is now, by the clock of a zone.
-fn when_in<C: time::Clock>(clock: &C, zone: &HostZone) -> When {
-    let moment = seconds(clock);
-    When {
-        moment,
-        zone: zone.at(moment),
-    }
-}
-
 /// The seconds since 1970; if the clock can't be read, a moment at which nothing is delivered.
 fn seconds<C: time::Clock>(clock: &C) -> u64 {
     let Ok(now) = SystemTime::now(clock) else {
@@ -836,7 +821,7 @@ impl<N: Net + time::Clock, E: Write + Drop, K: Keeper + Drop, T: MailSink + Drop
     ghost store = { record {
       view = host_view K.S.Store K.tells K.holds;
       clean = IsClean K.S.Store K.tells;
-      default = λ host. host.default;
+      host = λ host. host.settings;
       has = SinkHasMail T.tells T.kept;
     } };
 

@@ -13,11 +13,10 @@ use lmtp_connections::DeliveryRequest;
 use lmtp_dialogue::Lookup;
 use maildir_files::MailSink;
 use maildir_moves::{Moving, Route, move_next};
-use sieve_exec::When;
 use sqlite::ErrorCode;
 use std::alloc::{AllocError, Global};
 use std::io::ErrorKind;
-use store_engine::{Answer, Clients, Envelope, Event, Refusal, apply, deliver};
+use store_engine::{Answer, Clients, Envelope, Event, LentTerms, Refusal, apply, deliver};
 use store_lock::{HeldStore, Keeper, StoreUnavailable};
 
 /// A store that is held now and then, and who keeps the mail that moves on from it.
@@ -123,16 +122,14 @@ impl<K: Keeper + Drop, T: MailSink + Drop> HostStore<K, T> {
         Some(find_account(store, user))
     }
 
-    /// Delivers a message for one recipient, by a host with this default script, and answers that as an event; no copy is made of
-    /// the message. None if the store isn't held, or memory is lacking for the envelope.
+    /// Delivers a message for one recipient under these terms, and answers that as an event; no copy is made of the message. None if the store isn't held, or memory is lacking for the envelope.
     pub fn deliver(
         &mut self,
         alloc: Global,
         request: &DeliveryRequest,
-        when: When,
-        default: Option<&[u8]>,
+        terms: LentTerms<'_>,
     ) -> Option<Answer>
-        ensures { (kept : SessionMap) → HostBrings K.S.Store K.tells K.holds (delivery_of request.now (terms_of when default.entry)) result (access_state self.old kept) (access_state self.new kept) }
+        ensures { (kept : SessionMap) → HostBrings K.S.Store K.tells K.holds (delivery_of request.now (terms_of terms.entry)) result (access_state self.old kept) (access_state self.new kept) }
     {
         let Ok(envelope) = envelope_of(alloc, request) else {
             return None;
@@ -141,7 +138,7 @@ impl<K: Keeper + Drop, T: MailSink + Drop> HostStore<K, T> {
             return None;
         };
         let (user, message) = (request.user.as_slice(), request.message.as_slice());
-        match deliver(alloc, store, user, envelope, message, when, default) {
+        match deliver(alloc, store, user, envelope, message, terms) {
             Ok(report) => Some(Answer::Delivered(report)),
             Err(refusal) => Some(Answer::Refused(refusal)),
         }

@@ -2,7 +2,8 @@
 use Rattle.std.proofs.Common.{◌≡◌, ◌∙◌, inl, inr, ℕ, true, ◌+◌, ◌<◌, if◌then◌else◌, List, [], ◌∷◌, ◌++◌, length, Some, None, refl, sym, ap, subst, arith, length-append}
 use Rattle.lmtp_dialogue.specs.Dialogues.{DialoguePhase, Sending, Dialogue, dialogue_given, Message}
 use Rattle.lmtp_dialogue.specs.Receivers.{StandsIn, ComesNext, ReceiverGoes as GoesIn, GoesFrom, SaysNext, ReceiverHears as HearsIn, ReceiverRefuses as RefusesIn}
-use Rattle.lmtp_dialogue.specs.Replies.{lmtp_line_of, outcome_line}
+use Rattle.lmtp_dialogue.specs.RecipientReplies.{recipient_lines}
+use Rattle.lmtp_dialogue.specs.Replies.{lmtp_line_of}
 use Rattle.lmtp_dialogue.specs.Talks.{phase_by}
 use Rattle.lmtp_dialogue.specs.Turns.{DialogueAnswers, Declines, Resolves, DialogueReplies, lookup_reply, replied}
 use Rattle.lmtp_dialogue.specs.declared.receiver.Lookup.{Lookup}
@@ -11,13 +12,13 @@ use Rattle.lmtp_dialogue.specs.declared.receiver.Next.{Next}
 use Rattle.lmtp_dialogue.specs.declared.receiver.Receiver.{Receiver}
 use Rattle.lmtp_dialogue.specs.declared.receiver.LmtpStage.{LmtpStage}
 use Rattle.lmtp_dialogue.specs.declared.receiver.LmtpStage.TheVariants as stage
-use Rattle.lmtp_dialogue.specs.declared.reply.RecipientReply.{RecipientReply}
+use Rattle.lmtp_dialogue.specs.declared.recipient_reply.RecipientReply.{RecipientReply}
 use Rattle.lmtp_dialogue.proofs.DialogueLemmas.{one_item}
-use Rattle.lmtp_connections.specs.Connections.{LmtpState, is_transaction_open, is_sending, has_some, lmtp_state_after, Answered, Declined, Asked, Away, Brought, IsFormAsked, taken_with, next_form, LookupFinds, IsFinding, Resolved, first_form, IsOwed, said_for, lmtp_state_told, next_recipient}
+use Rattle.lmtp_connections.specs.Connections.{LmtpState, is_transaction_open, is_sending, has_some, lmtp_state_after, Answered, Declined, Asked, Away, Brought, IsFormAsked, taken_with, next_form, LookupFinds, IsFinding, Resolved, first_form, IsOwed, lmtp_state_told, next_recipient}
 use Rattle.lmtp_connections.specs.Stands.{wanted_for, ConnectionHolds, ConnectionStands, is_open_at, is_sending_at, Settles, ConnectionGoesOn, AsksRecipient, ResolvesIt, TellsIt, ConnectionKeeps, ConnectionHears, ConnectionDoes, IsNextForm, Demands, AsksIt}
 use Rattle.lmtp_connections.specs.Progress.{progress_done, progress_settled, progress_heard, progress_away}
 use Rattle.lmtp_connections.specs.declared.addressee.Addressee.{Addressee}
-use Rattle.lmtp_connections.specs.declared.addressee.DeliveryResult.{DeliveryResult}
+use Rattle.lmtp_dialogue.specs.declared.recipient_reply.RecipientReply.{RecipientReply}
 use Rattle.lmtp_connections.specs.declared.demand.Demand.TheVariants as demand
 use Rattle.lmtp_connections.specs.declared.demand.DeliveryRequest.{DeliveryRequest}
 use Rattle.lmtp_connections.specs.declared.demand.Question.{Question}
@@ -173,8 +174,8 @@ resolves now lookup said octets c m e admits line hello names addressees progres
 longer : (before after : List Addressee) (it : Addressee) → length before < length (before ++ it ∷ after)
 longer before after it = grind (arith, length-append)
 
-pub tells : (now : ℕ) (became : DeliveryResult) (said octets : List ℕ) (any : RecipientReply) (c m n e : Code) → GoesIn (λ d. DialogueReplies d any) c.receiver m.receiver [] octets
-    → said ≡ said_for became → m.receiver.talk.hello ≡ c.receiver.talk.hello → m.names ≡ c.names → m.addressees ≡ c.addressees → m.progress ≡ c.progress
+pub tells : (now : ℕ) (became : RecipientReply) (said octets : List ℕ) (any : RecipientReply) (c m n e : Code) → GoesIn (λ d. DialogueReplies d any) c.receiver m.receiver [] octets
+    → said ≡ recipient_lines became → m.receiver.talk.hello ≡ c.receiver.talk.hello → m.names ≡ c.names → m.addressees ≡ c.addressees → m.progress ≡ c.progress
     → ((before after : List Addressee) (it : Addressee) → m.addressees.items ≡ before ++ it ∷ after → length before ≡ m.progress.told → n.addressees.items ≡ before ++ record it { became = Some became } ∷ after)
     → (m.progress.told < length m.addressees.items → n.progress ≡ next_recipient m.progress) → n.receiver ≡ m.receiver → n.names ≡ m.names → ConnectionGoesOn now n e
     → TellsIt now became said c e
@@ -214,7 +215,7 @@ tells now became said octets any c m n e passes line hello names addressees prog
           ∙ (ap (λ x. replied sender x p.dialogue r.rest) (ap left_of phase)
           ∙ ap (λ x. replied sender is.left p.dialogue x) (one_item p.dialogue (Message r.text) (Message text) r.rest is.rest r.first is.first).1)) in
           on p (replied sender is.left p.dialogue is.rest) before it after stands is.addressees is.count (subst (λ d. StandsIn m.receiver d) later g.stands)
-      | inr none ↦ absurd (none.0 (outcome_line any) _ (record { sender = sender; recipient = it.address; left = is.left; text = text; rest = is.rest; owed = is.owed; first = is.first; told = refl; leaves = refl }))
+      | inr none ↦ absurd (none.0 (recipient_lines any) _ (record { sender = sender; recipient = it.address; left = is.left; text = text; rest = is.rest; owed = is.owed; first = is.first; told = refl; leaves = refl }))
     ]
 
 -- ---- the store is away
@@ -303,7 +304,7 @@ puts_off now said c e demands resolved = λ p stands.
 
 -- ---- a reply is made
 
-pub replies : (now : ℕ) (became : DeliveryResult) (said : List ℕ) (c e : Code) → Demands now c (demand.Reply became) → TellsIt now became said c e → ConnectionDoes now Answered said c e
+pub replies : (now : ℕ) (became : RecipientReply) (said : List ℕ) (c e : Code) → Demands now c (demand.Reply became) → TellsIt now became said c e → ConnectionDoes now Answered said c e
 replies now became said c e demands told = λ p stands.
     let d = demands p stands in
     let t = told p stands d.0 d.1 d.2 d.3 d.4 d.5 in (
@@ -312,7 +313,7 @@ replies now became said c e demands told = λ p stands.
       t.1,
     )
 
-pub answer_delivery : (now : ℕ) (request : DeliveryRequest) (became : DeliveryResult) (said : List ℕ) (c e : Code) → Demands now c (demand.Delivery request) → TellsIt now became said c e → ConnectionDoes now (Brought request became) said c e
+pub answer_delivery : (now : ℕ) (request : DeliveryRequest) (became : RecipientReply) (said : List ℕ) (c e : Code) → Demands now c (demand.Delivery request) → TellsIt now became said c e → ConnectionDoes now (Brought request became) said c e
 answer_delivery now request became said c e demands told = λ p stands.
     let d = demands p stands in
     let t = told p stands d.1.0 d.1.1 d.1.2 request.sender d.1.3 d.1.4.is in (

@@ -15,8 +15,8 @@ use Rattle.lmtp_connections.specs.Connections.{LmtpState, IsOwed, earlier, IsNew
 use Rattle.lmtp_connections.specs.Stands.{reply_for, ConnectionStands, Demands, IsNextForm, FormFollows, told_before, Owes}
 use Rattle.lmtp_connections.specs.Progress.{MayAskStore, HasWaited}
 use Rattle.lmtp_connections.specs.declared.addressee.Addressee.{Addressee}
-use Rattle.lmtp_connections.specs.declared.addressee.DeliveryResult.{DeliveryResult}
-use Rattle.lmtp_connections.specs.declared.addressee.DeliveryResult.TheVariants.{Refused}
+use Rattle.lmtp_dialogue.specs.declared.recipient_reply.RecipientReply.{RecipientReply}
+use Rattle.lmtp_dialogue.specs.declared.recipient_reply.RecipientReply.TheVariants.{Refused}
 use Rattle.lmtp_connections.specs.declared.demand.Demand.TheVariants as demand
 use Rattle.lmtp_connections.specs.declared.demand.DeliveryRequest.{DeliveryRequest}
 use Rattle.lmtp_connections.specs.declared.demand.Question.{Question}
@@ -120,7 +120,7 @@ module _ (now : ℕ) (c : Code) (it : Addressee) (received : ReceivedMessage) (d
       (told_before c, it, o.after, received.sender.now, o.text, o.is, becomes fault p o.text (subst (IsKept o.text) is o.kept))
 
 module _ (now : ℕ) (c : Code) (it : Addressee) (sender text : List ℕ) (owes : Owes c it sender text) where
-  pub again : (became : DeliveryResult) → earlier (told_before c) it ≡ Some became → Demands now c (demand.Reply became)
+  pub again : (became : RecipientReply) → earlier (told_before c) it ≡ Some became → Demands now c (demand.Reply became)
   again became is = λ p stands.
       let o = owes p stands in
       (told_before c, it, o.0, sender, text, o.1, Again is)

@@ -9,8 +9,8 @@ use Rattle.lmtp_dialogue.specs.declared.reply.LmtpReply.TheVariants.{NoSuchUser,
 use Rattle.lmtp_connections.specs.Connections.{LmtpState, LookupFinds, IsFinding, IsNewDelivery, BecomesWithoutStore, TooLarge, Lacked, Again, LongHeader, Circles, PutOff, IsDeliveryRequest, earlier, has_long_text_header, taken_with, next_form}
 use Rattle.lmtp_connections.specs.Progress.{new_progress, MayAskStore, HasWaited, progress_done}
 use Rattle.lmtp_connections.specs.declared.addressee.Addressee.{Addressee}
-use Rattle.lmtp_connections.specs.declared.addressee.DeliveryResult.{DeliveryResult}
-use Rattle.lmtp_connections.specs.declared.addressee.DeliveryResult.TheVariants.{Refused}
+use Rattle.lmtp_dialogue.specs.declared.recipient_reply.RecipientReply.{RecipientReply}
+use Rattle.lmtp_dialogue.specs.declared.recipient_reply.RecipientReply.TheVariants.{Refused}
 use Rattle.lmtp_connections.specs.declared.demand.DeliveryRequest.{DeliveryRequest}
 use Rattle.lmtp_connections.specs.declared.progress.LmtpProgress.{LmtpProgress}
 use Rattle.lmtp_connections.specs.declared.progress.StoreWait.TheVariants.{Nothing, Store}
@@ -60,7 +60,7 @@ taken_by_that_name = refl
 -- ---- a reply behind the text
 
 -- of a message that may be brought nothing becomes without the store, but for lack of memory: so no 250 is made up, and no 550
-nothing_without_the_store : (now : ℕ) (p : LmtpState) (before : List Addressee) (it : Addressee) (text : List ℕ) (became : DeliveryResult) → IsNewDelivery before it text → MayAskStore now p.progress
+nothing_without_the_store : (now : ℕ) (p : LmtpState) (before : List Addressee) (it : Addressee) (text : List ℕ) (became : RecipientReply) → IsNewDelivery before it text → MayAskStore now p.progress
     → BecomesWithoutStore now p before it text became → became ≡ Refused NoRoom
 nothing_without_the_store now p before it text became new may (TooLarge large is) = absurd (omega (arith, large, new.small))
 nothing_without_the_store now p before it text became new may (Lacked is) = is
@@ -81,18 +81,18 @@ too_long_header : (text : List ℕ) → body_start text ≡ 1046377 → has_long
 too_long_header text is = rw is refl
 
 -- for the same account and address nothing is brought twice
-not_twice : (p : LmtpState) (other it : Addressee) (after : List Addressee) (text : List ℕ) (request : DeliveryRequest) (became : DeliveryResult) → earlier (other ∷ []) it ≡ Some became
+not_twice : (p : LmtpState) (other it : Addressee) (after : List Addressee) (text : List ℕ) (request : DeliveryRequest) (became : RecipientReply) → earlier (other ∷ []) it ≡ Some became
     → IsDeliveryRequest p (other ∷ []) it after text request → ⊥
 not_twice p other it after text request became there is = let never : None ≡ Some became = sym is.new.once ∙ there in cc
 
-abbrev ann : Option DeliveryResult → Addressee
+abbrev ann : Option RecipientReply → Addressee
 ann became = record { user = codes "ann"; address = codes "ann@x"; became = became }
 
-told_again : (became : DeliveryResult) → earlier (ann (Some became) ∷ []) (ann None) ≡ Some became
+told_again : (became : RecipientReply) → earlier (ann (Some became) ∷ []) (ann None) ≡ Some became
 told_again became = refl
 
 -- near miss: another address of the same account is another recipient
-not_the_same : (became : DeliveryResult) → earlier (record { user = codes "ann"; address = codes "ann+b@x"; became = Some became } ∷ []) (ann None) ≡ None
+not_the_same : (became : RecipientReply) → earlier (record { user = codes "ann"; address = codes "ann+b@x"; became = Some became } ∷ []) (ann None) ≡ None
 not_the_same became = refl
 
 -- near misses: brought to another form of the name; sender and recipient swapped

@@ -5,15 +5,16 @@ use Rattle.mail_head.specs.Heads.{body_start}
 use Rattle.lmtp_dialogue.specs.Copies.{IsCopy, was_delivered}
 use Rattle.lmtp_dialogue.specs.Dialogues.{DialoguePhase, Greeted, Ready, Opened, Asking, Sending, Over, Dialogue, new_dialogue, dialogue_given, Message, IsNextItem}
 use Rattle.lmtp_dialogue.specs.Names.{AreForms}
-use Rattle.lmtp_dialogue.specs.Replies.{lmtp_line_of, delivered_reply, lmtp_capabilities}
+use Rattle.lmtp_dialogue.specs.RecipientReplies.{recipient_lines}
+use Rattle.lmtp_dialogue.specs.Replies.{lmtp_capabilities}
 use Rattle.lmtp_dialogue.specs.Turns.{max_text, DialogueAnswers, Declines, Resolves, replied}
 use Rattle.lmtp_dialogue.specs.declared.name.Names.{Names}
 use Rattle.lmtp_dialogue.specs.declared.receiver.Lookup.{Lookup}
 use Rattle.lmtp_dialogue.specs.declared.receiver.Lookup.TheVariants.{Known, Unknown, Away as Absent}
 use Rattle.lmtp_dialogue.specs.declared.reply.LmtpReply.TheVariants.{MessageTooLarge, HeaderTooLarge, NoRoom, MailLoop, StoreAway}
 use Rattle.lmtp_connections.specs.declared.addressee.Addressee.{Addressee}
-use Rattle.lmtp_connections.specs.declared.addressee.DeliveryResult.{DeliveryResult}
-use Rattle.lmtp_connections.specs.declared.addressee.DeliveryResult.TheVariants.{Delivered, Refused}
+use Rattle.lmtp_dialogue.specs.declared.recipient_reply.RecipientReply.{RecipientReply}
+use Rattle.lmtp_dialogue.specs.declared.recipient_reply.RecipientReply.TheVariants.{Refused}
 use Rattle.lmtp_connections.specs.declared.demand.DeliveryRequest.{DeliveryRequest}
 use Rattle.lmtp_connections.specs.declared.progress.LmtpProgress.{LmtpProgress}
 use Rattle.lmtp_connections.specs.Progress.{new_progress, MayAskStore, HasWaited, progress_away, progress_done, progress_settled, progress_heard}
@@ -75,7 +76,7 @@ pub data LmtpStep : Type 0 where
   -- the store was asked for, and wasn't available
   Away : LmtpStep
   -- a message was to be delivered by the store, and this became of it
-  Brought : DeliveryRequest → DeliveryResult → LmtpStep
+  Brought : DeliveryRequest → RecipientReply → LmtpStep
 
 -- ---- a line
 
@@ -130,11 +131,6 @@ IsFinding lookup = Unit {0}
 
 -- ---- the text
 
--- what is said of what became of it
-abbrev pub said_for : DeliveryResult → List ℕ
-said_for (Delivered report) = delivered_reply report
-said_for (Refused reply) = lmtp_line_of reply
-
 -- the recipient to whom a reply is owed next, with those before it and after it; the text is whole
 pub record IsOwed (p : LmtpState) (before : List Addressee) (it : Addressee) (after : List Addressee) (sender text : List ℕ) : Type 0 where
   pub left : List (List ℕ)
@@ -148,12 +144,12 @@ pub record IsOwed (p : LmtpState) (before : List Addressee) (it : Addressee) (af
 abbrev pub is_same : Addressee → Addressee → Bool
 is_same it other = pointwise nat_eq other.user it.user && pointwise nat_eq other.address it.address
 
-abbrev pub became_of : Option Addressee → Option DeliveryResult
+abbrev pub became_of : Option Addressee → Option RecipientReply
 became_of None = None
 became_of (Some other) = other.became
 
 -- what became of the message for the same recipient among those before it
-abbrev pub earlier : List Addressee → Addressee → Option DeliveryResult
+abbrev pub earlier : List Addressee → Addressee → Option RecipientReply
 earlier before it = became_of (find (is_same it) before)
 
 -- the most octets of a text's header, with the empty line that ends it: a message's own, 1,048,576, less 2,200 for the two fields that a
@@ -175,7 +171,7 @@ pub record IsNewDelivery (before : List Addressee) (it : Addressee) (text : List
 
 -- what became of it without the store: it is too large; memory was lacking for it; it was delivered or refused already, for the same
 -- recipient; its header is too large; it went in a circle; or the store was away for too long
-pub data BecomesWithoutStore (now : ℕ) (p : LmtpState) (before : List Addressee) (it : Addressee) (text : List ℕ) (became : DeliveryResult) : Type 0 where
+pub data BecomesWithoutStore (now : ℕ) (p : LmtpState) (before : List Addressee) (it : Addressee) (text : List ℕ) (became : RecipientReply) : Type 0 where
   TooLarge : max_text < length text → became ≡ Refused MessageTooLarge → BecomesWithoutStore now p before it text became
   Lacked : became ≡ Refused NoRoom → BecomesWithoutStore now p before it text became
   Again : earlier before it ≡ Some became → BecomesWithoutStore now p before it text became
@@ -187,19 +183,19 @@ abbrev pub next_recipient : LmtpProgress → LmtpProgress
 next_recipient t = record t { told = t.told + 1 }
 
 -- after the reply: what became of the message is noted
-abbrev pub lmtp_state_told : ℕ → DeliveryResult → (p : LmtpState) (before : List Addressee) (it : Addressee) (after : List Addressee) (sender text : List ℕ) → IsOwed p before it after sender text → LmtpState
+abbrev pub lmtp_state_told : ℕ → RecipientReply → (p : LmtpState) (before : List Addressee) (it : Addressee) (after : List Addressee) (sender text : List ℕ) → IsOwed p before it after sender text → LmtpState
 lmtp_state_told now became p before it after sender text is =
     lmtp_state_after now (replied sender is.left p.dialogue is.rest) (before ++ record it { became = Some became } ∷ after) (next_recipient p.progress) p
 
 -- the reply is made
-pub record Replied (now : ℕ) (p : LmtpState) (became : DeliveryResult) (said : List ℕ) (q : LmtpState) : Type 0 where
+pub record Replied (now : ℕ) (p : LmtpState) (became : RecipientReply) (said : List ℕ) (q : LmtpState) : Type 0 where
   pub before : List Addressee
   pub it : Addressee
   pub after : List Addressee
   pub sender : List ℕ
   pub text : List ℕ
   pub is : IsOwed p before it after sender text
-  pub says : said ≡ said_for became
+  pub says : said ≡ recipient_lines became
   pub leaves : q ≡ lmtp_state_told now became p before it after sender text is
 
 -- the message that is delivered: to the account of the recipient to whom a reply is owed next, from the sender, and its copy
@@ -222,7 +218,7 @@ abbrev pub AnswersWithoutStore : ℕ → LmtpState → List ℕ → LmtpState �
 AnswersWithoutStore now p said q =
     AnswersLine now p said q
     ⊎ ((HasWaited now p.progress × Resolved now p Absent p.addressees said q)
-    ⊎ ((became : DeliveryResult) × (replies : Replied now p became said q) × BecomesWithoutStore now p replies.before replies.it replies.text became))
+    ⊎ ((became : RecipientReply) × (replies : Replied now p became said q) × BecomesWithoutStore now p replies.before replies.it replies.text became))
 
 abbrev pub LmtpGoes : ℕ → LmtpState → LmtpStep → List ℕ → LmtpState → Type 0
 LmtpGoes now p Answered said q = AnswersWithoutStore now p said q

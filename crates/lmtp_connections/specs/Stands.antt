@@ -8,15 +8,16 @@ use Rattle.lmtp_dialogue.specs.declared.receiver.Next.TheVariants as next
 use Rattle.lmtp_dialogue.specs.declared.receiver.Lookup.{Lookup}
 use Rattle.lmtp_dialogue.specs.declared.receiver.LmtpStage.{LmtpStage}
 use Rattle.lmtp_dialogue.specs.declared.receiver.LmtpStage.TheVariants as stage
+use Rattle.lmtp_dialogue.specs.RecipientReplies.{recipient_lines}
 use Rattle.lmtp_dialogue.specs.Turns.{Declines, Resolves, max_text}
 use Rattle.lmtp_dialogue.specs.declared.reply.LmtpReply.{LmtpReply}
 use Rattle.lmtp_dialogue.specs.declared.reply.LmtpReply.TheVariants.{MessageTooLarge, NoRoom}
 use Rattle.lmtp_dialogue.specs.declared.message_text.TextFault.{TextFault}
 use Rattle.lmtp_dialogue.specs.declared.message_text.TextFault.TheVariants.{TooLarge, Memory}
-use Rattle.lmtp_connections.specs.Connections.{LmtpState, has_some, lmtp_state_after, lmtp_state_heard, LmtpStep, Declined, LmtpGoes, LmtpAsksStore, IsFormAsked, first_form, IsOwed, BecomesWithoutStore, said_for, lmtp_state_told, IsDeliveryRequest}
+use Rattle.lmtp_connections.specs.Connections.{LmtpState, has_some, lmtp_state_after, lmtp_state_heard, LmtpStep, Declined, LmtpGoes, LmtpAsksStore, IsFormAsked, first_form, IsOwed, BecomesWithoutStore, lmtp_state_told, IsDeliveryRequest}
 use Rattle.lmtp_connections.specs.Progress.{MayAskStore, HasWaited, progress_settled, wanted}
 use Rattle.lmtp_connections.specs.declared.addressee.Addressee.{Addressee}
-use Rattle.lmtp_connections.specs.declared.addressee.DeliveryResult.{DeliveryResult}
+use Rattle.lmtp_dialogue.specs.declared.recipient_reply.RecipientReply.{RecipientReply}
 use Rattle.lmtp_connections.specs.declared.demand.Demand.{Demand}
 use Rattle.lmtp_connections.specs.declared.demand.Demand.TheVariants as demand
 use Rattle.lmtp_connections.specs.declared.connection.LmtpConnection.{LmtpConnection as Code}
@@ -106,13 +107,13 @@ ResolvesIt now lookup said c e =
     → (later : Dialogue) × Resolves p.dialogue lookup said later × ConnectionStands e (lmtp_state_after now later p.addressees (first_form p.progress) p)
 
 -- the next recipient gets its reply
-abbrev pub TellsIt : ℕ → DeliveryResult → List ℕ → Code → Code → Type 0
+abbrev pub TellsIt : ℕ → RecipientReply → List ℕ → Code → Code → Type 0
 TellsIt now became said c e =
     (p : LmtpState) → ConnectionStands c p → (before : List Addressee) (it : Addressee) (after : List Addressee) (sender text : List ℕ) (is : IsOwed p before it after sender text)
-    → (said ≡ said_for became) × ConnectionStands e (lmtp_state_told now became p before it after sender text is)
+    → (said ≡ recipient_lines became) × ConnectionStands e (lmtp_state_told now became p before it after sender text is)
 
 -- what became of the message is noted at the next recipient, and at no other
-abbrev pub NotesBecame : DeliveryResult → Code → Code → Type 0
+abbrev pub NotesBecame : RecipientReply → Code → Code → Type 0
 NotesBecame became c e =
     (before after : List Addressee) (it : Addressee) → c.addressees.items ≡ before ++ it ∷ after → length before ≡ c.progress.told → e.addressees.items ≡ before ++ record it { became = Some became } ∷ after
 

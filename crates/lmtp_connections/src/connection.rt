@@ -9,11 +9,10 @@ ghost use Rattle.lmtp_connections.specs.Stands as s;
 ghost use Rattle.lmtp_connections.specs.Progress as progress_rules;
 ghost use Rattle.lmtp_connections.specs.declared.demand.Demand.TheVariants as demands;
 
-use crate::addressee::{Addressee, DeliveryResult};
+use crate::addressee::Addressee;
 use crate::demand::{DeliveryRequest, Question};
 use crate::progress::{LmtpProgress, Wanted};
-use crate::reply_buffer::ReplyBuffer;
-use lmtp_dialogue::{LmtpStage, Lookup, Names, Next, Receiver, RecipientReply};
+use lmtp_dialogue::{LmtpStage, Lookup, Names, Next, Receiver, RecipientReply, ReplyBuffer};
 use octets::Octets;
 use std::alloc::{AllocError, Global};
 
@@ -236,13 +235,13 @@ impl LmtpConnection {
         self.receiver.admit(lookup);
         self.progress.tried = 0;
         self.go_on(now);
-        room.say(RecipientReply::Refused(lookup.reply()))
+        room.say_line(lookup.reply())
     }
 
     /// Makes a reply after the text without the store. Returns what is said.
     ///
     /// Lack of memory is the only error.
-    pub fn reply(&mut self, now: u64, became: DeliveryResult) -> Result<Octets, AllocError>
+    pub fn reply(&mut self, now: u64, became: RecipientReply) -> Result<Octets, AllocError>
         requires { s.Demands now self.old (demands.Reply became) }
         ensures does { IfOk result (λ said. s.ConnectionDoes now Answered said self.old self.new) }
         ensures held { s.ConnectionHoldsNoMore self.old self.new }
@@ -256,7 +255,7 @@ impl LmtpConnection {
         &mut self,
         now: u64,
         request: &DeliveryRequest,
-        became: DeliveryResult,
+        became: RecipientReply,
         room: ReplyBuffer,
     ) -> Octets
         requires { s.Demands now self.old (demands.Delivery request.now) }
@@ -267,19 +266,19 @@ impl LmtpConnection {
     }
 
     // Makes the reply to the next recipient.
-    fn tell(&mut self, now: u64, became: DeliveryResult, room: ReplyBuffer) -> Octets
+    fn tell(&mut self, now: u64, became: RecipientReply, room: ReplyBuffer) -> Octets
         ensures tells { s.TellsIt now became result self.old self.new }
         ensures held { s.ConnectionHoldsNoMore self.old self.new }
     {
-        let line = room.say(became.outcome());
+        let lines = room.say(&became);
         self.receiver.pass();
         self.note_became(became);
         self.go_on(now);
-        line
+        lines
     }
 
     // Notes what became of the message for the next recipient.
-    fn note_became(&mut self, became: DeliveryResult)
+    fn note_became(&mut self, became: RecipientReply)
         ensures noted { s.NotesBecame became self.old self.new }
         ensures counted { self.old.progress.told < length self.old.addressees.items → self.new.progress ≡ connections.next_recipient self.old.progress }
         ensures receiver { self.new.receiver ≡ self.old.receiver }

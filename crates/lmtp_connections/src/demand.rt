@@ -1,5 +1,5 @@
 //! What is to be done next for a connection.
-use crate::addressee::DeliveryResult;
+use lmtp_dialogue::RecipientReply;
 use octets::Octets;
 
 /// A recipient whose account is looked for: whether there is one of that name.
@@ -38,7 +38,7 @@ pub enum Demand {
     /// The store is to be asked whether there is an account of that name.
     Account(Question),
     /// A reply is to be made after the text, without the store.
-    Reply(DeliveryResult),
+    Reply(RecipientReply),
     /// A message is to be delivered by the store.
     Delivery(DeliveryRequest),
 }

@@ -7,10 +7,8 @@ pub mod connection;
 pub mod demand;
 mod next;
 pub mod progress;
-pub mod reply_buffer;
 
-pub use addressee::{Addressee, DeliveryResult};
+pub use addressee::Addressee;
 pub use connection::LmtpConnection;
 pub use demand::{DeliveryRequest, Demand, Question};
 pub use progress::{LmtpProgress, StoreWait, Wanted};
-pub use reply_buffer::ReplyBuffer;

@@ -7,11 +7,12 @@ ghost use Rattle.lmtp_dialogue.specs.Receivers.{StandsIn, ComesNext};
 ghost use Rattle.lmtp_connections.specs.Connections as connections;
 ghost use Rattle.lmtp_connections.specs.Stands as s;
 
-use crate::addressee::{Addressee, DeliveryResult};
+use crate::addressee::Addressee;
 use crate::connection::LmtpConnection;
 use crate::demand::{DeliveryRequest, Demand, Question};
 use lmtp_dialogue::{
-    LmtpReply, Next, ReceivedMessage, TextFault, copy_for, name_forms, was_delivered,
+    LmtpReply, Next, ReceivedMessage, RecipientReply, TextFault, copy_for, name_forms,
+    was_delivered,
 };
 use mail_head::{Head, is_header_longer};
 use octets::Octets;
@@ -82,7 +83,7 @@ impl LmtpConnection {
         }
         match received.text {
             Ok(text) => self.demand_delivery(now, addressee, received.sender, text),
-            Err(fault) => Ok(Demand::Reply(DeliveryResult::Refused(reply_for(fault)))),
+            Err(fault) => Ok(Demand::Reply(RecipientReply::Refused(reply_for(fault)))),
         }
     }
 
@@ -117,13 +118,13 @@ impl LmtpConnection {
         ensures { IfOk result (s.Demands now self.now) }
     {
         if has_long_header(text) {
-            return Ok(Demand::Reply(DeliveryResult::Refused(LmtpReply::HeaderTooLarge)));
+            return Ok(Demand::Reply(RecipientReply::Refused(LmtpReply::HeaderTooLarge)));
         }
         if circles(self.alloc, text, addressee.address.as_slice())? {
-            return Ok(Demand::Reply(DeliveryResult::Refused(LmtpReply::MailLoop)));
+            return Ok(Demand::Reply(RecipientReply::Refused(LmtpReply::MailLoop)));
         }
         if !self.progress.may_ask(now) {
-            return Ok(Demand::Reply(DeliveryResult::Refused(LmtpReply::StoreAway)));
+            return Ok(Demand::Reply(RecipientReply::Refused(LmtpReply::StoreAway)));
         }
         let request = request_for(self.alloc, addressee, sender, text)?;
         Ok(Demand::Delivery(request))
@@ -170,7 +171,7 @@ fn following(tried: usize, count: usize) -> Option<usize>
 }
 
 // What became of the message for the same recipient among those before it.
-fn earlier<'a>(before: &'a [Addressee], addressee: &Addressee) -> Option<&'a DeliveryResult>
+fn earlier<'a>(before: &'a [Addressee], addressee: &Addressee) -> Option<&'a RecipientReply>
     ensures { option_copied result ≡ connections.earlier before.now addressee.now }
 {
     match same_among(before, addressee) {

@@ -3,7 +3,7 @@ use Rattle.std.proofs.Common.{◌≡◌, ℕ, ◌+◌, ◌-◌, true, false, Lis
 use Rattle.lmtp_dialogue.specs.Dialogues.{DialoguePhase, Opened, Asking, Sending, Dialogue, Item, Command, LongLine, Message, SpellsItem, IsNextItem, DialogueWaits}
 use Rattle.lmtp_dialogue.specs.Lines.{LineFinds}
 use Rattle.lmtp_dialogue.specs.Receivers.{IsItemGone, ReceiverPasses, HoldsDialogue, IsItemTaken, StandsIn, ReceiverTakesIn, GoesFrom, ReceiverGoes, DoesFrom, ReceiverAdmits, reads_lines, takes_lines, is_line, SaysNext}
-use Rattle.lmtp_dialogue.specs.Replies.{outcome_line}
+use Rattle.lmtp_dialogue.specs.RecipientReplies.{recipient_lines}
 use Rattle.lmtp_dialogue.specs.Talks.{phase_by, phase_of, item_by, TakesTurn, TalkObeys, TalkDoes, TalkReports, resolved_turn, phase_replied, IsTextAfter}
 use Rattle.lmtp_dialogue.specs.Talks.{PassesReply as TalkPasses}
 use Rattle.lmtp_dialogue.specs.Texts.{TextStandsFor, text_after}
@@ -14,7 +14,7 @@ use Rattle.lmtp_dialogue.specs.declared.receiver.Lookup.{Lookup}
 use Rattle.lmtp_dialogue.specs.declared.receiver.Receiver.{Receiver}
 use Rattle.lmtp_dialogue.specs.declared.receiver.LmtpStage.{LmtpStage}
 use Rattle.lmtp_dialogue.specs.declared.receiver.LmtpStage.TheVariants as stage
-use Rattle.lmtp_dialogue.specs.declared.reply.RecipientReply.{RecipientReply}
+use Rattle.lmtp_dialogue.specs.declared.recipient_reply.RecipientReply.{RecipientReply}
 use Rattle.lmtp_dialogue.specs.declared.message_text.TextState.TheVariants.{Start, Ended}
 use Rattle.lmtp_dialogue.specs.declared.message_text.Text.{Text}
 use Rattle.lmtp_dialogue.proofs.NextLemmas.{SendsIn, sends_in, first_line_in, no_line_in, no_text_in, text_first, owed_in}
@@ -217,7 +217,7 @@ held_after r m d (next ∷ left) sends phase text limit long unread =
     }
 
 pub report_goes : (r m s : Receiver) (outcome : RecipientReply) (before after : List ℕ) → r.talk.stage ≡ stage.Sending → r.talk.text.place ≡ Ended
-    → TalkReports r.talk m.talk (outcome_line outcome) before after → m.long ≡ r.long → m.unread ≡ r.unread → ReceiverTakesIn m s → ReceiverGoes (λ d. DialogueReplies d outcome) r s before after
+    → TalkReports r.talk m.talk (recipient_lines outcome) before after → m.long ≡ r.long → m.unread ≡ r.unread → ReceiverTakesIn m s → ReceiverGoes (λ d. DialogueReplies d outcome) r s before after
 report_goes r m s outcome before after at ended reports long unread takes = λ d stands.
     let sends = sends_in r d at stands in
     let recipient = get_or r.talk.recipients r.talk.told [] in
@@ -225,7 +225,7 @@ report_goes r m s outcome before after at ended reports long unread takes = λ d
     let owed = owed_in r d at sends in
     let phase : phase_of m.talk ≡ phase_replied (Sending r.talk.sender (recipient ∷ left)) = reports.passes.phase ∙ ap phase_replied (sym stands.holds.phase ∙ owed) in
     record {
-      said = outcome_line outcome;
+      said = recipient_lines outcome;
       next = replied r.talk.sender left d r.unread;
       happens = inl (record {
         sender = r.talk.sender;
@@ -246,7 +246,7 @@ report_goes r m s outcome before after at ended reports long unread takes = λ d
 pub pass_goes : (r m s : Receiver) → r.talk.stage ≡ stage.Sending → r.talk.text.place ≡ Ended → TalkPasses r.talk m.talk → m.long ≡ r.long
     → m.unread ≡ r.unread → ReceiverTakesIn m s → ReceiverPasses r s
 pass_goes r m s at ended passes long unread takes = λ outcome.
-    (outcome_line outcome, report_goes r m s outcome [] (outcome_line outcome) at ended (record { written = refl; passes = passes }) long unread takes)
+    (recipient_lines outcome, report_goes r m s outcome [] (recipient_lines outcome) at ended (record { written = refl; passes = passes }) long unread takes)
 
 pub pass_none : (r : Receiver) → ((outcome : RecipientReply) → ReceiverGoes (λ d. DialogueReplies d outcome) r r [] []) → ReceiverPasses r r
 pass_none r stays_so = λ outcome. ([], stays_so outcome)

@@ -10,7 +10,8 @@ use Rattle.octets.specs.Ascii.{trimmed}
 use Rattle.lmtp_dialogue.specs.Names.{forms_by}
 use Rattle.lmtp_dialogue.specs.ReadCommands.{ReadsLmtpCommand}
 use Rattle.lmtp_dialogue.specs.Paths.{IsPath, is_unquoted_octet}
-use Rattle.lmtp_dialogue.specs.Replies.{lmtp_line_of, outcome_line}
+use Rattle.lmtp_dialogue.specs.Replies.{lmtp_line_of}
+use Rattle.lmtp_dialogue.specs.RecipientReplies.{recipient_lines}
 use Rattle.lmtp_dialogue.specs.Texts.{line_with_crlf, IsSentText, IsSentLine, RunsFrom, text_state_after}
 use Rattle.lmtp_dialogue.specs.Turns.{LmtpTurn, says, is_too_large, mail_turn, rcpt_turn, command_turn, IsLineTurn, DialogueAnswers, lacks_room, Declines, lookup_reply, taken_by, DialogueReplies, replied, DialogueAct, Hears, Says, Tells, Reports, DialogueTalks}
 use Rattle.lmtp_dialogue.specs.declared.name.Names.TheVariants.{Local, Whole}
@@ -18,8 +19,8 @@ use Rattle.lmtp_dialogue.specs.declared.command.LmtpCommand.{LmtpCommand}
 use Rattle.lmtp_dialogue.specs.declared.command.LmtpCommand.TheVariants as command
 use Rattle.lmtp_dialogue.specs.declared.receiver.Lookup.{Lookup}
 use Rattle.lmtp_dialogue.specs.declared.receiver.Lookup.TheVariants.{Known, Unknown}
-use Rattle.lmtp_dialogue.specs.declared.reply.RecipientReply.{RecipientReply}
-use Rattle.lmtp_dialogue.specs.declared.reply.RecipientReply.TheVariants.{Refused}
+use Rattle.lmtp_dialogue.specs.declared.recipient_reply.RecipientReply.{RecipientReply}
+use Rattle.lmtp_dialogue.specs.declared.recipient_reply.RecipientReply.TheVariants.{Refused}
 use Rattle.lmtp_dialogue.specs.declared.reply.LmtpReply.TheVariants as reply
 use Rattle.lmtp_dialogue.specs.declared.message_text.TextState.TheVariants.{Start, Inside, Return}
 use Rattle.lmtp_dialogue.proofs.NextLemmas.{runs_out}
@@ -190,7 +191,7 @@ message_first sender left = record { octets = one_text; spelled = text_is; writt
 -- the envelope and the text are there: two replies, in the order of the recipients, and then QUIT is read
 replies_follow : (hello sender a b : List ℕ) (outcome : RecipientReply)
     → DialogueTalks hello (stands (Sending sender (a ∷ b ∷ [])) rest_of)
-    (Reports outcome (outcome_line outcome) ∷ Reports (Refused reply.NoRoom) (lmtp_line_of reply.NoRoom) ∷ Says (lmtp_line_of reply.Goodbye) ∷ []) (stands Over [])
+    (Reports outcome (recipient_lines outcome) ∷ Reports (Refused reply.NoRoom) (lmtp_line_of reply.NoRoom) ∷ Says (lmtp_line_of reply.Goodbye) ∷ []) (stands Over [])
 replies_follow hello sender a b outcome = (
   stands (Sending sender (b ∷ [])) rest_of,
   record {

@@ -6,7 +6,7 @@ use Rattle.lmtp_dialogue.specs.Lines.{line_end, IsCrlfLine}
 use Rattle.lmtp_dialogue.specs.Texts.{line_with_crlf, TextEndsAt, after, text_after}
 use Rattle.lmtp_dialogue.specs.Turns.{DialogueAnswers, Resolves, DialogueReplies, replied}
 use Rattle.lmtp_dialogue.specs.declared.receiver.Lookup.{Lookup}
-use Rattle.lmtp_dialogue.specs.declared.reply.RecipientReply.{RecipientReply}
+use Rattle.lmtp_dialogue.specs.declared.recipient_reply.RecipientReply.{RecipientReply}
 use Rattle.lmtp_dialogue.specs.declared.message_text.TextState.{TextState}
 use Rattle.lmtp_dialogue.specs.declared.message_text.TextState.TheVariants.{Start}
 use Rattle.lmtp_dialogue.proofs.TextLemmas.{line_rest, no_feed, same_first, same_others, text_ends, text_same}

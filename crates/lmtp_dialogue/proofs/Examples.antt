@@ -1,9 +1,13 @@
 -- What the definitions say of a few lines and texts, and of what is near them.
-use Rattle.std.proofs.Common.{◌≡◌, true, false, [], ◌∷◌, inl, inr, refl, codes, arith}
+use Rattle.std.proofs.Common.{◌≡◌, true, false, [], ◌∷◌, ◌++◌, inl, inr, refl, codes, arith}
 use Rattle.lmtp_dialogue.specs.Commands.{IsSameWord, verb_word, argument_in}
+use Rattle.lmtp_dialogue.specs.Lines.{line_end}
 use Rattle.lmtp_dialogue.specs.Paths.{IsPathAddress, is_unquoted_octet, is_quoted_octet}
+use Rattle.lmtp_dialogue.specs.RecipientReplies.{recipient_lines}
 use Rattle.lmtp_dialogue.specs.Texts.{text_state_after, text_after}
 use Rattle.lmtp_dialogue.specs.declared.message_text.TextState.TheVariants.{Start, DotReturn, Inside, Ended}
+use Rattle.lmtp_dialogue.specs.declared.recipient_reply.RecipientReply.TheVariants.{Delivered, Refused}
+use Rattle.lmtp_dialogue.specs.declared.reply.LmtpReply.TheVariants.{NoSuchUser}
 use Rattle.lmtp_dialogue.specs.declared.verb.LmtpVerb.TheVariants.{Lhlo}
 
 -- ---- texts
@@ -72,3 +76,16 @@ wide = refl
 
 delete : is_quoted_octet 127 ≡ false
 delete = refl
+
+-- ---- what a recipient is told
+
+-- a report stands behind both codes, and a refusal is its fixed line
+reported : recipient_lines (Delivered (codes "file INBOX")) ≡ codes "250 2.1.5 file INBOX" ++ line_end
+reported = refl
+
+refused : recipient_lines (Refused NoSuchUser) ≡ codes "550 5.1.1 No such user" ++ line_end
+refused = refl
+
+-- near miss: `a` CRLF `5` as a report makes no second line
+no_second_line : recipient_lines (Delivered (97 ∷ 13 ∷ 10 ∷ 53 ∷ [])) ≡ codes "250 2.1.5 a??5" ++ line_end
+no_second_line = refl

@@ -5,8 +5,9 @@ use Rattle.std.proofs.lemmas.List.Folds.{list_all-append}
 use Rattle.std.specs.List.{list_all}
 use Rattle.octets.specs.Ascii.{is_printable}
 use Rattle.lmtp_dialogue.specs.Lines.{line_end}
-use Rattle.lmtp_dialogue.specs.Replies.{lmtp_line_of, lmtp_shown_octet, lmtp_shown, delivered_reply, IsOneReplyLine, RepliesAreLines}
-use Rattle.lmtp_dialogue.specs.declared.reply.RecipientReply.TheVariants.{Delivered, Refused}
+use Rattle.lmtp_dialogue.specs.RecipientReplies.{coded_reply, RepliesAreLines}
+use Rattle.lmtp_dialogue.specs.Replies.{lmtp_line_of, lmtp_shown_octet, lmtp_shown, IsOneReplyLine}
+use Rattle.lmtp_dialogue.specs.declared.recipient_reply.RecipientReply.TheVariants.{Delivered, Refused}
 use Rattle.lmtp_dialogue.specs.declared.reply.LmtpReply.{LmtpReply}
 use Rattle.lmtp_dialogue.specs.declared.reply.LmtpReply.TheVariants.{Done, SenderTaken, RecipientTaken, Unverified, GoAhead, Helped, Goodbye, UnknownCommand, NotSmtp, LineTooLong, BadArgument, BadSender, BadRecipient, OutOfOrder, NoRecipient, BadParameter, NoSuchUser, AccountClosed, MessageTooLarge, HeaderTooLarge, MailLoop, NoRoom, TooManyRecipients, StoreAway, LocalFault, Idle}
 
@@ -41,7 +42,7 @@ one_line StoreAway = ended (codes "451 4.3.2 Store is busy, try later") refl (li
 one_line LocalFault = ended (codes "451 4.3.0 Local fault, try later") refl (lit≤ tt)
 one_line Idle = ended (codes "421 4.4.2 Idle") refl (lit≤ tt)
 
--- ---- a report
+-- ---- a text of its own
 
 printable_by : (octet : ℕ) (test : Bool) → is_printable octet ≡ test → is_printable (lmtp_shown_octet octet) ≡ true
 printable_by octet true is = rw is is
@@ -57,16 +58,17 @@ all_shown most text = printable_all (take most text)
 shown_short : (most : ℕ) (text : List ℕ) → length (lmtp_shown most text) ≤ most
 shown_short most text = omega (arith, length-map (take most text) lmtp_shown_octet, length-take most text)
 
-delivered_line : (report : List ℕ) → IsOneReplyLine (delivered_reply report)
-delivered_line report =
-    let text = lmtp_shown 500 report in
+-- a reply with a text of its own, whatever that has
+coded_line : (code text : List ℕ) → list_all is_printable code ≡ true → length code ≤ 10 → IsOneReplyLine (coded_reply code text)
+coded_line code text printable short =
+    let said = lmtp_shown 500 text in
     record {
-      line = codes "250 2.1.5 " ++ text;
-      written = sym (append_assoc (codes "250 2.1.5 ") text line_end);
-      printable = list_all-append is_printable (codes "250 2.1.5 ") text ∙ all_shown 500 report;
-      short = omega (arith, length-append (codes "250 2.1.5 ") (text ++ line_end), length-append text line_end, shown_short 500 report);
+      line = code ++ said;
+      written = sym (append_assoc code said line_end);
+      printable = list_all-append is_printable code said ∙ (rw printable (all_shown 500 text));
+      short = omega (arith, length-append code (said ++ line_end), length-append said line_end, shown_short 500 text, short);
     }
 
 pub replies_are_lines : RepliesAreLines
-replies_are_lines (Delivered report) = delivered_line report.now
+replies_are_lines (Delivered report) = coded_line (codes "250 2.1.5 ") report refl (lit≤ tt)
 replies_are_lines (Refused reply) = one_line reply

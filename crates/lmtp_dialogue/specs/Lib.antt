@@ -7,6 +7,7 @@ pub mod Names
 pub mod ReadCommands
 pub mod Paths
 pub mod Receivers
+pub mod RecipientReplies
 pub mod Replies
 pub mod Talks
 pub mod Texts

@@ -16,7 +16,7 @@ use Rattle.lmtp_dialogue.specs.declared.receiver.Next.TheVariants as next
 use Rattle.lmtp_dialogue.specs.declared.receiver.Receiver.{Receiver}
 use Rattle.lmtp_dialogue.specs.declared.receiver.LmtpStage.{LmtpStage}
 use Rattle.lmtp_dialogue.specs.declared.receiver.LmtpStage.TheVariants as stage
-use Rattle.lmtp_dialogue.specs.declared.reply.RecipientReply.{RecipientReply}
+use Rattle.lmtp_dialogue.specs.declared.recipient_reply.RecipientReply.{RecipientReply}
 use Rattle.lmtp_dialogue.specs.declared.talk.Talk.{Talk}
 use Rattle.lmtp_dialogue.specs.declared.message_text.TextState.TheVariants.{Ended}
 use Rattle.lmtp_dialogue.specs.declared.message_text.Text.{Text}

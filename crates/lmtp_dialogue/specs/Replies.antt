@@ -3,8 +3,6 @@ use Rattle.std.specs.Prelude.{◌≡◌, ℕ, ◌≤◌, Bool, true, false, if�
 use Rattle.std.specs.List.{list_all}
 use Rattle.octets.specs.Ascii.{is_printable}
 use Rattle.lmtp_dialogue.specs.Lines.{line_end}
-use Rattle.lmtp_dialogue.specs.declared.reply.RecipientReply.{RecipientReply}
-use Rattle.lmtp_dialogue.specs.declared.reply.RecipientReply.TheVariants.{Delivered, Refused}
 use Rattle.lmtp_dialogue.specs.declared.reply.LmtpReply.{LmtpReply}
 use Rattle.lmtp_dialogue.specs.declared.reply.LmtpReply.TheVariants.{Done, SenderTaken, RecipientTaken, Unverified, GoAhead, Helped, Goodbye, UnknownCommand, NotSmtp, LineTooLong, BadArgument, BadSender, BadRecipient, OutOfOrder, NoRecipient, BadParameter, NoSuchUser, AccountClosed, MessageTooLarge, HeaderTooLarge, MailLoop, NoRoom, TooManyRecipients, StoreAway, LocalFault, Idle}
 
@@ -84,22 +82,11 @@ lmtp_shown_octet octet = if is_printable octet then octet else 63
 abbrev pub lmtp_shown : ℕ → List ℕ → List ℕ
 lmtp_shown most text = map lmtp_shown_octet (take most text)
 
--- ---- what became of a message for one recipient
+-- ---- one line
 
--- a line of an answer has at most this many octets, with its CRLF (RFC 5321, section 4.5.3.1.5), and this many of them are the report's
+-- a line of an answer has at most this many octets, with its CRLF (RFC 5321, section 4.5.3.1.5)
 abbrev pub max_reply : ℕ
 max_reply = 512
-
-abbrev pub max_report : ℕ
-max_report = 500
-
-abbrev pub delivered_reply : List ℕ → List ℕ
-delivered_reply report = codes "250 2.1.5 " ++ (lmtp_shown max_report report ++ line_end)
-
--- it was delivered, with a report of that, or it wasn't
-abbrev pub outcome_line : RecipientReply → List ℕ
-outcome_line (Delivered report) = delivered_reply report.now
-outcome_line (Refused reply) = lmtp_line_of reply
 
 -- one line of printable octets, and no longer than one may be
 pub record IsOneReplyLine (said : List ℕ) : Type 0 where
@@ -107,10 +94,6 @@ pub record IsOneReplyLine (said : List ℕ) : Type 0 where
   pub written : said ≡ line ++ line_end
   pub printable : list_all is_printable line ≡ true
   pub short : length said ≤ max_reply
-
--- whatever a report has, and for each reply of one line
-abbrev pub RepliesAreLines : Type 0
-RepliesAreLines = (outcome : RecipientReply) → IsOneReplyLine (outcome_line outcome)
 
 -- ---- who greets, and what is announced to LHLO
 

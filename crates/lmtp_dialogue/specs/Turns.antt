@@ -2,10 +2,11 @@
 use Rattle.std.specs.Prelude.{◌≡◌, ℕ, nat_le, nat_lt, Bool, true, false, ◌&&◌, if◌then◌else◌, List, [], ◌∷◌, ◌++◌, length, Option, Some, None}
 use Rattle.lmtp_dialogue.specs.Dialogues.{DialoguePhase, Greeted, Ready, Opened, Asking, Sending, Over, Dialogue, dialogue_given, Item, Command, LongLine, Message, IsNextItem}
 use Rattle.lmtp_dialogue.specs.ReadCommands.{ReadsLmtpCommand}
-use Rattle.lmtp_dialogue.specs.Replies.{lmtp_line_of, outcome_line}
+use Rattle.lmtp_dialogue.specs.Replies.{lmtp_line_of}
+use Rattle.lmtp_dialogue.specs.RecipientReplies.{recipient_lines}
 use Rattle.lmtp_dialogue.specs.declared.command.LmtpCommand.{LmtpCommand}
 use Rattle.lmtp_dialogue.specs.declared.command.LmtpCommand.TheVariants as command
-use Rattle.lmtp_dialogue.specs.declared.reply.RecipientReply.{RecipientReply}
+use Rattle.lmtp_dialogue.specs.declared.recipient_reply.RecipientReply.{RecipientReply}
 use Rattle.lmtp_dialogue.specs.declared.reply.LmtpReply.{LmtpReply}
 use Rattle.lmtp_dialogue.specs.declared.reply.LmtpReply.TheVariants as reply
 use Rattle.lmtp_dialogue.specs.declared.receiver.Lookup.{Lookup}
@@ -165,7 +166,7 @@ pub record DialogueReplies (d : Dialogue) (outcome : RecipientReply) (said : Lis
   pub rest : List ℕ
   pub owed : d.phase ≡ Sending sender (recipient ∷ left)
   pub first : IsNextItem d (Message text) rest
-  pub told : said ≡ outcome_line outcome
+  pub told : said ≡ recipient_lines outcome
   pub leaves : e ≡ replied sender left d rest
 
 -- ---- dialogues

@@ -2,7 +2,8 @@
 ghost use Rattle.lmtp_dialogue.specs.Dialogues.{ItemsStand};
 ghost use Rattle.lmtp_dialogue.specs.Lines.{LinesStand};
 ghost use Rattle.lmtp_dialogue.specs.Names.{FormsStand};
-ghost use Rattle.lmtp_dialogue.specs.Replies.{HostsFaultsPass, RepliesAreLines};
+ghost use Rattle.lmtp_dialogue.specs.RecipientReplies.{RepliesAreLines};
+ghost use Rattle.lmtp_dialogue.specs.Replies.{HostsFaultsPass};
 ghost use Rattle.lmtp_dialogue.specs.Texts.{TextsAgree};
 ghost use Rattle.lmtp_dialogue.specs.Turns.{AnswersStand};
 
@@ -31,7 +32,7 @@ pub fn answers_stand()
     ensures { AnswersStand }
 {}
 
-/// Each reply but that to LHLO is one line of at most 512 octets, all of them printable, whatever a report has.
+/// Each reply but that to LHLO is one line of at most 512 octets, all of them printable, whatever a text of its own has.
 pub fn replies_are_lines()
     ensures { RepliesAreLines }
 {}

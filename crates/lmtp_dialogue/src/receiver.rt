@@ -9,8 +9,9 @@ ghost use Rattle.lmtp_dialogue.specs.Turns.{DialogueAnswers, Resolves, DialogueR
 use crate::command::{LmtpCommand, read_lmtp_command};
 use crate::command_line::{Found, find_line, skip_line};
 use crate::message_text::{Text, TextFault};
+use crate::recipient_reply::RecipientReply;
 use crate::recipients::Recipients;
-use crate::reply::{LmtpReply, RecipientReply, capabilities, greeting};
+use crate::reply::{LmtpReply, capabilities, greeting};
 use crate::talk::{MAX_TEXT, Talk};
 use octets::{Octets, Pending};
 use std::alloc::{AllocError, Global};
@@ -293,12 +294,8 @@ impl Receiver {
     /// After the last one the message is dropped.
     ///
     /// Lack of memory is the only error; nothing changes then.
-    pub fn report(
-        &mut self,
-        outcome: RecipientReply<'_>,
-        out: &mut Octets,
-    ) -> Result<(), AllocError>
-        ensures ok { OnOk result (s.ReceiverGoes (λ d. DialogueReplies d outcome.entry) self.old self.new out.old out.new) }
+    pub fn report(&mut self, outcome: &RecipientReply, out: &mut Octets) -> Result<(), AllocError>
+        ensures ok { OnOk result (s.ReceiverGoes (λ d. DialogueReplies d outcome.now) self.old self.new out.old out.new) }
         ensures hello { self.new.talk.hello ≡ self.old.talk.hello }
         ensures held { s.ReceiverHoldsNoMore self.old self.new }
         ensures err { OnErr result ((self.new ≡ self.old) × (out.new ≡ out.old)) }
@@ -309,13 +306,9 @@ impl Receiver {
         }
     }
 
-    fn report_next(
-        &mut self,
-        outcome: RecipientReply<'_>,
-        out: &mut Octets,
-    ) -> Result<(), AllocError>
+    fn report_next(&mut self, outcome: &RecipientReply, out: &mut Octets) -> Result<(), AllocError>
         requires { self.old.talk.stage ≡ LmtpStage.Sending }
-        ensures ok { OnOk result (s.ReceiverGoes (λ d. DialogueReplies d outcome.entry) self.old self.new out.old out.new) }
+        ensures ok { OnOk result (s.ReceiverGoes (λ d. DialogueReplies d outcome.now) self.old self.new out.old out.new) }
         ensures hello { self.new.talk.hello ≡ self.old.talk.hello }
         ensures held { s.ReceiverHoldsNoMore self.old self.new }
         ensures err { OnErr result ((self.new ≡ self.old) × (out.new ≡ out.old)) }
@@ -328,7 +321,7 @@ impl Receiver {
         Ok(())
     }
 
-    /// A reply was made for the recipient to whom the message is to be delivered next: the caller says it, as `RecipientReply::line` gives it.
+    /// A reply was made for the recipient to whom the message is to be delivered next: the caller says it, as `ReplyBuffer::say` gives it.
     /// If there is none, nothing changes. Takes no memory, so that it can be reserved before the message is delivered.
     pub fn pass(&mut self)
         ensures goes { s.ReceiverPasses self.old self.new }

@@ -1,5 +1,5 @@
 //! What is answered.
-ghost use Rattle.std.specs.Prelude.{◌≡◌, IfOk, map, take};
+ghost use Rattle.std.specs.Prelude.{◌≡◌, ◌≤◌, IfOk, length, map, take};
 ghost use Rattle.lmtp_dialogue.specs.Replies as s;
 
 use octets::{Octets, is_printable};
@@ -7,9 +7,6 @@ use std::alloc::{AllocError, Global};
 
 /// The most octets of a host's name (RFC 1035, section 2.3.4).
 const MAX_HOST: usize = 255;
-
-/// The most octets of a report: its line has 512 with code and CRLF (RFC 5321, section 4.5.3.1.5).
-const MAX_REPORT: usize = 500;
 
 /// What LHLO is answered after the host's name.
 const ANNOUNCED: &[u8] =
@@ -108,38 +105,6 @@ impl LmtpReply {
     }
 }
 
-/// What became of a message for one recipient.
-#[derive(Clone, Copy)]
-pub enum RecipientReply<'a> {
-    /// It was delivered: what is reported of that. It is shown in one line of at most 512 octets, with `?` for each octet that isn't
-    /// printable ASCII.
-    Delivered(&'a [u8]),
-    /// It wasn't.
-    Refused(LmtpReply),
-}
-
-impl RecipientReply<'_> {
-    /// The line that tells it, with CRLF. Lack of memory is the only error.
-    pub fn line(self, alloc: Global) -> Result<Octets, AllocError>
-        ensures { IfOk result (λ line. line ≡ s.outcome_line self.entry) }
-    {
-        match self {
-            RecipientReply::Delivered(report) => delivered(alloc, report),
-            RecipientReply::Refused(reply) => Octets::from_slice(alloc, reply.line()),
-        }
-    }
-}
-
-fn delivered(alloc: Global, report: &[u8]) -> Result<Octets, AllocError>
-    ensures { IfOk result (λ line. line ≡ s.delivered_reply report.now) }
-{
-    let shown = shown(alloc, MAX_REPORT, report)?;
-    let mut line = Octets::from_slice(alloc, b"250 2.1.5 ")?;
-    line.extend_from_slice(shown.as_slice())?;
-    line.extend_from_slice(b"\r\n")?;
-    Ok(line)
-}
-
 /// What a client is greeted with.
 pub fn greeting(alloc: Global, host: &[u8]) -> Result<Octets, AllocError>
     ensures { IfOk result (λ line. line ≡ s.lmtp_greeting host.now) }
@@ -169,8 +134,10 @@ fn shown(alloc: Global, most: usize, text: &[u8]) -> Result<Octets, AllocError>
     printable(alloc, front(text, most))
 }
 
-fn front(text: &[u8], most: usize) -> &[u8]
-    ensures { result.now ≡ take most text.now }
+/// At most this many octets of a text.
+pub(crate) fn front(text: &[u8], most: usize) -> &[u8]
+    ensures value { result.now ≡ take most text.now }
+    ensures short { length result.now ≤ most }
 {
     if text.len() <= most {
         text
@@ -186,7 +153,8 @@ fn printable(alloc: Global, text: &[u8]) -> Result<Octets, AllocError>
     Ok(Octets::from_vec(octets))
 }
 
-fn shown_octet(octet: u8) -> u8
+/// How an octet of a text from elsewhere is said.
+pub(crate) fn shown_octet(octet: u8) -> u8
     ensures { result ≡ s.lmtp_shown_octet octet }
 {
     if is_printable(octet) { octet } else { b'?' }

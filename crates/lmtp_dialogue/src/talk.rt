@@ -7,8 +7,9 @@ use crate::argument::MailArgument;
 use crate::command::{LmtpCommand, read_lmtp_command};
 use crate::message_text::Text;
 use crate::receiver::{LmtpStage, Lookup, ReceivedMessage};
+use crate::recipient_reply::{RecipientReply, ReplyBuffer};
 use crate::recipients::Recipients;
-use crate::reply::{LmtpReply, RecipientReply};
+use crate::reply::LmtpReply;
 use octets::Octets;
 use std::alloc::{AllocError, Global};
 
@@ -40,7 +41,7 @@ pub struct Talk {
 
 impl Talk {
     ghost use Rattle.std.specs.Prelude.{◌≡◌, ◌<◌, ◌-◌, [], length, slice_index_or, OnOk, OnErr};
-    ghost use Rattle.lmtp_dialogue.specs.Replies.{outcome_line};
+    ghost use Rattle.lmtp_dialogue.specs.RecipientReplies.{recipient_lines};
     ghost use Rattle.lmtp_dialogue.specs.Talks as s;
     ghost use Rattle.lmtp_dialogue.specs.Texts.{IsFinishedText};
     ghost use Rattle.lmtp_dialogue.specs.Turns.{says, command_turn, hello_turn, opened_turn, mail_turn, asked_for, rcpt_turn, data_turn, reset_turn, quit_turn, phase_reset};
@@ -237,18 +238,14 @@ impl Talk {
     /// Makes a reply after the text, for the next recipient to whom one is owed.
     ///
     /// Lack of memory is the only error; nothing changes then.
-    pub fn report(
-        &mut self,
-        outcome: RecipientReply<'_>,
-        out: &mut Octets,
-    ) -> Result<(), AllocError>
+    pub fn report(&mut self, outcome: &RecipientReply, out: &mut Octets) -> Result<(), AllocError>
         requires sends { self.old.stage ≡ LmtpStage.Sending }
         requires owed { self.old.told < length self.old.recipients }
-        ensures ok { OnOk result (s.TalkReports self.old self.new (outcome_line outcome.entry) out.old out.new) }
+        ensures ok { OnOk result (s.TalkReports self.old self.new (recipient_lines outcome.now) out.old out.new) }
         ensures err { OnErr result (s.IsSame self.old self.new out.old out.new) }
     {
-        let line = outcome.line(self.alloc)?;
-        out.extend_from_slice(line.as_slice())?;
+        let room = ReplyBuffer::new(self.alloc)?;
+        out.extend_from_slice(room.say(outcome).as_slice())?;
         self.pass();
         Ok(())
     }

@@ -20,7 +20,7 @@ use Rattle.store_engine.specs.declared.answer.Answer.TheVariants.{Delivered, Add
 use Rattle.store_engine.specs.declared.event.Event.{Event}
 use Rattle.store_engine.specs.declared.event.Event.TheVariants.{Open, Give, Step, GiveUp, Close, Deliver, AddUser, Import, TakeOut, TakeMail, DoUpkeep}
 use Rattle.store_engine.specs.declared.upkeep.Upkeep.{Upkeep}
-use Rattle.store_engine.specs.Terms.{Terms, terms}
+use Rattle.store_engine.specs.declared.terms.Terms.{Terms}
 use Rattle.store_engine.specs.declared.upkeep.Upkeep.TheVariants.{SetPassword, SetAddress, StoreScript, CloseAccount, OpenAccount, RemoveAccount, TakeNotices}
 
 either : {P A B C : Type 0} → (A → C) → (B → C) → IfElse P A B → C
@@ -129,7 +129,7 @@ module _ (refusal : Refusal) (answer : Answer) (is : answer ≡ Refused refusal)
     happens (Step s) it = in_session (get w.sessions s) (StepsSession w s) (λ c. steps s c) it
     happens (GiveUp s) it = in_session (get w.sessions s) _ (λ c. becomes _ _ refl) it
     happens (Close s) it = in_session (get w.sessions s) _ (λ c. becomes _ _ refl) it
-    happens (Deliver user envelope message when default) it = with_later it.0 (delivers w.accounts it.0 user (terms when default) envelope message (limit_refusal envelope message when.moment) it.1) it.2
+    happens (Deliver user envelope message terms) it = with_later it.0 (delivers w.accounts it.0 user terms envelope message (limit_refusal envelope message terms.when.moment) it.1) it.2
     happens (AddUser name address salt password) it = with_later it.0 (either (adds_under w.accounts it.0 name address salt password (get w.accounts name)) (λ refused. refused.stays) it.1) it.2
     happens (Import file) it = with_later it.0 (either (imports_under w.accounts it.0 file.head file.parts (get w.accounts file.head.owner.name)) (λ refused. refused.stays) it.1) it.2
     happens (TakeOut user id) it = with_later it.0 (takes_in w.accounts it.0 user id (open_account_of w.accounts user) it.1) it.2

@@ -5,6 +5,7 @@ use Rattle.std.specs.Option.{option_map}
 use Rattle.std.proofs.lemmas.List.{length-drop, length-map, drop-drop}
 use Rattle.std.proofs.lemmas.Option.{same_Some, slice_get-map, slice_get_past}
 use Rattle.sieve_syntax.specs.declared.tree.checks.MailCheck.{MailCheck}
+use Rattle.sieve_syntax.specs.Meaning.{TestAsking}
 use Rattle.sieve_syntax.specs.RunState.{RunState, at_first, Flow, Going, Stopped, Failed, performed}
 use Rattle.sieve_syntax.specs.Tree.{TestTree, yes, no, looks, not_of, all_of, any_of, Tests, no_tests, test, CommandTree, require, choose, stop, act, Branches, no_branches, branch, Commands, no_commands, command}
 use Rattle.sieve_code.specs.Instructions.{Instruction, set, look, flip, jump, jump_if, jump_unless}
@@ -95,30 +96,30 @@ something_at back k instr rest e =
     slice_get-map (forward (length back)) back k ∙ ap (option_map (forward (length back))) (at_drop back k instr rest e).0
 
 -- what comes next does what the code does that is left there
-abbrev Goes : (RunState → MailCheck → Bool) → (RunState → MailCheck → ℕ) → List Instruction → ℕ → Run → Type 0
-Goes truth work back n next = (place : ℕ) (flag : Bool) (so_far : RunState) → length back ≤ place + n → next place flag so_far ≡ Some (run truth work zero (drop place back) flag so_far)
+abbrev Goes : TestAsking → (RunState → MailCheck → ℕ) → List Instruction → ℕ → Run → Type 0
+Goes asking work back n next = (place : ℕ) (flag : Bool) (so_far : RunState) → length back ≤ place + n → next place flag so_far ≡ Some (run asking work zero (drop place back) flag so_far)
 
 -- an instruction that takes no work
 no_work : (given : Option Course) (course : Course) → given ≡ Some course → after_work 0 given ≡ Some course
 no_work given course e = ap (after_work 0) e ∙ ap Some (behind_none course)
 
-module _ (truth : RunState → MailCheck → Bool) (work : RunState → MailCheck → ℕ) (back : List Instruction) (n : ℕ) (next : Run) (place : ℕ) (rest : List Instruction) (enough : length back ≤ place + suc n) (left : length back ≡ place + suc (length rest)) (after : drop (suc place) back ≡ rest) where
-  goes_next : Goes truth work back n next → (flag : Bool) (so_far : RunState) → next (place + 1) flag so_far ≡ Some (run truth work zero rest flag so_far)
+module _ (asking : TestAsking) (work : RunState → MailCheck → ℕ) (back : List Instruction) (n : ℕ) (next : Run) (place : ℕ) (rest : List Instruction) (enough : length back ≤ place + suc n) (left : length back ≡ place + suc (length rest)) (after : drop (suc place) back ≡ rest) where
+  goes_next : Goes asking work back n next → (flag : Bool) (so_far : RunState) → next (place + 1) flag so_far ≡ Some (run asking work zero rest flag so_far)
   goes_next goes flag so_far =
-      goes (place + 1) flag so_far (omega arith) ∙ ap (λ k. Some (run truth work zero (drop k back) flag so_far)) (add-one place) ∙ ap (λ code. Some (run truth work zero code flag so_far)) after
+      goes (place + 1) flag so_far (omega arith) ∙ ap (λ k. Some (run asking work zero (drop k back) flag so_far)) (add-one place) ∙ ap (λ code. Some (run asking work zero code flag so_far)) after
 
-  goes_on : Goes truth work back n next → (until : ℕ) (flag : Bool) (so_far : RunState) → until ≤ length rest → next (length back - until) flag so_far ≡ Some (run truth work (length rest - until) rest flag so_far)
+  goes_on : Goes asking work back n next → (until : ℕ) (flag : Bool) (so_far : RunState) → until ≤ length rest → next (length back - until) flag so_far ≡ Some (run asking work (length rest - until) rest flag so_far)
   goes_on goes until flag so_far le =
       let there : length back - until ≡ suc place + (length rest - until) = omega arith in
       goes (length back - until) flag so_far (omega arith)
-      ∙ ap (λ k. Some (run truth work zero (drop k back) flag so_far)) there
-      ∙ ap (λ code. Some (run truth work zero code flag so_far)) (sym (drop-drop (length rest - until) (suc place) back) ∙ ap (drop (length rest - until)) after)
-      ∙ ap Some (sym (past truth work (length rest - until) rest flag so_far))
+      ∙ ap (λ k. Some (run asking work zero (drop k back) flag so_far)) there
+      ∙ ap (λ code. Some (run asking work zero code flag so_far)) (sym (drop-drop (length rest - until) (suc place) back) ∙ ap (drop (length rest - until)) after)
+      ∙ ap Some (sym (past asking work (length rest - until) rest flag so_far))
 
   -- one turn
-  turn_goes : Goes truth work back n next → (instr : Instruction) → IsWithin (length rest) instr → (flag : Bool) (so_far : RunState) → paid_turn truth work next (forward (length back) instr) place flag so_far ≡ Some (run truth work zero (instr ∷ rest) flag so_far)
+  turn_goes : Goes asking work back n next → (instr : Instruction) → IsWithin (length rest) instr → (flag : Bool) (so_far : RunState) → paid_turn asking work next (forward (length back) instr) place flag so_far ≡ Some (run asking work zero (instr ∷ rest) flag so_far)
   turn_goes goes (set value) within flag so_far = no_work _ _ (goes_next goes value so_far)
-  turn_goes goes (look check) within flag so_far = ap (after_work (work so_far check)) (goes_next goes (truth so_far check) so_far)
+  turn_goes goes (look check) within flag so_far = ap (after_work (work so_far check)) (goes_next goes (asking so_far check).is_held (asking so_far check).so_far)
   turn_goes goes flip within flag so_far = no_work _ _ (goes_next goes (not flag) so_far)
   turn_goes goes (jump until) within flag so_far = no_work _ _ (goes_on goes until flag so_far within)
   turn_goes goes (jump_if until) within true so_far = no_work _ _ (goes_on goes until true so_far within)
@@ -127,35 +128,35 @@ module _ (truth : RunState → MailCheck → Bool) (work : RunState → MailChec
   turn_goes goes (jump_unless until) within false so_far = no_work _ _ (goes_on goes until false so_far within)
   turn_goes goes (I.act action) within flag so_far = no_work _ _ (acts (performed action so_far))
     where
-      acts : (flow : Flow) → after_action flow (next (place + 1) flag) ≡ Some (then_runs flow (run truth work zero rest flag))
+      acts : (flow : Flow) → after_action flow (next (place + 1) flag) ≡ Some (then_runs flow (run asking work zero rest flag))
       acts (Going so_far) = goes_next goes flag so_far
       acts (Stopped so_far) = refl
       acts (Failed failure) = refl
   turn_goes goes I.stop within flag so_far = no_work _ _ refl
 
 -- from each place it does what the code does that is left there
-follows : (truth : RunState → MailCheck → Bool) (work : RunState → MailCheck → ℕ) (back : List Instruction) → AreWithin back → (n place : ℕ) (flag : Bool) (so_far : RunState) (rest : List Instruction) → drop place back ≡ rest → length back ≤ place + n → jumps_from truth work (code_in_order back) n place flag so_far ≡ Some (run truth work zero rest flag so_far)
-follows truth work back within zero place flag so_far [] e enough =
+follows : (asking : TestAsking) (work : RunState → MailCheck → ℕ) (back : List Instruction) → AreWithin back → (n place : ℕ) (flag : Bool) (so_far : RunState) (rest : List Instruction) → drop place back ≡ rest → length back ≤ place + n → jumps_from asking work (code_in_order back) n place flag so_far ≡ Some (run asking work zero rest flag so_far)
+follows asking work back within zero place flag so_far [] e enough =
     ap (λ o. at_place o (λ instr. None) so_far) (nothing_at back place e)
-follows truth work back within zero place flag so_far (instr ∷ rest) e enough =
+follows asking work back within zero place flag so_far (instr ∷ rest) e enough =
     let left = left_at back place instr rest e in absurd (omega arith)
-follows truth work back within (suc n) place flag so_far [] e enough =
-    ap (λ o. at_place o (λ instr. paid_turn truth work (jumps_from truth work (code_in_order back) n) instr place flag so_far) so_far) (nothing_at back place e)
-follows truth work back within (suc n) place flag so_far (instr ∷ rest) e enough =
-    let next = jumps_from truth work (code_in_order back) n in
+follows asking work back within (suc n) place flag so_far [] e enough =
+    ap (λ o. at_place o (λ instr. paid_turn asking work (jumps_from asking work (code_in_order back) n) instr place flag so_far) so_far) (nothing_at back place e)
+follows asking work back within (suc n) place flag so_far (instr ∷ rest) e enough =
+    let next = jumps_from asking work (code_in_order back) n in
     let here = subst AreWithin e (within_drop place back within) in
-    ap (λ o. at_place o (λ instr. paid_turn truth work next instr place flag so_far) so_far) (something_at back place instr rest e)
-    ∙ turn_goes truth work back n next place rest enough (left_at back place instr rest e) (at_drop back place instr rest e).1
-    (λ p f s enough. follows truth work back within n p f s (drop p back) refl enough) instr here.0 flag so_far
+    ap (λ o. at_place o (λ instr. paid_turn asking work next instr place flag so_far) so_far) (something_at back place instr rest e)
+    ∙ turn_goes asking work back n next place rest enough (left_at back place instr rest e) (at_drop back place instr rest e).1
+    (λ p f s enough. follows asking work back within n p f s (drop p back) refl enough) instr here.0 flag so_far
 
 -- turned round, the code of commands stands for them
 pub turned_is_code : (commands : Commands) (code : List Instruction) → code ≡ code_in_order (commands_code commands []) → IsCodeOf code commands
-turned_is_code commands code e truth work =
+turned_is_code commands code e asking work =
     let back = commands_code commands [] in
     let long : length code ≡ length back = ap length e ∙ length-map back (forward (length back)) in
-    ap outcome_of (ap (λ l. jumps_from truth work l (length code) 0 false at_first) e
-    ∙ follows truth work back (commands_within commands [] tt) (length code) 0 false at_first back refl (omega arith)
-    ∙ ap Some (whole_runs truth work commands at_first))
+    ap outcome_of (ap (λ l. jumps_from asking work l (length code) 0 false at_first) e
+    ∙ follows asking work back (commands_within commands [] tt) (length code) 0 false at_first back refl (omega arith)
+    ∙ ap Some (whole_runs asking work commands at_first))
 
 -- and each jump leads forward
 leads : (back : List Instruction) (place : ℕ) (instr : Instruction) (rest : List Instruction) → length back ≡ place + suc (length rest) → IsWithin (length rest) instr → LeadsForward place (length back) (forward (length back) instr)

@@ -4,8 +4,8 @@ use Rattle.std.proofs.lemmas.List.{drop_at}
 use Rattle.sieve_syntax.specs.declared.tree.checks.MailCheck.{MailCheck}
 use Rattle.sieve_syntax.specs.RunState.{RunState, Flow, Going, Stopped, Failed, and_then, performed}
 use Rattle.sieve_syntax.specs.Tree.{TestTree, yes, no, looks, not_of, all_of, any_of, Tests, no_tests, test, CommandTree, require, choose, stop, act, Branches, no_branches, branch, Commands, no_commands, command}
-use Rattle.sieve_syntax.specs.Meaning.{holds, all_hold, some_holds, does, chooses, does_all}
-use Rattle.sieve_syntax.specs.Work.{asked, all_asked, some_asked, then_takes, takes, choice_takes, all_take}
+use Rattle.sieve_syntax.specs.Meaning.{TestAnswer, answered, TestAsking, after_test, holds, all_hold, some_holds, does, chooses, does_all}
+use Rattle.sieve_syntax.specs.Work.{none_taken, asked, all_asked, some_asked, then_takes, takes, choice_takes, all_take}
 use Rattle.sieve_code.specs.Instructions.{Instruction, set, look, flip, jump, jump_if, jump_unless}
 use Rattle.sieve_code.specs.Instructions as I
 use Rattle.sieve_code.specs.Jumps.{Course, course_of, with_work}
@@ -28,22 +28,22 @@ then_runs (Stopped so_far) next = course_of (Stopped so_far)
 then_runs (Failed failure) next = course_of (Failed failure)
 
 -- what code does after it has passed over that many instructions
-abbrev pub run : (RunState → MailCheck → Bool) → (RunState → MailCheck → ℕ) → ℕ → List Instruction → Bool → RunState → Course
-run truth work k [] flag so_far = course_of (Going so_far)
-run truth work (suc k) (instr ∷ code) flag so_far = run truth work k code flag so_far
-run truth work zero (set value ∷ code) flag so_far = run truth work zero code value so_far
-run truth work zero (look check ∷ code) flag so_far = with_work (work so_far check) (run truth work zero code (truth so_far check) so_far)
-run truth work zero (flip ∷ code) flag so_far = run truth work zero code (not flag) so_far
-run truth work zero (jump left ∷ code) flag so_far = run truth work (length code - left) code flag so_far
-run truth work zero (jump_if left ∷ code) flag so_far = run truth work (cond flag (length code - left) zero) code flag so_far
-run truth work zero (jump_unless left ∷ code) flag so_far = run truth work (cond flag zero (length code - left)) code flag so_far
-run truth work zero (I.act action ∷ code) flag so_far = then_runs (performed action so_far) (run truth work zero code flag)
-run truth work zero (I.stop ∷ code) flag so_far = course_of (Stopped so_far)
+abbrev pub run : TestAsking → (RunState → MailCheck → ℕ) → ℕ → List Instruction → Bool → RunState → Course
+run asking work k [] flag so_far = course_of (Going so_far)
+run asking work (suc k) (instr ∷ code) flag so_far = run asking work k code flag so_far
+run asking work zero (set value ∷ code) flag so_far = run asking work zero code value so_far
+run asking work zero (look check ∷ code) flag so_far = with_work (work so_far check) (run asking work zero code (asking so_far check).is_held (asking so_far check).so_far)
+run asking work zero (flip ∷ code) flag so_far = run asking work zero code (not flag) so_far
+run asking work zero (jump left ∷ code) flag so_far = run asking work (length code - left) code flag so_far
+run asking work zero (jump_if left ∷ code) flag so_far = run asking work (cond flag (length code - left) zero) code flag so_far
+run asking work zero (jump_unless left ∷ code) flag so_far = run asking work (cond flag zero (length code - left)) code flag so_far
+run asking work zero (I.act action ∷ code) flag so_far = then_runs (performed action so_far) (run asking work zero code flag)
+run asking work zero (I.stop ∷ code) flag so_far = course_of (Stopped so_far)
 
-pub past : (truth : RunState → MailCheck → Bool) (work : RunState → MailCheck → ℕ) (k : ℕ) (code : List Instruction) (flag : Bool) (so_far : RunState) → run truth work k code flag so_far ≡ run truth work zero (drop k code) flag so_far
-past truth work zero code flag so_far = refl
-past truth work (suc k) [] flag so_far = refl
-past truth work (suc k) (instr ∷ code) flag so_far = past truth work k code flag so_far
+pub past : (asking : TestAsking) (work : RunState → MailCheck → ℕ) (k : ℕ) (code : List Instruction) (flag : Bool) (so_far : RunState) → run asking work k code flag so_far ≡ run asking work zero (drop k code) flag so_far
+past asking work zero code flag so_far = refl
+past asking work (suc k) [] flag so_far = refl
+past asking work (suc k) (instr ∷ code) flag so_far = past asking work k code flag so_far
 
 -- code that ends with other code
 pub record Ends (code rest : List Instruction) : Type 0 where
@@ -62,13 +62,13 @@ ends_through code middle rest a b = record { front = a.front ++ b.front; is = a.
 pub ends_length : (code rest : List Instruction) → Ends code rest → length rest ≤ length code
 ends_length code rest e = omega (arith, ap length e.is, length-append e.front rest)
 
-skips : (truth : RunState → MailCheck → Bool) (work : RunState → MailCheck → ℕ) (code rest : List Instruction) → Ends code rest → (flag : Bool) (so_far : RunState) → run truth work (length code - length rest) code flag so_far ≡ run truth work zero rest flag so_far
-skips truth work code rest e flag so_far =
+skips : (asking : TestAsking) (work : RunState → MailCheck → ℕ) (code rest : List Instruction) → Ends code rest → (flag : Bool) (so_far : RunState) → run asking work (length code - length rest) code flag so_far ≡ run asking work zero rest flag so_far
+skips asking work code rest e flag so_far =
     let n = length code - length rest in
     let front : length e.front ≡ n = omega (arith, ap length e.is, length-append e.front rest) in
-    past truth work n code flag so_far
-    ∙ ap (λ l. run truth work zero (drop n l) flag so_far) e.is
-    ∙ ap (λ l. run truth work zero l flag so_far) (drop_at e.front rest n front)
+    past asking work n code flag so_far
+    ∙ ap (λ l. run asking work zero (drop n l) flag so_far) e.is
+    ∙ ap (λ l. run asking work zero l flag so_far) (drop_at e.front rest n front)
 
 mutual
   pub test_ends : (tree : TestTree) (rest : List Instruction) → Ends (test_code tree rest) rest
@@ -111,105 +111,112 @@ mutual
   commands_ends no_commands rest = ends_here rest
   commands_ends (command first more) rest = ends_through _ (commands_code more rest) rest (command_ends first (commands_code more rest)) (commands_ends more rest)
 
-module _ (truth : RunState → MailCheck → Bool) (work : RunState → MailCheck → ℕ) where
-  -- the code of a test sets the flag to whether the test holds, and takes the test's work
+module _ (asking : TestAsking) (work : RunState → MailCheck → ℕ) where
+  -- what is run behind a test
+  abbrev run_behind : List Instruction → TestAnswer → Course
+  run_behind rest answer = run asking work zero rest answer.is_held answer.so_far
+
+  -- the code of a test sets the flag to whether the test holds, leads to what has been done behind it, and takes the test's work
   mutual
     pub test_runs : (tree : TestTree) (rest : List Instruction) (flag : Bool) (so_far : RunState)
-        → run truth work zero (test_code tree rest) flag so_far ≡ with_work (asked (truth so_far) (work so_far) tree) (run truth work zero rest (holds (truth so_far) tree) so_far)
-    test_runs yes rest flag so_far = sym (behind_none (run truth work zero rest true so_far))
-    test_runs no rest flag so_far = sym (behind_none (run truth work zero rest false so_far))
+        → run asking work zero (test_code tree rest) flag so_far ≡ with_work (asked asking work tree so_far) (run_behind rest (holds asking tree so_far))
+    test_runs yes rest flag so_far = sym (behind_none (run asking work zero rest true so_far))
+    test_runs no rest flag so_far = sym (behind_none (run asking work zero rest false so_far))
     test_runs (looks check) rest flag so_far = refl
     test_runs (not_of inner) rest flag so_far = test_runs inner (flip ∷ rest) flag so_far
     test_runs (all_of inner) rest flag so_far = all_runs inner rest flag so_far
     test_runs (any_of inner) rest flag so_far = any_runs inner rest flag so_far
 
     all_runs : (tests : Tests) (rest : List Instruction) (flag : Bool) (so_far : RunState)
-        → run truth work zero (all_code tests (length rest) (set true ∷ rest)) flag so_far ≡ with_work (all_asked (truth so_far) (work so_far) tests) (run truth work zero rest (all_hold (truth so_far) tests) so_far)
-    all_runs no_tests rest flag so_far = sym (behind_none (run truth work zero rest true so_far))
+        → run asking work zero (all_code tests (length rest) (set true ∷ rest)) flag so_far ≡ with_work (all_asked asking work tests so_far) (run_behind rest (all_hold asking tests so_far))
+    all_runs no_tests rest flag so_far = sym (behind_none (run asking work zero rest true so_far))
     all_runs (test first more) rest flag so_far =
         let after = all_code more (length rest) (set true ∷ rest) in
         let ends = ends_through after (set true ∷ rest) rest (all_ends more (length rest) (set true ∷ rest)) (ends_more (set true) rest rest (ends_here rest)) in
-        let cost = asked (truth so_far) (work so_far) first in
+        let cost = asked asking work first so_far in
+        let behind = (holds asking first so_far).so_far in
         test_runs first (jump_unless (length rest) ∷ after) flag so_far
-        ∙ (elim (holds (truth so_far) first) as (λ first. with_work cost (run truth work (cond first zero (length after - length rest)) after first so_far)
-        ≡ with_work (cost + cond first (all_asked (truth so_far) (work so_far) more) 0) (run truth work zero rest (first && all_hold (truth so_far) more) so_far)) [
-          | true ↦ ap (with_work cost) (all_runs more rest true so_far) ∙ behind_both cost (all_asked (truth so_far) (work so_far) more) (run truth work zero rest (all_hold (truth so_far) more) so_far)
-          | false ↦ ap (with_work cost) (skips truth work after rest ends false so_far) ∙ no_more cost (run truth work zero rest false so_far)
+        ∙ (elim (holds asking first so_far).is_held as (λ held. with_work cost (run asking work (cond held zero (length after - length rest)) after held behind)
+        ≡ with_work (cost + cond held (all_asked asking work more behind) 0) (run_behind rest (cond held (all_hold asking more behind) (answered false behind)))) [
+          | true ↦ ap (with_work cost) (all_runs more rest true behind) ∙ behind_both cost (all_asked asking work more behind) (run_behind rest (all_hold asking more behind))
+          | false ↦ ap (with_work cost) (skips asking work after rest ends false behind) ∙ no_more cost (run asking work zero rest false behind)
         ])
 
     any_runs : (tests : Tests) (rest : List Instruction) (flag : Bool) (so_far : RunState)
-        → run truth work zero (any_code tests (length rest) (set false ∷ rest)) flag so_far ≡ with_work (some_asked (truth so_far) (work so_far) tests) (run truth work zero rest (some_holds (truth so_far) tests) so_far)
-    any_runs no_tests rest flag so_far = sym (behind_none (run truth work zero rest false so_far))
+        → run asking work zero (any_code tests (length rest) (set false ∷ rest)) flag so_far ≡ with_work (some_asked asking work tests so_far) (run_behind rest (some_holds asking tests so_far))
+    any_runs no_tests rest flag so_far = sym (behind_none (run asking work zero rest false so_far))
     any_runs (test first more) rest flag so_far =
         let after = any_code more (length rest) (set false ∷ rest) in
         let ends = ends_through after (set false ∷ rest) rest (any_ends more (length rest) (set false ∷ rest)) (ends_more (set false) rest rest (ends_here rest)) in
-        let cost = asked (truth so_far) (work so_far) first in
+        let cost = asked asking work first so_far in
+        let behind = (holds asking first so_far).so_far in
         test_runs first (jump_if (length rest) ∷ after) flag so_far
-        ∙ (elim (holds (truth so_far) first) as (λ first. with_work cost (run truth work (cond first (length after - length rest) zero) after first so_far)
-        ≡ with_work (cost + cond first 0 (some_asked (truth so_far) (work so_far) more)) (run truth work zero rest (first || some_holds (truth so_far) more) so_far)) [
-          | true ↦ ap (with_work cost) (skips truth work after rest ends true so_far) ∙ no_more cost (run truth work zero rest true so_far)
-          | false ↦ ap (with_work cost) (any_runs more rest false so_far) ∙ behind_both cost (some_asked (truth so_far) (work so_far) more) (run truth work zero rest (some_holds (truth so_far) more) so_far)
+        ∙ (elim (holds asking first so_far).is_held as (λ held. with_work cost (run asking work (cond held (length after - length rest) zero) after held behind)
+        ≡ with_work (cost + cond held 0 (some_asked asking work more behind)) (run_behind rest (cond held (answered true behind) (some_holds asking more behind)))) [
+          | true ↦ ap (with_work cost) (skips asking work after rest ends true behind) ∙ no_more cost (run asking work zero rest true behind)
+          | false ↦ ap (with_work cost) (any_runs more rest false behind) ∙ behind_both cost (some_asked asking work more behind) (run_behind rest (some_holds asking more behind))
         ])
 
   -- what is run after code that has this effect and takes this work, with some flag
   abbrev Comes : List Instruction → Flow → ℕ → Course → Type 0
-  Comes rest effect cost whole = (flag : Bool) × (whole ≡ with_work cost (then_runs effect (run truth work zero rest flag)))
+  Comes rest effect cost whole = (flag : Bool) × (whole ≡ with_work cost (then_runs effect (run asking work zero rest flag)))
 
   -- one effect after another
   comes_on : (middle rest : List Instruction) (effect : Flow) (next : RunState → Flow) (cost : ℕ) (later : RunState → ℕ) (whole : Course) → Comes middle effect cost whole
-      → ((flag : Bool) (so_far : RunState) → Comes rest (next so_far) (later so_far) (run truth work zero middle flag so_far)) → Comes rest (and_then effect next) (cost + then_takes effect later) whole
+      → ((flag : Bool) (so_far : RunState) → Comes rest (next so_far) (later so_far) (run asking work zero middle flag so_far)) → Comes rest (and_then effect next) (cost + then_takes effect later) whole
   comes_on middle rest (Going so_far) next cost later whole a b =
-      let c = b a.0 so_far in (c.0, a.1 ∙ ap (with_work cost) c.1 ∙ behind_both cost (later so_far) (then_runs (next so_far) (run truth work zero rest c.0)))
+      let c = b a.0 so_far in (c.0, a.1 ∙ ap (with_work cost) c.1 ∙ behind_both cost (later so_far) (then_runs (next so_far) (run asking work zero rest c.0)))
   comes_on middle rest (Stopped so_far) next cost later whole a b = (false, a.1 ∙ no_more cost (course_of (Stopped so_far)))
   comes_on middle rest (Failed failure) next cost later whole a b = (false, a.1 ∙ no_more cost (course_of (Failed failure)))
 
   -- the same effect before code that does the same
-  comes_to : (middle rest : List Instruction) (effect : Flow) (cost : ℕ) (whole : Course) → ((flag : Bool) (so_far : RunState) → run truth work zero middle flag so_far ≡ run truth work zero rest flag so_far) → Comes middle effect cost whole → Comes rest effect cost whole
+  comes_to : (middle rest : List Instruction) (effect : Flow) (cost : ℕ) (whole : Course) → ((flag : Bool) (so_far : RunState) → run asking work zero middle flag so_far ≡ run asking work zero rest flag so_far) → Comes middle effect cost whole → Comes rest effect cost whole
   comes_to middle rest (Going so_far) cost whole same a = (a.0, a.1 ∙ ap (with_work cost) (same a.0 so_far))
   comes_to middle rest (Stopped so_far) cost whole same a = (false, a.1)
   comes_to middle rest (Failed failure) cost whole same a = (false, a.1)
 
   -- behind other work
   comes_behind : (rest : List Instruction) (effect : Flow) (before cost : ℕ) (whole : Course) → Comes rest effect cost whole → Comes rest effect (before + cost) (with_work before whole)
-  comes_behind rest effect before cost whole a = (a.0, ap (with_work before) a.1 ∙ behind_both before cost (then_runs effect (run truth work zero rest a.0)))
+  comes_behind rest effect before cost whole a = (a.0, ap (with_work before) a.1 ∙ behind_both before cost (then_runs effect (run asking work zero rest a.0)))
 
   -- the code of commands does what they do
   mutual
-    pub command_runs : (tree : CommandTree) (rest : List Instruction) (flag : Bool) (so_far : RunState) → Comes rest (does truth tree so_far) (takes truth work tree so_far) (run truth work zero (command_code tree rest) flag so_far)
-    command_runs (require names) rest flag so_far = (flag, sym (behind_none (run truth work zero rest flag so_far)))
+    pub command_runs : (tree : CommandTree) (rest : List Instruction) (flag : Bool) (so_far : RunState) → Comes rest (does asking tree so_far) (takes asking work tree so_far) (run asking work zero (command_code tree rest) flag so_far)
+    command_runs (require names) rest flag so_far = (flag, sym (behind_none (run asking work zero rest flag so_far)))
     command_runs (choose branches) rest flag so_far = branches_run branches rest flag so_far
     command_runs stop rest flag so_far = (flag, sym (behind_none (course_of (Stopped so_far))))
-    command_runs (act action) rest flag so_far = (flag, sym (behind_none (then_runs (performed action so_far) (run truth work zero rest flag))))
+    command_runs (act action) rest flag so_far = (flag, sym (behind_none (then_runs (performed action so_far) (run asking work zero rest flag))))
 
-    branches_run : (branches : Branches) (rest : List Instruction) (flag : Bool) (so_far : RunState) → Comes rest (chooses truth branches so_far) (choice_takes truth work branches so_far) (run truth work zero (branches_code branches (length rest) rest) flag so_far)
-    branches_run no_branches rest flag so_far = (flag, sym (behind_none (run truth work zero rest flag so_far)))
+    branches_run : (branches : Branches) (rest : List Instruction) (flag : Bool) (so_far : RunState) → Comes rest (chooses asking branches so_far) (choice_takes asking work branches so_far) (run asking work zero (branches_code branches (length rest) rest) flag so_far)
+    branches_run no_branches rest flag so_far = (flag, sym (behind_none (run asking work zero rest flag so_far)))
     branches_run (branch condition block more) rest flag so_far =
         let after = branches_code more (length rest) rest in
         let blocked = commands_code block (jump (length rest) ∷ after) in
         let tested = test_runs condition (jump_unless (length after) ∷ blocked) flag so_far in
-        let first = holds (truth so_far) condition in
-        let chosen : Comes rest (chooses truth (branch condition block more) so_far) (cond first (all_take truth work block so_far) (choice_takes truth work more so_far)) (run truth work zero (jump_unless (length after) ∷ blocked) first so_far) =
-        elim (holds (truth so_far) condition) as (λ first. Comes rest (cond first (does_all truth block so_far) (chooses truth more so_far)) (cond first (all_take truth work block so_far) (choice_takes truth work more so_far)) (run truth work (cond first zero (length blocked - length after)) blocked first so_far)) [
-          | true ↦ comes_to (jump (length rest) ∷ after) rest (does_all truth block so_far) (all_take truth work block so_far) _ (λ flag so_far. skips truth work after rest (branches_ends more (length rest) rest) flag so_far) (commands_run block (jump (length rest) ∷ after) true so_far)
+        let first = (holds asking condition so_far).is_held in
+        let behind = (holds asking condition so_far).so_far in
+        let chosen : Comes rest (chooses asking (branch condition block more) so_far) (cond first (all_take asking work block behind) (choice_takes asking work more behind)) (run asking work zero (jump_unless (length after) ∷ blocked) first behind) =
+        elim (holds asking condition so_far).is_held as (λ first. Comes rest (cond first (does_all asking block behind) (chooses asking more behind)) (cond first (all_take asking work block behind) (choice_takes asking work more behind)) (run asking work (cond first zero (length blocked - length after)) blocked first behind)) [
+          | true ↦ comes_to (jump (length rest) ∷ after) rest (does_all asking block behind) (all_take asking work block behind) _ (λ flag so_far. skips asking work after rest (branches_ends more (length rest) rest) flag so_far) (commands_run block (jump (length rest) ∷ after) true behind)
           | false ↦
-              let skipped = skips truth work blocked after (ends_through blocked (jump (length rest) ∷ after) after (commands_ends block (jump (length rest) ∷ after)) (ends_more (jump (length rest)) after after (ends_here after))) false so_far in
-              let others = branches_run more rest false so_far in
+              let skipped = skips asking work blocked after (ends_through blocked (jump (length rest) ∷ after) after (commands_ends block (jump (length rest) ∷ after)) (ends_more (jump (length rest)) after after (ends_here after))) false behind in
+              let others = branches_run more rest false behind in
               (others.0, skipped ∙ others.1)
         ] in
-        let all = comes_behind rest (chooses truth (branch condition block more) so_far) (asked (truth so_far) (work so_far) condition) (cond first (all_take truth work block so_far) (choice_takes truth work more so_far)) _ chosen in
+        let all = comes_behind rest (chooses asking (branch condition block more) so_far) (asked asking work condition so_far) (cond first (all_take asking work block behind) (choice_takes asking work more behind)) _ chosen in
         (all.0, tested ∙ all.1)
 
-    pub commands_run : (commands : Commands) (rest : List Instruction) (flag : Bool) (so_far : RunState) → Comes rest (does_all truth commands so_far) (all_take truth work commands so_far) (run truth work zero (commands_code commands rest) flag so_far)
-    commands_run no_commands rest flag so_far = (flag, sym (behind_none (run truth work zero rest flag so_far)))
+    pub commands_run : (commands : Commands) (rest : List Instruction) (flag : Bool) (so_far : RunState) → Comes rest (does_all asking commands so_far) (all_take asking work commands so_far) (run asking work zero (commands_code commands rest) flag so_far)
+    commands_run no_commands rest flag so_far = (flag, sym (behind_none (run asking work zero rest flag so_far)))
     commands_run (command first more) rest flag so_far =
-        comes_on (commands_code more rest) rest (does truth first so_far) (does_all truth more) (takes truth work first so_far) (all_take truth work more) _ (command_runs first (commands_code more rest) flag so_far) (λ flag so_far. commands_run more rest flag so_far)
+        comes_on (commands_code more rest) rest (does asking first so_far) (does_all asking more) (takes asking work first so_far) (all_take asking work more) _ (command_runs first (commands_code more rest) flag so_far) (λ flag so_far. commands_run more rest flag so_far)
 
   -- a whole script
-  pub whole_runs : (commands : Commands) (so_far : RunState) → run truth work zero (commands_code commands []) false so_far ≡ record { flow = does_all truth commands so_far; work = all_take truth work commands so_far }
+  pub whole_runs : (commands : Commands) (so_far : RunState) → run asking work zero (commands_code commands []) false so_far ≡ record { flow = does_all asking commands so_far; work = all_take asking work commands so_far }
   whole_runs commands so_far =
       let run = commands_run commands [] false so_far in
-      run.1 ∙ ap (with_work (all_take truth work commands so_far)) (nothing_more (does_all truth commands so_far))
-      ∙ ap (λ n. record { flow = does_all truth commands so_far; work = n }) (add-zero (all_take truth work commands so_far))
+      run.1 ∙ ap (with_work (all_take asking work commands so_far)) (nothing_more (does_all asking commands so_far))
+      ∙ ap (λ n. record { flow = does_all asking commands so_far; work = n }) (add-zero (all_take asking work commands so_far))
     where
       nothing_more : (flow : Flow) → then_runs flow (λ so_far. course_of (Going so_far)) ≡ course_of flow
       nothing_more (Going so_far) = refl

@@ -1,9 +1,9 @@
--- What flat code does and the work that it takes, for any truth and any work of the tests that look at the message or at what the run has done.
+-- What flat code does and the work that it takes, for any asking and any work of the tests that look at the message or at what the run has done.
 use Rattle.std.specs.Prelude.{◌≡◌, ℕ, zero, suc, ◌+◌, ◌<◌, ◌≤◌, Bool, false, not, cond, List, length, Option, Some, None, slice_get}
 use Rattle.sieve_syntax.specs.declared.tree.checks.MailCheck.{MailCheck}
 use Rattle.sieve_syntax.specs.RunState.{RunState, at_first, Flow, Going, Stopped, Failed, performed}
 use Rattle.sieve_syntax.specs.Tree.{Commands}
-use Rattle.sieve_syntax.specs.Meaning.{Outcome, outcome_after}
+use Rattle.sieve_syntax.specs.Meaning.{TestAsking, Outcome, outcome_after}
 use Rattle.sieve_syntax.specs.Work.{within_work, outcome_within}
 use Rattle.sieve_code.specs.Instructions.{Instruction, set, look, flip, jump, jump_if, jump_unless, act, stop}
 
@@ -34,7 +34,7 @@ after_action (Going so_far) next = next so_far
 after_action (Stopped so_far) next = Some (course_of (Stopped so_far))
 after_action (Failed failure) next = Some (course_of (Failed failure))
 
--- the work of an instruction: that of the test that it evaluates
+-- the work of an instruction: that of the test that it asks
 abbrev pub instr_work : (RunState → MailCheck → ℕ) → Instruction → RunState → ℕ
 instr_work work (set value) so_far = 0
 instr_work work (look check) so_far = work so_far check
@@ -45,16 +45,16 @@ instr_work work (jump_unless target) so_far = 0
 instr_work work (act action) so_far = 0
 instr_work work stop so_far = 0
 
--- one step, and then the run from the next place on
-abbrev pub turn : (RunState → MailCheck → Bool) → Run → Instruction → Run
-turn truth next (set value) place flag so_far = next (place + 1) value so_far
-turn truth next (look check) place flag so_far = next (place + 1) (truth so_far check) so_far
-turn truth next flip place flag so_far = next (place + 1) (not flag) so_far
-turn truth next (jump target) place flag so_far = next target flag so_far
-turn truth next (jump_if target) place flag so_far = next (cond flag target (place + 1)) flag so_far
-turn truth next (jump_unless target) place flag so_far = next (cond flag (place + 1) target) flag so_far
-turn truth next (act action) place flag so_far = after_action (performed action so_far) (next (place + 1) flag)
-turn truth next stop place flag so_far = Some (course_of (Stopped so_far))
+-- one step, and then the run from the next place on: what a test comes to is the flag and what has been done behind it
+abbrev pub turn : TestAsking → Run → Instruction → Run
+turn asking next (set value) place flag so_far = next (place + 1) value so_far
+turn asking next (look check) place flag so_far = next (place + 1) (asking so_far check).is_held (asking so_far check).so_far
+turn asking next flip place flag so_far = next (place + 1) (not flag) so_far
+turn asking next (jump target) place flag so_far = next target flag so_far
+turn asking next (jump_if target) place flag so_far = next (cond flag target (place + 1)) flag so_far
+turn asking next (jump_unless target) place flag so_far = next (cond flag (place + 1) target) flag so_far
+turn asking next (act action) place flag so_far = after_action (performed action so_far) (next (place + 1) flag)
+turn asking next stop place flag so_far = Some (course_of (Stopped so_far))
 
 -- at the end of the code a run is over, without a step
 abbrev pub at_place : Option Instruction → (Instruction → Option Course) → RunState → Option Course
@@ -62,13 +62,13 @@ at_place None go so_far = Some (course_of (Going so_far))
 at_place (Some instr) go so_far = go instr
 
 -- a step with its work, and then the run from the next place on
-abbrev pub paid_turn : (RunState → MailCheck → Bool) → (RunState → MailCheck → ℕ) → Run → Instruction → Run
-paid_turn truth work next instr place flag so_far = after_work (instr_work work instr so_far) (turn truth next instr place flag so_far)
+abbrev pub paid_turn : TestAsking → (RunState → MailCheck → ℕ) → Run → Instruction → Run
+paid_turn asking work next instr place flag so_far = after_work (instr_work work instr so_far) (turn asking next instr place flag so_far)
 
 -- the course of flat code from a place on in at most n steps, or none if it is still going
-abbrev pub jumps_from : (RunState → MailCheck → Bool) → (RunState → MailCheck → ℕ) → List Instruction → ℕ → Run
-jumps_from truth work code zero place flag so_far = at_place (slice_get code place) (λ instr. None) so_far
-jumps_from truth work code (suc n) place flag so_far = at_place (slice_get code place) (λ instr. paid_turn truth work (jumps_from truth work code n) instr place flag so_far) so_far
+abbrev pub jumps_from : TestAsking → (RunState → MailCheck → ℕ) → List Instruction → ℕ → Run
+jumps_from asking work code zero place flag so_far = at_place (slice_get code place) (λ instr. None) so_far
+jumps_from asking work code (suc n) place flag so_far = at_place (slice_get code place) (λ instr. paid_turn asking work (jumps_from asking work code n) instr place flag so_far) so_far
 
 -- the outcome of a run that is over
 abbrev pub outcome_of : Option Course → Option Outcome
@@ -76,12 +76,12 @@ outcome_of None = None
 outcome_of (Some course) = Some (within_work course.work (outcome_after course.flow))
 
 -- the outcome of flat code in at most n steps, or none if it is still going
-abbrev pub jumps : (RunState → MailCheck → Bool) → (RunState → MailCheck → ℕ) → List Instruction → ℕ → Option Outcome
-jumps truth work code n = outcome_of (jumps_from truth work code n 0 false at_first)
+abbrev pub jumps : TestAsking → (RunState → MailCheck → ℕ) → List Instruction → ℕ → Option Outcome
+jumps asking work code n = outcome_of (jumps_from asking work code n 0 false at_first)
 
--- the code does what the tree does and takes the work that it takes, in at most as many steps as the code is long, whichever tests hold
+-- the code does what the tree does and takes the work that it takes, in at most as many steps as the code is long, however tests are asked
 abbrev pub IsCodeOf : List Instruction → Commands → Type 0
-IsCodeOf code tree = (truth : RunState → MailCheck → Bool) (work : RunState → MailCheck → ℕ) → jumps truth work code (length code) ≡ Some (outcome_within truth work tree)
+IsCodeOf code tree = (asking : TestAsking) (work : RunState → MailCheck → ℕ) → jumps asking work code (length code) ≡ Some (outcome_within asking work tree)
 
 -- a jump from this place leads past it, and not past the end of code of this length
 abbrev pub LeadsForward : ℕ → ℕ → Instruction → Type 0

@@ -43,8 +43,9 @@ impl<'a> Code<'a> {
     }
 }
 
-/// Compiles a script. The code does what the script's tree does, and evaluates the tests that the tree evaluates, so that it takes the
-/// same work, whichever tests hold and whatever work they take (RFC 5228, 2.10, 3 and 5).
+/// Compiles a script. The code does what the script's tree does, and asks the tests that the tree asks, in the same order, so that it takes
+/// the same work: however tests are asked, also where they change what the run has done, and whatever work they take (RFC 5228, 2.10, 3 and
+/// 5; RFC 5229, 3.2).
 ///
 /// Time and memory are linear in the number of commands, branches and tests: the code has at most two
 /// instructions for each. The stack that it takes is bounded by the script's depth.

@@ -19,7 +19,9 @@ use Rattle.sieve_syntax.specs.declared.tree.checks.Collation.TheVariants.{Octet,
 use Rattle.sieve_syntax.specs.declared.tree.checks.Matching.{Matching}
 use Rattle.sieve_syntax.specs.declared.tree.checks.Matching.TheVariants.{Is, Contains, Matches, Value, Count}
 use Rattle.sieve_exec.specs.Images.{text_image, has_image, AreImages}
-use Rattle.sieve_exec.specs.Matches.{relates, is_contained, is_globbed, some_end, matches_by_image, matches_by_number, matches_key, matches_some}
+use Rattle.sieve_exec.specs.Extension.Relational.{relates}
+use Rattle.sieve_exec.specs.Matches.{is_contained, is_globbed, some_end, matches_by_image, matches_key, matches_some}
+use Rattle.sieve_exec.specs.Extension.Numeric.{matches_by_number}
 use Rattle.sieve_exec.specs.Ready.{is_looked_up}
 use Rattle.sieve_exec.proofs.Decisions.{decides_as}
 use Rattle.sieve_exec.proofs.KeyLemmas.{any_same}

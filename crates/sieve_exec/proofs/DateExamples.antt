@@ -9,10 +9,10 @@ use Rattle.mail_dates.specs.Pieces.{goes_on}
 use Rattle.mail_dates.specs.Words.{number_in, two_digits, day_of, year_of, is_named, month_of, weekday_of, mark_of}
 use Rattle.mail_dates.specs.Zones.{offset_of, numeric_of, hours_west, named_of, zone_of}
 use Rattle.mail_dates.specs.Reading.{next_state, after_gap, cut, piece, reads, after_name, day_from, second_from, time_from, parts_from}
-use Rattle.sieve_syntax.specs.declared.tree.checks.DateZone.TheVariants.{Given, Original}
+use Rattle.sieve_syntax.specs.declared.extension.date.DateZone.TheVariants.{Given, Original}
 use Rattle.sieve_exec.specs.declared.when.When.{When}
 use Rattle.sieve_exec.specs.Mails.{MailSpec, mail_spec_of}
-use Rattle.sieve_exec.specs.Dates.{IsAfterLast, IsFieldDate, IsDateCount, IsDateShown, field_date}
+use Rattle.sieve_exec.specs.Extension.Date.{IsAfterLast, IsFieldDate, IsDateCount, IsDateShown, field_date}
 use Rattle.sieve_exec.proofs.DateLemmas.{behind_again, field_date_is, field_date_again}
 
 -- what stands behind the last semicolon, and not behind the first

@@ -1,5 +1,6 @@
 -- The date of a field, and whether some date passes.
 use Rattle.std.proofs.Common.{◌≡◌, ◌+◌, ◌/◌, ◌%◌, ◌<◌, ℕ, ℤ, suc, length, take, drop, get_or, Bool, true, false, ◌||◌, cond, inl, inr, List, [], ◌∷◌, ◌++◌, Option, Some, None, refl, sym, ap, ◌∙◌, subst, arith, decimal, add-one, length-drop}
+use Rattle.std.specs.Prelude.{unwrap_or}
 use Rattle.std.specs.Bool.{Decides}
 use Rattle.std.specs.List.{list_any}
 use Rattle.std.specs.Option.{option_and_then, MatchOption}
@@ -11,17 +12,24 @@ use Rattle.std.proofs.lemmas.List.{get_or-drop, get_or_default, take-append-drop
 use Rattle.std.proofs.lemmas.List.Folds.{list_any_none}
 use Rattle.octets.proofs.Lists.{some_is}
 use Rattle.memchr.specs.Find.{Nowhere, NoneAfter, Passes, is_byte}
-use Rattle.sieve_syntax.specs.declared.tree.checks.DateZone.{DateZone}
-use Rattle.sieve_syntax.specs.declared.tree.checks.DateZone.TheVariants.{Host, Given, Original}
+use Rattle.sieve_syntax.specs.declared.extension.date.CurrentDate.{CurrentDate}
+use Rattle.sieve_syntax.specs.declared.extension.date.DateTest.{DateTest}
+use Rattle.sieve_syntax.specs.declared.extension.date.DateZone.{DateZone}
+use Rattle.sieve_syntax.specs.declared.extension.date.DateZone.TheVariants.{Host, Given, Original}
 use Rattle.mail_dates.specs.declared.date_time.DateTime.{DateTime}
 use Rattle.mail_dates.specs.DateTexts.{IsDateText}
 use Rattle.mail_dates.specs.DateTimes.{IsMoment}
 use Rattle.mail_dates.specs.Finding.{date_of, moment_passes}
+use Rattle.mail_dates.specs.Parts.{part_text}
 use Rattle.mail_dates.proofs.FindingLaws.{date_of_is, date_of_again, same_moment_decides, moment_decides}
 use Rattle.mail_dates.proofs.MomentLaws.{one_same, one_moment}
 use Rattle.mail_dates.proofs.WordLemmas.{then_some}
 use Rattle.sieve_exec.specs.Mails.{MailSpec, field_values}
-use Rattle.sieve_exec.specs.Dates.{is_semicolon, IsAfterLast, is_received, IsDatePart, IsFieldDate, IsDateCount, IsDateShown, after_last, date_part_of, first_date, field_date, date_count, shown_passes, found_passes}
+use Rattle.sieve_exec.specs.Extension.Date.{is_semicolon, IsAfterLast, is_received, IsDatePart, IsFieldDate, IsDateCount, IsDateShown, after_last, date_part_of, first_date, field_date, date_count, shown_passes, found_passes, DateHolds, CurrentDateHolds, date_matches, date_holds, current_holds}
+use Rattle.sieve_exec.specs.Extension.Relational.{is_count}
+use Rattle.sieve_exec.specs.Matches.{MatchesSome}
+use Rattle.sieve_exec.proofs.Decisions.{counts_decides}
+use Rattle.sieve_exec.proofs.MatchLemmas.{matches_some_decides}
 
 -- ---- what stands behind the last semicolon
 
@@ -213,3 +221,19 @@ date_whole received value found off is = is ∙ sym (ap (λ (b : Bool). option_a
 -- a moment in a zone, by other names of both
 pub moment_as : (m n : ℕ) (y z : ℤ) (date : DateTime) → m ≡ n → y ≡ z → IsMoment m y date → IsMoment n z date
 moment_as m n y z date moments zones is = subst (λ (zone : ℤ). IsMoment n zone date) zones (subst (λ (moment : ℕ). IsMoment moment y date) moments is)
+
+-- ---- which tests hold
+
+pub date_decides : (mail : MailSpec) (test : DateTest) → Decides (date_holds mail test) (DateHolds mail test)
+date_decides mail test =
+    counts_decides (is_count test.matching) _ _ _ _
+    (count_decides mail test.field _ (MatchesSome test.comparator test.matching test.keys) (matches_some_decides test.comparator test.matching test.keys (decimal (date_count (field_date mail test.field)))))
+    (found_decides (date_matches test.comparator test.matching test.keys test.part) (λ shown. MatchesSome test.comparator test.matching test.keys (part_text test.part shown))
+    (λ shown. matches_some_decides test.comparator test.matching test.keys (part_text test.part shown)) mail test.zone test.field)
+
+pub current_decides : (mail : MailSpec) (test : CurrentDate) → Decides (current_holds mail test) (CurrentDateHolds mail test)
+current_decides mail test =
+    counts_decides (is_count test.matching) _ _ _ _
+    (matches_some_decides test.comparator test.matching test.keys (decimal 1))
+    (moment_decides (date_matches test.comparator test.matching test.keys test.part) (λ shown. MatchesSome test.comparator test.matching test.keys (part_text test.part shown))
+    (λ shown. matches_some_decides test.comparator test.matching test.keys (part_text test.part shown)) mail.moment (unwrap_or test.zone mail.zone))

@@ -2,7 +2,7 @@
 use Rattle.std.proofs.Common.{◌≡◌, ◌||◌, lit<, ℕ, Bool, List, true, false, Some, None, inl, inr, [], ◌∷◌, ◌++◌, codes, decimal, refl, ap, arith, pos, neg_ℤ, rules}
 use Rattle.std.proofs.lemmas.Int.{ints}
 use Rattle.sieve_syntax.specs.declared.tree.checks.Matching.TheVariants.{Is, Contains, Matches, Value, Count}
-use Rattle.sieve_syntax.specs.declared.tree.checks.Relation.TheVariants as R
+use Rattle.sieve_syntax.specs.declared.extension.relational.Relation.TheVariants as R
 use Rattle.sieve_syntax.specs.declared.tree.checks.AddressPart.TheVariants.{LocalPart, Domain, User, Detail}
 use Rattle.sieve_syntax.specs.declared.tree.checks.AddressPart.TheVariants as part
 use Rattle.sieve_syntax.specs.declared.tree.checks.Bound.TheVariants.{Over, Under}
@@ -15,13 +15,14 @@ use Rattle.mail_dates.specs.DateTimes.{IsZone}
 use Rattle.sieve_exec.specs.declared.when.When.{When}
 use Rattle.sieve_exec.specs.Mails.{MailSpec, mail_spec_of, field_values, text_shown, has_addresses, field_addresses}
 use Rattle.sieve_exec.specs.Matches.{matches_key, matches_some}
-use Rattle.sieve_exec.specs.Counts.{fields_counted, envelope_counted}
-use Rattle.sieve_exec.specs.Parts.{CutsAtFirst, IsAddressPart, address_part_of, Cuts, CutsAtLast, IsEnvelopePart, envelope_part_of}
-use Rattle.sieve_exec.specs.FlagKeys.{flag_keys}
+use Rattle.sieve_exec.specs.Counts.{fields_counted}
+use Rattle.sieve_exec.specs.Extension.Envelope.{envelope_counted, IsEnvelopePart, envelope_part_of, IsEnvelopeAddress}
+use Rattle.sieve_exec.specs.Extension.Subaddress.{CutsAtFirst}
+use Rattle.sieve_exec.specs.Parts.{IsAddressPart, address_part_of, Cuts, CutsAtLast}
+use Rattle.sieve_exec.specs.Extension.Imap4flags.{flag_keys, flag_holds}
 use Rattle.sieve_exec.specs.Images.{text_image, has_image, AreApart, AnswerFor}
 use Rattle.sieve_exec.specs.Ready.{is_looked_up}
-use Rattle.sieve_exec.specs.Holding.{IsBeyond, IsEnvelopeAddress, SomeAddress}
-use Rattle.sieve_exec.specs.Truth.{flag_holds}
+use Rattle.sieve_exec.specs.Holding.{IsBeyond, SomeAddress}
 
 -- the first second of 1970, two hours east of UTC
 abbrev start : When

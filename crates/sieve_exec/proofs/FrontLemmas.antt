@@ -4,45 +4,39 @@ use Rattle.std.proofs.Math.Path.{fun_ext}
 use Rattle.mail_head.specs.Heads.{fields_of, size_of}
 use Rattle.mail_head.specs.Prefixes.{IsHeaderPrefix}
 use Rattle.mail_head.proofs.FrontLemmas.{fields_in_front}
+use Rattle.sieve_syntax.specs.Meaning.{asking_at}
 use Rattle.sieve_syntax.specs.RunState.{RunState}
 use Rattle.sieve_syntax.specs.Tree.{Commands}
 use Rattle.sieve_syntax.specs.Work.{outcome_within}
 use Rattle.sieve_syntax.specs.declared.tree.checks.MailCheck.{MailCheck}
-use Rattle.sieve_syntax.specs.declared.tree.checks.MailCheck.TheVariants.{Size, Exists, Header, Address, Envelope, MailboxExists, Date, CurrentDate, HasFlag}
+use Rattle.sieve_syntax.specs.declared.tree.checks.MailCheck.TheVariants.{Size, Exists, Header, Address, Extension}
 use Rattle.sieve_exec.specs.declared.envelope.Envelope as E
 use Rattle.sieve_exec.specs.declared.when.When.{When}
 use Rattle.sieve_exec.specs.Mails.{MailSpec, mail_spec_of, with_size}
 use Rattle.sieve_exec.specs.Outcomes.{outcome_at}
 use Rattle.sieve_exec.specs.Truth.{truth_by, truth_at}
 use Rattle.sieve_exec.specs.Work.{work_by, work_at}
+use Rattle.sieve_exec.proofs.ExtensionLemmas.{same_extension_truth, same_extension_work}
 
 same_truth : (mail : MailSpec) (octets : List ℕ) (flags : List (List ℕ)) (check : MailCheck) → truth_by (record mail { octets = octets }) flags check ≡ truth_by mail flags check
 same_truth mail octets flags (Size size) = refl
 same_truth mail octets flags (Exists names) = refl
 same_truth mail octets flags (Header header) = refl
 same_truth mail octets flags (Address address) = refl
-same_truth mail octets flags (Envelope test) = refl
-same_truth mail octets flags (MailboxExists names) = refl
-same_truth mail octets flags (Date test) = refl
-same_truth mail octets flags (CurrentDate test) = refl
-same_truth mail octets flags (HasFlag test) = refl
+same_truth mail octets flags (Extension test) = same_extension_truth mail octets flags test
 
 same_work : (mail : MailSpec) (octets : List ℕ) (flags : List (List ℕ)) (check : MailCheck) → work_by (record mail { octets = octets }) flags check ≡ work_by mail flags check
 same_work mail octets flags (Size size) = refl
 same_work mail octets flags (Exists names) = refl
 same_work mail octets flags (Header header) = refl
 same_work mail octets flags (Address address) = refl
-same_work mail octets flags (Envelope test) = refl
-same_work mail octets flags (MailboxExists names) = refl
-same_work mail octets flags (Date test) = refl
-same_work mail octets flags (CurrentDate test) = refl
-same_work mail octets flags (HasFlag test) = refl
+same_work mail octets flags (Extension test) = same_extension_work mail octets flags test
 
 -- so the outcome is the same, whatever they are
 same_outcome : (mail : MailSpec) (octets : List ℕ) (tree : Commands) → outcome_at (record mail { octets = octets }) tree ≡ outcome_at mail tree
 same_outcome mail octets tree =
-    ap (λ truth. outcome_within truth (work_at (record mail { octets = octets })) tree) (fun_ext (λ (so_far : RunState). fun_ext (same_truth mail octets so_far.flags)))
-    ∙ ap (λ work. outcome_within (truth_at mail) work tree) (fun_ext (λ (so_far : RunState). fun_ext (same_work mail octets so_far.flags)))
+    ap (λ truth. outcome_within (asking_at truth) (work_at (record mail { octets = octets })) tree) (fun_ext (λ (so_far : RunState). fun_ext (same_truth mail octets so_far.flags)))
+    ∙ ap (λ work. outcome_within (asking_at (truth_at mail)) work tree) (fun_ext (λ (so_far : RunState). fun_ext (same_work mail octets so_far.flags)))
 
 module _ (envelope : E.Envelope) (when : When) (tree : Commands) where
   -- with the fields and the size of another message

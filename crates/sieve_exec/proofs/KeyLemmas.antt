@@ -11,10 +11,9 @@ use Rattle.sieve_match.specs.Search.{fits_key}
 use Rattle.sieve_match.specs.declared.masks.Masks.{Masks}
 use Rattle.sieve_syntax.specs.declared.tree.checks.Collation.TheVariants.{Octet, AsciiCasemap, AsciiNumeric}
 use Rattle.sieve_syntax.specs.declared.tree.checks.Matching.TheVariants.{Is, Contains, Matches, Value, Count}
-use Rattle.sieve_exec.specs.Matches.{matches_key, matches_some}
+use Rattle.sieve_exec.specs.Matches.{matches_key, matches_some, part_matches}
 use Rattle.sieve_exec.specs.Ready.{IsReady, some_passes}
 use Rattle.sieve_exec.proofs.MatchLemmas.{image_decides}
-use Rattle.sieve_exec.specs.Truth.{part_matches}
 
 pub none_pass : {X : Type 0} (xs : List X) → list_any (λ (x : X). false) xs ≡ false
 none_pass [] = refl

@@ -4,6 +4,10 @@ pub mod MatchLemmas
 pub mod OrderLemmas
 pub mod PartLemmas
 pub mod DateLemmas
+pub mod EnvelopeLemmas
+pub mod MailboxTestLemmas
+pub mod FlagLemmas
+pub mod ExtensionLemmas
 pub mod TruthLemmas
 pub mod FrontLemmas
 pub mod IndexLemmas

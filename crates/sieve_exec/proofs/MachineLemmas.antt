@@ -9,7 +9,7 @@ use Rattle.std.proofs.lemmas.Option.{slice_get-map, slice_get_past, slice_get_re
 use Rattle.sieve_syntax.specs.declared.tree.checks.MailCheck.{MailCheck}
 use Rattle.sieve_syntax.specs.RunState.{RunState, TooMuchWork, Flow, Going}
 use Rattle.sieve_syntax.specs.RunState as F
-use Rattle.sieve_syntax.specs.Meaning.{Outcome as OutcomeSpec, Failed, outcome_after}
+use Rattle.sieve_syntax.specs.Meaning.{TestAsking, asking_at, Outcome as OutcomeSpec, Failed, outcome_after}
 use Rattle.sieve_syntax.specs.Work.{max_work}
 use Rattle.sieve_code.specs.declared.instr.Instr.{Instr}
 use Rattle.sieve_code.specs.Instructions.{Instruction, instr_view}
@@ -35,12 +35,12 @@ both_after one two None = refl
 both_after one two (Some course) = ap Some (behind_both one two course)
 
 -- with as many turns as there are places left, and so much work that was taken, the code gives this from here
-pub record Gives (truth : RunState → MailCheck → Bool) (work : RunState → MailCheck → ℕ) (code : List Instruction) (whole : Option Course) (place : ℕ) (flag : Bool) (state : RunState) (left : ℕ) : Type 0 where
+pub record Gives (asking : TestAsking) (work : RunState → MailCheck → ℕ) (code : List Instruction) (whole : Option Course) (place : ℕ) (flag : Bool) (state : RunState) (left : ℕ) : Type 0 where
   pub turns : ℕ
   pub taken : ℕ
   pub enough : length code ≤ place + turns
   pub within : taken + left ≡ max_work
-  pub is : after_work taken (jumps_from truth work code turns place flag state) ≡ whole
+  pub is : after_work taken (jumps_from asking work code turns place flag state) ≡ whole
 
 -- a run is over, behind so much work as may be
 pub record IsOver (whole : Option Course) (flow : Flow) : Type 0 where
@@ -49,69 +49,69 @@ pub record IsOver (whole : Option Course) (flow : Flow) : Type 0 where
   pub is : Some (with_work taken (course_of flow)) ≡ whole
 
 -- what a turn leaves to do
-abbrev pub Leaves : (RunState → MailCheck → Bool) → (RunState → MailCheck → ℕ) → List Instruction → Option Course → InstrOutcome → Bool → RunState → ℕ → Type 0
-Leaves truth work code whole (Next place) flag state left = Gives truth work code whole place flag state left
-Leaves truth work code whole Stopped flag state left = IsOver whole (F.Stopped state)
-Leaves truth work code whole (T.Failed failure) flag state left = IsOver whole (F.Failed (failure_view failure))
+abbrev pub Leaves : TestAsking → (RunState → MailCheck → ℕ) → List Instruction → Option Course → InstrOutcome → Bool → RunState → ℕ → Type 0
+Leaves asking work code whole (Next place) flag state left = Gives asking work code whole place flag state left
+Leaves asking work code whole Stopped flag state left = IsOver whole (F.Stopped state)
+Leaves asking work code whole (T.Failed failure) flag state left = IsOver whole (F.Failed (failure_view failure))
 
 -- at first
-pub gives_first : (truth : RunState → MailCheck → Bool) (work : RunState → MailCheck → ℕ) (code : List Instruction) (state : RunState) → Gives truth work code (jumps_from truth work code (length code) 0 false state) 0 false state max_work
-gives_first truth work code state = record {
+pub gives_first : (asking : TestAsking) (work : RunState → MailCheck → ℕ) (code : List Instruction) (state : RunState) → Gives asking work code (jumps_from asking work code (length code) 0 false state) 0 false state max_work
+gives_first asking work code state = record {
   turns = length code;
   taken = 0;
   enough = omega arith;
   within = zero-add max_work;
-  is = none_after (jumps_from truth work code (length code) 0 false state);
+  is = none_after (jumps_from asking work code (length code) 0 false state);
 }
 
-module _ (truth : RunState → MailCheck → Bool) (work : RunState → MailCheck → ℕ) (code : List Instruction) (whole : Option Course) (place : ℕ) where
+module _ (asking : TestAsking) (work : RunState → MailCheck → ℕ) (code : List Instruction) (whole : Option Course) (place : ℕ) where
   -- the rest is what the turn leaves
   rest_of : (m taken left : ℕ) → length code ≤ place + suc m → taken + left ≡ max_work → (made : InstrOutcome) (flag : Bool) (state : RunState) → MovesOn place made
-      → after_work taken (after_turn made (jumps_from truth work code m) flag state) ≡ whole → Leaves truth work code whole made flag state left
+      → after_work taken (after_turn made (jumps_from asking work code m) flag state) ≡ whole → Leaves asking work code whole made flag state left
   rest_of m taken left enough within (Next place') flag state forward e = record { turns = m; taken = taken; enough = omega (arith, enough, forward); within = within; is = e }
   rest_of m taken left enough within Stopped flag state forward e = record { taken = taken; within = omega (arith, within); is = e }
   rest_of m taken left enough within (T.Failed failure) flag state forward e = record { taken = taken; within = omega (arith, within); is = e }
 
   -- what the code gives here, where a turn is left
   here_given : (m : ℕ) (instr : Instruction) (flag : Bool) (state : RunState) → slice_get code place ≡ Some instr
-      → jumps_from truth work code (suc m) place flag state ≡ after_work (instr_work work instr state) (turn truth (jumps_from truth work code m) instr place flag state)
-  here_given m instr flag state here = ap (λ o. at_place o (λ instr. paid_turn truth work (jumps_from truth work code m) instr place flag state) state) here
+      → jumps_from asking work code (suc m) place flag state ≡ after_work (instr_work work instr state) (turn asking (jumps_from asking work code m) instr place flag state)
+  here_given m instr flag state here = ap (λ o. at_place o (λ instr. paid_turn asking work (jumps_from asking work code m) instr place flag state) state) here
 
   -- one turn, and its work
-  one_turn : (instr : Instruction) (made : InstrOutcome) (flag flag' : Bool) (state state' : RunState) (before left : ℕ) → Gives truth work code whole place flag state before → slice_get code place ≡ Some instr
-      → left + instr_work work instr state ≡ before → ((next : Run) → turn truth next instr place flag state ≡ after_turn made next flag' state') → MovesOn place made → Leaves truth work code whole made flag' state' left
+  one_turn : (instr : Instruction) (made : InstrOutcome) (flag flag' : Bool) (state state' : RunState) (before left : ℕ) → Gives asking work code whole place flag state before → slice_get code place ≡ Some instr
+      → left + instr_work work instr state ≡ before → ((next : Run) → turn asking next instr place flag state ≡ after_turn made next flag' state') → MovesOn place made → Leaves asking work code whole made flag' state' left
   one_turn instr made flag flag' state state' before left gives here paid turned forward = step gives.turns gives.enough gives.is
     where
-      step : (turns : ℕ) → length code ≤ place + turns → after_work gives.taken (jumps_from truth work code turns place flag state) ≡ whole → Leaves truth work code whole made flag' state' left
+      step : (turns : ℕ) → length code ≤ place + turns → after_work gives.taken (jumps_from asking work code turns place flag state) ≡ whole → Leaves asking work code whole made flag' state' left
       step zero enough e = let within = slice_get_within code place instr here in absurd (omega (arith, enough, within))
       step (suc m) enough e =
-          let next = jumps_from truth work code m in
+          let next = jumps_from asking work code m in
           let w = instr_work work instr state in
           rest_of m (gives.taken + w) left enough (omega (arith, gives.within, paid)) made flag' state' forward
-          (ap (after_work (gives.taken + w)) (sym (turned next)) ∙ sym (both_after gives.taken w (turn truth next instr place flag state))
+          (ap (after_work (gives.taken + w)) (sym (turned next)) ∙ sym (both_after gives.taken w (turn asking next instr place flag state))
           ∙ ap (after_work gives.taken) (sym (here_given m instr flag state here)) ∙ e)
 
   -- an instruction whose work is more than is left
-  too_much : (instr : Instruction) (flag : Bool) (state : RunState) (before : ℕ) → Gives truth work code whole place flag state before → slice_get code place ≡ Some instr → IsForward code
+  too_much : (instr : Instruction) (flag : Bool) (state : RunState) (before : ℕ) → Gives asking work code whole place flag state before → slice_get code place ≡ Some instr → IsForward code
       → before < instr_work work instr state → outcome_of whole ≡ Some (Failed TooMuchWork)
   too_much instr flag state before gives here forward more = step gives.turns gives.enough gives.is
     where
-      step : (turns : ℕ) → length code ≤ place + turns → after_work gives.taken (jumps_from truth work code turns place flag state) ≡ whole → outcome_of whole ≡ Some (Failed TooMuchWork)
+      step : (turns : ℕ) → length code ≤ place + turns → after_work gives.taken (jumps_from asking work code turns place flag state) ≡ whole → outcome_of whole ≡ Some (Failed TooMuchWork)
       step zero enough e = let within = slice_get_within code place instr here in absurd (omega (arith, enough, within))
       step (suc m) enough e =
-          let next = jumps_from truth work code m in
+          let next = jumps_from asking work code m in
           let w = instr_work work instr state in
-          let inner = turn_ends truth work code next place instr (forward place instr here) flag state (λ later flag state past. comes_to_an_end truth work code forward m later flag state (omega (arith, enough, past))) in
+          let inner = turn_ends asking work code next place instr (forward place instr here) flag state (λ later flag state past. comes_to_an_end asking work code forward m later flag state (omega (arith, enough, past))) in
           let all = gives.taken + (w + inner.0.work) in
           let high : nat_lt max_work all ≡ true = lt-ltb max_work all (omega (arith, gives.within, more)) in
           ap outcome_of (sym e ∙ ap (after_work gives.taken) (here_given m instr flag state here ∙ ap (after_work w) inner.1))
           ∙ ap (λ b. Some (cond b (Failed TooMuchWork) (outcome_after inner.0.flow))) high
 
   -- after the last place
-  pub at_end : (flag : Bool) (state : RunState) (left : ℕ) → Gives truth work code whole place flag state left → length code ≤ place → IsOver whole (Going state)
+  pub at_end : (flag : Bool) (state : RunState) (left : ℕ) → Gives asking work code whole place flag state left → length code ≤ place → IsOver whole (Going state)
   at_end flag state left gives end = step gives.turns gives.is
     where
-      step : (turns : ℕ) → after_work gives.taken (jumps_from truth work code turns place flag state) ≡ whole → IsOver whole (Going state)
+      step : (turns : ℕ) → after_work gives.taken (jumps_from asking work code turns place flag state) ≡ whole → IsOver whole (Going state)
       step zero e = record {
         taken = gives.taken;
         within = omega (arith, gives.within);
@@ -120,7 +120,7 @@ module _ (truth : RunState → MailCheck → Bool) (work : RunState → MailChec
       step (suc m) e = record {
         taken = gives.taken;
         within = omega (arith, gives.within);
-        is = ap (after_work gives.taken) (sym (ap (λ o. at_place o (λ instr. paid_turn truth work (jumps_from truth work code m) instr place flag state) state) (slice_get_past code place end))) ∙ e;
+        is = ap (after_work gives.taken) (sym (ap (λ o. at_place o (λ instr. paid_turn asking work (jumps_from asking work code m) instr place flag state) state) (slice_get_past code place end))) ∙ e;
       }
 
 -- the instruction at a place of the code
@@ -132,30 +132,30 @@ at_the_place instrs code place instr seen within here =
 pub machine_turn : (mail cached paying : MailSpec) (instrs : List Instr) (code : List Instruction) (whole : Option Course) (place : ℕ) (instr : Instr) (made made' : InstrOutcome) (flag0 flag flag' : Bool) (state0 state state' : RunState) (before left left' : ℕ)
     → cached ≡ mail → paying ≡ mail → flag ≡ flag0 → state ≡ state0 → left' ≡ left → map instr_view instrs ≡ code → IsForward code → place < length instrs → instr ≡ get_or instrs place instr
     → left + instr_work (work_at paying) (instr_view instr) state0 ≡ before
-    → ((next : Run) → turn (truth_at cached) next (instr_view instr) place flag state ≡ after_turn made next flag' state')
+    → ((next : Run) → turn (asking_at (truth_at cached)) next (instr_view instr) place flag state ≡ after_turn made next flag' state')
     → ((len : ℕ) → LeadsForward place len (instr_view instr) → MovesOn place made) → made ≡ made'
-    → Gives (truth_at mail) (work_at mail) code whole place flag0 state0 before → MovesOn place made' × Leaves (truth_at mail) (work_at mail) code whole made' flag' state' left'
+    → Gives (asking_at (truth_at mail)) (work_at mail) code whole place flag0 state0 before → MovesOn place made' × Leaves (asking_at (truth_at mail)) (work_at mail) code whole made' flag' state' left'
 machine_turn mail cached paying instrs code whole place instr made made' flag0 flag flag' state0 state state' before left left' same pays same_flag same_state same_left seen forward within here paid turned moves is gives =
-    let truth = truth_at mail in
+    let asking = asking_at (truth_at mail) in
     let work = work_at mail in
     let at = at_the_place instrs code place instr seen within here in
     let on = moves (length code) (forward place (instr_view instr) at) in
     let paid' : left + instr_work work (instr_view instr) state ≡ before =
     ap (λ m. left + instr_work (work_at m) (instr_view instr) state) (sym pays) ∙ ap (λ s. left + instr_work (work_at paying) (instr_view instr) s) same_state ∙ paid in
-    let turned' : (next : Run) → turn truth next (instr_view instr) place flag state ≡ after_turn made next flag' state' =
-    λ next. ap (λ m. turn (truth_at m) next (instr_view instr) place flag state) (sym same) ∙ turned next in
-    let gives' = subst (λ f. Gives truth work code whole place f state before) (sym same_flag) (subst (λ s. Gives truth work code whole place flag0 s before) (sym same_state) gives) in (
+    let turned' : (next : Run) → turn asking next (instr_view instr) place flag state ≡ after_turn made next flag' state' =
+    λ next. ap (λ m. turn (asking_at (truth_at m)) next (instr_view instr) place flag state) (sym same) ∙ turned next in
+    let gives' = subst (λ f. Gives asking work code whole place f state before) (sym same_flag) (subst (λ s. Gives asking work code whole place flag0 s before) (sym same_state) gives) in (
       subst (MovesOn place) is on,
-      subst (λ n. Leaves truth work code whole made' flag' state' n) (sym same_left)
-          (subst (λ t. Leaves truth work code whole t flag' state' left) is (one_turn truth work code whole place (instr_view instr) made flag flag' state state' before left gives' at paid' turned' on)),
+      subst (λ n. Leaves asking work code whole made' flag' state' n) (sym same_left)
+          (subst (λ t. Leaves asking work code whole t flag' state' left) is (one_turn asking work code whole place (instr_view instr) made flag flag' state state' before left gives' at paid' turned' on)),
     )
 
 -- one that can't be paid for
 pub machine_fails : (mail paying : MailSpec) (instrs : List Instr) (code : List Instruction) (whole : Option Course) (place : ℕ) (instr : Instr) (flag : Bool) (state : RunState) (before : ℕ)
     → paying ≡ mail → map instr_view instrs ≡ code → IsForward code → place < length instrs → instr ≡ get_or instrs place instr
-    → before < instr_work (work_at paying) (instr_view instr) state → Gives (truth_at mail) (work_at mail) code whole place flag state before → outcome_of whole ≡ Some (Failed TooMuchWork)
+    → before < instr_work (work_at paying) (instr_view instr) state → Gives (asking_at (truth_at mail)) (work_at mail) code whole place flag state before → outcome_of whole ≡ Some (Failed TooMuchWork)
 machine_fails mail paying instrs code whole place instr flag state before pays seen forward within here more gives =
-    too_much (truth_at mail) (work_at mail) code whole place (instr_view instr) flag state before gives (at_the_place instrs code place instr seen within here) forward
+    too_much (asking_at (truth_at mail)) (work_at mail) code whole place (instr_view instr) flag state before gives (at_the_place instrs code place instr seen within here) forward
     (subst (λ m. before < instr_work (work_at m) (instr_view instr) state) pays more)
 
 -- a place after all instructions

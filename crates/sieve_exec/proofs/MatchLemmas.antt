@@ -13,8 +13,10 @@ use Rattle.sieve_syntax.specs.declared.tree.checks.Collation.{Collation}
 use Rattle.sieve_syntax.specs.declared.tree.checks.Matching.{Matching}
 use Rattle.sieve_syntax.specs.declared.tree.checks.Matching.TheVariants.{Is, Contains, Matches, Value, Count}
 use Rattle.sieve_syntax.specs.declared.tree.checks.Collation.TheVariants.{Octet, AsciiCasemap, AsciiNumeric}
-use Rattle.sieve_syntax.specs.declared.tree.checks.Relation.TheVariants as R
-use Rattle.sieve_exec.specs.Matches.{MatchesByImage, MatchesByNumber, MatchesKey, MatchesSome, begins_with_key, some_end, is_contained, is_globbed, order_by, number_order, matches_by_image, matches_by_number, matches_key, matches_some}
+use Rattle.sieve_syntax.specs.declared.extension.relational.Relation.TheVariants as R
+use Rattle.sieve_exec.specs.Matches.{MatchesByImage, MatchesKey, MatchesSome, begins_with_key, some_end, is_contained, is_globbed, matches_by_image, matches_key, matches_some}
+use Rattle.sieve_exec.specs.Extension.Numeric.{MatchesByNumber, number_order, matches_by_number}
+use Rattle.sieve_exec.specs.Extension.Relational.{order_by}
 use Rattle.sieve_exec.proofs.Decisions.{decides_as, any_decides}
 use Rattle.sieve_exec.proofs.OrderLemmas.{image_ranked, image_relates, number_ranked, number_relates}
 

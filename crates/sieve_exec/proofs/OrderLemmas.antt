@@ -11,9 +11,10 @@ use Rattle.sieve_match.specs.Sorting.{ComesBefore}
 use Rattle.sieve_match.specs.Numbers.{IsLessNumber, IsBelow, EqualNumbers, number_at}
 use Rattle.sieve_match.proofs.SortingLemmas.{Lesser, before_of, before_chained, before_strict}
 use Rattle.sieve_match.proofs.NumberLemmas.{below_of, equal_of, below_chained, below_strict}
-use Rattle.sieve_syntax.specs.declared.tree.checks.Relation.{Relation}
-use Rattle.sieve_syntax.specs.declared.tree.checks.Relation.TheVariants as R
-use Rattle.sieve_exec.specs.Matches.{Relates, order_by, number_order, relates}
+use Rattle.sieve_syntax.specs.declared.extension.relational.Relation.{Relation}
+use Rattle.sieve_syntax.specs.declared.extension.relational.Relation.TheVariants as R
+use Rattle.sieve_exec.specs.Extension.Relational.{Relates, order_by, relates}
+use Rattle.sieve_exec.specs.Extension.Numeric.{number_order}
 
 both_same : (a b : ℕ) (x y : List ℕ) → a ≡ b → x ≡ y → a ∷ x ≡ b ∷ y
 both_same a b x y one more = cc

@@ -1,5 +1,5 @@
 -- An address of the envelope is cut in one way, and so is a local part.
-use Rattle.std.proofs.Common.{◌≡◌, ◌<◌, ◌≤◌, ◌+◌, ℕ, suc, Bool, true, false, ◌||◌, ◌&&◌, not, cond, inl, inr, List, [], ◌∷◌, ◌++◌, length, take, drop, get_or, Some, None, refl, sym, ap, ◌∙◌, subst, arith, add-one, length-drop}
+use Rattle.std.proofs.Common.{◌≡◌, ◌<◌, ◌≤◌, ◌+◌, ℕ, suc, Bool, true, false, ◌||◌, ◌&&◌, not, cond, inl, inr, List, [], ◌∷◌, ◌++◌, length, take, drop, get_or, Option, Some, None, refl, sym, ap, ◌∙◌, subst, arith, add-one, length-drop}
 use Rattle.std.specs.Prelude.{unwrap_or}
 use Rattle.std.proofs.Math.Bool.{or-true}
 use Rattle.std.proofs.Math.Seq.{drop-cons}
@@ -8,9 +8,17 @@ use Rattle.std.proofs.lemmas.List.{get_or-drop, get_or-take, get_or_default, len
 use Rattle.std.proofs.lemmas.List.Folds.{list_any_none}
 use Rattle.mail_address.specs.declared.address.Addr.{Addr}
 use Rattle.memchr.specs.Find.{Nowhere, NoneBefore, NoneAfter, Passes, is_byte}
+use Rattle.std.specs.Bool.{Decides}
 use Rattle.sieve_syntax.specs.declared.tree.checks.AddressPart.{AddressPart}
 use Rattle.sieve_syntax.specs.declared.tree.checks.AddressPart.TheVariants.{All, LocalPart, Domain, User, Detail}
-use Rattle.sieve_exec.specs.Parts.{is_plus, has_plus, CutsAtFirst, IsUser, IsDetail, user_of, detail_of, IsAddressPart, address_part_of, is_at, has_at, CutsAtLast, Cuts, local_of, domain_of, IsEnvelopePart, envelope_part_of}
+use Rattle.sieve_exec.specs.Extension.Subaddress.{is_plus, has_plus, CutsAtFirst, IsUser, IsDetail, user_of, detail_of}
+use Rattle.sieve_exec.specs.Parts.{IsAddressPart, address_part_of, is_at, has_at, CutsAtLast, Cuts, local_of, domain_of}
+use Rattle.sieve_exec.specs.Extension.Envelope.{IsEnvelopePart, envelope_part_of}
+use Rattle.sieve_syntax.specs.declared.tree.checks.Collation.{Collation}
+use Rattle.sieve_syntax.specs.declared.tree.checks.Matching.{Matching}
+use Rattle.sieve_exec.specs.Matches.{MatchesSome, part_matches}
+use Rattle.sieve_exec.proofs.Decisions.{decides_as}
+use Rattle.sieve_exec.proofs.MatchLemmas.{matches_some_decides}
 
 -- an octet other than the last `@`
 goes_on : (at later : Bool) (text : List ℕ) → at ≡ false → cond (at && not later) [] text ≡ text
@@ -247,3 +255,22 @@ cuts_found text k after here =
 -- and where it found none
 pub cuts_nowhere : (text : List ℕ) → Nowhere (Passes (is_byte 64) text) 0 (length text) → Cuts text text []
 cuts_nowhere text nowhere = inr (record { whole = refl; none = refl; bare = none_from text 0 nowhere })
+
+-- ---- whether a part matches
+
+-- a part matches: the one that is found, where those that are and it are one
+module _ (collation : Collation) (matching : Matching) (keys : List (List ℕ)) (part : Option (List ℕ)) (Is : List ℕ → Type 0)
+    (is : (found : List ℕ) → part ≡ Some found → Is found) (only : (one : List ℕ) → Is one → part ≡ Some one) where
+  abbrev pub SomePart : Type 0
+  SomePart = (one : List ℕ) × Is one × MatchesSome collation matching keys one
+
+  pub part_decides : Decides (part_matches collation matching keys part) SomePart
+  part_decides = split part refl
+    where
+      split : (o : Option (List ℕ)) → part ≡ o → Decides (part_matches collation matching keys part) SomePart
+      split None none = subst (λ (o : Option (List ℕ)). Decides (part_matches collation matching keys o) SomePart) (sym none)
+          (λ h. absurd (cc h), λ (one, there, h). let no : None ≡ Some one = sym none ∙ only one there in absurd (cc no))
+      split (Some found) some = subst (λ (o : Option (List ℕ)). Decides (part_matches collation matching keys o) SomePart) (sym some)
+          (decides_as _ (λ h. (found, is found some, h))
+          (λ (one, there, h). given (MatchesSome collation matching keys) one found (sym (only one there) ∙ some) h)
+          (matches_some_decides collation matching keys found))

@@ -6,7 +6,7 @@ use Rattle.std.specs.List.{list_any}
 use Rattle.sieve_match.specs.Costs.{search_steps, pattern_steps}
 use Rattle.sieve_match.specs.Units as units
 use Rattle.sieve_match.proofs.Units.{long_key_within, pattern_within, long_pattern_within}
-use Rattle.sieve_exec.specs.Work.{text_size, texts_size, sizes_of, is_long, is_question, is_asterisk, ready_work, contains_work, pattern_work, starred, tried_work}
+use Rattle.sieve_exec.specs.Sizes.{text_size, texts_size, sizes_of, is_long, is_question, is_asterisk, ready_work, contains_work, pattern_work, starred, tried_work}
 
 -- a term of the type given
 abbrev by : (A : Type 0) → A → A

@@ -1,6 +1,6 @@
 -- What is left behind one piece of work and another.
 use Rattle.std.proofs.Common.{◌≡◌, ℕ, ◌+◌, ◌<◌, Option, Some, None, arith}
-use Rattle.sieve_exec.specs.Work.{IsLeft}
+use Rattle.sieve_exec.specs.Sizes.{IsLeft}
 
 pub left_then : (before rest one other : ℕ) (last : Option ℕ) → rest + one ≡ before → IsLeft rest other last → IsLeft before (one + other) last
 left_then before rest one other None paid more = omega (arith, paid, more)

@@ -1,17 +1,9 @@
 -- What `:count` counts (RFC 5231, 4.2): of all the names together, before any key is looked at.
-use Rattle.std.specs.Prelude.{ℕ, ◌+◌, Bool, true, false, cond, ◌&&◌, is_some, length, List, [], ◌∷◌, sum_by, count_by}
+use Rattle.std.specs.Prelude.{ℕ, Bool, is_some, length, List, sum_by, count_by}
 use Rattle.sieve_syntax.specs.declared.tree.checks.AddressPart.{AddressPart}
-use Rattle.sieve_syntax.specs.declared.tree.checks.EnvelopeTest.{EnvelopeTest}
-use Rattle.sieve_syntax.specs.declared.tree.checks.Matching.{Matching}
-use Rattle.sieve_syntax.specs.declared.tree.checks.Matching.TheVariants.{Count}
 use Rattle.mail_address.specs.declared.address.Addr.{Addr}
 use Rattle.sieve_exec.specs.Mails.{MailSpec, field_texts, field_addresses}
-use Rattle.sieve_exec.specs.Parts.{address_part_of, envelope_part_of}
-
--- whether values are counted
-abbrev pub is_count : Matching → Bool
-is_count (Count relation) = true
-is_count _ = false
+use Rattle.sieve_exec.specs.Parts.{address_part_of}
 
 -- the number of fields with these names, each of which has one text; those with a name that is given twice count twice
 abbrev pub fields_counted : MailSpec → List (List ℕ) → ℕ
@@ -24,17 +16,3 @@ has_part part one = is_some (address_part_of part one)
 -- the number of addresses in the fields with these names that have this part
 abbrev pub addresses_counted : MailSpec → AddressPart → List (List ℕ) → ℕ
 addresses_counted mail part names = sum_by (λ name. count_by (has_part part) (field_addresses mail name)) names
-
--- whether a text isn't empty
-abbrev pub is_some_of : List ℕ → Bool
-is_some_of [] = false
-is_some_of (octet ∷ rest) = true
-
--- an address of the envelope that isn't the null reverse-path and has this part
-abbrev pub is_counted : AddressPart → List ℕ → Bool
-is_counted part address = is_some_of address && is_some (envelope_part_of part address)
-
--- the number of those that a test names
-abbrev pub envelope_counted : MailSpec → EnvelopeTest → ℕ
-envelope_counted mail test =
-    cond (test.parts.from && is_counted test.part mail.from) 1 0 + cond (test.parts.to && is_counted test.part mail.to) 1 0

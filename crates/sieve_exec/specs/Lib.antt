@@ -1,9 +1,9 @@
 pub mod Mails
 pub mod Matches
+pub mod Sizes
 pub mod Parts
 pub mod Counts
-pub mod FlagKeys
-pub mod Dates
+pub mod Extension
 pub mod Holding
 pub mod Truth
 pub mod Indexes

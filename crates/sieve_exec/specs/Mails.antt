@@ -1,5 +1,5 @@
 -- A message with its envelope and when it is delivered, as the tests of a script see it (RFC 5228, 2.4.2 and 5).
-use Rattle.std.specs.Prelude.{ℕ, ℤ, Bool, cond, codes, List, [], ◌∷◌, map, nat_eq, Option, unwrap_or}
+use Rattle.std.specs.Prelude.{ℕ, ℤ, Bool, true, false, cond, codes, List, [], ◌∷◌, map, nat_eq, Option, unwrap_or}
 use Rattle.std.specs.List.{filter, flat_map, list_any}
 use Rattle.std.specs.Cmp.Lexicographic.{pointwise}
 use Rattle.octets.specs.Ascii.{lowered, trimmed}
@@ -74,3 +74,8 @@ has_addresses name = list_any (λ field. pointwise nat_eq field (lowered name)) 
 -- the addresses of the unfolded values, which aren't decoded, of the fields with a name; none if such fields have no addresses
 abbrev pub field_addresses : MailSpec → List ℕ → List Addr
 field_addresses mail name = cond (has_addresses name) (flat_map addrs (field_values mail name)) []
+
+-- whether a text isn't empty
+abbrev pub is_some_of : List ℕ → Bool
+is_some_of [] = false
+is_some_of (octet ∷ rest) = true

@@ -1,14 +1,10 @@
 -- Whether a value matches a key (RFC 5228, 2.7.1; RFC 5231), by a comparator (RFC 4790).
-use Rattle.std.specs.Prelude.{◌==◌, ◌⊎◌, ℕ, Bool, true, false, ◌&&◌, ◌||◌, nat_eq, List, [], ◌∷◌, map, Option, Some, None}
+use Rattle.std.specs.Prelude.{◌==◌, ℕ, Bool, true, false, ◌&&◌, ◌||◌, nat_eq, decimal, List, [], ◌∷◌, map, Option, Some, None}
 use Rattle.std.specs.List.{list_any, Any}
 use Rattle.std.specs.Char.{to_ascii_uppercase}
-use Rattle.std.specs.Cmp.Lexicographic.{pointwise, slice_cmp}
-use Rattle.std.specs.declared.cmp.Ordering.{Ordering}
-use Rattle.std.specs.declared.cmp.Ordering.TheVariants.{Less, Equal, Greater}
-use Rattle.std.specs.Ordering.{nat_cmp, is_gt, is_ge, is_lt, is_le, is_eq, is_ne}
+use Rattle.std.specs.Cmp.Lexicographic.{pointwise}
 use Rattle.sieve_match.specs.Comparators.{EqualBy, ContainsBy}
 use Rattle.sieve_match.specs.Sorting.{ComesBefore}
-use Rattle.sieve_match.specs.Numbers.{IsBelow, EqualNumbers, number_at}
 use Rattle.sieve_match.specs.Glob.{items, Glob}
 use Rattle.sieve_match.specs.declared.pattern.GlobItem.{GlobItem}
 use Rattle.sieve_match.specs.declared.pattern.GlobItem.TheVariants.{Star, One, Exact}
@@ -16,17 +12,8 @@ use Rattle.sieve_syntax.specs.declared.tree.checks.Collation.{Collation}
 use Rattle.sieve_syntax.specs.declared.tree.checks.Collation.TheVariants.{Octet, AsciiCasemap, AsciiNumeric}
 use Rattle.sieve_syntax.specs.declared.tree.checks.Matching.{Matching}
 use Rattle.sieve_syntax.specs.declared.tree.checks.Matching.TheVariants.{Is, Contains, Matches, Value, Count}
-use Rattle.sieve_syntax.specs.declared.tree.checks.Relation.{Relation}
-use Rattle.sieve_syntax.specs.declared.tree.checks.Relation.TheVariants as R
-
--- a value is in a relation to a key, given an order and an equality (RFC 5231, 4)
-abbrev pub Relates : Relation → (List ℕ → List ℕ → Type 0) → (List ℕ → List ℕ → Type 0) → List ℕ → List ℕ → Type 0
-Relates R.Greater Before Same value key = Before key value
-Relates R.GreaterOrEqual Before Same value key = Before key value ⊎ Same value key
-Relates R.Less Before Same value key = Before value key
-Relates R.LessOrEqual Before Same value key = Before value key ⊎ Same value key
-Relates R.Equal Before Same value key = Same value key
-Relates R.NotEqual Before Same value key = Same value key → ⊥
+use Rattle.sieve_exec.specs.Extension.Numeric.{MatchesByNumber, matches_by_number}
+use Rattle.sieve_exec.specs.Extension.Relational.{Relates, relates, order_by}
 
 -- a value matches a key by the images of octets; if values are counted, the value is their number
 abbrev pub MatchesByImage : (ℕ → ℕ) → Matching → List ℕ → List ℕ → Type 0
@@ -35,14 +22,6 @@ MatchesByImage image Contains key value = ContainsBy image key value
 MatchesByImage image Matches key value = Glob image (items key) value
 MatchesByImage image (Value relation) key value = Relates relation (ComesBefore image) (EqualBy image) value key
 MatchesByImage image (Count relation) key value = Relates relation (ComesBefore image) (EqualBy image) value key
-
--- the same by the numbers that they begin with, which have no parts
-abbrev pub MatchesByNumber : Matching → List ℕ → List ℕ → Type 0
-MatchesByNumber Is key value = EqualNumbers key value
-MatchesByNumber Contains key value = ⊥
-MatchesByNumber Matches key value = ⊥
-MatchesByNumber (Value relation) key value = Relates relation IsBelow EqualNumbers value key
-MatchesByNumber (Count relation) key value = Relates relation IsBelow EqualNumbers value key
 
 -- a value matches a key by a comparator
 abbrev pub MatchesKey : Collation → Matching → List ℕ → List ℕ → Type 0
@@ -53,25 +32,6 @@ MatchesKey AsciiNumeric = MatchesByNumber
 -- a value matches some key
 abbrev pub MatchesSome : Collation → Matching → List (List ℕ) → List ℕ → Type 0
 MatchesSome collation matching keys value = Any (λ key. MatchesKey collation matching key value) keys
-
--- the order of a value and a key by images, and by numbers, where None is infinity
-abbrev pub order_by : (ℕ → ℕ) → List ℕ → List ℕ → Ordering
-order_by image value key = slice_cmp nat_cmp (map image value) (map image key)
-
-abbrev pub number_order : Option ℕ → Option ℕ → Ordering
-number_order (Some one) (Some other) = nat_cmp one other
-number_order (Some one) None = Less
-number_order None (Some other) = Greater
-number_order None None = Equal
-
--- whether two values that are ordered like this are in a relation
-abbrev pub relates : Relation → Ordering → Bool
-relates R.Greater order = is_gt order
-relates R.GreaterOrEqual order = is_ge order
-relates R.Less order = is_lt order
-relates R.LessOrEqual order = is_le order
-relates R.Equal order = is_eq order
-relates R.NotEqual order = is_ne order
 
 -- whether the images of two texts are the same
 abbrev pub is_equal : (ℕ → ℕ) → List ℕ → List ℕ → Bool
@@ -102,20 +62,13 @@ is_globbed image (One ∷ more) (octet ∷ rest) = is_globbed image more rest
 is_globbed image (Exact one ∷ more) [] = false
 is_globbed image (Exact one ∷ more) (other ∷ rest) = (image one == image other) && is_globbed image more rest
 
--- whether a value matches a key: by images, by numbers, by a comparator
+-- whether a value matches a key: by images, and by a comparator
 abbrev pub matches_by_image : (ℕ → ℕ) → Matching → List ℕ → List ℕ → Bool
 matches_by_image image Is key value = is_equal image key value
 matches_by_image image Contains key value = is_contained image key value
 matches_by_image image Matches key value = is_globbed image (items key) value
 matches_by_image image (Value relation) key value = relates relation (order_by image value key)
 matches_by_image image (Count relation) key value = relates relation (order_by image value key)
-
-abbrev pub matches_by_number : Matching → List ℕ → List ℕ → Bool
-matches_by_number Is key value = is_eq (number_order (number_at key) (number_at value))
-matches_by_number Contains key value = false
-matches_by_number Matches key value = false
-matches_by_number (Value relation) key value = relates relation (number_order (number_at value) (number_at key))
-matches_by_number (Count relation) key value = relates relation (number_order (number_at value) (number_at key))
 
 abbrev pub matches_key : Collation → Matching → List ℕ → List ℕ → Bool
 matches_key Octet = matches_by_image (λ octet. octet)
@@ -125,3 +78,12 @@ matches_key AsciiNumeric = matches_by_number
 -- whether a value matches some key
 abbrev pub matches_some : Collation → Matching → List (List ℕ) → List ℕ → Bool
 matches_some collation matching keys value = list_any (λ key. matches_key collation matching key value) keys
+
+-- whether a number in decimal matches a key
+abbrev pub count_matches : Collation → Matching → List (List ℕ) → ℕ → Bool
+count_matches collation matching keys count = matches_some collation matching keys (decimal count)
+
+-- whether there is a part and it matches a key
+abbrev pub part_matches : Collation → Matching → List (List ℕ) → Option (List ℕ) → Bool
+part_matches collation matching keys None = false
+part_matches collation matching keys (Some part) = matches_some collation matching keys part

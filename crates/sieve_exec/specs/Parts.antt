@@ -1,43 +1,11 @@
--- The parts of an address (RFC 5228, 2.7.4), and those of its local part (RFC 5233, 4).
-use Rattle.std.specs.Prelude.{◌≡◌, ◌==◌, ℕ, Bool, false, ◌&&◌, ◌⊎◌, not, cond, List, [], ◌∷◌, ◌++◌, Option, Some, None}
+-- The parts of an address (RFC 5228, 2.7.4), and where an address of the envelope is cut.
+use Rattle.std.specs.Prelude.{◌≡◌, ◌==◌, ℕ, Bool, false, ◌&&◌, ◌⊎◌, not, cond, List, [], ◌∷◌, ◌++◌, Option, Some}
 use Rattle.std.specs.List.{list_any}
 use Rattle.mail_address.specs.declared.address.Addr.{Addr}
 use Rattle.mail_address.specs.Spelling.{unquoted_address}
 use Rattle.sieve_syntax.specs.declared.tree.checks.AddressPart.{AddressPart}
 use Rattle.sieve_syntax.specs.declared.tree.checks.AddressPart.TheVariants.{All, LocalPart, Domain, User, Detail}
-
--- ---- user and detail of a local part
-
--- `+`
-abbrev pub is_plus : ℕ → Bool
-is_plus octet = octet == 43
-
--- whether a text has a `+`
-abbrev pub has_plus : List ℕ → Bool
-has_plus text = list_any is_plus text
-
--- a local part is cut at its first `+`
-pub record CutsAtFirst (local user detail : List ℕ) : Type 0 where
-  pub cut : local ≡ user ++ 43 ∷ detail
-  pub first : has_plus user ≡ false
-
--- the user of a local part: what precedes its first `+`, or all of it if it has none
-abbrev pub IsUser : List ℕ → List ℕ → Type 0
-IsUser local user = ((detail : List ℕ) × CutsAtFirst local user detail) ⊎ ((user ≡ local) × (has_plus local ≡ false))
-
--- the detail of a local part: what follows its first `+`; a local part without one has none
-abbrev pub IsDetail : List ℕ → List ℕ → Type 0
-IsDetail local detail = (user : List ℕ) × CutsAtFirst local user detail
-
--- the user of a local part: the one that is in IsUser with it
-abbrev pub user_of : List ℕ → List ℕ
-user_of [] = []
-user_of (octet ∷ rest) = cond (is_plus octet) [] (octet ∷ user_of rest)
-
--- its detail, if it has one: the one that is in IsDetail with it
-abbrev pub detail_of : List ℕ → Option (List ℕ)
-detail_of [] = None
-detail_of (octet ∷ rest) = cond (is_plus octet) (Some rest) (detail_of rest)
+use Rattle.sieve_exec.specs.Extension.Subaddress.{IsUser, IsDetail, user_of, detail_of}
 
 -- ---- an address of a field
 
@@ -92,25 +60,3 @@ local_of (octet ∷ rest) = cond (is_at octet && not (has_at rest)) [] (octet �
 abbrev pub domain_of : List ℕ → List ℕ
 domain_of [] = []
 domain_of (octet ∷ rest) = cond (has_at rest) (domain_of rest) (cond (is_at octet) rest [])
-
--- this holds of the local part of an address of the envelope
-abbrev pub InLocal : (List ℕ → Type 0) → List ℕ → Type 0
-InLocal P text = (local : List ℕ) × (domain : List ℕ) × Cuts text local domain × P local
-
--- a part of an address of the envelope; each part of the null reverse-path is empty (RFC 5228, 5.4), though its local
--- part has no detail
-abbrev pub IsEnvelopePart : AddressPart → List ℕ → List ℕ → Type 0
-IsEnvelopePart All text part = part ≡ text
-IsEnvelopePart LocalPart text part = (domain : List ℕ) × Cuts text part domain
-IsEnvelopePart Domain text part = (local : List ℕ) × Cuts text local part
-IsEnvelopePart User text part = InLocal (λ local. IsUser local part) text
-IsEnvelopePart Detail text part = InLocal (λ local. IsDetail local part) text ⊎ ((text ≡ []) × (part ≡ []))
-
--- the part of an address of the envelope that is in IsPart with it, if there is one
-abbrev pub envelope_part_of : AddressPart → List ℕ → Option (List ℕ)
-envelope_part_of All text = Some text
-envelope_part_of LocalPart text = Some (local_of text)
-envelope_part_of Domain text = Some (domain_of text)
-envelope_part_of User text = Some (user_of (local_of text))
-envelope_part_of Detail [] = Some []
-envelope_part_of Detail (octet ∷ rest) = detail_of (local_of (octet ∷ rest))

@@ -11,7 +11,8 @@ ghost use Rattle.sieve_exec.specs.Images.{text_image};
 ghost use Rattle.sieve_exec.specs.Indexes.{is_address_key};
 ghost use Rattle.sieve_exec.specs.Parts.{address_part_of};
 ghost use Rattle.sieve_exec.specs.Ready.{matches_of, some_passes};
-ghost use Rattle.sieve_exec.specs.Work.{AreSizesWithin, sizes_of_addresses};
+ghost use Rattle.sieve_exec.specs.Sizes.{AreSizesWithin};
+ghost use Rattle.sieve_exec.specs.Work.{sizes_of_addresses};
 
 use crate::field_cache::{FieldCount, FieldTest, FieldValues};
 use crate::images::is_image;
@@ -83,7 +84,7 @@ pub struct ReadyAddress<'t> {
 impl FieldTest<List<JoinedAddress>> for ReadyAddress<'_> {
     ghost use Rattle.std.specs.List.{list_any};
     ghost use Rattle.sieve_exec.specs.Parts.{address_part_of};
-    ghost use Rattle.sieve_exec.specs.Truth.{part_matches};
+    ghost use Rattle.sieve_exec.specs.Matches.{part_matches};
 
     ghost passes = { λ ready found. list_any (λ one. part_matches ready.keys.collation ready.keys.matching ready.keys.keys (address_part_of ready.part one)) found };
 

@@ -1,30 +1,21 @@
 //! What the tests of a run look at.
-ghost use Rattle.std.specs.Prelude.{◌≡◌, ◌↔◌, ◌≤◌, ◌+◌, ◌*◌, ◌&&◌, All, IsTrue, IfOk, cond};
-ghost use Rattle.octets.specs.Ascii.{lowered};
-ghost use Rattle.sieve_syntax.specs.Valid.{IsMailboxName};
-ghost use Rattle.sieve_exec.specs.Indexes.{raws_keyed};
-ghost use Rattle.sieve_exec.specs.Work.{IsLeft, text_size, header_sizes, address_sizes, envelope_sizes as envelope_sizes_of, first_size, short_sizes, fields_work, date_work, keys_work, values_work, work_by};
-ghost use Rattle.sieve_exec.specs.Counts.{is_counted, envelope_counted};
-ghost use Rattle.sieve_exec.specs.Truth.{truth_by, is_beyond, header_holds, some_text_matches, address_holds, some_address_matches, envelope_holds, some_named_matches, envelope_matches};
+ghost use Rattle.std.specs.Prelude.{◌≡◌, IfOk};
+ghost use Rattle.sieve_exec.specs.Sizes.{IsLeft};
+ghost use Rattle.sieve_exec.specs.Work.{header_sizes, address_sizes, fields_work, work_by};
+ghost use Rattle.sieve_exec.specs.Truth.{truth_by, is_beyond, header_holds, some_text_matches, address_holds, some_address_matches};
 
 use crate::address::ReadyAddress;
-use crate::date::{current_holds, date_holds};
-use crate::envelope::part_in;
+use crate::extension::relational::is_count;
+use crate::extension::{extension_holds, spend_extension};
 use crate::field_cache::FieldCache;
-use crate::flags::flag_holds;
 use crate::joined_address::JoinedAddress;
 use crate::mail::Mail;
-use crate::matching::{count_matches, is_count, matches_some};
+use crate::matching::count_matches;
 use crate::ready_keys::ReadyKeys;
-use crate::work::{
-    SHORT, envelope_sizes, spend, spend_flags, spend_keys, spend_names, spend_text, spend_texts,
-    spend_values,
-};
+use crate::work::{spend, spend_names, spend_values};
 use mail_flags::Flags;
-use octets::{List, Octets, Texts, lowered};
-use sieve_syntax::{
-    Address, AddressPart, Bound, DateTest, EnvelopeTest, Header, MailCheck, Size, is_mailbox,
-};
+use octets::{List, Texts};
+use sieve_syntax::{Address, Bound, Header, MailCheck, Size};
 use std::alloc::{AllocError, Global};
 use std::marker::Model;
 
@@ -69,8 +60,7 @@ impl<'m, 'a> CachedMail<'m, 'a> {
     ///
     /// A value is compared with each key: for each pair the time is that of `is`, `contains` or `matches`, or of one pass over both, and
     /// if a test is the first to ask for a field, also linear in the field's values. Of long lists `header` and `address` ask each name
-    /// and key once, and with many values a key of `:is` is looked up ([`ReadyKeys`]). Each `date` reads the one value that it looks at,
-    /// and `hasflag` looks only at the flags.
+    /// and key once, and with many values a key of `:is` is looked up ([`ReadyKeys`]).
     pub fn evaluate(
         &mut self,
         alloc: Global,
@@ -85,11 +75,7 @@ impl<'m, 'a> CachedMail<'m, 'a> {
             MailCheck::Exists(names) => self.mail.all_exist(alloc, names.as_slice()),
             MailCheck::Header(header) => self.header_holds(alloc, header),
             MailCheck::Address(address) => self.address_holds(alloc, address),
-            MailCheck::Envelope(test) => Ok(envelope_holds(self.mail, test)),
-            MailCheck::MailboxExists(names) => Ok(are_mailboxes(names.as_slice())),
-            MailCheck::Date(test) => date_holds(alloc, self.mail, test),
-            MailCheck::CurrentDate(test) => current_holds(alloc, self.mail, test),
-            MailCheck::HasFlag(test) => Ok(flag_holds(flags.names(), test)),
+            MailCheck::Extension(test) => extension_holds(alloc, self.mail, flags, test),
         }
     }
 
@@ -112,17 +98,7 @@ impl<'m, 'a> CachedMail<'m, 'a> {
             MailCheck::Exists(names) => Ok(spend_names(left, names.as_slice())),
             MailCheck::Header(header) => self.spend_header(alloc, header, left),
             MailCheck::Address(address) => self.spend_address(alloc, address, left),
-            MailCheck::Envelope(test) => Ok(spend_envelope(self.mail, test, left)),
-            MailCheck::MailboxExists(names) => Ok(spend_texts(left, names.as_slice())),
-            MailCheck::Date(test) => spend_date(alloc, self.mail, test, left),
-            MailCheck::CurrentDate(test) => Ok(spend_keys(
-                left,
-                1,
-                test.matching,
-                SHORT,
-                test.keys.as_slice(),
-            )),
-            MailCheck::HasFlag(test) => Ok(spend_flags(left, flags.names(), test.keys.as_slice())),
+            MailCheck::Extension(test) => spend_extension(alloc, self.mail, flags, test, left),
         }
     }
 
@@ -257,47 +233,6 @@ impl<'m, 'a> CachedMail<'m, 'a> {
     }
 }
 
-/// What `envelope` leaves.
-fn spend_envelope(mail: &Mail<'_>, test: &EnvelopeTest, left: u64) -> Option<u64>
-    ensures { IsLeft left (values_work 2 test.now.matching (envelope_sizes_of mail.now test.now.parts) test.now.keys) result }
-{
-    let sizes = envelope_sizes(mail, test.parts, left)?;
-    spend_values(left, 2, test.matching, sizes, test.keys.as_slice())
-}
-
-/// What `date` leaves.
-fn spend_date(
-    alloc: Global,
-    mail: &Mail<'_>,
-    test: &DateTest,
-    left: u64,
-) -> Result<Option<u64>, AllocError>
-    ensures { IfOk result (IsLeft left (date_work mail.now test.now.field + keys_work 1 test.now.matching short_sizes test.now.keys)) }
-{
-    let key = lowered(alloc, test.field.as_slice())?;
-    Ok(spend_first(mail, test, &key, left))
-}
-
-/// What `date` leaves, given the field's name in lower case.
-fn spend_first(mail: &Mail<'_>, test: &DateTest, key: &Octets, left: u64) -> Option<u64>
-    ensures { IsLeft left (16 * (text_size test.now.field + first_size (raws_keyed mail.now.fields key.now)) + keys_work 1 test.now.matching short_sizes test.now.keys) result }
-{
-    let read = spend_read(left, mail, test.field.as_slice(), key)?;
-    spend_keys(read, 1, test.matching, SHORT, test.keys.as_slice())
-}
-
-/// What looking up a field, whose name in lower case is the key, and reading its first value leaves.
-fn spend_read(left: u64, mail: &Mail<'_>, field: &[u8], key: &Octets) -> Option<u64>
-    ensures { IsLeft left (16 * (text_size field.now + first_size (raws_keyed mail.now.fields key.now))) result }
-{
-    let named = spend_text(left, field)?;
-    let read = match mail.first_raw(key) {
-        Some(raw) => spend_text(named, raw)?,
-        None => named,
-    };
-    spend(left, (left - read).checked_mul(16)?)
-}
-
 /// Whether a size is over or under a limit (RFC 5228, 5.9).
 fn is_beyond(wanted: Size, size: u64) -> bool
     ensures { result ≡ is_beyond wanted.bound size wanted.limit }
@@ -305,62 +240,5 @@ fn is_beyond(wanted: Size, size: u64) -> bool
     match wanted.bound {
         Bound::Over => wanted.limit < size,
         Bound::Under => size < wanted.limit,
-    }
-}
-
-/// Whether each name is that of a mailbox: each such mailbox exists as soon as something is filed into it. Linear; takes no memory.
-fn are_mailboxes(names: &[Octets]) -> bool
-    ensures { IsTrue result ↔ All IsMailboxName names.now }
-{
-    names.iter().all(|name| is_mailbox(name.as_slice()))
-}
-
-/// Whether `envelope` holds (RFC 5228, 5.4; RFC 5231, 4.2).
-fn envelope_holds(mail: &Mail<'_>, test: &EnvelopeTest) -> bool
-    ensures { result ≡ envelope_holds mail.now test.now }
-{
-    if !is_count(test.matching) {
-        return some_named_matches(mail, test);
-    }
-    let count = count_named(mail, test);
-    count_matches(test.comparator, test.matching, test.keys.as_slice(), count)
-}
-
-/// How many addresses of the envelope a test counts.
-fn count_named(mail: &Mail<'_>, test: &EnvelopeTest) -> u128
-    ensures { result ≡ envelope_counted mail.now test.now }
-{
-    let sender = count_one(test.parts.from, test.part, mail.from());
-    let recipient = count_one(test.parts.to, test.part, mail.to());
-    sender + recipient
-}
-
-/// 1 if an address of the envelope is asked for and counted, otherwise 0.
-fn count_one(asked: bool, part: AddressPart, address: &[u8]) -> u128
-    ensures count { result ≡ cond (asked && is_counted part address.now) 1 0 }
-    ensures small { result ≤ 1 }
-{
-    if asked && !address.is_empty() && part_in(part, address).is_some() {
-        1
-    } else {
-        0
-    }
-}
-
-/// Whether an address of the envelope that a test names matches some key.
-fn some_named_matches(mail: &Mail<'_>, test: &EnvelopeTest) -> bool
-    ensures { result ≡ some_named_matches mail.now test.now }
-{
-    (test.parts.from && address_matches(test, mail.from()))
-        || (test.parts.to && address_matches(test, mail.to()))
-}
-
-/// Whether the part of an address of the envelope is there and matches some key.
-fn address_matches(test: &EnvelopeTest, address: &[u8]) -> bool
-    ensures { result ≡ envelope_matches test.now address.now }
-{
-    match part_in(test.part, address) {
-        Some(part) => matches_some(test.comparator, test.matching, test.keys.as_slice(), part),
-        None => false,
     }
 }

@@ -2,7 +2,8 @@
 ghost use Rattle.std.specs.Prelude.{◌≡◌, IfOk, sum_by};
 ghost use Rattle.std.specs.List.{list_any};
 ghost use Rattle.octets.specs.Ascii.{lowered};
-ghost use Rattle.sieve_exec.specs.Work.{AreSizesWithin, named_sizes};
+ghost use Rattle.sieve_exec.specs.Sizes.{AreSizesWithin};
+ghost use Rattle.sieve_exec.specs.Work.{named_sizes};
 
 use crate::images::{FEW, distinct};
 use crate::mail::Mail;
@@ -19,7 +20,7 @@ pub trait FieldValues: Sized + Drop {
     ghost use Rattle.std.specs.Prelude.{◌≡◌, ℕ, List, IfOk};
     ghost use Rattle.sieve_exec.specs.declared.sizes.Sizes.{Sizes};
     ghost use Rattle.sieve_exec.specs.Mails.{MailSpec};
-    ghost use Rattle.sieve_exec.specs.Work.{AreSizesWithin};
+    ghost use Rattle.sieve_exec.specs.Sizes.{AreSizesWithin};
 
     ghost keyed: { MailSpec → List ℕ → Self };
 

@@ -24,7 +24,7 @@ use std::collections::BTreeSet;
 
 impl FieldValues for Texts {
     ghost use Rattle.sieve_exec.specs.Indexes.{texts_keyed};
-    ghost use Rattle.sieve_exec.specs.Work.{sizes_of};
+    ghost use Rattle.sieve_exec.specs.Sizes.{sizes_of};
 
     ghost keyed = { texts_keyed };
 

@@ -3,7 +3,7 @@ ghost use Rattle.std.specs.Prelude.{◌≡◌, ◌++◌, length, None, Some, Mat
 ghost use Rattle.mail_address.specs.Spelling.{unquoted_address};
 ghost use Rattle.sieve_exec.specs.Parts.{address_part_of};
 
-use crate::local_part::{detail_in, user_in};
+use crate::extension::subaddress::{detail_in, user_in};
 use mail_address::Addr;
 use octets::{List, Octets};
 use sieve_syntax::AddressPart;

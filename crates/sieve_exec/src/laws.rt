@@ -11,10 +11,11 @@ ghost use Rattle.sieve_exec.specs.declared.envelope.Envelope.{Envelope};
 ghost use Rattle.sieve_exec.specs.declared.when.When.{When};
 ghost use Rattle.sieve_exec.specs.Mails.{MailSpec, mail_spec_of, field_values, with_size};
 ghost use Rattle.sieve_exec.specs.Outcomes.{outcome_at};
-ghost use Rattle.sieve_exec.specs.Parts.{IsUser, IsDetail, user_of, detail_of, Cuts, local_of, domain_of};
+ghost use Rattle.sieve_exec.specs.Extension.Subaddress.{IsUser, IsDetail, user_of, detail_of};
+ghost use Rattle.sieve_exec.specs.Parts.{Cuts, local_of, domain_of};
 ghost use Rattle.sieve_exec.specs.Holding.{TestHolds};
 ghost use Rattle.sieve_exec.specs.Truth.{truth_at};
-ghost use Rattle.sieve_exec.specs.Work.{is_long, sizes_of, contains_work, pattern_work};
+ghost use Rattle.sieve_exec.specs.Sizes.{is_long, sizes_of, contains_work, pattern_work};
 ghost use Rattle.sieve_match.specs.Costs.{search_steps, pattern_steps};
 
 /// A test that looks at the message, its envelope or the flags is true exactly if it holds.

@@ -3,17 +3,14 @@
 
 mod address;
 mod cached_mail;
-mod copies;
-mod date;
 mod envelope;
+mod extension;
 mod field_cache;
-mod flags;
 mod header;
 mod images;
 mod index;
 mod joined_address;
 pub mod laws;
-mod local_part;
 mod machine;
 mod mail;
 mod mailboxes;

@@ -1,10 +1,11 @@
 //! The run of flat code.
 ghost use Rattle.std.specs.Prelude.{◌≡◌, ℕ, ◌<◌, ◌+◌, ◌^◌, Option, Some, length, IfOk, OnOk};
 ghost use Rattle.sieve_exec.specs.Truth.{truth_at};
-ghost use Rattle.sieve_exec.specs.Work.{IsPaid, work_at};
+ghost use Rattle.sieve_exec.specs.Sizes.{IsPaid};
+ghost use Rattle.sieve_exec.specs.Work.{work_at};
 ghost use Rattle.sieve_exec.specs.Runs.{run_state_of, failure_view, outcome_view, after_turn, MovesOn};
 ghost use Rattle.sieve_syntax.specs.RunState.{Going};
-ghost use Rattle.sieve_syntax.specs.Meaning.{Failed, outcome_after};
+ghost use Rattle.sieve_syntax.specs.Meaning.{asking_at, Failed, outcome_after};
 ghost use Rattle.sieve_code.specs.Instructions.{instr_view};
 ghost use Rattle.sieve_code.specs.Jumps.{LeadsForward, Run, instr_work, jumps, turn as turn_of};
 
@@ -46,7 +47,7 @@ pub struct ScriptRun<'m, 'a> {
 ///
 /// [`AllocError`] if an allocation failed.
 pub fn run_code(alloc: Global, code: &Code<'_>, mail: &Mail<'_>) -> Result<Outcome, AllocError>
-    ensures { IfOk result (λ done. Some (outcome_view done) ≡ jumps (truth_at mail.now) (work_at mail.now) code.now (length code.now)) }
+    ensures { IfOk result (λ done. Some (outcome_view done) ≡ jumps (asking_at (truth_at mail.now)) (work_at mail.now) code.now (length code.now)) }
 {
     let instrs = code.instrs();
     let mut machine = ScriptRun {
@@ -114,7 +115,7 @@ impl<'m, 'a> ScriptRun<'m, 'a> {
     ) -> Result<InstrOutcome, AllocError>
         requires { place + 1 < 2 ^ 64 }
         ensures turn { IfOk result (λ turn. (next : Run) →
-            turn_of (truth_at self.old.cached) next (instr_view instr.now) place self.old.flag (run_state_of self.old.state)
+            turn_of (asking_at (truth_at self.old.cached)) next (instr_view instr.now) place self.old.flag (run_state_of self.old.state)
             ≡ after_turn turn next self.new.flag (run_state_of self.new.state)) }
         ensures forward { IfOk result (λ turn. (len : ℕ) → LeadsForward place len (instr_view instr.now) → MovesOn place turn) }
         ensures kept { OnOk result (self.new.cached ≡ self.old.cached) }

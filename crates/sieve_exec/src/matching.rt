@@ -1,24 +1,13 @@
 //! Whether a value matches keys (RFC 5228, 2.7.1; RFC 5231).
 ghost use Rattle.std.specs.Prelude.{◌≡◌};
-ghost use Rattle.sieve_exec.specs.Counts.{is_count};
-ghost use Rattle.sieve_exec.specs.Matches.{relates, matches_by_image, matches_by_number, matches_key, matches_some};
-ghost use Rattle.sieve_exec.specs.Truth.{count_matches};
+ghost use Rattle.sieve_exec.specs.Matches.{matches_by_image, matches_key, matches_some, count_matches};
 
+use crate::extension::numeric::matches_by_number;
+use crate::extension::relational::relates;
 use itoa::Buffer;
 use octets::Octets;
-use sieve_match::{
-    AsciiCasemap, Comparator, Octet, are_equal_numbers, compare, compare_numbers, contains, is,
-    matches,
-};
-use sieve_syntax::{Collation, Matching, Relation};
-use std::cmp::Ordering;
-
-/// Whether values are counted.
-pub(crate) fn is_count(matching: Matching) -> bool
-    ensures { result ≡ is_count matching }
-{
-    matches!(matching, Matching::Count(_))
-}
+use sieve_match::{AsciiCasemap, Comparator, Octet, compare, contains, is, matches};
+use sieve_syntax::{Collation, Matching};
 
 /// Whether a number, in decimal, matches some key.
 pub(crate) fn count_matches(
@@ -75,32 +64,5 @@ fn matches_by_image<C: Comparator>(matching: Matching, key: &[u8], value: &[u8])
         Matching::Matches => matches::<C>(key, value),
         Matching::Value(relation) => relates(relation, compare::<C>(value, key)),
         Matching::Count(relation) => relates(relation, compare::<C>(value, key)),
-    }
-}
-
-/// Whether a value matches a key by number. A number has no parts, and no valid script looks for one.
-fn matches_by_number(matching: Matching, key: &[u8], value: &[u8]) -> bool
-    ensures { result ≡ matches_by_number matching key.now value.now }
-{
-    match matching {
-        Matching::Is => are_equal_numbers(key, value),
-        Matching::Contains => false,
-        Matching::Matches => false,
-        Matching::Value(relation) => relates(relation, compare_numbers(value, key)),
-        Matching::Count(relation) => relates(relation, compare_numbers(value, key)),
-    }
-}
-
-/// Whether two values that are ordered like this are in a relation (RFC 5231, 4).
-fn relates(relation: Relation, ordering: Ordering) -> bool
-    ensures { result ≡ relates relation ordering }
-{
-    match relation {
-        Relation::Greater => ordering.is_gt(),
-        Relation::GreaterOrEqual => ordering.is_ge(),
-        Relation::Less => ordering.is_lt(),
-        Relation::LessOrEqual => ordering.is_le(),
-        Relation::Equal => ordering.is_eq(),
-        Relation::NotEqual => ordering.is_ne(),
     }
 }

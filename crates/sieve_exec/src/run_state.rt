@@ -1,17 +1,15 @@
 //! What a run has done so far.
 ghost use Rattle.std.specs.Prelude.{◌≡◌, Bool, true, not, [], ◌∷◌, ◌++◌, None, IfOk};
 ghost use Rattle.std.specs.List.{list_any};
-ghost use Rattle.sieve_syntax.specs.RunState.{performed, at_first, filed_into, flags_given as flags_given_of, mailbox_named as mailbox_of, same_target as same_target_of, sent_to, replied_by};
-ghost use Rattle.sieve_syntax.specs.RunState.{Going};
+ghost use Rattle.sieve_syntax.specs.RunState.{performed, at_first, filed_into, flags_given as flags_given_of, same_target as same_target_of, sent_to, Going};
 ghost use Rattle.sieve_syntax.specs.Meaning.{outcome_after};
 
-use crate::copies::{copied_address, copied_args};
 use crate::mailboxes::{file, has_room};
 use crate::outcome::{Failure, Outcome};
 use mail_address::Addr;
 use mail_flags::{Flags, Placement};
 use octets::{List, Octets, Texts};
-use sieve_syntax::{Action, FileInto, Redirect, VacationArgs};
+use sieve_syntax::{Action, Redirect, VacationArgs};
 use std::alloc::{AllocError, Global};
 
 /// The mailbox of `keep`, of the implicit keep, and of a message that no script files.
@@ -66,14 +64,7 @@ impl RunState {
                 self.cancelled = true;
                 Ok(None)
             }
-            Action::FileInto(
-                FileInto {
-                    mailbox,
-                    copy,
-                    flags,
-                    ..
-                },
-            ) => self.file_into(alloc, mailbox_named(mailbox.as_slice()), flags, *copy),
+            Action::FileInto(filing) => self.file_by(alloc, filing),
             Action::Redirect(Redirect { target, copy }) => self.send_to(alloc, target, *copy),
             Action::Vacation(reply) => self.reply_by(alloc, reply.args()),
             Action::SetFlag(texts) => {
@@ -108,7 +99,7 @@ impl RunState {
     }
 
     /// Files the message into a mailbox, with the flags that a command gives the copy.
-    fn file_into(
+    pub(crate) fn file_into(
         &mut self,
         alloc: Global,
         mailbox: &[u8],
@@ -128,20 +119,6 @@ impl RunState {
         Ok(None)
     }
 
-    /// The text of the flags that a command gives a copy: those of its `:flags`, or otherwise those that are set (RFC 5232, 5).
-    fn flags_given(&self, alloc: Global, given: &Option<Texts>) -> Result<Octets, AllocError>
-        ensures { IfOk result (λ text. text ≡ flags_given_of given.now (run_state_of self.now)) }
-    {
-        match given {
-            Some(texts) => {
-                let mut named = Flags::new(alloc);
-                named.add(alloc, texts.as_slice())?;
-                named.write(alloc)
-            }
-            None => self.flags.write(alloc),
-        }
-    }
-
     fn send_to(
         &mut self,
         alloc: Global,
@@ -157,20 +134,6 @@ impl RunState {
             self.sent.push(copied_address(alloc, target)?)?;
         }
         self.cancelled = self.cancelled || !copy;
-        Ok(None)
-    }
-
-    fn reply_by(
-        &mut self,
-        alloc: Global,
-        args: &VacationArgs,
-    ) -> Result<Option<Failure>, AllocError>
-        ensures { IfOk result (λ failed. flow_of failed (run_state_of self.new) ≡ replied_by args.now (run_state_of self.old)) }
-    {
-        if self.reply.is_some() {
-            return Ok(Some(Failure::TwoVacations));
-        }
-        self.reply = Some(copied_args(alloc, args)?);
         Ok(None)
     }
 }
@@ -190,13 +153,12 @@ fn is_same(there: &Addr, target: &Addr) -> bool
         && there.domain.as_slice() == target.domain.as_slice()
 }
 
-/// The mailbox that a name means: `INBOX` in any ASCII case is `INBOX`, other names are taken as they are.
-fn mailbox_named(name: &[u8]) -> &[u8]
-    ensures { result.now ≡ mailbox_of name.now }
+/// Copies an address.
+pub(crate) fn copied_address(alloc: Global, address: &Addr) -> Result<Addr, AllocError>
+    ensures { IfOk result (λ copy. copy ≡ address.now) }
 {
-    if name.eq_ignore_ascii_case(INBOX) {
-        INBOX
-    } else {
-        name
-    }
+    Ok(Addr {
+        local: address.local.try_clone(alloc)?,
+        domain: address.domain.try_clone(alloc)?,
+    })
 }

@@ -1,7 +1,7 @@
 //! The sizes of what a test looks at.
 ghost use Rattle.std.specs.Prelude.{◌+◌, ◌^◌, ◌≤◌, ◌<◌};
 ghost use Rattle.std.specs.Option.{SomeIff};
-ghost use Rattle.sieve_exec.specs.Work.{AreSizesWithin, sizes_of, sizes_and};
+ghost use Rattle.sieve_exec.specs.Sizes.{AreSizesWithin, sizes_of, sizes_and};
 
 use octets::Octets;
 

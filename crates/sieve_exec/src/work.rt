@@ -2,14 +2,13 @@
 ghost use Rattle.std.specs.Prelude.{◌≡◌, ◌<◌, ◌+◌, ◌*◌, ◌^◌, sum_by, count_by};
 ghost use Rattle.std.specs.List.{list_any};
 ghost use Rattle.std.specs.Option.{SomeIff};
-ghost use Rattle.sieve_exec.specs.Work.{IsLeft, AreSizesWithin, is_question, is_asterisk, tried_work, paired as paired_of, starred as starred_of, contains_work, pattern_work, key_work, keys_work, names_work, compared as compared_by, values_work, text_size, texts_size, envelope_sizes as envelope_sizes_of, one_sizes as one_sizes_of};
+ghost use Rattle.sieve_exec.specs.Sizes.{IsLeft, AreSizesWithin, is_question, is_asterisk, tried_work, paired as paired_of, starred as starred_of, contains_work, pattern_work, key_work, keys_work, names_work, compared as compared_by, values_work, text_size, texts_size};
 
-use crate::mail::Mail;
-use crate::matching::is_count;
+use crate::extension::relational::is_count;
 use crate::sizes::{Sizes, text_size as size_of};
 use octets::Octets;
 use sieve_match::MAX_PLACES;
-use sieve_syntax::{EnvelopeParts, Matching};
+use sieve_syntax::Matching;
 
 /// How much work the tests of a run may take together. A unit is about one octet that is looked at or compared, and takes 0.3 ns of a
 /// processor in the mean of random runs, and 1.3 ns in the worst that was found (patterns with a `?` over one long value). So
@@ -165,7 +164,7 @@ fn starred(sizes: Sizes, key: &[u8]) -> Option<u64>
 }
 
 /// What trying a key at each of that many octets leaves.
-fn spend_tried(left: u64, octets: u64, key: &[u8]) -> Option<u64>
+pub(crate) fn spend_tried(left: u64, octets: u64, key: &[u8]) -> Option<u64>
     ensures { IsLeft left (tried_work octets key.now) result }
 {
     let pairs = octets.checked_mul(size_of(key.len())?)?;
@@ -189,48 +188,4 @@ fn has_question(key: &[u8]) -> bool
     ensures { result ≡ list_any is_question key.now }
 {
     key.iter().any(|octet| *octet == b'?')
-}
-
-/// What looking at flags and keys, and comparing flags with the words of keys, leaves.
-pub(crate) fn spend_flags(left: u64, flags: &[Octets], keys: &[Octets]) -> Option<u64>
-    ensures { IsLeft left (texts_size flags.now + texts_size keys.now + sum_by (tried_work (texts_size flags.now)) keys.now) result }
-{
-    let rest = spend_texts(left, flags)?;
-    let octets = left - rest;
-    let left = spend_texts(rest, keys)?;
-    spend_words(left, octets, keys)
-}
-
-/// What trying keys at each of that many octets leaves.
-fn spend_words(left: u64, octets: u64, keys: &[Octets]) -> Option<u64>
-    ensures { IsLeft left (sum_by (tried_work octets) keys.now) result }
-{
-    let mut left = left;
-    for key in keys {
-        left = spend_tried(left, octets, key.as_slice())?;
-    }
-    Some(left)
-}
-
-/// The sizes of the addresses of the envelope that a test names.
-pub(crate) fn envelope_sizes(mail: &Mail<'_>, parts: EnvelopeParts, most: u64) -> Option<Sizes>
-    ensures { AreSizesWithin most (envelope_sizes_of mail.now parts) result }
-{
-    let sender = one_sizes(parts.from, mail.from(), most)?;
-    let recipient = one_sizes(parts.to, mail.to(), most)?;
-    sender.and(recipient, most)
-}
-
-/// The sizes of an address, if it is asked for, otherwise of nothing.
-fn one_sizes(asked: bool, address: &[u8], most: u64) -> Option<Sizes>
-    ensures { AreSizesWithin most (one_sizes_of asked address.now) result }
-{
-    if !asked {
-        return Some(Sizes::NONE);
-    }
-    let octets = size_of(address.len())?;
-    if most < octets {
-        return None;
-    }
-    Some(Sizes { octets, count: 1 })
 }

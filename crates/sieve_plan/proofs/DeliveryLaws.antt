@@ -2,7 +2,7 @@
 use Rattle.std.proofs.Common.{◌≡◌, ◌-◌, ℕ, zero, suc, length, Bool, true, false, List, Option, Some, None, ap, sym, ◌∙◌, subst, inl, inr}
 use Rattle.mail_address.specs.declared.address.Addr.{Addr}
 use Rattle.sieve_syntax.specs.Meaning.{Actions}
-use Rattle.sieve_syntax.specs.declared.tree.vacation.VacationArgs.{VacationArgs}
+use Rattle.sieve_syntax.specs.declared.extension.vacation.VacationArgs.{VacationArgs}
 use Rattle.sieve_syntax.proofs.MeansLaws.{means_only}
 use Rattle.sieve_exec.specs.Mails.{MailSpec}
 use Rattle.sieve_exec.specs.Outcomes.{outcome_at}

@@ -9,7 +9,7 @@ use Rattle.mail_address.specs.declared.address.Addr.{Addr}
 use Rattle.mail_flags.specs.declared.placement.Placement.{Placement}
 use Rattle.sieve_syntax.specs.RunState.{TwoVacations, TooManyRedirects, TooManyMailboxes, TooMuchWork, inbox}
 use Rattle.sieve_syntax.specs.Meaning.{Actions, Failed}
-use Rattle.sieve_syntax.specs.declared.tree.vacation.VacationArgs.{VacationArgs}
+use Rattle.sieve_syntax.specs.declared.extension.vacation.VacationArgs.{VacationArgs}
 use Rattle.sieve_exec.specs.Mails.{MailSpec}
 use Rattle.sieve_vacation.specs.declared.reason.ReplyDecision.TheVariants as D
 use Rattle.sieve_vacation.specs.declared.reason.Reason.TheVariants as R

@@ -8,12 +8,12 @@ use Rattle.sieve_syntax.specs.declared.tree.action.Action.{Action}
 use Rattle.sieve_syntax.specs.declared.tree.action.Action.TheVariants.{Keep, Discard, FileInto, Redirect, Vacation, SetFlag, RemoveFlag}
 use Rattle.sieve_syntax.specs.declared.tree.checks.MailCheck.{MailCheck}
 use Rattle.sieve_syntax.specs.declared.tree.checks.MailCheck.TheVariants as Q
-use Rattle.sieve_syntax.specs.declared.tree.vacation.VacationArgs.{VacationArgs}
+use Rattle.sieve_syntax.specs.declared.extension.vacation.VacationArgs.{VacationArgs}
 use Rattle.sieve_syntax.specs.RunState.{RunState, at_first, inbox, TwoVacations, TooManyRedirects, TooManyMailboxes, TooMuchWork}
-use Rattle.sieve_syntax.specs.Meaning.{Actions}
+use Rattle.sieve_syntax.specs.Meaning.{answered as answer, TestAsking, asking_at, Actions}
 use Rattle.sieve_syntax.specs.Work.{max_work}
-use Rattle.sieve_syntax.specs.Tree.{looks, choose, stop, act, branch, no_branches, Commands, no_commands, command}
-use Rattle.sieve_plan.specs.Handover.{Handover, nothing_left, begins_from, RunEnd, Ended, Broken, end_of_run}
+use Rattle.sieve_syntax.specs.Tree.{TestTree, yes, looks, any_of, no_tests, test, choose, stop, act, branch, no_branches, Commands, no_commands, command}
+use Rattle.sieve_plan.specs.Handover.{Handover, nothing_left, begins_from, actions_from, RunEnd, Ended, Broken, end_of_run}
 
 -- ---- scripts
 
@@ -50,7 +50,7 @@ at mailbox flags = record { mailbox = mailbox; flags = flags }
 
 -- how a run ends whose tests take no work
 abbrev pub end_of : Commands → Handover → RunEnd
-end_of commands left = end_of_run (λ state check. false) (λ state check. 0) max_work commands left
+end_of commands left = end_of_run (asking_at (λ state check. false)) (λ state check. 0) max_work commands left
 
 abbrev left_by : RunEnd → Handover
 left_by (Ended done next) = next
@@ -97,6 +97,18 @@ stopped = refl
 inbox_is_no_keep : ((leaves_first (into (codes "inbox") ∷ [])).is_kept ≡ false) × ((leaves_first (into (codes "inbox") ∷ [])).filed ≡ at inbox [] ∷ [])
 inbox_is_no_keep = (refl, refl)
 
+-- ---- what it executed
+
+-- in turn, up to a `stop`, and to an action that fails; near misses: what is behind them, and the other branch
+abbrev one_of_two : Commands
+one_of_two = command (choose (branch (looks (Q.Exists [])) (in_row (Discard ∷ [])) (branch yes (in_row (Keep None ∷ [])) no_branches))) (in_row (into (codes "x") ∷ []))
+
+in_turn : (actions_from (asking_at (λ state check. true)) one_of_two nothing_left ≡ Discard ∷ into (codes "x") ∷ [])
+    × (actions_from (asking_at (λ state check. false)) one_of_two nothing_left ≡ Keep None ∷ into (codes "x") ∷ [])
+    × (actions_from (asking_at (λ state check. true)) (command (act Discard) (command stop (in_row (Keep None ∷ [])))) nothing_left ≡ Discard ∷ [])
+    × (actions_from (asking_at (λ state check. true)) (in_row (into (codes "y") ∷ Keep None ∷ [])) (record nothing_left { filed = replicate 100 (at (codes "x") []) }) ≡ into (codes "y") ∷ [])
+in_turn = (refl, refl, refl, refl)
+
 -- ---- INBOX
 
 -- a `keep` isn't done yet: a later script may discard the message
@@ -123,12 +135,30 @@ flags_stand = (refl, refl, refl, refl)
 abbrev if_flagged : Commands
 if_flagged = command (choose (branch (looks (Q.Exists [])) (in_row (Discard ∷ [])) no_branches)) no_commands
 
-abbrev sees_seen : RunState → MailCheck → Bool
-sees_seen so_far check = has so_far.flags seen
+abbrev sees_seen : TestAsking
+sees_seen = asking_at (λ so_far check. has so_far.flags seen)
 
 flags_are_seen : ((left_by (end_of_run sees_seen (λ state check. 0) max_work if_flagged (leaves_first (SetFlag (seen ∷ []) ∷ [])))).is_kept ≡ false)
     × ((left_by (end_of_run sees_seen (λ state check. 0) max_work if_flagged (leaves_first (Keep (Some (seen ∷ [])) ∷ [])))).is_kept ≡ true)
 flags_are_seen = (refl, refl)
+
+-- where a test itself sets a flag, that stands in its own block, in the commands behind it, and at the next one's beginning; near miss: what
+-- is asked behind a test that decided is not asked
+abbrev sets_seen : TestAsking
+sets_seen so_far check = answer true (record so_far { flags = seen ∷ [] })
+
+abbrev asks_and_copies : TestTree → Commands
+asks_and_copies condition = command (choose (branch condition (in_row (copied (codes "x") ∷ [])) no_branches)) no_commands
+
+abbrev asks_second : TestTree
+asks_second = any_of (test yes (test (looks (Q.Exists [])) no_tests))
+
+abbrev ends_setting : TestTree → RunEnd
+ends_setting condition = end_of_run sets_seen (λ state check. 0) max_work (asks_and_copies condition) nothing_left
+
+set_by_test : ((left_by (ends_setting (looks (Q.Exists [])))).flags ≡ seen ∷ []) × (done_by (ends_setting (looks (Q.Exists []))) ≡ filed (at (codes "x") seen ∷ at inbox seen ∷ []))
+    × ((left_by (ends_setting asks_second)).flags ≡ []) × (done_by (ends_setting asks_second) ≡ filed (at (codes "x") [] ∷ at inbox [] ∷ []))
+set_by_test = (refl, refl, refl, refl)
 
 -- those of `keep :flags` are the implicit keep's, whatever the next one sets; none on a `fileinto`; none where a later one says `keep`
 flags_of_keep : (both (Keep (Some (seen ∷ [])) ∷ []) [] ≡ filed (at inbox seen ∷ [])) × (both (Keep (Some (seen ∷ [])) ∷ []) (SetFlag (junk ∷ []) ∷ []) ≡ filed (at inbox seen ∷ []))
@@ -176,7 +206,7 @@ mailboxes_of_all = (refl, refl, refl)
 abbrev asking : Commands
 asking = command (choose (branch (looks (Q.Exists [])) no_commands no_branches)) no_commands
 
-work_of_run : ((left_by (end_of_run (λ state check. true) (λ state check. 3) 3 asking nothing_left)).is_kept ≡ true) × (end_of_run (λ state check. true) (λ state check. 3) 2 asking nothing_left ≡ Broken TooMuchWork)
+work_of_run : ((left_by (end_of_run (asking_at (λ state check. true)) (λ state check. 3) 3 asking nothing_left)).is_kept ≡ true) × (end_of_run (asking_at (λ state check. true)) (λ state check. 3) 2 asking nothing_left ≡ Broken TooMuchWork)
 work_of_run = (refl, refl)
 
 -- ---- a script that does nothing

@@ -16,12 +16,12 @@ use Rattle.mail_address.specs.declared.address.Addr.{Addr}
 use Rattle.sieve_syntax.specs.declared.tree.action.Action.{Action}
 use Rattle.sieve_syntax.specs.declared.tree.action.Action.TheVariants.{Keep, Discard, FileInto, Redirect, Vacation, SetFlag, AddFlag, RemoveFlag}
 use Rattle.sieve_syntax.specs.declared.tree.checks.MailCheck.{MailCheck}
-use Rattle.sieve_syntax.specs.declared.tree.vacation.VacationArgs.{VacationArgs}
+use Rattle.sieve_syntax.specs.declared.extension.vacation.VacationArgs.{VacationArgs}
 use Rattle.sieve_syntax.specs.RunState.{RunState, at_first, max_targets, max_mailboxes, TwoVacations, TooManyRedirects, TooManyMailboxes, TooMuchWork, Flow, Going, Stopped, Failed, and_then, inbox, mailbox_named, is_filed, with_filed, flags_given, cancelled_after, filed_into, kept_implicitly, same_target, sent_to, replied_by, performed}
-use Rattle.sieve_syntax.specs.Meaning.{holds, does, chooses, does_all, Actions, Outcome, done_by, outcome_after}
+use Rattle.sieve_syntax.specs.Meaning.{TestAnswer, answered, TestAsking, asking_at, holds, all_hold, some_holds, does, chooses, does_all, Actions, Outcome, done_by, outcome_after}
 use Rattle.sieve_syntax.specs.Meaning as M
 use Rattle.sieve_syntax.specs.Trace.{NamesWithoutRepeats}
-use Rattle.sieve_syntax.specs.Tree.{CommandTree, require, choose, stop, act, Branches, no_branches, branch, Commands, no_commands, command}
+use Rattle.sieve_syntax.specs.Tree.{TestTree, yes, no, looks, not_of, all_of, any_of, Tests, no_tests, test, CommandTree, require, choose, stop, act, Branches, no_branches, branch, Commands, no_commands, command}
 use Rattle.sieve_syntax.specs.Work.{all_take, max_work, outcome_within}
 use Rattle.sieve_syntax.proofs.OutcomeLemmas.{filed_anew}
 use Rattle.sieve_plan.specs.Handover.{Handover, nothing_left, begins_from, actions_from, implicit_flags, keeps_implicitly, files_inbox, for_good, StandsAmong, filed_behind, first_reply, done_behind, without_inbox, filed_for_good, leaves, RunEnd, Ended, Broken, ended_with, ended_by, end_of_run}
@@ -43,16 +43,16 @@ alone_by actions (Stopped state) = alone_with actions state (kept_implicitly sta
 alone_by actions (Failed failure) = refl
 
 -- it is a run as it is without a sequence
-pub alone : (truth : RunState → MailCheck → Bool) (work : RunState → MailCheck → ℕ) (tree : Commands)
-    → outcome_of (end_of_run truth work max_work tree nothing_left) ≡ outcome_within truth work tree
-alone truth work tree = step (nat_lt max_work (all_take truth work tree at_first))
+pub alone : (asking : TestAsking) (work : RunState → MailCheck → ℕ) (tree : Commands)
+    → outcome_of (end_of_run asking work max_work tree nothing_left) ≡ outcome_within asking work tree
+alone asking work tree = step (nat_lt max_work (all_take asking work tree at_first))
   where
-    step : (much : Bool) → outcome_of (cond much (Broken TooMuchWork) (ended_by (actions_from truth tree nothing_left) nothing_left (does_all truth tree at_first)))
-        ≡ cond much (M.Failed TooMuchWork) (outcome_after (does_all truth tree at_first))
+    step : (much : Bool) → outcome_of (cond much (Broken TooMuchWork) (ended_by (actions_from asking tree nothing_left) nothing_left (does_all asking tree at_first)))
+        ≡ cond much (M.Failed TooMuchWork) (outcome_after (does_all asking tree at_first))
     step true = refl
-    step false = alone_by (actions_from truth tree nothing_left) (does_all truth tree at_first)
+    step false = alone_by (actions_from asking tree nothing_left) (does_all asking tree at_first)
 
--- ---- what each action keeps, a script keeps
+-- ---- what each action and each test keeps, a script keeps
 
 abbrev pub OnFlow : (RunState → Type 0) → Flow → Type 0
 OnFlow P (Going state) = P state
@@ -61,6 +61,9 @@ OnFlow P (Failed failure) = Unit {0}
 
 abbrev IsKept : (RunState → Type 0) → Type 0
 IsKept P = (action : Action) (state : RunState) → P state → OnFlow P (performed action state)
+
+abbrev IsKeptByTests : (RunState → Type 0) → TestAsking → Type 0
+IsKeptByTests P asking = (state : RunState) (check : MailCheck) → P state → P (asking state check).so_far
 
 pub then_kept : (P : RunState → Type 0) (flow : Flow) (next : RunState → Flow) → OnFlow P flow → ((state : RunState) → P state → OnFlow P (next state)) → OnFlow P (and_then flow next)
 then_kept P (Going state) next so keeps = keeps state so
@@ -71,22 +74,62 @@ either_kept : (P : RunState → Type 0) (first : Bool) (one two : Flow) → OnFl
 either_kept P true one two so other = so
 either_kept P false one two so other = other
 
-mutual
-  kept_by : (P : RunState → Type 0) → IsKept P → (truth : RunState → MailCheck → Bool) (tree : CommandTree) (state : RunState) → P state → OnFlow P (does truth tree state)
-  kept_by P keeps truth (require names) state so = so
-  kept_by P keeps truth (choose branches) state so = kept_by_branches P keeps truth branches state so
-  kept_by P keeps truth stop state so = so
-  kept_by P keeps truth (act action) state so = keeps action state so
+either_answer : (P : RunState → Type 0) (first : Bool) (one two : TestAnswer) → P one.so_far → P two.so_far → P (cond first one two).so_far
+either_answer P true one two so other = so
+either_answer P false one two so other = other
 
-  kept_by_branches : (P : RunState → Type 0) → IsKept P → (truth : RunState → MailCheck → Bool) (branches : Branches) (state : RunState) → P state → OnFlow P (chooses truth branches state)
-  kept_by_branches P keeps truth no_branches state so = so
-  kept_by_branches P keeps truth (branch condition block more) state so =
-      either_kept P (holds (truth state) condition) (does_all truth block state) (chooses truth more state) (kept_by_all P keeps truth block state so) (kept_by_branches P keeps truth more state so)
+module _ (P : RunState → Type 0) (asking : TestAsking) (asks : IsKeptByTests P asking) where
+  mutual
+    kept_by_test : (tree : TestTree) (state : RunState) → P state → P (holds asking tree state).so_far
+    kept_by_test yes state so = so
+    kept_by_test no state so = so
+    kept_by_test (looks check) state so = asks state check so
+    kept_by_test (not_of inner) state so = kept_by_test inner state so
+    kept_by_test (all_of inner) state so = kept_by_each inner state so
+    kept_by_test (any_of inner) state so = kept_by_some inner state so
 
-  pub kept_by_all : (P : RunState → Type 0) → IsKept P → (truth : RunState → MailCheck → Bool) (commands : Commands) (state : RunState) → P state → OnFlow P (does_all truth commands state)
-  kept_by_all P keeps truth no_commands state so = so
-  kept_by_all P keeps truth (command first more) state so =
-      then_kept P (does truth first state) (does_all truth more) (kept_by P keeps truth first state so) (λ next still. kept_by_all P keeps truth more next still)
+    kept_by_each : (tests : Tests) (state : RunState) → P state → P (all_hold asking tests state).so_far
+    kept_by_each no_tests state so = so
+    kept_by_each (test first more) state so =
+        let answer = holds asking first state in
+        let still = kept_by_test first state so in
+        either_answer P answer.is_held (all_hold asking more answer.so_far) (answered false answer.so_far) (kept_by_each more answer.so_far still) still
+
+    kept_by_some : (tests : Tests) (state : RunState) → P state → P (some_holds asking tests state).so_far
+    kept_by_some no_tests state so = so
+    kept_by_some (test first more) state so =
+        let answer = holds asking first state in
+        let still = kept_by_test first state so in
+        either_answer P answer.is_held (answered true answer.so_far) (some_holds asking more answer.so_far) still (kept_by_some more answer.so_far still)
+
+  module _ (keeps : IsKept P) where
+    mutual
+      kept_by : (tree : CommandTree) (state : RunState) → P state → OnFlow P (does asking tree state)
+      kept_by (require names) state so = so
+      kept_by (choose branches) state so = kept_by_branches branches state so
+      kept_by stop state so = so
+      kept_by (act action) state so = keeps action state so
+
+      kept_by_branches : (branches : Branches) (state : RunState) → P state → OnFlow P (chooses asking branches state)
+      kept_by_branches no_branches state so = so
+      kept_by_branches (branch condition block more) state so =
+          let answer = holds asking condition state in
+          let still = kept_by_test condition state so in
+          either_kept P answer.is_held (does_all asking block answer.so_far) (chooses asking more answer.so_far)
+          (kept_by_all block answer.so_far still) (kept_by_branches more answer.so_far still)
+
+      pub kept_by_all : (commands : Commands) (state : RunState) → P state → OnFlow P (does_all asking commands state)
+      kept_by_all no_commands state so = so
+      kept_by_all (command first more) state so =
+          then_kept P (does asking first state) (does_all asking more) (kept_by first state so) (λ next still. kept_by_all more next still)
+
+-- tests change neither the copies nor the addresses, whatever else they change
+abbrev pub LeavesDeeds : TestAsking → Type 0
+LeavesDeeds asking = (state : RunState) (check : MailCheck) → ((asking state check).so_far.filed ≡ state.filed) × ((asking state check).so_far.sent ≡ state.sent)
+
+-- so it is where they only look
+pub looking_leaves : (truth : RunState → MailCheck → Bool) → LeavesDeeds (asking_at truth)
+looking_leaves truth state check = (refl, refl)
 
 -- ---- what was left stands, and each mailbox and each address is there once
 
@@ -402,14 +445,22 @@ good_by actions left (Going at_end) so = good_with actions left at_end (keeps_im
 good_by actions left (Stopped at_end) so = good_with actions left at_end (keeps_implicitly left at_end) (implicit_extends left at_end so)
 good_by actions left (Failed failure) so = tt
 
-good_run : (truth : RunState → MailCheck → Bool) (work : RunState → MailCheck → ℕ) (most : ℕ) (tree : Commands) (left : Handover) → AreApart left.filed left.sent
-    → OnEnded (IsGoodEnd left) (end_of_run truth work most tree left)
-good_run truth work most tree left apart = step (nat_lt most (all_take truth work tree (begins_from left)))
-  where
-    step : (much : Bool) → OnEnded (IsGoodEnd left) (cond much (Broken TooMuchWork) (ended_by (actions_from truth tree left) left (does_all truth tree (begins_from left))))
-    step true = tt
-    step false = good_by (actions_from truth tree left) left (does_all truth tree (begins_from left)) (kept_by_all (Extended left) (extends left) truth tree (begins_from left) (none_new left apart))
+module _ (asking : TestAsking) (leaves_deeds : LeavesDeeds asking) where
+  pub tests_extend : (left : Handover) → IsKeptByTests (Extended left) asking
+  tests_extend left state check so =
+      let same = leaves_deeds state check in
+      subst (Extends left (asking state check).so_far.filed) (sym same.1) (subst (λ filed. Extends left filed state.sent) (sym same.0) so)
 
-pub good_end : (truth : RunState → MailCheck → Bool) (work : RunState → MailCheck → ℕ) (most : ℕ) (tree : Commands) (left : Handover) (done : Actions) (next : Handover)
-    → AreApart left.filed left.sent → end_of_run truth work most tree left ≡ Ended done next → IsGoodEnd left done next
-good_end truth work most tree left done next apart is = subst (OnEnded (IsGoodEnd left)) is (good_run truth work most tree left apart)
+  module _ (work : RunState → MailCheck → ℕ) (most : ℕ) (tree : Commands) (left : Handover) (apart : AreApart left.filed left.sent) where
+    pub run_extends : OnFlow (Extended left) (does_all asking tree (begins_from left))
+    run_extends = kept_by_all (Extended left) asking (tests_extend left) (extends left) tree (begins_from left) (none_new left apart)
+
+    good_run : OnEnded (IsGoodEnd left) (end_of_run asking work most tree left)
+    good_run = step (nat_lt most (all_take asking work tree (begins_from left)))
+      where
+        step : (much : Bool) → OnEnded (IsGoodEnd left) (cond much (Broken TooMuchWork) (ended_by (actions_from asking tree left) left (does_all asking tree (begins_from left))))
+        step true = tt
+        step false = good_by (actions_from asking tree left) left (does_all asking tree (begins_from left)) run_extends
+
+    pub good_end : (done : Actions) (next : Handover) → end_of_run asking work most tree left ≡ Ended done next → IsGoodEnd left done next
+    good_end done next is = subst (OnEnded (IsGoodEnd left)) is good_run

@@ -10,83 +10,19 @@ use Rattle.mail_address.specs.declared.address.Addr.{Addr}
 use Rattle.sieve_syntax.specs.declared.tree.action.Action.{Action}
 use Rattle.sieve_syntax.specs.declared.tree.action.Action.TheVariants.{Keep, Discard, FileInto, Redirect, Vacation, SetFlag, AddFlag, RemoveFlag}
 use Rattle.sieve_syntax.specs.declared.tree.checks.MailCheck.{MailCheck}
-use Rattle.sieve_syntax.specs.declared.tree.vacation.VacationArgs.{VacationArgs}
+use Rattle.sieve_syntax.specs.declared.extension.vacation.VacationArgs.{VacationArgs}
 use Rattle.sieve_syntax.specs.RunState.{RunState, max_targets, TwoVacations, TooManyRedirects, TooManyMailboxes, TooMuchWork, Flow, Going, Stopped, Failed, and_then, inbox, mailbox_named, is_filed, has_room, with_filed, flags_given, cancelled_after, filed_into, same_target, sent_to, replied_by, performed}
-use Rattle.sieve_syntax.specs.Meaning.{holds, does, chooses, does_all, Actions}
-use Rattle.sieve_syntax.specs.Trace.{Trace, then_runs, runs_at, runs_by, runs_branch_by, runs_all_by, in_turn}
+use Rattle.sieve_syntax.specs.Meaning.{TestAsking, holds, does, chooses, does_all, Actions}
 use Rattle.sieve_syntax.specs.Tree.{CommandTree, require, choose, stop, act, Branches, no_branches, branch, Commands, no_commands, command}
 use Rattle.sieve_syntax.specs.Work.{all_take}
 use Rattle.sieve_syntax.proofs.OutcomeLemmas.{filed_anew}
 use Rattle.sieve_exec.specs.Mails.{MailSpec}
 use Rattle.sieve_exec.specs.Truth.{truth_at}
 use Rattle.sieve_exec.specs.Work.{work_at}
-use Rattle.sieve_plan.specs.Handover.{Handover, begins_from, actions_from, implicit_flags, keeps_implicitly, is_keep, leaves_kept, done_behind, Broken, ended_with, ended_by, end_of_run}
-use Rattle.sieve_plan.specs.Sequences.{SequenceScript, SequenceState, at_beginning, RunsToEnd, Settled, settled_well, SettlesInTurn}
-use Rattle.sieve_plan.proofs.HandoverLaws.{OnFlow, then_kept, kept_by_all, mailboxes_of, AreApart, Extended, any_mailbox, filed_again, implicit_extends, extends, none_new, same_mailboxes, OnEnded}
+use Rattle.sieve_plan.specs.Handover.{Handover, begins_from, then_executes, executes, choice_executes, all_execute, actions_from, implicit_flags, keeps_implicitly, is_keep, leaves_kept, done_behind, Broken, ended_with, ended_by, end_of_run}
+use Rattle.sieve_plan.specs.Sequences.{SequenceScript, asking_on, SequenceState, at_beginning, RunsToEnd, Settled, settled_well, SettlesInTurn}
+use Rattle.sieve_plan.proofs.HandoverLaws.{OnFlow, then_kept, kept_by_all, LeavesDeeds, looking_leaves, mailboxes_of, AreApart, Extended, any_mailbox, filed_again, implicit_extends, run_extends, same_mailboxes, OnEnded}
 use Rattle.sieve_plan.proofs.SequenceLaws.{IsGoodState, good_beginning, good_next}
-
--- ---- what commands come to is what the actions that they run come to (`TraceLemmas` of sieve_syntax)
-
-abbrev stopping : Bool → Flow → Flow
-stopping false flow = flow
-stopping true (Going state) = Stopped state
-stopping true (Stopped state) = Stopped state
-stopping true (Failed failure) = Failed failure
-
-abbrev after : Trace → RunState → Flow
-after trace state = stopping trace.1 (in_turn trace.0 state)
-
-in_two : (xs ys : List Action) (state : RunState) → in_turn (xs ++ ys) state ≡ and_then (in_turn xs state) (in_turn ys)
-in_two [] ys state = refl
-in_two (x ∷ xs) ys state = step (performed x state) (in_two xs ys)
-  where
-    step : (flow : Flow) → ((next : RunState) → in_turn (xs ++ ys) next ≡ and_then (in_turn xs next) (in_turn ys)) → and_then flow (in_turn (xs ++ ys)) ≡ and_then (and_then flow (in_turn xs)) (in_turn ys)
-    step (Going next) more = more next
-    step (Stopped next) more = refl
-    step (Failed failure) more = refl
-
-one_more : (trace : Trace) (more : RunState → Trace) (next : RunState → Flow) → ((state : RunState) → next state ≡ after (more state) state) → (state : RunState)
-    → and_then (after trace state) next ≡ after (then_runs trace (runs_at (in_turn trace.0 state) more)) state
-one_more (actions, true) more next same state = step (in_turn actions state)
-  where
-    step : (flow : Flow) → and_then (stopping true flow) next ≡ stopping true flow
-    step (Going later) = refl
-    step (Stopped later) = refl
-    step (Failed failure) = refl
-one_more (actions, false) more next same state =
-    step (in_turn actions state) ∙ ap (stopping (runs_at (in_turn actions state) more).1) (sym (in_two actions (runs_at (in_turn actions state) more).0 state))
-  where
-    step : (flow : Flow) → and_then flow next ≡ stopping (runs_at flow more).1 (and_then flow (in_turn (runs_at flow more).0))
-    step (Going later) = same later
-    step (Stopped later) = refl
-    step (Failed failure) = refl
-
-alone : (flow : Flow) → flow ≡ and_then flow (λ state. Going state)
-alone (Going state) = refl
-alone (Stopped state) = refl
-alone (Failed failure) = refl
-
-either : (first : Bool) (one two : Trace) (f g : RunState → Flow) (state : RunState) → f state ≡ after one state → g state ≡ after two state → cond first (f state) (g state) ≡ after (cond first one two) state
-either true one two f g state same other = same
-either false one two f g state same other = other
-
-mutual
-  command_does : (truth : RunState → MailCheck → Bool) (tree : CommandTree) (state : RunState) → does truth tree state ≡ after (runs_by performed truth tree state) state
-  command_does truth (require names) state = refl
-  command_does truth (choose branches) state = branches_do truth branches state
-  command_does truth stop state = refl
-  command_does truth (act action) state = alone (performed action state)
-
-  branches_do : (truth : RunState → MailCheck → Bool) (branches : Branches) (state : RunState) → chooses truth branches state ≡ after (runs_branch_by performed truth branches state) state
-  branches_do truth no_branches state = refl
-  branches_do truth (branch condition block more) state =
-      either (holds (truth state) condition) (runs_all_by performed truth block state) (runs_branch_by performed truth more state) (does_all truth block) (chooses truth more) state (commands_do truth block state) (branches_do truth more state)
-
-  commands_do : (truth : RunState → MailCheck → Bool) (commands : Commands) (state : RunState) → does_all truth commands state ≡ after (runs_all_by performed truth commands state) state
-  commands_do truth no_commands state = refl
-  commands_do truth (command first more) state =
-      ap (λ flow. and_then flow (does_all truth more)) (command_does truth first state)
-      ∙ one_more (runs_by performed truth first state) (runs_all_by performed truth more) (does_all truth more) (λ next. commands_do truth more next) state
 
 -- ---- a `keep` is in INBOX
 
@@ -177,78 +113,59 @@ keep_in_inbox (SetFlag texts) state is = absurd (cc is)
 keep_in_inbox (AddFlag texts) state is = absurd (cc is)
 keep_in_inbox (RemoveFlag texts) state is = absurd (cc is)
 
-still_in_turn : (actions : List Action) (state : RunState) → InInbox state → OnFlow InInbox (in_turn actions state)
-still_in_turn [] state was = was
-still_in_turn (action ∷ more) state was = then_kept InInbox (performed action state) (in_turn more) (still_in_inbox action state was) (λ next so. still_in_turn more next so)
-
--- an action stops no run
-abbrev GoesOn : Flow → Type 0
-GoesOn (Going state) = Unit {0}
-GoesOn (Stopped state) = ⊥
-GoesOn (Failed failure) = Unit {0}
-
-either_goes_on : (first : Bool) (one two : Flow) → GoesOn one → GoesOn two → GoesOn (cond first one two)
-either_goes_on true one two here there = here
-either_goes_on false one two here there = there
-
-replied_goes_on : (args : VacationArgs) (state : RunState) → GoesOn (replied_by args state)
-replied_goes_on args state = step state.reply
-  where
-    step : (reply : Option VacationArgs) → GoesOn (elim reply [
-      | None ↦ Going (record state { reply = Some args })
-      | Some _ ↦ Failed TwoVacations
-    ])
-    step None = tt
-    step (Some _) = tt
-
-filed_goes_on : (mailbox flags : List ℕ) (copy : Bool) (state : RunState) → GoesOn (filed_into mailbox flags copy state)
-filed_goes_on mailbox flags copy state = either_goes_on (has_room state.filed mailbox) (Going _) (Failed TooManyMailboxes) tt tt
-
-goes_on : (action : Action) (state : RunState) → GoesOn (performed action state)
-goes_on (Keep given) state = filed_goes_on inbox (flags_given given state) false state
-goes_on Discard state = tt
-goes_on (FileInto filing) state = filed_goes_on (mailbox_named filing.mailbox) (flags_given filing.flags state) filing.copy state
-goes_on (Redirect redirect) state = sent_goes_on redirect.target redirect.copy state
-  where
-    sent_goes_on : (target : Addr) (copy : Bool) (at : RunState) → GoesOn (sent_to target copy at)
-    sent_goes_on target copy at = step (list_any (λ there. same_target there target) at.sent) (nat_lt (length at.sent) max_targets)
-      where
-        step : (there room : Bool) → GoesOn (cond there (Going (record at { cancelled = cancelled_after copy at })) (cond room (Going (record at { sent = at.sent ++ target ∷ []; cancelled = cancelled_after copy at })) (Failed TooManyRedirects)))
-        step true room = tt
-        step false true = tt
-        step false false = tt
-goes_on (Vacation args) state = replied_goes_on args state
-goes_on (SetFlag texts) state = tt
-goes_on (AddFlag texts) state = tt
-goes_on (RemoveFlag texts) state = tt
-
-executed_in_turn : (actions : List Action) (state : RunState) → list_any is_keep actions ≡ true → OnFlow InInbox (in_turn actions state)
-executed_in_turn [] state is = absurd (cc is)
-executed_in_turn (action ∷ more) state is = here (is_keep action) refl is (λ among next. executed_in_turn more next among)
-  where
-    later : ((next : RunState) → OnFlow InInbox (in_turn more next)) → (flow : Flow) → GoesOn flow → OnFlow InInbox (and_then flow (in_turn more))
-    later so (Going next) goes = so next
-    later so (Stopped next) goes = absurd goes
-    later so (Failed failure) goes = tt
-
-    here : (keeps : Bool) → is_keep action ≡ keeps → (keeps || list_any is_keep more) ≡ true → (list_any is_keep more ≡ true → (next : RunState) → OnFlow InInbox (in_turn more next))
-        → OnFlow InInbox (and_then (performed action state) (in_turn more))
-    here true keeps among so = then_kept InInbox (performed action state) (in_turn more) (keep_in_inbox action state keeps) (λ next now. still_in_turn more next now)
-    here false keeps among so = later (so among) (performed action state) (goes_on action state)
-
 -- ---- a run that leaves the message to be kept
 
-stopped_too : (P : RunState → Type 0) (stops : Bool) (flow : Flow) → OnFlow P flow → OnFlow P (stopping stops flow)
-stopped_too P false flow so = so
-stopped_too P true (Going state) so = so
-stopped_too P true (Stopped state) so = so
-stopped_too P true (Failed failure) so = tt
+only : (a : Bool) → (a || false) ≡ true → a ≡ true
+only true is = refl
+only false is = absurd (cc is)
+
+-- what leads into INBOX where it executes a `keep`
+abbrev IntoInbox : List Action → Flow → Type 0
+IntoInbox actions flow = list_any is_keep actions ≡ true → OnFlow InInbox flow
+
+either_into : (first : Bool) (one two : List Action) (here there : Flow) → IntoInbox one here → IntoInbox two there → IntoInbox (cond first one two) (cond first here there)
+either_into true one two here there so other = so
+either_into false one two here there so other = other
+
+then_into : (flow : Flow) (next : RunState → Flow) (actions : RunState → List Action) → ((state : RunState) → IntoInbox (actions state) (next state)) → IntoInbox (then_executes flow actions) (and_then flow next)
+then_into (Going state) next actions so = so state
+then_into (Stopped state) next actions so = λ is. absurd (cc is)
+then_into (Failed failure) next actions so = λ is. tt
+
+-- one of the first actions is a `keep`, or one of the later ones
+first_or_later : (flow : Flow) (next : RunState → Flow) (first later : List Action) → IntoInbox first flow → ((state : RunState) → InInbox state → OnFlow InInbox (next state))
+    → IntoInbox later (and_then flow next) → IntoInbox (first ++ later) (and_then flow next)
+first_or_later flow next first later here still there is = step (list_any is_keep first) refl (sym (list_any-append is_keep first later) ∙ is)
+  where
+    step : (keeps : Bool) → list_any is_keep first ≡ keeps → (keeps || list_any is_keep later) ≡ true → OnFlow InInbox (and_then flow next)
+    step true keeps among = then_kept InInbox flow next (here keeps) still
+    step false keeps among = there among
 
 -- where it executed a `keep` its end has it in INBOX
-executed : (truth : RunState → MailCheck → Bool) (tree : Commands) (left : Handover) → list_any is_keep (actions_from truth tree left) ≡ true → OnFlow InInbox (does_all truth tree (begins_from left))
-executed truth tree left is =
-    subst (OnFlow InInbox) (sym (commands_do truth tree (begins_from left)))
-    (stopped_too InInbox (runs_all_by performed truth tree (begins_from left)).1 (in_turn (actions_from truth tree left) (begins_from left)) (executed_in_turn (actions_from truth tree left) (begins_from left) is))
+module _ (asking : TestAsking) (leaves_deeds : LeavesDeeds asking) where
+  tests_in_inbox : (state : RunState) (check : MailCheck) → InInbox state → InInbox (asking state check).so_far
+  tests_in_inbox state check was = ap (λ filed. is_filed filed inbox) (leaves_deeds state check).0 ∙ was
+
+  mutual
+    executed_by : (tree : CommandTree) (state : RunState) → IntoInbox (executes asking tree state) (does asking tree state)
+    executed_by (require names) state is = absurd (cc is)
+    executed_by (choose branches) state is = executed_by_branches branches state is
+    executed_by stop state is = absurd (cc is)
+    executed_by (act action) state is = keep_in_inbox action state (only (is_keep action) is)
+
+    executed_by_branches : (branches : Branches) (state : RunState) → IntoInbox (choice_executes asking branches state) (chooses asking branches state)
+    executed_by_branches no_branches state is = absurd (cc is)
+    executed_by_branches (branch condition block more) state is =
+        let answer = holds asking condition state in
+        either_into answer.is_held (all_execute asking block answer.so_far) (choice_executes asking more answer.so_far) (does_all asking block answer.so_far) (chooses asking more answer.so_far)
+        (λ among. executed_by_all block answer.so_far among) (λ among. executed_by_branches more answer.so_far among) is
+
+    executed_by_all : (commands : Commands) (state : RunState) → IntoInbox (all_execute asking commands state) (does_all asking commands state)
+    executed_by_all no_commands state is = absurd (cc is)
+    executed_by_all (command first more) state is =
+        first_or_later (does asking first state) (does_all asking more) (executes asking first state) (then_executes (does asking first state) (all_execute asking more))
+        (λ among. executed_by first state among) (λ next was. kept_by_all InInbox asking tests_in_inbox still_in_inbox more next was)
+        (λ among. then_into (does asking first state) (does_all asking more) (all_execute asking more) (λ next later. executed_by_all more next later) among) is
 
 abbrev HasInbox : Actions → Handover → Type 0
 HasInbox done next = next.is_kept ≡ true → is_filed done.filed inbox ≡ true
@@ -274,18 +191,20 @@ inbox_by actions left (Going at_end) so executes = inbox_with actions left at_en
 inbox_by actions left (Stopped at_end) so executes = inbox_with actions left at_end executes (keeps_implicitly left at_end) (implicit_extends left at_end so) (kept_in_inbox actions left at_end executes)
 inbox_by actions left (Failed failure) so executes = tt
 
-inbox_run : (truth : RunState → MailCheck → Bool) (work : RunState → MailCheck → ℕ) (most : ℕ) (tree : Commands) (left : Handover) → AreApart left.filed left.sent
-    → OnEnded HasInbox (end_of_run truth work most tree left)
-inbox_run truth work most tree left apart = step (nat_lt most (all_take truth work tree (begins_from left)))
+inbox_run : (asking : TestAsking) → LeavesDeeds asking → (work : RunState → MailCheck → ℕ) (most : ℕ) (tree : Commands) (left : Handover) → AreApart left.filed left.sent
+    → OnEnded HasInbox (end_of_run asking work most tree left)
+inbox_run asking leaves_deeds work most tree left apart = step (nat_lt most (all_take asking work tree (begins_from left)))
   where
-    step : (much : Bool) → OnEnded HasInbox (cond much (Broken TooMuchWork) (ended_by (actions_from truth tree left) left (does_all truth tree (begins_from left))))
+    step : (much : Bool) → OnEnded HasInbox (cond much (Broken TooMuchWork) (ended_by (actions_from asking tree left) left (does_all asking tree (begins_from left))))
     step true = tt
-    step false = inbox_by (actions_from truth tree left) left (does_all truth tree (begins_from left)) (kept_by_all (Extended left) (extends left) truth tree (begins_from left) (none_new left apart)) (executed truth tree left)
+    step false =
+        inbox_by (actions_from asking tree left) left (does_all asking tree (begins_from left)) (run_extends asking leaves_deeds work most tree left apart)
+        (executed_by_all asking leaves_deeds tree (begins_from left))
 
 -- ---- a sequence
 
 in_inbox_next : (mail : MailSpec) (script : SequenceScript) (state next : SequenceState) → IsGoodState state → RunsToEnd mail script state next → next.left.is_kept ≡ true → is_filed next.done.filed inbox ≡ true
-in_inbox_next mail script state next good runs = subst (OnEnded HasInbox) runs.ends (inbox_run (truth_at mail) (work_at mail) _ runs.tree state.left good.apart)
+in_inbox_next mail script state next good runs = subst (OnEnded HasInbox) runs.ends (inbox_run (asking_on mail) (looking_leaves (truth_at mail)) (work_at mail) _ runs.tree state.left good.apart)
 
 failed_in_inbox : (mail : MailSpec) (scripts : List SequenceScript) (state : SequenceState) (settled : Settled) (text : List ℕ) → IsGoodState state → is_filed state.done.filed inbox ≡ true
     → SettlesInTurn mail scripts state settled → settled.notice ≡ Some text → is_filed settled.deeds.filed inbox ≡ true

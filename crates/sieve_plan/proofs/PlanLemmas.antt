@@ -9,7 +9,7 @@ use Rattle.mail_flags.specs.declared.placement.Placement.{Placement}
 use Rattle.mail_address.specs.declared.address.Addr.{Addr}
 use Rattle.mail_address.specs.Spelling.{address_spelling}
 use Rattle.sieve_syntax.specs.Meaning.{Actions}
-use Rattle.sieve_syntax.specs.declared.tree.vacation.VacationArgs.{VacationArgs}
+use Rattle.sieve_syntax.specs.declared.extension.vacation.VacationArgs.{VacationArgs}
 use Rattle.sieve_exec.specs.Mails.{MailSpec}
 use Rattle.sieve_vacation.specs.Reasons.{decision_of}
 use Rattle.store_accounts.specs.Account.{Account, room_in, files_copies, adds_notice_if_any, queues, remembers_sent, sends_on, replies_if_any, delivers}

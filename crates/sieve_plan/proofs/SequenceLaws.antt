@@ -15,7 +15,7 @@ use Rattle.sieve_syntax.specs.RunState.{RunState, Failure, TooMuchWork}
 use Rattle.sieve_syntax.specs.Meaning.{Actions}
 use Rattle.sieve_syntax.specs.Trace.{NamesWithoutRepeats}
 use Rattle.sieve_syntax.specs.Work.{all_take}
-use Rattle.sieve_syntax.specs.declared.tree.vacation.VacationArgs.{VacationArgs}
+use Rattle.sieve_syntax.specs.declared.extension.vacation.VacationArgs.{VacationArgs}
 use Rattle.sieve_syntax.proofs.MeansLaws.{means_only}
 use Rattle.sieve_exec.specs.Mails.{MailSpec}
 use Rattle.sieve_exec.specs.Outcomes.{outcome_at}
@@ -27,10 +27,10 @@ use Rattle.sieve_plan.specs.Sent.{over_keys}
 use Rattle.sieve_plan.specs.Views.{last_reply}
 use Rattle.sieve_plan.specs.Delivered.{Disposition, Acts, Tells, Disposes, DisposesUnder, DisposesUnlessLooping, DisposesUnlessLong, disposition_of, failure_text, loop_text, long_text, invalid_text, is_looping, has_long_header, kept, Silent, acts, done_of, held_of, report_of, responds, DeliversAs, Delivers}
 use Rattle.sieve_plan.specs.Handover.{Handover, begins_from, filed_behind, first_reply, done_behind, leaves, for_good, StandsAmong, RunEnd, Ended, Broken}
-use Rattle.sieve_plan.specs.Sequences.{Whose, Before, Own, After, SequenceScript, HostScripts, no_host_scripts, sequence_of, SequenceState, at_beginning, end_at, max_host_work, work_limit, host_work_behind, RunsToEnd, FailsFor, IsInvalid, Breaks, told_of, Settled, settled_well, settled_unrun, SettlesInTurn, RunInTurn, SettlesUnder, notice_left, forgotten_unless, CarriesOutSettled, DeliversInSequence}
+use Rattle.sieve_plan.specs.Sequences.{Whose, Before, Own, After, SequenceScript, HostScripts, no_host_scripts, sequence_of, SequenceState, at_beginning, asking_on, end_at, max_host_work, work_limit, host_work_behind, RunsToEnd, FailsFor, IsInvalid, Breaks, told_of, Settled, settled_well, settled_unrun, SettlesInTurn, RunInTurn, SettlesUnder, notice_left, forgotten_unless, CarriesOutSettled, DeliversInSequence}
 use Rattle.sieve_plan.proofs.DeliveryLaws.{one_response}
 use Rattle.sieve_plan.proofs.PlanLemmas.{none_goes}
-use Rattle.sieve_plan.proofs.HandoverLaws.{outcome_of, alone, AreApart, IsGoodEnd, good_end}
+use Rattle.sieve_plan.proofs.HandoverLaws.{outcome_of, alone, looking_leaves, AreApart, IsGoodEnd, good_end}
 
 -- ---- a script has one end
 
@@ -54,7 +54,7 @@ module _ (mail : MailSpec) (script : SequenceScript) (state : SequenceState) whe
       let done : one.done ≡ two.done = ap (λ e. done_in e one.done) ends in
       let left : one.left ≡ two.left = ap (λ e. left_in e one.left) ends in
       let work : one.host_work ≡ two.host_work =
-      is.work ∙ (ap (λ t. host_work_behind script.whose (all_take (truth_at mail) (work_at mail) t (begins_from state.left)) state.host_work) trees ∙ sym was.work) in
+      is.work ∙ (ap (λ t. host_work_behind script.whose (all_take (asking_on mail) (work_at mail) t (begins_from state.left)) state.host_work) trees ∙ sym was.work) in
       λ i. record { left = left i; done = done i; host_work = work i }
 
   never_both : (next : SequenceState) (why : List ℕ) → RunsToEnd mail script state next → FailsFor mail script state why → ⊥
@@ -118,7 +118,7 @@ good_beginning = record {
 }
 
 good_run_to_end : (mail : MailSpec) (script : SequenceScript) (state next : SequenceState) → IsGoodState state → RunsToEnd mail script state next → IsGoodEnd state.left next.done next.left
-good_run_to_end mail script state next good runs = good_end (truth_at mail) (work_at mail) _ runs.tree state.left next.done next.left good.apart runs.ends
+good_run_to_end mail script state next good runs = good_end (asking_on mail) (looking_leaves (truth_at mail)) (work_at mail) _ runs.tree state.left good.apart next.done next.left runs.ends
 
 pub good_next : (mail : MailSpec) (script : SequenceScript) (state next : SequenceState) → IsGoodState state → RunsToEnd mail script state next → IsGoodState next
 good_next mail script state next good runs =
@@ -224,7 +224,7 @@ in_either false P so = so
 
 alone_settles : (text : List ℕ) (mail : MailSpec) (tree : Commands) → Means text tree → SettlesInTurn mail (own_script text ∷ []) at_beginning (settled_of (disposition_of (outcome_at mail tree)))
 alone_settles text mail tree means =
-    subst (λ o. SettlesInTurn mail (own_script text ∷ []) at_beginning (settled_of (disposition_of o))) (alone (truth_at mail) (work_at mail) tree) (step (end_at mail Own tree at_beginning) refl)
+    subst (λ o. SettlesInTurn mail (own_script text ∷ []) at_beginning (settled_of (disposition_of o))) (alone (asking_on mail) (work_at mail) tree) (step (end_at mail Own tree at_beginning) refl)
   where
     step : (end : RunEnd) → end_at mail Own tree at_beginning ≡ end → SettlesInTurn mail (own_script text ∷ []) at_beginning (settled_of (disposition_of (outcome_of end)))
     step (Ended done next) is =
@@ -258,7 +258,7 @@ abbrev DisposedAs : (Disposition → Type 0) → Settled → Type 0
 DisposedAs P settled = (disposition : Disposition) × P disposition × (settled ≡ settled_of disposition)
 
 ends_alone : (mail : MailSpec) (tree : Commands) (end : RunEnd) → end_at mail Own tree at_beginning ≡ end → outcome_of end ≡ outcome_at mail tree
-ends_alone mail tree end is = ap outcome_of (sym is) ∙ alone (truth_at mail) (work_at mail) tree
+ends_alone mail tree end is = ap outcome_of (sym is) ∙ alone (asking_on mail) (work_at mail) tree
 
 disposed_failed : (text : List ℕ) (mail : MailSpec) (settled : Settled) (why : List ℕ) → FailsFor mail (own_script text) at_beginning why → settled ≡ settled_unrun why
     → DisposedAs (DisposesUnder (Some text) mail) settled
@@ -365,7 +365,7 @@ host_work_next After work before low small = omega (arith, low, small)
 host_work_so_far : (mail : MailSpec) (ran : List SequenceScript) (from to : SequenceState) → from.host_work ≤ max_host_work → RunInTurn mail ran from to → to.host_work ≤ max_host_work
 host_work_so_far mail [] from to low same = subst (λ (s : SequenceState). s.host_work ≤ max_host_work) same low
 host_work_so_far mail (script ∷ others) from to low (next, runs, still, later) =
-    let work = all_take (truth_at mail) (work_at mail) runs.tree (begins_from from.left) in
+    let work = all_take (asking_on mail) (work_at mail) runs.tree (begins_from from.left) in
     let small : work ≤ work_limit script.whose from.host_work = within (work_limit script.whose from.host_work) work _ next.done next.left runs.ends in
     host_work_so_far mail others next to (subst (λ n. n ≤ max_host_work) (sym runs.work) (host_work_next script.whose work from.host_work low small)) later
 

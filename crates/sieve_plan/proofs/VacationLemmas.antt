@@ -2,7 +2,7 @@
 use Rattle.std.proofs.Common.{◌≡◌, ◌<◌, ℕ, zero, suc, List, Option, Some, Ok, Err, Result, IfOk, refl, ap, ◌∙◌, subst, sym, arith}
 use Rattle.std.specs.declared.alloc.AllocError.{AllocError}
 use Rattle.mail_address.specs.declared.address.Addr.{Addr}
-use Rattle.sieve_syntax.specs.declared.tree.vacation.VacationArgs.{VacationArgs}
+use Rattle.sieve_syntax.specs.declared.extension.vacation.VacationArgs.{VacationArgs}
 use Rattle.sieve_exec.specs.Mails.{MailSpec}
 use Rattle.sieve_vacation.specs.Handles.{handle_of, handle_key_of}
 use Rattle.sieve_vacation.specs.Reasons.{decision_of, reason_number}

@@ -10,7 +10,7 @@ use Rattle.sieve_syntax.specs.Tree.{Commands}
 use Rattle.sieve_syntax.specs.Means.{Means}
 use Rattle.sieve_syntax.specs.RunState.{Failure, TwoVacations, TooManyRedirects, TooManyMailboxes, TooMuchWork, inbox, is_filed}
 use Rattle.sieve_syntax.specs.Meaning.{Actions, Outcome, Done, Failed}
-use Rattle.sieve_syntax.specs.declared.tree.vacation.VacationArgs.{VacationArgs}
+use Rattle.sieve_syntax.specs.declared.extension.vacation.VacationArgs.{VacationArgs}
 use Rattle.sieve_exec.specs.Mails.{MailSpec}
 use Rattle.sieve_exec.specs.Outcomes.{outcome_at}
 use Rattle.sieve_vacation.specs.Cases.{same_ignoring_case}

@@ -8,11 +8,10 @@ use Rattle.mail_flags.specs.declared.placement.Placement.{Placement}
 use Rattle.sieve_syntax.specs.declared.tree.action.Action.{Action}
 use Rattle.sieve_syntax.specs.declared.tree.action.Action.TheVariants.{Keep, FileInto}
 use Rattle.sieve_syntax.specs.declared.tree.checks.MailCheck.{MailCheck}
-use Rattle.sieve_syntax.specs.declared.tree.vacation.VacationArgs.{VacationArgs}
-use Rattle.sieve_syntax.specs.RunState.{RunState, Failure, TooMuchWork, Flow, Going, Stopped, Failed, inbox, mailbox_named, is_filed, flags_given, filed_into, performed}
-use Rattle.sieve_syntax.specs.Meaning.{does_all, Actions}
-use Rattle.sieve_syntax.specs.Trace.{runs_all_by}
-use Rattle.sieve_syntax.specs.Tree.{Commands}
+use Rattle.sieve_syntax.specs.declared.extension.vacation.VacationArgs.{VacationArgs}
+use Rattle.sieve_syntax.specs.RunState.{RunState, Failure, TooMuchWork, Flow, Going, Stopped, Failed, inbox, mailbox_named, is_filed, flags_given, filed_into}
+use Rattle.sieve_syntax.specs.Meaning.{TestAsking, after_test, holds, does, does_all, Actions}
+use Rattle.sieve_syntax.specs.Tree.{CommandTree, require, choose, stop, act, Branches, no_branches, branch, Commands, no_commands, command}
 use Rattle.sieve_syntax.specs.Work.{all_take}
 
 -- what a script and those before it leave to the next: the mailboxes into which they filed the message, each with the flags of its copy,
@@ -37,9 +36,33 @@ nothing_left = record { filed = []; sent = []; flags = []; keep_flags = None; re
 abbrev pub begins_from : Handover → RunState
 begins_from left = record { filed = left.filed; flags = left.flags; sent = left.sent; reply = None; cancelled = false }
 
--- the actions that it runs, in turn
-abbrev pub actions_from : (RunState → MailCheck → Bool) → Commands → Handover → List Action
-actions_from truth commands left = (runs_all_by performed truth commands (begins_from left)).0
+-- the actions of what comes next, if the run goes on
+abbrev pub then_executes : Flow → (RunState → List Action) → List Action
+then_executes (Going so_far) next = next so_far
+then_executes (Stopped so_far) next = []
+then_executes (Failed failure) next = []
+
+-- the actions that commands execute, in turn, for any asking of their tests (RFC 5228, 3): nothing after a `stop`, nor after an action that
+-- fails, which is the last of them
+abbrev mutual
+  pub executes : TestAsking → CommandTree → RunState → List Action
+  executes asking (require names) so_far = []
+  executes asking (choose branches) so_far = choice_executes asking branches so_far
+  executes asking stop so_far = []
+  executes asking (act action) so_far = action ∷ []
+
+  -- those of the first block whose test holds
+  pub choice_executes : TestAsking → Branches → RunState → List Action
+  choice_executes asking no_branches so_far = []
+  choice_executes asking (branch condition block more) so_far = after_test (holds asking condition so_far) (all_execute asking block) (choice_executes asking more)
+
+  pub all_execute : TestAsking → Commands → RunState → List Action
+  all_execute asking no_commands so_far = []
+  all_execute asking (command first more) so_far = executes asking first so_far ++ then_executes (does asking first so_far) (all_execute asking more)
+
+-- the actions that a run executes which begins with this
+abbrev pub actions_from : TestAsking → Commands → Handover → List Action
+actions_from asking commands left = all_execute asking commands (begins_from left)
 
 -- ---- how it ends
 
@@ -119,11 +142,11 @@ ended_by actions left (Going at_end) = ended_with actions left at_end (keeps_imp
 ended_by actions left (Stopped at_end) = ended_with actions left at_end (keeps_implicitly left at_end)
 ended_by actions left (Failed failure) = Broken failure
 
--- the end of a script's run that begins with this, given the truth and the work of its tests; one that takes more work than `most` fails
-abbrev pub end_of_run : (RunState → MailCheck → Bool) → (RunState → MailCheck → ℕ) → (most : ℕ) → Commands → Handover → RunEnd
-end_of_run truth work most commands left =
-    cond (nat_lt most (all_take truth work commands (begins_from left))) (Broken TooMuchWork)
-    (ended_by (actions_from truth commands left) left (does_all truth commands (begins_from left)))
+-- the end of a script's run that begins with this, for any asking and any work of its tests; one that takes more work than `most` fails
+abbrev pub end_of_run : TestAsking → (RunState → MailCheck → ℕ) → (most : ℕ) → Commands → Handover → RunEnd
+end_of_run asking work most commands left =
+    cond (nat_lt most (all_take asking work commands (begins_from left))) (Broken TooMuchWork)
+    (ended_by (actions_from asking commands left) left (does_all asking commands (begins_from left)))
 
 -- ---- what stands
 

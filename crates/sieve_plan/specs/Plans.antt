@@ -4,7 +4,7 @@ use Rattle.mail_address.specs.declared.address.Addr.{Addr}
 use Rattle.mail_flags.specs.declared.placement.Placement.{Placement}
 use Rattle.sieve_syntax.specs.RunState.{inbox}
 use Rattle.sieve_syntax.specs.Meaning.{Actions}
-use Rattle.sieve_syntax.specs.declared.tree.vacation.VacationArgs.{VacationArgs}
+use Rattle.sieve_syntax.specs.declared.extension.vacation.VacationArgs.{VacationArgs}
 use Rattle.sieve_exec.specs.Mails.{MailSpec}
 use Rattle.sieve_exec.specs.Runs.{failure_view}
 use Rattle.sieve_vacation.specs.Layout.{IsVacationReply}

@@ -5,7 +5,7 @@ use Rattle.mail_address.specs.declared.address.Addr.{Addr}
 use Rattle.sieve_syntax.specs.Tree.{Commands}
 use Rattle.sieve_syntax.specs.Means.{Means}
 use Rattle.sieve_syntax.specs.RunState.{Failure}
-use Rattle.sieve_syntax.specs.Meaning.{Actions}
+use Rattle.sieve_syntax.specs.Meaning.{TestAsking, asking_at, Actions}
 use Rattle.sieve_plan.specs.Handover.{Handover, nothing_left, begins_from, RunEnd, Ended, Broken, end_of_run}
 use Rattle.sieve_syntax.specs.Work.{max_work, all_take}
 use Rattle.sieve_exec.specs.Mails.{MailSpec}
@@ -78,16 +78,20 @@ host_work_behind Own work host_work = host_work
 host_work_behind Before work host_work = host_work + work
 host_work_behind After work host_work = host_work + work
 
+-- how tests are asked of a mail: they only look
+abbrev pub asking_on : MailSpec → TestAsking
+asking_on mail = asking_at (truth_at mail)
+
 -- how a script's tree ends on a mail where the sequence has come so far
 abbrev pub end_at : MailSpec → Whose → Commands → SequenceState → RunEnd
-end_at mail whose tree state = end_of_run (truth_at mail) (work_at mail) (work_limit whose state.host_work) tree state.left
+end_at mail whose tree state = end_of_run (asking_on mail) (work_at mail) (work_limit whose state.host_work) tree state.left
 
 -- it runs to its end: what is done then, and what is left
 pub record RunsToEnd (mail : MailSpec) (script : SequenceScript) (state next : SequenceState) : Type 0 where
   pub tree : Commands
   pub means : Means script.text tree
   pub ends : end_at mail script.whose tree state ≡ Ended next.done next.left
-  pub work : next.host_work ≡ host_work_behind script.whose (all_take (truth_at mail) (work_at mail) tree (begins_from state.left)) state.host_work
+  pub work : next.host_work ≡ host_work_behind script.whose (all_take (asking_on mail) (work_at mail) tree (begins_from state.left)) state.host_work
 
 -- it fails for this reason: its text means no tree, or its run fails
 pub data FailsFor (mail : MailSpec) (script : SequenceScript) (state : SequenceState) (why : List ℕ) : Type 0 where

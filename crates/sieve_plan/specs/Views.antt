@@ -5,7 +5,7 @@ use Rattle.octets.specs.Ascii.{lowered}
 use Rattle.mail_address.specs.Outbound.{IsBareAddress}
 use Rattle.mail_address.specs.declared.address.Addr.{Addr}
 use Rattle.sieve_syntax.specs.Meaning.{Actions}
-use Rattle.sieve_syntax.specs.declared.tree.vacation.VacationArgs.{VacationArgs}
+use Rattle.sieve_syntax.specs.declared.extension.vacation.VacationArgs.{VacationArgs}
 use Rattle.sieve_exec.specs.Mails.{MailSpec}
 use Rattle.sieve_vacation.specs.Handles.{handle_of, handle_key_of}
 use Rattle.store_accounts.specs.Account.{Account, room_in}

@@ -9,9 +9,8 @@ use Rattle.sieve_syntax.specs.Chains.{Chain}
 use Rattle.sieve_syntax.specs.Tree.{TestTree, yes, CommandTree, require, choose, stop, act, Branches, no_branches, branch, Commands, no_commands, command, depth, depth_of, branches_depth}
 use Rattle.sieve_syntax.specs.View.{commands_of, branches_of}
 use Rattle.sieve_syntax.specs.Valid.{max_lists, max_nots, MayBeCondition, MayAllStand, MayBranch}
-use Rattle.sieve_syntax.specs.Steps.{TakesTest}
+use Rattle.sieve_syntax.specs.Steps.{TakesTest, TakesBranch, TakesElsif, TakesElsifs, TakesElse, IsPastElsif, TakesCommand, TakesAfter, TakesBlock, TakesAll, IsStop}
 use Rattle.sieve_syntax.specs.Grammar.{IsStatement, IsCommand, IsChoice, AreBranches, AreCommands, IsPastBranches, ReadsCommand}
-use Rattle.sieve_syntax.specs.Steps.{TakesBranch, TakesElsif, TakesElsifs, TakesElse, IsPastElsif, TakesCommand, TakesAfter, TakesBlock, TakesAll, IsStop}
 use Rattle.sieve_syntax.proofs.Chains.{IsSoFar, chain_more, chain_ends, chain_fails}
 use Rattle.sieve_syntax.proofs.TestLemmas.{arguments_longer, reads_test_longer}
 

@@ -1,5 +1,5 @@
 -- What `date` and `currentdate` say, and near misses.
-use Rattle.std.proofs.Common.{◌≡◌, ◌∙◌, ◌∷◌, ℤ, pos, List, [], Some, None, true, false, refl, sym, ap, inl, lit<}
+use Rattle.std.proofs.Common.{◌≡◌, ◌∙◌, ◌∷◌, ℤ, pos, List, [], Some, None, refl, sym, ap, inl, lit<}
 use Rattle.std.specs.Prelude.{codes}
 use Rattle.mail_dates.specs.declared.part.DatePart.TheVariants as E
 use Rattle.mail_dates.specs.Parts.{part_named}
@@ -11,11 +11,11 @@ use Rattle.sieve_syntax.specs.declared.table.tag_group.TagValue.TheVariants as S
 use Rattle.sieve_syntax.specs.declared.parser.argument.Argument.{Argument}
 use Rattle.sieve_syntax.specs.declared.parser.argument.Argument.TheVariants as A
 use Rattle.sieve_syntax.specs.declared.tree.checks.Collation.TheVariants as L
-use Rattle.sieve_syntax.specs.declared.tree.checks.CurrentDate.{CurrentDate}
-use Rattle.sieve_syntax.specs.declared.tree.checks.DateTest.{DateTest}
-use Rattle.sieve_syntax.specs.declared.tree.checks.DateZone.TheVariants as Z
+use Rattle.sieve_syntax.specs.declared.extension.date.CurrentDate.{CurrentDate}
+use Rattle.sieve_syntax.specs.declared.extension.date.DateTest.{DateTest}
+use Rattle.sieve_syntax.specs.declared.extension.date.DateZone.TheVariants as Z
 use Rattle.sieve_syntax.specs.declared.tree.checks.Matching.TheVariants as M
-use Rattle.sieve_syntax.specs.Table.{SaysDate, SaysCurrentDate}
+use Rattle.sieve_syntax.specs.Extension.Date.{SaysDate, SaysCurrentDate}
 use Rattle.sieve_syntax.specs.Tags.{IsTagValue}
 
 -- `:zone "+0200"` is two hours east of UTC, and `:zone "+2400"` none

@@ -5,19 +5,19 @@ use Rattle.std.proofs.lemmas.List.Folds.{list_any-append}
 use Rattle.octets.proofs.Lists.{some_is}
 use Rattle.sieve_lex.specs.declared.token.Mark.TheVariants as K
 use Rattle.sieve_lex.specs.declared.token.Content.{Content}
-use Rattle.sieve_syntax.specs.declared.parser.decoding.Decoding.{Decoding}
+use Rattle.sieve_syntax.specs.declared.extension.encoded_character.Decoding.{Decoding}
 use Rattle.sieve_syntax.specs.declared.table.keyword.Keyword.{Keyword}
 use Rattle.sieve_syntax.specs.declared.table.keyword.Keyword.TheVariants as W
 use Rattle.sieve_syntax.specs.declared.parser.argument.Argument.{Argument}
 use Rattle.sieve_syntax.specs.declared.parser.argument.Argument.TheVariants as A
-use Rattle.sieve_syntax.specs.declared.parser.decoding.Decoding.TheVariants.{Open, Named, Off}
+use Rattle.sieve_syntax.specs.declared.extension.encoded_character.Decoding.TheVariants.{Open, Named, Off}
 use Rattle.sieve_syntax.specs.Arguments.{IsOther, AreStrings, IsArgument}
 use Rattle.sieve_syntax.specs.Chains.{Chain}
-use Rattle.sieve_syntax.specs.Decoding.{is_encoded_character, decoding_after, lexemes_as_read, as_read}
+use Rattle.sieve_syntax.specs.Extension.EncodedCharacter.{is_encoded_character, decoding_after, lexemes_as_read, as_read}
 use Rattle.sieve_syntax.specs.Grammar.{IsStatement, AreCommands, ReadsCommand, ReadsScript}
 use Rattle.sieve_syntax.specs.Lexemes.{Lexeme, keyword, text, mark, lexeme_of, lexemes_of}
 use Rattle.sieve_syntax.specs.Steps.{TakesRequire, IsPastRequires, all_names}
-use Rattle.sieve_syntax.specs.Table.{IsList}
+use Rattle.sieve_syntax.specs.Rows.{IsList}
 use Rattle.sieve_syntax.specs.Positional.{one_list}
 use Rattle.sieve_syntax.specs.declared.table.tag_group.TagValue.{TagValue}
 use Rattle.sieve_syntax.specs.Tags.{IsAllowed, strings_of}

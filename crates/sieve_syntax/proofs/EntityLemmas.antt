@@ -7,7 +7,7 @@ use Rattle.mail_head.specs.Fields.{FieldText, field_of}
 use Rattle.mail_head.specs.Lines.{lines_of, is_empty_line, logical_lines, header_lines}
 use Rattle.mail_head.proofs.FoldLemmas.{and_true, and_left, and_right}
 use Rattle.mail_head.proofs.FormLemmas.{field_is, is_field}
-use Rattle.sieve_syntax.specs.Reasons.{has_mime_name, is_header_octet, is_mime_line, is_entity, IsMimeLine, IsEntity}
+use Rattle.sieve_syntax.specs.Extension.Vacation.Reasons.{has_mime_name, is_header_octet, is_mime_line, is_entity, IsMimeLine, IsEntity}
 
 -- a test and what it says, of each in a list
 each_passes : {X : Type 0} (p : X → Bool) (P : X → Type 0) → ((x : X) → p x ≡ true → P x) → (xs : List X) → list_all p xs ≡ true → All P xs

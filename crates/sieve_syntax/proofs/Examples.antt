@@ -13,34 +13,37 @@ use Rattle.sieve_syntax.specs.declared.table.tag_group.TagValue.TheVariants as S
 use Rattle.sieve_syntax.specs.declared.table.tag_group.TagGroup.TheVariants as P
 use Rattle.sieve_syntax.specs.declared.parser.argument.Argument.{Argument}
 use Rattle.sieve_syntax.specs.declared.tree.checks.Matching.TheVariants as M
-use Rattle.sieve_syntax.specs.declared.tree.checks.Relation.{Relation}
-use Rattle.sieve_syntax.specs.declared.tree.checks.Relation.TheVariants as R
+use Rattle.sieve_syntax.specs.declared.extension.relational.Relation.{Relation}
+use Rattle.sieve_syntax.specs.declared.extension.relational.Relation.TheVariants as R
 use Rattle.sieve_syntax.specs.declared.tree.checks.Collation.TheVariants as C
 use Rattle.sieve_syntax.specs.declared.tree.checks.MailCheck.TheVariants as L
 use Rattle.sieve_syntax.specs.declared.tree.checks.MailCheck.{MailCheck}
 use Rattle.sieve_syntax.specs.declared.tree.checks.Size.{Size}
 use Rattle.sieve_syntax.specs.declared.tree.checks.Address.{Address}
-use Rattle.sieve_syntax.specs.declared.tree.checks.EnvelopeTest.{EnvelopeTest}
+use Rattle.sieve_syntax.specs.declared.extension.envelope.EnvelopeTest.{EnvelopeTest}
 use Rattle.sieve_syntax.specs.declared.tree.checks.Bound.TheVariants as B
 use Rattle.sieve_syntax.specs.declared.tree.checks.AddressPart.TheVariants as H
-use Rattle.sieve_syntax.specs.declared.tree.checks.EnvelopeParts.{EnvelopeParts}
-use Rattle.sieve_syntax.specs.declared.tree.vacation.VacationArgs.{VacationArgs}
+use Rattle.sieve_syntax.specs.declared.extension.envelope.EnvelopeParts.{EnvelopeParts}
+use Rattle.sieve_syntax.specs.declared.extension.vacation.VacationArgs.{VacationArgs}
 use Rattle.sieve_syntax.specs.declared.tree.action.Action.TheVariants as D
 use Rattle.sieve_syntax.specs.Lexemes.{Lexeme, keyword, tag, number, text, mark}
 use Rattle.sieve_syntax.specs.Arguments.{AreStrings, AreArguments}
 use Rattle.std.proofs.lemmas.List.Elements.{Contains-push, Contains-push_cases}
 use Rattle.sieve_syntax.proofs.TagLemmas.{none_there, first_there, plain_none}
 use Rattle.sieve_syntax.specs.Chains.{Chain}
-use Rattle.sieve_syntax.specs.Tags.{group_of, relation_name, IsTagValue, IsAllowed, BeginsUntagged, IsSplit}
-use Rattle.sieve_syntax.specs.Table.{SaysSize, SaysAddress, SaysEnvelope, NamesParts, is_part, IsPlainTest, IsPlainCommand}
+use Rattle.sieve_syntax.specs.Tags.{group_of, IsTagValue, IsAllowed, BeginsUntagged, IsSplit}
+use Rattle.sieve_syntax.specs.Extension.Relational.{relation_name}
+use Rattle.sieve_syntax.specs.Table.{SaysSize, SaysAddress, IsPlainTest, IsPlainCommand}
+use Rattle.sieve_syntax.specs.Extension.Envelope.{SaysEnvelope, NamesParts, is_part}
 use Rattle.sieve_syntax.specs.Tests.{IsTest, ReadsTest}
 use Rattle.sieve_syntax.specs.Grammar.{ReadsScript}
 use Rattle.sieve_syntax.specs.Tree.{TestTree, yes, looks, not_of, all_of, any_of, no_tests, test, list_depth, not_depth, CommandTree, choose, stop, act, no_branches, branch, Commands, no_commands, command, depth}
 use Rattle.sieve_syntax.specs.Capabilities.{all_capabilities, knows_name}
-use Rattle.sieve_syntax.specs.Valid.{IsMailboxName, IsValid}
+use Rattle.sieve_syntax.specs.Extension.FileInto.{IsMailboxName}
+use Rattle.sieve_syntax.specs.Valid.{IsValid}
 use Rattle.sieve_syntax.specs.Means.{Means}
 use Rattle.sieve_syntax.specs.RunState.{RunState, TwoVacations}
-use Rattle.sieve_syntax.specs.Meaning.{outcome, Done, Failed}
+use Rattle.sieve_syntax.specs.Meaning.{TestAsking, outcome, Done, Failed}
 
 -- a copy without flags in a mailbox
 abbrev pub into : List ℕ → Placement
@@ -172,36 +175,36 @@ block_depths : depth (command (choose (branch yes (command (choose (branch yes n
 block_depths = refl
 
 -- `fileinto "inbox"; keep; discard;` files into INBOX once; `Inbox ` is another mailbox
-inbox_once : (truth : RunState → MailCheck → Bool) → outcome truth (command (act (D.FileInto (record { mailbox = codes "inbox"; copy = false; create = false; flags = None }))) (command (act (D.Keep None)) (command (act D.Discard) no_commands))) ≡ Done (record { filed = into (codes "INBOX") ∷ []; sent = []; reply = None })
-inbox_once truth = refl
+inbox_once : (asking : TestAsking) → outcome asking (command (act (D.FileInto (record { mailbox = codes "inbox"; copy = false; create = false; flags = None }))) (command (act (D.Keep None)) (command (act D.Discard) no_commands))) ≡ Done (record { filed = into (codes "INBOX") ∷ []; sent = []; reply = None })
+inbox_once asking = refl
 
-inbox_twice : (truth : RunState → MailCheck → Bool) → outcome truth (command (act (D.FileInto (record { mailbox = codes "Inbox "; copy = false; create = false; flags = None }))) (command (act (D.Keep None)) no_commands)) ≡ Done (record { filed = into (codes "Inbox ") ∷ (into (codes "INBOX") ∷ []); sent = []; reply = None })
-inbox_twice truth = refl
+inbox_twice : (asking : TestAsking) → outcome asking (command (act (D.FileInto (record { mailbox = codes "Inbox "; copy = false; create = false; flags = None }))) (command (act (D.Keep None)) no_commands)) ≡ Done (record { filed = into (codes "Inbox ") ∷ (into (codes "INBOX") ∷ []); sent = []; reply = None })
+inbox_twice asking = refl
 
 -- `redirect` of one address twice sends once, and nothing is kept
-once : (truth : RunState → MailCheck → Bool) → outcome truth (command (act (D.Redirect (record { target = record { local = codes "c"; domain = codes "d" }; copy = false }))) (command (act (D.Redirect (record { target = record { local = codes "c"; domain = codes "d" }; copy = false }))) no_commands)) ≡ Done (record { filed = []; sent = record { local = codes "c"; domain = codes "d" } ∷ []; reply = None })
-once truth = refl
+once : (asking : TestAsking) → outcome asking (command (act (D.Redirect (record { target = record { local = codes "c"; domain = codes "d" }; copy = false }))) (command (act (D.Redirect (record { target = record { local = codes "c"; domain = codes "d" }; copy = false }))) no_commands)) ≡ Done (record { filed = []; sent = record { local = codes "c"; domain = codes "d" } ∷ []; reply = None })
+once asking = refl
 
 -- `fileinto :copy "x";` keeps the message too (RFC 3894, 3.1); `fileinto "x";` doesn't
-copied : (truth : RunState → MailCheck → Bool) → outcome truth (command (act (D.FileInto (record { mailbox = codes "x"; copy = true; create = false; flags = None }))) no_commands) ≡ Done (record { filed = into (codes "x") ∷ (into (codes "INBOX") ∷ []); sent = []; reply = None })
-copied truth = refl
+copied : (asking : TestAsking) → outcome asking (command (act (D.FileInto (record { mailbox = codes "x"; copy = true; create = false; flags = None }))) no_commands) ≡ Done (record { filed = into (codes "x") ∷ (into (codes "INBOX") ∷ []); sent = []; reply = None })
+copied asking = refl
 
-filed_alone : (truth : RunState → MailCheck → Bool) → outcome truth (command (act (D.FileInto (record { mailbox = codes "x"; copy = false; create = false; flags = None }))) no_commands) ≡ Done (record { filed = into (codes "x") ∷ []; sent = []; reply = None })
-filed_alone truth = refl
+filed_alone : (asking : TestAsking) → outcome asking (command (act (D.FileInto (record { mailbox = codes "x"; copy = false; create = false; flags = None }))) no_commands) ≡ Done (record { filed = into (codes "x") ∷ []; sent = []; reply = None })
+filed_alone asking = refl
 
 -- `redirect :copy "c@d"; discard;` keeps nothing: what is cancelled stays cancelled
-copied_and_discarded : (truth : RunState → MailCheck → Bool) → outcome truth (command (act (D.Redirect (record { target = record { local = codes "c"; domain = codes "d" }; copy = true }))) (command (act D.Discard) no_commands)) ≡ Done (record { filed = []; sent = record { local = codes "c"; domain = codes "d" } ∷ []; reply = None })
-copied_and_discarded truth = refl
+copied_and_discarded : (asking : TestAsking) → outcome asking (command (act (D.Redirect (record { target = record { local = codes "c"; domain = codes "d" }; copy = true }))) (command (act D.Discard) no_commands)) ≡ Done (record { filed = []; sent = record { local = codes "c"; domain = codes "d" } ∷ []; reply = None })
+copied_and_discarded asking = refl
 
-discarded_and_copied : (truth : RunState → MailCheck → Bool) → outcome truth (command (act D.Discard) (command (act (D.FileInto (record { mailbox = codes "x"; copy = true; create = false; flags = None }))) no_commands)) ≡ Done (record { filed = into (codes "x") ∷ []; sent = []; reply = None })
-discarded_and_copied truth = refl
+discarded_and_copied : (asking : TestAsking) → outcome asking (command (act D.Discard) (command (act (D.FileInto (record { mailbox = codes "x"; copy = true; create = false; flags = None }))) no_commands)) ≡ Done (record { filed = into (codes "x") ∷ []; sent = []; reply = None })
+discarded_and_copied asking = refl
 
 -- `vacation` keeps the message; a second one fails, after a `discard` too
-answered : (truth : RunState → MailCheck → Bool) (args : VacationArgs) → outcome truth (command (act (D.Vacation args)) no_commands) ≡ Done (record { filed = into (codes "INBOX") ∷ []; sent = []; reply = Some args })
-answered truth args = refl
+answered : (asking : TestAsking) (args : VacationArgs) → outcome asking (command (act (D.Vacation args)) no_commands) ≡ Done (record { filed = into (codes "INBOX") ∷ []; sent = []; reply = Some args })
+answered asking args = refl
 
-twice : (truth : RunState → MailCheck → Bool) (args other : VacationArgs) → outcome truth (command (act D.Discard) (command (act (D.Vacation args)) (command (act (D.Vacation other)) no_commands))) ≡ Failed TwoVacations
-twice truth args other = refl
+twice : (asking : TestAsking) (args other : VacationArgs) → outcome asking (command (act D.Discard) (command (act (D.Vacation args)) (command (act (D.Vacation other)) no_commands))) ≡ Failed TwoVacations
+twice asking args other = refl
 
 apart : (a b : ℕ) → a ≡ 0 → b ≡ 10 → a ≡ b → ⊥
 apart a b p q e = omega arith

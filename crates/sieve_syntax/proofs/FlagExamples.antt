@@ -14,16 +14,18 @@ use Rattle.sieve_syntax.specs.declared.tree.action.Action.{Action}
 use Rattle.sieve_syntax.specs.declared.tree.action.Action.TheVariants.{Keep, Discard, FileInto, SetFlag, AddFlag, RemoveFlag}
 use Rattle.sieve_syntax.specs.declared.tree.checks.MailCheck.{MailCheck}
 use Rattle.sieve_syntax.specs.declared.tree.checks.MailCheck.TheVariants as Q
+use Rattle.sieve_syntax.specs.declared.extension.ExtensionTest.TheVariants as X
 use Rattle.sieve_syntax.specs.declared.tree.checks.Collation.TheVariants as L
-use Rattle.sieve_syntax.specs.declared.tree.checks.HasFlag.{HasFlag}
+use Rattle.sieve_syntax.specs.declared.extension.imap4flags.HasFlag.{HasFlag}
 use Rattle.sieve_syntax.specs.declared.tree.checks.Matching.TheVariants as M
 use Rattle.sieve_syntax.specs.Chains.{Chain}
 use Rattle.sieve_syntax.specs.Capabilities.{all_capabilities}
-use Rattle.sieve_syntax.specs.Meaning.{Outcome, Done, Failed, done_by, outcome_after, outcome}
+use Rattle.sieve_syntax.specs.Meaning.{TestAsking, asking_at, Outcome, Done, Failed, done_by, outcome_after, outcome}
 use Rattle.sieve_syntax.specs.RunState.{RunState, TooManyMailboxes, Going, max_mailboxes, is_filed, has_room, with_filed, flags_given}
 use Rattle.sieve_syntax.specs.RunState as F
 use Rattle.sieve_syntax.specs.Positional.{one_list}
-use Rattle.sieve_syntax.specs.Table.{SaysHasFlag, IsPlainCommand}
+use Rattle.sieve_syntax.specs.Extension.Imap4flags.{SaysHasFlag}
+use Rattle.sieve_syntax.specs.Table.{IsPlainCommand}
 use Rattle.sieve_syntax.specs.Tags.{IsTagValue, IsAllowed}
 use Rattle.sieve_syntax.specs.Trace.{actions_run}
 use Rattle.sieve_syntax.specs.Tree.{looks, CommandTree, require, choose, act, branch, no_branches, Commands, no_commands, command}
@@ -109,50 +111,50 @@ flagged mailbox flags = record { mailbox = mailbox; flags = flags }
 
 -- the implicit keep has the flags that are set; those of `addflag` come one after the other, in one list or in one text
 -- (RFC 5232, 2 and 3.2)
-added_apart : (truth : RunState → MailCheck → Bool) → outcome truth (in_row (AddFlag (codes "\\Deleted" ∷ []) ∷ (AddFlag (codes "\\Answered" ∷ []) ∷ []))) ≡ done (flagged (codes "INBOX") (codes "\\Deleted \\Answered") ∷ [])
-added_apart truth = refl
+added_apart : (asking : TestAsking) → outcome asking (in_row (AddFlag (codes "\\Deleted" ∷ []) ∷ (AddFlag (codes "\\Answered" ∷ []) ∷ []))) ≡ done (flagged (codes "INBOX") (codes "\\Deleted \\Answered") ∷ [])
+added_apart asking = refl
 
-added_together : (truth : RunState → MailCheck → Bool) → outcome truth (in_row (AddFlag (codes "\\Deleted" ∷ (codes "\\Answered" ∷ [])) ∷ [])) ≡ done (flagged (codes "INBOX") (codes "\\Deleted \\Answered") ∷ [])
-added_together truth = refl
+added_together : (asking : TestAsking) → outcome asking (in_row (AddFlag (codes "\\Deleted" ∷ (codes "\\Answered" ∷ [])) ∷ [])) ≡ done (flagged (codes "INBOX") (codes "\\Deleted \\Answered") ∷ [])
+added_together asking = refl
 
-added_in_one : (truth : RunState → MailCheck → Bool) → outcome truth (in_row (AddFlag (codes "\\Deleted \\Answered" ∷ []) ∷ [])) ≡ done (flagged (codes "INBOX") (codes "\\Deleted \\Answered") ∷ [])
-added_in_one truth = refl
+added_in_one : (asking : TestAsking) → outcome asking (in_row (AddFlag (codes "\\Deleted \\Answered" ∷ []) ∷ [])) ≡ done (flagged (codes "INBOX") (codes "\\Deleted \\Answered") ∷ [])
+added_in_one asking = refl
 
 -- `setflag` leaves no other (RFC 5232, 3.1), and `removeflag` takes one away, whatever its case (RFC 5232, 3.3)
-set_anew : (truth : RunState → MailCheck → Bool) → outcome truth (in_row (AddFlag (codes "\\Deleted" ∷ []) ∷ (SetFlag (codes "\\Seen" ∷ []) ∷ []))) ≡ done (flagged (codes "INBOX") (codes "\\Seen") ∷ [])
-set_anew truth = refl
+set_anew : (asking : TestAsking) → outcome asking (in_row (AddFlag (codes "\\Deleted" ∷ []) ∷ (SetFlag (codes "\\Seen" ∷ []) ∷ []))) ≡ done (flagged (codes "INBOX") (codes "\\Seen") ∷ [])
+set_anew asking = refl
 
-taken_away : (truth : RunState → MailCheck → Bool) → outcome truth (in_row (AddFlag (codes "\\Deleted foo" ∷ []) ∷ (RemoveFlag (codes "FOO" ∷ []) ∷ []))) ≡ done (flagged (codes "INBOX") (codes "\\Deleted") ∷ [])
-taken_away truth = refl
+taken_away : (asking : TestAsking) → outcome asking (in_row (AddFlag (codes "\\Deleted foo" ∷ []) ∷ (RemoveFlag (codes "FOO" ∷ []) ∷ []))) ≡ done (flagged (codes "INBOX") (codes "\\Deleted") ∷ [])
+taken_away asking = refl
 
 -- a copy has the flags that are set when it is filed: what is set behind it is for the next one
-filed_first : (truth : RunState → MailCheck → Bool) → outcome truth (in_row (FileInto (record { mailbox = codes "x"; copy = true; create = false; flags = None }) ∷ (SetFlag (codes "\\Seen" ∷ []) ∷ []))) ≡ done (into (codes "x") ∷ (flagged (codes "INBOX") (codes "\\Seen") ∷ []))
-filed_first truth = refl
+filed_first : (asking : TestAsking) → outcome asking (in_row (FileInto (record { mailbox = codes "x"; copy = true; create = false; flags = None }) ∷ (SetFlag (codes "\\Seen" ∷ []) ∷ []))) ≡ done (into (codes "x") ∷ (flagged (codes "INBOX") (codes "\\Seen") ∷ []))
+filed_first asking = refl
 
 -- `:flags` stands for them, even where it names none (RFC 5232, 5), and they stay
-given_in_place : (truth : RunState → MailCheck → Bool) → outcome truth (in_row (SetFlag (codes "\\Seen" ∷ []) ∷ (FileInto (record { mailbox = codes "x"; copy = true; create = false; flags = Some (codes "\\Deleted" ∷ []) }) ∷ []))) ≡ done (flagged (codes "x") (codes "\\Deleted") ∷ (flagged (codes "INBOX") (codes "\\Seen") ∷ []))
-given_in_place truth = refl
+given_in_place : (asking : TestAsking) → outcome asking (in_row (SetFlag (codes "\\Seen" ∷ []) ∷ (FileInto (record { mailbox = codes "x"; copy = true; create = false; flags = Some (codes "\\Deleted" ∷ []) }) ∷ []))) ≡ done (flagged (codes "x") (codes "\\Deleted") ∷ (flagged (codes "INBOX") (codes "\\Seen") ∷ []))
+given_in_place asking = refl
 
-given_none : (truth : RunState → MailCheck → Bool) → outcome truth (in_row (SetFlag (codes "\\Seen" ∷ []) ∷ (Keep (Some (codes "" ∷ [])) ∷ []))) ≡ done (into (codes "INBOX") ∷ [])
-given_none truth = refl
+given_none : (asking : TestAsking) → outcome asking (in_row (SetFlag (codes "\\Seen" ∷ []) ∷ (Keep (Some (codes "" ∷ [])) ∷ []))) ≡ done (into (codes "INBOX") ∷ [])
+given_none asking = refl
 
 -- one copy in a mailbox, where it was, with the flags of the last filing (RFC 5232), be there none
-filed_once : (truth : RunState → MailCheck → Bool) → outcome truth (in_row (Keep None ∷ (SetFlag (codes "\\Seen" ∷ []) ∷ (Keep None ∷ [])))) ≡ done (flagged (codes "INBOX") (codes "\\Seen") ∷ [])
-filed_once truth = refl
+filed_once : (asking : TestAsking) → outcome asking (in_row (Keep None ∷ (SetFlag (codes "\\Seen" ∷ []) ∷ (Keep None ∷ [])))) ≡ done (flagged (codes "INBOX") (codes "\\Seen") ∷ [])
+filed_once asking = refl
 
-bared : (truth : RunState → MailCheck → Bool) → outcome truth (in_row (SetFlag (codes "\\Seen" ∷ []) ∷ (Keep None ∷ (Keep (Some (codes "" ∷ [])) ∷ [])))) ≡ done (into (codes "INBOX") ∷ [])
-bared truth = refl
+bared : (asking : TestAsking) → outcome asking (in_row (SetFlag (codes "\\Seen" ∷ []) ∷ (Keep None ∷ (Keep (Some (codes "" ∷ [])) ∷ [])))) ≡ done (into (codes "INBOX") ∷ [])
+bared asking = refl
 
 -- `x`
 abbrev copied : Action
 copied = FileInto (record { mailbox = codes "x"; copy = true; create = false; flags = None })
 
-filed_first_again : (truth : RunState → MailCheck → Bool) → outcome truth (in_row (copied ∷ (Keep None ∷ (SetFlag (codes "\\Seen" ∷ []) ∷ (copied ∷ []))))) ≡ done (flagged (codes "x") (codes "\\Seen") ∷ (into (codes "INBOX") ∷ []))
-filed_first_again truth = refl
+filed_first_again : (asking : TestAsking) → outcome asking (in_row (copied ∷ (Keep None ∷ (SetFlag (codes "\\Seen" ∷ []) ∷ (copied ∷ []))))) ≡ done (flagged (codes "x") (codes "\\Seen") ∷ (into (codes "INBOX") ∷ []))
+filed_first_again asking = refl
 
 -- the implicit keep is the last filing
-kept_last : (truth : RunState → MailCheck → Bool) → outcome truth (in_row (FileInto (record { mailbox = codes "inbox"; copy = true; create = false; flags = None }) ∷ (SetFlag (codes "\\Seen" ∷ []) ∷ []))) ≡ done (flagged (codes "INBOX") (codes "\\Seen") ∷ [])
-kept_last truth = refl
+kept_last : (asking : TestAsking) → outcome asking (in_row (FileInto (record { mailbox = codes "inbox"; copy = true; create = false; flags = None }) ∷ (SetFlag (codes "\\Seen" ∷ []) ∷ []))) ≡ done (flagged (codes "INBOX") (codes "\\Seen") ∷ [])
+kept_last asking = refl
 
 -- ---- what a test sees
 
@@ -163,14 +165,14 @@ asks_for_a so_far check = has so_far.flags (codes "A")
 -- an action, `if hasflag "a" { discard; }`, and another action
 abbrev asking : Action → Action → Commands
 asking before behind =
-    command (act before) (command (choose (branch (looks (Q.HasFlag (record { comparator = L.AsciiCasemap; matching = M.Is; keys = codes "a" ∷ [] })))
+    command (act before) (command (choose (branch (looks (Q.Extension (X.HasFlag (record { comparator = L.AsciiCasemap; matching = M.Is; keys = codes "a" ∷ [] }))))
     (command (act Discard) no_commands) no_branches)) (command (act behind) no_commands))
 
 -- what is set before it is seen, and what is set behind it isn't
-seen_before : outcome asks_for_a (asking (SetFlag (codes "A" ∷ [])) (SetFlag (codes "B" ∷ []))) ≡ done []
+seen_before : outcome (asking_at asks_for_a) (asking (SetFlag (codes "A" ∷ [])) (SetFlag (codes "B" ∷ []))) ≡ done []
 seen_before = refl
 
-not_seen_behind : outcome asks_for_a (asking (SetFlag (codes "B" ∷ [])) (SetFlag (codes "A" ∷ []))) ≡ done (flagged (codes "INBOX") (codes "A") ∷ [])
+not_seen_behind : outcome (asking_at asks_for_a) (asking (SetFlag (codes "B" ∷ [])) (SetFlag (codes "A" ∷ []))) ≡ done (flagged (codes "INBOX") (codes "A") ∷ [])
 not_seen_behind = refl
 
 -- and so it is with the actions that are run

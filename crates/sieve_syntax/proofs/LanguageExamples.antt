@@ -1,5 +1,5 @@
 -- Examples of languages, smaller and larger ones: texts that mean a tree in both, and near misses.
-use Rattle.std.proofs.Common.{◌≡◌, ◌+◌, ◌<◌, ℕ, zero, suc, Bool, true, false, List, [], ◌∷◌, length, take, get_or, Option, Some, None, refl, ap, sym, subst, arith, lit<, lit≤}
+use Rattle.std.proofs.Common.{◌≡◌, ◌+◌, ◌<◌, ℕ, zero, suc, Bool, true, false, List, [], ◌∷◌, length, take, get_or, refl, ap, sym, subst, arith, lit<, lit≤}
 use Rattle.std.specs.Prelude.{codes, All}
 use Rattle.mail_address.specs.declared.address.Addr.{Addr}
 use Rattle.mail_address.specs.Outbound.{IsOutbound}
@@ -43,7 +43,7 @@ use Rattle.sieve_syntax.specs.Languages.{lexeme_in, read_in}
 use Rattle.sieve_syntax.specs.Lexemes.{Lexeme, keyword, tag, text, mark, misfit, lexemes_of}
 use Rattle.sieve_syntax.specs.Means.{MeansIn, Means}
 use Rattle.sieve_syntax.specs.Tree.{looks, CommandTree, require, choose, act, no_branches, branch, Commands, no_commands, command}
-use Rattle.sieve_syntax.specs.Vacations.{IsNamedAs}
+use Rattle.sieve_syntax.specs.NamedAddresses.{IsNamedAs}
 use Rattle.sieve_syntax.proofs.LanguageLaws.{still_means}
 use Rattle.sieve_syntax.proofs.LanguageLemmas.{script_known}
 use Rattle.sieve_syntax.proofs.ScriptExamples.{plain_text}

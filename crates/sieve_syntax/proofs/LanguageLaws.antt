@@ -1,6 +1,6 @@
 -- A text that is a script where some capabilities are offered is one where more are, and says the same.
-use Rattle.std.proofs.Common.{◌≡◌, ◌||◌, ℕ, zero, suc, Bool, true, false, cond, List, [], ◌∷◌, Option, Some, None, refl, sym, ap, subst, ◌∙◌, arith}
-use Rattle.std.specs.Prelude.{All, slice_index_or, codes, is_some}
+use Rattle.std.proofs.Common.{◌≡◌, ◌||◌, ℕ, suc, Bool, true, false, cond, List, [], ◌∷◌, Option, Some, None, refl, sym, ap, ◌∙◌, arith}
+use Rattle.std.specs.Prelude.{All, slice_index_or, is_some}
 use Rattle.std.specs.List.{list_any}
 use Rattle.std.proofs.lemmas.Slice.Eq.{bytes_eq-Decides}
 use Rattle.sieve_lex.specs.Contents.{contents_of}
@@ -9,40 +9,29 @@ use Rattle.sieve_syntax.specs.declared.capability.Capability.{Capability}
 use Rattle.sieve_syntax.specs.declared.capability.Capability.TheVariants as C
 use Rattle.sieve_syntax.specs.declared.tree.action.Action.{Action}
 use Rattle.sieve_syntax.specs.declared.tree.action.Action.TheVariants.{Keep, Discard, FileInto, Redirect, Vacation, SetFlag, AddFlag, RemoveFlag}
-use Rattle.sieve_syntax.specs.declared.tree.checks.AddressPart.{AddressPart}
-use Rattle.sieve_syntax.specs.declared.tree.checks.Collation.{Collation}
-use Rattle.sieve_syntax.specs.declared.tree.checks.Matching.{Matching}
 use Rattle.sieve_syntax.specs.declared.tree.checks.MailCheck.{MailCheck}
-use Rattle.sieve_syntax.specs.declared.tree.checks.MailCheck.TheVariants.{Size, Exists, Header, Address, Envelope, MailboxExists, Date, CurrentDate, HasFlag}
+use Rattle.sieve_syntax.specs.declared.tree.checks.MailCheck.TheVariants.{Size, Exists, Header, Address, Extension}
 use Rattle.sieve_syntax.specs.Capabilities.{Capabilities, IsWithin, KnowsName, all_capabilities, capability_name, capability_named, granted_by, is_name_of, is_in_set}
-use Rattle.sieve_syntax.specs.Decoding.{as_read, is_encoded_character}
+use Rattle.sieve_syntax.specs.Extension.EncodedCharacter.{as_read, is_encoded_character}
 use Rattle.sieve_syntax.specs.Grammar.{ReadsScript}
 use Rattle.sieve_syntax.specs.Growth.{EachAction, EachInBranches, EachIn, EachCheck, EachCheckOf, EachAsks, EachAsksInBranches, EachAsksIn, UsesOnly, StillMeans}
 use Rattle.sieve_syntax.specs.Languages.{lexemes_in, read_in}
 use Rattle.sieve_syntax.specs.Means.{MeansIn}
 use Rattle.sieve_syntax.specs.Tree.{TestTree, yes, no, looks, not_of, all_of, any_of, Tests, no_tests, test, CommandTree, require, choose, stop, act, Branches, no_branches, branch, Commands, no_commands, command}
-use Rattle.sieve_syntax.specs.Valid.{Permits, may_use_vacation, MayNamePart, MayMatch, MayCheck, MayTest, MayAllTest, MayAct, MayStand, MayBranch, MayAllStand, required, after_requires, IsValid, IsValidIn}
+use Rattle.sieve_syntax.specs.Valid.{MayCheck, MayTest, MayAllTest, MayAct, MayStand, MayBranch, MayAllStand, required, after_requires, IsValid, IsValidIn}
 use Rattle.sieve_syntax.proofs.DecodingLemmas.{read_as_written}
 use Rattle.sieve_syntax.proofs.LanguageLemmas.{read_grows, decoded_grows}
 use Rattle.sieve_syntax.proofs.MeansLaws.{means_one}
+use Rattle.sieve_syntax.proofs.ExtensionLaws.{ask_grows}
+use Rattle.sieve_syntax.proofs.ExtensionLaws.FileInto.{file_into_grows}
+use Rattle.sieve_syntax.proofs.GrowthLemmas.{permits_grow, part_grows, match_grows}
+use Rattle.sieve_syntax.proofs.VacationLemmas.{reply_grows}
 
 -- ---- names of capabilities
 
 name_is : (c : Capability) → capability_named (capability_name c) ≡ Some c
 name_is C.FileInto = refl
-name_is C.Envelope = refl
-name_is C.Vacation = refl
-name_is C.Octet = refl
-name_is C.AsciiCasemap = refl
-name_is C.Copy = refl
-name_is C.VacationSeconds = refl
-name_is C.Subaddress = refl
-name_is C.Relational = refl
-name_is C.AsciiNumeric = refl
-name_is C.EncodedCharacter = refl
-name_is C.Mailbox = refl
-name_is C.Date = refl
-name_is C.Imap4flags = refl
+name_is _ = refl
 
 -- a name that is a capability's is that one's alone
 named_is : (c : Capability) (name : List ℕ) → is_name_of c name ≡ true → capability_named name ≡ Some c
@@ -76,50 +65,22 @@ granted_within offered (name ∷ more) all c is =
 -- ---- what is permitted where few are granted is permitted where more are
 
 module _ (few more : Capabilities) (within : IsWithin few more) where
-  permits_grow : (c : Capability) (used : Bool) → Permits (few c) used → Permits (more c) used
-  permits_grow c used permits = λ is. within c (permits is)
-
-  vacation_grows : may_use_vacation few ≡ true → may_use_vacation more ≡ true
-  vacation_grows is = step (few C.Vacation) (more C.Vacation) (few C.VacationSeconds) (more C.VacationSeconds) (within C.Vacation) (within C.VacationSeconds) is
-    where
-      step : (a b c d : Bool) → (a ≡ true → b ≡ true) → (c ≡ true → d ≡ true) → (a || c) ≡ true → (b || d) ≡ true
-      step true true c d one two is = refl
-      step true false c d one two is = let bad : false ≡ true = one refl in absurd (cc bad)
-      step false true c d one two is = refl
-      step false false c d one two is = two is
-
   act_grows : (action : Action) → MayAct few action → MayAct more action
-  act_grows (Keep given) may = permits_grow C.Imap4flags (is_some given) may
+  act_grows (Keep given) may = permits_grow few more within C.Imap4flags (is_some given) may
   act_grows Discard may = tt
-  act_grows (FileInto filing) may = (
-    within C.FileInto may.0,
-    permits_grow C.Copy filing.copy may.1,
-    permits_grow C.Mailbox filing.create may.2,
-    permits_grow C.Imap4flags (is_some filing.flags) may.3,
-    may.4,
-  )
-  act_grows (Redirect redirect) may = permits_grow C.Copy redirect.copy may
-  act_grows (Vacation args) may = (vacation_grows may.0, permits_grow C.VacationSeconds (is_some args.seconds) may.1, may.2)
+  act_grows (FileInto filing) may = file_into_grows few more within filing may
+  act_grows (Redirect redirect) may = permits_grow few more within C.Copy redirect.copy may
+  act_grows (Vacation args) may = reply_grows few more within args may
   act_grows (SetFlag texts) may = within C.Imap4flags may
   act_grows (AddFlag texts) may = within C.Imap4flags may
   act_grows (RemoveFlag texts) may = within C.Imap4flags may
 
-  part_grows : (part : AddressPart) → MayNamePart few part → MayNamePart more part
-  part_grows part may = λ is. within C.Subaddress (may is)
-
-  match_grows : (comparator : Collation) (matching : Matching) → MayMatch few comparator matching → MayMatch more comparator matching
-  match_grows comparator matching may = (λ is. within C.Relational (may.0 is), λ is. within C.AsciiNumeric (may.1 is), may.2)
-
   check_grows : (check : MailCheck) → MayCheck few check → MayCheck more check
   check_grows (Size size) may = tt
   check_grows (Exists fields) may = tt
-  check_grows (Header header) may = match_grows header.comparator header.matching may
-  check_grows (Address address) may = (part_grows address.part may.0, match_grows address.comparator address.matching may.1)
-  check_grows (Envelope envelope) may = (within C.Envelope may.0, part_grows envelope.part may.1, match_grows envelope.comparator envelope.matching may.2)
-  check_grows (MailboxExists names) may = within C.Mailbox may
-  check_grows (Date date) may = (within C.Date may.0, match_grows date.comparator date.matching may.1)
-  check_grows (CurrentDate current) may = (within C.Date may.0, match_grows current.comparator current.matching may.1)
-  check_grows (HasFlag flag) may = (within C.Imap4flags may.0, match_grows flag.comparator flag.matching may.1)
+  check_grows (Header header) may = match_grows few more within header.comparator header.matching may
+  check_grows (Address address) may = (part_grows few more within address.part may.0, match_grows few more within address.comparator address.matching may.1)
+  check_grows (Extension extended) may = ask_grows few more within extended may
 
 -- what is so of each action that may stand is so of each in a tree that may
 module _ (P : Action → Type 0) (granted : Capabilities) (each : (action : Action) → MayAct granted action → P action) where

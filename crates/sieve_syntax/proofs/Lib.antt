@@ -3,6 +3,10 @@ pub mod Chains
 pub mod FaultLemmas
 pub mod TagLemmas
 pub mod TableLemmas
+pub mod RowLemmas
+pub mod KnownLemmas
+pub mod GrowthLemmas
+pub mod ExtensionLaws
 pub mod ReasonLemmas
 pub mod VacationLemmas
 pub mod ViewLemmas
@@ -18,6 +22,8 @@ pub mod ScriptExamples
 pub mod DateExamples
 pub mod TraceLemmas
 pub mod OutcomeLemmas
+pub mod LookingLemmas
+mod AskingExamples
 pub mod EntityLemmas
 pub mod DecodingLemmas
 pub mod CapabilityLemmas

@@ -7,7 +7,7 @@ use Rattle.sieve_lex.specs.declared.token.Token.{Token}
 use Rattle.sieve_lex.specs.Finding.{OnFault}
 use Rattle.sieve_lex.specs.Spelling.{SpellsTokens}
 use Rattle.sieve_lex.specs.Contents.{contents_of}
-use Rattle.sieve_syntax.specs.Decoding.{as_read}
+use Rattle.sieve_syntax.specs.Extension.EncodedCharacter.{as_read}
 use Rattle.sieve_syntax.specs.Lexemes.{lexemes_of}
 use Rattle.sieve_syntax.specs.Tree.{Commands}
 use Rattle.sieve_syntax.specs.Grammar.{ReadsScript}

@@ -17,9 +17,10 @@ use Rattle.mail_address.specs.declared.address.Addr.{Addr}
 use Rattle.sieve_syntax.specs.declared.tree.action.Action.{Action}
 use Rattle.sieve_syntax.specs.declared.tree.action.Action.TheVariants.{Keep, Discard, FileInto, Redirect, Vacation, SetFlag, AddFlag, RemoveFlag}
 use Rattle.sieve_syntax.specs.declared.tree.checks.MailCheck.{MailCheck}
-use Rattle.sieve_syntax.specs.declared.tree.vacation.VacationArgs.{VacationArgs}
+use Rattle.sieve_syntax.specs.declared.extension.vacation.VacationArgs.{VacationArgs}
 use Rattle.sieve_syntax.specs.RunState.{RunState, at_first, max_targets, max_mailboxes, TwoVacations, TooManyRedirects, TooManyMailboxes, Flow, Going, Stopped, Failed, and_then, inbox, mailbox_named, is_filed, has_room, with_filed, flags_given, cancelled_after, filed_into, same_target, sent_to, replied_by, performed}
-use Rattle.sieve_syntax.specs.Meaning.{Actions, actions_of, done_by, outcome_after, outcome}
+use Rattle.sieve_syntax.specs.Looking.{outcome_by}
+use Rattle.sieve_syntax.specs.Meaning.{Actions, actions_of, done_by, outcome_after}
 use Rattle.sieve_syntax.specs.Trace.{actions_run, in_turn, KeepsImplicitly, OnDone, NamesWithoutRepeats, FilesIntoInboxAlone, NamesFlags, FilesWithFlags}
 use Rattle.sieve_syntax.specs.Tree.{Commands}
 use Rattle.sieve_syntax.proofs.TraceLemmas.{outcome_in_turn}
@@ -206,7 +207,7 @@ orderly (AddFlag texts) state may so = record { mailboxes = so.mailboxes; addres
 orderly (RemoveFlag texts) state may so = record { mailboxes = so.mailboxes; addresses = so.addresses; few_mailboxes = so.few_mailboxes; few_addresses = so.few_addresses }
 
 -- each mailbox and each address once
-pub named_once : (truth : RunState → MailCheck → Bool) (commands : Commands) → OnDone NamesWithoutRepeats (outcome truth commands)
+pub named_once : (truth : RunState → MailCheck → Bool) (commands : Commands) → OnDone NamesWithoutRepeats (outcome_by truth commands)
 unfolding IsDistinct
 named_once truth commands =
     subst (OnDone NamesWithoutRepeats) (sym (outcome_in_turn truth commands))
@@ -246,7 +247,7 @@ untouched_end state so = step state.filed state.cancelled so.filed so.kept
     step (one ∷ more) cancelled none kept = absurd (cc none)
 
 -- the implicit keep alone
-pub implicitly_kept : (truth : RunState → MailCheck → Bool) (commands : Commands) → All KeepsImplicitly (actions_run truth commands) → OnDone FilesIntoInboxAlone (outcome truth commands)
+pub implicitly_kept : (truth : RunState → MailCheck → Bool) (commands : Commands) → All KeepsImplicitly (actions_run truth commands) → OnDone FilesIntoInboxAlone (outcome_by truth commands)
 implicitly_kept truth commands all =
     subst (OnDone FilesIntoInboxAlone) (sym (outcome_in_turn truth commands))
     (step (in_turn (actions_run truth commands) at_first)
@@ -303,7 +304,7 @@ flagged_action (SetFlag texts) state may so = record { flags = added_flags [] te
 flagged_action (AddFlag texts) state may so = record { flags = added_flags state.flags texts so.flags; filed = so.filed }
 flagged_action (RemoveFlag texts) state may so = record { flags = removed_flags state.flags texts so.flags; filed = so.filed }
 
-pub flags_named : (truth : RunState → MailCheck → Bool) (commands : Commands) → OnDone FilesWithFlags (outcome truth commands)
+pub flags_named : (truth : RunState → MailCheck → Bool) (commands : Commands) → OnDone FilesWithFlags (outcome_by truth commands)
 flags_named truth commands =
     subst (OnDone FilesWithFlags) (sym (outcome_in_turn truth commands))
     (in_the_end IsFlagged FilesWithFlags (λ state so. record { named = so.filed }) (λ state so. flagged_filed inbox None true state so)

@@ -16,33 +16,16 @@ use Rattle.sieve_syntax.specs.Steps.{TakesAfter}
 -- an `if` is no statement
 not_choose : (name : Keyword) (args : List Argument) (branches : Branches) → IsPlainCommand name args (choose branches) → ⊥
 not_choose W.Require args chosen is = let e = is.tree_is in cc
-not_choose W.If args chosen is = is
-not_choose W.Elsif args chosen is = is
-not_choose W.Else args chosen is = is
 not_choose W.Stop args chosen is = let e = is.tree_is in cc
 not_choose W.Keep args chosen is = let e = is.tree_is in cc
 not_choose W.Discard args chosen is = let e = is.tree_is in cc
 not_choose W.FileInto args chosen is = let e = is.tree_is in cc
 not_choose W.Redirect args chosen is = let e = is.tree_is in cc
 not_choose W.Vacation args chosen is = let e = is.tree_is in cc
-not_choose W.True args chosen is = is
-not_choose W.False args chosen is = is
-not_choose W.Not args chosen is = is
-not_choose W.AllOf args chosen is = is
-not_choose W.AnyOf args chosen is = is
-not_choose W.Size args chosen is = is
-not_choose W.Exists args chosen is = is
-not_choose W.MailboxExists args chosen is = is
-not_choose W.Date args chosen is = is
-not_choose W.CurrentDate args chosen is = is
 not_choose W.SetFlag args chosen is = let e = is.tree_is in cc
 not_choose W.AddFlag args chosen is = let e = is.tree_is in cc
 not_choose W.RemoveFlag args chosen is = let e = is.tree_is in cc
-not_choose W.HasFlag args chosen is = is
-not_choose W.Header args chosen is = is
-not_choose W.Address args chosen is = is
-not_choose W.Envelope args chosen is = is
-not_choose W.Other args chosen is = is
+not_choose _ args chosen is = is
 
 -- a statement has no block
 plain_depth : (name : Keyword) (args : List Argument) (tree : CommandTree) (room : ℕ) → IsPlainCommand name args tree → depth_of tree ≤ room

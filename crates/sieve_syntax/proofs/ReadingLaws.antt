@@ -1,41 +1,26 @@
 -- Lexemes are read as one tree at most.
 use Rattle.std.proofs.Common.{◌≡◌, ℕ, List, [], ◌∷◌, refl, sym, ap, ◌∙◌, subst, inl, inr}
-use Rattle.octets.proofs.Lists.{some_is}
 use Rattle.sieve_lex.specs.declared.token.Mark.{Mark}
 use Rattle.sieve_lex.specs.declared.token.Mark.TheVariants as K
 use Rattle.sieve_syntax.specs.declared.table.keyword.Keyword.{Keyword}
 use Rattle.sieve_syntax.specs.declared.table.keyword.Keyword.TheVariants as W
 use Rattle.sieve_syntax.specs.declared.parser.argument.Argument.{Argument}
 use Rattle.sieve_syntax.specs.declared.parser.argument.Argument.TheVariants as A
-use Rattle.sieve_syntax.specs.declared.table.tag_group.TagValue.{TagValue}
-use Rattle.sieve_syntax.specs.declared.table.tag_group.TagGroup.{TagGroup}
 use Rattle.sieve_syntax.specs.Arguments.{IsOther, AreStrings, IsArgument, IsArgumentsEnd, AreArguments}
 use Rattle.sieve_syntax.specs.Chains.{Chain}
 use Rattle.sieve_syntax.specs.Lexemes.{Lexeme, keyword, text, mark}
 use Rattle.sieve_syntax.specs.Grammar.{Braced, IsPastBranches, Tested, IsStatement, IsCommand, IsChoice, AreBranches, AreCommands, ReadsScript}
 use Rattle.sieve_syntax.specs.Steps.{IsStop}
-use Rattle.sieve_syntax.specs.Table.{IsList, IsTableRow, IsPlainTest, IsPlainCommand}
-use Rattle.sieve_syntax.specs.Tags.{IsAllowed, BeginsUntagged as IsPositional, IsSplit, IsCall}
+use Rattle.sieve_syntax.specs.Table.{IsPlainTest, IsPlainCommand}
 use Rattle.sieve_syntax.specs.Tests.{Headed, Marked, IsLeafTest, IsTest, AreTests, AreMoreTests, ReadsTest}
 use Rattle.sieve_syntax.specs.Tree.{TestTree, yes, no, looks, not_of, all_of, any_of, Tests, no_tests, test, CommandTree, require, choose, stop, act, Branches, no_branches, branch, Commands, no_commands, command}
 use Rattle.sieve_syntax.proofs.ArgumentLemmas.{IsMarked, end_none}
-use Rattle.sieve_syntax.proofs.TagLemmas.{tag_value_only, plain_none}
 use Rattle.sieve_syntax.proofs.TestLemmas.{is_plain}
-use Rattle.sieve_syntax.proofs.TableLemmas.{size_same, header_same, address_same, envelope_same, date_same, current_date_same, has_flag_same, keep_same}
-use Rattle.sieve_syntax.proofs.VacationLemmas.{file_into_same, redirect_same, vacation_same}
-
--- things one after another, up to where they are done, are one list
-module _ {X L : Type 0} (one : X → List L → List L → Type 0) (done : List L → Type 0)
-    (each : (x y : X) (from to end : List L) → one x from to → one y from end → (x ≡ y) × (to ≡ end))
-    (stops : (x : X) (from to : List L) → done from → one x from to → ⊥) where
-  pub chain_same : (xs ys : List X) (from to end : List L) → Chain one xs from to → done to → Chain one ys from end → done end → (xs ≡ ys) × (to ≡ end)
-  chain_same [] [] from to end a p b q = (refl, sym a ∙ b)
-  chain_same [] (y ∷ ys) from to end a p b q = absurd (stops y from b.0 (subst done (sym a) p) b.1.0)
-  chain_same (x ∷ xs) [] from to end a p b q = absurd (stops x from a.0 (subst done (sym b) q) a.1.0)
-  chain_same (x ∷ xs) (y ∷ ys) from to end a p b q =
-      let same = each x y from a.0 b.0 a.1.0 b.1.0 in
-      let later = chain_same xs ys b.0 to end (subst (λ l. Chain one xs l to) same.1 a.1.1) p b.1.1 q in
-      (ap (λ z. z ∷ xs) same.0 ∙ ap (λ zs. y ∷ zs) later.0, later.1)
+use Rattle.sieve_syntax.proofs.TableLemmas.{size_same, header_same, address_same, keep_same}
+use Rattle.sieve_syntax.proofs.VacationLemmas.{redirect_same, vacation_same}
+use Rattle.sieve_syntax.proofs.ExtensionLaws.FileInto.{file_into_same}
+use Rattle.sieve_syntax.proofs.RowLemmas.{chain_same, call_same, list_same, row_same}
+use Rattle.sieve_syntax.proofs.ExtensionLaws.{extension_test_same}
 
 -- the strings of a list
 strings_same : (xs ys : List (List ℕ)) (from to end : List Lexeme) → AreStrings xs from to → AreStrings ys from end → (xs ≡ ys) × (to ≡ end)
@@ -76,38 +61,15 @@ argument_same (A.Strings s) (A.Strings t) from to end p q =
 arguments_same : (xs ys : List Argument) (from to end : List Lexeme) → AreArguments xs from to → AreArguments ys from end → (xs ≡ ys) × (to ≡ end)
 arguments_same xs ys from to end a b = chain_same IsArgument IsArgumentsEnd argument_same (λ x l m p q. end_none l p x m q) xs ys from to end a.spelled a.all b.spelled b.all
 
--- tagged arguments and positional ones
-split_same : (allowed : List TagGroup) (args : List Argument) (s t : List TagValue) (p q : List Argument) → IsSplit allowed args s p → IsSplit allowed args t q → (s ≡ t) × (p ≡ q)
-split_same allowed args s t p q a b =
-    chain_same (IsAllowed allowed) IsPositional (λ x y l m n c d. let same = tag_value_only x y l m n c.0 d.0 in (sym same.0, sym same.1)) (λ x l m c d. plain_none x l m d.0 c)
-    s t args p q a.written a.plain b.written b.plain
-
-call_same : {X : Type 0} (allowed : List TagGroup) (Says : List TagValue → List Argument → X → Type 0) → ((tag_values : List TagValue) (positional : List Argument) (x y : X) → Says tag_values positional x → Says tag_values positional y → x ≡ y)
-    → (args : List Argument) (x y : X) → IsCall allowed Says args x → IsCall allowed Says args y → x ≡ y
-call_same allowed Says one args x y a b =
-    let same = split_same allowed args a.tag_values b.tag_values a.positional b.positional a.split_tags b.split_tags in
-    one b.tag_values b.positional x y (subst (λ p. Says b.tag_values p x) same.1 (subst (λ s. Says s a.positional x) same.0 a.says)) b.says
-
-list_same : (args : List Argument) (x y : List (List ℕ)) → IsList args x → IsList args y → x ≡ y
-list_same = call_same _ _ (λ tag_values positional x y a b. some_is x y (sym a ∙ b))
-
-row_same : {X T : Type 0} (Is : List Argument → X → Type 0) (make : X → T) (args : List Argument) → ((x y : X) → Is args x → Is args y → x ≡ y) → (t u : T) → IsTableRow Is make args t → IsTableRow Is make args u → t ≡ u
-row_same Is make args one t u a b = a.tree_is ∙ (ap make (one a.value b.value a.is b.is) ∙ sym b.tree_is)
-
 -- the rows of the table
 plain_test_same : (name : Keyword) (args : List Argument) (t u : TestTree) → IsPlainTest name args t → IsPlainTest name args u → t ≡ u
 plain_test_same W.True args t u a b = a.tree_is ∙ sym b.tree_is
 plain_test_same W.False args t u a b = a.tree_is ∙ sym b.tree_is
 plain_test_same W.Size args t u a b = row_same _ _ args (call_same _ _ size_same args) t u a b
 plain_test_same W.Exists args t u a b = row_same _ _ args (list_same args) t u a b
-plain_test_same W.MailboxExists args t u a b = row_same _ _ args (list_same args) t u a b
-plain_test_same W.Date args t u a b = row_same _ _ args (call_same _ _ date_same args) t u a b
-plain_test_same W.CurrentDate args t u a b = row_same _ _ args (call_same _ _ current_date_same args) t u a b
-plain_test_same W.HasFlag args t u a b = row_same _ _ args (call_same _ _ has_flag_same args) t u a b
 plain_test_same W.Header args t u a b = row_same _ _ args (call_same _ _ header_same args) t u a b
 plain_test_same W.Address args t u a b = row_same _ _ args (call_same _ _ address_same args) t u a b
-plain_test_same W.Envelope args t u a b = row_same _ _ args (call_same _ _ envelope_same args) t u a b
-plain_test_same _ args t u a b = absurd a
+plain_test_same word args t u a b = row_same _ _ args (extension_test_same word args) t u a b
 
 plain_command_same : (name : Keyword) (args : List Argument) (t u : CommandTree) → IsPlainCommand name args t → IsPlainCommand name args u → t ≡ u
 plain_command_same W.Require args t u a b = row_same _ _ args (list_same args) t u a b
@@ -145,29 +107,29 @@ plain_same t u name after to end a b =
 leaf_same : (t u : TestTree) (name : Keyword) (after to end : List Lexeme) → IsLeafTest t name after to → IsTest u name after end → (t ≡ u) × (to ≡ end)
 leaf_same t u name after to end a b =
     let other : (w : Keyword) → name ≡ w → IsPlainTest w a.0 t = λ w e. subst (λ v. IsPlainTest v a.0 t) e a.1.1 in
-    plain_same t u name after to end a (is_plain name (other W.Not) (other W.AllOf) (other W.AnyOf) after u end b)
+    plain_same t u name after to end a (is_plain name (λ e. (other W.Not e).is) (λ e. (other W.AllOf e).is) (λ e. (other W.AnyOf e).is) after u end b)
 
 module _ (name : Keyword) (after end : List Lexeme) where
   not_inside : (u : TestTree) → name ≡ W.Not → IsTest u name after end → (inner : TestTree) × ((u ≡ not_of inner) × ReadsTest inner after end)
-  not_inside yes e b = absurd (subst (λ w. IsPlainTest w b.0 yes) e b.1.1)
-  not_inside no e b = absurd (subst (λ w. IsPlainTest w b.0 no) e b.1.1)
-  not_inside (looks check) e b = absurd (subst (λ w. IsPlainTest w b.0 (looks check)) e b.1.1)
+  not_inside yes e b = absurd (subst (λ w. IsPlainTest w b.0 yes) e b.1.1).is
+  not_inside no e b = absurd (subst (λ w. IsPlainTest w b.0 no) e b.1.1).is
+  not_inside (looks check) e b = absurd (subst (λ w. IsPlainTest w b.0 (looks check)) e b.1.1).is
   not_inside (not_of inner) e b = (inner, (refl, b.1))
   not_inside (all_of inner) e b = let bad : W.Not ≡ W.AllOf = sym e ∙ b.0 in absurd cc
   not_inside (any_of inner) e b = let bad : W.Not ≡ W.AnyOf = sym e ∙ b.0 in absurd cc
 
   all_inside : (u : TestTree) → name ≡ W.AllOf → IsTest u name after end → (inner : Tests) × ((u ≡ all_of inner) × Marked K.OpenParen (λ inside. AreTests inner inside end) after)
-  all_inside yes e b = absurd (subst (λ w. IsPlainTest w b.0 yes) e b.1.1)
-  all_inside no e b = absurd (subst (λ w. IsPlainTest w b.0 no) e b.1.1)
-  all_inside (looks check) e b = absurd (subst (λ w. IsPlainTest w b.0 (looks check)) e b.1.1)
+  all_inside yes e b = absurd (subst (λ w. IsPlainTest w b.0 yes) e b.1.1).is
+  all_inside no e b = absurd (subst (λ w. IsPlainTest w b.0 no) e b.1.1).is
+  all_inside (looks check) e b = absurd (subst (λ w. IsPlainTest w b.0 (looks check)) e b.1.1).is
   all_inside (not_of inner) e b = let bad : W.AllOf ≡ W.Not = sym e ∙ b.0 in absurd cc
   all_inside (all_of inner) e b = (inner, (refl, b.1))
   all_inside (any_of inner) e b = let bad : W.AllOf ≡ W.AnyOf = sym e ∙ b.0 in absurd cc
 
   any_inside : (u : TestTree) → name ≡ W.AnyOf → IsTest u name after end → (inner : Tests) × ((u ≡ any_of inner) × Marked K.OpenParen (λ inside. AreTests inner inside end) after)
-  any_inside yes e b = absurd (subst (λ w. IsPlainTest w b.0 yes) e b.1.1)
-  any_inside no e b = absurd (subst (λ w. IsPlainTest w b.0 no) e b.1.1)
-  any_inside (looks check) e b = absurd (subst (λ w. IsPlainTest w b.0 (looks check)) e b.1.1)
+  any_inside yes e b = absurd (subst (λ w. IsPlainTest w b.0 yes) e b.1.1).is
+  any_inside no e b = absurd (subst (λ w. IsPlainTest w b.0 no) e b.1.1).is
+  any_inside (looks check) e b = absurd (subst (λ w. IsPlainTest w b.0 (looks check)) e b.1.1).is
   any_inside (not_of inner) e b = let bad : W.AnyOf ≡ W.Not = sym e ∙ b.0 in absurd cc
   any_inside (all_of inner) e b = let bad : W.AnyOf ≡ W.AllOf = sym e ∙ b.0 in absurd cc
   any_inside (any_of inner) e b = (inner, (refl, b.1))

@@ -4,7 +4,7 @@ use Rattle.std.specs.List.{list_all, list_any, concat}
 use Rattle.mail_head.specs.Lines.{lines_of, begins_blank, is_empty_line, logical_lines, header_lines}
 use Rattle.mail_head.specs.Cuts.{CutsLogicalLine, after_empty}
 use Rattle.mail_head.proofs.FoldLemmas.{and_left, and_right, blank_not_empty, header_step}
-use Rattle.sieve_syntax.specs.Reasons.{is_mime_line, is_entity}
+use Rattle.sieve_syntax.specs.Extension.Vacation.Reasons.{is_mime_line, is_entity}
 
 no_empty : (test : Bool) (text : List ℕ) → cond test (Some text) None ≡ None → test ≡ false
 no_empty true text h = absurd (cc h)

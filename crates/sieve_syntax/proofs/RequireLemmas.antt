@@ -1,5 +1,5 @@
 -- Lemmas on the requires at the front, and on whole scripts.
-use Rattle.std.proofs.Common.{◌≡◌, ◌||◌, ℕ, ◌≤◌, ◌<◌, ◌+◌, List, [], ◌∷◌, ◌++◌, append_assoc, length, map, refl, sym, ap, ◌∙◌, subst, arith}
+use Rattle.std.proofs.Common.{◌≡◌, ℕ, ◌≤◌, ◌<◌, ◌+◌, List, [], ◌∷◌, ◌++◌, append_assoc, length, map, refl, sym, ap, ◌∙◌, subst, arith}
 use Rattle.std.specs.List.{list_any, All}
 use Rattle.std.proofs.Common.{length-append}
 use Rattle.std.proofs.Math.ListN.{get_or-append}
@@ -17,7 +17,8 @@ use Rattle.sieve_syntax.specs.Capabilities.{Capabilities, all_capabilities, Know
 use Rattle.sieve_syntax.specs.Lexemes.{Lexeme, keyword, mark}
 use Rattle.sieve_syntax.specs.Arguments.{AreArguments}
 use Rattle.sieve_syntax.specs.Chains.{Chain}
-use Rattle.sieve_syntax.specs.Table.{IsList, IsPlainCommand}
+use Rattle.sieve_syntax.specs.Rows.{IsList}
+use Rattle.sieve_syntax.specs.Table.{IsPlainCommand}
 use Rattle.sieve_syntax.specs.Tree.{CommandTree, require, choose, stop, act, no_branches, branch, Commands, no_commands, command, depth}
 use Rattle.sieve_syntax.specs.View.{commands_of}
 use Rattle.sieve_syntax.specs.Valid.{max_blocks, MayStand, MayAllStand, required, after_requires, IsValid}

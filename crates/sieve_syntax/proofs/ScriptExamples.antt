@@ -30,7 +30,7 @@ use Rattle.sieve_syntax.specs.Chains.{Chain}
 use Rattle.sieve_syntax.specs.Lexemes.{Lexeme, keyword, tag, number, text, mark, lexemes_of}
 use Rattle.sieve_syntax.specs.Arguments.{IsArgument}
 use Rattle.sieve_syntax.specs.Tree.{CommandTree, require, choose, stop, act, no_branches, branch, Commands, no_commands, command}
-use Rattle.sieve_syntax.specs.Decoding.{as_read}
+use Rattle.sieve_syntax.specs.Extension.EncodedCharacter.{as_read}
 use Rattle.sieve_syntax.specs.Grammar.{IsStatement, IsCommand, ReadsScript}
 use Rattle.sieve_syntax.specs.Means.{Means}
 use Rattle.sieve_syntax.proofs.Examples.{keep_bare}

@@ -1,23 +1,17 @@
 -- Lemmas on the rows of the table.
-use Rattle.std.proofs.Common.{◌≡◌, ℕ, List, [], Option, Some, None, Result, Ok, Err, sym, ap, ◌∙◌, subst}
+use Rattle.std.proofs.Common.{◌≡◌, ℕ, List, [], Option, Result, Ok, Err, refl, sym, ap, ◌∙◌, subst}
 use Rattle.octets.proofs.Lists.{some_is, some_pair}
-use Rattle.mail_dates.specs.Parts.{part_named}
 use Rattle.sieve_syntax.specs.declared.error.ParseError.{ParseError}
 use Rattle.sieve_syntax.specs.declared.tree.checks.Size.{Size}
 use Rattle.sieve_syntax.specs.declared.tree.checks.Header.{Header}
 use Rattle.sieve_syntax.specs.declared.tree.checks.Address.{Address}
-use Rattle.sieve_syntax.specs.declared.tree.checks.EnvelopeTest.{EnvelopeTest}
-use Rattle.sieve_syntax.specs.declared.tree.checks.EnvelopeParts.{EnvelopeParts}
-use Rattle.sieve_syntax.specs.declared.tree.checks.DateTest.{DateTest}
-use Rattle.sieve_syntax.specs.declared.tree.checks.CurrentDate.{CurrentDate}
-use Rattle.sieve_syntax.specs.declared.tree.checks.HasFlag.{HasFlag}
 use Rattle.sieve_syntax.specs.declared.parser.argument.Argument.{Argument}
 use Rattle.sieve_syntax.specs.declared.table.tag_group.TagValue.{TagValue}
 use Rattle.sieve_syntax.specs.declared.table.tag_group.TagGroup.{TagGroup}
 use Rattle.sieve_syntax.specs.Parsing.{FindsValue, OnParseFault}
 use Rattle.sieve_syntax.specs.Tags.{IsSplit, IsSplitAlone, IsCall}
-use Rattle.sieve_syntax.specs.Positional.{two_lists, text_and_list, two_texts_and_list}
-use Rattle.sieve_syntax.specs.Table.{SaysSize, SaysHeader, SaysAddress, SaysEnvelope, SaysDate, SaysCurrentDate, SaysHasFlag, SaysKeep, NamesParts, IsTableRow, IsBareWord}
+use Rattle.sieve_syntax.specs.Table.{SaysSize, SaysHeader, SaysAddress, SaysKeep}
+use Rattle.sieve_syntax.specs.Rows.{IsTableRow, IsBareWord}
 use Rattle.sieve_syntax.proofs.FaultLemmas.{fault_on}
 
 -- the rows of words with arguments
@@ -25,6 +19,10 @@ module _ {X T : Type 0} (Is : List Argument → X → Type 0) (make : X → T) (
   -- where the arguments say one thing, the row stands for one tree
   pub row_only : (x : X) → ((y : X) → Is args y → y ≡ x) → (tree : T) → IsTableRow Is make args tree → tree ≡ make x
   row_only x only tree row = row.tree_is ∙ ap make (only row.value row.is)
+
+  -- where they say one thing that fits, it stands for one tree that does
+  pub row_fits : (x : X) → Is args x × May (make x) × ((y : X) → Is args y → y ≡ x) → IsTableRow Is make args (make x) × May (make x) × ((tree : T) → IsTableRow Is make args tree → tree ≡ make x)
+  row_fits x fits = (record { value = x; is = fits.0; tree_is = refl }, fits.1, row_only x fits.2)
 
   -- a fault in the arguments
   pub row_fault : (e : ParseError) → OnParseFault e ((x : X) → Is args x → ⊥) → OnParseFault e ((tree : T) → IsTableRow Is make args tree → May tree → ⊥)
@@ -55,13 +53,6 @@ module _ {X : Type 0} (allowed : List TagGroup) (Says : List TagValue → List A
 pub finds_one : {X : Type 0} (P : X → Type 0) → ((x y : X) → P x → P y → x ≡ y) → (x : X) → P x → P x × ((y : X) → P y → y ≡ x)
 finds_one P same x here = (here, λ y also. same y x also here)
 
--- names say one thing at most of the parts of the envelope
-pub parts_same : (names : List (List ℕ)) (x y : EnvelopeParts) → NamesParts names x → NamesParts names y → x ≡ y
-parts_same names x y a b =
-    let from : x.from ≡ y.from = a.from ∙ sym b.from in
-    let to : x.to ≡ y.to = a.to ∙ sym b.to in
-    λ i. record { from = from i; to = to i }
-
 -- tags and positional arguments say one thing at most
 module _ (tag_values : List TagValue) (positional : List Argument) where
   pub size_same : (x y : Size) → SaysSize tag_values positional x → SaysSize tag_values positional y → x ≡ y
@@ -85,64 +76,8 @@ module _ (tag_values : List TagValue) (positional : List Argument) where
       let lists = some_pair (x.fields, x.keys) (y.fields, y.keys) (sym a.lists ∙ b.lists) in
       λ i. record { comparator = comparator i; part = part i; matching = matching i; fields = lists.0 i; keys = lists.1 i }
 
-  pub envelope_same : (x y : EnvelopeTest) → SaysEnvelope tag_values positional x → SaysEnvelope tag_values positional y → x ≡ y
-  envelope_same x y a b =
-      let comparator : x.comparator ≡ y.comparator = a.comparator ∙ sym b.comparator in
-      let part : x.part ≡ y.part = a.part ∙ sym b.part in
-      let matching : x.matching ≡ y.matching = a.matching ∙ sym b.matching in
-      let lists = some_pair (a.names, x.keys) (b.names, y.keys) (sym a.lists ∙ b.lists) in
-      let parts = parts_same b.names x.parts y.parts (subst (λ names. NamesParts names x.parts) lists.0 a.parts) b.parts in
-      λ i. record { comparator = comparator i; part = part i; matching = matching i; parts = parts i; keys = lists.1 i }
-
-  -- the names are no parts of the envelope
-  pub envelope_no_parts : (names keys : List (List ℕ)) → two_lists positional ≡ Some (names, keys) → ((parts : EnvelopeParts) → NamesParts names parts → ⊥) → (x : EnvelopeTest) → SaysEnvelope tag_values positional x → ⊥
-  envelope_no_parts names keys lists none x a =
-      let same = some_pair (a.names, x.keys) (names, keys) (sym a.lists ∙ lists) in
-      none x.parts (subst (λ them. NamesParts them x.parts) same.0 a.parts)
-
-  pub date_same : (x y : DateTest) → SaysDate tag_values positional x → SaysDate tag_values positional y → x ≡ y
-  date_same x y a b =
-      let zone : x.zone ≡ y.zone = a.zone ∙ sym b.zone in
-      let comparator : x.comparator ≡ y.comparator = a.comparator ∙ sym b.comparator in
-      let matching : x.matching ≡ y.matching = a.matching ∙ sym b.matching in
-      let all = some_pair (x.field, (a.name, x.keys)) (y.field, (b.name, y.keys)) (sym a.arguments ∙ b.arguments) in
-      let name : a.name ≡ b.name = ap (λ (p : List ℕ × List (List ℕ)). p.0) all.1 in
-      let keys : x.keys ≡ y.keys = ap (λ (p : List ℕ × List (List ℕ)). p.1) all.1 in
-      let part : x.part ≡ y.part = some_is x.part y.part (sym a.part ∙ (ap part_named name ∙ b.part)) in
-      λ i. record { zone = zone i; comparator = comparator i; matching = matching i; field = all.0 i; part = part i; keys = keys i }
-
-  pub current_date_same : (x y : CurrentDate) → SaysCurrentDate tag_values positional x → SaysCurrentDate tag_values positional y → x ≡ y
-  current_date_same x y a b =
-      let zone : x.zone ≡ y.zone = some_is x.zone y.zone (sym a.zone ∙ b.zone) in
-      let comparator : x.comparator ≡ y.comparator = a.comparator ∙ sym b.comparator in
-      let matching : x.matching ≡ y.matching = a.matching ∙ sym b.matching in
-      let both = some_pair (a.name, x.keys) (b.name, y.keys) (sym a.arguments ∙ b.arguments) in
-      let part : x.part ≡ y.part = some_is x.part y.part (sym a.part ∙ (ap part_named both.0 ∙ b.part)) in
-      λ i. record { zone = zone i; comparator = comparator i; matching = matching i; part = part i; keys = both.1 i }
-
-  pub has_flag_same : (x y : HasFlag) → SaysHasFlag tag_values positional x → SaysHasFlag tag_values positional y → x ≡ y
-  has_flag_same x y a b =
-      let comparator : x.comparator ≡ y.comparator = a.comparator ∙ sym b.comparator in
-      let matching : x.matching ≡ y.matching = a.matching ∙ sym b.matching in
-      let keys : x.keys ≡ y.keys = some_is x.keys y.keys (sym a.keys ∙ b.keys) in
-      λ i. record { comparator = comparator i; matching = matching i; keys = keys i }
-
   pub keep_same : (x y : Option (List (List ℕ))) → SaysKeep tag_values positional x → SaysKeep tag_values positional y → x ≡ y
   keep_same x y a b = a.flags ∙ sym b.flags
 
   pub keep_extra : (positional ≡ [] → ⊥) → (x : Option (List (List ℕ))) → SaysKeep tag_values positional x → ⊥
   keep_extra some x says = some says.none
-
-  -- what names no part of a date
-  pub date_no_part : (field name : List ℕ) (keys : List (List ℕ)) → two_texts_and_list positional ≡ Some (field, (name, keys)) → part_named name ≡ None → (x : DateTest) → SaysDate tag_values positional x → ⊥
-  date_no_part field name keys arguments none x a =
-      let all = some_pair (x.field, (a.name, x.keys)) (field, (name, keys)) (sym a.arguments ∙ arguments) in
-      let named : a.name ≡ name = ap (λ (p : List ℕ × List (List ℕ)). p.0) all.1 in
-      let bad : None ≡ Some x.part = sym none ∙ (ap part_named (sym named) ∙ a.part) in
-      absurd (cc bad)
-
-  pub current_no_part : (name : List ℕ) (keys : List (List ℕ)) → text_and_list positional ≡ Some (name, keys) → part_named name ≡ None → (x : CurrentDate) → SaysCurrentDate tag_values positional x → ⊥
-  current_no_part name keys arguments none x a =
-      let both = some_pair (a.name, x.keys) (name, keys) (sym a.arguments ∙ arguments) in
-      let bad : None ≡ Some x.part = sym none ∙ (ap part_named (sym both.0) ∙ a.part) in
-      absurd (cc bad)

@@ -11,8 +11,8 @@ use Rattle.mail_dates.proofs.ZoneLaws.{numeric_is, numeric_again}
 use Rattle.sieve_syntax.specs.declared.table.tag.Tag.TheVariants as T
 use Rattle.sieve_syntax.specs.declared.tree.checks.Bound.TheVariants as B
 use Rattle.sieve_syntax.specs.declared.tree.checks.Matching.TheVariants as M
-use Rattle.sieve_syntax.specs.declared.tree.checks.Relation.{Relation}
-use Rattle.sieve_syntax.specs.declared.tree.checks.Relation.TheVariants as R
+use Rattle.sieve_syntax.specs.declared.extension.relational.Relation.{Relation}
+use Rattle.sieve_syntax.specs.declared.extension.relational.Relation.TheVariants as R
 use Rattle.sieve_syntax.specs.declared.tree.checks.AddressPart.TheVariants as H
 use Rattle.sieve_syntax.specs.declared.tree.checks.Collation.{Collation}
 use Rattle.sieve_syntax.specs.declared.tree.checks.Collation.TheVariants as C

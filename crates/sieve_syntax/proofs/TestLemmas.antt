@@ -8,11 +8,15 @@ use Rattle.sieve_syntax.specs.Capabilities.{Capabilities}
 use Rattle.sieve_syntax.specs.Lexemes.{Lexeme, keyword, mark}
 use Rattle.sieve_syntax.specs.Arguments.{IsArgument, AreArguments}
 use Rattle.sieve_syntax.specs.Chains.{Chain}
+use Rattle.sieve_syntax.specs.Extension.{IsExtensionTest, MayAsk}
+use Rattle.sieve_syntax.specs.declared.extension.ExtensionTest.{ExtensionTest}
+use Rattle.sieve_syntax.specs.Rows.{IsTableRow}
+use Rattle.sieve_syntax.specs.declared.tree.checks.MailCheck.TheVariants as L
 use Rattle.sieve_syntax.specs.Table.{IsPlainTest}
 use Rattle.sieve_syntax.specs.Tree.{TestTree, yes, no, looks, not_of, all_of, any_of, Tests, no_tests, test, list_depth, lists_depth, not_depth, nots_depth}
 use Rattle.sieve_syntax.specs.declared.error.ParseError.{ParseError}
 use Rattle.sieve_syntax.specs.declared.tree.test.Test.{Test}
-use Rattle.sieve_syntax.specs.Parsing.{Parses, ParsesMore}
+use Rattle.sieve_syntax.specs.Parsing.{OnParseFault, Parses, ParsesMore}
 use Rattle.sieve_syntax.specs.View.{test_view, tests_view, tests_of}
 use Rattle.sieve_syntax.specs.Valid.{MayTest, MayAllTest}
 use Rattle.sieve_syntax.specs.Tests.{IsLeafTest, IsTest, AreTests, AreMoreTests, ReadsTest}
@@ -32,34 +36,47 @@ IsLeaf (any_of inner) = ⊥
 
 -- a row of the table is such a test
 plain_leaf : (name : Keyword) (args : List Argument) (t : TestTree) → IsPlainTest name args t → IsLeaf t
-plain_leaf W.Require args t is = absurd is
-plain_leaf W.If args t is = absurd is
-plain_leaf W.Elsif args t is = absurd is
-plain_leaf W.Else args t is = absurd is
-plain_leaf W.Stop args t is = absurd is
-plain_leaf W.Keep args t is = absurd is
-plain_leaf W.Discard args t is = absurd is
-plain_leaf W.FileInto args t is = absurd is
-plain_leaf W.Redirect args t is = absurd is
-plain_leaf W.Vacation args t is = absurd is
 plain_leaf W.True args t is = subst IsLeaf (sym is.tree_is) tt
 plain_leaf W.False args t is = subst IsLeaf (sym is.tree_is) tt
-plain_leaf W.Not args t is = absurd is
-plain_leaf W.AllOf args t is = absurd is
-plain_leaf W.AnyOf args t is = absurd is
 plain_leaf W.Size args t is = subst IsLeaf (sym is.tree_is) tt
 plain_leaf W.Exists args t is = subst IsLeaf (sym is.tree_is) tt
-plain_leaf W.MailboxExists args t is = subst IsLeaf (sym is.tree_is) tt
-plain_leaf W.Date args t is = subst IsLeaf (sym is.tree_is) tt
-plain_leaf W.CurrentDate args t is = subst IsLeaf (sym is.tree_is) tt
-plain_leaf W.SetFlag args t is = absurd is
-plain_leaf W.AddFlag args t is = absurd is
-plain_leaf W.RemoveFlag args t is = absurd is
-plain_leaf W.HasFlag args t is = subst IsLeaf (sym is.tree_is) tt
 plain_leaf W.Header args t is = subst IsLeaf (sym is.tree_is) tt
 plain_leaf W.Address args t is = subst IsLeaf (sym is.tree_is) tt
-plain_leaf W.Envelope args t is = subst IsLeaf (sym is.tree_is) tt
-plain_leaf W.Other args t is = absurd is
+plain_leaf _ args t is = subst IsLeaf (sym is.tree_is) tt
+
+-- the row of a word that isn't one of the base language's tests is one of the extensions
+row_beyond : (word : Keyword) → (word ≡ W.True → ⊥) → (word ≡ W.False → ⊥) → (word ≡ W.Size → ⊥) → (word ≡ W.Exists → ⊥) → (word ≡ W.Header → ⊥) → (word ≡ W.Address → ⊥)
+    → (args : List Argument) (t : TestTree) → IsPlainTest word args t → IsTableRow (IsExtensionTest word) (λ extended. looks (L.Extension extended)) args t
+row_beyond W.True a b c d e f args t is = absurd (a refl)
+row_beyond W.False a b c d e f args t is = absurd (b refl)
+row_beyond W.Size a b c d e f args t is = absurd (c refl)
+row_beyond W.Exists a b c d e f args t is = absurd (d refl)
+row_beyond W.Header a b c d e f args t is = absurd (e refl)
+row_beyond W.Address a b c d e f args t is = absurd (f refl)
+row_beyond _ a b c d e f args t is = is
+
+row_within : (word : Keyword) → (word ≡ W.True → ⊥) → (word ≡ W.False → ⊥) → (word ≡ W.Size → ⊥) → (word ≡ W.Exists → ⊥) → (word ≡ W.Header → ⊥) → (word ≡ W.Address → ⊥)
+    → (args : List Argument) (t : TestTree) → IsTableRow (IsExtensionTest word) (λ extended. looks (L.Extension extended)) args t → IsPlainTest word args t
+row_within W.True a b c d e f args t is = absurd (a refl)
+row_within W.False a b c d e f args t is = absurd (b refl)
+row_within W.Size a b c d e f args t is = absurd (c refl)
+row_within W.Exists a b c d e f args t is = absurd (d refl)
+row_within W.Header a b c d e f args t is = absurd (e refl)
+row_within W.Address a b c d e f args t is = absurd (f refl)
+row_within _ a b c d e f args t is = is
+
+-- a word that isn't one of the base language's tests stands for what the extensions say
+module _ (word : Keyword) (no_true : word ≡ W.True → ⊥) (no_false : word ≡ W.False → ⊥) (no_size : word ≡ W.Size → ⊥) (no_exists : word ≡ W.Exists → ⊥) (no_header : word ≡ W.Header → ⊥) (no_address : word ≡ W.Address → ⊥) (args : List Argument) where
+  pub beyond_fault : (granted : Capabilities) (e : ParseError) → OnParseFault e ((x : ExtensionTest) → IsExtensionTest word args x → MayAsk granted x → ⊥) → OnParseFault e ((t : TestTree) → IsPlainTest word args t → MayTest granted t → ⊥)
+  beyond_fault granted e h =
+      fault_on e ((x : ExtensionTest) → IsExtensionTest word args x → MayAsk granted x → ⊥) ((t : TestTree) → IsPlainTest word args t → MayTest granted t → ⊥)
+      (λ none t is may. let row = row_beyond word no_true no_false no_size no_exists no_header no_address args t is in none row.value row.is (subst (MayTest granted) row.tree_is may)) h
+
+  pub beyond_found : (x : ExtensionTest) → IsExtensionTest word args x → IsPlainTest word args (looks (L.Extension x))
+  beyond_found x is = row_within word no_true no_false no_size no_exists no_header no_address args (looks (L.Extension x)) (record { value = x; is = is; tree_is = refl })
+
+  pub beyond_only : (x : ExtensionTest) → ((y : ExtensionTest) → IsExtensionTest word args y → y ≡ x) → (t : TestTree) → IsPlainTest word args t → t ≡ looks (L.Extension x)
+  beyond_only x only t is = let row = row_beyond word no_true no_false no_size no_exists no_header no_address args t is in row.tree_is ∙ ap (λ y. looks (L.Extension y)) (only row.value row.is)
 
 leaf_lists : (t : TestTree) → IsLeaf t → list_depth t ≡ 0
 leaf_lists yes leaf = refl
@@ -123,9 +140,9 @@ module _ (name : Keyword) (no_not : name ≡ W.Not → ⊥) (no_allof : name ≡
 module _ (granted : Capabilities) (lists nots : ℕ) (after : List Lexeme) where
   -- the test of a `not`
   not_parts : (t : TestTree) (to : List Lexeme) → AsksAfter granted lists nots W.Not t after to → (inner : TestTree) × ((t ≡ not_of inner) × (ReadsTest inner after to × (MayTest granted inner × ((list_depth inner ≤ lists) × (not_depth inner + 1 ≤ nots)))))
-  not_parts yes to asks = absurd asks.0.1.1
-  not_parts no to asks = absurd asks.0.1.1
-  not_parts (looks check) to asks = absurd asks.0.1.1
+  not_parts yes to asks = absurd asks.0.1.1.is
+  not_parts no to asks = absurd asks.0.1.1.is
+  not_parts (looks check) to asks = absurd asks.0.1.1.is
   not_parts (not_of inner) to asks = let low : suc (not_depth inner) ≤ nots = asks.1.1.1 in (inner, (refl, (asks.0.1, (asks.1.0, (asks.1.1.0, omega (arith, low))))))
   not_parts (all_of inner) to asks = let e : W.Not ≡ W.AllOf = asks.0.0 in cc
   not_parts (any_of inner) to asks = let e : W.Not ≡ W.AnyOf = asks.0.0 in cc
@@ -155,9 +172,9 @@ module _ (granted : Capabilities) (lists nots : ℕ) (after : List Lexeme) where
 
   -- the tests of an `allof`
   all_parts : (t : TestTree) (to : List Lexeme) → AsksAfter granted lists nots W.AllOf t after to → (inner : Tests) × ((t ≡ all_of inner) × TakesTests granted lists nots inner after to)
-  all_parts yes to asks = absurd asks.0.1.1
-  all_parts no to asks = absurd asks.0.1.1
-  all_parts (looks check) to asks = absurd asks.0.1.1
+  all_parts yes to asks = absurd asks.0.1.1.is
+  all_parts no to asks = absurd asks.0.1.1.is
+  all_parts (looks check) to asks = absurd asks.0.1.1.is
   all_parts (not_of inner) to asks = let e : W.AllOf ≡ W.Not = asks.0.0 in cc
   all_parts (all_of inner) to asks = let low : suc (lists_depth inner) ≤ lists = asks.1.1.0 in (inner, (refl, (asks.0.1, (asks.1.0, (omega (arith, low), asks.1.1.1)))))
   all_parts (any_of inner) to asks = let e : W.AllOf ≡ W.AnyOf = asks.0.0 in cc
@@ -177,9 +194,9 @@ module _ (granted : Capabilities) (lists nots : ℕ) (after : List Lexeme) where
 
   -- the tests of an `anyof`
   any_parts : (t : TestTree) (to : List Lexeme) → AsksAfter granted lists nots W.AnyOf t after to → (inner : Tests) × ((t ≡ any_of inner) × TakesTests granted lists nots inner after to)
-  any_parts yes to asks = absurd asks.0.1.1
-  any_parts no to asks = absurd asks.0.1.1
-  any_parts (looks check) to asks = absurd asks.0.1.1
+  any_parts yes to asks = absurd asks.0.1.1.is
+  any_parts no to asks = absurd asks.0.1.1.is
+  any_parts (looks check) to asks = absurd asks.0.1.1.is
   any_parts (not_of inner) to asks = let e : W.AnyOf ≡ W.Not = asks.0.0 in cc
   any_parts (all_of inner) to asks = let e : W.AnyOf ≡ W.AllOf = asks.0.0 in cc
   any_parts (any_of inner) to asks = let low : suc (lists_depth inner) ≤ lists = asks.1.1.0 in (inner, (refl, (asks.0.1, (asks.1.0, (omega (arith, low), asks.1.1.1)))))

@@ -3,7 +3,8 @@ use Rattle.std.proofs.Common.{◌≡◌, Bool, true, false, cond, List, [], ◌�
 use Rattle.sieve_syntax.specs.declared.tree.action.Action.{Action}
 use Rattle.sieve_syntax.specs.declared.tree.checks.MailCheck.{MailCheck}
 use Rattle.sieve_syntax.specs.RunState.{RunState, at_first, Flow, Going, Stopped, Failed, and_then, performed}
-use Rattle.sieve_syntax.specs.Meaning.{holds, does, chooses, does_all, outcome_after, outcome}
+use Rattle.sieve_syntax.specs.Looking.{test_truth, does_by, chooses_by, does_all_by, outcome_by}
+use Rattle.sieve_syntax.specs.Meaning.{outcome_after}
 use Rattle.sieve_syntax.specs.Trace.{Trace, then_runs, runs_at, runs_by, runs_branch_by, runs_all_by, actions_run, in_turn}
 use Rattle.sieve_syntax.specs.Tree.{CommandTree, require, choose, stop, act, Branches, no_branches, branch, Commands, no_commands, command}
 
@@ -57,22 +58,22 @@ either true one two f g state same other = same
 either false one two f g state same other = other
 
 mutual
-  command_does : (truth : RunState → MailCheck → Bool) (tree : CommandTree) (state : RunState) → does truth tree state ≡ after (runs_by performed truth tree state) state
+  command_does : (truth : RunState → MailCheck → Bool) (tree : CommandTree) (state : RunState) → does_by truth tree state ≡ after (runs_by performed truth tree state) state
   command_does truth (require names) state = refl
   command_does truth (choose branches) state = branches_do truth branches state
   command_does truth stop state = refl
   command_does truth (act action) state = alone (performed action state)
 
-  branches_do : (truth : RunState → MailCheck → Bool) (branches : Branches) (state : RunState) → chooses truth branches state ≡ after (runs_branch_by performed truth branches state) state
+  branches_do : (truth : RunState → MailCheck → Bool) (branches : Branches) (state : RunState) → chooses_by truth branches state ≡ after (runs_branch_by performed truth branches state) state
   branches_do truth no_branches state = refl
   branches_do truth (branch condition block more) state =
-      either (holds (truth state) condition) (runs_all_by performed truth block state) (runs_branch_by performed truth more state) (does_all truth block) (chooses truth more) state (commands_do truth block state) (branches_do truth more state)
+      either (test_truth (truth state) condition) (runs_all_by performed truth block state) (runs_branch_by performed truth more state) (does_all_by truth block) (chooses_by truth more) state (commands_do truth block state) (branches_do truth more state)
 
-  commands_do : (truth : RunState → MailCheck → Bool) (commands : Commands) (state : RunState) → does_all truth commands state ≡ after (runs_all_by performed truth commands state) state
+  commands_do : (truth : RunState → MailCheck → Bool) (commands : Commands) (state : RunState) → does_all_by truth commands state ≡ after (runs_all_by performed truth commands state) state
   commands_do truth no_commands state = refl
   commands_do truth (command first more) state =
-      ap (λ flow. and_then flow (does_all truth more)) (command_does truth first state)
-      ∙ one_more (runs_by performed truth first state) (runs_all_by performed truth more) (does_all truth more) (λ next. commands_do truth more next) state
+      ap (λ flow. and_then flow (does_all_by truth more)) (command_does truth first state)
+      ∙ one_more (runs_by performed truth first state) (runs_all_by performed truth more) (does_all_by truth more) (λ next. commands_do truth more next) state
 
 -- a `stop` at the end changes nothing in the end
 ended_stopping : (stops : Bool) (flow : Flow) → outcome_after (stopping stops flow) ≡ outcome_after flow
@@ -81,5 +82,5 @@ ended_stopping true (Going state) = refl
 ended_stopping true (Stopped state) = refl
 ended_stopping true (Failed failure) = refl
 
-pub outcome_in_turn : (truth : RunState → MailCheck → Bool) (commands : Commands) → outcome truth commands ≡ outcome_after (in_turn (actions_run truth commands) at_first)
+pub outcome_in_turn : (truth : RunState → MailCheck → Bool) (commands : Commands) → outcome_by truth commands ≡ outcome_after (in_turn (actions_run truth commands) at_first)
 outcome_in_turn truth commands = ap outcome_after (commands_do truth commands at_first) ∙ ended_stopping (runs_all_by performed truth commands at_first).1 (in_turn (actions_run truth commands) at_first)

@@ -6,16 +6,21 @@ use Rattle.std.proofs.Math.Seq.{take-suc}
 use Rattle.octets.proofs.Lists.{some_is, some_pair}
 use Rattle.mail_address.specs.declared.address.Addr.{Addr}
 use Rattle.mail_address.proofs.Outbounds.{outbound-again}
-use Rattle.sieve_syntax.specs.declared.tree.vacation.VacationArgs.{VacationArgs}
-use Rattle.sieve_syntax.specs.declared.tree.vacation.ReplyFrom.{ReplyFrom}
+use Rattle.sieve_syntax.specs.declared.extension.vacation.VacationArgs.{VacationArgs}
+use Rattle.sieve_syntax.specs.declared.extension.vacation.ReplyFrom.{ReplyFrom}
 use Rattle.sieve_syntax.specs.declared.parser.argument.Argument.{Argument}
 use Rattle.sieve_syntax.specs.declared.table.tag_group.TagValue.{TagValue}
-use Rattle.sieve_syntax.specs.TagValues.{from_in, addresses_in}
-use Rattle.sieve_syntax.specs.declared.tree.action.FileInto.{FileInto}
+use Rattle.sieve_syntax.specs.Extension.Vacation.{from_in, addresses_in, IsReplyFrom, IsGivenFrom, AreNamed, AddsNamed, SaysVacation, MayReply}
 use Rattle.sieve_syntax.specs.declared.tree.action.Redirect.{Redirect}
+use Rattle.std.proofs.Common.{◌||◌, Bool, true, false}
+use Rattle.std.specs.Prelude.{is_some}
+use Rattle.sieve_syntax.specs.declared.capability.Capability.TheVariants as C
+use Rattle.sieve_syntax.specs.Capabilities.{Capabilities, IsWithin}
+use Rattle.sieve_syntax.specs.Extension.VacationSeconds.{may_use_vacation}
+use Rattle.sieve_syntax.proofs.GrowthLemmas.{permits_grow}
 use Rattle.sieve_syntax.specs.Positional.{one_text}
-use Rattle.sieve_syntax.specs.Table.{SaysFileInto, SaysRedirect}
-use Rattle.sieve_syntax.specs.Vacations.{IsNamedAs, Names, IsReplyFrom, IsGivenFrom, AreNamed, AddsNamed, SaysVacation}
+use Rattle.sieve_syntax.specs.Table.{SaysRedirect}
+use Rattle.sieve_syntax.specs.NamedAddresses.{IsNamedAs, Names}
 
 -- a text names one address with one display
 pub outbound_only : (text d e : List ℕ) (a b : Addr) → IsNamedAs text d a → IsNamedAs text e b → (d ≡ e) × (a ≡ b)
@@ -108,18 +113,6 @@ module _ (tag_values : List TagValue) (positional : List Argument) where
   pub redirect_no_address : (text : List ℕ) → one_text positional ≡ Some text → ((d : List ℕ) (a : Addr) → IsNamedAs text d a → ⊥) → (y : Redirect) → SaysRedirect tag_values positional y → ⊥
   redirect_no_address text is_text none y is = none is.names.0 y.target (subst (λ t. IsNamedAs t is.names.0 y.target) (some_is is.text text (sym is.is_text ∙ is_text)) is.names.1)
 
-  -- the arguments of `fileinto`
-  pub file_into_same : (x y : FileInto) → SaysFileInto tag_values positional x → SaysFileInto tag_values positional y → x ≡ y
-  file_into_same x y a b =
-      let mailbox : x.mailbox ≡ y.mailbox = some_is x.mailbox y.mailbox (sym a.mailbox ∙ b.mailbox) in
-      let copy : x.copy ≡ y.copy = a.copy ∙ sym b.copy in
-      let create : x.create ≡ y.create = a.create ∙ sym b.create in
-      let flags : x.flags ≡ y.flags = a.flags ∙ sym b.flags in
-      λ i. record { mailbox = mailbox i; copy = copy i; create = create i; flags = flags i }
-
-  pub file_into_no_text : one_text positional ≡ None → (y : FileInto) → SaysFileInto tag_values positional y → ⊥
-  file_into_no_text none y is = let e : None ≡ Some y.mailbox = sym none ∙ is.mailbox in absurd (cc e)
-
 -- the value of a `:from` that is given
 pub given_some : (o : Option (List ℕ)) (text : List ℕ) → Some text ≡ o → (r : ReplyFrom) → IsReplyFrom text r → IsGivenFrom o (Some r)
 given_some o text same r is = subst (λ p. IsGivenFrom p (Some r)) same is
@@ -146,3 +139,17 @@ adds_none text old none = inr ((λ a names. none names.0 a names.1), refl)
 
 pub reply_none : (text : List ℕ) → ((d : List ℕ) (a : Addr) → IsNamedAs text d a → ⊥) → (r : ReplyFrom) → IsReplyFrom text r → ⊥
 reply_none text none r is = none r.display r.address is.names
+
+-- where few are granted, and where more are
+module _ (few more : Capabilities) (within : IsWithin few more) where
+  vacation_grows : may_use_vacation few ≡ true → may_use_vacation more ≡ true
+  vacation_grows is = step (few C.Vacation) (more C.Vacation) (few C.VacationSeconds) (more C.VacationSeconds) (within C.Vacation) (within C.VacationSeconds) is
+    where
+      step : (a b c d : Bool) → (a ≡ true → b ≡ true) → (c ≡ true → d ≡ true) → (a || c) ≡ true → (b || d) ≡ true
+      step true true c d one two is = refl
+      step true false c d one two is = let bad : false ≡ true = one refl in absurd (cc bad)
+      step false true c d one two is = refl
+      step false false c d one two is = two is
+
+  pub reply_grows : (args : VacationArgs) → MayReply few args → MayReply more args
+  reply_grows args may = (vacation_grows may.0, permits_grow few more within C.VacationSeconds (is_some args.seconds) may.1, may.2)

@@ -76,3 +76,7 @@ granted_too granted names capability = granted capability || granted_by names ca
 -- each capability of one set is in the other
 abbrev pub IsWithin : (Capability → Bool) → (Capability → Bool) → Type 0
 IsWithin few more = (capability : Capability) → few capability ≡ true → more capability ≡ true
+
+-- what is used is granted
+abbrev pub Permits : (granted used : Bool) → Type 0
+Permits granted used = used ≡ true → granted ≡ true

@@ -11,44 +11,9 @@ use Rattle.sieve_syntax.specs.declared.table.keyword.Keyword.TheVariants as W
 use Rattle.sieve_syntax.specs.declared.table.tag.Tag.{Tag}
 use Rattle.sieve_syntax.specs.declared.table.tag.Tag.TheVariants as G
 use Rattle.sieve_syntax.specs.Capabilities.{Capabilities}
-use Rattle.sieve_syntax.specs.Decoding.{as_read}
+use Rattle.sieve_syntax.specs.Extension.{owners_of_word, owners_of_tag}
+use Rattle.sieve_syntax.specs.Extension.EncodedCharacter.{as_read}
 use Rattle.sieve_syntax.specs.Lexemes.{sieve_keyword_of, tag_of, Lexeme, keyword, tag, number, text, mark}
-
--- ---- whose words and tags these are
-
--- the capabilities each of which brings this word; those of the base language need none (RFC 5228, 3 to 5)
-abbrev pub owners_of_word : Keyword → List Capability
-owners_of_word W.FileInto = C.FileInto ∷ []
-owners_of_word W.Envelope = C.Envelope ∷ []
-owners_of_word W.Vacation = C.Vacation ∷ (C.VacationSeconds ∷ [])
-owners_of_word W.MailboxExists = C.Mailbox ∷ []
-owners_of_word W.Date = C.Date ∷ []
-owners_of_word W.CurrentDate = C.Date ∷ []
-owners_of_word W.SetFlag = C.Imap4flags ∷ []
-owners_of_word W.AddFlag = C.Imap4flags ∷ []
-owners_of_word W.RemoveFlag = C.Imap4flags ∷ []
-owners_of_word W.HasFlag = C.Imap4flags ∷ []
-owners_of_word _ = []
-
--- the same of a tag; `vacation-seconds` brings all that `vacation` has (RFC 6131, 2)
-abbrev pub owners_of_tag : Tag → List Capability
-owners_of_tag G.Days = C.Vacation ∷ (C.VacationSeconds ∷ [])
-owners_of_tag G.Seconds = C.VacationSeconds ∷ []
-owners_of_tag G.Subject = C.Vacation ∷ (C.VacationSeconds ∷ [])
-owners_of_tag G.From = C.Vacation ∷ (C.VacationSeconds ∷ [])
-owners_of_tag G.Addresses = C.Vacation ∷ (C.VacationSeconds ∷ [])
-owners_of_tag G.Mime = C.Vacation ∷ (C.VacationSeconds ∷ [])
-owners_of_tag G.Handle = C.Vacation ∷ (C.VacationSeconds ∷ [])
-owners_of_tag G.Copy = C.Copy ∷ []
-owners_of_tag G.User = C.Subaddress ∷ []
-owners_of_tag G.Detail = C.Subaddress ∷ []
-owners_of_tag G.Value = C.Relational ∷ []
-owners_of_tag G.Count = C.Relational ∷ []
-owners_of_tag G.Create = C.Mailbox ∷ []
-owners_of_tag G.Zone = C.Date ∷ []
-owners_of_tag G.OriginalZone = C.Date ∷ []
-owners_of_tag G.Flags = C.Imap4flags ∷ []
-owners_of_tag _ = []
 
 -- ---- what is read where these capabilities are offered
 

@@ -2,12 +2,13 @@ pub mod Arguments
 pub mod Chains
 pub mod Lexemes
 pub mod Parsing
-pub mod Decoding
 pub mod Grammar
 pub mod Steps
-pub mod Reasons
-pub mod Vacations
 pub mod Positional
+pub mod NamedAddresses
+pub mod Rows
+pub mod Comparators
+pub mod Extension
 pub mod Table
 pub mod Tags
 pub mod TagValues
@@ -19,6 +20,7 @@ pub mod Valid
 pub mod View
 pub mod Meaning
 pub mod Work
+pub mod Looking
 pub mod Languages
 pub mod Means
 pub mod Trace

@@ -8,7 +8,7 @@ use Rattle.mail_flags.specs.Flags.{with_all_named, without_all_named, flags_text
 use Rattle.mail_flags.specs.declared.placement.Placement.{Placement}
 use Rattle.sieve_syntax.specs.declared.tree.action.Action.{Action}
 use Rattle.sieve_syntax.specs.declared.tree.action.Action.TheVariants.{Keep, Discard, FileInto, Redirect, Vacation, SetFlag, AddFlag, RemoveFlag}
-use Rattle.sieve_syntax.specs.declared.tree.vacation.VacationArgs.{VacationArgs}
+use Rattle.sieve_syntax.specs.declared.extension.vacation.VacationArgs.{VacationArgs}
 
 -- what a script has done so far: the mailboxes that the message goes into, each with the flags that the last command gives
 -- its copy, and the addresses that it is sent to, each in the order of the first command that says so; the flags that are

@@ -7,8 +7,6 @@ use Rattle.sieve_syntax.specs.declared.tree.checks.Bound.{Bound}
 use Rattle.sieve_syntax.specs.declared.tree.checks.Bound.TheVariants as B
 use Rattle.sieve_syntax.specs.declared.tree.checks.Matching.{Matching}
 use Rattle.sieve_syntax.specs.declared.tree.checks.Matching.TheVariants as M
-use Rattle.sieve_syntax.specs.declared.tree.checks.Relation.{Relation}
-use Rattle.sieve_syntax.specs.declared.tree.checks.Relation.TheVariants as R
 use Rattle.sieve_syntax.specs.declared.tree.checks.AddressPart.{AddressPart}
 use Rattle.sieve_syntax.specs.declared.tree.checks.AddressPart.TheVariants as H
 use Rattle.sieve_syntax.specs.declared.tree.checks.Collation.{Collation}
@@ -20,21 +18,13 @@ use Rattle.sieve_syntax.specs.declared.table.tag_group.TagValue.TheVariants as S
 use Rattle.sieve_syntax.specs.declared.table.tag_group.TagGroup.{TagGroup}
 use Rattle.sieve_syntax.specs.declared.table.tag_group.TagGroup.TheVariants as P
 use Rattle.mail_dates.specs.Zones.{IsOffset}
+use Rattle.sieve_syntax.specs.Extension.Relational.{relation_name}
 use Rattle.sieve_syntax.specs.Chains.{Chain}
 
 -- the tag of a side of a limit
 abbrev pub bound_tag : Bound → Tag
 bound_tag B.Over = T.Over
 bound_tag B.Under = T.Under
-
--- the name of a relation, by octets (RFC 5231, 4)
-abbrev pub relation_name : Relation → List ℕ
-relation_name R.Greater = codes "gt"
-relation_name R.GreaterOrEqual = codes "ge"
-relation_name R.Less = codes "lt"
-relation_name R.LessOrEqual = codes "le"
-relation_name R.Equal = codes "eq"
-relation_name R.NotEqual = codes "ne"
 
 -- how a match type is written (RFC 5228, 2.7.1; RFC 5231, 4)
 abbrev pub IsMatchType : Matching → List Argument → List Argument → Type 0

@@ -1,4 +1,5 @@
--- The actions that a script runs, in turn, and their outcome (RFC 5228, 2.10, 3).
+-- The actions that a script runs, in turn, and their outcome, where tests only look (RFC 5228, 2.10, 3): a test that changes what the run has done
+-- would be a part of what is run.
 use Rattle.std.specs.Prelude.{◌≡◌, ◌≤◌, ℕ, Bool, true, false, cond, List, [], ◌∷◌, ◌++◌, length, map, nat_eq, All}
 use Rattle.std.specs.List.{IsDistinct}
 use Rattle.std.specs.Cmp.Lexicographic.{pointwise}
@@ -8,7 +9,8 @@ use Rattle.sieve_syntax.specs.declared.tree.action.Action.{Action}
 use Rattle.sieve_syntax.specs.declared.tree.action.Action.TheVariants.{Vacation, SetFlag, AddFlag, RemoveFlag}
 use Rattle.sieve_syntax.specs.declared.tree.checks.MailCheck.{MailCheck}
 use Rattle.sieve_syntax.specs.RunState.{RunState, at_first, max_targets, max_mailboxes, Flow, Going, Stopped, Failed, and_then, inbox, same_target, performed}
-use Rattle.sieve_syntax.specs.Meaning.{holds, Actions, Outcome}
+use Rattle.sieve_syntax.specs.Looking.{test_truth}
+use Rattle.sieve_syntax.specs.Meaning.{Actions, Outcome}
 use Rattle.sieve_syntax.specs.Meaning as M
 use Rattle.sieve_syntax.specs.Tree.{CommandTree, require, choose, stop, act, Branches, no_branches, branch, Commands, no_commands, command}
 
@@ -48,7 +50,7 @@ abbrev mutual
   pub runs_branch_by : (Action → RunState → Flow) → (RunState → MailCheck → Bool) → Branches → RunState → Trace
   runs_branch_by performs truth no_branches so_far = ([], false)
   runs_branch_by performs truth (branch condition block more) so_far =
-      cond (holds (truth so_far) condition) (runs_all_by performs truth block so_far) (runs_branch_by performs truth more so_far)
+      cond (test_truth (truth so_far) condition) (runs_all_by performs truth block so_far) (runs_branch_by performs truth more so_far)
 
   -- what follows begins in the state that the actions before lead to
   pub runs_all_by : (Action → RunState → Flow) → (RunState → MailCheck → Bool) → Commands → RunState → Trace

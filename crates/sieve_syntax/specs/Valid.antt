@@ -1,94 +1,37 @@
 -- What a valid tree has to be besides what the grammar demands.
-use Rattle.std.specs.Prelude.{◌≡◌, ◌≢◌, ◌≤◌, ◌||◌, ℕ, Bool, true, false, not, is_some, List, [], ◌++◌, length, All}
-use Rattle.std.specs.Str.{IsUtf8}
+use Rattle.std.specs.Prelude.{◌≤◌, ℕ, is_some, List, [], ◌++◌, All}
 use Rattle.sieve_syntax.specs.declared.tree.action.Action.{Action}
 use Rattle.sieve_syntax.specs.declared.tree.action.Action.TheVariants.{Keep, Discard, FileInto, Redirect, Vacation, SetFlag, AddFlag, RemoveFlag}
-use Rattle.sieve_syntax.specs.declared.tree.checks.AddressPart.{AddressPart}
-use Rattle.sieve_syntax.specs.declared.tree.checks.AddressPart.TheVariants.{User, Detail}
-use Rattle.sieve_syntax.specs.declared.tree.checks.Collation.{Collation}
-use Rattle.sieve_syntax.specs.declared.tree.checks.Collation.TheVariants.{AsciiNumeric}
-use Rattle.sieve_syntax.specs.declared.tree.checks.Matching.{Matching}
-use Rattle.sieve_syntax.specs.declared.tree.checks.Matching.TheVariants.{Contains, Matches, Value, Count}
 use Rattle.sieve_syntax.specs.declared.tree.checks.MailCheck.{MailCheck}
-use Rattle.sieve_syntax.specs.declared.tree.checks.MailCheck.TheVariants.{Size, Exists, Header, Address, Envelope, MailboxExists, Date, CurrentDate, HasFlag}
+use Rattle.sieve_syntax.specs.declared.tree.checks.MailCheck.TheVariants.{Size, Exists, Header, Address, Extension}
 use Rattle.sieve_syntax.specs.declared.capability.Capability.TheVariants as C
-use Rattle.sieve_syntax.specs.Capabilities.{Capabilities, all_capabilities, KnowsName, granted_by}
-use Rattle.sieve_syntax.specs.Reasons.{IsReason}
+use Rattle.sieve_syntax.specs.Capabilities.{Capabilities, all_capabilities, KnowsName, granted_by, Permits}
+use Rattle.sieve_syntax.specs.Comparators.{MayMatch}
+use Rattle.sieve_syntax.specs.Extension.{MayAsk}
+use Rattle.sieve_syntax.specs.Extension.FileInto.{MayFileInto}
+use Rattle.sieve_syntax.specs.Extension.Imap4flags.{MaySetFlags}
+use Rattle.sieve_syntax.specs.Extension.Subaddress.{MayNamePart}
+use Rattle.sieve_syntax.specs.Extension.Vacation.{MayReply}
 use Rattle.sieve_syntax.specs.Tree.{TestTree, yes, no, looks, not_of, all_of, any_of, Tests, no_tests, test, list_depth, not_depth, CommandTree, require, choose, stop, act, Branches, no_branches, branch, Commands, no_commands, command, depth}
-
--- the name of a mailbox: 1 to 255 octets of UTF-8, none below 32 and none 127
-pub record IsMailboxName (name : List ℕ) : Type 0 where
-  pub some : name ≢ []
-  pub short : length name ≤ 255
-  pub plain : All (λ octet. (32 ≤ octet) × (octet ≢ 127)) name
-  pub utf8 : IsUtf8 name
-
--- `vacation` may be used: `vacation-seconds` implies it (RFC 6131, 2)
-abbrev pub may_use_vacation : Capabilities → Bool
-may_use_vacation granted = granted C.Vacation || granted C.VacationSeconds
-
--- what is used is granted
-abbrev pub Permits : (granted used : Bool) → Type 0
-Permits granted used = used ≡ true → granted ≡ true
-
--- a part of a local part, which only `subaddress` names (RFC 5233, 4)
-abbrev pub is_subaddress : AddressPart → Bool
-is_subaddress User = true
-is_subaddress Detail = true
-is_subaddress _ = false
-
--- a part of an address that may be named if this is granted
-abbrev pub MayNamePart : Capabilities → AddressPart → Type 0
-MayNamePart granted part = Permits (granted C.Subaddress) (is_subaddress part)
-
--- a match type that only `relational` has (RFC 5231)
-abbrev pub is_relational : Matching → Bool
-is_relational (Value _) = true
-is_relational (Count _) = true
-is_relational _ = false
-
--- the comparator that has to be required (RFC 5228, 2.7.3)
-abbrev pub is_numeric : Collation → Bool
-is_numeric AsciiNumeric = true
-is_numeric _ = false
-
--- a match type that looks for a part of the value
-abbrev pub seeks_part : Matching → Bool
-seeks_part Contains = true
-seeks_part Matches = true
-seeks_part _ = false
-
--- how values may be matched if this is granted: a number has no parts (RFC 4790, 9.1)
-abbrev pub MayMatch : Capabilities → Collation → Matching → Type 0
-MayMatch granted comparator matching =
-    Permits (granted C.Relational) (is_relational matching) × Permits (granted C.AsciiNumeric) (is_numeric comparator)
-    × Permits (not (is_numeric comparator)) (seeks_part matching)
 
 -- an action that is permitted if this is granted
 abbrev pub MayAct : Capabilities → Action → Type 0
 MayAct granted (Keep given) = Permits (granted C.Imap4flags) (is_some given)
 MayAct granted Discard = Unit {0}
-MayAct granted (FileInto filing) =
-    (granted C.FileInto ≡ true) × Permits (granted C.Copy) filing.copy × Permits (granted C.Mailbox) filing.create × Permits (granted C.Imap4flags) (is_some filing.flags)
-    × IsMailboxName filing.mailbox
+MayAct granted (FileInto filing) = MayFileInto granted filing
 MayAct granted (Redirect redirect) = Permits (granted C.Copy) redirect.copy
-MayAct granted (Vacation args) = (may_use_vacation granted ≡ true) × Permits (granted C.VacationSeconds) (is_some args.seconds) × IsReason args
-MayAct granted (SetFlag texts) = granted C.Imap4flags ≡ true
-MayAct granted (AddFlag texts) = granted C.Imap4flags ≡ true
-MayAct granted (RemoveFlag texts) = granted C.Imap4flags ≡ true
+MayAct granted (Vacation args) = MayReply granted args
+MayAct granted (SetFlag texts) = MaySetFlags granted
+MayAct granted (AddFlag texts) = MaySetFlags granted
+MayAct granted (RemoveFlag texts) = MaySetFlags granted
 
--- a test of the message, or of the flags that are set, that is permitted if this is granted
+-- a test of the message, or of what has been done so far, that is permitted if this is granted
 abbrev pub MayCheck : Capabilities → MailCheck → Type 0
 MayCheck granted (Size size) = Unit {0}
 MayCheck granted (Exists fields) = Unit {0}
 MayCheck granted (Header header) = MayMatch granted header.comparator header.matching
 MayCheck granted (Address address) = MayNamePart granted address.part × MayMatch granted address.comparator address.matching
-MayCheck granted (Envelope envelope) =
-    (granted C.Envelope ≡ true) × MayNamePart granted envelope.part × MayMatch granted envelope.comparator envelope.matching
-MayCheck granted (MailboxExists names) = granted C.Mailbox ≡ true
-MayCheck granted (Date date) = (granted C.Date ≡ true) × MayMatch granted date.comparator date.matching
-MayCheck granted (CurrentDate current) = (granted C.Date ≡ true) × MayMatch granted current.comparator current.matching
-MayCheck granted (HasFlag flag) = (granted C.Imap4flags ≡ true) × MayMatch granted flag.comparator flag.matching
+MayCheck granted (Extension extended) = MayAsk granted extended
 
 -- a test that is permitted if this is granted
 abbrev mutual

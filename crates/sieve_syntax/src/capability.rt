@@ -2,9 +2,8 @@
 ghost use Rattle.std.specs.Prelude.{◌≡◌, ◌↔◌, ◌||◌, [], ◌∷◌, nat_eq, true, OnOk, IsTrue, All};
 ghost use Rattle.std.specs.Cmp.Lexicographic.{pointwise};
 ghost use Rattle.std.specs.List.{list_any};
-ghost use Rattle.sieve_syntax.specs.Capabilities.{KnowsName, all_capabilities, capability_name, capability_named, granted_by, granted_too, is_name_of};
+ghost use Rattle.sieve_syntax.specs.Capabilities.{KnowsName, all_capabilities, capability_name, capability_named, granted_by, granted_too, is_name_of, Permits};
 ghost use Rattle.sieve_syntax.specs.Parsing.{IfParseFault};
-ghost use Rattle.sieve_syntax.specs.Valid.{Permits};
 
 use crate::error::ParseError;
 use octets::{Octets, Texts};

@@ -3,6 +3,7 @@
 
 mod capability;
 mod error;
+mod extension;
 pub mod laws;
 mod parser;
 mod script;
@@ -10,15 +11,17 @@ mod table;
 mod tree;
 
 pub use capability::Capability;
+pub use extension::ExtensionTest;
+pub use extension::date::{CurrentDate, DateTest, DateZone};
+pub use extension::envelope::{EnvelopeParts, EnvelopeTest};
+pub use extension::fileinto::{FileInto, is_mailbox};
+pub use extension::imap4flags::HasFlag;
+pub use extension::relational::Relation;
+pub use extension::vacation::{ReplyFrom, Vacation, VacationArgs};
 pub use mail_dates::DatePart;
 pub use script::{Script, check};
 pub use sieve_lex::{FaultKind, ScriptError, ScriptFault};
-pub use table::command::is_mailbox;
-pub use tree::action::{Action, FileInto, Redirect};
-pub use tree::checks::{
-    Address, AddressPart, Bound, Collation, CurrentDate, DateTest, DateZone, EnvelopeParts,
-    EnvelopeTest, HasFlag, Header, MailCheck, Matching, Relation, Size,
-};
+pub use tree::action::{Action, Redirect};
+pub use tree::checks::{Address, AddressPart, Bound, Collation, Header, MailCheck, Matching, Size};
 pub use tree::command::{Branch, Command};
 pub use tree::test::Test;
-pub use tree::vacation::{ReplyFrom, Vacation, VacationArgs};

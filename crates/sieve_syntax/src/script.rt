@@ -5,7 +5,7 @@ ghost use Rattle.sieve_lex.specs.Spelling.{SpellsTokens};
 ghost use Rattle.sieve_lex.specs.Finding.{IfFault, IfFaultLine, OnFaultLine};
 ghost use Rattle.sieve_lex.specs.Contents.{contents, line_at};
 ghost use Rattle.sieve_lex.specs.Text.{line_ends};
-ghost use Rattle.sieve_syntax.specs.Decoding.{as_read};
+ghost use Rattle.sieve_syntax.specs.Extension.EncodedCharacter.{as_read};
 ghost use Rattle.sieve_syntax.specs.Lexemes.{lexemes_of};
 ghost use Rattle.sieve_syntax.specs.Tree.{Commands};
 ghost use Rattle.sieve_syntax.specs.Valid.{IsValid};

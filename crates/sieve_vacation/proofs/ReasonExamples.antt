@@ -4,7 +4,7 @@ use Rattle.std.specs.Prelude.{codes, Option, Some, None}
 use Rattle.mail_head.specs.Fields.{FieldText}
 use Rattle.mail_address.specs.declared.address.Addr.{Addr}
 use Rattle.sieve_exec.specs.Mails.{MailSpec}
-use Rattle.sieve_syntax.specs.declared.tree.vacation.VacationArgs.{VacationArgs}
+use Rattle.sieve_syntax.specs.declared.extension.vacation.VacationArgs.{VacationArgs}
 use Rattle.sieve_vacation.specs.declared.reason.Reason.TheVariants as R
 use Rattle.sieve_vacation.specs.declared.reason.ReplyDecision.TheVariants as D
 use Rattle.sieve_vacation.specs.Cases.{is_robot, is_automatic, is_suppressing, is_bulk, is_users, is_too_soon, has_value, list_fields}

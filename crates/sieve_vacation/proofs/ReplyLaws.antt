@@ -6,8 +6,8 @@ use Rattle.mail_words.proofs.PieceLaws.{pieces_only, one_value}
 use Rattle.mail_words.proofs.WrittenLaws.{one_written}
 use Rattle.mail_address.specs.declared.address.Addr.{Addr}
 use Rattle.mail_address.specs.Spelling.{address_spelling}
-use Rattle.sieve_syntax.specs.declared.tree.vacation.VacationArgs.{VacationArgs}
-use Rattle.sieve_syntax.specs.declared.tree.vacation.ReplyFrom.{ReplyFrom}
+use Rattle.sieve_syntax.specs.declared.extension.vacation.VacationArgs.{VacationArgs}
+use Rattle.sieve_syntax.specs.declared.extension.vacation.ReplyFrom.{ReplyFrom}
 use Rattle.sieve_exec.specs.Mails.{MailSpec}
 use Rattle.sieve_vacation.specs.Layout.{IsDisplay, IsFromMailbox, IsFrom, IsSubject, IsVacationReply, is_quotable_display, is_phrase_text, display_of, usable, subject_of, auto_subject}
 use Rattle.sieve_vacation.proofs.DateLaws.{one_date}

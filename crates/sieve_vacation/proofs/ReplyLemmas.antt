@@ -1,8 +1,8 @@
 -- The parts of a response, appended in turn.
 use Rattle.std.proofs.Common.{◌≡◌, ℕ, Bool, true, false, ◌==◌, List, [], ◌∷◌, ◌++◌, length, sym, ap, ◌∙◌, subst}
 use Rattle.std.specs.Prelude.{codes, Some, unwrap_or}
-use Rattle.sieve_syntax.specs.declared.tree.vacation.VacationArgs.{VacationArgs}
-use Rattle.sieve_syntax.specs.declared.tree.vacation.ReplyFrom.{ReplyFrom}
+use Rattle.sieve_syntax.specs.declared.extension.vacation.VacationArgs.{VacationArgs}
+use Rattle.sieve_syntax.specs.declared.extension.vacation.ReplyFrom.{ReplyFrom}
 use Rattle.sieve_exec.specs.Mails.{MailSpec}
 use Rattle.sieve_vacation.specs.Layout.{reply_line, body_text, in_reply_to, version, content_header, with_line_end, usable, display_of, IsDisplay, IsFromMailbox}
 use Rattle.sieve_vacation.proofs.Appends.{glue5}

@@ -9,7 +9,7 @@ use Rattle.mail_head.specs.Heads.{unfold_of}
 use Rattle.mail_address.specs.declared.address.Addr.{Addr}
 use Rattle.mail_address.specs.Spelling.{unquoted_address}
 use Rattle.mail_address.specs.Reading.{addrs}
-use Rattle.sieve_syntax.specs.declared.tree.vacation.VacationArgs.{VacationArgs}
+use Rattle.sieve_syntax.specs.declared.extension.vacation.VacationArgs.{VacationArgs}
 use Rattle.sieve_exec.specs.Mails.{MailSpec}
 
 abbrev pub is_empty : List ℕ → Bool

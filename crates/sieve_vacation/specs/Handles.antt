@@ -1,7 +1,7 @@
 -- What identifies a response (RFC 5230, 4.2), and the key under which it is remembered.
 use Rattle.std.specs.Prelude.{ℕ, ◌<◌, ◌^◌, ◌/◌, ◌%◌, Bool, cond, List, [], ◌∷◌, ◌++◌, length, Option, None, Some, option_map}
-use Rattle.sieve_syntax.specs.declared.tree.vacation.VacationArgs.{VacationArgs}
-use Rattle.sieve_syntax.specs.declared.tree.vacation.ReplyFrom.{ReplyFrom}
+use Rattle.sieve_syntax.specs.declared.extension.vacation.VacationArgs.{VacationArgs}
+use Rattle.sieve_syntax.specs.declared.extension.vacation.ReplyFrom.{ReplyFrom}
 
 -- a response is identified by the name that `:handle` gives it; without a name by the subject, the text of `:from`, `:mime` and the reason together
 pub data Handle : Type 0 where

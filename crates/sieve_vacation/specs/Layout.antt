@@ -9,8 +9,8 @@ use Rattle.mail_words.specs.Headers.{IsHeaderText, IsWorded}
 use Rattle.mail_words.specs.Written.{has_written_words, has_phrase_words, lines_for, IsWrittenText}
 use Rattle.mail_address.specs.declared.address.Addr.{Addr}
 use Rattle.mail_address.specs.Spelling.{address_spelling, quoted}
-use Rattle.sieve_syntax.specs.declared.tree.vacation.VacationArgs.{VacationArgs}
-use Rattle.sieve_syntax.specs.declared.tree.vacation.ReplyFrom.{ReplyFrom}
+use Rattle.sieve_syntax.specs.declared.extension.vacation.VacationArgs.{VacationArgs}
+use Rattle.sieve_syntax.specs.declared.extension.vacation.ReplyFrom.{ReplyFrom}
 use Rattle.sieve_exec.specs.Mails.{MailSpec, text_shown}
 use Rattle.sieve_vacation.specs.Cases.{same_ignoring_case}
 use Rattle.sieve_vacation.specs.Dates.{IsUtcDateText}

@@ -3,7 +3,7 @@
 use Rattle.std.specs.Prelude.{ℕ, Bool, true, not, ◌||◌, cond, List, [], ◌∷◌, codes, Option}
 use Rattle.std.specs.List.{list_any}
 use Rattle.mail_address.specs.declared.address.Addr.{Addr}
-use Rattle.sieve_syntax.specs.declared.tree.vacation.VacationArgs.{VacationArgs}
+use Rattle.sieve_syntax.specs.declared.extension.vacation.VacationArgs.{VacationArgs}
 use Rattle.sieve_exec.specs.Mails.{MailSpec}
 use Rattle.sieve_exec.specs.Parts.{local_of, domain_of}
 use Rattle.sieve_vacation.specs.declared.reason.Reason.{Reason}

@@ -1,7 +1,7 @@
 //! Laws of the definitions, each the contract of a function that does nothing.
 ghost use Rattle.std.specs.Prelude.{◌≡◌, ◌↔◌, ℕ, List};
 ghost use Rattle.mail_address.specs.declared.address.Addr.{Addr};
-ghost use Rattle.sieve_syntax.specs.declared.tree.vacation.VacationArgs.{VacationArgs};
+ghost use Rattle.sieve_syntax.specs.declared.extension.vacation.VacationArgs.{VacationArgs};
 ghost use Rattle.sieve_exec.specs.Mails.{MailSpec};
 ghost use Rattle.sieve_vacation.specs.Dates.{IsUtcDateText};
 ghost use Rattle.sieve_vacation.specs.Layout.{IsVacationReply};

@@ -1,6 +1,6 @@
 //! Many clients at once.
-use crate::default_script::read_default;
 use crate::descriptors::{TOO_FEW, are_enough};
+use crate::host_settings::read_settings;
 use crate::listening::{Listening, fault_of_socket, listen};
 use crate::options::{DaemonOptions, MailOptions, read_options};
 use cli_run::fault::RunFault;
@@ -47,8 +47,15 @@ pub fn serve_daemon<
         Ok(asked) => asked,
         Err(fault) => return FaultWithCause::from(fault).refuse(&mut errors),
     };
-    let default = match read_default(system, alloc, words.default, output, &mut errors) {
-        Ok(default) => default,
+    let settings = match read_settings(
+        system,
+        alloc,
+        asked.zone,
+        words.default,
+        output,
+        &mut errors,
+    ) {
+        Ok(settings) => settings,
         Err(status) => return status,
     };
     let listening = match begin(
@@ -78,8 +85,7 @@ pub fn serve_daemon<
                 sink,
                 route,
                 words.path,
-                asked.zone,
-                default,
+                settings,
                 words.quiet,
                 errors,
             );

@@ -4,8 +4,8 @@
 
 mod check;
 mod daemon;
-mod default_script;
 mod descriptors;
+mod host_settings;
 mod listener;
 mod listening;
 mod options;
@@ -19,7 +19,7 @@ use cli_run::run::{run_subcommand, tell_unread};
 use cli_run::session::run_session;
 use cli_subcommands::{RawArgs, Subcommand, match_command_line, read_matches};
 use daemon::serve_daemon;
-use default_script::read_default;
+use host_settings::read_default;
 use listener::serve;
 use maildir_files::{MailSink, Maildir};
 use octets::Octets;
@@ -133,7 +133,7 @@ where
                 &mut keeper,
                 moment.clock,
                 moment.random,
-                default.as_ref().map(Octets::as_slice),
+                default,
                 &mut sink,
             )
         }

@@ -24,7 +24,7 @@ use Rattle.store_engine.specs.Upkeep.{instead}
 use Rattle.store_engine.proofs.UpkeepLemmas.{keeps_one}
 use Rattle.store_accounts.specs.declared.refusal.Refusal.TheVariants.{UserExists, UserHasMail}
 use Rattle.store_engine.specs.OwnActs as own
-use Rattle.store_engine.specs.Terms.{Terms}
+use Rattle.store_engine.specs.declared.terms.Terms.{Terms}
 use Rattle.store_engine.specs.OwnActs.{UserAct, ActsAlone, ActsInTurn, CommandsAlone, RepliesAlone, ReceivesOpen, ReceivesIn, RenewsAlone, JoinsIn, ReplacesAlone, ImportsIn, TakesRowAlone, TakesOpen, TakesFirstAlone, TakesMailOpen}
 
 -- any two replies that a row allows agree in whether the word is OK
@@ -128,7 +128,7 @@ delivered_one : (terms : Terms) (envelope : Envelope) (message : List ℕ) (a : 
 delivered_one terms envelope message a r1 r2 one two is was =
     let found : Some is.own ≡ Some was.own = sym (bare-found a.address is.own is.address) ∙ bare-found a.address was.own was.address in
     let same : is.own ≡ was.own = cc in
-    (one_delivery was.own (mail_spec_of message envelope terms.when) (deciding_text terms.default a) a r1 r2 one two (subst (λ own. Delivers own (mail_spec_of message envelope terms.when) (deciding_text terms.default a) a r1 one) same is.delivers) was.delivers).1
+    (one_delivery was.own (mail_spec_of message envelope terms.when) (deciding_text terms.host.default a) a r1 r2 one two (subst (λ own. Delivers own (mail_spec_of message envelope terms.when) (deciding_text terms.host.default a) a r1 one) same is.delivers) was.delivers).1
 
 receives_one : (o : Option Refusal) (account : Option Account) (envelope : Envelope) (message : List ℕ) (terms : Terms) (answer : Answer) (one two : Option Account)
     → ReceivesIn o account envelope message terms answer one → ReceivesIn o account envelope message terms answer two → one ≡ two

@@ -41,7 +41,7 @@ use Rattle.store_engine.specs.declared.upkeep.Upkeep.{Upkeep}
 use Rattle.store_engine.specs.Upkeep.{kept_password, instead, put_instead, Keeping}
 use Rattle.store_engine.proofs.UpkeepLemmas.{lost_stays}
 use Rattle.store_engine.specs.OwnActs.{UserAct, Commands, LogsIn, Receives, Joins, IsImported, TakesOut, TakesMail, IsKept, TakesFirstAlone, TakesMailOpen, RepliesAlone, CommandsAlone, admits, ReceivesOpen, ReceivesIn, RenewsAlone, JoinsIn, ReplacesAlone, ImportsIn, TakesRowAlone, TakesOpen, ActsAlone, ActsInTurn, is_user, when_of, is_welcome, login_acts, text_acts, command_acts, item_acts, step_acts, is_lost, event_acts, acts_in, user_acts, IsAlone}
-use Rattle.store_engine.specs.Terms.{Terms, terms}
+use Rattle.store_engine.specs.declared.terms.Terms.{Terms}
 use Rattle.store_engine.specs.World.{World, InSession, OpensSession, StepsSession, EventHappens, MayRefuseEvent, IsEventRefused, Next, Runs}
 
 -- ---- accounts by name
@@ -522,9 +522,9 @@ happens_alone user w next (Step s) answer made = go (get w.sessions s) made
     go (Some c) is = steps_alone user w next s c answer is
 happens_alone user w next (GiveUp s) answer made = in_session user w next answer (get w.sessions s) _ (λ c is. ap (λ v. v.accounts) is.changed) made
 happens_alone user w next (Close s) answer made = in_session user w next answer (get w.sessions s) _ (λ c is. ap (λ v. v.accounts) is.changed) made
-happens_alone user w next (Deliver name envelope message when default) answer made =
-    account_alone user name w next answer (Receives envelope message (terms when default) answer) made.0 made.2 (delivery_other user name w.accounts made.0 answer envelope message (terms when default) made.1)
-    (λ is. delivery_own user w.accounts made.0 answer (bytes_eq_refl user) envelope message (terms when default) (subst (λ n. Delivery w.accounts n envelope message (terms when default) answer made.0) (sym (same_name user name is)) made.1))
+happens_alone user w next (Deliver name envelope message terms) answer made =
+    account_alone user name w next answer (Receives envelope message terms answer) made.0 made.2 (delivery_other user name w.accounts made.0 answer envelope message terms made.1)
+    (λ is. delivery_own user w.accounts made.0 answer (bytes_eq_refl user) envelope message terms (subst (λ n. Delivery w.accounts n envelope message terms answer made.0) (sym (same_name user name is)) made.1))
 happens_alone user w next (AddUser name address salt password) answer made =
     account_alone user name w next answer (Joins address salt password answer) made.0 made.2 (addition_other user name w.accounts made.0 answer address salt password made.1)
     (λ is. addition_own user w.accounts made.0 answer (bytes_eq_refl user) address salt password (subst (λ n. Addition w.accounts n address salt password answer made.0) (sym (same_name user name is)) made.1))

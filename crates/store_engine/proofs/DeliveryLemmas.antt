@@ -25,7 +25,7 @@ use Rattle.store_engine.specs.declared.delivery.Lookup.{Lookup}
 use Rattle.store_engine.specs.AccountEvents.{absence, DeliversIn, DeliversTo, DeliversUnder, Delivery}
 use Rattle.store_engine.specs.Hosts.{TurnsBy, MayTurnBy, MayRefuseDelivery, RefusesDelivery, ActsDelivery}
 use Rattle.store_engine.specs.Limits.{limit_refusal, message_limit, is_envelope, moment_limit}
-use Rattle.store_engine.specs.Terms.{Terms}
+use Rattle.store_engine.specs.declared.terms.Terms.{Terms}
 use Rattle.store_engine.specs.Lookups.{LooksUp, IsLookup}
 
 -- a moment that no limit stands against

@@ -20,7 +20,9 @@ use Rattle.store_engine.specs.declared.answer.Answer.TheVariants.{Delivered, Add
 use Rattle.store_engine.specs.Limits.{IsNewUser}
 use Rattle.store_accounts.specs.Account.{row_with}
 use Rattle.store_engine.specs.AccountEvents.{MachineRefuses, Renews, absence, active_text, script_or_default, deciding_text, DeliversIn, Delivery, AddsUnder, Addition, TakesFromQueue, TakesQueueRow, Taking}
-use Rattle.store_engine.specs.Terms.{Terms, terms}
+use Rattle.mail_dates.specs.declared.host_zone.HostZone.TheVariants.{Always}
+use Rattle.store_engine.specs.declared.terms.HostSettings.{HostSettings}
+use Rattle.store_engine.specs.declared.terms.Terms.{Terms}
 use Rattle.store_engine.proofs.AloneLemmas.{put_own, put_other, delivery_other}
 
 abbrev alice : List ℕ
@@ -38,12 +40,16 @@ message = codes "Hi"
 abbrev row : ℕ → QueuedMessage
 row id = record { id = id; kind = Redirect; sender = codes "bob@example.net"; target = codes "carol@example.com"; message = message }
 
--- the fifth second of 1970, and one past the year 9999, by a host without a default script
+-- a host in UTC, without a default script
+abbrev in_utc : HostSettings
+in_utc = record { zone = Always (record { minutes = pos 0; within = (search (rules, ints), search (rules, ints)) }); default = None }
+
+-- the fifth second of 1970 there, and one past the year 9999
 abbrev at_five : Terms
-at_five = terms (record { moment = 5; zone = pos 0; within = (search (rules, ints), search (rules, ints)) }) None
+at_five = record { when = record { moment = 5; zone = pos 0; within = (search (rules, ints), search (rules, ints)) }; host = in_utc }
 
 abbrev too_late : Terms
-too_late = terms (record { moment = 253402300800; zone = pos 0; within = (search (rules, ints), search (rules, ints)) }) None
+too_late = record { when = record { moment = 253402300800; zone = pos 0; within = (search (rules, ints), search (rules, ints)) }; host = in_utc }
 
 -- where no script is active the host's default decides, and where none is there nothing does
 default_decides : (a : Account) (default : Option (List ℕ)) → a.active ≡ None → deciding_text default a ≡ default

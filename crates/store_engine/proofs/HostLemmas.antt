@@ -37,7 +37,7 @@ use Rattle.store_engine.specs.declared.answer.Answer.TheVariants.{Out, Ignored, 
 use Rattle.store_engine.specs.World.{World, Clients, with_accounts, Ignores, WorldBecomes, InSession, OpensSession, StepsSession, EventHappens, MayRefuseEvent, with_session, without_session, MayLack, MayFail, if_open, is_free_number}
 use Rattle.store_engine.specs.Hosts.{SessionMap, IsMade, clients_of, EventAsksStore, HasClients, host, IsSessionEvent, KeepsClients, IsEvent, EventLeads, EventCrashLeaves, answer_by, answer_of, TurnsBy, MayTurnBy, MayRefuseDelivery, MayRefuseAddition, MayRefuseImport, MayRefuseKeeping}
 use Rattle.store_text.specs.declared.account_file.AccountFile.{AccountFile}
-use Rattle.sieve_exec.specs.declared.when.When.{When}
+use Rattle.store_engine.specs.declared.terms.Terms.{Terms}
 use Rattle.store_engine.specs.declared.upkeep.Upkeep.{Upkeep}
 
 -- ---- maps
@@ -361,9 +361,9 @@ lacking_may w event refusal is may = subst (MayRefuseEvent w event) (sym is) may
 failing_may : (w : World) (event : Event) (refusal : Refusal) → refusal ≡ Store → MayFail w event → MayRefuseEvent w event refusal
 failing_may w event refusal is may = subst (MayRefuseEvent w event) (sym is) may
 
-pub delivery_may : (user message : List ℕ) (envelope : Envelope) (when : When) (default : Option (List ℕ)) (w : World) (refusal : Refusal) → MayRefuseDelivery envelope message when.moment refusal → MayRefuseEvent w (Deliver user envelope message when default) refusal
-delivery_may user message envelope when default w refusal (inl is, none) = lacking_may w (Deliver user envelope message when default) refusal is none
-delivery_may user message envelope when default w refusal (inr is, none) = failing_may w (Deliver user envelope message when default) refusal is none
+pub delivery_may : (user message : List ℕ) (envelope : Envelope) (terms : Terms) (w : World) (refusal : Refusal) → MayRefuseDelivery envelope message terms.when.moment refusal → MayRefuseEvent w (Deliver user envelope message terms) refusal
+delivery_may user message envelope terms w refusal (inl is, none) = lacking_may w (Deliver user envelope message terms) refusal is none
+delivery_may user message envelope terms w refusal (inr is, none) = failing_may w (Deliver user envelope message terms) refusal is none
 
 pub addition_may : (name address salt password : List ℕ) (w : World) (refusal : Refusal) → MayRefuseAddition name address password refusal → MayRefuseEvent w (AddUser name address salt password) refusal
 addition_may name address salt password w refusal (inl is) = lacking_may w (AddUser name address salt password) refusal is tt

@@ -19,7 +19,7 @@ use Rattle.store_engine.specs.Sound.{AreSound, KeepsSound}
 use Rattle.store_engine.proofs.AloneLemmas.{projection}
 use Rattle.store_engine.proofs.SpacingLemmas.{spacing}
 use Rattle.store_engine.proofs.SoundLemmas.{runs_sound}
-use Rattle.store_engine.specs.Terms.{Terms}
+use Rattle.store_engine.specs.declared.terms.Terms.{Terms}
 use Rattle.store_engine.proofs.HostLemmas.{clients_are, delivery_may}
 
 -- a run goes on with one event more
@@ -72,10 +72,10 @@ run_counted old new events at told all ran count is =
 -- the event with this answer, by the delivery's row or refused without visible cause
 delivery_next : (user : List ℕ) (envelope : Envelope) (message : List ℕ) (terms : Terms) (w : World) (answer : Answer) (later : Accounts)
     → TurnsBy (λ accounts. Delivery accounts user envelope message terms) (MayRefuseDelivery envelope message terms.when.moment) answer w.accounts later
-    → Next w (Deliver user envelope message terms.when terms.default) answer (record { accounts = later; sessions = w.sessions })
+    → Next w (Deliver user envelope message terms) answer (record { accounts = later; sessions = w.sessions })
 delivery_next user envelope message terms w answer later (inl row) = inl (later, row, refl)
 delivery_next user envelope message terms w answer later (inr (refusal, may, is, same)) =
-    inr (record { refusal = refusal; may = delivery_may user message envelope terms.when terms.default w refusal may; refused = is; stays = ap (λ all. record { accounts = all; sessions = w.sessions }) same })
+    inr (record { refusal = refusal; may = delivery_may user message envelope terms w refusal may; refused = is; stays = ap (λ all. record { accounts = all; sessions = w.sessions }) same })
 
 -- a delivery is a run of one event
 pub delivery_spaced : (user : List ℕ) (envelope : Envelope) (message : List ℕ) (terms : Terms) (old new : State) (q : Result Report Refusal) → ActsDelivery user envelope message terms old new q
@@ -83,8 +83,8 @@ pub delivery_spaced : (user : List ℕ) (envelope : Envelope) (message : List �
 delivery_spaced user envelope message terms old new q acts clean w had =
     let turned = acts.carries clean w.accounts had in
     let end : World = record { accounts = turned.0; sessions = w.sessions } in
-    let run : Runs w (Deliver user envelope message terms.when terms.default ∷ []) (answer_by Delivered q ∷ []) end = (end, delivery_next user envelope message terms w (answer_by Delivered q) turned.0 turned.1, refl) in
-    (end, run, turned.2, spacing (Deliver user envelope message terms.when terms.default ∷ []) (answer_by Delivered q ∷ []) w end run)
+    let run : Runs w (Deliver user envelope message terms ∷ []) (answer_by Delivered q ∷ []) end = (end, delivery_next user envelope message terms w (answer_by Delivered q) turned.0 turned.1, refl) in
+    (end, run, turned.2, spacing (Deliver user envelope message terms ∷ []) (answer_by Delivered q ∷ []) w end run)
 
 -- ---- what every run is
 

@@ -22,7 +22,7 @@ use Rattle.store_accounts.specs.declared.queue.QueuedMessage.{QueuedMessage}
 use Rattle.managesieve_protocol.specs.declared.replies.Status.{Status}
 use Rattle.sieve_exec.specs.Mails.{MailSpec, mail_spec_of}
 use Rattle.sieve_syntax.specs.Meaning.{Actions}
-use Rattle.sieve_syntax.specs.declared.tree.vacation.VacationArgs.{VacationArgs}
+use Rattle.sieve_syntax.specs.declared.extension.vacation.VacationArgs.{VacationArgs}
 use Rattle.sieve_vacation.specs.Cases.{period_of, is_too_soon}
 use Rattle.sieve_vacation.specs.Handles.{Handle, Named, Same, four_octets, handle_of, handle_key_of}
 use Rattle.sieve_vacation.specs.Reasons.{reason_holds, first_of, decision_of}
@@ -58,7 +58,7 @@ use Rattle.store_engine.specs.World.{World, Next, Runs}
 use Rattle.store_engine.specs.Spacing.{Thread, SentReply, entry_of, entries_if, vacation_in, sent_in, sent_under, sent_by, sent_at, sent, kept_in, kept_moment, IsPast, ComeAfter, Follow, IsAtLeast, IsSpacing}
 use Rattle.store_engine.proofs.AloneLemmas.{put_own, next_alone, projection}
 use Rattle.store_accounts.proofs.AccountLemmas.{reply_total, reply_antisymmetric}
-use Rattle.store_engine.specs.Terms.{terms}
+use Rattle.store_engine.specs.declared.terms.Terms.{Terms}
 use Rattle.sqlite_typed.proofs.TestLemmas.{bytes_eq_refl}
 
 -- ---- a kept moment never goes back
@@ -510,18 +510,18 @@ sent_one w next (Import file) answer (inl made) = tt
 sent_one w next (TakeOut name id) answer (inl made) = tt
 sent_one w next (TakeMail name folder) answer (inl made) = tt
 sent_one w next (DoUpkeep name upkeep) answer (inl made) = tt
-sent_one w next (Deliver user envelope message when default) answer (inl made) = subst (λ v. IsOneAnswer w.accounts v.accounts (sent_by w (Deliver user envelope message when default) answer next made)) (sym made.2) (go (limit_refusal envelope message when.moment) made.1)
+sent_one w next (Deliver user envelope message terms) answer (inl made) = subst (λ v. IsOneAnswer w.accounts v.accounts (sent_by w (Deliver user envelope message terms) answer next made)) (sym made.2) (go (limit_refusal envelope message terms.when.moment) made.1)
   where
     later : Accounts
     later = made.0
 
-    inserted : (o : Option Account) → open_account_of w.accounts user ≡ o → (is : DeliversIn w.accounts user (terms when default) envelope message o answer later) → IsOneAnswer w.accounts later (sent_in w.accounts user (terms when default) envelope message o answer later is)
+    inserted : (o : Option Account) → open_account_of w.accounts user ≡ o → (is : DeliversIn w.accounts user terms envelope message o answer later) → IsOneAnswer w.accounts later (sent_in w.accounts user terms envelope message o answer later is)
     inserted None has is = tt
     inserted (Some a) has is =
-        named_one w.accounts later user (Some a) (Some is.account) envelope.from when.moment is.report.vacation (vacation_in is.delivers.delivers.disposition) (open_there (get w.accounts user) a has) (ap (λ all. get all user) is.changed ∙ put_own w.accounts user is.account (bytes_eq_refl user))
-        (delivered_one is.delivers.own user when.moment (mail_spec_of message envelope when) is.delivers.delivers.disposition a is.account is.report is.delivers.delivers.delivers)
+        named_one w.accounts later user (Some a) (Some is.account) envelope.from terms.when.moment is.report.vacation (vacation_in is.delivers.delivers.disposition) (open_there (get w.accounts user) a has) (ap (λ all. get all user) is.changed ∙ put_own w.accounts user is.account (bytes_eq_refl user))
+        (delivered_one is.delivers.own user terms.when.moment (mail_spec_of message envelope terms.when) is.delivers.delivers.disposition a is.account is.report is.delivers.delivers.delivers)
 
-    go : (o : Option Refusal) → (is : DeliversUnder o w.accounts user (terms when default) envelope message answer later) → IsOneAnswer w.accounts later (sent_under o w.accounts user (terms when default) envelope message answer later is)
+    go : (o : Option Refusal) → (is : DeliversUnder o w.accounts user terms envelope message answer later) → IsOneAnswer w.accounts later (sent_under o w.accounts user terms envelope message answer later is)
     go (Some refusal) is = tt
     go None is = inserted (open_account_of w.accounts user) refl is
 

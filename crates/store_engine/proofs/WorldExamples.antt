@@ -27,7 +27,7 @@ use Rattle.store_engine.specs.AccountEvents.{TakesFromQueue}
 use Rattle.store_engine.specs.World.{World, Clients, with_session, without_session, WorldBecomes, OpensSession, InSession, StepsSession, EventHappens, if_open, MayRefuseEvent, IsEventRefused, Next, Runs}
 use Rattle.store_engine.specs.Hosts.{HasClients, MayRefuseDelivery, RefusesTaking, answer_by}
 use Rattle.store_engine.proofs.AloneLemmas.{put_own}
-use Rattle.sieve_exec.specs.declared.when.When.{When}
+use Rattle.store_engine.specs.declared.terms.Terms.{Terms}
 use Rattle.store_engine.proofs.HostLemmas.{clients_are}
 
 abbrev alice : List ℕ
@@ -202,14 +202,14 @@ envelope = record { from = []; to = codes "alice@example.org" }
 row_of_none : (c : Client) → EventHappens (seven c) (TakeOut alice 1) (Refused NoUser) (seven c)
 row_of_none c = (empty, subst (λ o. TakesFromQueue empty alice 1 o (Refused NoUser) empty) (sym (ap open_one (get-empty bytes_cmp alice))) (record { refused = refl; stays = refl }), refl)
 
-delivered_and_closed : (c : Client) (message : List ℕ) (when : When) (default : Option (List ℕ)) (answer : Answer) → EventHappens (seven c) (Deliver alice envelope message when default) answer nothing → ⊥
-delivered_and_closed c message when default answer is =
+delivered_and_closed : (c : Client) (message : List ℕ) (terms : Terms) (answer : Answer) → EventHappens (seven c) (Deliver alice envelope message terms) answer nothing → ⊥
+delivered_and_closed c message terms answer is =
     let no : None ≡ Some c = sym (get-empty nat_cmp 7) ∙ (ap (λ (w : World). get w.sessions 7) is.2 ∙ at_seven c) in
     cc
 
 -- near misses: the store refuses what a limit stands against, and a user whose name has a blank
-late_told_as_store : (w : World) (when : When) (default : Option (List ℕ)) → when.moment ≡ 253402300800 → MayRefuseEvent w (Deliver alice envelope [] when default) Store → ⊥
-late_told_as_store w when default late may = let no : Some BadMoment ≡ None = sym (ap (limit_refusal envelope []) late) ∙ may in cc
+late_told_as_store : (w : World) (terms : Terms) → terms.when.moment ≡ 253402300800 → MayRefuseEvent w (Deliver alice envelope [] terms) Store → ⊥
+late_told_as_store w terms late may = let no : Some BadMoment ≡ None = sym (ap (limit_refusal envelope []) late) ∙ may in cc
 
 blank_told_as_store : (w : World) (address salt password : List ℕ) → MayRefuseEvent w (AddUser (codes "a b") address salt password) Store → ⊥
 blank_told_as_store w address salt password may = let no : false ≡ true = may.named in cc

@@ -22,7 +22,7 @@ use Rattle.store_engine.specs.declared.answer.Answer.TheVariants.{Delivered, Add
 use Rattle.store_engine.specs.Limits.{limit_refusal, is_user_name, IsNewUser}
 use Rattle.store_engine.specs.Importable.{may_guard, have_short_flags}
 use Rattle.store_engine.specs.Sound.{IsSoundAccount}
-use Rattle.store_engine.specs.Terms.{Terms}
+use Rattle.store_engine.specs.declared.terms.Terms.{Terms}
 use Rattle.store_engine.specs.Upkeep.{rounds, kept_password}
 
 -- the event is refused by the machine itself, and nothing changes
@@ -54,7 +54,7 @@ deciding_text default a = script_or_default (active_text a) default
 pub record DeliversTo (terms : Terms) (envelope : Envelope) (message : List ℕ) (a : Account) (report : Report) (a2 : Account) : Type 0 where
   pub own : Addr
   pub address : IsBareAddress a.address own
-  pub delivers : Delivers own (mail_spec_of message envelope terms.when) (deciding_text terms.default a) a report a2
+  pub delivers : Delivers own (mail_spec_of message envelope terms.when) (deciding_text terms.host.default a) a report a2
 
 -- a delivery to the user: the account is as after it, and no other changes
 pub record DeliversUser (accounts : Accounts) (user : List ℕ) (terms : Terms) (envelope : Envelope) (message : List ℕ)

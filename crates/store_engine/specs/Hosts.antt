@@ -34,7 +34,7 @@ use Rattle.store_engine.specs.AccountEvents.{Delivery, Addition, IsImportable, I
 use Rattle.store_engine.specs.declared.upkeep.Upkeep.{Upkeep}
 use Rattle.store_engine.specs.Upkeep.{Keeping, IsFit, MayLackFor}
 use Rattle.store_engine.specs.Limits.{limit_refusal, IsNewUser}
-use Rattle.store_engine.specs.Terms.{Terms}
+use Rattle.store_engine.specs.declared.terms.Terms.{Terms}
 use Rattle.store_engine.specs.World.{World, Clients, if_open, Next, Runs}
 
 -- sessions by their numbers, as the code keeps them
@@ -212,7 +212,7 @@ ActsDelivery user envelope message terms =
 -- a delivery is a run of one event, whatever sessions there are, and the reply that it sends, if it sends one, is spaced by its period
 abbrev pub IsSpacedDelivery : List ℕ → Envelope → List ℕ → Terms → State → State → Result Report Refusal → Type 0
 IsSpacedDelivery user envelope message terms old new result =
-    let events = Deliver user envelope message terms.when terms.default ∷ [] in
+    let events = Deliver user envelope message terms ∷ [] in
     let told = answer_by Delivered result ∷ [] in
     HasCleanDisk new → (w : World) → HasAccounts old w.accounts
     → (end : World) × (run : Runs w events told end) × HasAccounts new end.accounts × IsSpaced w events told end run

@@ -34,7 +34,7 @@ use Rattle.store_accounts.specs.Account.{row_with}
 use Rattle.store_engine.specs.AccountEvents.{MachineRefuses, DeliversTo, absence, IsImportable}
 use Rattle.store_engine.specs.declared.upkeep.Upkeep.{Upkeep}
 use Rattle.store_engine.specs.Upkeep.{kept_password, KeepingAlone}
-use Rattle.store_engine.specs.Terms.{Terms, terms}
+use Rattle.store_engine.specs.declared.terms.Terms.{Terms}
 use Rattle.store_engine.specs.World.{World, Runs}
 
 -- ---- acts
@@ -240,7 +240,7 @@ is_lost answer = false
 -- the acts of the user in one event, by the sessions that there are
 abbrev pub event_acts : List ℕ → World → Event → Answer → List UserAct
 event_acts user w (Step s) answer = step_acts user (get w.sessions s) answer
-event_acts user w (Deliver name envelope message when default) answer = when_of user (Some name) (Receives envelope message (terms when default) answer)
+event_acts user w (Deliver name envelope message terms) answer = when_of user (Some name) (Receives envelope message terms answer)
 event_acts user w (AddUser name address salt password) answer = when_of user (Some name) (Joins address salt password answer)
 event_acts user w (Import file) answer = when_of user (Some file.head.owner.name) (IsImported file.head file.parts answer)
 event_acts user w (TakeOut name id) answer = when_of user (Some name) (TakesOut id answer)

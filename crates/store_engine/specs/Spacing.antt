@@ -6,7 +6,7 @@ use Rattle.octets.specs.Ascii.{lowered}
 use Rattle.store_text.specs.Text.{IsAccountText}
 use Rattle.store_text.specs.declared.head.AccountHead.{AccountHead}
 use Rattle.store_text.specs.declared.part.Part.{Part}
-use Rattle.sieve_syntax.specs.declared.tree.vacation.VacationArgs.{VacationArgs}
+use Rattle.sieve_syntax.specs.declared.extension.vacation.VacationArgs.{VacationArgs}
 use Rattle.sieve_exec.specs.declared.envelope.Envelope.{Envelope}
 use Rattle.sieve_vacation.specs.Cases.{period_of}
 use Rattle.sieve_vacation.specs.Handles.{Handle, handle_of, handle_key_of}
@@ -23,7 +23,7 @@ use Rattle.store_engine.specs.declared.answer.Answer.{Answer}
 use Rattle.store_engine.specs.declared.answer.Answer.TheVariants.{Imported}
 use Rattle.store_engine.specs.Limits.{limit_refusal}
 use Rattle.store_engine.specs.AccountEvents.{DeliversTo, DeliversIn, DeliversUnder, Importing}
-use Rattle.store_engine.specs.Terms.{Terms, terms}
+use Rattle.store_engine.specs.declared.terms.Terms.{Terms}
 use Rattle.store_engine.specs.World.{World, EventHappens, Next, Runs}
 
 -- to whom a reply went: the user, the handle's key, and the sender, ignoring case
@@ -74,8 +74,8 @@ sent_under (Some refusal) accounts user terms envelope message answer later made
 sent_under None accounts user terms envelope message answer later made = sent_in accounts user terms envelope message (open_account_of accounts user) answer later made
 
 abbrev pub sent_by : (w : World) (event : Event) (answer : Answer) (next : World) → EventHappens w event answer next → List SentReply
-sent_by w (Deliver user envelope message when default) answer next made =
-    sent_under (limit_refusal envelope message when.moment) w.accounts user (terms when default) envelope message answer made.0 made.1
+sent_by w (Deliver user envelope message terms) answer next made =
+    sent_under (limit_refusal envelope message terms.when.moment) w.accounts user terms envelope message answer made.0 made.1
 sent_by w event answer next made = []
 
 -- for one event; one that is refused sends nothing

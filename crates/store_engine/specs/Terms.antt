@@ -1,18 +1,13 @@
--- The terms of a delivery: the moment, and the script if the account has no active one.
-use Rattle.std.specs.Prelude.{List, ℕ, Option}
-use Rattle.std.specs.Borrow.{Bor}
-use Rattle.store_tables.specs.Cells.{borrowed_octets}
+-- What a delivery is done under: what the host says of each one, and when it is.
 use Rattle.sieve_exec.specs.declared.when.When.{When}
+use Rattle.store_engine.specs.declared.terms.HostSettings.{HostSettings}
+use Rattle.store_engine.specs.declared.terms.Terms.{Terms}
+use Rattle.store_engine.specs.declared.terms.LentTerms.{LentTerms}
 
--- when a message is delivered, and the host's default script, if it has one
-pub record Terms : Type 0 where
-  pub when : When
-  -- the text of the host's default script, if there is one
-  pub default : Option (List ℕ)
+-- by a host, at a moment of its clock
+abbrev pub terms : When → HostSettings → Terms
+terms when host = record { when = when; host = host }
 
-abbrev pub terms : When → Option (List ℕ) → Terms
-terms when default = record { when = when; default = default }
-
--- from the values of the code
-abbrev pub terms_of : When → Option (Bor (List ℕ)) → Terms
-terms_of when default = terms when (borrowed_octets default)
+-- the terms that are lent
+abbrev pub terms_of : LentTerms → Terms
+terms_of lent = terms lent.when lent.host.now

@@ -18,7 +18,7 @@ use Rattle.store_engine.specs.declared.answer.Answer.{Answer}
 use Rattle.store_engine.specs.declared.answer.Answer.TheVariants.{Out, Ignored, Refused}
 use Rattle.store_engine.specs.Limits.{limit_refusal, IsNewUser}
 use Rattle.store_engine.specs.AccountEvents.{Delivery, Addition, IsImportable, Importing, Taking, MailTaking}
-use Rattle.store_engine.specs.Terms.{terms}
+use Rattle.store_engine.specs.declared.terms.Terms.{Terms}
 use Rattle.store_engine.specs.Upkeep.{Keeping, IsFit, MayLackFor}
 
 -- open sessions by their numbers
@@ -85,8 +85,8 @@ EventHappens w (Step s) answer next = InSession w (get w.sessions s) (StepsSessi
 EventHappens w (GiveUp s) answer next =
     InSession w (get w.sessions s) (λ c. WorldBecomes (Out (progress_given_up c) (text_given_up c)) (with_session s (client_given_up c) w)) answer next
 EventHappens w (Close s) answer next = InSession w (get w.sessions s) (λ c. WorldBecomes (Out progress.Close []) (without_session s w)) answer next
-EventHappens w (Deliver user envelope message when default) answer next =
-    with_accounts w (Delivery w.accounts user envelope message (terms when default)) answer next
+EventHappens w (Deliver user envelope message terms) answer next =
+    with_accounts w (Delivery w.accounts user envelope message terms) answer next
 EventHappens w (AddUser name address salt password) answer next = with_accounts w (Addition w.accounts name address salt password) answer next
 EventHappens w (Import file) answer next = with_accounts w (Importing w.accounts file.head file.parts) answer next
 EventHappens w (TakeOut user id) answer next = with_accounts w (Taking w.accounts user id) answer next
@@ -117,7 +117,7 @@ MayLack w (Give s piece) = if_open (λ c. true) (get w.sessions s) ≡ true
 MayLack w (Step s) = if_open may_lack (get w.sessions s) ≡ true
 MayLack w (GiveUp s) = ⊥
 MayLack w (Close s) = ⊥
-MayLack w (Deliver user envelope message when default) = limit_refusal envelope message when.moment ≡ None
+MayLack w (Deliver user envelope message terms) = limit_refusal envelope message terms.when.moment ≡ None
 MayLack w (AddUser name address salt password) = Unit {0}
 MayLack w (Import file) = Unit {0}
 MayLack w (TakeOut user id) = Unit {0}
@@ -127,7 +127,7 @@ MayLack w (DoUpkeep user upkeep) = MayLackFor upkeep
 -- whether the event may be refused by the store: only one that asks it
 abbrev pub MayFail : World → Event → Type 0
 MayFail w (Step s) = if_open may_fail (get w.sessions s) ≡ true
-MayFail w (Deliver user envelope message when default) = limit_refusal envelope message when.moment ≡ None
+MayFail w (Deliver user envelope message terms) = limit_refusal envelope message terms.when.moment ≡ None
 MayFail w (AddUser name address salt password) = IsNewUser name address password
 MayFail w (Import file) = IsImportable file.head file.parts
 MayFail w (TakeOut user id) = Unit {0}

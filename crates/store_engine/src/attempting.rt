@@ -10,12 +10,13 @@ ghost use Rattle.sieve_exec.specs.Mails.{mail_spec_of};
 ghost use Rattle.sieve_exec.specs.Outcomes.{outcome_at};
 ghost use Rattle.sieve_exec.specs.Runs.{outcome_view};
 
-use sieve_exec::{Envelope, Mail, Outcome, When};
+use crate::terms::LentTerms;
+use sieve_exec::{Envelope, Mail, Outcome};
 use sieve_lex::ScriptError;
 use sieve_plan::evaluate_script;
 use std::alloc::Global;
 
-/// What a script does with a message that is delivered at that moment (RFC 5228, 2.10), or why it is no valid script.
+/// What a script does with a message that is delivered under these terms (RFC 5228, 2.10), or why it is no valid script.
 ///
 /// Nothing is filed, sent or answered: the outcome says what would be. Script, envelope and message have no limit
 /// on their size. The script is compiled in time linear in it, and each of its tests is asked at most once; the
@@ -30,16 +31,16 @@ pub fn attempt(
     script: &[u8],
     envelope: Envelope,
     message: &[u8],
-    when: When,
+    terms: LentTerms<'_>,
 ) -> Result<Outcome, ScriptError>
     ensures valid { IfOk result (λ done. (tree : Commands) × Means script.now tree) }
     ensures done { IfOk result (λ done. (tree : Commands) → Means script.now tree →
-        outcome_view done ≡ outcome_at (mail_spec_of message.now envelope when) tree) }
+        outcome_view done ≡ outcome_at (mail_spec_of message.now envelope terms.entry.when) tree) }
     ensures fault { IfFault result ((tree : Commands) → Means script.now tree → ⊥) }
     ensures line { IfFaultLine result (λ line.
         (1 ≤ line) × (line ≤ 1 + line_ends script.now)) }
 {
-    let mail = Mail::read(alloc, message, envelope, when)?;
+    let mail = Mail::read(alloc, message, envelope, terms.when)?;
     evaluate_script(alloc, script, &mail)
 }
 
@@ -57,15 +58,15 @@ pub fn attempt_on_prefix(
     envelope: Envelope,
     front: &[u8],
     size: u64,
-    when: When,
+    terms: LentTerms<'_>,
 ) -> Result<Outcome, ScriptError>
     ensures valid { IfOk result (λ done. (tree : Commands) × Means script.now tree) }
     ensures done { IfOk result (λ done. (tree : Commands) (message : List ℕ) → Means script.now tree → IsHeaderPrefix front.now message → size ≡ size_of message
-        → outcome_view done ≡ outcome_at (mail_spec_of message envelope when) tree) }
+        → outcome_view done ≡ outcome_at (mail_spec_of message envelope terms.entry.when) tree) }
     ensures fault { IfFault result ((tree : Commands) → Means script.now tree → ⊥) }
     ensures line { IfFaultLine result (λ line.
         (1 ≤ line) × (line ≤ 1 + line_ends script.now)) }
 {
-    let known = Mail::read_prefix(alloc, front, size, envelope, when)?;
+    let known = Mail::read_prefix(alloc, front, size, envelope, terms.when)?;
     evaluate_script(alloc, script, &known)
 }

@@ -21,9 +21,10 @@ ghost use Rattle.store_engine.specs.Terms.{terms_of};
 
 use crate::account::{ActiveScript, active_script};
 use crate::limits::limit_refusal;
+use crate::terms::{HostSettings, LentTerms};
 use mail_address::{Addr, bare_address};
-use octets::{List, Octets, Texts};
-use sieve_exec::{Envelope, Mail, When};
+use octets::{List, Octets, Texts, as_deref};
+use sieve_exec::{Envelope, Mail};
 use sieve_plan::{
     AccountView, Deeds, Disposition, dispose, half_handle, half_of, has_long_header, is_near_if,
     plan, plan_unread, redirect_keys, sent_end, sent_handle,
@@ -45,8 +46,8 @@ pub(crate) struct Lookup {
 
 /// Delivers a message to a user by the active script (RFC 5228, 2.10), in one transaction, which is its last act.
 ///
-/// `default` is the text of the host's default script: an account without an active script is treated as if this were its active
-/// one, and an account with an active script never sees it. The message is borrowed and read once; no copy of it is made beside
+/// Where the host has a default script, an account without an active script is treated as if this were its active one, and an
+/// account with an active script never sees it. The message is borrowed and read once; no copy of it is made beside
 /// what the store writes. What the script says is carried out: the message joins folders and the queue, and the sender is
 /// answered, at most once in a period. Without any script it joins INBOX; where the text is no script, where its run fails, or
 /// where the message has more than 100 Received fields, it joins INBOX too, and the user is left a notice. So it does where its
@@ -65,16 +66,15 @@ pub fn deliver<S: Alter>(
     user: &[u8],
     envelope: Envelope,
     message: &[u8],
-    when: When,
-    default: Option<&[u8]>,
+    terms: LentTerms<'_>,
 ) -> Result<Report, Refusal>
-    ensures acts { ActsDelivery user.now envelope message.now (terms_of when default.entry) (state S.Store store.old) (state S.Store store.new) result }
+    ensures acts { ActsDelivery user.now envelope message.now (terms_of terms.entry) (state S.Store store.old) (state S.Store store.new) result }
     ensures settled { HasCleanDisk (state S.Store store.new) → OnOk result (IsSettled (state S.Store store.new)) }
-    ensures spaced { IsSpacedDelivery user.now envelope message.now (terms_of when default.entry) (state S.Store store.old) (state S.Store store.new) result }
-    ensures early { IfSome (limits.limit_refusal envelope message.now when.moment) (λ refusal. (result ≡ Err refusal) × (store.new ≡ store.old)) }
-    ensures named { IfErr result (RefusesDelivery envelope message.now when.moment) }
+    ensures spaced { IsSpacedDelivery user.now envelope message.now (terms_of terms.entry) (state S.Store store.old) (state S.Store store.new) result }
+    ensures early { IfSome (limits.limit_refusal envelope message.now terms.entry.when.moment) (λ refusal. (result ≡ Err refusal) × (store.new ≡ store.old)) }
+    ensures named { IfErr result (RefusesDelivery envelope message.now terms.entry.when.moment) }
 {
-    if let Some(refusal) = limit_refusal(&envelope, message, when.moment) {
+    if let Some(refusal) = limit_refusal(&envelope, message, terms.when.moment) {
         return Err(refusal);
     }
     let looked = look_up(alloc, store, user);
@@ -83,11 +83,11 @@ pub fn deliver<S: Alter>(
     }
     let found = looked?;
     if has_long_header(message) {
-        let unread = plan_unread(alloc, message, &envelope, when)?;
+        let unread = plan_unread(alloc, message, &envelope, terms.when)?;
         return carry_out(store, user, unread);
     }
-    let mail = Mail::read(alloc, message, envelope, when)?;
-    let disposition = dispose(alloc, deciding(&found.text, default), &mail)?;
+    let mail = Mail::read(alloc, message, envelope, terms.when)?;
+    let disposition = dispose(alloc, deciding(&found.text, terms.host), &mail)?;
     let view = recall(alloc, store, user, found.address, &mail, &disposition)?;
     let plan = plan(alloc, view, &mail, disposition)?;
     carry_out(store, user, plan)
@@ -367,11 +367,11 @@ fn report_of(plan: Plan<'_>) -> Report
 
 /// The text that decides: that of the active script, and where none is active the host's default, if there is one. An active name
 /// that no script has counts as none.
-fn deciding<'t>(active: &'t Option<Octets>, default: Option<&'t [u8]>) -> Option<&'t [u8]>
-    ensures { borrowed_octets result ≡ script_or_default active.now (borrowed_octets default.entry) }
+fn deciding<'t>(active: &'t Option<Octets>, host: &'t HostSettings) -> Option<&'t [u8]>
+    ensures { borrowed_octets result ≡ script_or_default active.now host.now.default }
 {
     match active {
         Some(text) => Some(text.as_slice()),
-        None => default,
+        None => as_deref(&host.default),
     }
 }

@@ -1,7 +1,8 @@
 //! The events that change accounts and sessions, one after the other.
+use crate::terms::Terms;
 use crate::upkeep::Upkeep;
 use octets::Octets;
-use sieve_exec::{Envelope, When};
+use sieve_exec::Envelope;
 use store_text::AccountFile;
 
 /// An event, with all that comes from outside. A session is known by a number.
@@ -30,10 +31,7 @@ pub enum Event {
         envelope: Envelope,
         /// The octets that were received.
         message: Octets,
-        when: When,
-        /// The text of the host's default script, if it has one: it is used for an account without an active script as if it were the
-        /// active one.
-        default: Option<Octets>,
+        terms: Terms,
     },
     /// An account is made, or a closed one that has no mail is opened again.
     AddUser {

@@ -3,7 +3,6 @@ ghost use Rattle.std.specs.Prelude.{◌≡◌, [], IsTrue, IfOk, IfSome, IfNone,
 ghost use Rattle.sqlite.specs.Held.{state};
 ghost use Rattle.sqlite.specs.State.{HasCleanDisk};
 ghost use Rattle.store_engine.specs.declared.event.Event.TheVariants.{Deliver};
-ghost use Rattle.store_engine.specs.Terms.{terms};
 ghost use Rattle.store_engine.specs.Hosts as hosts;
 ghost use Rattle.store_engine.specs.Hosts.{host, host_with, EventAsksStore, IsEvent, IsGivenUp, IsSessionEvent, KeepsClients, SurvivesEvent, IsPrepared, ActsDelivery};
 
@@ -14,11 +13,12 @@ use crate::event::Event;
 use crate::importing::import;
 use crate::limits::limit_refusal;
 use crate::taking::{take_mail, take_out};
+use crate::terms::Terms;
 use crate::upkeep::do_upkeep;
 use crate::user::add_user;
 use managesieve_sessions::Session;
-use octets::{Octets, as_deref};
-use sieve_exec::{Envelope, When};
+use octets::Octets;
+use sieve_exec::Envelope;
 use sqlite::Alter;
 use std::alloc::{AllocError, Global};
 use std::collections::BTreeMap;
@@ -141,8 +141,7 @@ fn carry_out<S: Alter>(
             user,
             envelope,
             message,
-            when,
-            default,
+            terms,
         } => {
             let report = carry_out_delivery(
                 alloc,
@@ -150,8 +149,7 @@ fn carry_out<S: Alter>(
                 user.as_slice(),
                 envelope,
                 message.as_slice(),
-                *when,
-                default,
+                terms,
             );
             answer_of(report.map(Answer::Delivered))
         }
@@ -226,17 +224,15 @@ fn carry_out_delivery<S: Alter>(
     user: &[u8],
     envelope: &Envelope,
     message: &[u8],
-    when: When,
-    default: &Option<Octets>,
+    terms: &Terms,
 ) -> Result<Report, Refusal>
-    ensures { ActsDelivery user.now envelope.now message.now (terms when default.now) (state S.Store store.old) (state S.Store store.new) result }
+    ensures { ActsDelivery user.now envelope.now message.now terms.now (state S.Store store.old) (state S.Store store.new) result }
 {
-    if let Some(refusal) = limit_refusal(envelope, message, when.moment) {
+    if let Some(refusal) = limit_refusal(envelope, message, terms.when.moment) {
         return Err(refusal);
     }
     let envelope = envelope.try_clone(alloc)?;
-    let default = as_deref(default);
-    deliver(alloc, store, user, envelope, message, when, default)
+    deliver(alloc, store, user, envelope, message, terms.lend())
 }
 
 fn answer_of(done: Result<Answer, Refusal>) -> Answer

@@ -23,7 +23,7 @@ lets_none view s = λ w shown. (w, record { strangers = tt; told = []; runs = re
 
 -- an event of accounts names no session
 stranger : (sessions : Clients) (event : Event) → is_of_accounts event ≡ true → IsOthers sessions event
-stranger sessions (Deliver user envelope message when default) is = tt
+stranger sessions (Deliver user envelope message terms) is = tt
 stranger sessions (AddUser name address salt password) is = tt
 stranger sessions (Import file) is = tt
 stranger sessions (TakeOut user id) is = tt

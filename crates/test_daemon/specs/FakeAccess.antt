@@ -1,5 +1,5 @@
 -- What an outside in memory tells.
-use Rattle.std.specs.Prelude.{Bool, not, List, None}
+use Rattle.std.specs.Prelude.{Bool, not, List}
 use Rattle.net_loop.specs.declared.act.Act.{Act}
 use Rattle.net_loop.specs.Told.{Telling}
 use Rattle.maildir_files.specs.declared.kept.KeptMail.{KeptMail}
@@ -21,6 +21,6 @@ shelf_of access = access.stage.fake.rest
 abbrev pub fake_telling : {S : Type 0} → Telling (FakeAccess S) Note S
 fake_telling = record { tells = is_told; seen = acts_told_by; rest = shelf_of }
 
--- what is known of such a store: its disk returns what was written, and no script is the host's
+-- what is known of such a store: its disk returns what was written, and what the host says
 abbrev pub fake_store : {S : Type 0} → View S → (S → List KeptMail → Type 0) → StoreFacts (FakeAccess S) S
-fake_store view has = record { view = view; clean = λ shelf. Unit {0}; default = λ access. None; has = has }
+fake_store view has = record { view = view; clean = λ shelf. Unit {0}; host = λ access. access.host; has = has }

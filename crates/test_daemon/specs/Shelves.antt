@@ -61,7 +61,7 @@ LetsMore {S} view others t more u = (s : S) → LetsOthers view others s t → L
 
 -- an event of accounts names no session
 abbrev pub is_of_accounts : Event → Bool
-is_of_accounts (Deliver user envelope message when default) = true
+is_of_accounts (Deliver user envelope message terms) = true
 is_of_accounts (AddUser name address salt password) = true
 is_of_accounts (Import file) = true
 is_of_accounts (TakeOut user id) = true

@@ -1,14 +1,13 @@
 //! Copies of events and answers, for a note.
 ghost use Rattle.std.specs.Prelude.{◌≡◌, IfOk, IfSome};
 ghost use Rattle.test_daemon.specs.Shelves as shelves;
-ghost use Rattle.store_engine.specs.Terms.{terms};
+ghost use Rattle.store_engine.specs.Terms.{terms_of};
 ghost use Rattle.daemon_core.specs.StoreAccess.{delivery_of};
 
 use lmtp_connections::DeliveryRequest;
 use octets::Octets;
-use sieve_exec::When;
 use std::alloc::{AllocError, Global};
-use store_engine::{Answer, Envelope, Event, Report};
+use store_engine::{Answer, Envelope, Event, LentTerms, Report, Terms};
 
 /// The same event, if it is one that the daemon applies; none otherwise.
 pub fn copy_event(event: &Event) -> Option<Event>
@@ -23,14 +22,13 @@ pub fn copy_event(event: &Event) -> Option<Event>
     }
 }
 
-/// The event of a message for one recipient, by a host with this default script.
+/// The event of a message for one recipient, under these terms.
 pub fn copy_delivery(
     alloc: Global,
     request: &DeliveryRequest,
-    when: When,
-    default: &Option<Octets>,
+    terms: LentTerms<'_>,
 ) -> Result<Event, AllocError>
-    ensures { IfOk result (λ event. event ≡ delivery_of request.now (terms when default.now)) }
+    ensures { IfOk result (λ event. event ≡ delivery_of request.now (terms_of terms.entry)) }
 {
     Ok(Event::Deliver {
         user: request.user.try_clone(alloc)?,
@@ -39,8 +37,10 @@ pub fn copy_delivery(
             to: request.recipient.try_clone(alloc)?,
         },
         message: request.message.try_clone(alloc)?,
-        when,
-        default: copy_text(alloc, default)?,
+        terms: Terms {
+            when: terms.when,
+            host: terms.host.try_clone(alloc)?,
+        },
     })
 }
 

@@ -18,10 +18,9 @@ use net_loop::act::Act;
 use net_loop::outcome::{Accepted, Input, Output, WaitError, Wake};
 use net_loop::outside::{Clock, Outside, Sockets};
 use octets::{List, Octets};
-use sieve_exec::When;
 use std::alloc::Global;
 use std::collections::VecDeque;
-use store_engine::{Answer, Clients, Event};
+use store_engine::{Answer, Clients, Event, HostSettings};
 use test_sockets::stage::{FakeNetwork, HasFakeNetwork};
 
 /// Sockets and a clock that follow a script, and a store that others use too: it is away when the script says so, and each
@@ -29,6 +28,8 @@ use test_sockets::stage::{FakeNetwork, HasFakeNetwork};
 #[derive(Drop)]
 pub struct FakeAccess<S: Shelf + Drop> {
     pub stage: FakeNetwork<Note, S>,
+    /// What the host says of each delivery.
+    pub host: HostSettings,
     /// For each event that is to be applied to the store, whether it is away; once the list is used up it never is.
     pub away: VecDeque<bool>,
     /// What others do before the next event that finds the store: events of accounts.
@@ -42,6 +43,7 @@ impl<S: Shelf + Drop> FakeAccess<S> {
     pub fn new(alloc: Global, shelf: S) -> FakeAccess<S> {
         FakeAccess {
             stage: FakeNetwork::new(alloc, shelf),
+            host: HostSettings::in_utc(),
             away: VecDeque::new(alloc),
             others: VecDeque::new(alloc),
             waits: VecDeque::new(alloc),
@@ -314,8 +316,8 @@ impl<S: Shelf + Drop> StoreAccess for FakeAccess<S> {
         clients: &mut Clients,
         request: &DeliveryRequest,
     ) -> Option<Answer> {
-        let when = When::in_utc(self.stage.fake.moment / 1000);
-        match copy_delivery(self.stage.fake.alloc, request, when, &None) {
+        let terms = self.host.at(self.stage.fake.moment / 1000);
+        match copy_delivery(self.stage.fake.alloc, request, terms) {
             Ok(event) => self.bring(id, clients, event),
             Err(_) => {
                 self.stage.keep(Act::Noted(id, Note::Away));

@@ -9,13 +9,11 @@ use daemon_core::recipient_account::find_account;
 use lmtp_dialogue::Lookup;
 use maildir_files::MemorySink;
 use maildir_moves::{Moving, Route, move_next};
-use octets::{Octets, as_deref};
-use sieve_exec::When;
 use sqlite::MemStore;
 use std::alloc::{AllocError, Global};
 use store_accounts::Store;
 use store_engine::{
-    Answer, Clients, Envelope, Event, Refusal, add_user, apply, deliver, do_upkeep, import,
+    Answer, Clients, Envelope, Event, Refusal, Terms, add_user, apply, deliver, do_upkeep, import,
     take_mail, take_out,
 };
 
@@ -47,19 +45,10 @@ impl Shelf for MemShelf {
                 user,
                 envelope,
                 message,
-                when,
-                default,
+                terms,
             } => {
                 let (user, message) = (user.as_slice(), message.as_slice());
-                let_delivery(
-                    alloc,
-                    &mut self.store,
-                    user,
-                    envelope,
-                    message,
-                    *when,
-                    default,
-                )
+                let_delivery(alloc, &mut self.store, user, envelope, message, terms)
             }
             Event::AddUser {
                 name,
@@ -108,14 +97,12 @@ fn let_delivery(
     user: &[u8],
     envelope: &Envelope,
     message: &[u8],
-    when: When,
-    default: &Option<Octets>,
+    terms: &Terms,
 ) -> bool
-    ensures { IsLet memory_view_of (Deliver user.now envelope.now message.now when default.now) result store.old store.new }
+    ensures { IsLet memory_view_of (Deliver user.now envelope.now message.now terms.now) result store.old store.new }
 {
     let Ok(envelope) = envelope.try_clone(alloc) else {
         return false;
     };
-    let default = as_deref(default);
-    deliver(alloc, store, user, envelope, message, when, default).is_ok()
+    deliver(alloc, store, user, envelope, message, terms.lend()).is_ok()
 }

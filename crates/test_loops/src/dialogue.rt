@@ -1,6 +1,7 @@
 //! Dialogues of LMTP: what a client is answered, by `lmtp_dialogue` alone, whose questions the address of a recipient answers.
-use lmtp_dialogue::reply::{LmtpReply, RecipientReply};
-use lmtp_dialogue::{LmtpStage, Lookup, Next, ReceivedMessage, Receiver, TextFault};
+use lmtp_dialogue::{
+    LmtpReply, LmtpStage, Lookup, Next, ReceivedMessage, Receiver, RecipientReply, TextFault,
+};
 use octets::Octets;
 use std::alloc::{AllocError, Global};
 use test_files::Answers;
@@ -29,6 +30,7 @@ impl Answers for Dialogues {
 /// A server's side, and for how many octets of a message it has room.
 #[derive(Drop)]
 struct Server {
+    alloc: Global,
     receiver: Receiver,
     room: u64,
 }
@@ -42,6 +44,7 @@ fn answer_in(
 ) -> Result<(), AllocError> {
     let mut before = Octets::new(alloc);
     let mut server = Server {
+        alloc,
         receiver: Receiver::new(alloc, b"host.example", &mut before)?,
         room: u64::MAX,
     };
@@ -115,8 +118,8 @@ impl Server {
             }
             Next::Delivery(received) => {
                 show(out, received)?;
-                let outcome = outcome_of(received);
-                self.receiver.report(outcome, out)?;
+                let reply = reply_for(self.alloc, received)?;
+                self.receiver.report(&reply, out)?;
             }
         }
         Ok(true)
@@ -142,26 +145,40 @@ fn lookup_of(address: &[u8]) -> Lookup {
 }
 
 /// What becomes of a message, by the first word of its recipient's address and whether its text is kept.
-fn outcome_of(received: ReceivedMessage<'_>) -> RecipientReply<'static> {
+fn reply_for(alloc: Global, received: ReceivedMessage<'_>) -> Result<RecipientReply, AllocError> {
     match received.text {
-        Ok(_) => outcome_for(front(received.recipient)),
-        Err(TextFault::TooLarge) => RecipientReply::Refused(LmtpReply::MessageTooLarge),
-        Err(TextFault::Memory) => RecipientReply::Refused(LmtpReply::NoRoom),
+        Ok(_) => reply_for_word(alloc, front(received.recipient)),
+        Err(TextFault::TooLarge) => Ok(RecipientReply::Refused(LmtpReply::MessageTooLarge)),
+        Err(TextFault::Memory) => Ok(RecipientReply::Refused(LmtpReply::NoRoom)),
     }
 }
 
-fn outcome_for(word: &[u8]) -> RecipientReply<'static> {
+/// A word stands for what becomes of a message; any other for a delivery to INBOX.
+fn reply_for_word(alloc: Global, word: &[u8]) -> Result<RecipientReply, AllocError> {
+    match refusal_for(word) {
+        Some(reply) => Ok(RecipientReply::Refused(reply)),
+        None => Ok(RecipientReply::Delivered(Octets::from_slice(alloc, report_for(word))?)),
+    }
+}
+
+fn refusal_for(word: &[u8]) -> Option<LmtpReply> {
     match word {
-        b"gone" => RecipientReply::Refused(LmtpReply::NoSuchUser),
-        b"closed" => RecipientReply::Refused(LmtpReply::AccountClosed),
-        b"from" => RecipientReply::Refused(LmtpReply::BadSender),
-        b"bad" => RecipientReply::Refused(LmtpReply::BadRecipient),
-        b"loop" => RecipientReply::Refused(LmtpReply::MailLoop),
-        b"crowded" => RecipientReply::Refused(LmtpReply::NoRoom),
-        b"late" => RecipientReply::Refused(LmtpReply::StoreAway),
-        b"faulty" => RecipientReply::Refused(LmtpReply::LocalFault),
-        b"lines" => RecipientReply::Delivered(b"file A\r\n550 B"),
-        _ => RecipientReply::Delivered(b"file INBOX"),
+        b"gone" => Some(LmtpReply::NoSuchUser),
+        b"closed" => Some(LmtpReply::AccountClosed),
+        b"from" => Some(LmtpReply::BadSender),
+        b"bad" => Some(LmtpReply::BadRecipient),
+        b"loop" => Some(LmtpReply::MailLoop),
+        b"crowded" => Some(LmtpReply::NoRoom),
+        b"late" => Some(LmtpReply::StoreAway),
+        b"faulty" => Some(LmtpReply::LocalFault),
+        _ => None,
+    }
+}
+
+fn report_for(word: &[u8]) -> &'static [u8] {
+    match word {
+        b"lines" => b"file A\r\n550 B",
+        _ => b"file INBOX",
     }
 }
 

@@ -1,7 +1,7 @@
 //! What other processes do to the daemon's store, as an entry names it.
 use octets::{Octets, parse_decimal};
 use std::alloc::{AllocError, Global};
-use store_engine::{Envelope, Event, Upkeep, When};
+use store_engine::{Envelope, Event, HostSettings, Upkeep};
 use test_sockets::schedule::{parse_text, split_word};
 
 /// The salt of every account.
@@ -54,8 +54,7 @@ fn delivery(alloc: Global, text: &[u8]) -> Result<Option<Event>, AllocError> {
         user,
         envelope,
         message,
-        when: When::in_utc(moment),
-        default: None,
+        terms: HostSettings::in_utc().into_terms(moment),
     }))
 }
 

@@ -2,7 +2,7 @@
 use crate::base::{COPIES_FOURTH, COPIES_LAST, CURRENT, SECOND};
 use octets::Octets;
 use std::alloc::{AllocError, Global};
-use store_engine::{Envelope, Event, When};
+use store_engine::{Envelope, Event, HostSettings};
 
 /// The account that is there.
 const USER: &[u8] = b"alice";
@@ -175,8 +175,7 @@ fn delivery(alloc: Global, message: &[u8]) -> Result<Event, AllocError> {
         user,
         envelope,
         message,
-        when: When::in_utc(MOMENT),
-        default: None,
+        terms: HostSettings::in_utc().into_terms(MOMENT),
     })
 }
 

@@ -1,9 +1,9 @@
 //! The events that sections are.
 use base64::engine::general_purpose::STANDARD;
-use mail_dates::read_zone;
+use mail_dates::HostZone;
 use octets::{Octets, parse_decimal};
 use std::alloc::{AllocError, Global};
-use store_engine::{Envelope, Event, Upkeep, When};
+use store_engine::{Envelope, Event, HostSettings, Terms, Upkeep};
 use store_text::AccountReadError;
 use test_files::LinePart::Text;
 use test_files::{Section, add_parts, decode_cell, split_at_first, with_ends};
@@ -44,18 +44,14 @@ impl<'a> DeliverySettings<'a> {
 }
 
 impl DeliverySettings<'_> {
-    /// When a message comes, and in which zone; UTC if the file says no zone.
-    fn when(&self) -> When {
-        let zone = read_zone(self.zone.as_bytes()).unwrap_or(0);
-        When::in_zone(self.moment, zone).unwrap_or(When::in_utc(self.moment))
-    }
-
-    /// The text of the host's default script.
-    fn default_text(&self, alloc: Global) -> Result<Option<Octets>, AllocError> {
-        match self.default {
-            Some(text) => Ok(Some(decode_cell(alloc, text)?)),
-            None => Ok(None),
-        }
+    /// Under what a message is delivered; in UTC if the file says no zone.
+    fn terms(&self, alloc: Global) -> Result<Terms, AllocError> {
+        let zone = HostZone::read(self.zone.as_bytes()).unwrap_or(HostZone::utc());
+        let default = match self.default {
+            Some(text) => Some(decode_cell(alloc, text)?),
+            None => None,
+        };
+        Ok(HostSettings { zone, default }.into_terms(self.moment))
     }
 }
 
@@ -191,8 +187,7 @@ fn delivery(
         user,
         envelope,
         message,
-        when: settings.when(),
-        default: settings.default_text(alloc)?,
+        terms: settings.terms(alloc)?,
     }))
 }
 

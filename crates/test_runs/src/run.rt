@@ -262,6 +262,10 @@ pub fn add_run<K: Keeper, T: MailSink>(
     run: Run<'_>,
 ) -> Result<(), AllocError> {
     let words = RawArgs::new(alloc, words_of(alloc, run.words, run.path)?)?;
+    let default = match run.default {
+        Some(text) => Some(Octets::from_slice(alloc, text)?),
+        None => None,
+    };
     let mut left = run.input;
     let mut output = ShortWriter::new(alloc, run.writes);
     let mut errors = Vec::new(alloc);
@@ -274,7 +278,7 @@ pub fn add_run<K: Keeper, T: MailSink>(
         keeper,
         run.clock,
         run.random,
-        run.default,
+        default,
         sink,
     );
     let told = errors.as_slice();

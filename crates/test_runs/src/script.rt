@@ -3,7 +3,7 @@ use cli_reports::{report_fault, report_outcome};
 use octets::Octets;
 use sieve_lex::ScriptError;
 use std::alloc::{AllocError, Global};
-use store_engine::attempt;
+use store_engine::{HostSettings, LentTerms, attempt};
 use test_files::LinePart::Text;
 use test_files::{
     CaseTally, Lines, Section, Sections, add_parts, decode_cell, trim_end, try_lines, try_sections,
@@ -128,7 +128,12 @@ fn answer_on(
     message: &[u8],
 ) -> Result<Octets, AllocError> {
     let envelope = trial.envelope(alloc)?;
-    match attempt(alloc, script, envelope, message, trial.when()) {
+    let host = HostSettings::in_utc();
+    let terms = LentTerms {
+        when: trial.when(),
+        host: &host,
+    };
+    match attempt(alloc, script, envelope, message, terms) {
         Ok(outcome) => report_outcome(alloc, &outcome),
         Err(ScriptError::Fault(fault)) => report_fault(alloc, fault),
         Err(ScriptError::Memory) => Err(AllocError),

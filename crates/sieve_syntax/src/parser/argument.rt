@@ -1,5 +1,5 @@
 //! Arguments, as the grammar alone has them (RFC 5228, 8.2).
-ghost use Rattle.std.specs.Prelude.{◌≡◌, ℕ, List, [], ◌∷◌, ◌++◌, Result, Ok, Some, None, MatchBool, MatchOption, IfOk, true, false};
+ghost use Rattle.std.specs.Prelude.{◌≡◌, ℕ, List, ◌∷◌, Result, Ok, Some, None, MatchBool, MatchOption, IfOk, true, false};
 ghost use Rattle.sieve_lex.specs.declared.token.Mark.TheVariants as K;
 ghost use Rattle.sieve_lex.specs.Encoded.{decoded};
 ghost use Rattle.sieve_syntax.specs.Lexemes.{Lexemes, text, mark};

@@ -1,12 +1,11 @@
 //! Commands and blocks, by recursive descent: one pass, and no deeper than blocks may be nested.
-ghost use Rattle.std.specs.Prelude.{◌≡◌, ◌↔◌, ◌++◌, ◌∷◌, [], ℕ, List, IfOk, IsTrue, MatchBool, map};
+ghost use Rattle.std.specs.Prelude.{◌≡◌, ◌↔◌, ◌∷◌, [], IfOk, IsTrue, MatchBool, map};
 ghost use Rattle.sieve_syntax.specs.Capabilities.{granted_by};
 ghost use Rattle.sieve_syntax.specs.declared.table.keyword.Keyword.TheVariants as W;
-ghost use Rattle.sieve_syntax.specs.Lexemes.{Lexemes, keyword};
+ghost use Rattle.sieve_syntax.specs.Lexemes.{keyword};
 ghost use Rattle.sieve_syntax.specs.Parsing.{Parses, ParsesMore};
-ghost use Rattle.sieve_syntax.specs.Tree.{TestTree, CommandTree, Commands};
+ghost use Rattle.sieve_syntax.specs.Tree.{Commands};
 ghost use Rattle.sieve_syntax.specs.View.{branch_view, command_view, commands_view};
-ghost use Rattle.sieve_syntax.specs.Grammar.{IsPastBranches};
 ghost use Rattle.sieve_syntax.specs.Steps.{TakesCommand, TakesAfter, TakesBlock, TakesBranch, TakesElsifs, TakesElse, IsPastElsif, IsPastElse, TakesAll, IsStop};
 
 use crate::capability::Capabilities;

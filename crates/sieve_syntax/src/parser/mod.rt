@@ -1,7 +1,6 @@
 //! From tokens to a tree, by the grammar (RFC 5228, 8.2).
 pub mod argument;
 pub mod command_parser;
-pub mod decoding;
 pub mod lexeme;
 pub mod reader;
 pub mod require;

@@ -2,13 +2,13 @@
 ghost use Rattle.std.specs.Prelude.{◌≡◌, List, [], ◌∷◌, length, MatchOption, IfOk, OnOk};
 ghost use Rattle.sieve_syntax.specs.declared.table.keyword.Keyword.{Keyword};
 ghost use Rattle.sieve_lex.specs.Contents.{contents};
-ghost use Rattle.sieve_syntax.specs.Decoding.{as_read};
+ghost use Rattle.sieve_syntax.specs.Extension.EncodedCharacter.{as_read};
 ghost use Rattle.sieve_syntax.specs.Lexemes.{IsFirstLexeme, Lexemes, keyword, mark, lexemes_of, lexeme_view};
 ghost use Rattle.sieve_syntax.specs.Parsing.{IfParseFault};
 
 use crate::error::ParseError;
+use crate::extension::encoded_character::{Decoding, seen_of};
 use crate::parser::argument::Argument;
-use crate::parser::decoding::{Decoding, seen_of};
 use crate::parser::lexeme::Lexeme;
 use crate::table::keyword::Keyword;
 use sieve_lex::{Cursor, FaultKind, Mark, Packed};
@@ -31,7 +31,7 @@ pub struct Reader<'a> {
 
 impl<'a> Model for Reader<'a> {
     ghost use Rattle.std.specs.Prelude.{List};
-    ghost use Rattle.sieve_syntax.specs.Decoding.{lexemes_as_read};
+    ghost use Rattle.sieve_syntax.specs.Extension.EncodedCharacter.{lexemes_as_read};
     ghost use Rattle.sieve_syntax.specs.Lexemes.{Lexeme, lexemes_of, with_first};
 
     ghost Value = { List Lexeme };

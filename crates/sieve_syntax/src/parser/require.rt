@@ -1,14 +1,14 @@
 //! The requires at the beginning of a script, and a whole script (RFC 5228, 3.2).
-ghost use Rattle.std.specs.Prelude.{◌≡◌, ℕ, List, ◌∷◌, IfOk, MatchBool, map};
+ghost use Rattle.std.specs.Prelude.{◌≡◌, ◌∷◌, IfOk, MatchBool, map};
 ghost use Rattle.sieve_syntax.specs.declared.table.keyword.Keyword.TheVariants as W;
-ghost use Rattle.sieve_syntax.specs.Lexemes.{Lexemes, keyword};
+ghost use Rattle.sieve_syntax.specs.Lexemes.{keyword};
 ghost use Rattle.sieve_syntax.specs.Parsing.{IfParseFault, Parses, StandsNowhere};
-ghost use Rattle.sieve_syntax.specs.Tree.{CommandTree, Commands, require};
+ghost use Rattle.sieve_syntax.specs.Tree.{Commands, require};
 ghost use Rattle.sieve_syntax.specs.View.{command_view, commands_view};
 ghost use Rattle.sieve_syntax.specs.Capabilities.{granted_by};
 ghost use Rattle.sieve_syntax.specs.Valid.{IsValid};
 ghost use Rattle.sieve_syntax.specs.Grammar.{IsStatement, ReadsScript};
-ghost use Rattle.sieve_syntax.specs.Steps.{TakesRequires, ReadsRequires, ReadsRequiresAlone, IsPastRequires, all_names};
+ghost use Rattle.sieve_syntax.specs.Steps.{TakesRequires, ReadsRequires, ReadsRequiresAlone, IsPastRequires};
 
 use crate::capability::Capabilities;
 use crate::error::ParseError;

@@ -1,12 +1,8 @@
 //! Tests, by recursive descent: no deeper than test lists and `not`s may enclose them.
-ghost use Rattle.std.specs.Prelude.{◌≡◌, ◌++◌, ◌∷◌, ℕ, List, IfOk, map};
-ghost use Rattle.sieve_lex.specs.declared.token.Mark.TheVariants as K;
+ghost use Rattle.std.specs.Prelude.{◌≡◌, map};
 ghost use Rattle.sieve_syntax.specs.Capabilities.{granted_by};
 ghost use Rattle.sieve_syntax.specs.declared.table.keyword.Keyword.TheVariants as W;
-ghost use Rattle.sieve_syntax.specs.Chains.{Chain};
-ghost use Rattle.sieve_syntax.specs.Lexemes.{Lexemes, mark};
 ghost use Rattle.sieve_syntax.specs.Parsing.{Parses, ParsesMore};
-ghost use Rattle.sieve_syntax.specs.Tree.{TestTree};
 ghost use Rattle.sieve_syntax.specs.View.{test_view, tests_view};
 ghost use Rattle.sieve_syntax.specs.Steps.{TakesTest, AsksAfter, TakesMoreTests, TakesTests};
 

@@ -3,10 +3,10 @@ ghost use Rattle.sieve_syntax.specs.Parsing.{FindsValue};
 ghost use Rattle.sieve_syntax.specs.Table.{IsKeep, SaysKeep};
 
 use crate::error::ParseError;
+use crate::extension::imap4flags::given_flags;
 use crate::parser::argument::Argument;
 use crate::table::positional::no_arguments;
 use crate::table::tag_group::{TagGroup, TagValue, split_tags};
-use crate::table::tag_values::given_flags;
 use octets::Texts;
 use std::alloc::Global;
 

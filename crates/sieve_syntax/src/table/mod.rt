@@ -1,10 +1,9 @@
-//! The tables of the language: a file for each table, or for the arguments of one of its elements.
+//! The tables of the base language: a file for each table, or for the arguments of one of its elements.
 pub mod command;
-pub mod file_into;
+pub mod comparators;
 pub mod keep;
 pub mod keyword;
 pub mod positional;
-pub mod reason;
 pub mod redirect;
 pub mod tag;
 pub mod tag_group;
@@ -13,4 +12,3 @@ pub mod tagged;
 pub mod test;
 pub mod test_arguments;
 pub mod utf8;
-pub mod vacation_arguments;

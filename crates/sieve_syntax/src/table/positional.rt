@@ -1,8 +1,8 @@
 //! Positional arguments.
-ghost use Rattle.std.specs.Prelude.{◌≡◌, ℕ, List, [], IfOk, OnOk, Some, None};
+ghost use Rattle.std.specs.Prelude.{◌≡◌, [], IfOk, OnOk, Some, None};
 ghost use Rattle.sieve_syntax.specs.Parsing.{IfParseFault, FindsValue};
 ghost use Rattle.sieve_syntax.specs.Positional.{one_number, one_text, one_list, two_lists, string_of, text_and_list, two_texts_and_list};
-ghost use Rattle.sieve_syntax.specs.Table.{IsList};
+ghost use Rattle.sieve_syntax.specs.Rows.{IsList};
 
 use crate::error::ParseError;
 use crate::parser::argument::Argument;

@@ -3,13 +3,13 @@ ghost use Rattle.std.specs.Prelude.{◌≡◌, ℕ, List, Some, IfOk, IfSome};
 ghost use Rattle.mail_address.specs.declared.address.Addr.{Addr};
 ghost use Rattle.sieve_syntax.specs.Parsing.{IfParseFault, FindsValue};
 ghost use Rattle.sieve_syntax.specs.Table.{IsRedirect, SaysRedirect};
-ghost use Rattle.sieve_syntax.specs.Vacations.{IsNamedAs};
+ghost use Rattle.sieve_syntax.specs.NamedAddresses.{IsNamedAs};
 
 use crate::error::ParseError;
+use crate::extension::copy::given_copy;
 use crate::parser::argument::Argument;
 use crate::table::positional::text;
 use crate::table::tag_group::{TagGroup, TagValue, split_tags};
-use crate::table::tag_values::given_copy;
 use crate::table::utf8::is_utf8;
 use crate::tree::action::Redirect;
 use mail_address::{Addr, sieve_address};

@@ -1,14 +1,17 @@
 //! Tagged arguments, in any order (RFC 5228, 2.6.2).
-ghost use Rattle.std.specs.Prelude.{map, IsTrue, ◌↔◌, ◌≡◌, ◌<◌, ◌≤◌, List, [], ◌∷◌, length, drop, MatchOption, IfOk, IfSome};
+ghost use Rattle.std.specs.Prelude.{map, IsTrue, ◌↔◌, ◌≡◌, ◌<◌, ◌≤◌, List, ◌∷◌, length, drop, MatchOption, IfOk, IfSome};
 ghost use Rattle.std.specs.List.{Contains};
 ghost use Rattle.sieve_syntax.specs.declared.parser.argument.Argument.TheVariants as A;
 ghost use Rattle.sieve_syntax.specs.Parsing.{IfParseFault};
 ghost use Rattle.sieve_syntax.specs.Tags.{IsTagValue, group_of, IsAllowed, BeginsUntagged, IsSplit, IsSplitAlone, HasNoTag};
 
 use crate::error::ParseError;
+use crate::extension::date::zone_at;
+use crate::extension::relational::relation_at;
 use crate::parser::argument::Argument;
+use crate::table::comparators::collation_at;
 use crate::table::tag::Tag;
-use crate::table::tagged::{collation_at, number_at, relation_at, text_at, texts_at, zone_at};
+use crate::table::tagged::{number_at, text_at, texts_at};
 use crate::tree::checks::{AddressPart, Bound, Collation, Matching};
 use octets::{Octets, Texts};
 use sieve_lex::FaultKind;

@@ -1,23 +1,18 @@
 //! The values after tags (RFC 5228, 2.6.2).
-ghost use Rattle.std.specs.Prelude.{◌≡◌, ℕ, ℤ, List, ◌∷◌, IfOk, Some, None};
-ghost use Rattle.mail_dates.specs.Zones.{IsOffset};
+ghost use Rattle.std.specs.Prelude.{◌≡◌, ℕ, List, ◌∷◌, IfOk, Some, None};
 ghost use Rattle.sieve_syntax.specs.declared.parser.argument.Argument.{Argument};
 ghost use Rattle.sieve_syntax.specs.declared.parser.argument.Argument.TheVariants as A;
-ghost use Rattle.sieve_syntax.specs.declared.tree.checks.Collation.{Collation};
-ghost use Rattle.sieve_syntax.specs.declared.tree.checks.Relation.{Relation};
 ghost use Rattle.sieve_syntax.specs.Parsing.{IfParseFault};
-ghost use Rattle.sieve_syntax.specs.Tags.{collation_name, relation_name, strings_of};
+ghost use Rattle.sieve_syntax.specs.Tags.{strings_of};
 
 use crate::error::ParseError;
 use crate::parser::argument::Argument;
-use crate::tree::checks::{Collation, Relation};
-use mail_dates::read_zone;
 use octets::{Octets, Texts};
 use sieve_lex::{FaultKind, Said};
 use std::alloc::{AllocError, Global};
 
 /// The first argument, and what follows it.
-fn value_at<'a, 't>(
+pub(crate) fn value_at<'a, 't>(
     args: &'a [Argument<'t>],
 ) -> Result<(&'a Argument<'t>, &'a [Argument<'t>]), ParseError>
     ensures found { IfOk result (λ r. args.now ≡ r.0.now ∷ r.1.now) }
@@ -68,94 +63,6 @@ pub(crate) fn texts_at<'a, 't>(
 {
     let (value, rest) = value_at(args)?;
     Ok((strings(alloc, value)?, rest))
-}
-
-/// The comparator with this name, compared by octets.
-pub(crate) fn collation_at<'a, 't>(
-    args: &'a [Argument<'t>],
-) -> Result<(Collation, &'a [Argument<'t>]), ParseError>
-    ensures found { IfOk result (λ r. args.now ≡ A.Text (collation_name r.0) ∷ r.1.now) }
-    ensures fault { IfParseFault result ((c : Collation) (to : List Argument) → args.now ≡ A.Text (collation_name c) ∷ to → ⊥) }
-{
-    let (value, rest) = value_at(args)?;
-    match value {
-        Argument::Text(name) => Ok((collation_named(name.as_slice())?, rest)),
-        _ => Err(ParseError::Fault(FaultKind::WrongArgument)),
-    }
-}
-
-fn collation_named(name: &[u8]) -> Result<Collation, ParseError>
-    ensures found { IfOk result (λ c. name.now ≡ collation_name c) }
-    ensures fault { IfParseFault result ((c : Collation) → name.now ≡ collation_name c → ⊥) }
-{
-    if name == b"i;octet".as_slice() {
-        Ok(Collation::Octet)
-    } else if name == b"i;ascii-casemap".as_slice() {
-        Ok(Collation::AsciiCasemap)
-    } else if name == b"i;ascii-numeric".as_slice() {
-        Ok(Collation::AsciiNumeric)
-    } else {
-        Err(ParseError::Fault(FaultKind::NotRequired))
-    }
-}
-
-/// The relation with this name, compared by octets.
-pub(crate) fn relation_at<'a, 't>(
-    args: &'a [Argument<'t>],
-) -> Result<(Relation, &'a [Argument<'t>]), ParseError>
-    ensures found { IfOk result (λ r. args.now ≡ A.Text (relation_name r.0) ∷ r.1.now) }
-    ensures fault { IfParseFault result ((relation : Relation) (to : List Argument) → args.now ≡ A.Text (relation_name relation) ∷ to → ⊥) }
-{
-    let (value, rest) = value_at(args)?;
-    match value {
-        Argument::Text(name) => Ok((relation_named(name.as_slice())?, rest)),
-        _ => Err(ParseError::Fault(FaultKind::WrongArgument)),
-    }
-}
-
-fn relation_named(name: &[u8]) -> Result<Relation, ParseError>
-    ensures found { IfOk result (λ relation. name.now ≡ relation_name relation) }
-    ensures fault { IfParseFault result ((relation : Relation) → name.now ≡ relation_name relation → ⊥) }
-{
-    if name == b"gt".as_slice() {
-        Ok(Relation::Greater)
-    } else if name == b"ge".as_slice() {
-        Ok(Relation::GreaterOrEqual)
-    } else if name == b"lt".as_slice() {
-        Ok(Relation::Less)
-    } else if name == b"le".as_slice() {
-        Ok(Relation::LessOrEqual)
-    } else if name == b"eq".as_slice() {
-        Ok(Relation::Equal)
-    } else if name == b"ne".as_slice() {
-        Ok(Relation::NotEqual)
-    } else {
-        Err(ParseError::Fault(FaultKind::WrongArgument))
-    }
-}
-
-/// A zone (RFC 5260, 4.1), in minutes east of UTC.
-pub(crate) fn zone_at<'a, 't>(
-    args: &'a [Argument<'t>],
-) -> Result<(i16, &'a [Argument<'t>]), ParseError>
-    ensures found { IfOk result (λ r. (s : List ℕ) × ((args.now ≡ A.Text s ∷ r.1.now) × IsOffset s r.0)) }
-    ensures fault { IfParseFault result ((s : List ℕ) (zone : ℤ) (to : List Argument) → args.now ≡ A.Text s ∷ to → IsOffset s zone → ⊥) }
-{
-    let (value, rest) = value_at(args)?;
-    match value {
-        Argument::Text(text) => Ok((offset_in(text.as_slice())?, rest)),
-        _ => Err(ParseError::Fault(FaultKind::WrongArgument)),
-    }
-}
-
-fn offset_in(text: &[u8]) -> Result<i16, ParseError>
-    ensures found { IfOk result (λ zone. IsOffset text.now zone) }
-    ensures fault { IfParseFault result ((zone : ℤ) → IsOffset text.now zone → ⊥) }
-{
-    match read_zone(text) {
-        Some(zone) => Ok(zone),
-        None => Err(ParseError::Fault(FaultKind::WrongArgument)),
-    }
 }
 
 /// The strings of an argument: a string stands for the list that has only it (RFC 5228, 2.4.2.1).

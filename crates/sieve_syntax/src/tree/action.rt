@@ -1,7 +1,8 @@
 //! What a script does with the message (RFC 5228, 4).
-use crate::tree::vacation::Vacation;
+use crate::extension::fileinto::FileInto;
+use crate::extension::vacation::Vacation;
 use mail_address::Addr;
-use octets::{Octets, Texts};
+use octets::Texts;
 
 /// What a script does with the message (RFC 5228, 4; RFC 5230), and with the flags that its copies get (RFC 5232).
 #[derive(Drop)]
@@ -23,19 +24,6 @@ pub enum Action {
     AddFlag(Texts),
     /// `removeflag`: unset these (RFC 5232, 3.3).
     RemoveFlag(Texts),
-}
-
-/// The arguments of `fileinto`.
-#[derive(Drop)]
-pub struct FileInto {
-    /// The mailbox as it was written: 1 to 255 octets, none below 32 and none 127.
-    pub mailbox: Octets,
-    /// `:copy`: the implicit keep isn't cancelled (RFC 3894, 3.1).
-    pub copy: bool,
-    /// `:create`: the mailbox is created if it doesn't exist, which is also done without it (RFC 5490, 3.2).
-    pub create: bool,
-    /// The texts of `:flags`: which flags the copy has, instead of those that are set (RFC 5232, 5).
-    pub flags: Option<Texts>,
 }
 
 /// The arguments of `redirect`.

@@ -3,4 +3,3 @@ pub mod action;
 pub mod checks;
 pub mod command;
 pub mod test;
-pub mod vacation;

@@ -13,8 +13,8 @@ returns-in-Ok-clause-answer c =
     let (tree, means) = c.in-Ok.ensures.valid in
     IfOk-weaker c.report.result
     (λ answer. answer ≡ Report (outcome_report (outcome_view c.in-Ok.outcome)))
-    (λ answer. (input message : List ℕ) → IsFramed input c.args.script.now message → IsMessagePrefix c.args.front.now c.args.count message → AnswersInput c.args.envelope c.args.when input answer)
-    (λ answer is input message framed stands. subst (AnswersInput c.args.envelope c.args.when input) (sym is) (record {
+    (λ answer. (input message : List ℕ) → IsFramed input c.args.script.now message → IsMessagePrefix c.args.front.now c.args.count message → AnswersInput c.args.envelope c.args.terms.when input answer)
+    (λ answer is input message framed stands. subst (AnswersInput c.args.envelope c.args.terms.when input) (sym is) (record {
       script = c.args.script.now;
       message = message;
       framed = framed;

@@ -17,7 +17,7 @@ returns-in-Some-clause-done c =
     IfOk-weaker c.attempt_on_prefix.result
     _
     (λ done. (tree : Commands) (message : List ℕ) → Means script tree → IsMessagePrefix front c.args.count message
-    → outcome_view done ≡ outcome_at (mail_spec_of message c.args.envelope c.args.when) tree)
+    → outcome_view done ≡ outcome_at (mail_spec_of message c.args.envelope c.args.terms.when) tree)
     (λ done so tree message means stands.
     let both : IsHeaderPrefix front message × CountsSize message c.in-Some.count = subst (λ count. IsMessagePrefix front count message) c.in-Some.is stands in
     so tree message means both.0 (c.size.ensures.counted message both.1))

@@ -22,16 +22,18 @@ returns-in-Err-clause-runs g c =
 pub returns-in-Ok-envelope_of-clause-runs : goal.returns-in-Ok-envelope_of-clause-runs
 returns-in-Ok-envelope_of-clause-runs g c =
     inl (
-      c.in-Ok.when,
+      c.in-Ok.terms,
       c.in-Ok.ensures.ok,
-      subst (λ envelope. RunsTry envelope c.in-Ok.when (g.R.Read.remaining c.args.input.now) (from_to (g.W.Write.contents c.args.output.now) (g.W.Write.contents c.try_run.new.output)) (from_to (g.E.Write.contents c.args.errors.now) (g.E.Write.contents c.try_run.new.errors)) c.try_run.result)
-          c.in-Ok-envelope_of.ensures c.try_run.ensures.runs,
+      subst (λ envelope. RunsTry envelope c.in-Ok.terms.when (g.R.Read.remaining c.args.input.now) (from_to (g.W.Write.contents c.args.output.now) (g.W.Write.contents c.try_run.new.output)) (from_to (g.E.Write.contents c.args.errors.now) (g.E.Write.contents c.try_run.new.errors)) c.try_run.result)
+          c.in-Ok-envelope_of.ensures
+          (subst (λ when. RunsTry c.in-Ok-envelope_of.envelope when (g.R.Read.remaining c.args.input.now) (from_to (g.W.Write.contents c.args.output.now) (g.W.Write.contents c.try_run.new.output)) (from_to (g.E.Write.contents c.args.errors.now) (g.E.Write.contents c.try_run.new.errors)) c.try_run.result)
+          c.lend.ensures.when c.try_run.ensures.runs),
     )
 
 pub returns-in-Err-envelope_of-clause-runs : goal.returns-in-Err-envelope_of-clause-runs
 returns-in-Err-envelope_of-clause-runs g c =
     inl (
-      c.in-Ok.when,
+      c.in-Ok.terms,
       c.in-Ok.ensures.ok,
       record { ending = Err memory; told = c.refuse-in-Err-envelope_of.ensures.status; left_output = kept_same (g.W.Write.contents c.args.output.now); left_errors = c.refuse-in-Err-envelope_of.ensures.line },
     )

@@ -19,9 +19,9 @@ returns-clause-answer g c =
     let front = c.in_ok-front.front in
     let given = g.R.Read.remaining c.args.input.now in
     IfOk-weaker c.answer_to.result
-    (λ answer. (came : List ℕ) → KeepsInput came front.octets.items front.count → AnswersInput c.args.envelope c.args.when came answer)
-    (λ answer. OfInput given (λ came. AnswersInput c.args.envelope c.args.when came answer))
-    (λ answer so. of_input given (λ came. KeepsInput came front.octets.items front.count) (λ came. AnswersInput c.args.envelope c.args.when came answer) so c.in_ok-front.ensures.ok)
+    (λ answer. (came : List ℕ) → KeepsInput came front.octets.items front.count → AnswersInput c.args.envelope c.args.terms.when came answer)
+    (λ answer. OfInput given (λ came. AnswersInput c.args.envelope c.args.terms.when came answer))
+    (λ answer so. of_input given (λ came. KeepsInput came front.octets.items front.count) (λ came. AnswersInput c.args.envelope c.args.terms.when came answer) so c.in_ok-front.ensures.ok)
     c.answer_to.ensures.answer
 
 pub returns-clause-none : goal.returns-clause-none

@@ -5,4 +5,4 @@ use Rattle.cli_run.proofs.try_script.print_answer.Goals as goal
 
 pub returns-in_err-answer-clause-leaves : goal.returns-in_err-answer-clause-leaves
 returns-in_err-answer-clause-leaves g c =
-    leaves_nothing c.args.envelope c.args.when (g.R.Read.remaining c.args.input.now) (g.W.Write.contents c.args.output.now) c.in_err-answer.field-0.0 c.from_residual.result (search rules) c.in_err-answer.ensures.none
+    leaves_nothing c.args.envelope c.args.terms.when (g.R.Read.remaining c.args.input.now) (g.W.Write.contents c.args.output.now) c.in_err-answer.field-0.0 c.from_residual.result (search rules) c.in_err-answer.ensures.none

@@ -1,13 +1,13 @@
 use Rattle.std.proofs.Common.{subst}
-use Rattle.daemon_core.specs.LmtpSteps.{IsDeliveryResult}
+use Rattle.daemon_core.specs.LmtpSteps.{IsDeliveryReply}
 use Rattle.daemon_core.proofs.LmtpStepLemmas.{asks_delivery, answer_delivery, unbrought}
 use Rattle.daemon_core.proofs.mail_step.deliver.Goals as goal
 
 pub returns-in-Some-clause-does : goal.returns-in-Some-clause-does
 returns-in-Some-clause-does g c = λ spare.
-    let is : IsDeliveryResult c.args.request.sender c.in-Some.answer c.result_of-became.result = subst (λ x. IsDeliveryResult x c.in-Some.answer c.result_of-became.result) c.as_slice.ensures c.result_of-became.ensures in
+    let is : IsDeliveryReply c.args.request.sender c.in-Some.answer c.reply_for_delivery-became.result = subst (λ x. IsDeliveryReply x c.in-Some.answer c.reply_for_delivery-became.result) c.as_slice.ensures c.reply_for_delivery-became.ensures in
     answer_delivery g.O.Outside.told g.O.StoreAccess.store g.met.O.StoreAccess.sure c.args.outside.now c.deliver.new.self c.args.daemon.now c.deliver.new.clients c.args.now c.args.id c.answer_delivery.result
-    c.args.connection.now c.answer_delivery.new.self spare c.answer_delivery.ensures.held c.args.request c.in-Some.answer c.result_of-became.result c.in-Some.ensures.delivers is c.answer_delivery.ensures.does c.asked_at-daemon.result c.asked_at-daemon.ensures
+    c.args.connection.now c.answer_delivery.new.self spare c.answer_delivery.ensures.held c.args.request c.in-Some.answer c.reply_for_delivery-became.result c.in-Some.ensures.delivers is c.answer_delivery.ensures.does c.asked_at-daemon.result c.asked_at-daemon.ensures
 
 pub returns-clause-does : goal.returns-clause-does
 returns-clause-does g c = λ spare.

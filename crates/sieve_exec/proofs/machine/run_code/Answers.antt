@@ -2,6 +2,7 @@ use Rattle.std.proofs.Common.{◌<◌, false, Some, length, sym, ap, subst, ◌�
 use Rattle.sieve_syntax.specs.RunState.{at_first}
 use Rattle.sieve_syntax.specs.Work.{max_work}
 use Rattle.sieve_code.specs.Jumps.{jumps_from}
+use Rattle.sieve_syntax.specs.Meaning.{asking_at}
 use Rattle.sieve_exec.specs.Truth.{truth_at}
 use Rattle.sieve_exec.specs.Work.{work_at}
 use Rattle.sieve_exec.specs.Runs.{run_state_of}
@@ -10,12 +11,12 @@ use Rattle.sieve_exec.proofs.machine.run_code.Goals as goal
 
 pub loop-place-init : goal.loop-place-init
 loop-place-init c =
-    let truth = truth_at c.args.mail.now in
+    let asking = asking_at (truth_at c.args.mail.now) in
     let work = work_at c.args.mail.now in
     let code = c.args.code.now in
     record {
       cached = c.new.ensures;
-      gives = subst (λ s. Gives truth work code (jumps_from truth work code (length code) 0 false at_first) 0 false s max_work) (sym c.new-2.ensures) (gives_first truth work code at_first);
+      gives = subst (λ s. Gives asking work code (jumps_from asking work code (length code) 0 false at_first) 0 false s max_work) (sym c.new-2.ensures) (gives_first asking work code at_first);
     }
 
 pub loop-place-smaller : goal.loop-place-smaller

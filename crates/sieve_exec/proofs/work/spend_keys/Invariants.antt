@@ -1,6 +1,6 @@
 -- What the keys so far leave.
 use Rattle.std.proofs.Common.{◌≡◌, ◌+◌, take}
-use Rattle.sieve_exec.specs.Work.{keys_work}
+use Rattle.sieve_exec.specs.Sizes.{keys_work}
 use Rattle.sieve_exec.proofs.work.spend_keys.Given as goal
 
 abbrev pub invariant-loop-key : goal.invariant-loop-key

@@ -1,6 +1,6 @@
 -- What the texts so far leave.
 use Rattle.std.proofs.Common.{◌≡◌, ◌+◌, take}
-use Rattle.sieve_exec.specs.Work.{texts_size}
+use Rattle.sieve_exec.specs.Sizes.{texts_size}
 use Rattle.sieve_exec.proofs.work.spend_texts.Given as goal
 
 abbrev pub invariant-loop-text : goal.invariant-loop-text

@@ -16,7 +16,7 @@ returns-clause-valid c = c.evaluate_script.ensures.valid
 pub returns-clause-done : goal.returns-clause-done
 returns-clause-done c =
     let envelope = c.args.envelope in
-    let when = c.args.when in
+    let when = c.args.terms.when in
     let front = c.args.front.now in
     IfOk-weaker c.evaluate_script.result
     (λ done. (tree : Commands) → Means c.args.script.now tree → outcome_view done ≡ outcome_at (with_size (Some c.args.size) (mail_spec_of front envelope when)) tree)

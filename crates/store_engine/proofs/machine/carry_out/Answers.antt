@@ -8,7 +8,7 @@ use Rattle.store_engine.specs.Upkeep.{Keeping}
 use Rattle.store_engine.specs.Hosts.{answer_by, answer_of, MayRefuseDelivery, MayRefuseAddition, MayRefuseImport, MayRefuseKeeping}
 use Rattle.store_accounts.specs.Refusals.{IsTransient}
 use Rattle.store_engine.proofs.HostLemmas.{told_by, told_done, session_event, account_event, account_crash, delivery_may, addition_may, importing_may, taking_may, mail_taking_may, keeping_may, event_is, crash_is}
-use Rattle.store_engine.specs.Terms.{terms}
+use Rattle.store_engine.specs.declared.terms.Terms.{Terms}
 use Rattle.store_engine.proofs.machine.carry_out.Goals as goal
 
 pub returns-in-Open-clause-event : goal.returns-in-Open-clause-event
@@ -44,18 +44,18 @@ returns-in-Close-clause-event g c =
 
 pub returns-in-Deliver-clause-event : goal.returns-in-Deliver-clause-event
 returns-in-Deliver-clause-event g c =
-    let event : Event = Deliver c.as_slice-in-Deliver.result.now c.in-Deliver.envelope c.as_slice-in-Deliver-2.result.now c.in-Deliver.when c.in-Deliver.default in
+    let event : Event = Deliver c.as_slice-in-Deliver.result.now c.in-Deliver.envelope c.as_slice-in-Deliver-2.result.now c.in-Deliver.terms in
     let is : c.args.event.now ≡ event = cc in
     event_is c.args.event.now event c.answer_of-in-Deliver.result (answer_by Delivered c.carry_out_delivery-report.result) (state g.S.Store c.args.store.now) (state g.S.Store c.carry_out_delivery-report.new.store) c.args.sessions.now c.args.sessions.now is
     (told_by Delivered c.carry_out_delivery-report.result c.map.result c.answer_of-in-Deliver.result c.map.ensures.cases c.answer_of-in-Deliver.ensures)
-    (account_event event (λ accounts. Delivery accounts c.as_slice-in-Deliver.result.now c.in-Deliver.envelope c.as_slice-in-Deliver-2.result.now (terms c.in-Deliver.when c.in-Deliver.default)) (MayRefuseDelivery c.in-Deliver.envelope c.as_slice-in-Deliver-2.result.now c.in-Deliver.when.moment) (λ w answer next made. made) (delivery_may c.as_slice-in-Deliver.result.now c.as_slice-in-Deliver-2.result.now c.in-Deliver.envelope c.in-Deliver.when c.in-Deliver.default) (state g.S.Store c.args.store.now) (state g.S.Store c.carry_out_delivery-report.new.store) c.args.sessions.now Delivered c.carry_out_delivery-report.result c.carry_out_delivery-report.ensures)
+    (account_event event (λ accounts. Delivery accounts c.as_slice-in-Deliver.result.now c.in-Deliver.envelope c.as_slice-in-Deliver-2.result.now c.in-Deliver.terms) (MayRefuseDelivery c.in-Deliver.envelope c.as_slice-in-Deliver-2.result.now c.in-Deliver.terms.when.moment) (λ w answer next made. made) (delivery_may c.as_slice-in-Deliver.result.now c.as_slice-in-Deliver-2.result.now c.in-Deliver.envelope c.in-Deliver.terms) (state g.S.Store c.args.store.now) (state g.S.Store c.carry_out_delivery-report.new.store) c.args.sessions.now Delivered c.carry_out_delivery-report.result c.carry_out_delivery-report.ensures)
 
 pub returns-in-Deliver-clause-crash : goal.returns-in-Deliver-clause-crash
 returns-in-Deliver-clause-crash g c =
-    let event : Event = Deliver c.as_slice-in-Deliver.result.now c.in-Deliver.envelope c.as_slice-in-Deliver-2.result.now c.in-Deliver.when c.in-Deliver.default in
+    let event : Event = Deliver c.as_slice-in-Deliver.result.now c.in-Deliver.envelope c.as_slice-in-Deliver-2.result.now c.in-Deliver.terms in
     let is : c.args.event.now ≡ event = cc in
     crash_is c.args.event.now event (state g.S.Store c.args.store.now) (state g.S.Store c.carry_out_delivery-report.new.store) c.args.sessions.now is
-    (account_crash event (λ accounts. Delivery accounts c.as_slice-in-Deliver.result.now c.in-Deliver.envelope c.as_slice-in-Deliver-2.result.now (terms c.in-Deliver.when c.in-Deliver.default)) (MayRefuseDelivery c.in-Deliver.envelope c.as_slice-in-Deliver-2.result.now c.in-Deliver.when.moment) (λ w answer next made. made) (delivery_may c.as_slice-in-Deliver.result.now c.as_slice-in-Deliver-2.result.now c.in-Deliver.envelope c.in-Deliver.when c.in-Deliver.default) (state g.S.Store c.args.store.now) (state g.S.Store c.carry_out_delivery-report.new.store) c.args.sessions.now c.carry_out_delivery-report.result (answer_by Delivered c.carry_out_delivery-report.result) c.carry_out_delivery-report.ensures)
+    (account_crash event (λ accounts. Delivery accounts c.as_slice-in-Deliver.result.now c.in-Deliver.envelope c.as_slice-in-Deliver-2.result.now c.in-Deliver.terms) (MayRefuseDelivery c.in-Deliver.envelope c.as_slice-in-Deliver-2.result.now c.in-Deliver.terms.when.moment) (λ w answer next made. made) (delivery_may c.as_slice-in-Deliver.result.now c.as_slice-in-Deliver-2.result.now c.in-Deliver.envelope c.in-Deliver.terms) (state g.S.Store c.args.store.now) (state g.S.Store c.carry_out_delivery-report.new.store) c.args.sessions.now c.carry_out_delivery-report.result (answer_by Delivered c.carry_out_delivery-report.result) c.carry_out_delivery-report.ensures)
 
 pub returns-in-AddUser-clause-event : goal.returns-in-AddUser-clause-event
 returns-in-AddUser-clause-event g c =

@@ -1,9 +1,7 @@
--- What was done to the store that was reached, behind calls that changed no account and left the default script.
+-- What was done to the store that was reached, behind calls that changed no account and left the settings.
 use Rattle.std.proofs.Common.{◌≡◌, [], Some, ◌∙◌, subst, sym}
 use Rattle.store_engine.specs.Hosts.{SessionMap}
-use Rattle.store_engine.specs.Terms.{terms, terms_of}
-use Rattle.store_accounts.specs.Cells.{borrowed_octets}
-use Rattle.store_accounts.proofs.CallLemmas.{contents_is}
+use Rattle.store_engine.specs.Terms.{terms}
 use Rattle.daemon_core.specs.StoreAccess.{IsEventDone, access_state, delivery_of}
 use Rattle.daemon_core.proofs.StillLemmas.{still_then}
 use Rattle.daemon_host.specs.Held.{host_view, HostBrings, IsClean}
@@ -14,23 +12,23 @@ use Rattle.daemon_host.proofs.host.Host.try_deliver.Goals as goal
 pub returns-in-Some : goal.returns-in-Some
 returns-in-Some g c =
     let view = host_view g.K.S.Store g.K.Keeper.tells g.K.Keeper.holds in
-    let when = c.when_in-when.result in
+    let when = c.at.result.when in
     let told = c.tell_delivery.result in
-    let same : borrowed_octets c.as_deref.result ≡ c.args.self.now.default = contents_is c.as_deref.result ∙ c.as_deref.ensures ∙ c.reach.ensures.default ∙ c.may_ask.ensures.default in (
+    let same : c.reach.new.self.settings ≡ c.args.self.now.settings = c.reach.ensures.settings ∙ c.may_ask.ensures.settings in (
       when,
-      subst (λ default. (kept : SessionMap) → HostBrings g.K.S.Store g.K.Keeper.tells g.K.Keeper.holds (delivery_of c.args.request.now (terms when default)) (Some told) (access_state c.args.self.now.held kept) (access_state c.tell_delivery.new.self.held kept)) same
+      subst (λ host. (kept : SessionMap) → HostBrings g.K.S.Store g.K.Keeper.tells g.K.Keeper.holds (delivery_of c.args.request.now (terms when host)) (Some told) (access_state c.args.self.now.held kept) (access_state c.tell_delivery.new.self.held kept)) same
           (λ kept clean.
           let here = c.is_kept-kept.ensures.kept (subst (IsClean g.K.S.Store g.K.Keeper.tells) c.tell_delivery.ensures.same clean) in
           let is = c.tell_delivery.ensures.same ∙ here.1 in
-          let done = done_behind view c.args.self.now.held c.reach.new.self.held c.deliver.new.self (delivery_of c.args.request.now (terms_of when c.as_deref.result)) c.in-Some.answer kept kept
+          let done = done_behind view c.args.self.now.held c.reach.new.self.held c.deliver.new.self (delivery_of c.args.request.now (terms when c.reach.new.self.settings)) c.in-Some.answer kept kept
           (still_then view c.args.self.now.held c.may_ask.new.self.held c.reach.new.self.held c.may_ask.ensures.shown c.reach.ensures.shown) (c.in-Some.ensures kept (subst (IsClean g.K.S.Store g.K.Keeper.tells) is clean)) in
-          subst (λ held. IsEventDone view [] (delivery_of c.args.request.now (terms_of when c.as_deref.result)) told c.args.self.now.held kept held kept) (sym is)
-          (told_done view c.args.request.now (terms_of when c.as_deref.result) c.in-Some.answer told _ c.args.self.now.held c.deliver.new.self kept (c.tell_delivery.ensures.told here.0) done)),
+          subst (λ held. IsEventDone view [] (delivery_of c.args.request.now (terms when c.reach.new.self.settings)) told c.args.self.now.held kept held kept) (sym is)
+          (told_done view c.args.request.now (terms when c.reach.new.self.settings) c.in-Some.answer told _ c.args.self.now.held c.deliver.new.self kept (c.tell_delivery.ensures.told here.0) done)),
     )
 
 pub returns-in-None : goal.returns-in-None
 returns-in-None g c = (
-  c.when_in-when.result,
+  c.at.result.when,
   λ kept.
       let view = host_view g.K.S.Store g.K.Keeper.tells g.K.Keeper.holds in
       nothing_behind view c.args.self.now.held c.reach.new.self.held c.deliver.new.self kept kept

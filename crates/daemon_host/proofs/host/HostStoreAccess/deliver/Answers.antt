@@ -5,7 +5,7 @@ use Rattle.daemon_host.proofs.host.HostStoreAccess.deliver.Goals as goal
 
 pub returns-in-Some-clause-delivers : goal.returns-in-Some-clause-delivers
 returns-in-Some-clause-delivers g c =
-    let brings = rw (c.enter_user.ensures.same, c.enter_user.ensures.default) at c.in-Some.ensures in
+    let brings = rw (c.enter_user.ensures.same, c.enter_user.ensures.settings) at c.in-Some.ensures in
     rw c.end_delivery.ensures.same (brings.0, ([], brings.1 c.args._clients.now.sessions, λ told. never_told told))
 
 pub returns-in-None-clause-delivers : goal.returns-in-None-clause-delivers

@@ -1,7 +1,7 @@
 use Rattle.std.proofs.Common.{◌≡◌, ◌∙◌, Some, ap, sym, subst, rules}
 use Rattle.std.specs.Prelude.{slice_get}
 use Rattle.lmtp_connections.specs.Stands.{Demands}
-use Rattle.lmtp_connections.specs.declared.addressee.DeliveryResult.TheVariants.{Refused}
+use Rattle.lmtp_dialogue.specs.declared.recipient_reply.RecipientReply.TheVariants.{Refused}
 use Rattle.lmtp_connections.specs.declared.demand.Demand.TheVariants.{Reply}
 use Rattle.lmtp_connections.proofs.DemandLemmas.{owes, unkept}
 use Rattle.lmtp_connections.proofs.connection.LmtpConnection.demand_reply.Goals as goal

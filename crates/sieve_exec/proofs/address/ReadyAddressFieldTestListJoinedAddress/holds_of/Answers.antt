@@ -1,9 +1,8 @@
 use Rattle.std.proofs.Common.{◌≡◌, ◌∙◌, IfOk, subst, sym, ap}
 use Rattle.std.specs.List.{list_any, filter_map}
-use Rattle.sieve_exec.specs.Matches.{matches_some}
+use Rattle.sieve_exec.specs.Matches.{matches_some, part_matches}
 use Rattle.sieve_exec.specs.Parts.{address_part_of}
 use Rattle.sieve_exec.specs.Ready.{some_passes}
-use Rattle.sieve_exec.specs.Truth.{part_matches}
 use Rattle.sieve_exec.proofs.KeyLemmas.{any_part, any_same, part_passes}
 use Rattle.sieve_exec.proofs.address.ReadyAddressFieldTestListJoinedAddress.holds_of.Goals as goal
 

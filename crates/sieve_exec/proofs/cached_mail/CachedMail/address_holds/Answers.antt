@@ -1,7 +1,8 @@
 use Rattle.std.proofs.Common.{◌≡◌, ◌∙◌, true, sym, ap}
-use Rattle.sieve_exec.specs.Counts.{is_count, addresses_counted}
-use Rattle.sieve_exec.specs.Truth.{count_matches}
-use Rattle.sieve_exec.proofs.TruthLemmas.{each_asked, number_asked}
+use Rattle.sieve_exec.specs.Extension.Relational.{is_count}
+use Rattle.sieve_exec.specs.Counts.{addresses_counted}
+use Rattle.sieve_exec.specs.Matches.{count_matches}
+use Rattle.sieve_exec.proofs.Decisions.{each_asked, number_asked}
 use Rattle.sieve_exec.proofs.cached_mail.CachedMail.address_holds.Goals as goal
 
 pub returns-then-not-is_count-clause-truth : goal.returns-then-not-is_count-clause-truth

@@ -1,6 +1,6 @@
 use Rattle.std.proofs.Common.{◌∙◌, sym}
-use Rattle.sieve_exec.specs.Counts.{is_count}
-use Rattle.sieve_exec.proofs.TruthLemmas.{each_asked}
+use Rattle.sieve_exec.specs.Extension.Relational.{is_count}
+use Rattle.sieve_exec.proofs.Decisions.{each_asked}
 use Rattle.sieve_exec.proofs.cached_mail.CachedMail.header_holds.Goals as goal
 
 pub returns-then-not-is_count-clause-truth : goal.returns-then-not-is_count-clause-truth

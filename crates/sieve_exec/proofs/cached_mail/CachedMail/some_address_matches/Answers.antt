@@ -7,7 +7,8 @@ use Rattle.sieve_exec.specs.Indexes.{addresses_keyed}
 use Rattle.sieve_exec.specs.Mails.{MailSpec}
 use Rattle.sieve_exec.specs.Parts.{address_part_of}
 use Rattle.sieve_exec.specs.Ready.{KeysSpec, keys_spec_of}
-use Rattle.sieve_exec.specs.Truth.{part_matches, some_address_matches}
+use Rattle.sieve_exec.specs.Matches.{part_matches}
+use Rattle.sieve_exec.specs.Truth.{some_address_matches}
 use Rattle.sieve_exec.proofs.cached_mail.CachedMail.some_address_matches.Goals as goal
 
 abbrev asked : AddressPart → MailSpec → KeysSpec → List (List ℕ) → Bool

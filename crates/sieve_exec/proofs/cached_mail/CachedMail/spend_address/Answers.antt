@@ -1,6 +1,7 @@
 -- The values are those of the mail.
 use Rattle.std.proofs.Common.{◌≡◌, ◌+◌, ◌<◌, length, ap, subst, ◌∙◌}
-use Rattle.sieve_exec.specs.Work.{IsLeft, names_work, address_sizes, values_work}
+use Rattle.sieve_exec.specs.Sizes.{IsLeft, names_work, values_work}
+use Rattle.sieve_exec.specs.Work.{address_sizes}
 use Rattle.sieve_exec.proofs.WorkLemmas.{left_then, too_large}
 use Rattle.sieve_exec.proofs.cached_mail.CachedMail.spend_address.Goals as goal
 

@@ -2,9 +2,11 @@ use Rattle.std.proofs.Common.{refl, subst}
 use Rattle.std.proofs.lemmas.Result.{err_from_is_err_and}
 use Rattle.sieve_syntax.specs.Capabilities.{granted_by}
 use Rattle.sieve_syntax.specs.declared.tree.action.Action.TheVariants as D
-use Rattle.sieve_syntax.specs.Table.{IsList, IsKeep, IsFileInto, IsRedirect}
+use Rattle.sieve_syntax.specs.Extension.Imap4flags.{IsFlagList}
+use Rattle.sieve_syntax.specs.Table.{IsKeep, IsRedirect}
+use Rattle.sieve_syntax.specs.Extension.FileInto.{IsFileInto}
 use Rattle.sieve_syntax.specs.Tree.{stop, act}
-use Rattle.sieve_syntax.specs.Vacations.{IsVacation}
+use Rattle.sieve_syntax.specs.Extension.Vacation.{IsVacation}
 use Rattle.sieve_syntax.specs.Valid.{MayAct, MayStand}
 use Rattle.sieve_syntax.proofs.TableLemmas.{row_only, fit_fault, bare_fault}
 use Rattle.sieve_syntax.proofs.ViewLemmas.{view-Stop, view-Act}
@@ -89,34 +91,34 @@ pub returns-in_err-texts-in-SetFlag-clause-fault : goal.returns-in_err-texts-in-
 returns-in_err-texts-in-SetFlag-clause-fault c =
     let h = c.in_err-texts-in-SetFlag.ensures in
     let p = err_from_is_err_and c.from_residual-in_err-texts-in-SetFlag.result c.from_residual-in_err-texts-in-SetFlag.ensures.1 in
-    rw (p.1, p.2, c.in-SetFlag.is) (fit_fault IsList (λ x. act (D.SetFlag x)) _ (MayStand (granted_by c.args.granted.now)) (λ x. MayAct (granted_by c.args.granted.now) (D.SetFlag x)) (λ x may. may) _ h)
+    rw (p.1, p.2, c.in-SetFlag.is) (fit_fault IsFlagList (λ x. act (D.SetFlag x)) _ (MayStand (granted_by c.args.granted.now)) (λ x. MayAct (granted_by c.args.granted.now) (D.SetFlag x)) (λ x may. may) _ h)
 
 pub returns-in_ok-texts-in-SetFlag-clause-found : goal.returns-in_ok-texts-in-SetFlag-clause-found
 returns-in_ok-texts-in-SetFlag-clause-found c = rw (view-Act, c.in-SetFlag.is) (record { value = _; is = c.in_ok-texts-in-SetFlag.ensures.0; tree_is = refl }, c.in_ok-texts-in-SetFlag.ensures.1)
 
 pub returns-in_ok-texts-in-SetFlag-clause-only : goal.returns-in_ok-texts-in-SetFlag-clause-only
-returns-in_ok-texts-in-SetFlag-clause-only c = rw (view-Act, c.in-SetFlag.is) (row_only IsList (λ x. act (D.SetFlag x)) _ (MayStand (granted_by c.args.granted.now)) _ c.in_ok-texts-in-SetFlag.ensures.2)
+returns-in_ok-texts-in-SetFlag-clause-only c = rw (view-Act, c.in-SetFlag.is) (row_only IsFlagList (λ x. act (D.SetFlag x)) _ (MayStand (granted_by c.args.granted.now)) _ c.in_ok-texts-in-SetFlag.ensures.2)
 
 pub returns-in_err-texts-in-AddFlag-clause-fault : goal.returns-in_err-texts-in-AddFlag-clause-fault
 returns-in_err-texts-in-AddFlag-clause-fault c =
     let h = c.in_err-texts-in-AddFlag.ensures in
     let p = err_from_is_err_and c.from_residual-in_err-texts-in-AddFlag.result c.from_residual-in_err-texts-in-AddFlag.ensures.1 in
-    rw (p.1, p.2, c.in-AddFlag.is) (fit_fault IsList (λ x. act (D.AddFlag x)) _ (MayStand (granted_by c.args.granted.now)) (λ x. MayAct (granted_by c.args.granted.now) (D.AddFlag x)) (λ x may. may) _ h)
+    rw (p.1, p.2, c.in-AddFlag.is) (fit_fault IsFlagList (λ x. act (D.AddFlag x)) _ (MayStand (granted_by c.args.granted.now)) (λ x. MayAct (granted_by c.args.granted.now) (D.AddFlag x)) (λ x may. may) _ h)
 
 pub returns-in_ok-texts-in-AddFlag-clause-found : goal.returns-in_ok-texts-in-AddFlag-clause-found
 returns-in_ok-texts-in-AddFlag-clause-found c = rw (view-Act, c.in-AddFlag.is) (record { value = _; is = c.in_ok-texts-in-AddFlag.ensures.0; tree_is = refl }, c.in_ok-texts-in-AddFlag.ensures.1)
 
 pub returns-in_ok-texts-in-AddFlag-clause-only : goal.returns-in_ok-texts-in-AddFlag-clause-only
-returns-in_ok-texts-in-AddFlag-clause-only c = rw (view-Act, c.in-AddFlag.is) (row_only IsList (λ x. act (D.AddFlag x)) _ (MayStand (granted_by c.args.granted.now)) _ c.in_ok-texts-in-AddFlag.ensures.2)
+returns-in_ok-texts-in-AddFlag-clause-only c = rw (view-Act, c.in-AddFlag.is) (row_only IsFlagList (λ x. act (D.AddFlag x)) _ (MayStand (granted_by c.args.granted.now)) _ c.in_ok-texts-in-AddFlag.ensures.2)
 
 pub returns-in_err-texts-in-RemoveFlag-clause-fault : goal.returns-in_err-texts-in-RemoveFlag-clause-fault
 returns-in_err-texts-in-RemoveFlag-clause-fault c =
     let h = c.in_err-texts-in-RemoveFlag.ensures in
     let p = err_from_is_err_and c.from_residual-in_err-texts-in-RemoveFlag.result c.from_residual-in_err-texts-in-RemoveFlag.ensures.1 in
-    rw (p.1, p.2, c.in-RemoveFlag.is) (fit_fault IsList (λ x. act (D.RemoveFlag x)) _ (MayStand (granted_by c.args.granted.now)) (λ x. MayAct (granted_by c.args.granted.now) (D.RemoveFlag x)) (λ x may. may) _ h)
+    rw (p.1, p.2, c.in-RemoveFlag.is) (fit_fault IsFlagList (λ x. act (D.RemoveFlag x)) _ (MayStand (granted_by c.args.granted.now)) (λ x. MayAct (granted_by c.args.granted.now) (D.RemoveFlag x)) (λ x may. may) _ h)
 
 pub returns-in_ok-texts-in-RemoveFlag-clause-found : goal.returns-in_ok-texts-in-RemoveFlag-clause-found
 returns-in_ok-texts-in-RemoveFlag-clause-found c = rw (view-Act, c.in-RemoveFlag.is) (record { value = _; is = c.in_ok-texts-in-RemoveFlag.ensures.0; tree_is = refl }, c.in_ok-texts-in-RemoveFlag.ensures.1)
 
 pub returns-in_ok-texts-in-RemoveFlag-clause-only : goal.returns-in_ok-texts-in-RemoveFlag-clause-only
-returns-in_ok-texts-in-RemoveFlag-clause-only c = rw (view-Act, c.in-RemoveFlag.is) (row_only IsList (λ x. act (D.RemoveFlag x)) _ (MayStand (granted_by c.args.granted.now)) _ c.in_ok-texts-in-RemoveFlag.ensures.2)
+returns-in_ok-texts-in-RemoveFlag-clause-only c = rw (view-Act, c.in-RemoveFlag.is) (row_only IsFlagList (λ x. act (D.RemoveFlag x)) _ (MayStand (granted_by c.args.granted.now)) _ c.in_ok-texts-in-RemoveFlag.ensures.2)

@@ -1,7 +1,7 @@
 use Rattle.std.proofs.Common.{◌≡◌, ℕ, List, Some}
 use Rattle.mail_address.specs.declared.address.Addr.{Addr}
 use Rattle.mail_address.specs.Outbound.{IsOutbound}
-use Rattle.sieve_syntax.specs.Vacations.{IsNamedAs}
+use Rattle.sieve_syntax.specs.NamedAddresses.{IsNamedAs}
 use Rattle.sieve_syntax.proofs.VacationLemmas.{if_ok_so}
 use Rattle.sieve_syntax.proofs.table.redirect.named_address.Goals as goal
 

@@ -1,13 +1,14 @@
 -- The event that was copied, at the moment of the clock.
-use Rattle.std.proofs.Common.{subst}
-use Rattle.daemon_core.specs.StoreAccess.{AppliesEvent, access_state}
+use Rattle.std.proofs.Common.{◌∙◌, ap, subst}
+use Rattle.daemon_core.specs.StoreAccess.{AppliesEvent, access_state, delivery_of}
+use Rattle.store_engine.specs.Terms.{terms}
 use Rattle.test_daemon.specs.FakeAccess.{fake_telling, fake_store}
 use Rattle.test_daemon.proofs.fake_access.FakeAccessStoreAccess.deliver.Goals as goal
 
 pub returns-in-Ok-clause-delivers : goal.returns-in-Ok-clause-delivers
 returns-in-Ok-clause-delivers g c = (
-  c.in_utc-when.result,
+  c.at-terms.result.when,
   subst (λ e. AppliesEvent (fake_telling {S = g.row.S.Denot}) (fake_store {S = g.row.S.Denot} g.S.Shelf.view g.S.Shelf.has) c.args.id e (access_state c.args.self.now c.args.clients.now.sessions) c.bring.result
       (access_state c.bring.new.self c.bring.new.clients.sessions))
-      c.in-Ok.ensures c.bring.ensures.brings,
+      (c.in-Ok.ensures ∙ ap (λ host. delivery_of c.args.request.now (terms c.at-terms.result.when host)) c.at-terms.ensures.host) c.bring.ensures.brings,
 )

@@ -18,8 +18,8 @@ pub returns-in-Deliver-clause-lets : goal.returns-in-Deliver-clause-lets
 returns-in-Deliver-clause-lets c =
     let it = c.in-Deliver in
     let let_by_message =
-    subst (λ m. IsLet memory_view_of (Deliver c.as_slice-user.result.now it.envelope m it.when it.default) c.let_delivery.result c.args.self.now.store c.let_delivery.new.store) c.as_slice-message.ensures c.let_delivery.ensures in
-    let let_by_user = subst (λ u. IsLet memory_view_of (Deliver u it.envelope it.message it.when it.default) c.let_delivery.result c.args.self.now.store c.let_delivery.new.store) c.as_slice-user.ensures let_by_message in
+    subst (λ m. IsLet memory_view_of (Deliver c.as_slice-user.result.now it.envelope m it.terms) c.let_delivery.result c.args.self.now.store c.let_delivery.new.store) c.as_slice-message.ensures c.let_delivery.ensures in
+    let let_by_user = subst (λ u. IsLet memory_view_of (Deliver u it.envelope it.message it.terms) c.let_delivery.result c.args.self.now.store c.let_delivery.new.store) c.as_slice-user.ensures let_by_message in
     on_shelf c.args.event.now c.let_delivery.result c.args.self.now _ (subst (λ e. IsLet memory_view_of e c.let_delivery.result c.args.self.now.store c.let_delivery.new.store) (sym it.is) let_by_user)
 
 pub returns-in-AddUser-clause-lets : goal.returns-in-AddUser-clause-lets

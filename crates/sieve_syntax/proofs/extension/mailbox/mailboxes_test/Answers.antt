@@ -1,0 +1,15 @@
+use Rattle.std.proofs.lemmas.Result.{err_from_is_err_and}
+use Rattle.sieve_syntax.specs.Capabilities.{granted_by}
+use Rattle.sieve_syntax.specs.declared.extension.ExtensionTest.TheVariants as X
+use Rattle.sieve_syntax.specs.Extension.{MayAsk}
+use Rattle.sieve_syntax.specs.Extension.Mailbox.{IsMailboxesTest}
+use Rattle.sieve_syntax.proofs.TableLemmas.{row_fits, fit_fault}
+use Rattle.sieve_syntax.proofs.extension.mailbox.mailboxes_test.Goals as goal
+
+pub returns-in_err-names : goal.returns-in_err-names
+returns-in_err-names c =
+    let p = err_from_is_err_and c.from_residual.result c.from_residual.ensures.1 in
+    rw (p.1, p.2) (fit_fault IsMailboxesTest X.MailboxExists _ (MayAsk (granted_by c.args.granted.now)) (λ x. MayAsk (granted_by c.args.granted.now) (X.MailboxExists x)) (λ x may. may) _ c.in_err-names.ensures)
+
+pub returns : goal.returns
+returns c = row_fits IsMailboxesTest X.MailboxExists _ (MayAsk (granted_by c.args.granted.now)) _ c.in_ok-names.ensures

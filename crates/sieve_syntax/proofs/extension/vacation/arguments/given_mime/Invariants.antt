@@ -1,0 +1,6 @@
+use Rattle.std.proofs.Common.{◌≡◌, drop}
+use Rattle.sieve_syntax.specs.Extension.Vacation.{mime_in}
+use Rattle.sieve_syntax.proofs.extension.vacation.arguments.given_mime.Given as goal
+
+abbrev pub invariant-loop-tag_value : goal.invariant-loop-tag_value
+invariant-loop-tag_value l = mime_in (drop l.tag_value-index l.tag_values) ≡ mime_in l.tag_values

@@ -1,0 +1,6 @@
+use Rattle.std.proofs.Common.{◌≡◌, drop}
+use Rattle.sieve_syntax.specs.Extension.Vacation.{subject_in}
+use Rattle.sieve_syntax.proofs.extension.vacation.arguments.given_subject.Given as goal
+
+abbrev pub invariant-loop-tag_value : goal.invariant-loop-tag_value
+invariant-loop-tag_value l = subject_in (drop l.tag_value-index l.tag_values) ≡ subject_in l.tag_values

@@ -1,6 +1,0 @@
-use Rattle.std.proofs.Common.{◌≡◌, drop}
-use Rattle.sieve_syntax.specs.TagValues.{flags_in}
-use Rattle.sieve_syntax.proofs.table.tag_values.given_flags.Given as goal
-
-abbrev pub invariant-loop-tag_value : goal.invariant-loop-tag_value
-invariant-loop-tag_value l = flags_in (drop l.tag_value-index l.tag_values) ≡ flags_in l.tag_values

@@ -1,6 +1,0 @@
-use Rattle.std.proofs.Common.{◌≡◌, drop}
-use Rattle.sieve_syntax.specs.TagValues.{subject_in}
-use Rattle.sieve_syntax.proofs.table.tag_values.given_subject.Given as goal
-
-abbrev pub invariant-loop-tag_value : goal.invariant-loop-tag_value
-invariant-loop-tag_value l = subject_in (drop l.tag_value-index l.tag_values) ≡ subject_in l.tag_values

@@ -1,6 +1,0 @@
-use Rattle.std.proofs.Common.{◌≡◌, drop}
-use Rattle.sieve_syntax.specs.TagValues.{from_in}
-use Rattle.sieve_syntax.proofs.table.vacation_arguments.from_text.Given as goal
-
-abbrev pub invariant-loop-tag_value : goal.invariant-loop-tag_value
-invariant-loop-tag_value l = from_in (drop l.tag_value-index l.tag_values) ≡ from_in l.tag_values

@@ -1,6 +1,0 @@
-use Rattle.std.proofs.Common.{◌≡◌, drop}
-use Rattle.sieve_syntax.specs.TagValues.{addresses_in}
-use Rattle.sieve_syntax.proofs.table.vacation_arguments.given_addresses.Given as goal
-
-abbrev pub invariant-loop-tag_value : goal.invariant-loop-tag_value
-invariant-loop-tag_value l = addresses_in (drop l.tag_value-index l.tag_values) ≡ addresses_in l.tag_values
