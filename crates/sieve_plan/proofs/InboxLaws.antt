@@ -171,13 +171,13 @@ abbrev HasInbox : Actions → Handover → Type 0
 HasInbox done next = next.is_kept ≡ true → is_filed done.filed inbox ≡ true
 
 -- behind its implicit keep the message is in INBOX, where it is to be kept
-module _ (actions : List Action) (left : Handover) (at_end : RunState) (executes : list_any is_keep actions ≡ true → InInbox at_end) where
+module _ (actions : List Action) (left : Handover) (at_end : RunState) (into : list_any is_keep actions ≡ true → InInbox at_end) where
   kept_in_inbox : leaves_kept actions at_end ≡ true → OnFlow InInbox (keeps_implicitly left at_end)
   kept_in_inbox is = step at_end.cancelled (list_any is_keep actions) refl is
     where
       step : (cancelled among : Bool) → list_any is_keep actions ≡ among → (among || not cancelled) ≡ true
           → OnFlow InInbox (cond cancelled (Going at_end) (filed_into inbox (implicit_flags left.keep_flags at_end) true at_end))
-      step true true some still = executes some
+      step true true some still = into some
       step true false some still = absurd (cc still)
       step false among some still = into_inbox (implicit_flags left.keep_flags at_end) true at_end
 
@@ -186,10 +186,10 @@ module _ (actions : List Action) (left : Handover) (at_end : RunState) (executes
   inbox_with (Stopped kept) so keeps = λ is. same_filed (done_behind left kept).filed kept.filed inbox (same_mailboxes left.filed kept.filed so.new_mailboxes so.mailboxes) ∙ keeps is
   inbox_with (Failed failure) so keeps = tt
 
-inbox_by : (actions : List Action) (left : Handover) (flow : Flow) → OnFlow (Extended left) flow → (list_any is_keep actions ≡ true → OnFlow InInbox flow) → OnEnded HasInbox (ended_by actions left flow)
-inbox_by actions left (Going at_end) so executes = inbox_with actions left at_end executes (keeps_implicitly left at_end) (implicit_extends left at_end so) (kept_in_inbox actions left at_end executes)
-inbox_by actions left (Stopped at_end) so executes = inbox_with actions left at_end executes (keeps_implicitly left at_end) (implicit_extends left at_end so) (kept_in_inbox actions left at_end executes)
-inbox_by actions left (Failed failure) so executes = tt
+inbox_by : (actions : List Action) (left : Handover) (flow : Flow) → OnFlow (Extended left) flow → IntoInbox actions flow → OnEnded HasInbox (ended_by actions left flow)
+inbox_by actions left (Going at_end) so into = inbox_with actions left at_end into (keeps_implicitly left at_end) (implicit_extends left at_end so) (kept_in_inbox actions left at_end into)
+inbox_by actions left (Stopped at_end) so into = inbox_with actions left at_end into (keeps_implicitly left at_end) (implicit_extends left at_end so) (kept_in_inbox actions left at_end into)
+inbox_by actions left (Failed failure) so into = tt
 
 inbox_run : (asking : TestAsking) → LeavesDeeds asking → (work : RunState → MailCheck → ℕ) (most : ℕ) (tree : Commands) (left : Handover) → AreApart left.filed left.sent
     → OnEnded HasInbox (end_of_run asking work most tree left)

@@ -8,6 +8,7 @@ pub mod FoundLaws
 mod Examples
 mod HandoverExamples
 pub mod HandoverLaws
+pub mod ExecutedLaws
 pub mod SequenceLaws
 pub mod InboxLaws
 pub mod SequencePlanLemmas
