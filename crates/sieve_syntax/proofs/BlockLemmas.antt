@@ -138,34 +138,8 @@ pub record AreParted (granted : Capabilities) (room : ℕ) (all : List (TestTree
 
 past_elsif : (from : List Lexeme) → IsPastBranches from → IsPastElsif from
 past_elsif [] past = tt
-past_elsif (keyword W.Require ∷ _) past = tt
-past_elsif (keyword W.If ∷ _) past = tt
 past_elsif (keyword W.Elsif ∷ _) past = past
-past_elsif (keyword W.Else ∷ _) past = tt
-past_elsif (keyword W.Stop ∷ _) past = tt
-past_elsif (keyword W.Keep ∷ _) past = tt
-past_elsif (keyword W.Discard ∷ _) past = tt
-past_elsif (keyword W.FileInto ∷ _) past = tt
-past_elsif (keyword W.Redirect ∷ _) past = tt
-past_elsif (keyword W.Vacation ∷ _) past = tt
-past_elsif (keyword W.True ∷ _) past = tt
-past_elsif (keyword W.False ∷ _) past = tt
-past_elsif (keyword W.Not ∷ _) past = tt
-past_elsif (keyword W.AllOf ∷ _) past = tt
-past_elsif (keyword W.AnyOf ∷ _) past = tt
-past_elsif (keyword W.Size ∷ _) past = tt
-past_elsif (keyword W.Exists ∷ _) past = tt
-past_elsif (keyword W.MailboxExists ∷ _) past = tt
-past_elsif (keyword W.Date ∷ _) past = tt
-past_elsif (keyword W.CurrentDate ∷ _) past = tt
-past_elsif (keyword W.SetFlag ∷ _) past = tt
-past_elsif (keyword W.AddFlag ∷ _) past = tt
-past_elsif (keyword W.RemoveFlag ∷ _) past = tt
-past_elsif (keyword W.HasFlag ∷ _) past = tt
-past_elsif (keyword W.Header ∷ _) past = tt
-past_elsif (keyword W.Address ∷ _) past = tt
-past_elsif (keyword W.Envelope ∷ _) past = tt
-past_elsif (keyword W.Other ∷ _) past = tt
+past_elsif (keyword _ ∷ _) past = tt
 past_elsif (tag _ ∷ _) past = tt
 past_elsif (number _ ∷ _) past = tt
 past_elsif (text _ ∷ _) past = tt

@@ -119,33 +119,7 @@ kept_requires (names ∷ more) from to (middle, (first, others)) none e =
 -- any other word ends them
 past_word : (name : Keyword) (after : List Lexeme) → IsPastRequires (keyword name ∷ after) → decoding_after Open (keyword name) ≡ Off
 past_word W.Require after past = absurd past
-past_word W.If after past = refl
-past_word W.Elsif after past = refl
-past_word W.Else after past = refl
-past_word W.Stop after past = refl
-past_word W.Keep after past = refl
-past_word W.Discard after past = refl
-past_word W.FileInto after past = refl
-past_word W.Redirect after past = refl
-past_word W.Vacation after past = refl
-past_word W.True after past = refl
-past_word W.False after past = refl
-past_word W.Not after past = refl
-past_word W.AllOf after past = refl
-past_word W.AnyOf after past = refl
-past_word W.Size after past = refl
-past_word W.Exists after past = refl
-past_word W.MailboxExists after past = refl
-past_word W.Date after past = refl
-past_word W.CurrentDate after past = refl
-past_word W.SetFlag after past = refl
-past_word W.AddFlag after past = refl
-past_word W.RemoveFlag after past = refl
-past_word W.HasFlag after past = refl
-past_word W.Header after past = refl
-past_word W.Address after past = refl
-past_word W.Envelope after past = refl
-past_word W.Other after past = refl
+past_word _ after past = refl
 
 kept_rest : (commands : Commands) (from : List Lexeme) → AreCommands commands from [] → IsPastRequires from → as_read from ≡ from
 kept_rest no_commands from is past = subst (λ l. as_read l ≡ l) (sym is) refl

@@ -47,64 +47,21 @@ module _ (after : List Lexeme) (args : List Argument) (next : List Lexeme) (only
 -- a `require` begins with its word
 pub require_keyword : (name : Keyword) (args : List Argument) (names : List (List ℕ)) → IsPlainCommand name args (require names) → name ≡ W.Require
 require_keyword W.Require args names is = refl
-require_keyword W.If args names is = absurd is
-require_keyword W.Elsif args names is = absurd is
-require_keyword W.Else args names is = absurd is
 require_keyword W.Stop args names is = let e = is.tree_is in cc
 require_keyword W.Keep args names is = let e = is.tree_is in cc
 require_keyword W.Discard args names is = let e = is.tree_is in cc
 require_keyword W.FileInto args names is = let e = is.tree_is in cc
 require_keyword W.Redirect args names is = let e = is.tree_is in cc
 require_keyword W.Vacation args names is = let e = is.tree_is in cc
-require_keyword W.True args names is = absurd is
-require_keyword W.False args names is = absurd is
-require_keyword W.Not args names is = absurd is
-require_keyword W.AllOf args names is = absurd is
-require_keyword W.AnyOf args names is = absurd is
-require_keyword W.Size args names is = absurd is
-require_keyword W.Exists args names is = absurd is
-require_keyword W.MailboxExists args names is = absurd is
-require_keyword W.Date args names is = absurd is
-require_keyword W.CurrentDate args names is = absurd is
 require_keyword W.SetFlag args names is = let e = is.tree_is in cc
 require_keyword W.AddFlag args names is = let e = is.tree_is in cc
 require_keyword W.RemoveFlag args names is = let e = is.tree_is in cc
-require_keyword W.HasFlag args names is = absurd is
-require_keyword W.Header args names is = absurd is
-require_keyword W.Address args names is = absurd is
-require_keyword W.Envelope args names is = absurd is
-require_keyword W.Other args names is = absurd is
+require_keyword _ args names is = absurd is
 
 -- any other word is past the requires
 past_keyword : (name : Keyword) (after : List Lexeme) → (name ≡ W.Require → ⊥) → IsPastRequires (keyword name ∷ after)
 past_keyword W.Require after other = other refl
-past_keyword W.If after other = tt
-past_keyword W.Elsif after other = tt
-past_keyword W.Else after other = tt
-past_keyword W.Stop after other = tt
-past_keyword W.Keep after other = tt
-past_keyword W.Discard after other = tt
-past_keyword W.FileInto after other = tt
-past_keyword W.Redirect after other = tt
-past_keyword W.Vacation after other = tt
-past_keyword W.True after other = tt
-past_keyword W.False after other = tt
-past_keyword W.Not after other = tt
-past_keyword W.AllOf after other = tt
-past_keyword W.AnyOf after other = tt
-past_keyword W.Size after other = tt
-past_keyword W.Exists after other = tt
-past_keyword W.MailboxExists after other = tt
-past_keyword W.Date after other = tt
-past_keyword W.CurrentDate after other = tt
-past_keyword W.SetFlag after other = tt
-past_keyword W.AddFlag after other = tt
-past_keyword W.RemoveFlag after other = tt
-past_keyword W.HasFlag after other = tt
-past_keyword W.Header after other = tt
-past_keyword W.Address after other = tt
-past_keyword W.Envelope after other = tt
-past_keyword W.Other after other = tt
+past_keyword _ after other = tt
 
 -- no `require` stands past the requires
 past_none : (rest : List Lexeme) → IsPastRequires rest → (names : List (List ℕ)) (to : List Lexeme) → TakesRequire names rest to → ⊥
