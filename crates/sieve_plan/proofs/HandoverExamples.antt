@@ -1,15 +1,14 @@
 -- What a script leaves to the next one, on small cases: one that is right, and one that nearly is.
-use Rattle.std.proofs.Common.{◌≡◌, ◌∷◌, ℕ, Bool, true, false, List, [], Some, None, refl}
+use Rattle.std.proofs.Common.{◌≡◌, ◌∷◌, ℕ, true, false, List, [], Some, None, refl}
 use Rattle.std.specs.Prelude.{Option, codes, replicate}
 use Rattle.mail_address.specs.declared.address.Addr.{Addr}
 use Rattle.mail_flags.specs.Flags.{has}
 use Rattle.mail_flags.specs.declared.placement.Placement.{Placement}
 use Rattle.sieve_syntax.specs.declared.tree.action.Action.{Action}
 use Rattle.sieve_syntax.specs.declared.tree.action.Action.TheVariants.{Keep, Discard, FileInto, Redirect, Vacation, SetFlag, RemoveFlag}
-use Rattle.sieve_syntax.specs.declared.tree.checks.MailCheck.{MailCheck}
 use Rattle.sieve_syntax.specs.declared.tree.checks.MailCheck.TheVariants as Q
 use Rattle.sieve_syntax.specs.declared.extension.vacation.VacationArgs.{VacationArgs}
-use Rattle.sieve_syntax.specs.RunState.{RunState, at_first, inbox, TwoVacations, TooManyRedirects, TooManyMailboxes, TooMuchWork}
+use Rattle.sieve_syntax.specs.RunState.{at_first, inbox, TwoVacations, TooManyRedirects, TooManyMailboxes, TooMuchWork}
 use Rattle.sieve_syntax.specs.Meaning.{answered as answer, TestAsking, asking_at, Actions}
 use Rattle.sieve_syntax.specs.Work.{max_work}
 use Rattle.sieve_syntax.specs.Tree.{TestTree, yes, looks, any_of, no_tests, test, choose, stop, act, branch, no_branches, Commands, no_commands, command}
