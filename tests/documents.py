@@ -285,7 +285,7 @@ def capabilities():
     assert sorted(re.findall(r"`([^`]+)`", listed)) == sorted(names), (listed, names)
     free = ["comparator-i;octet", "comparator-i;ascii-casemap"]
     line = " ".join(name for name in names if name not in free)
-    for path in "crates/managesieve_sessions/src/replies.rt", "crates/managesieve_sessions/specs/Replies.antt":
+    for path in "crates/sieve_syntax/src/capability.rt", "crates/sieve_syntax/specs/Capabilities.antt":
         assert f'"{line}"' in read(path), (path, line)
     return f"{len(names)} capabilities, {len(line.split())} of them named by a server"
 

@@ -29,6 +29,7 @@ use Rattle.managesieve_sessions.specs.CommandClasses.{command_of_class, of_store
 use Rattle.managesieve_sessions.specs.Steps.{IsStep, progress_of, may_fail, may_lack}
 use Rattle.managesieve_sessions.specs.Table.{is_early, early_reply, RepliesOf, RepliesIn, asked_client, client_in}
 use Rattle.managesieve_sessions.specs.CommandOutcomes.{login_text, client_after}
+use Rattle.sieve_syntax.specs.Capabilities.{offered_names}
 
 -- with CRLF after it
 abbrev end : List ℕ → List ℕ
@@ -107,7 +108,7 @@ later_line : reply_octets try_later ≡ end (codes "NO (TRYLATER) \"Try later.\"
 later_line = refl
 
 greeting : reply_octets (capability_reply None)
-    ≡ end (codes "\"IMPLEMENTATION\" \"sieved 1\"") ++ end (codes "\"SASL\" \"PLAIN\"") ++ end (codes "\"SIEVE\" \"fileinto envelope vacation copy vacation-seconds subaddress relational comparator-i;ascii-numeric encoded-character mailbox date imap4flags\"")
+    ≡ end (codes "\"IMPLEMENTATION\" \"sieved 1\"") ++ end (codes "\"SASL\" \"PLAIN\"") ++ end (codes "\"SIEVE\" \"" ++ offered_names ++ codes "\"")
     ++ end (codes "\"MAXREDIRECTS\" \"16\"") ++ end (codes "\"UNAUTHENTICATE\"") ++ end (codes "\"VERSION\" \"1.0\"") ++ end (codes "OK")
 greeting = refl
 

@@ -1,6 +1,7 @@
 -- The replies of a session (RFC 5804, sections 1.2, 1.3 and 1.7).
 use Rattle.std.specs.Prelude.{ℕ, Bool, true, false, List, [], ◌∷◌, Option, Some, None, codes}
 use Rattle.std.specs.Borrow.{Bor}
+use Rattle.sieve_syntax.specs.Capabilities.{offered_names}
 use Rattle.managesieve_protocol.specs.declared.replies.ServerReply.{ServerReply}
 use Rattle.managesieve_protocol.specs.declared.replies.DataLine.{DataLine}
 use Rattle.managesieve_protocol.specs.declared.replies.DataLine.TheVariants as line
@@ -67,7 +68,7 @@ abbrev pub capability_lines : Option (List ℕ) → List DataLine
 capability_lines user =
     line.Capability (codes "IMPLEMENTATION") (Some (codes "sieved 1"))
     ∷ line.Capability (codes "SASL") (Some (codes "PLAIN"))
-    ∷ line.Capability (codes "SIEVE") (Some (codes "fileinto envelope vacation copy vacation-seconds subaddress relational comparator-i;ascii-numeric encoded-character mailbox date imap4flags"))
+    ∷ line.Capability (codes "SIEVE") (Some offered_names)
     ∷ line.Capability (codes "MAXREDIRECTS") (Some (codes "16"))
     ∷ line.Capability (codes "UNAUTHENTICATE") None
     ∷ line.Capability (codes "VERSION") (Some (codes "1.0"))

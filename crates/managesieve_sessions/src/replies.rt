@@ -7,6 +7,7 @@ ghost use Rattle.managesieve_sessions.specs.Replies as s;
 use managesieve_protocol::{DataLine, ReplyCode, ServerReply, Status};
 use octets::{List, Octets};
 use sieve_lex::ScriptFault;
+use sieve_syntax::Capability;
 use std::alloc::{AllocError, Global};
 
 /// `OK` and a text.
@@ -90,14 +91,7 @@ pub fn capability_reply(alloc: Global, user: &Option<Octets>) -> Result<ServerRe
     let mut lines = List::new(alloc);
     add_capability(alloc, &mut lines, b"IMPLEMENTATION", Some(b"sieved 1"))?;
     add_capability(alloc, &mut lines, b"SASL", Some(b"PLAIN"))?;
-    add_capability(
-        alloc,
-        &mut lines,
-        b"SIEVE",
-        Some(
-            b"fileinto envelope vacation copy vacation-seconds subaddress relational comparator-i;ascii-numeric encoded-character mailbox date imap4flags",
-        ),
-    )?;
+    add_capability(alloc, &mut lines, b"SIEVE", Some(Capability::offered()))?;
     add_capability(alloc, &mut lines, b"MAXREDIRECTS", Some(b"16"))?;
     add_capability(alloc, &mut lines, b"UNAUTHENTICATE", None)?;
     add_capability(alloc, &mut lines, b"VERSION", Some(b"1.0"))?;

@@ -22,6 +22,10 @@ capability_name C.Mailbox = codes "mailbox"
 capability_name C.Date = codes "date"
 capability_name C.Imap4flags = codes "imap4flags"
 
+-- the names that a server lists, with a space between (RFC 5804, 1.7): those that need `require`
+abbrev pub offered_names : List ℕ
+offered_names = codes "fileinto envelope vacation copy vacation-seconds subaddress relational comparator-i;ascii-numeric encoded-character mailbox date imap4flags"
+
 -- names are compared by octets (RFC 5228, 6.1)
 abbrev pub is_name_of : Capability → List ℕ → Bool
 is_name_of capability name = pointwise nat_eq name (capability_name capability)

@@ -2,7 +2,7 @@
 ghost use Rattle.std.specs.Prelude.{◌≡◌, ◌↔◌, ◌||◌, [], ◌∷◌, nat_eq, true, OnOk, IsTrue, All};
 ghost use Rattle.std.specs.Cmp.Lexicographic.{pointwise};
 ghost use Rattle.std.specs.List.{list_any};
-ghost use Rattle.sieve_syntax.specs.Capabilities.{KnowsName, all_capabilities, capability_name, capability_named, granted_by, granted_too, is_name_of, Permits};
+ghost use Rattle.sieve_syntax.specs.Capabilities.{KnowsName, all_capabilities, capability_name, capability_named, granted_by, granted_too, is_name_of, Permits, offered_names};
 ghost use Rattle.sieve_syntax.specs.Parsing.{IfParseFault};
 
 use crate::error::ParseError;
@@ -65,6 +65,13 @@ impl Capability {
             Capability::Date => b"date",
             Capability::Imap4flags => b"imap4flags",
         }
+    }
+
+    /// The names that a server lists, with a space between (RFC 5804, 1.7): those that need `require`.
+    pub fn offered() -> &'static [u8]
+        ensures { result.now ≡ offered_names }
+    {
+        b"fileinto envelope vacation copy vacation-seconds subaddress relational comparator-i;ascii-numeric encoded-character mailbox date imap4flags"
     }
 
     /// The capability with this name, compared by octets (RFC 5228, 6.1).

@@ -30,8 +30,8 @@ returns-in-Ok-envelope_of-clause-runs g c =
           c.lend.ensures.when c.try_run.ensures.runs),
     )
 
-pub returns-in-Err-envelope_of-clause-runs : goal.returns-in-Err-envelope_of-clause-runs
-returns-in-Err-envelope_of-clause-runs g c =
+pub returns-clause-runs : goal.returns-clause-runs
+returns-clause-runs g c =
     inl (
       c.in-Ok.terms,
       c.in-Ok.ensures.ok,
