@@ -5,7 +5,7 @@ use octets::{Octets, parse_decimal};
 use std::alloc::{AllocError, Global};
 use std::io;
 use std::io::{ErrorKind, Read, Write};
-use store_engine::{Envelope, When};
+use store_engine::{Envelope, HostSettings};
 use test_files::text_in;
 
 /// A script that files into two mailboxes, without a message: `file a`, `file b`, 14 octets.
@@ -46,10 +46,11 @@ fn add_tried(
     };
     let mut output = ShortWriter::new(alloc, writes);
     let mut errors = Vec::new(alloc);
+    let host = HostSettings::in_utc();
     let status = try_run(
         alloc,
         empty_envelope(alloc),
-        When::in_utc(0),
+        host.at(0),
         &mut input,
         &mut output,
         &mut errors,
