@@ -53,7 +53,7 @@ pub unread : (own : Addr) (host : HostScripts) (mail : MailSpec) (text : Option 
     → has_long_header mail.octets ≡ true → IsNoticePlan mail.moment mail.octets long_text plan → DeliversInSequence own host mail text a plan.report (delivers plan a)
 unread own host mail text plan a long is =
     let P : Bool → Type 0 = λ long. MatchBool long (settled_unrun long_text ≡ settled_unrun long_text)
-        (MatchBool (is_looping mail) (settled_unrun long_text ≡ settled_unrun loop_text) (SettlesInTurn mail (sequence_of host text) at_beginning (settled_unrun long_text))) in
+    (MatchBool (is_looping mail) (settled_unrun long_text ≡ settled_unrun loop_text) (SettlesInTurn mail (sequence_of host text) at_beginning (settled_unrun long_text))) in
     record {
       settled = settled_unrun long_text;
       settles = subst P (sym long) refl;

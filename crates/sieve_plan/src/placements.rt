@@ -118,10 +118,7 @@ pub(crate) fn filed_behind(
 }
 
 /// The flags of the copy in INBOX, if there is one.
-pub(crate) fn inbox_flags(
-    alloc: Global,
-    filed: &[Placement],
-) -> Result<Option<Octets>, AllocError>
+pub(crate) fn inbox_flags(alloc: Global, filed: &[Placement]) -> Result<Option<Octets>, AllocError>
     ensures { IfOk result (λ flags. flags ≡ inbox_flags_of filed.now) }
 {
     for placement in filed {

@@ -82,8 +82,14 @@ fn run_script(
     let begun = stands.begin(alloc, flags)?;
     match run_from(alloc, &code, mail, begun, most)? {
         RunEnd::Failed(failure) => Ok(Turn::Failed(stands.done, NoticeCause::Failed(failure))),
-        RunEnd::Ended { state: at_end, work } => match stands.end(alloc, at_end)? {
-            ScriptEnd::Failed(done, failure) => Ok(Turn::Failed(done, NoticeCause::Failed(failure))),
+        RunEnd::Ended {
+            state: at_end,
+            work,
+        } => match stands.end(alloc, at_end)? {
+            ScriptEnd::Failed(done, failure) => Ok(Turn::Failed(
+                done,
+                NoticeCause::Failed(failure),
+            )),
             ScriptEnd::Ended(left) => Ok(Turn::Ended(SequenceState {
                 left,
                 host_work: host_work_behind(whose, work, state.host_work),

@@ -14,6 +14,6 @@ pub returns : goal.returns
 returns c =
     IfOk-weaker c.tell.result (IsNoticePlan c.args.when.moment c.args.message.now long_text)
     (λ plan. (own : Addr) (host : HostScripts) (text : Option (List ℕ)) (a : Account)
-        → DeliversInSequence own host (mail_spec_of c.args.message.now c.args.envelope.now c.args.when) text a plan.report (delivers plan a))
+    → DeliversInSequence own host (mail_spec_of c.args.message.now c.args.envelope.now c.args.when) text a plan.report (delivers plan a))
     (λ plan is own host text a. unread own host (mail_spec_of c.args.message.now c.args.envelope.now c.args.when) text plan a c.requires is)
     c.tell.ensures
