@@ -5,6 +5,7 @@ use Rattle.std.specs.Option.{option_map}
 use Rattle.std.proofs.lemmas.Bool.Decides.{nat_tests}
 use Rattle.std.proofs.lemmas.Option.{same_Some}
 use Rattle.sieve_syntax.specs.Tree.{Commands}
+use Rattle.sieve_syntax.specs.Means.{Means}
 use Rattle.sieve_syntax.specs.RunState.{RunState, Failure, TooMuchWork, TooManyMailboxes, Flow, Going, Stopped, Failed, inbox, is_filed, has_room, with_filed, cancelled_after, filed_into, implicit_flags, kept_with}
 use Rattle.sieve_syntax.specs.Meaning.{Actions, TestAsking, does_all}
 use Rattle.sieve_syntax.specs.Work.{all_take}
@@ -15,11 +16,13 @@ use Rattle.sieve_exec.specs.Mails.{MailSpec}
 use Rattle.sieve_exec.specs.Work.{work_at}
 use Rattle.sieve_plan.specs.declared.handover.Handover.{Handover as Left}
 use Rattle.sieve_plan.specs.declared.handover.Standing.{Standing}
+use Rattle.sieve_plan.specs.declared.scripts.HostScripts.{HostScripts}
 use Rattle.sieve_plan.specs.declared.scripts.Whose.{Whose}
 use Rattle.sieve_plan.specs.declared.scripts.Whose.TheVariants.{Before, Own, After}
 use Rattle.sieve_plan.specs.Handover.{Handover, begins_from, leaves_kept, filed_behind, filed_for_good, first_reply, inbox_flags, done_behind, leaves, ScriptEnd, Ended, Broken, ended_with, ended_by, end_of_run}
 use Rattle.sieve_plan.specs.Plans.{deeds_in}
-use Rattle.sieve_plan.specs.Sequences.{SequenceScript, SequenceState, asking_on, end_at, max_host_work, work_limit, host_work_behind, RunsToEnd, FailsFor, told_of, Settled, settled_well, SettlesInTurn}
+use Rattle.sieve_plan.specs.Delivered.{failure_text, has_long_header, is_looping, kept, long_text, loop_text}
+use Rattle.sieve_plan.specs.Sequences.{SequenceScript, SequenceState, asking_on, end_at, max_host_work, work_limit, host_work_behind, RunsToEnd, FailsFor, Breaks, told_of, Settled, settled_well, settled_unrun, SettlesInTurn, SettlesUnder, sequence_of, at_beginning}
 use Rattle.sieve_plan.specs.Turns.{handover_by, handover_of}
 
 -- ---- a run
@@ -119,20 +122,40 @@ end_failed stands flags is_kept at_end failure is = ap (ended_with (handover_by 
 
 -- ---- a turn
 
+-- the run begins with what is left, and may take what is left of the work
+pub run_comes : (mail : MailSpec) (whose : Whose) (code : List Instruction) (tree : Commands) (state : SequenceState) (most : ℕ) (so_far : RunState) (end : RunEnd) → IsCodeOf code tree
+    → Some end ≡ ends_within (asking_on mail) (work_at mail) most code so_far → most ≡ work_limit whose state.host_work → so_far ≡ begins_from state.left
+    → end ≡ end_within (work_limit whose state.host_work) (tree_course (asking_on mail) (work_at mail) tree (begins_from state.left))
+run_comes mail whose code tree state most so_far end is_code is limited begun =
+    run_is mail code tree most so_far end is_code is ∙ (λ i. end_within (limited i) (tree_course (asking_on mail) (work_at mail) tree (begun i)))
+
 module _ (mail : MailSpec) (whose : Whose) (tree : Commands) (state : SequenceState) (end : RunEnd)
     (is : end ≡ end_within (work_limit whose state.host_work) (tree_course (asking_on mail) (work_at mail) tree (begins_from state.left))) where
-  all : ℕ
-  all = all_take (asking_on mail) (work_at mail) tree (begins_from state.left)
-
   -- its run fails
-  pub run_fails : (failure : Failure) → end ≡ run.Broken failure → end_at mail whose tree state ≡ Broken failure
-  run_fails failure fails =
-      broken (work_limit whose state.host_work) (all_take (asking_on mail) (work_at mail) tree (begins_from state.left)) state.left (does_all (asking_on mail) tree (begins_from state.left)) failure (sym is ∙ fails)
+  pub run_fails : (failure : Failure) → end ≡ run.Broken failure → (text : List ℕ) → Means text tree → FailsFor mail (record { whose = whose; text = text }) state (failure_text failure)
+  run_fails failure fails text means =
+      Breaks tree failure means
+      (broken (work_limit whose state.host_work) (all_take (asking_on mail) (work_at mail) tree (begins_from state.left)) state.left (does_all (asking_on mail) tree (begins_from state.left)) failure (sym is ∙ fails)) refl
 
-  pub run_ends : (at_end : RunState) (work : ℕ) → end ≡ run.Ended at_end work
+  run_ends : (at_end : RunState) (work : ℕ) → end ≡ run.Ended at_end work
       → Ends (work_limit whose state.host_work) (all_take (asking_on mail) (work_at mail) tree (begins_from state.left)) state.left (does_all (asking_on mail) tree (begins_from state.left)) at_end work
   run_ends at_end work over =
       ended (work_limit whose state.host_work) (all_take (asking_on mail) (work_at mail) tree (begins_from state.left)) state.left (does_all (asking_on mail) tree (begins_from state.left)) at_end work (sym is ∙ over)
+
+  -- its implicit keep fails
+  pub keep_fails : (at_end : RunState) (work : ℕ) (failure : Failure) → end ≡ run.Ended at_end work → ended_by state.left (Going at_end) ≡ Broken failure
+      → (text : List ℕ) → Means text tree → FailsFor mail (record { whose = whose; text = text }) state (failure_text failure)
+  keep_fails at_end work failure over fails text means = Breaks tree failure means ((run_ends at_end work over).is ∙ fails) refl
+
+  -- it runs to its end
+  pub turn_ends : (at_end : RunState) (work : ℕ) (next : SequenceState) → end ≡ run.Ended at_end work → ended_by state.left (Going at_end) ≡ Ended next.done next.left
+      → next.host_work ≡ host_work_behind whose work state.host_work → (text : List ℕ) → Means text tree → RunsToEnd mail (record { whose = whose; text = text }) state next
+  turn_ends at_end work next over ends takes text means =
+      let run = run_ends at_end work over in
+      record { tree = tree; means = means; ends = run.is ∙ ends; work = takes ∙ ap (λ n. host_work_behind whose n state.host_work) run.takes }
+
+  pub work_within : (at_end : RunState) (work : ℕ) → end ≡ run.Ended at_end work → work ≤ work_limit whose state.host_work
+  work_within at_end work over = (run_ends at_end work over).within
 
 -- what the host's scripts took is a number of the code's
 pub host_work_fits : (whose : Whose) (work host_work : ℕ) → work ≤ work_limit whose host_work → host_work < 2 ^ 64 → host_work_behind whose work host_work < 2 ^ 64
@@ -166,3 +189,25 @@ module _ (mail : MailSpec) (all : List SequenceScript) (from state : SequenceSta
   -- there is no other
   pub turns_over : drop place all ≡ [] → SettlesInTurn mail all from (settled_well state.done)
   turns_over none = so (settled_well state.done) (subst (λ l. SettlesInTurn mail l state (settled_well state.done)) (sym none) refl)
+
+-- ---- a settlement
+
+module _ (host : HostScripts) (own : Option (List ℕ)) (mail : MailSpec) (short : has_long_header mail.octets ≡ false) where
+  behind : (settled : Settled) → MatchBool (is_looping mail) (settled ≡ settled_unrun loop_text) (SettlesInTurn mail (sequence_of host own) at_beginning settled) → SettlesUnder host own mail settled
+  behind settled is =
+      subst (λ long. MatchBool long (settled ≡ settled_unrun long_text) (MatchBool (is_looping mail) (settled ≡ settled_unrun loop_text) (SettlesInTurn mail (sequence_of host own) at_beginning settled)))
+      (sym short) is
+
+  -- no script runs
+  pub settles_unrun : (deeds : Actions) → is_looping mail ≡ true → deeds ≡ kept → SettlesUnder host own mail (record { deeds = deeds; notice = Some loop_text })
+  settles_unrun deeds loops is =
+      let settled : Settled = record { deeds = deeds; notice = Some loop_text } in
+      let same : settled ≡ settled_unrun loop_text = λ i. record { deeds = is i; notice = Some loop_text } in
+      behind settled (subst (λ looping. MatchBool looping (settled ≡ settled_unrun loop_text) (SettlesInTurn mail (sequence_of host own) at_beginning settled)) (sym loops) same)
+
+  -- they run in turn
+  pub settles_in_turn : (scripts : List SequenceScript) (settled : Settled) → is_looping mail ≡ false → scripts ≡ sequence_of host own → SettlesInTurn mail scripts at_beginning settled
+      → SettlesUnder host own mail settled
+  settles_in_turn scripts settled calm are is =
+      behind settled (subst (λ looping. MatchBool looping (settled ≡ settled_unrun loop_text) (SettlesInTurn mail (sequence_of host own) at_beginning settled)) (sym calm)
+      (subst (λ l. SettlesInTurn mail l at_beginning settled) are is))
