@@ -27,15 +27,15 @@ returns c a of =
     let names : c.in_ok-names.names ≡ map (λ f. f.mailbox) c.in_ok-filed.filed = rw c.as_slice-3.ensures at c.in_ok-names.ensures in
     let told = c.in_ok-notice.ensures in
     let plan : Plan =
-        record {
-          message = c.message-2.result;
-          sender = c.from.result;
-          moment = c.moment.result;
-          filed = c.in_ok-filed.filed;
-          report = record { filed = c.in_ok-names.names; sent = c.let_through-going.result; vacation = c.in_ok-vacation.field-0.vacation; notice = c.in_ok-notice.notice };
-          memory = c.in_ok-memory.memory;
-          reply = c.in_ok-vacation.field-0.reply;
-        } in
+    record {
+      message = c.message-2.result;
+      sender = c.from.result;
+      moment = c.moment.result;
+      filed = c.in_ok-filed.filed;
+      report = record { filed = c.in_ok-names.names; sent = c.let_through-going.result; vacation = c.in_ok-vacation.field-0.vacation; notice = c.in_ok-notice.notice };
+      memory = c.in_ok-memory.memory;
+      reply = c.in_ok-vacation.field-0.reply;
+    } in
     let is =
     acted view mail deeds c.in_ok-fresh.fresh c.let_through-going.result (limits_of c.new-limits.result) found limited (record { texts = c.let_through-going.ensures })
     settled.notice c.in_ok-filed.filed (borrowed_octets c.held_notice-held.result) c.in_ok-memory.memory c.in_ok-vacation.field-0 plan filed held answer remembers

@@ -21,8 +21,7 @@ returns-in-Failed-2 c text means =
     let is =
     run_comes c.args.mail.now c.args.whose c.in_ok-code.code tree state c.work_limit-most.result (run_state_of c.in_ok-begun.begun) (run_end_view c.in_ok-failure.field-0) c.in_ok-code.ensures.is_code c.in_ok-failure.ensures
     c.work_limit-most.ensures (c.in_ok-begun.ensures c.args.state.left.is_kept) in
-    let end = rw c.in-Failed-2.is at (c.in_ok-done-in-Ended.ensures c.args.state.left.flags c.args.state.left.is_kept) in
-    (
+    let end = rw c.in-Failed-2.is at (c.in_ok-done-in-Ended.ensures c.args.state.left.flags c.args.state.left.is_kept) in (
       keep_fails c.args.mail.now c.args.whose tree state (run_end_view c.in_ok-failure.field-0) is (run_state_of c.in-Ended.at_end) c.in-Ended.work (failure_view c.in-Failed-2.failure) (ap run_end_view c.in-Ended.is) end.0 text means,
       end.1,
     )
