@@ -1,5 +1,5 @@
 -- A script's turn, and the turns of a sequence.
-use Rattle.std.proofs.Common.{◌≡◌, ◌≤◌, ◌<◌, ◌+◌, ◌^◌, ℕ, Bool, true, false, cond, ◌||◌, List, [], ◌∷◌, drop, drop-cons, get_or, length, map, suc, Option, Some, None, refl, sym, ap, subst, ◌∙◌, arith, inl, inr}
+use Rattle.std.proofs.Common.{◌≡◌, ◌≤◌, ◌<◌, ◌+◌, ◌^◌, ℕ, Bool, true, false, cond, ◌||◌, List, [], ◌∷◌, drop, drop-cons, get_or, length, map, suc, Option, Some, refl, sym, ap, subst, ◌∙◌, arith, inl, inr}
 use Rattle.std.specs.Prelude.{MatchBool, nat_lt, not}
 use Rattle.std.specs.Option.{option_map}
 use Rattle.std.proofs.lemmas.Bool.Decides.{nat_tests}
@@ -7,8 +7,8 @@ use Rattle.std.proofs.lemmas.List.{drop-map}
 use Rattle.std.proofs.lemmas.Option.{same_Some}
 use Rattle.sieve_syntax.specs.Tree.{Commands}
 use Rattle.sieve_syntax.specs.Means.{Means}
-use Rattle.sieve_syntax.specs.RunState.{RunState, Failure, TooMuchWork, TooManyMailboxes, Flow, Going, Stopped, Failed, inbox, is_filed, has_room, with_filed, cancelled_after, filed_into, implicit_flags, kept_with}
-use Rattle.sieve_syntax.specs.Meaning.{Actions, TestAsking, does_all}
+use Rattle.sieve_syntax.specs.RunState.{RunState, Failure, TooMuchWork, TooManyMailboxes, Flow, Going, Stopped, Failed, inbox, is_filed, has_room, with_filed, cancelled_after, implicit_flags, kept_with}
+use Rattle.sieve_syntax.specs.Meaning.{Actions, does_all}
 use Rattle.sieve_syntax.specs.Work.{all_take}
 use Rattle.sieve_code.specs.Instructions.{Instruction}
 use Rattle.sieve_code.specs.Jumps.{Course, RunEnd, end_by, end_within, ends_within, tree_course, IsCodeOf}
@@ -21,10 +21,10 @@ use Rattle.sieve_plan.specs.declared.scripts.HostScripts.{HostScripts}
 use Rattle.sieve_plan.specs.declared.scripts.SequenceScript.{SequenceScript as Script}
 use Rattle.sieve_plan.specs.declared.scripts.Whose.{Whose}
 use Rattle.sieve_plan.specs.declared.scripts.Whose.TheVariants.{Before, Own, After}
-use Rattle.sieve_plan.specs.Handover.{Handover, begins_from, leaves_kept, filed_behind, filed_for_good, first_reply, inbox_flags, done_behind, leaves, ScriptEnd, Ended, Broken, ended_with, ended_by, end_of_run}
+use Rattle.sieve_plan.specs.Handover.{Handover, begins_from, leaves_kept, filed_behind, filed_for_good, first_reply, inbox_flags, done_behind, Ended, Broken, ended_with, ended_by}
 use Rattle.sieve_plan.specs.Plans.{deeds_in}
 use Rattle.sieve_plan.specs.Delivered.{failure_text, has_long_header, is_looping, kept, long_text, loop_text}
-use Rattle.sieve_plan.specs.Sequences.{SequenceScript, SequenceState, asking_on, end_at, max_host_work, work_limit, host_work_behind, RunsToEnd, FailsFor, Breaks, told_of, Settled, settled_well, settled_unrun, SettlesInTurn, SettlesUnder, sequence_of, at_beginning}
+use Rattle.sieve_plan.specs.Sequences.{SequenceScript, SequenceState, asking_on, work_limit, host_work_behind, RunsToEnd, FailsFor, Breaks, told_of, Settled, settled_well, settled_unrun, SettlesInTurn, SettlesUnder, sequence_of, at_beginning}
 use Rattle.sieve_plan.specs.Turns.{handover_by, handover_of, script_in}
 
 -- ---- a run

@@ -3,8 +3,7 @@ use Rattle.mail_address.specs.Spelling.{address_spelling}
 use Rattle.store_accounts.specs.Cells.{borrowed_octets}
 use Rattle.store_accounts.specs.declared.report.Plan.{Plan}
 use Rattle.sieve_plan.specs.Sent.{limits_by, not_among}
-use Rattle.sieve_plan.specs.Sequences.{notice_left}
-use Rattle.sieve_plan.specs.SequencePlans.{notice_of, settled_of}
+use Rattle.sieve_plan.specs.SequencePlans.{settled_of}
 use Rattle.sieve_plan.specs.Plans.{fresh_by, limits_in, limits_of}
 use Rattle.sieve_plan.proofs.PlanLemmas.{acted}
 use Rattle.sieve_plan.proofs.SequencePlanLemmas.{settling}

@@ -1,4 +1,4 @@
-use Rattle.std.proofs.Common.{◌≡◌, map, drop, sym, ◌∙◌}
+use Rattle.std.proofs.Common.{map}
 use Rattle.sieve_plan.specs.Plans.{deeds_in, notice_cause_text}
 use Rattle.sieve_plan.specs.Sequences.{at_beginning}
 use Rattle.sieve_plan.specs.Turns.{script_in, sequence_state_of}

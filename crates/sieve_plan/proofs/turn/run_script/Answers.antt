@@ -1,8 +1,8 @@
-use Rattle.std.proofs.Common.{◌≡◌, ap, refl}
+use Rattle.std.proofs.Common.{ap, refl}
 use Rattle.sieve_syntax.specs.View.{script_tree}
 use Rattle.sieve_exec.specs.Runs.{failure_view, run_end_view, run_state_of}
 use Rattle.sieve_plan.specs.Turns.{sequence_state_of}
-use Rattle.sieve_plan.proofs.TurnLemmas.{run_comes, run_fails, keep_fails, turn_ends, work_within, host_work_fits}
+use Rattle.sieve_plan.proofs.TurnLemmas.{run_comes, run_fails, keep_fails, turn_ends}
 use Rattle.sieve_plan.proofs.turn.run_script.Goals as goal
 
 pub returns-in-Failed : goal.returns-in-Failed
