@@ -3,7 +3,6 @@ use Rattle.std.specs.Prelude.{◌≡◌, ℕ, Bool, List}
 use Rattle.sieve_exec.specs.Mails.{MailSpec}
 use Rattle.sieve_exec.specs.Runs.{failure_view}
 use Rattle.sieve_syntax.specs.Meaning.{Actions}
-use Rattle.sieve_plan.specs.declared.deeds.Deeds.{Deeds}
 use Rattle.sieve_plan.specs.declared.handover.Handover.{Handover as Left}
 use Rattle.sieve_plan.specs.declared.handover.ScriptEnd.{ScriptEnd as End}
 use Rattle.sieve_plan.specs.declared.handover.ScriptEnd.TheVariants as end

@@ -47,7 +47,40 @@ pub fn plan<'m>(
     ensures { IfOk result (λ plan. (a : Account) → IsViewOf view mail.now (settled_of settlement).deeds a
         → CarriesOutSettled view.address mail.now.moment mail.now (settled_of settlement) a plan.report (delivers plan a)) }
 {
-    Err(AllocError)
+    let Settlement { deeds, notice } = settlement;
+    let Deeds { filed, sent, reply } = deeds;
+    let limits = Limits::new(view.room, mail.message().len(), view.known.len());
+    let fresh = not_among(alloc, view.known.as_slice(), sent.as_slice())?;
+    let held = limits.held_notice(sent.len(), fresh.len());
+    let going = limits.let_through(fresh);
+    let filed = filed_as(alloc, filed, going.len() < sent.len())?;
+    let left = view.room.saturating_sub(going.len() as u64);
+    let VacationPlan { vacation, reply } = plan_vacation(
+        alloc,
+        &view.address,
+        view.last,
+        left,
+        mail,
+        reply.as_ref(),
+    )?;
+    let names = mailboxes(alloc, filed.as_slice())?;
+    let over = forgotten_unless(alloc, notice, view.over);
+    let memory = memory_of(alloc, mail, going.as_slice(), over)?;
+    let notice = notice_left(alloc, notice, held)?;
+    Ok(Plan {
+        message: mail.message(),
+        sender: mail.from(),
+        moment: mail.moment(),
+        filed,
+        report: Report {
+            filed: names,
+            sent: going,
+            vacation,
+            notice,
+        },
+        memory,
+        reply,
+    })
 }
 
 /// Returns what a delivery of a message with a long header is to write and to report, whatever the account and the scripts are: none

@@ -38,7 +38,14 @@ pub fn settle(
     requires { has_long_header mail.now.octets ≡ false }
     ensures { IfOk result (λ settlement. SettlesUnder host.now (borrowed_octets own.entry) mail.now (settled_of settlement)) }
 {
-    Err(AllocError)
+    if is_looping(mail) {
+        return Ok(Settlement {
+            deeds: Deeds::kept(alloc)?,
+            notice: Some(FailureNotice::Loop),
+        });
+    }
+    let scripts = sequence(alloc, host, own)?;
+    settle_in_turn(alloc, scripts.as_slice(), mail)
 }
 
 /// What these scripts come to, each in its turn.
@@ -49,7 +56,27 @@ fn settle_in_turn(
 ) -> Result<Settlement, AllocError>
     ensures { IfOk result (λ settlement. SettlesInTurn mail.now (map script_in scripts.now) at_beginning (settled_of settlement)) }
 {
-    Err(AllocError)
+    let mut state = SequenceState::first(alloc)?;
+    for script in scripts {
+        match take_turn(alloc, script, mail, state)? {
+            Turn::Failed(deeds, cause) => {
+                return Ok(Settlement {
+                    deeds,
+                    notice: Some(FailureNotice::Script {
+                        whose: script.whose,
+                        cause,
+                    }),
+                });
+            }
+            Turn::Ended(next) => {
+                if !next.left.is_kept {
+                    return Ok(settled_well(next));
+                }
+                state = next;
+            }
+        }
+    }
+    Ok(settled_well(state))
 }
 
 /// What is done is done, and nobody is told.

@@ -56,7 +56,15 @@ pub(crate) fn take_turn(
 ) -> Result<Turn, AllocError>
     ensures { IfOk result (TakesTurn mail.now (script_in script.now) (sequence_state_of state)) }
 {
-    Err(AllocError)
+    match check(alloc, script.text) {
+        Ok(checked) => run_script(alloc, script.whose, &checked, mail, state),
+        Err(ScriptError::Fault(_)) => {
+            let SequenceState { left, .. } = state;
+            let Handover { stands, .. } = left;
+            Ok(Turn::Failed(stands.done, NoticeCause::Invalid))
+        }
+        Err(ScriptError::Memory) => Err(AllocError),
+    }
 }
 
 /// Compiles and runs a script where a sequence has come so far.
@@ -69,7 +77,27 @@ fn run_script(
 ) -> Result<Turn, AllocError>
     ensures { IfOk result (λ turn. (text : List ℕ) → Means text (script_tree script.now) → TakesTurn mail.now (record { whose = whose; text = text }) (sequence_state_of state) turn) }
 {
-    Err(AllocError)
+    let code = compile(alloc, script)?;
+    let SequenceState { left, host_work } = state;
+    let most = work_limit(whose, host_work);
+    let Handover { stands, flags, .. } = left;
+    let begun = stands.begin(alloc, flags)?;
+    match run_from(alloc, &code, mail, begun, most)? {
+        RunEnd::Failed(failure) => Ok(Turn::Failed(stands.done, NoticeCause::Failed(failure))),
+        RunEnd::Ended {
+            state: at_end,
+            work,
+        } => match stands.end(alloc, at_end)? {
+            ScriptEnd::Failed(done, failure) => Ok(Turn::Failed(
+                done,
+                NoticeCause::Failed(failure),
+            )),
+            ScriptEnd::Ended(left) => Ok(Turn::Ended(SequenceState {
+                left,
+                host_work: host_work_behind(whose, work, host_work),
+            })),
+        },
+    }
 }
 
 /// How much work a script may take where the host's took so much: the user's has a run's limit for itself.
