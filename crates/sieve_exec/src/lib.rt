@@ -27,9 +27,8 @@ mod work;
 
 pub use cached_mail::CachedMail;
 pub use envelope::{Envelope, domain_in, local_in};
-pub use machine::{RunEnd, run_code, run_from};
+pub use machine::run_code;
 pub use mail::Mail;
 pub use outcome::{Failure, Outcome};
-pub use run_state::{INBOX, RunState};
+pub use run_state::INBOX;
 pub use when::When;
-pub use work::MAX_WORK;
