@@ -13,6 +13,7 @@ use Rattle.cli_subcommands.specs.declared.subcommand.try_script.TryArgs.{TryArgs
 use Rattle.sieve_exec.specs.Mails.{mail_spec_of}
 use Rattle.sieve_exec.specs.Outcomes.{outcome_at}
 use Rattle.cli_run.specs.declared.fault.RunFault.{RunFault}
+use Rattle.cli_run.specs.declared.host_texts.HostTexts.{HostTexts}
 use Rattle.store_accounts.specs.declared.refusal.Refusal.TheVariants as refusal
 use Rattle.cli_run.specs.declared.fault.RunFault.TheVariants.{Refused, Stream, BadInput, BadArgument}
 use Rattle.cli_run.specs.declared.answer.TryAnswer.{TryAnswer}
@@ -101,8 +102,8 @@ TriesNothing fault output errors status = (status ≡ status_of fault) × (outpu
 
 -- `try` with these arguments: a whole run at their moment, or else the clock's, and in their zone, or in UTC; or one of them is wrong;
 -- or they have no moment, and the clock has none
-abbrev pub Tries : TryArgs → Option ℕ → Option (List ℕ) → StreamMove → StreamMove → ℕ → Type 0
-Tries asked clock given output errors status =
-    ((terms : Terms) × AreTerms (option_copied asked.at) (option_copied asked.zone) clock None terms × RunsTry (envelope_with asked.from.now asked.to.now) terms.when given output errors status)
+abbrev pub Tries : TryArgs → Option ℕ → HostTexts → Option (List ℕ) → StreamMove → StreamMove → ℕ → Type 0
+Tries asked clock host given output errors status =
+    ((terms : Terms) × AreTerms (option_copied asked.at) (option_copied asked.zone) clock host terms × RunsTry (envelope_with asked.from.now asked.to.now) terms.when given output errors status)
     ⊎ (HasNoWhen (option_copied asked.at) (option_copied asked.zone) × TriesNothing BadArgument output errors status)
     ⊎ ((option_copied asked.at ≡ None) × (clock ≡ None) × TriesNothing Stream output errors status)

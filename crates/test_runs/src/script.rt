@@ -128,7 +128,7 @@ fn answer_on(
     message: &[u8],
 ) -> Result<Octets, AllocError> {
     let envelope = trial.envelope(alloc)?;
-    let host = HostSettings::in_utc();
+    let host = HostSettings::in_utc(alloc);
     let terms = LentTerms {
         when: trial.when(),
         host: &host,
