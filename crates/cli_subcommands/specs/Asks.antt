@@ -38,6 +38,10 @@ use Rattle.cli_subcommands.specs.declared.subcommand.check.CheckArgs.{CheckArgs}
 use Rattle.cli_subcommands.specs.declared.subcommand.send.SendArgs.{SendArgs}
 use Rattle.cli_subcommands.specs.declared.subcommand.users.UsersArgs.{UsersArgs}
 
+-- the arguments of a command line, octet by octet, in their order
+abbrev pub arg_octets : RawArgs → List (List ℕ)
+arg_octets line = line.octets.items
+
 -- ---- what was given to a subcommand
 
 -- the value of an argument

@@ -72,7 +72,9 @@ enum Form {
 
 impl CliArgument {
     /// The argument for `clap`.
-    pub fn arg(self, alloc: Global) -> Arg<'static> {
+    pub fn arg(self, alloc: Global) -> Arg<'static>
+        ensures { result.id.now ≡ argument_id self }
+    {
         let arg = Arg::new(alloc, self.name())
             .required(self.is_required())
             .help(self.help());
