@@ -9,7 +9,7 @@ use Rattle.sieve_syntax.specs.Tree as T
 use Rattle.sieve_syntax.specs.Meaning.{TestAsking, answered, asking_at, Outcome, Done, Failed}
 use Rattle.sieve_syntax.specs.Work.{max_work}
 use Rattle.sieve_code.specs.Instructions.{Instruction, set, look, flip, jump, jump_if, jump_unless, act, stop}
-use Rattle.sieve_code.specs.Jumps.{jumps_from, jumps, IsCodeOf, LeadsForward, IsForward}
+use Rattle.sieve_code.specs.Jumps.{Ended, Broken, jumps_from, outcome_of, jumps, ends_within, IsCodeOf, LeadsForward, IsForward}
 use Rattle.sieve_code.specs.Size.{size}
 
 -- if false { stop; } discard;
@@ -18,7 +18,7 @@ tree = command (choose (branch no (command T.stop no_commands) no_branches)) (co
 
 -- its code stands for it
 stands : IsCodeOf (set false ∷ jump_unless 3 ∷ stop ∷ act Discard ∷ []) tree
-stands asking work = refl
+stands asking work so_far = refl
 
 -- the message goes into INBOX, without flags, and nothing else is done
 abbrev kept : Outcome
@@ -60,7 +60,7 @@ filed_by (Some (Failed failure)) = 0
 -- one place too far, and the message is kept
 too_far : IsCodeOf (set false ∷ jump_unless 4 ∷ stop ∷ act Discard ∷ []) tree → ⊥
 unfolding filed_by
-too_far of = let kept_once = ap filed_by (of (asking_at (λ so_far check. true)) (λ so_far check. 0)) in omega arith
+too_far of = let kept_once = ap (λ course. filed_by (outcome_of course)) (of (asking_at (λ so_far check. true)) (λ so_far check. 0) at_first) in omega arith
 
 -- what is asked is paid for, also behind `not`, and what is passed over isn't: `anyof (not CHECK, CHECK)` asks both where the first
 -- doesn't hold, and one where it does
@@ -79,6 +79,14 @@ enough check = refl
 
 too_much : (check : MailCheck) → jumps (asking_at (λ so_far check. false)) (λ so_far check. max_work) (look check ∷ act Discard ∷ look check ∷ stop ∷ []) 4 ≡ Some (Failed TooMuchWork)
 too_much check = refl
+
+-- a run that begins with what others did ends with what it does behind that, before its implicit keep, and has its own limit of work
+ended_behind : (so_far : RunState) (check : MailCheck)
+    → ends_within (asking_at (λ so_far check. true)) (λ so_far check. 7) 7 (look check ∷ act Discard ∷ stop ∷ []) so_far ≡ Some (Ended (record so_far { cancelled = true }) 7)
+ended_behind so_far check = refl
+
+one_too_much : (so_far : RunState) (check : MailCheck) → ends_within (asking_at (λ so_far check. true)) (λ so_far check. 7) 6 (look check ∷ act Discard ∷ stop ∷ []) so_far ≡ Some (Broken TooMuchWork)
+one_too_much so_far check = refl
 
 -- a jump to the end leads forward, and one to its own place doesn't
 forward : IsForward (jump 1 ∷ [])

@@ -151,12 +151,12 @@ follows asking work back within (suc n) place flag so_far (instr ∷ rest) e eno
 
 -- turned round, the code of commands stands for them
 pub turned_is_code : (commands : Commands) (code : List Instruction) → code ≡ code_in_order (commands_code commands []) → IsCodeOf code commands
-turned_is_code commands code e asking work =
+turned_is_code commands code e asking work so_far =
     let back = commands_code commands [] in
     let long : length code ≡ length back = ap length e ∙ length-map back (forward (length back)) in
-    ap outcome_of (ap (λ l. jumps_from asking work l (length code) 0 false at_first) e
-    ∙ follows asking work back (commands_within commands [] tt) (length code) 0 false at_first back refl (omega arith)
-    ∙ ap Some (whole_runs asking work commands at_first))
+    ap (λ l. jumps_from asking work l (length code) 0 false so_far) e
+    ∙ follows asking work back (commands_within commands [] tt) (length code) 0 false so_far back refl (omega arith)
+    ∙ ap Some (whole_runs asking work commands so_far)
 
 -- and each jump leads forward
 leads : (back : List Instruction) (place : ℕ) (instr : Instruction) (rest : List Instruction) → length back ≡ place + suc (length rest) → IsWithin (length rest) instr → LeadsForward place (length back) (forward (length back) instr)

@@ -1,10 +1,11 @@
 -- What flat code does and the work that it takes, for any asking and any work of the tests that look at the message or at what the run has done.
-use Rattle.std.specs.Prelude.{◌≡◌, ℕ, zero, suc, ◌+◌, ◌<◌, ◌≤◌, Bool, false, not, cond, List, length, Option, Some, None, slice_get}
+use Rattle.std.specs.Prelude.{◌≡◌, ℕ, zero, suc, ◌+◌, ◌<◌, ◌≤◌, Bool, false, not, cond, List, length, nat_lt, Option, Some, None, slice_get}
+use Rattle.std.specs.Option.{option_map}
 use Rattle.sieve_syntax.specs.declared.tree.checks.MailCheck.{MailCheck}
-use Rattle.sieve_syntax.specs.RunState.{RunState, at_first, Flow, Going, Stopped, Failed, performed}
+use Rattle.sieve_syntax.specs.RunState.{RunState, at_first, Failure, TooMuchWork, Flow, Going, Stopped, Failed, performed}
 use Rattle.sieve_syntax.specs.Tree.{Commands}
-use Rattle.sieve_syntax.specs.Meaning.{TestAsking, Outcome, outcome_after}
-use Rattle.sieve_syntax.specs.Work.{within_work, outcome_within}
+use Rattle.sieve_syntax.specs.Meaning.{TestAsking, does_all, Outcome, outcome_after}
+use Rattle.sieve_syntax.specs.Work.{all_take, within_work}
 use Rattle.sieve_code.specs.Instructions.{Instruction, set, look, flip, jump, jump_if, jump_unless, act, stop}
 
 -- the state of a run that is over, and the work that it took
@@ -79,9 +80,33 @@ outcome_of (Some course) = Some (within_work course.work (outcome_after course.f
 abbrev pub jumps : TestAsking → (RunState → MailCheck → ℕ) → List Instruction → ℕ → Option Outcome
 jumps asking work code n = outcome_of (jumps_from asking work code n 0 false at_first)
 
--- the code does what the tree does and takes the work that it takes, in at most as many steps as the code is long, however tests are asked
+-- how a run ends: in this state, before its implicit keep, behind so much work; or it failed
+pub data RunEnd : Type 0 where
+  Ended : RunState → (work : ℕ) → RunEnd
+  Broken : Failure → RunEnd
+
+abbrev pub end_by : Flow → (work : ℕ) → RunEnd
+end_by (Going so_far) work = Ended so_far work
+end_by (Stopped so_far) work = Ended so_far work
+end_by (Failed failure) work = Broken failure
+
+-- one that takes more work than `most` fails, whatever it comes to
+abbrev pub end_within : (most : ℕ) → Course → RunEnd
+end_within most course = cond (nat_lt most course.work) (Broken TooMuchWork) (end_by course.flow course.work)
+
+-- the end of flat code that begins with what has been done so far, in as many steps as it is long, or none if it is still going
+abbrev pub ends_within : TestAsking → (RunState → MailCheck → ℕ) → (most : ℕ) → List Instruction → RunState → Option RunEnd
+ends_within asking work most code so_far = option_map (end_within most) (jumps_from asking work code (length code) 0 false so_far)
+
+-- the course of a tree that begins with what has been done so far
+abbrev pub tree_course : TestAsking → (RunState → MailCheck → ℕ) → Commands → RunState → Course
+tree_course asking work tree so_far = record { flow = does_all asking tree so_far; work = all_take asking work tree so_far }
+
+-- the code does what the tree does and takes the work that it takes, in at most as many steps as the code is long, however tests are asked and
+-- whatever has been done so far
 abbrev pub IsCodeOf : List Instruction → Commands → Type 0
-IsCodeOf code tree = (asking : TestAsking) (work : RunState → MailCheck → ℕ) → jumps asking work code (length code) ≡ Some (outcome_within asking work tree)
+IsCodeOf code tree = (asking : TestAsking) (work : RunState → MailCheck → ℕ) (so_far : RunState)
+    → jumps_from asking work code (length code) 0 false so_far ≡ Some (tree_course asking work tree so_far)
 
 -- a jump from this place leads past it, and not past the end of code of this length
 abbrev pub LeadsForward : ℕ → ℕ → Instruction → Type 0

@@ -1,19 +1,19 @@
 -- Turn by turn the machine does what the code gives, and takes its work.
-use Rattle.std.proofs.Common.{◌≡◌, ℕ, zero, suc, ◌+◌, ◌<◌, ◌≤◌, Bool, true, false, cond, List, length, map, Option, Some, None, Result, Ok, Err, IfOk, get_or, refl, sym, ap, ◌∙◌, subst, arith, zero-add}
+use Rattle.std.proofs.Common.{◌≡◌, ℕ, zero, suc, ◌+◌, ◌-◌, ◌<◌, ◌≤◌, Bool, true, false, cond, List, length, map, Option, Some, None, Result, Ok, Err, IfOk, get_or, refl, sym, ap, ◌∙◌, subst, arith, zero-add}
 use Rattle.std.specs.Prelude.{nat_lt, slice_get}
 use Rattle.std.specs.Option.{option_map}
 use Rattle.std.specs.declared.alloc.AllocError.{AllocError}
 use Rattle.std.proofs.lemmas.Bool.{lt-ltb, le-ltb}
 use Rattle.std.proofs.lemmas.List.{length-map}
-use Rattle.std.proofs.lemmas.Option.{slice_get-map, slice_get_past, slice_get_read, slice_get_within}
+use Rattle.std.proofs.lemmas.Option.{same_Some, slice_get-map, slice_get_past, slice_get_read, slice_get_within}
 use Rattle.sieve_syntax.specs.declared.tree.checks.MailCheck.{MailCheck}
 use Rattle.sieve_syntax.specs.RunState.{RunState, TooMuchWork, Flow, Going}
 use Rattle.sieve_syntax.specs.RunState as F
 use Rattle.sieve_syntax.specs.Meaning.{TestAsking, asking_at, Outcome as OutcomeSpec, Failed, outcome_after}
-use Rattle.sieve_syntax.specs.Work.{max_work}
+use Rattle.sieve_syntax.specs.Work.{max_work, within_work}
 use Rattle.sieve_code.specs.declared.instr.Instr.{Instr}
 use Rattle.sieve_code.specs.Instructions.{Instruction, instr_view}
-use Rattle.sieve_code.specs.Jumps.{Course, course_of, with_work, IsForward, LeadsForward, Run, after_work, instr_work, turn, at_place, paid_turn, jumps_from, outcome_of}
+use Rattle.sieve_code.specs.Jumps.{Course, course_of, with_work, IsForward, LeadsForward, Run, after_work, instr_work, turn, at_place, paid_turn, jumps_from, outcome_of, RunEnd, Ended, Broken, end_by, end_within}
 use Rattle.sieve_code.proofs.Runs.{behind_none, behind_both}
 use Rattle.sieve_code.proofs.Endings.{turn_ends, comes_to_an_end}
 use Rattle.sieve_exec.specs.Mails.{MailSpec}
@@ -34,43 +34,43 @@ both_after : (one two : ℕ) (given : Option Course) → after_work one (after_w
 both_after one two None = refl
 both_after one two (Some course) = ap Some (behind_both one two course)
 
--- with as many turns as there are places left, and so much work that was taken, the code gives this from here
-pub record Gives (asking : TestAsking) (work : RunState → MailCheck → ℕ) (code : List Instruction) (whole : Option Course) (place : ℕ) (flag : Bool) (state : RunState) (left : ℕ) : Type 0 where
+-- with as many turns as there are places left, and so much work that was taken of what may be, the code gives this from here
+pub record Gives (asking : TestAsking) (work : RunState → MailCheck → ℕ) (most : ℕ) (code : List Instruction) (whole : Option Course) (place : ℕ) (flag : Bool) (state : RunState) (left : ℕ) : Type 0 where
   pub turns : ℕ
   pub taken : ℕ
   pub enough : length code ≤ place + turns
-  pub within : taken + left ≡ max_work
+  pub within : taken + left ≡ most
   pub is : after_work taken (jumps_from asking work code turns place flag state) ≡ whole
 
--- a run is over, behind so much work as may be
-pub record IsOver (whole : Option Course) (flow : Flow) : Type 0 where
+-- a run is over, and so much work is left of what may be
+pub record IsOver (most : ℕ) (whole : Option Course) (flow : Flow) (left : ℕ) : Type 0 where
   pub taken : ℕ
-  pub within : taken ≤ max_work
+  pub within : taken + left ≡ most
   pub is : Some (with_work taken (course_of flow)) ≡ whole
 
 -- what a turn leaves to do
-abbrev pub Leaves : TestAsking → (RunState → MailCheck → ℕ) → List Instruction → Option Course → InstrOutcome → Bool → RunState → ℕ → Type 0
-Leaves asking work code whole (Next place) flag state left = Gives asking work code whole place flag state left
-Leaves asking work code whole Stopped flag state left = IsOver whole (F.Stopped state)
-Leaves asking work code whole (T.Failed failure) flag state left = IsOver whole (F.Failed (failure_view failure))
+abbrev pub Leaves : TestAsking → (RunState → MailCheck → ℕ) → (most : ℕ) → List Instruction → Option Course → InstrOutcome → Bool → RunState → ℕ → Type 0
+Leaves asking work most code whole (Next place) flag state left = Gives asking work most code whole place flag state left
+Leaves asking work most code whole Stopped flag state left = IsOver most whole (F.Stopped state) left
+Leaves asking work most code whole (T.Failed failure) flag state left = IsOver most whole (F.Failed (failure_view failure)) left
 
 -- at first
-pub gives_first : (asking : TestAsking) (work : RunState → MailCheck → ℕ) (code : List Instruction) (state : RunState) → Gives asking work code (jumps_from asking work code (length code) 0 false state) 0 false state max_work
-gives_first asking work code state = record {
+pub gives_first : (asking : TestAsking) (work : RunState → MailCheck → ℕ) (most : ℕ) (code : List Instruction) (state : RunState) → Gives asking work most code (jumps_from asking work code (length code) 0 false state) 0 false state most
+gives_first asking work most code state = record {
   turns = length code;
   taken = 0;
   enough = omega arith;
-  within = zero-add max_work;
+  within = zero-add most;
   is = none_after (jumps_from asking work code (length code) 0 false state);
 }
 
-module _ (asking : TestAsking) (work : RunState → MailCheck → ℕ) (code : List Instruction) (whole : Option Course) (place : ℕ) where
+module _ (asking : TestAsking) (work : RunState → MailCheck → ℕ) (most : ℕ) (code : List Instruction) (whole : Option Course) (place : ℕ) where
   -- the rest is what the turn leaves
-  rest_of : (m taken left : ℕ) → length code ≤ place + suc m → taken + left ≡ max_work → (made : InstrOutcome) (flag : Bool) (state : RunState) → MovesOn place made
-      → after_work taken (after_turn made (jumps_from asking work code m) flag state) ≡ whole → Leaves asking work code whole made flag state left
+  rest_of : (m taken left : ℕ) → length code ≤ place + suc m → taken + left ≡ most → (made : InstrOutcome) (flag : Bool) (state : RunState) → MovesOn place made
+      → after_work taken (after_turn made (jumps_from asking work code m) flag state) ≡ whole → Leaves asking work most code whole made flag state left
   rest_of m taken left enough within (Next place') flag state forward e = record { turns = m; taken = taken; enough = omega (arith, enough, forward); within = within; is = e }
-  rest_of m taken left enough within Stopped flag state forward e = record { taken = taken; within = omega (arith, within); is = e }
-  rest_of m taken left enough within (T.Failed failure) flag state forward e = record { taken = taken; within = omega (arith, within); is = e }
+  rest_of m taken left enough within Stopped flag state forward e = record { taken = taken; within = within; is = e }
+  rest_of m taken left enough within (T.Failed failure) flag state forward e = record { taken = taken; within = within; is = e }
 
   -- what the code gives here, where a turn is left
   here_given : (m : ℕ) (instr : Instruction) (flag : Bool) (state : RunState) → slice_get code place ≡ Some instr
@@ -78,11 +78,11 @@ module _ (asking : TestAsking) (work : RunState → MailCheck → ℕ) (code : L
   here_given m instr flag state here = ap (λ o. at_place o (λ instr. paid_turn asking work (jumps_from asking work code m) instr place flag state) state) here
 
   -- one turn, and its work
-  one_turn : (instr : Instruction) (made : InstrOutcome) (flag flag' : Bool) (state state' : RunState) (before left : ℕ) → Gives asking work code whole place flag state before → slice_get code place ≡ Some instr
-      → left + instr_work work instr state ≡ before → ((next : Run) → turn asking next instr place flag state ≡ after_turn made next flag' state') → MovesOn place made → Leaves asking work code whole made flag' state' left
+  one_turn : (instr : Instruction) (made : InstrOutcome) (flag flag' : Bool) (state state' : RunState) (before left : ℕ) → Gives asking work most code whole place flag state before → slice_get code place ≡ Some instr
+      → left + instr_work work instr state ≡ before → ((next : Run) → turn asking next instr place flag state ≡ after_turn made next flag' state') → MovesOn place made → Leaves asking work most code whole made flag' state' left
   one_turn instr made flag flag' state state' before left gives here paid turned forward = step gives.turns gives.enough gives.is
     where
-      step : (turns : ℕ) → length code ≤ place + turns → after_work gives.taken (jumps_from asking work code turns place flag state) ≡ whole → Leaves asking work code whole made flag' state' left
+      step : (turns : ℕ) → length code ≤ place + turns → after_work gives.taken (jumps_from asking work code turns place flag state) ≡ whole → Leaves asking work most code whole made flag' state' left
       step zero enough e = let within = slice_get_within code place instr here in absurd (omega (arith, enough, within))
       step (suc m) enough e =
           let next = jumps_from asking work code m in
@@ -92,34 +92,34 @@ module _ (asking : TestAsking) (work : RunState → MailCheck → ℕ) (code : L
           ∙ ap (after_work gives.taken) (sym (here_given m instr flag state here)) ∙ e)
 
   -- an instruction whose work is more than is left
-  too_much : (instr : Instruction) (flag : Bool) (state : RunState) (before : ℕ) → Gives asking work code whole place flag state before → slice_get code place ≡ Some instr → IsForward code
-      → before < instr_work work instr state → outcome_of whole ≡ Some (Failed TooMuchWork)
+  too_much : (instr : Instruction) (flag : Bool) (state : RunState) (before : ℕ) → Gives asking work most code whole place flag state before → slice_get code place ≡ Some instr → IsForward code
+      → before < instr_work work instr state → option_map (end_within most) whole ≡ Some (Broken TooMuchWork)
   too_much instr flag state before gives here forward more = step gives.turns gives.enough gives.is
     where
-      step : (turns : ℕ) → length code ≤ place + turns → after_work gives.taken (jumps_from asking work code turns place flag state) ≡ whole → outcome_of whole ≡ Some (Failed TooMuchWork)
+      step : (turns : ℕ) → length code ≤ place + turns → after_work gives.taken (jumps_from asking work code turns place flag state) ≡ whole → option_map (end_within most) whole ≡ Some (Broken TooMuchWork)
       step zero enough e = let within = slice_get_within code place instr here in absurd (omega (arith, enough, within))
       step (suc m) enough e =
           let next = jumps_from asking work code m in
           let w = instr_work work instr state in
           let inner = turn_ends asking work code next place instr (forward place instr here) flag state (λ later flag state past. comes_to_an_end asking work code forward m later flag state (omega (arith, enough, past))) in
           let all = gives.taken + (w + inner.0.work) in
-          let high : nat_lt max_work all ≡ true = lt-ltb max_work all (omega (arith, gives.within, more)) in
-          ap outcome_of (sym e ∙ ap (after_work gives.taken) (here_given m instr flag state here ∙ ap (after_work w) inner.1))
-          ∙ ap (λ b. Some (cond b (Failed TooMuchWork) (outcome_after inner.0.flow))) high
+          let high : nat_lt most all ≡ true = lt-ltb most all (omega (arith, gives.within, more)) in
+          ap (option_map (end_within most)) (sym e ∙ ap (after_work gives.taken) (here_given m instr flag state here ∙ ap (after_work w) inner.1))
+          ∙ ap (λ b. Some (cond b (Broken TooMuchWork) (end_by inner.0.flow all))) high
 
   -- after the last place
-  pub at_end : (flag : Bool) (state : RunState) (left : ℕ) → Gives asking work code whole place flag state left → length code ≤ place → IsOver whole (Going state)
+  pub at_end : (flag : Bool) (state : RunState) (left : ℕ) → Gives asking work most code whole place flag state left → length code ≤ place → IsOver most whole (Going state) left
   at_end flag state left gives end = step gives.turns gives.is
     where
-      step : (turns : ℕ) → after_work gives.taken (jumps_from asking work code turns place flag state) ≡ whole → IsOver whole (Going state)
+      step : (turns : ℕ) → after_work gives.taken (jumps_from asking work code turns place flag state) ≡ whole → IsOver most whole (Going state) left
       step zero e = record {
         taken = gives.taken;
-        within = omega (arith, gives.within);
+        within = gives.within;
         is = ap (after_work gives.taken) (sym (ap (λ o. at_place o (λ instr. None) state) (slice_get_past code place end))) ∙ e;
       }
       step (suc m) e = record {
         taken = gives.taken;
-        within = omega (arith, gives.within);
+        within = gives.within;
         is = ap (after_work gives.taken) (sym (ap (λ o. at_place o (λ instr. paid_turn asking work (jumps_from asking work code m) instr place flag state) state) (slice_get_past code place end))) ∙ e;
       }
 
@@ -129,13 +129,13 @@ at_the_place instrs code place instr seen within here =
     ap (λ l. slice_get l place) (sym seen) ∙ slice_get-map instr_view instrs place ∙ ap (option_map instr_view) (slice_get_read instrs (length instrs) place instr refl within here)
 
 -- a turn of the machine that was paid for, with the clauses of what it calls; paying changes nothing but what is left
-pub machine_turn : (mail cached paying : MailSpec) (instrs : List Instr) (code : List Instruction) (whole : Option Course) (place : ℕ) (instr : Instr) (made made' : InstrOutcome) (flag0 flag flag' : Bool) (state0 state state' : RunState) (before left left' : ℕ)
+pub machine_turn : (mail cached paying : MailSpec) (most : ℕ) (instrs : List Instr) (code : List Instruction) (whole : Option Course) (place : ℕ) (instr : Instr) (made made' : InstrOutcome) (flag0 flag flag' : Bool) (state0 state state' : RunState) (before left left' : ℕ)
     → cached ≡ mail → paying ≡ mail → flag ≡ flag0 → state ≡ state0 → left' ≡ left → map instr_view instrs ≡ code → IsForward code → place < length instrs → instr ≡ get_or instrs place instr
     → left + instr_work (work_at paying) (instr_view instr) state0 ≡ before
     → ((next : Run) → turn (asking_at (truth_at cached)) next (instr_view instr) place flag state ≡ after_turn made next flag' state')
     → ((len : ℕ) → LeadsForward place len (instr_view instr) → MovesOn place made) → made ≡ made'
-    → Gives (asking_at (truth_at mail)) (work_at mail) code whole place flag0 state0 before → MovesOn place made' × Leaves (asking_at (truth_at mail)) (work_at mail) code whole made' flag' state' left'
-machine_turn mail cached paying instrs code whole place instr made made' flag0 flag flag' state0 state state' before left left' same pays same_flag same_state same_left seen forward within here paid turned moves is gives =
+    → Gives (asking_at (truth_at mail)) (work_at mail) most code whole place flag0 state0 before → MovesOn place made' × Leaves (asking_at (truth_at mail)) (work_at mail) most code whole made' flag' state' left'
+machine_turn mail cached paying most instrs code whole place instr made made' flag0 flag flag' state0 state state' before left left' same pays same_flag same_state same_left seen forward within here paid turned moves is gives =
     let asking = asking_at (truth_at mail) in
     let work = work_at mail in
     let at = at_the_place instrs code place instr seen within here in
@@ -144,29 +144,50 @@ machine_turn mail cached paying instrs code whole place instr made made' flag0 f
     ap (λ m. left + instr_work (work_at m) (instr_view instr) state) (sym pays) ∙ ap (λ s. left + instr_work (work_at paying) (instr_view instr) s) same_state ∙ paid in
     let turned' : (next : Run) → turn asking next (instr_view instr) place flag state ≡ after_turn made next flag' state' =
     λ next. ap (λ m. turn (asking_at (truth_at m)) next (instr_view instr) place flag state) (sym same) ∙ turned next in
-    let gives' = subst (λ f. Gives asking work code whole place f state before) (sym same_flag) (subst (λ s. Gives asking work code whole place flag0 s before) (sym same_state) gives) in (
+    let gives' = subst (λ f. Gives asking work most code whole place f state before) (sym same_flag) (subst (λ s. Gives asking work most code whole place flag0 s before) (sym same_state) gives) in (
       subst (MovesOn place) is on,
-      subst (λ n. Leaves asking work code whole made' flag' state' n) (sym same_left)
-          (subst (λ t. Leaves asking work code whole t flag' state' left) is (one_turn asking work code whole place (instr_view instr) made flag flag' state state' before left gives' at paid' turned' on)),
+      subst (λ n. Leaves asking work most code whole made' flag' state' n) (sym same_left)
+          (subst (λ t. Leaves asking work most code whole t flag' state' left) is (one_turn asking work most code whole place (instr_view instr) made flag flag' state state' before left gives' at paid' turned' on)),
     )
 
 -- one that can't be paid for
-pub machine_fails : (mail paying : MailSpec) (instrs : List Instr) (code : List Instruction) (whole : Option Course) (place : ℕ) (instr : Instr) (flag : Bool) (state : RunState) (before : ℕ)
+pub machine_fails : (mail paying : MailSpec) (most : ℕ) (instrs : List Instr) (code : List Instruction) (whole : Option Course) (place : ℕ) (instr : Instr) (flag : Bool) (state : RunState) (before : ℕ)
     → paying ≡ mail → map instr_view instrs ≡ code → IsForward code → place < length instrs → instr ≡ get_or instrs place instr
-    → before < instr_work (work_at paying) (instr_view instr) state → Gives (asking_at (truth_at mail)) (work_at mail) code whole place flag state before → outcome_of whole ≡ Some (Failed TooMuchWork)
-machine_fails mail paying instrs code whole place instr flag state before pays seen forward within here more gives =
-    too_much (asking_at (truth_at mail)) (work_at mail) code whole place (instr_view instr) flag state before gives (at_the_place instrs code place instr seen within here) forward
+    → before < instr_work (work_at paying) (instr_view instr) state → Gives (asking_at (truth_at mail)) (work_at mail) most code whole place flag state before → option_map (end_within most) whole ≡ Some (Broken TooMuchWork)
+machine_fails mail paying most instrs code whole place instr flag state before pays seen forward within here more gives =
+    too_much (asking_at (truth_at mail)) (work_at mail) most code whole place (instr_view instr) flag state before gives (at_the_place instrs code place instr seen within here) forward
     (subst (λ m. before < instr_work (work_at m) (instr_view instr) state) pays more)
 
 -- a place after all instructions
 pub after_all : (instrs : List Instr) (code : List Instruction) (place : ℕ) → map instr_view instrs ≡ code → length instrs ≤ place → length code ≤ place
 after_all instrs code place seen past = let long = length-map instrs instr_view in omega (arith, ap length seen)
 
--- what a run that is over comes to
-pub over_is : (whole : Option Course) (flow : Flow) → IsOver whole flow → outcome_of whole ≡ Some (outcome_after flow)
-over_is whole flow is =
-    let low : nat_lt max_work (is.taken + 0) ≡ false = le-ltb max_work (is.taken + 0) (omega (arith, is.within)) in
-    ap outcome_of (sym is.is) ∙ ap (λ b. Some (cond b (Failed TooMuchWork) (outcome_after flow))) low
+-- how a run that is over ends
+pub over_is : (most : ℕ) (whole : Option Course) (flow : Flow) (left : ℕ) → IsOver most whole flow left → option_map (end_within most) whole ≡ Some (end_by flow (most - left))
+over_is most whole flow left is =
+    let low : nat_lt most (is.taken + 0) ≡ false = le-ltb most (is.taken + 0) (omega (arith, is.within)) in
+    let taken : is.taken + 0 ≡ most - left = omega (arith, is.within) in
+    ap (option_map (end_within most)) (sym is.is)
+    ∙ ap (λ b. Some (cond b (Broken TooMuchWork) (end_by flow (is.taken + 0)))) low
+    ∙ ap (λ n. Some (end_by flow n)) taken
+
+-- the outcome of a run that begins with nothing, by its end: that behind its implicit keep
+abbrev outcome_by_end : RunEnd → OutcomeSpec
+outcome_by_end (Ended so_far work) = outcome_after (Going so_far)
+outcome_by_end (Broken failure) = Failed failure
+
+by_end : (course : Course) → within_work course.work (outcome_after course.flow) ≡ outcome_by_end (end_within max_work course)
+by_end course = step (nat_lt max_work course.work) course.flow
+  where
+    step : (much : Bool) (flow : Flow) → cond much (Failed TooMuchWork) (outcome_after flow) ≡ outcome_by_end (cond much (Broken TooMuchWork) (end_by flow course.work))
+    step true flow = refl
+    step false (Going state) = refl
+    step false (F.Stopped state) = refl
+    step false (F.Failed failure) = refl
+
+pub outcome_is : (whole : Option Course) (end : RunEnd) → Some end ≡ option_map (end_within max_work) whole → outcome_of whole ≡ Some (outcome_by_end end)
+outcome_is None end is = absurd (cc is)
+outcome_is (Some course) end is = ap Some (by_end course ∙ ap outcome_by_end (sym (same_Some _ _ is)))
 
 -- the outcome of a run that is over
 pub over_so : (result : Result Outcome AllocError) (end : OutcomeSpec) (whole : Option Course) → outcome_of whole ≡ Some end → IfOk result (λ done. outcome_view done ≡ end) → IfOk result (λ done. Some (outcome_view done) ≡ outcome_of whole)

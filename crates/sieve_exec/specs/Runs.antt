@@ -4,10 +4,12 @@ use Rattle.sieve_syntax.specs.RunState.{RunState as RunStateSpec, Failure as Fai
 use Rattle.sieve_syntax.specs.RunState as F
 use Rattle.sieve_syntax.specs.Meaning.{Outcome as OutcomeSpec}
 use Rattle.sieve_syntax.specs.Meaning as M
-use Rattle.sieve_code.specs.Jumps.{Course, course_of, Run}
+use Rattle.sieve_code.specs.Jumps.{Course, course_of, Run, RunEnd as RunEndSpec, Ended, Broken}
 use Rattle.sieve_exec.specs.declared.machine.InstrOutcome.{InstrOutcome}
 use Rattle.sieve_exec.specs.declared.machine.InstrOutcome.TheVariants.{Next, Stopped}
 use Rattle.sieve_exec.specs.declared.machine.InstrOutcome.TheVariants as turn
+use Rattle.sieve_exec.specs.declared.machine.RunEnd.{RunEnd}
+use Rattle.sieve_exec.specs.declared.machine.RunEnd.TheVariants as R
 use Rattle.sieve_exec.specs.declared.run_state.RunState.{RunState}
 use Rattle.sieve_exec.specs.declared.outcome.Failure.{Failure}
 use Rattle.sieve_exec.specs.declared.outcome.Failure.TheVariants.{TwoVacations, TooManyRedirects, TooManyMailboxes, TooMuchWork}
@@ -16,7 +18,7 @@ use Rattle.sieve_exec.specs.declared.outcome.Outcome.TheVariants.{Done, Failed}
 
 -- what has been done so far
 abbrev pub run_state_of : RunState → RunStateSpec
-run_state_of state = record { filed = state.filed.items; flags = state.flags; sent = state.sent; reply = state.reply; cancelled = state.cancelled }
+run_state_of state = record { filed = state.filed.items; flags = state.flags; sent = state.sent; reply = state.reply; cancelled = state.cancelled; has_kept = state.has_kept; names_inbox = state.names_inbox }
 
 -- why a run failed
 abbrev pub failure_view : Failure → FailureSpec
@@ -34,6 +36,11 @@ flow_of (Some failure) state = F.Failed (failure_view failure)
 abbrev pub outcome_view : Outcome → OutcomeSpec
 outcome_view (Done filed sent reply) = M.Done (record { filed = filed; sent = sent; reply = reply })
 outcome_view (Failed failure) = M.Failed (failure_view failure)
+
+-- how a run ended
+abbrev pub run_end_view : RunEnd → RunEndSpec
+run_end_view (R.Ended state work) = Ended (run_state_of state) work
+run_end_view (R.Failed failure) = Broken (failure_view failure)
 
 -- how a run goes on after an instruction, given the run from a place on
 abbrev pub after_turn : InstrOutcome → Run → Bool → RunStateSpec → Option Course

@@ -27,8 +27,9 @@ mod work;
 
 pub use cached_mail::CachedMail;
 pub use envelope::{Envelope, domain_in, local_in};
-pub use machine::run_code;
+pub use machine::{RunEnd, run_code, run_from};
 pub use mail::Mail;
 pub use outcome::{Failure, Outcome};
-pub use run_state::INBOX;
+pub use run_state::{INBOX, RunState};
 pub use when::When;
+pub use work::MAX_WORK;

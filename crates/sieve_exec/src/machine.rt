@@ -1,13 +1,12 @@
 //! The run of flat code.
-ghost use Rattle.std.specs.Prelude.{◌≡◌, ℕ, ◌<◌, ◌+◌, ◌^◌, Option, Some, length, IfOk, OnOk};
+ghost use Rattle.std.specs.Prelude.{◌≡◌, ℕ, ◌<◌, ◌+◌, ◌-◌, ◌^◌, Option, Some, length, IfOk, OnOk};
 ghost use Rattle.sieve_exec.specs.Truth.{truth_at};
 ghost use Rattle.sieve_exec.specs.Sizes.{IsPaid};
 ghost use Rattle.sieve_exec.specs.Work.{work_at};
-ghost use Rattle.sieve_exec.specs.Runs.{run_state_of, failure_view, outcome_view, after_turn, MovesOn};
-ghost use Rattle.sieve_syntax.specs.RunState.{Going};
-ghost use Rattle.sieve_syntax.specs.Meaning.{asking_at, Failed, outcome_after};
+ghost use Rattle.sieve_exec.specs.Runs.{run_state_of, failure_view, outcome_view, run_end_view, after_turn, MovesOn};
+ghost use Rattle.sieve_syntax.specs.Meaning.{asking_at};
 ghost use Rattle.sieve_code.specs.Instructions.{instr_view};
-ghost use Rattle.sieve_code.specs.Jumps.{LeadsForward, Run, instr_work, jumps, turn as turn_of};
+ghost use Rattle.sieve_code.specs.Jumps.{Ended, Broken, LeadsForward, Run, ends_within, instr_work, jumps, turn as turn_of};
 
 use crate::cached_mail::CachedMail;
 use crate::mail::Mail;
@@ -37,11 +36,22 @@ pub struct ScriptRun<'m, 'a> {
     left: u64,
 }
 
-/// Runs the code of a script on a mail (RFC 5228, 2.10 and 3).
-///
-/// It takes at most as many steps as the code is long. A field's values are looked up and decoded once for each
-/// name, however many tests ask for them. The work of a test is known before its values are compared; if the tests that are evaluated
-/// would take more than [`MAX_WORK`] together, the run fails, and the test that would exceed it isn't evaluated.
+/// How a run ends.
+#[derive(Drop)]
+pub enum RunEnd {
+    /// At its last instruction or at a `stop`, before its implicit keep.
+    Ended {
+        /// What it and the runs before it have done.
+        state: RunState,
+        /// The work that it took.
+        work: u64,
+    },
+    /// It failed (RFC 5228, 2.10.6).
+    Failed(Failure),
+}
+
+/// Runs the code of a script on a mail (RFC 5228, 2.10 and 3): what [`run_from`] does where nothing has been done yet and the work is at
+/// most [`MAX_WORK`], and the implicit keep.
 ///
 /// # Errors
 ///
@@ -49,12 +59,36 @@ pub struct ScriptRun<'m, 'a> {
 pub fn run_code(alloc: Global, code: &Code<'_>, mail: &Mail<'_>) -> Result<Outcome, AllocError>
     ensures { IfOk result (λ done. Some (outcome_view done) ≡ jumps (asking_at (truth_at mail.now)) (work_at mail.now) code.now (length code.now)) }
 {
+    match run_from(alloc, code, mail, RunState::new(alloc), MAX_WORK)? {
+        RunEnd::Ended { state, .. } => state.finish(alloc),
+        RunEnd::Failed(why) => Ok(Outcome::Failed(why)),
+    }
+}
+
+/// Runs the code of a script on a mail, up to its implicit keep (RFC 5228, 2.10 and 3); it begins with what has been done so far.
+///
+/// It takes at most as many steps as the code is long. A field's values are looked up and decoded once for each
+/// name, however many tests ask for them. The work of a test is known before its values are compared; if the tests that are evaluated
+/// would take more than `most` together, the run fails, and the test that would exceed it isn't evaluated.
+///
+/// # Errors
+///
+/// [`AllocError`] if an allocation failed.
+pub fn run_from(
+    alloc: Global,
+    code: &Code<'_>,
+    mail: &Mail<'_>,
+    state: RunState,
+    most: u64,
+) -> Result<RunEnd, AllocError>
+    ensures { IfOk result (λ end. Some (run_end_view end) ≡ ends_within (asking_at (truth_at mail.now)) (work_at mail.now) most code.now (run_state_of state)) }
+{
     let instrs = code.instrs();
     let mut machine = ScriptRun {
         cached: CachedMail::new(alloc, mail),
         flag: false,
-        state: RunState::new(alloc),
-        left: MAX_WORK,
+        state,
+        left: most,
     };
     let mut place = 0;
     while place < instrs.len() {
@@ -65,26 +99,29 @@ pub fn run_code(alloc: Global, code: &Code<'_>, mail: &Mail<'_>) -> Result<Outco
         }
         match machine.turn(alloc, instr, place)? {
             InstrOutcome::Next(next) => place = next,
-            InstrOutcome::Stopped => return machine.finish(alloc),
+            InstrOutcome::Stopped => return Ok(machine.end(most)),
             InstrOutcome::Failed(failure) => return Ok(machine.fail(failure)),
         }
     }
-    machine.finish(alloc)
+    Ok(machine.end(most))
 }
 
 impl<'m, 'a> ScriptRun<'m, 'a> {
-    /// The outcome of a run that is over.
-    fn finish(self, alloc: Global) -> Result<Outcome, AllocError>
-        ensures { IfOk result (λ done. outcome_view done ≡ outcome_after (Going (run_state_of self.entry.state))) }
+    /// A run is over; its tests could take so much work at most.
+    fn end(self, most: u64) -> RunEnd
+        ensures { run_end_view result ≡ Ended (run_state_of self.entry.state) (most - self.entry.left) }
     {
-        self.state.finish(alloc)
+        RunEnd::Ended {
+            state: self.state,
+            work: most.saturating_sub(self.left),
+        }
     }
 
-    /// The outcome of a run that failed: nothing of what it did so far is carried out (RFC 5228, 2.10.6).
-    fn fail(self, failure: Failure) -> Outcome
-        ensures { outcome_view result ≡ Failed (failure_view failure) }
+    /// A run failed: nothing of what it did so far is carried out (RFC 5228, 2.10.6).
+    fn fail(self, failure: Failure) -> RunEnd
+        ensures { run_end_view result ≡ Broken (failure_view failure) }
     {
-        Outcome::Failed(failure)
+        RunEnd::Failed(failure)
     }
 
     /// Takes the work of an instruction from what is left, and returns whether there was enough.

@@ -1,8 +1,9 @@
 //! What a run has done so far.
 ghost use Rattle.std.specs.Prelude.{◌≡◌, Bool, true, not, [], ◌∷◌, ◌++◌, None, IfOk};
 ghost use Rattle.std.specs.List.{list_any};
-ghost use Rattle.sieve_syntax.specs.RunState.{performed, at_first, filed_into, flags_given as flags_given_of, same_target as same_target_of, sent_to, Going};
+ghost use Rattle.sieve_syntax.specs.RunState.{performed, at_first, filed_into, kept_with, same_target as same_target_of, sent_to, Going};
 ghost use Rattle.sieve_syntax.specs.Meaning.{outcome_after};
+ghost use Rattle.sieve_syntax.specs.declared.tree.action.Action.TheVariants.{Keep};
 
 use crate::mailboxes::{file, has_room};
 use crate::outcome::{Failure, Outcome};
@@ -32,13 +33,17 @@ pub struct RunState {
     pub reply: Option<VacationArgs>,
     /// Whether the implicit keep is cancelled.
     pub cancelled: bool,
+    /// Whether a `keep` was executed.
+    pub has_kept: bool,
+    /// Whether a `fileinto` was executed that names INBOX.
+    pub names_inbox: bool,
 }
 
 impl RunState {
     ghost use Rattle.sieve_exec.specs.Runs.{run_state_of, flow_of, outcome_view};
 
     /// Nothing has been done yet. Takes no memory.
-    pub(crate) fn new(alloc: Global) -> RunState
+    pub fn new(alloc: Global) -> RunState
         ensures { run_state_of result ≡ at_first }
     {
         RunState {
@@ -47,6 +52,8 @@ impl RunState {
             sent: List::new(alloc),
             reply: None,
             cancelled: false,
+            has_kept: false,
+            names_inbox: false,
         }
     }
 
@@ -59,7 +66,7 @@ impl RunState {
         ensures { IfOk result (λ failed. flow_of failed (run_state_of self.new) ≡ performed action.now (run_state_of self.old)) }
     {
         match action {
-            Action::Keep(given) => self.file_into(alloc, INBOX, given, false),
+            Action::Keep(given) => self.keep_by(alloc, given),
             Action::Discard => {
                 self.cancelled = true;
                 Ok(None)
@@ -86,10 +93,8 @@ impl RunState {
     pub(crate) fn finish(mut self, alloc: Global) -> Result<Outcome, AllocError>
         ensures { IfOk result (λ done. outcome_view done ≡ outcome_after (Going (run_state_of self))) }
     {
-        if !self.cancelled {
-            if let Some(failure) = self.file_into(alloc, INBOX, &None, true)? {
-                return Ok(Outcome::Failed(failure));
-            }
+        if let Some(failure) = self.keep_implicitly(alloc, None)? {
+            return Ok(Outcome::Failed(failure));
         }
         Ok(Outcome::Done {
             filed: List::from_vec(self.filed),
@@ -98,21 +103,51 @@ impl RunState {
         })
     }
 
-    /// Files the message into a mailbox, with the flags that a command gives the copy.
+    /// The implicit keep, unless it is cancelled; its copy gets these flags, or otherwise those that are set (RFC 5228, 2.10.2; RFC 5232, 5).
+    /// Returns why the run fails, if it does.
+    pub fn keep_implicitly(
+        &mut self,
+        alloc: Global,
+        flags: Option<Octets>,
+    ) -> Result<Option<Failure>, AllocError>
+        ensures { IfOk result (λ failed. flow_of failed (run_state_of self.new) ≡ kept_with flags (run_state_of self.old)) }
+    {
+        if self.cancelled {
+            return Ok(None);
+        }
+        let flags = match flags {
+            Some(flags) => flags,
+            None => self.flags_given(alloc, &None)?,
+        };
+        self.file_into(alloc, INBOX, flags, true)
+    }
+
+    /// Carries out `keep`, with the flags that it gives its copy (RFC 5228, 4.3; RFC 5232, 5).
+    fn keep_by(
+        &mut self,
+        alloc: Global,
+        given: &Option<Texts>,
+    ) -> Result<Option<Failure>, AllocError>
+        ensures { IfOk result (λ failed. flow_of failed (run_state_of self.new) ≡ performed (Keep given.now) (run_state_of self.old)) }
+    {
+        self.has_kept = true;
+        let flags = self.flags_given(alloc, given)?;
+        self.file_into(alloc, INBOX, flags, false)
+    }
+
+    /// Files the message into a mailbox, with these flags of its copy.
     pub(crate) fn file_into(
         &mut self,
         alloc: Global,
         mailbox: &[u8],
-        given: &Option<Texts>,
+        flags: Octets,
         copy: bool,
     ) -> Result<Option<Failure>, AllocError>
-        ensures { IfOk result (λ failed. flow_of failed (run_state_of self.new)
-            ≡ filed_into mailbox.now (flags_given_of given.now (run_state_of self.old)) copy (run_state_of self.old)) }
+        ensures { IfOk result (λ failed. flow_of failed (run_state_of self.new) ≡ filed_into mailbox.now flags copy (run_state_of self.old)) }
     {
         if !has_room(self.filed.as_slice(), mailbox) {
             return Ok(Some(Failure::TooManyMailboxes));
         }
-        let flags = self.flags_given(alloc, given)?;
         let mailbox = Octets::from_slice(alloc, mailbox)?;
         file(&mut self.filed, Placement { mailbox, flags })?;
         self.cancelled = self.cancelled || !copy;

@@ -14,7 +14,7 @@ use sieve_syntax::Matching;
 /// processor in the mean of random runs, and 1.3 ns in the worst that was found (patterns with a `?` over one long value). So
 /// the tests of a run take at most 260 ms, as far as is known. 1,000 keys, or 800 rules, can be compared with all of a header of 100 kB
 /// within this limit.
-pub(crate) const MAX_WORK: u64 = 200_000_000;
+pub const MAX_WORK: u64 = 200_000_000;
 
 /// One text of 40 octets: no number of values and no part of a date is longer.
 pub(crate) const SHORT: Sizes = Sizes {

@@ -18,7 +18,7 @@ use Rattle.sieve_syntax.specs.declared.tree.action.Action.{Action}
 use Rattle.sieve_syntax.specs.declared.tree.action.Action.TheVariants.{Keep, Discard, FileInto, Redirect, Vacation, SetFlag, AddFlag, RemoveFlag}
 use Rattle.sieve_syntax.specs.declared.tree.checks.MailCheck.{MailCheck}
 use Rattle.sieve_syntax.specs.declared.extension.vacation.VacationArgs.{VacationArgs}
-use Rattle.sieve_syntax.specs.RunState.{RunState, at_first, max_targets, max_mailboxes, TwoVacations, TooManyRedirects, TooManyMailboxes, Flow, Going, Stopped, Failed, and_then, inbox, mailbox_named, is_filed, has_room, with_filed, flags_given, cancelled_after, filed_into, same_target, sent_to, replied_by, performed}
+use Rattle.sieve_syntax.specs.RunState.{RunState, at_first, max_targets, max_mailboxes, TwoVacations, TooManyRedirects, TooManyMailboxes, Flow, Going, Stopped, Failed, and_then, inbox, mailbox_named, is_filed, has_room, with_filed, flags_given, cancelled_after, filed_into, same_target, sent_to, replied_by, with_keep, with_name, performed}
 use Rattle.sieve_syntax.specs.Looking.{outcome_by}
 use Rattle.sieve_syntax.specs.Meaning.{Actions, actions_of, done_by, outcome_after}
 use Rattle.sieve_syntax.specs.Trace.{actions_run, in_turn, KeepsImplicitly, OnDone, NamesWithoutRepeats, FilesIntoInboxAlone, NamesFlags, FilesWithFlags}
@@ -196,10 +196,15 @@ replies args state so = step state.reply
     step None = record { mailboxes = so.mailboxes; addresses = so.addresses; few_mailboxes = so.few_mailboxes; few_addresses = so.few_addresses }
     step (Some _) = tt
 
+-- the marks of a run say nothing of its mailboxes and addresses
+marked : (state : RunState) (has_kept names_inbox : Bool) → IsOrderly state → IsOrderly (record state { has_kept = has_kept; names_inbox = names_inbox })
+marked state has_kept names_inbox so = record { mailboxes = so.mailboxes; addresses = so.addresses; few_mailboxes = so.few_mailboxes; few_addresses = so.few_addresses }
+
 orderly : (action : Action) (state : RunState) → Unit {0} → IsOrderly state → OnState IsOrderly (performed action state)
-orderly (Keep given) state may so = files inbox (flags_given given state) false state so
+orderly (Keep given) state may so = files inbox (flags_given given state) false (with_keep state) (marked state true state.names_inbox so)
 orderly Discard state may so = record { mailboxes = so.mailboxes; addresses = so.addresses; few_mailboxes = so.few_mailboxes; few_addresses = so.few_addresses }
-orderly (FileInto filing) state may so = files (mailbox_named filing.mailbox) (flags_given filing.flags state) filing.copy state so
+orderly (FileInto filing) state may so =
+    files (mailbox_named filing.mailbox) (flags_given filing.flags state) filing.copy (with_name filing.mailbox state) (marked state state.has_kept (with_name filing.mailbox state).names_inbox so)
 orderly (Redirect redirect) state may so = sends redirect.target redirect.copy state so
 orderly (Vacation args) state may so = replies args state so
 orderly (SetFlag texts) state may so = record { mailboxes = so.mailboxes; addresses = so.addresses; few_mailboxes = so.few_mailboxes; few_addresses = so.few_addresses }
@@ -295,9 +300,9 @@ flagged_reply args state so = step state.reply
     step (Some _) = tt
 
 flagged_action : (action : Action) (state : RunState) → Unit {0} → IsFlagged state → OnState IsFlagged (performed action state)
-flagged_action (Keep given) state may so = flagged_filed inbox given false state so
+flagged_action (Keep given) state may so = flagged_filed inbox given false (with_keep state) (record { flags = so.flags; filed = so.filed })
 flagged_action Discard state may so = record { flags = so.flags; filed = so.filed }
-flagged_action (FileInto filing) state may so = flagged_filed (mailbox_named filing.mailbox) filing.flags filing.copy state so
+flagged_action (FileInto filing) state may so = flagged_filed (mailbox_named filing.mailbox) filing.flags filing.copy (with_name filing.mailbox state) (record { flags = so.flags; filed = so.filed })
 flagged_action (Redirect redirect) state may so = flagged_sent redirect.target redirect.copy state so
 flagged_action (Vacation args) state may so = flagged_reply args state so
 flagged_action (SetFlag texts) state may so = record { flags = added_flags [] texts no_flags; filed = so.filed }

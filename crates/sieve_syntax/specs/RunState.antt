@@ -12,18 +12,21 @@ use Rattle.sieve_syntax.specs.declared.extension.vacation.VacationArgs.{Vacation
 
 -- what a script has done so far: the mailboxes that the message goes into, each with the flags that the last command gives
 -- its copy, and the addresses that it is sent to, each in the order of the first command that says so; the flags that are
--- set, which a copy gets that isn't given its own (RFC 5232, 3); the answer to the sender, if there is one; and whether the
--- implicit keep is cancelled (RFC 5228, 2.10.2)
+-- set, which a copy gets that isn't given its own (RFC 5232, 3); the answer to the sender, if there is one; whether the
+-- implicit keep is cancelled (RFC 5228, 2.10.2); and whether a `keep` was executed, and a `fileinto` that names INBOX: the outcome of a script
+-- alone doesn't depend on these two, but what a script leaves to one that runs behind it does
 pub record RunState : Type 0 where
   pub filed : List Placement
   pub flags : List (List ℕ)
   pub sent : List Addr
   pub reply : Option VacationArgs
   pub cancelled : Bool
+  pub has_kept : Bool
+  pub names_inbox : Bool
 
 -- before the first command
 abbrev pub at_first : RunState
-at_first = record { filed = []; flags = []; sent = []; reply = None; cancelled = false }
+at_first = record { filed = []; flags = []; sent = []; reply = None; cancelled = false; has_kept = false; names_inbox = false }
 
 -- why a run fails (RFC 5228, 2.10.6): a second `vacation` is run (RFC 5230, 4.7), or the message would be
 -- sent to more than 16 addresses, or filed into more than 100 mailboxes, or its tests take more work than a run may
@@ -52,6 +55,10 @@ inbox = codes "INBOX"
 -- the mailbox that a name means: INBOX in any ASCII case is INBOX, other names are compared by octets
 abbrev pub mailbox_named : List ℕ → List ℕ
 mailbox_named name = cond (pointwise nat_eq (lowered name) (codes "inbox")) inbox name
+
+-- whether a name means INBOX
+abbrev pub is_inbox_name : List ℕ → Bool
+is_inbox_name name = pointwise nat_eq (mailbox_named name) inbox
 
 -- the most mailboxes that a message goes into, including that of the implicit keep
 abbrev pub max_mailboxes : ℕ
@@ -87,6 +94,15 @@ filed_into mailbox flags copy so_far =
     (Going (record so_far { filed = with_filed so_far.filed (record { mailbox = mailbox; flags = flags }); cancelled = cancelled_after copy so_far }))
     (Failed TooManyMailboxes)
 
+-- the flags of the implicit keep's copy: these, where it was given some, otherwise those that are set (RFC 5232, 5)
+abbrev pub implicit_flags : Option (List ℕ) → RunState → List ℕ
+implicit_flags None so_far = flags_given None so_far
+implicit_flags (Some flags) so_far = flags
+
+-- the implicit keep with these flags: the message goes into INBOX unless that is cancelled (RFC 5228, 2.10.2)
+abbrev pub kept_with : Option (List ℕ) → RunState → Flow
+kept_with flags so_far = cond so_far.cancelled (Going so_far) (filed_into inbox (implicit_flags flags so_far) true so_far)
+
 -- the implicit keep: the message goes into INBOX unless that is cancelled, with the flags that are set (RFC 5228, 2.10.2; RFC 5232, 5)
 abbrev pub kept_implicitly : RunState → Flow
 kept_implicitly so_far = cond so_far.cancelled (Going so_far) (filed_into inbox (flags_given None so_far) true so_far)
@@ -113,11 +129,18 @@ replied_by args so_far = elim so_far.reply [
   | Some _ ↦ Failed TwoVacations
 ]
 
+-- a `keep` is executed, and a `fileinto` that names this mailbox
+abbrev pub with_keep : RunState → RunState
+with_keep so_far = record so_far { has_kept = true }
+
+abbrev pub with_name : List ℕ → RunState → RunState
+with_name name so_far = record so_far { names_inbox = so_far.names_inbox || is_inbox_name name }
+
 -- what an action does (RFC 5228, 4; RFC 3894; RFC 5230; RFC 5232)
 abbrev pub performed : Action → RunState → Flow
-performed (Keep given) so_far = filed_into inbox (flags_given given so_far) false so_far
+performed (Keep given) so_far = filed_into inbox (flags_given given so_far) false (with_keep so_far)
 performed Discard so_far = Going (record so_far { cancelled = true })
-performed (FileInto filing) so_far = filed_into (mailbox_named filing.mailbox) (flags_given filing.flags so_far) filing.copy so_far
+performed (FileInto filing) so_far = filed_into (mailbox_named filing.mailbox) (flags_given filing.flags so_far) filing.copy (with_name filing.mailbox so_far)
 performed (Redirect redirect) so_far = sent_to redirect.target redirect.copy so_far
 performed (Vacation args) so_far = replied_by args so_far
 performed (SetFlag texts) so_far = Going (record so_far { flags = with_all_named [] texts })

@@ -42,7 +42,7 @@ row id = record { id = id; kind = Redirect; sender = codes "bob@example.net"; ta
 
 -- a host in UTC, without a default script
 abbrev in_utc : HostSettings
-in_utc = record { zone = Always (record { minutes = pos 0; within = (search (rules, ints), search (rules, ints)) }); default = None; scripts = record { before = []; after = [] } }
+in_utc = record { zone = Always (record { minutes = pos 0; within = (search (rules, ints), search (rules, ints)) }); default = None }
 
 -- the fifth second of 1970 there, and one past the year 9999
 abbrev at_five : Terms

@@ -1,12 +1,11 @@
 //! What a delivery is done under: what the host says of each one, and when it is.
-ghost use Rattle.std.specs.Prelude.{◌≡◌, ℕ, pos, [], None, IfOk};
+ghost use Rattle.std.specs.Prelude.{◌≡◌, ℕ, pos, None, IfOk};
 ghost use Rattle.mail_dates.specs.HostZones.{IsOffsetAt};
 ghost use Rattle.store_engine.specs.Terms.{terms_of};
 
 use mail_dates::HostZone;
 use octets::Octets;
 use sieve_exec::When;
-use sieve_plan::HostScripts;
 use std::alloc::{AllocError, Global};
 
 /// What the host says of each delivery. It is read once, when the program begins.
@@ -17,8 +16,6 @@ pub struct HostSettings {
     /// The text of its default script, if it has one: it is used for an account without an active script as if it were the active
     /// one.
     pub default: Option<Octets>,
-    /// The scripts of its own, which run before each user's script and after it.
-    pub scripts: HostScripts,
 }
 
 /// What a delivery is done under.
@@ -38,17 +35,14 @@ pub struct LentTerms<'a> {
 }
 
 impl HostSettings {
-    /// UTC, and no script of the host's own. Takes no memory.
-    pub fn in_utc(alloc: Global) -> HostSettings
+    /// UTC, and no script of the host's own.
+    pub fn in_utc() -> HostSettings
         ensures zone { (moment : ℕ) → IsOffsetAt result.zone moment (pos 0) }
         ensures default { result.default ≡ None }
-        ensures before { result.scripts.before ≡ [] }
-        ensures after { result.scripts.after ≡ [] }
     {
         HostSettings {
             zone: HostZone::utc(),
             default: None,
-            scripts: HostScripts::none(alloc),
         }
     }
 
@@ -88,7 +82,6 @@ impl HostSettings {
         Ok(HostSettings {
             zone: self.zone,
             default,
-            scripts: self.scripts.try_clone(alloc)?,
         })
     }
 }

@@ -1,6 +1,7 @@
 //! `fileinto`: the message is filed into a mailbox (RFC 5228, 4.1).
 ghost use Rattle.std.specs.Prelude.{◌≡◌, IfOk};
-ghost use Rattle.sieve_syntax.specs.RunState.{filed_into, flags_given, mailbox_named};
+ghost use Rattle.sieve_syntax.specs.RunState.{mailbox_named, performed};
+ghost use Rattle.sieve_syntax.specs.declared.tree.action.Action.TheVariants.{FileInto};
 
 use crate::outcome::Failure;
 use crate::run_state::{INBOX, RunState};
@@ -16,11 +17,12 @@ impl RunState {
         alloc: Global,
         filing: &FileInto,
     ) -> Result<Option<Failure>, AllocError>
-        ensures { IfOk result (λ failed. flow_of failed (run_state_of self.new)
-            ≡ filed_into (mailbox_named filing.now.mailbox) (flags_given filing.now.flags (run_state_of self.old)) filing.now.copy (run_state_of self.old)) }
+        ensures { IfOk result (λ failed. flow_of failed (run_state_of self.new) ≡ performed (FileInto filing.now) (run_state_of self.old)) }
     {
         let mailbox = mailbox_named(filing.mailbox.as_slice());
-        self.file_into(alloc, mailbox, &filing.flags, filing.copy)
+        self.names_inbox = self.names_inbox || mailbox == INBOX;
+        let flags = self.flags_given(alloc, &filing.flags)?;
+        self.file_into(alloc, mailbox, flags, filing.copy)
     }
 }
 
