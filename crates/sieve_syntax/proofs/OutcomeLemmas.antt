@@ -280,6 +280,13 @@ flagged_filed mailbox given copy state so = step (has_room state.filed mailbox)
     step true = record { flags = so.flags; filed = all_filed NamesFlags state.filed (copy_in mailbox (flags_given given state)) so.filed (named_given given state so) }
     step false = tt
 
+-- whatever its marks are
+marked_filed : (mailbox : List ℕ) (given : Option (List (List ℕ))) (copy : Bool) (state : RunState) (has_kept names_inbox : Bool) → IsFlagged state
+    → OnState IsFlagged (filed_into mailbox (flags_given given state) copy (record state { has_kept = has_kept; names_inbox = names_inbox }))
+marked_filed mailbox None copy state has_kept names_inbox so = flagged_filed mailbox None copy (record state { has_kept = has_kept; names_inbox = names_inbox }) (record { flags = so.flags; filed = so.filed })
+marked_filed mailbox (Some texts) copy state has_kept names_inbox so =
+    flagged_filed mailbox (Some texts) copy (record state { has_kept = has_kept; names_inbox = names_inbox }) (record { flags = so.flags; filed = so.filed })
+
 flagged_sent : (target : Addr) (copy : Bool) (state : RunState) → IsFlagged state → OnState IsFlagged (sent_to target copy state)
 flagged_sent target copy state so = step (list_any (λ there. same_target there target) state.sent) (nat_lt (length state.sent) max_targets)
   where
@@ -300,9 +307,9 @@ flagged_reply args state so = step state.reply
     step (Some _) = tt
 
 flagged_action : (action : Action) (state : RunState) → Unit {0} → IsFlagged state → OnState IsFlagged (performed action state)
-flagged_action (Keep given) state may so = flagged_filed inbox given false (with_keep state) (record { flags = so.flags; filed = so.filed })
+flagged_action (Keep given) state may so = marked_filed inbox given false state true state.names_inbox so
 flagged_action Discard state may so = record { flags = so.flags; filed = so.filed }
-flagged_action (FileInto filing) state may so = flagged_filed (mailbox_named filing.mailbox) filing.flags filing.copy (with_name filing.mailbox state) (record { flags = so.flags; filed = so.filed })
+flagged_action (FileInto filing) state may so = marked_filed (mailbox_named filing.mailbox) filing.flags filing.copy state state.has_kept (with_name filing.mailbox state).names_inbox so
 flagged_action (Redirect redirect) state may so = flagged_sent redirect.target redirect.copy state so
 flagged_action (Vacation args) state may so = flagged_reply args state so
 flagged_action (SetFlag texts) state may so = record { flags = added_flags [] texts no_flags; filed = so.filed }
