@@ -2,7 +2,7 @@
 ghost use Rattle.std.specs.Prelude.{◌≡◌, false, map, IfOk};
 ghost use Rattle.store_accounts.specs.Cells.{borrowed_octets};
 ghost use Rattle.sieve_plan.specs.Delivered.{has_long_header};
-ghost use Rattle.sieve_plan.specs.Sequences.{SettlesInTurn, SettlesUnder, at_beginning, settled_well};
+ghost use Rattle.sieve_plan.specs.Sequences.{SettlesInTurn, SettlesUnder, at_beginning, sequence_of, settled_well};
 ghost use Rattle.sieve_plan.specs.SequencePlans.{settled_of};
 ghost use Rattle.sieve_plan.specs.Turns.{script_in, sequence_state_of};
 
@@ -43,6 +43,18 @@ pub fn settle(
             notice: Some(FailureNotice::Loop),
         });
     }
+    settle_scripts(alloc, host, own, mail)
+}
+
+/// What the host's scripts and the user's come to on a mail, as [`settle`] says it, however often that mail was received.
+pub fn settle_scripts(
+    alloc: Global,
+    host: &HostScripts,
+    own: Option<&[u8]>,
+    mail: &Mail<'_>,
+) -> Result<Settlement, AllocError>
+    ensures { IfOk result (λ settlement. SettlesInTurn mail.now (sequence_of host.now (borrowed_octets own.entry)) at_beginning (settled_of settlement)) }
+{
     let scripts = sequence(alloc, host, own)?;
     settle_in_turn(alloc, scripts.as_slice(), mail)
 }
