@@ -1,15 +1,12 @@
 //! Tries one script on one message.
-ghost use Rattle.std.specs.Prelude.{◌≡◌, ◌≤◌, ◌+◌, ℕ, List, Some, IfOk, IfSome};
+ghost use Rattle.std.specs.Prelude.{◌≡◌, ◌≤◌, ◌+◌, ℕ, List, IfOk};
 ghost use Rattle.mail_head.specs.Heads.{size_of};
 ghost use Rattle.mail_head.specs.Prefixes.{IsHeaderPrefix};
 ghost use Rattle.sieve_lex.specs.Finding.{IfFault, IfFaultLine};
-ghost use Rattle.sieve_lex.specs.Text.{line_ends};
-ghost use Rattle.sieve_syntax.specs.Tree.{Commands};
-ghost use Rattle.sieve_syntax.specs.Means.{Means};
-ghost use Rattle.sieve_exec.specs.Mails.{mail_spec_of};
-ghost use Rattle.sieve_plan.specs.Sequences.{SettlesInTurn, at_beginning};
+ghost use Rattle.sieve_plan.specs.Sequences.{SettlesInTurn, at_beginning, sequence_of};
 ghost use Rattle.sieve_plan.specs.SequencePlans.{settled_of};
 ghost use Rattle.store_accounts.specs.Cells.{borrowed_octets};
+ghost use Rattle.store_engine.specs.AccountEvents.{script_or_default};
 ghost use Rattle.store_engine.specs.Attempts.{IsValidOrNone, IsNoScript, SettlesUnderTerms, lines_of};
 ghost use Rattle.store_engine.specs.Terms.{terms_of};
 
@@ -80,7 +77,13 @@ fn settle_on(
     own: Option<&[u8]>,
     mail: &Mail<'_>,
     host: &HostSettings,
-) -> Result<Settlement, ScriptError> {
+) -> Result<Settlement, ScriptError>
+    ensures valid { IfOk result (λ done. IsValidOrNone (borrowed_octets own.entry)) }
+    ensures done { IfOk result (λ done.
+        SettlesInTurn mail.now (sequence_of host.now.scripts (script_or_default (borrowed_octets own.entry) host.now.default)) at_beginning (settled_of done)) }
+    ensures fault { IfFault result (IsNoScript (borrowed_octets own.entry)) }
+    ensures line { IfFaultLine result (λ line. (1 ≤ line) × (line ≤ 1 + lines_of (borrowed_octets own.entry))) }
+{
     let Some(text) = own else {
         return Ok(settle_scripts(alloc, &host.scripts, as_deref(&host.default), mail)?);
     };
