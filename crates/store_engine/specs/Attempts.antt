@@ -20,9 +20,9 @@ IsNoScript None = ⊥
 IsNoScript (Some text) = (tree : Commands) → Means text tree → ⊥
 
 -- how many lines a text has
-abbrev pub lines_of : Option (List ℕ) → ℕ
-lines_of None = 0
-lines_of (Some text) = line_ends text
+abbrev pub own_lines : Option (List ℕ) → ℕ
+own_lines None = 0
+own_lines (Some text) = line_ends text
 
 -- what the host's scripts and a user's text, if there is one, come to on a message that is delivered under these terms
 abbrev pub SettlesUnderTerms : Terms → Envelope → Option (List ℕ) → List ℕ → Settled → Type 0

@@ -7,7 +7,7 @@ ghost use Rattle.sieve_plan.specs.Sequences.{SettlesInTurn, at_beginning, sequen
 ghost use Rattle.sieve_plan.specs.SequencePlans.{settled_of};
 ghost use Rattle.store_accounts.specs.Cells.{borrowed_octets};
 ghost use Rattle.store_engine.specs.AccountEvents.{script_or_default};
-ghost use Rattle.store_engine.specs.Attempts.{IsValidOrNone, IsNoScript, SettlesUnderTerms, lines_of};
+ghost use Rattle.store_engine.specs.Attempts.{IsValidOrNone, IsNoScript, SettlesUnderTerms, own_lines};
 ghost use Rattle.store_engine.specs.Terms.{terms_of};
 
 use crate::terms::{HostSettings, LentTerms};
@@ -39,7 +39,7 @@ pub fn attempt(
     ensures valid { IfOk result (λ done. IsValidOrNone (borrowed_octets own.entry)) }
     ensures done { IfOk result (λ done. SettlesUnderTerms (terms_of terms.entry) envelope (borrowed_octets own.entry) message.now (settled_of done)) }
     ensures fault { IfFault result (IsNoScript (borrowed_octets own.entry)) }
-    ensures line { IfFaultLine result (λ line. (1 ≤ line) × (line ≤ 1 + lines_of (borrowed_octets own.entry))) }
+    ensures line { IfFaultLine result (λ line. (1 ≤ line) × (line ≤ 1 + own_lines (borrowed_octets own.entry))) }
 {
     let mail = Mail::read(alloc, message, envelope, terms.when)?;
     settle_on(alloc, own, &mail, terms.host)
@@ -65,7 +65,7 @@ pub fn attempt_on_prefix(
     ensures done { IfOk result (λ done. (message : List ℕ) → IsHeaderPrefix front.now message → size ≡ size_of message
         → SettlesUnderTerms (terms_of terms.entry) envelope (borrowed_octets own.entry) message (settled_of done)) }
     ensures fault { IfFault result (IsNoScript (borrowed_octets own.entry)) }
-    ensures line { IfFaultLine result (λ line. (1 ≤ line) × (line ≤ 1 + lines_of (borrowed_octets own.entry))) }
+    ensures line { IfFaultLine result (λ line. (1 ≤ line) × (line ≤ 1 + own_lines (borrowed_octets own.entry))) }
 {
     let known = Mail::read_prefix(alloc, front, size, envelope, terms.when)?;
     settle_on(alloc, own, &known, terms.host)
@@ -82,7 +82,7 @@ fn settle_on(
     ensures done { IfOk result (λ done.
         SettlesInTurn mail.now (sequence_of host.now.scripts (script_or_default (borrowed_octets own.entry) host.now.default)) at_beginning (settled_of done)) }
     ensures fault { IfFault result (IsNoScript (borrowed_octets own.entry)) }
-    ensures line { IfFaultLine result (λ line. (1 ≤ line) × (line ≤ 1 + lines_of (borrowed_octets own.entry))) }
+    ensures line { IfFaultLine result (λ line. (1 ≤ line) × (line ≤ 1 + own_lines (borrowed_octets own.entry))) }
 {
     let Some(text) = own else {
         return Ok(settle_scripts(alloc, &host.scripts, as_deref(&host.default), mail)?);
