@@ -2,6 +2,7 @@
 use Rattle.std.proofs.Common.{◌≡◌, ℕ, List, refl, ap, get_or, [], ◌∷◌, ◌++◌, Some, None, arith}
 use Rattle.std.specs.Prelude.{codes}
 use Rattle.mail_flags.specs.declared.placement.Placement.{Placement}
+use Rattle.sieve_syntax.specs.declared.extension.vacation.VacationArgs.{VacationArgs}
 use Rattle.sieve_plan.specs.Sequences.{settled_well}
 use Rattle.store_tables.specs.declared.queue.QueuedKind.TheVariants.{Redirect, Reply}
 use Rattle.store_accounts.specs.declared.report.VacationReport.TheVariants as vacation
@@ -28,6 +29,15 @@ report-failed :
     settled_report (record { deeds = record { filed = seen (codes "Junk") ∷ seen (codes "INBOX") ∷ []; sent = []; reply = None }; notice = Some (codes "after: more than 16 redirects") })
     ≡ codes "file Junk\nfile INBOX\nfailed: after: more than 16 redirects\n"
 report-failed = refl
+
+-- where nothing is done but that INBOX gets the message, the failure stands alone; where the sender is answered too, it doesn't
+report-failed-alone : (flags : List ℕ) → settled_report (record { deeds = record { filed = record { mailbox = codes "INBOX"; flags = flags } ∷ []; sent = []; reply = None }; notice = Some (codes "more than 16 redirects") })
+    ≡ codes "failed: more than 16 redirects\n"
+report-failed-alone flags = refl
+
+report-failed-answered : (args : VacationArgs) → settled_report (record { deeds = record { filed = seen (codes "INBOX") ∷ []; sent = []; reply = Some args }; notice = Some (codes "more than 16 redirects") })
+    ≡ codes "file INBOX\nvacation wanted\nfailed: more than 16 redirects\n"
+report-failed-answered args = refl
 
 -- a delivery tells of its folders, addresses, vacation reply and notice, in this order
 delivery-whole :

@@ -1,9 +1,11 @@
 -- What the program prints of what scripts come to, of a delivery, or of a fault of the script.
-use Rattle.std.specs.Prelude.{ℕ, List, [], ◌∷◌, ◌++◌, codes, decimal, map, Bool, true, false, is_some, Option, Some, None}
+use Rattle.std.specs.Prelude.{ℕ, List, [], ◌∷◌, ◌++◌, ◌&&◌, ◌||◌, codes, cond, decimal, length, map, nat_eq, not, Bool, true, false, is_some, Option, Some, None}
 use Rattle.std.specs.List.{flat_map}
 use Rattle.mail_address.specs.declared.address.Addr.{Addr}
 use Rattle.mail_address.specs.Spelling.{address_spelling}
 use Rattle.mail_flags.specs.declared.placement.Placement.{Placement}
+use Rattle.sieve_syntax.specs.Meaning.{Actions}
+use Rattle.sieve_syntax.specs.RunState.{inbox, is_filed}
 use Rattle.sieve_plan.specs.Sequences.{Settled}
 use Rattle.store_accounts.specs.declared.report.Report.{Report}
 use Rattle.store_accounts.specs.declared.report.VacationReport.{VacationReport}
@@ -35,9 +37,18 @@ abbrev pub failure_lines : Option (List ℕ) → List (List ℕ)
 failure_lines None = []
 failure_lines (Some why) = (codes "failed: " ++ why) ∷ []
 
+-- nothing is done but that INBOX gets the message
+abbrev pub is_inbox_alone : Actions → Bool
+is_inbox_alone deeds = (nat_eq (length deeds.filed) 1 && is_filed deeds.filed inbox) && (nat_eq (length deeds.sent) 0 && not (is_some deeds.reply))
+
+-- what is done is shown, unless a script failed and it is no more than that
+abbrev pub shows_deeds : Settled → Bool
+shows_deeds settled = not (is_some settled.notice) || not (is_inbox_alone settled.deeds)
+
 -- the lines of what is done, and behind them that of a failure
 abbrev pub settled_lines : Settled → List (List ℕ)
-settled_lines settled = action_lines settled.deeds.filed settled.deeds.sent (is_some settled.deeds.reply) ++ failure_lines settled.notice
+settled_lines settled =
+    cond (shows_deeds settled) (action_lines settled.deeds.filed settled.deeds.sent (is_some settled.deeds.reply)) [] ++ failure_lines settled.notice
 
 -- `discard` if there is no other line
 abbrev pub or_discard : List (List ℕ) → List (List ℕ)
