@@ -12,7 +12,7 @@ use Rattle.sieve_syntax.specs.RunState.{at_first, inbox, TwoVacations, TooManyRe
 use Rattle.sieve_syntax.specs.Meaning.{answered as answer, TestAsking, asking_at, Actions}
 use Rattle.sieve_syntax.specs.Work.{max_work}
 use Rattle.sieve_syntax.specs.Tree.{TestTree, yes, looks, any_of, no_tests, test, choose, stop, act, branch, no_branches, Commands, no_commands, command}
-use Rattle.sieve_plan.specs.Handover.{Handover, nothing_left, begins_from, actions_from, RunEnd, Ended, Broken, end_of_run}
+use Rattle.sieve_plan.specs.Handover.{Handover, nothing_left, begins_from, ScriptEnd, Ended, Broken, end_of_run}
 
 -- ---- scripts
 
@@ -48,14 +48,14 @@ abbrev pub at : List ℕ → List ℕ → Placement
 at mailbox flags = record { mailbox = mailbox; flags = flags }
 
 -- how a run ends whose tests take no work
-abbrev pub end_of : Commands → Handover → RunEnd
+abbrev pub end_of : Commands → Handover → ScriptEnd
 end_of commands left = end_of_run (asking_at (λ state check. false)) (λ state check. 0) max_work commands left
 
-abbrev left_by : RunEnd → Handover
+abbrev left_by : ScriptEnd → Handover
 left_by (Ended done next) = next
 left_by (Broken failure) = nothing_left
 
-abbrev pub done_by : RunEnd → Option Actions
+abbrev pub done_by : ScriptEnd → Option Actions
 done_by (Ended done next) = Some done
 done_by (Broken failure) = None
 
@@ -98,15 +98,14 @@ inbox_is_no_keep = (refl, refl)
 
 -- ---- what it executed
 
--- in turn, up to a `stop`, and to an action that fails; near misses: what is behind them, and the other branch
+-- a `keep` counts that a run comes to; near misses: one of the other branch, and one behind a `stop`
 abbrev one_of_two : Commands
 one_of_two = command (choose (branch (looks (Q.Exists [])) (in_row (Discard ∷ [])) (branch yes (in_row (Keep None ∷ [])) no_branches))) (in_row (into (codes "x") ∷ []))
 
-in_turn : (actions_from (asking_at (λ state check. true)) one_of_two nothing_left ≡ Discard ∷ into (codes "x") ∷ [])
-    × (actions_from (asking_at (λ state check. false)) one_of_two nothing_left ≡ Keep None ∷ into (codes "x") ∷ [])
-    × (actions_from (asking_at (λ state check. true)) (command (act Discard) (command stop (in_row (Keep None ∷ [])))) nothing_left ≡ Discard ∷ [])
-    × (actions_from (asking_at (λ state check. true)) (in_row (into (codes "y") ∷ Keep None ∷ [])) (record nothing_left { filed = replicate 100 (at (codes "x") []) }) ≡ into (codes "y") ∷ [])
-in_turn = (refl, refl, refl, refl)
+in_turn : ((left_by (end_of_run (asking_at (λ state check. false)) (λ state check. 0) max_work one_of_two nothing_left)).is_kept ≡ true)
+    × ((left_by (end_of_run (asking_at (λ state check. true)) (λ state check. 0) max_work one_of_two nothing_left)).is_kept ≡ false)
+    × ((left_by (end_of (command (act Discard) (command stop (in_row (Keep None ∷ [])))) nothing_left)).is_kept ≡ false)
+in_turn = (refl, refl, refl)
 
 -- ---- INBOX
 
@@ -152,7 +151,7 @@ asks_and_copies condition = command (choose (branch condition (in_row (copied (c
 abbrev asks_second : TestTree
 asks_second = any_of (test yes (test (looks (Q.Exists [])) no_tests))
 
-abbrev ends_setting : TestTree → RunEnd
+abbrev ends_setting : TestTree → ScriptEnd
 ends_setting condition = end_of_run sets_seen (λ state check. 0) max_work (asks_and_copies condition) nothing_left
 
 set_by_test : ((left_by (ends_setting (looks (Q.Exists [])))).flags ≡ seen ∷ []) × (done_by (ends_setting (looks (Q.Exists []))) ≡ filed (at (codes "x") seen ∷ at inbox seen ∷ []))

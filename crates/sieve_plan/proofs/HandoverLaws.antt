@@ -17,40 +17,40 @@ use Rattle.sieve_syntax.specs.declared.tree.action.Action.{Action}
 use Rattle.sieve_syntax.specs.declared.tree.action.Action.TheVariants.{Keep, Discard, FileInto, Redirect, Vacation, SetFlag, AddFlag, RemoveFlag}
 use Rattle.sieve_syntax.specs.declared.tree.checks.MailCheck.{MailCheck}
 use Rattle.sieve_syntax.specs.declared.extension.vacation.VacationArgs.{VacationArgs}
-use Rattle.sieve_syntax.specs.RunState.{RunState, at_first, max_targets, max_mailboxes, TwoVacations, TooManyRedirects, TooManyMailboxes, TooMuchWork, Flow, Going, Stopped, Failed, and_then, inbox, mailbox_named, is_filed, with_filed, flags_given, cancelled_after, filed_into, kept_implicitly, same_target, sent_to, replied_by, performed}
+use Rattle.sieve_syntax.specs.RunState.{RunState, at_first, max_targets, max_mailboxes, TwoVacations, TooManyRedirects, TooManyMailboxes, TooMuchWork, Flow, Going, Stopped, Failed, and_then, inbox, mailbox_named, is_filed, with_filed, flags_given, cancelled_after, filed_into, implicit_flags, kept_implicitly, kept_with, same_target, sent_to, replied_by, with_keep, with_name, performed}
 use Rattle.sieve_syntax.specs.Meaning.{TestAnswer, answered, TestAsking, asking_at, holds, all_hold, some_holds, does, chooses, does_all, Actions, Outcome, done_by, outcome_after}
 use Rattle.sieve_syntax.specs.Meaning as M
 use Rattle.sieve_syntax.specs.Trace.{NamesWithoutRepeats}
 use Rattle.sieve_syntax.specs.Tree.{TestTree, yes, no, looks, not_of, all_of, any_of, Tests, no_tests, test, CommandTree, require, choose, stop, act, Branches, no_branches, branch, Commands, no_commands, command}
 use Rattle.sieve_syntax.specs.Work.{all_take, max_work, outcome_within}
 use Rattle.sieve_syntax.proofs.OutcomeLemmas.{filed_anew}
-use Rattle.sieve_plan.specs.Handover.{Handover, nothing_left, begins_from, actions_from, implicit_flags, keeps_implicitly, files_inbox, for_good, StandsAmong, filed_behind, first_reply, done_behind, without_inbox, filed_for_good, leaves, RunEnd, Ended, Broken, ended_with, ended_by, end_of_run}
+use Rattle.sieve_plan.specs.Handover.{Handover, nothing_left, begins_from, for_good, StandsAmong, filed_behind, first_reply, done_behind, without_inbox, filed_for_good, leaves, ScriptEnd, Ended, Broken, ended_with, ended_by, end_of_run}
 
 -- ---- a run to which nothing was left
 
-abbrev pub outcome_of : RunEnd → Outcome
+abbrev pub outcome_of : ScriptEnd → Outcome
 outcome_of (Ended done next) = M.Done done
 outcome_of (Broken failure) = M.Failed failure
 
-alone_with : (actions : List Action) (at_end : RunState) (flow : Flow) → outcome_of (ended_with actions nothing_left at_end flow) ≡ done_by flow
-alone_with actions at_end (Going state) = refl
-alone_with actions at_end (Stopped state) = refl
-alone_with actions at_end (Failed failure) = refl
+alone_with : (at_end : RunState) (flow : Flow) → outcome_of (ended_with nothing_left at_end flow) ≡ done_by flow
+alone_with at_end (Going state) = refl
+alone_with at_end (Stopped state) = refl
+alone_with at_end (Failed failure) = refl
 
-alone_by : (actions : List Action) (flow : Flow) → outcome_of (ended_by actions nothing_left flow) ≡ outcome_after flow
-alone_by actions (Going state) = alone_with actions state (kept_implicitly state)
-alone_by actions (Stopped state) = alone_with actions state (kept_implicitly state)
-alone_by actions (Failed failure) = refl
+alone_by : (flow : Flow) → outcome_of (ended_by nothing_left flow) ≡ outcome_after flow
+alone_by (Going state) = alone_with state (kept_implicitly state)
+alone_by (Stopped state) = alone_with state (kept_implicitly state)
+alone_by (Failed failure) = refl
 
 -- it is a run as it is without a sequence
 pub alone : (asking : TestAsking) (work : RunState → MailCheck → ℕ) (tree : Commands)
     → outcome_of (end_of_run asking work max_work tree nothing_left) ≡ outcome_within asking work tree
 alone asking work tree = step (nat_lt max_work (all_take asking work tree at_first))
   where
-    step : (much : Bool) → outcome_of (cond much (Broken TooMuchWork) (ended_by (actions_from asking tree nothing_left) nothing_left (does_all asking tree at_first)))
+    step : (much : Bool) → outcome_of (cond much (Broken TooMuchWork) (ended_by nothing_left (does_all asking tree at_first)))
         ≡ cond much (M.Failed TooMuchWork) (outcome_after (does_all asking tree at_first))
     step true = refl
-    step false = alone_by (actions_from asking tree nothing_left) (does_all asking tree at_first)
+    step false = alone_by (does_all asking tree at_first)
 
 -- ---- what each action and each test keeps, a script keeps
 
@@ -123,13 +123,15 @@ module _ (P : RunState → Type 0) (asking : TestAsking) (asks : IsKeptByTests P
       kept_by_all (command first more) state so =
           then_kept P (does asking first state) (does_all asking more) (kept_by first state so) (λ next still. kept_by_all more next still)
 
--- tests change neither the copies nor the addresses, whatever else they change
+-- tests change neither the copies nor the addresses, nor whether a `keep` was executed, whatever else they change
 abbrev pub LeavesDeeds : TestAsking → Type 0
-LeavesDeeds asking = (state : RunState) (check : MailCheck) → ((asking state check).so_far.filed ≡ state.filed) × ((asking state check).so_far.sent ≡ state.sent)
+LeavesDeeds asking =
+    (state : RunState) (check : MailCheck)
+    → ((asking state check).so_far.filed ≡ state.filed) × ((asking state check).so_far.sent ≡ state.sent) × ((asking state check).so_far.has_kept ≡ state.has_kept)
 
 -- so it is where they only look
 pub looking_leaves : (truth : RunState → MailCheck → Bool) → LeavesDeeds (asking_at truth)
-looking_leaves truth state check = (refl, refl)
+looking_leaves truth state check = (refl, refl, refl)
 
 -- ---- what was left stands, and each mailbox and each address is there once
 
@@ -274,9 +276,9 @@ replied_extends left args state so = step state.reply
     step (Some _) = tt
 
 pub extends : (left : Handover) (action : Action) (state : RunState) → Extended left state → OnFlow (Extended left) (performed action state)
-extends left (Keep given) state so = filed_extends left inbox (flags_given given state) false state so
+extends left (Keep given) state so = filed_extends left inbox (flags_given given state) false (with_keep state) so
 extends left Discard state so = so
-extends left (FileInto filing) state so = filed_extends left (mailbox_named filing.mailbox) (flags_given filing.flags state) filing.copy state so
+extends left (FileInto filing) state so = filed_extends left (mailbox_named filing.mailbox) (flags_given filing.flags state) filing.copy (with_name filing.mailbox state) so
 extends left (Redirect redirect) state so = sent_extends left redirect.target redirect.copy state so
 extends left (Vacation args) state so = replied_extends left args state so
 extends left (SetFlag texts) state so = so
@@ -407,13 +409,13 @@ pub record IsGoodEnd (left : Handover) (done : Actions) (next : Handover) : Type
   pub once : NamesWithoutRepeats done
   pub apart : AreApart next.filed next.sent
 
-abbrev pub OnEnded : (Actions → Handover → Type 0) → RunEnd → Type 0
+abbrev pub OnEnded : (Actions → Handover → Type 0) → ScriptEnd → Type 0
 OnEnded P (Ended done next) = P done next
 OnEnded P (Broken failure) = Unit {0}
 
-good_leaves : (actions : List Action) (left : Handover) (at_end kept : RunState) → Extended left kept → IsGoodEnd left (done_behind left kept) (leaves actions left at_end (done_behind left kept))
-good_leaves actions left at_end kept so =
-    let named = list_any files_inbox actions in
+good_leaves : (left : Handover) (at_end kept : RunState) → Extended left kept → IsGoodEnd left (done_behind left kept) (leaves left at_end (done_behind left kept))
+good_leaves left at_end kept so =
+    let named = at_end.names_inbox in
     let stands = stands_behind left kept so in
     record {
       stands = stands;
@@ -427,12 +429,12 @@ good_leaves actions left at_end kept so =
       apart = for_good_apart (is_filed left.filed inbox || named) (done_behind left kept) (once_behind left kept so);
     }
 
-good_with : (actions : List Action) (left : Handover) (at_end : RunState) (flow : Flow) → OnFlow (Extended left) flow → OnEnded (IsGoodEnd left) (ended_with actions left at_end flow)
-good_with actions left at_end (Going kept) so = good_leaves actions left at_end kept so
-good_with actions left at_end (Stopped kept) so = good_leaves actions left at_end kept so
-good_with actions left at_end (Failed failure) so = tt
+good_with : (left : Handover) (at_end : RunState) (flow : Flow) → OnFlow (Extended left) flow → OnEnded (IsGoodEnd left) (ended_with left at_end flow)
+good_with left at_end (Going kept) so = good_leaves left at_end kept so
+good_with left at_end (Stopped kept) so = good_leaves left at_end kept so
+good_with left at_end (Failed failure) so = tt
 
-pub implicit_extends : (left : Handover) (at_end : RunState) → Extended left at_end → OnFlow (Extended left) (keeps_implicitly left at_end)
+pub implicit_extends : (left : Handover) (at_end : RunState) → Extended left at_end → OnFlow (Extended left) (kept_with left.keep_flags at_end)
 implicit_extends left at_end so = step at_end.cancelled (filed_extends left inbox (implicit_flags left.keep_flags at_end) true at_end so)
   where
     step : (cancelled : Bool) → OnFlow (Extended left) (filed_into inbox (implicit_flags left.keep_flags at_end) true at_end)
@@ -440,10 +442,10 @@ implicit_extends left at_end so = step at_end.cancelled (filed_extends left inbo
     step true keeps = so
     step false keeps = keeps
 
-good_by : (actions : List Action) (left : Handover) (flow : Flow) → OnFlow (Extended left) flow → OnEnded (IsGoodEnd left) (ended_by actions left flow)
-good_by actions left (Going at_end) so = good_with actions left at_end (keeps_implicitly left at_end) (implicit_extends left at_end so)
-good_by actions left (Stopped at_end) so = good_with actions left at_end (keeps_implicitly left at_end) (implicit_extends left at_end so)
-good_by actions left (Failed failure) so = tt
+good_by : (left : Handover) (flow : Flow) → OnFlow (Extended left) flow → OnEnded (IsGoodEnd left) (ended_by left flow)
+good_by left (Going at_end) so = good_with left at_end (kept_with left.keep_flags at_end) (implicit_extends left at_end so)
+good_by left (Stopped at_end) so = good_with left at_end (kept_with left.keep_flags at_end) (implicit_extends left at_end so)
+good_by left (Failed failure) so = tt
 
 module _ (asking : TestAsking) (leaves_deeds : LeavesDeeds asking) where
   pub tests_extend : (left : Handover) → IsKeptByTests (Extended left) asking
@@ -458,9 +460,9 @@ module _ (asking : TestAsking) (leaves_deeds : LeavesDeeds asking) where
     good_run : OnEnded (IsGoodEnd left) (end_of_run asking work most tree left)
     good_run = step (nat_lt most (all_take asking work tree (begins_from left)))
       where
-        step : (much : Bool) → OnEnded (IsGoodEnd left) (cond much (Broken TooMuchWork) (ended_by (actions_from asking tree left) left (does_all asking tree (begins_from left))))
+        step : (much : Bool) → OnEnded (IsGoodEnd left) (cond much (Broken TooMuchWork) (ended_by left (does_all asking tree (begins_from left))))
         step true = tt
-        step false = good_by (actions_from asking tree left) left (does_all asking tree (begins_from left)) run_extends
+        step false = good_by left (does_all asking tree (begins_from left)) run_extends
 
     pub good_end : (done : Actions) (next : Handover) → end_of_run asking work most tree left ≡ Ended done next → IsGoodEnd left done next
     good_end done next is = subst (OnEnded (IsGoodEnd left)) is good_run

@@ -1,6 +1,5 @@
 pub mod VacationLemmas
 pub mod PlanLemmas
-pub mod DeliveryLemmas
 pub mod DeliveryLaws
 pub mod SentLaws
 pub mod OverLaws
@@ -8,8 +7,8 @@ pub mod FoundLaws
 mod Examples
 mod HandoverExamples
 pub mod HandoverLaws
-pub mod ExecutedLaws
 pub mod SequenceLaws
 pub mod InboxLaws
 pub mod SequencePlanLemmas
+pub mod TurnLemmas
 mod SequenceExamples

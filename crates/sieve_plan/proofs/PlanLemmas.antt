@@ -20,8 +20,10 @@ use Rattle.store_accounts.specs.declared.report.Plan.{Plan}
 use Rattle.sieve_plan.specs.declared.view.AccountView.{AccountView}
 use Rattle.sieve_plan.specs.Sent.{fresh, going, half_of, held_notice, kept_handles, let_through, limits, limits_by, most_of_size, most_sent, not_among, redirect_key, over_keys, sent_handle, known_targets}
 use Rattle.sieve_plan.specs.Views.{IsViewOf, asks_for, known_of, last_of, last_reply}
-use Rattle.sieve_plan.specs.Delivered.{Disposition, Acts, Tells, Response, Silent, NoRoom, Quiet, Sent, Responds, FollowsDecision, CarriesOut, DeliversAs, LeavesNotice, acts, done_of, held_of, redirects, remembers_going, report_of, responds, with_inbox}
-use Rattle.sieve_plan.specs.Plans.{IsActingPlan, IsMemoryOf, IsNoticePlan, IsOfView, IsVacationPlan, deeds_by, filed_by, fresh_by, going_by, limits_in, notice_by, reply_of}
+use Rattle.sieve_plan.specs.Delivered.{Response, Silent, NoRoom, Quiet, Sent, Responds, FollowsDecision, acts, done_of, held_of, redirects, remembers_going, responds, with_inbox}
+use Rattle.sieve_plan.specs.Plans.{IsMemoryOf, IsVacationPlan, deeds_by, filed_by, fresh_by, going_by, limits_in, notice_by, reply_of}
+use Rattle.sieve_plan.specs.Sequences.{forgotten_unless, notice_left}
+use Rattle.sieve_plan.specs.SequencePlans.{IsSettledPlan}
 use Rattle.sieve_plan.specs.declared.vacation.VacationPlan.{VacationPlan}
 
 -- ---- what the plan does
@@ -154,12 +156,12 @@ module _ (view : AccountView) (mail : MailSpec) (deeds : Actions) (fresh_texts g
   fresh_counted : length fresh_texts ≡ length (fresh_by view deeds)
   fresh_counted = ap length found ∙ length-map (fresh_by view deeds) address_spelling
 
-  pub acted : (filed : List Placement) (held : Option (List ℕ)) (memory : SentMemory) (vacation : VacationPlan) (plan : Plan) → filed ≡ cond (nat_lt (length going_texts) (length deeds.sent)) (with_inbox deeds.filed) deeds.filed
+  pub acted : (told : Option (List ℕ)) (filed : List Placement) (held : Option (List ℕ)) (memory : SentMemory) (vacation : VacationPlan) (plan : Plan) → filed ≡ cond (nat_lt (length going_texts) (length deeds.sent)) (with_inbox deeds.filed) deeds.filed
       → held ≡ held_notice limits (length deeds.sent) (length fresh_texts) → IsVacationPlan view.address mail view.last (view.room - length going_texts) deeds.reply vacation
-      → ((targets : List Addr) → going_texts ≡ map address_spelling targets → IsMemoryOf view.over mail targets memory)
+      → ((targets : List Addr) → going_texts ≡ map address_spelling targets → IsMemoryOf (forgotten_unless told view.over) mail targets memory)
       → plan.message.now ≡ mail.octets → plan.sender.now ≡ mail.from → plan.moment ≡ mail.moment → plan.filed ≡ filed → plan.memory ≡ memory → plan.reply ≡ vacation.reply
-      → plan.report ≡ record { filed = map (λ f. f.mailbox) filed; sent = going_texts; vacation = vacation.vacation; notice = held } → IsActingPlan view mail deeds plan
-  acted filed held memory vacation plan filed_is held_is answer remembers message sender at files memorizes replies reports =
+      → plan.report ≡ record { filed = map (λ f. f.mailbox) filed; sent = going_texts; vacation = vacation.vacation; notice = notice_left told held } → IsSettledPlan view mail (record { deeds = deeds; notice = told }) plan
+  acted told filed held memory vacation plan filed_is held_is answer remembers message sender at files memorizes replies reports =
       let filing : filed ≡ filed_by view mail deeds = filed_is ∙ ap (λ n. cond (nat_lt n (length deeds.sent)) (with_inbox deeds.filed) deeds.filed) counted in
       let holding : held ≡ notice_by view mail deeds = held_is ∙ (ap (held_notice limits (length deeds.sent)) fresh_counted ∙ ap (λ l. held_notice l (length deeds.sent) (length (fresh_by view deeds))) limited) in
       record {
@@ -169,50 +171,7 @@ module _ (view : AccountView) (mail : MailSpec) (deeds : Actions) (fresh_texts g
         sender = sender;
         at = at;
         filed = files ∙ filing;
-        report = reports ∙ (λ i. record { filed = map (λ f. f.mailbox) (filing i); sent = spelled i; vacation = answer.vacation i; notice = holding i });
-        memory = subst (IsMemoryOf view.over mail (going_by view mail deeds)) (sym memorizes) (remembers (going_by view mail deeds) spelled);
+        report = reports ∙ (λ i. record { filed = map (λ f. f.mailbox) (filing i); sent = spelled i; vacation = answer.vacation i; notice = notice_left told (holding i) });
+        memory = subst (IsMemoryOf (forgotten_unless told view.over) mail (going_by view mail deeds)) (sym memorizes) (remembers (going_by view mail deeds) spelled);
         reply = replies ∙ answer.sent;
       }
-
--- ---- a plan
-
-pub acting : (view : AccountView) (mail : MailSpec) (deeds : Actions) (plan : Plan) (a : Account)
-    → IsActingPlan view mail deeds plan → IsViewOf view mail deeds a → CarriesOut view.address mail.moment mail deeds a plan.report (delivers plan a)
-acting view mail deeds plan a is of =
-    let going = going_are view mail deeds a of in
-    let wanted = done_are view mail deeds a of in
-    let held = held_is view mail deeds a of in
-    let reported : plan.report ≡ report_of (done_of a mail deeds) is.response (held_of a mail deeds) =
-    is.report ∙ (ap (λ d. report_of d is.response (notice_by view mail deeds)) wanted ∙ ap (report_of (done_of a mail deeds) is.response) held) in
-    let filed : plan.filed ≡ (done_of a mail deeds).filed = is.filed ∙ ap (λ (d : Actions). d.filed) wanted in
-    let memory : IsMemoryOf (over_keys a mail.moment) mail (done_of a mail deeds).sent plan.memory =
-    subst (λ l. IsMemoryOf (over_keys a mail.moment) mail l plan.memory) going (subst (λ o. IsMemoryOf o mail (going_by view mail deeds) plan.memory) of.over is.memory) in
-    let along = responds_along view mail deeds a of deeds.reply deeds.sent (length (going_by view mail deeds)) is.response of.last of.room is.is_response in
-    record {
-      response = is.response;
-      is_response = subst (λ l. Responds view.address mail.moment mail (last_reply a mail.from) (room_in a - length l) deeds.reply is.response) going along;
-      reported = reported;
-      changed =
-          rw (reported, filed, is.reply, is.sender, is.message, is.at)
-          (ap (λ b. adds_notice_if_any mail.moment (held_of a mail deeds) (replies_if_any mail.from (reply_of is.response) b)) (done mail (done_of a mail deeds) (over_keys a mail.moment) plan.memory a memory)
-          ∙ ap (adds_notice_if_any mail.moment (held_of a mail deeds)) (answered mail is.response (acts mail (done_of a mail deeds) (over_keys a mail.moment) a)));
-    }
-
-pub telling : (moment : ℕ) (mail : MailSpec) (text : List ℕ) (plan : Plan) (a : Account)
-    → IsNoticePlan moment mail.octets text plan → LeavesNotice moment mail text a plan.report (delivers plan a)
-telling moment mail text plan a is =
-    record { reported = is.report; changed = rw (is.filed, is.report, is.memory, is.reply, is.message, is.at) refl }
-
--- whatever becomes of the message, for each account that the view is of
-abbrev pub Fits : AccountView → MailSpec → Disposition → Plan → Type 0
-Fits view mail disposition plan = (a : Account) → IsOfView view mail disposition a → DeliversAs view.address mail.moment mail disposition a plan.report (delivers plan a)
-
-pub acting_fits : (view : AccountView) (mail : MailSpec) (disposition : Disposition) (deeds : Actions) (r : Result Plan AllocError) → disposition ≡ Acts deeds → IfOk r (IsActingPlan view mail deeds) → IfOk r (Fits view mail disposition)
-acting_fits view mail disposition deeds (Err e) same is = tt
-acting_fits view mail disposition deeds (Ok plan) same is = subst (λ d. Fits view mail d plan) (sym same) (λ a of. acting view mail deeds plan a is of)
-
-pub telling_fits : (view : AccountView) (mail : MailSpec) (disposition : Disposition) (text told octets : List ℕ) (moment : ℕ) (r : Result Plan AllocError) → disposition ≡ Tells text → told ≡ text → octets ≡ mail.octets → moment ≡ mail.moment
-    → IfOk r (IsNoticePlan moment octets told) → IfOk r (Fits view mail disposition)
-telling_fits view mail disposition text told octets moment (Err e) same says has at is = tt
-telling_fits view mail disposition text told octets moment (Ok plan) same says has at is =
-    subst (λ d. Fits view mail d plan) (sym same) (λ a of. telling mail.moment mail text plan a (subst (λ t. IsNoticePlan mail.moment mail.octets t plan) says (subst (λ o. IsNoticePlan mail.moment o told plan) has (subst (λ m. IsNoticePlan m octets told plan) at is))))

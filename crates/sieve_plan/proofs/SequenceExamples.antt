@@ -10,9 +10,11 @@ use Rattle.sieve_syntax.specs.Means.{Means}
 use Rattle.sieve_syntax.specs.Tree.{Commands}
 use Rattle.sieve_syntax.specs.Work.{max_work}
 use Rattle.sieve_exec.specs.Mails.{MailSpec}
+use Rattle.sieve_plan.specs.declared.scripts.HostScripts.{HostScripts}
+use Rattle.sieve_plan.specs.declared.scripts.Whose.TheVariants.{Before, Own, After}
 use Rattle.sieve_plan.specs.Delivered.{invalid_text, long_text, loop_text, has_long_header, is_looping, kept}
-use Rattle.sieve_plan.specs.Handover.{Handover, without_inbox, RunEnd, Ended, Broken}
-use Rattle.sieve_plan.specs.Sequences.{Before, Own, After, HostScripts, no_host_scripts, sequence_of, SequenceState, at_beginning, max_host_work, work_limit, end_at, IsInvalid, Breaks, told_of, Settled, settled_well, settled_unrun, SettlesInTurn, SettlesUnder, notice_left}
+use Rattle.sieve_plan.specs.Handover.{Handover, without_inbox, ScriptEnd, Ended, Broken}
+use Rattle.sieve_plan.specs.Sequences.{no_host_scripts, sequence_of, SequenceState, at_beginning, max_host_work, work_limit, end_at, IsInvalid, Breaks, told_of, Settled, settled_well, settled_unrun, SettlesInTurn, SettlesUnder, notice_left}
 use Rattle.sieve_plan.proofs.HandoverExamples.{in_row, into, copied, seen, away, at, end_of, leaves_first, done_by, both}
 use Rattle.sieve_plan.proofs.SequenceLaws.{one_in_turn}
 
@@ -49,7 +51,7 @@ told_first = (refl, refl, refl)
 
 -- ---- two scripts, one behind the other
 
-abbrev next_of : RunEnd → SequenceState
+abbrev next_of : ScriptEnd → SequenceState
 next_of (Ended done next) = record { left = next; done = done; host_work = 0 }
 next_of (Broken failure) = at_beginning
 

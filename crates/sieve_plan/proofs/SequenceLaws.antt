@@ -26,23 +26,26 @@ use Rattle.store_accounts.specs.declared.report.Report.{Report}
 use Rattle.sieve_plan.specs.Sent.{over_keys}
 use Rattle.sieve_plan.specs.Views.{last_reply}
 use Rattle.sieve_plan.specs.Delivered.{Disposition, Acts, Tells, Disposes, DisposesUnder, DisposesUnlessLooping, DisposesUnlessLong, disposition_of, failure_text, loop_text, long_text, invalid_text, is_looping, has_long_header, kept, Silent, acts, done_of, held_of, report_of, responds, DeliversAs, Delivers}
-use Rattle.sieve_plan.specs.Handover.{Handover, begins_from, filed_behind, first_reply, done_behind, leaves, for_good, StandsAmong, RunEnd, Ended, Broken}
-use Rattle.sieve_plan.specs.Sequences.{Whose, Before, Own, After, SequenceScript, HostScripts, no_host_scripts, sequence_of, SequenceState, at_beginning, asking_on, end_at, max_host_work, work_limit, host_work_behind, RunsToEnd, FailsFor, IsInvalid, Breaks, told_of, Settled, settled_well, settled_unrun, SettlesInTurn, RunInTurn, SettlesUnder, notice_left, forgotten_unless, CarriesOutSettled, DeliversInSequence}
+use Rattle.sieve_plan.specs.declared.scripts.HostScripts.{HostScripts}
+use Rattle.sieve_plan.specs.declared.scripts.Whose.{Whose}
+use Rattle.sieve_plan.specs.declared.scripts.Whose.TheVariants.{Before, Own, After}
+use Rattle.sieve_plan.specs.Handover.{Handover, begins_from, filed_behind, first_reply, done_behind, leaves, for_good, StandsAmong, ScriptEnd, Ended, Broken}
+use Rattle.sieve_plan.specs.Sequences.{SequenceScript, no_host_scripts, sequence_of, SequenceState, at_beginning, asking_on, end_at, max_host_work, work_limit, host_work_behind, RunsToEnd, FailsFor, IsInvalid, Breaks, told_of, Settled, settled_well, settled_unrun, SettlesInTurn, RunInTurn, SettlesUnder, notice_left, forgotten_unless, CarriesOutSettled, DeliversInSequence}
 use Rattle.sieve_plan.proofs.DeliveryLaws.{one_response}
 use Rattle.sieve_plan.proofs.PlanLemmas.{none_goes}
 use Rattle.sieve_plan.proofs.HandoverLaws.{outcome_of, alone, looking_leaves, AreApart, IsGoodEnd, good_end}
 
 -- ---- a script has one end
 
-abbrev done_in : RunEnd → Actions → Actions
+abbrev done_in : ScriptEnd → Actions → Actions
 done_in (Ended done next) other = done
 done_in (Broken failure) other = other
 
-abbrev left_in : RunEnd → Handover → Handover
+abbrev left_in : ScriptEnd → Handover → Handover
 left_in (Ended done next) other = next
 left_in (Broken failure) other = other
 
-abbrev failure_in : RunEnd → Failure → Failure
+abbrev failure_in : ScriptEnd → Failure → Failure
 failure_in (Ended done next) other = other
 failure_in (Broken failure) other = failure
 
@@ -207,9 +210,9 @@ ends_there mail ran more script state next settled run runs gone is =
 
 -- ---- without the host's scripts
 
-abbrev settled_of : Disposition → Settled
-settled_of (Acts deeds) = settled_well deeds
-settled_of (Tells text) = settled_unrun text
+abbrev pub settled_as : Disposition → Settled
+settled_as (Acts deeds) = settled_well deeds
+settled_as (Tells text) = settled_unrun text
 
 abbrev own_script : List ℕ → SequenceScript
 own_script text = record { whose = Own; text = text }
@@ -222,42 +225,42 @@ in_either : (b : Bool) (P : Type 0) → MatchBool b P P → P
 in_either true P so = so
 in_either false P so = so
 
-alone_settles : (text : List ℕ) (mail : MailSpec) (tree : Commands) → Means text tree → SettlesInTurn mail (own_script text ∷ []) at_beginning (settled_of (disposition_of (outcome_at mail tree)))
+alone_settles : (text : List ℕ) (mail : MailSpec) (tree : Commands) → Means text tree → SettlesInTurn mail (own_script text ∷ []) at_beginning (settled_as (disposition_of (outcome_at mail tree)))
 alone_settles text mail tree means =
-    subst (λ o. SettlesInTurn mail (own_script text ∷ []) at_beginning (settled_of (disposition_of o))) (alone (asking_on mail) (work_at mail) tree) (step (end_at mail Own tree at_beginning) refl)
+    subst (λ o. SettlesInTurn mail (own_script text ∷ []) at_beginning (settled_as (disposition_of o))) (alone (asking_on mail) (work_at mail) tree) (step (end_at mail Own tree at_beginning) refl)
   where
-    step : (end : RunEnd) → end_at mail Own tree at_beginning ≡ end → SettlesInTurn mail (own_script text ∷ []) at_beginning (settled_of (disposition_of (outcome_of end)))
+    step : (end : ScriptEnd) → end_at mail Own tree at_beginning ≡ end → SettlesInTurn mail (own_script text ∷ []) at_beginning (settled_as (disposition_of (outcome_of end)))
     step (Ended done next) is =
         inr (record { left = next; done = done; host_work = 0 }, record { tree = tree; means = means; ends = is; work = refl }, either_way next.is_kept (settled_well done ≡ settled_well done) refl)
     step (Broken failure) is = inl (record { why = failure_text failure; fails = Breaks tree failure means is refl; stands = refl; told = refl })
 
 settles_under : (text : Option (List ℕ)) (mail : MailSpec) (disposition : Disposition) → DisposesUnder text mail disposition
-    → SettlesInTurn mail (sequence_of no_host_scripts text) at_beginning (settled_of disposition)
-settles_under None mail disposition is = ap settled_of is
+    → SettlesInTurn mail (sequence_of no_host_scripts text) at_beginning (settled_as disposition)
+settles_under None mail disposition is = ap settled_as is
 settles_under (Some text) mail disposition (inl (tree, means, is)) =
-    subst (λ d. SettlesInTurn mail (own_script text ∷ []) at_beginning (settled_of d)) (sym is) (alone_settles text mail tree means)
+    subst (λ d. SettlesInTurn mail (own_script text ∷ []) at_beginning (settled_as d)) (sym is) (alone_settles text mail tree means)
 settles_under (Some text) mail disposition (inr (none, is)) =
-    subst (λ d. SettlesInTurn mail (own_script text ∷ []) at_beginning (settled_of d)) (sym is) (inl (record { why = invalid_text; fails = IsInvalid none refl; stands = refl; told = refl }))
+    subst (λ d. SettlesInTurn mail (own_script text ∷ []) at_beginning (settled_as d)) (sym is) (inl (record { why = invalid_text; fails = IsInvalid none refl; stands = refl; told = refl }))
 
-settles_all : (text : Option (List ℕ)) (mail : MailSpec) (disposition : Disposition) → Disposes text mail disposition → SettlesUnder no_host_scripts text mail (settled_of disposition)
+settles_all : (text : Option (List ℕ)) (mail : MailSpec) (disposition : Disposition) → Disposes text mail disposition → SettlesUnder no_host_scripts text mail (settled_as disposition)
 settles_all text mail disposition is = unless_long (has_long_header mail.octets) is
   where
     unless_looping : (looping : Bool) → DisposesUnlessLooping looping text mail disposition
-        → MatchBool looping (settled_of disposition ≡ settled_unrun loop_text) (SettlesInTurn mail (sequence_of no_host_scripts text) at_beginning (settled_of disposition))
-    unless_looping true so = ap settled_of so
+        → MatchBool looping (settled_as disposition ≡ settled_unrun loop_text) (SettlesInTurn mail (sequence_of no_host_scripts text) at_beginning (settled_as disposition))
+    unless_looping true so = ap settled_as so
     unless_looping false so = settles_under text mail disposition so
 
     unless_long : (long : Bool) → DisposesUnlessLong long text mail disposition
-        → MatchBool long (settled_of disposition ≡ settled_unrun long_text)
-        (MatchBool (is_looping mail) (settled_of disposition ≡ settled_unrun loop_text) (SettlesInTurn mail (sequence_of no_host_scripts text) at_beginning (settled_of disposition)))
-    unless_long true so = ap settled_of so
+        → MatchBool long (settled_as disposition ≡ settled_unrun long_text)
+        (MatchBool (is_looping mail) (settled_as disposition ≡ settled_unrun loop_text) (SettlesInTurn mail (sequence_of no_host_scripts text) at_beginning (settled_as disposition)))
+    unless_long true so = ap settled_as so
     unless_long false so = unless_looping (is_looping mail) so
 
 -- and the other way round
 abbrev DisposedAs : (Disposition → Type 0) → Settled → Type 0
-DisposedAs P settled = (disposition : Disposition) × P disposition × (settled ≡ settled_of disposition)
+DisposedAs P settled = (disposition : Disposition) × P disposition × (settled ≡ settled_as disposition)
 
-ends_alone : (mail : MailSpec) (tree : Commands) (end : RunEnd) → end_at mail Own tree at_beginning ≡ end → outcome_of end ≡ outcome_at mail tree
+ends_alone : (mail : MailSpec) (tree : Commands) (end : ScriptEnd) → end_at mail Own tree at_beginning ≡ end → outcome_of end ≡ outcome_at mail tree
 ends_alone mail tree end is = ap outcome_of (sym is) ∙ alone (asking_on mail) (work_at mail) tree
 
 disposed_failed : (text : List ℕ) (mail : MailSpec) (settled : Settled) (why : List ℕ) → FailsFor mail (own_script text) at_beginning why → settled ≡ settled_unrun why
@@ -291,7 +294,7 @@ nobody : (a : Account) (mail : MailSpec) → done_of a mail kept ≡ kept
 nobody a mail = rw (none_goes a mail) refl
 
 module _ (own : Addr) (moment : ℕ) (mail : MailSpec) (a : Account) (report : Report) (a2 : Account) where
-  carries_out : (disposition : Disposition) → DeliversAs own moment mail disposition a report a2 → CarriesOutSettled own moment mail (settled_of disposition) a report a2
+  pub carries_out : (disposition : Disposition) → DeliversAs own moment mail disposition a report a2 → CarriesOutSettled own moment mail (settled_as disposition) a report a2
   carries_out (Acts deeds) is = record { response = is.response; is_response = is.is_response; reported = is.reported; changed = is.changed }
   carries_out (Tells text) is = record {
     response = Silent;
@@ -300,7 +303,7 @@ module _ (own : Addr) (moment : ℕ) (mail : MailSpec) (a : Account) (report : R
     changed = is.changed ∙ ap (λ d. adds_notice moment text (acts mail d [] a)) (sym (nobody a mail));
   }
 
-  is_carried_out : (disposition : Disposition) → CarriesOutSettled own moment mail (settled_of disposition) a report a2 → DeliversAs own moment mail disposition a report a2
+  is_carried_out : (disposition : Disposition) → CarriesOutSettled own moment mail (settled_as disposition) a report a2 → DeliversAs own moment mail disposition a report a2
   is_carried_out (Acts deeds) is = record { response = is.response; is_response = is.is_response; reported = is.reported; changed = is.changed }
   is_carried_out (Tells text) is = record {
     reported = is.reported ∙ (λ i. report_of (nobody a mail i) (is.is_response i) (Some text));
@@ -314,7 +317,7 @@ without_host own mail text a report a2 = (there, back)
   where
     there : Delivers own mail text a report a2 → DeliversInSequence own no_host_scripts mail text a report a2
     there is = record {
-      settled = settled_of is.disposition;
+      settled = settled_as is.disposition;
       settles = settles_all text mail is.disposition is.disposes;
       delivers = carries_out own mail.moment mail a report a2 is.disposition is.delivers;
     }
@@ -343,14 +346,14 @@ pub discarded_by_user : (mail : MailSpec) (before after : List SequenceScript) (
 discarded_by_user mail before after text state settled run means is =
     let at_end : RunState = record (begins_from state.left) { cancelled = true } in
     let done = done_behind state.left at_end in
-    let next : SequenceState = record { left = leaves (Discard ∷ []) state.left at_end done; done = done; host_work = state.host_work } in
+    let next : SequenceState = record { left = leaves state.left at_end done; done = done; host_work = state.host_work } in
     let runs : RunsToEnd mail (own_script text) state next = record { tree = command (act Discard) no_commands; means = means; ends = refl; work = refl } in
     ends_there mail before after (own_script text) state next settled run runs refl is
     ∙ (λ i. settled_well (record { filed = nothing_new state.left.filed i; sent = state.left.sent; reply = first_alone state.left.reply i }))
 
 -- ---- work
 
-within : (most work : ℕ) (end : RunEnd) (done : Actions) (next : Handover) → cond (nat_lt most work) (Broken TooMuchWork) end ≡ Ended done next → work ≤ most
+within : (most work : ℕ) (end : ScriptEnd) (done : Actions) (next : Handover) → cond (nat_lt most work) (Broken TooMuchWork) end ≡ Ended done next → work ≤ most
 within most work end done next is = step (nat_lt most work) refl is
   where
     step : (much : Bool) → nat_lt most work ≡ much → cond much (Broken TooMuchWork) end ≡ Ended done next → work ≤ most

@@ -1,5 +1,7 @@
 -- What a plan of a sequence makes of an account is what a delivery by the sequence makes of it.
-use Rattle.std.proofs.Common.{◌≡◌, ◌-◌, length, ap, ◌∙◌, subst}
+use Rattle.std.proofs.Common.{◌≡◌, ◌-◌, ℕ, Bool, true, length, List, Option, refl, ap, sym, ◌∙◌, subst}
+use Rattle.std.specs.Prelude.{MatchBool}
+use Rattle.mail_address.specs.declared.address.Addr.{Addr}
 use Rattle.sieve_syntax.specs.Meaning.{Actions}
 use Rattle.sieve_exec.specs.Mails.{MailSpec}
 use Rattle.store_accounts.specs.Account.{Account, room_in, adds_notice_if_any, replies_if_any, delivers}
@@ -7,11 +9,13 @@ use Rattle.store_accounts.specs.declared.report.Plan.{Plan}
 use Rattle.sieve_plan.specs.declared.view.AccountView.{AccountView}
 use Rattle.sieve_plan.specs.Sent.{over_keys}
 use Rattle.sieve_plan.specs.Views.{IsViewOf, last_reply}
-use Rattle.sieve_plan.specs.Delivered.{Responds, acts, done_of, held_of, report_of}
-use Rattle.sieve_plan.specs.Plans.{IsMemoryOf, going_by, notice_by, reply_of}
-use Rattle.sieve_plan.specs.Sequences.{Settled, notice_left, forgotten_unless, CarriesOutSettled}
+use Rattle.sieve_plan.specs.declared.scripts.HostScripts.{HostScripts}
+use Rattle.sieve_plan.specs.Delivered.{Tells, LeavesNotice, Responds, acts, done_of, has_long_header, held_of, is_looping, long_text, loop_text, report_of}
+use Rattle.sieve_plan.specs.Plans.{IsMemoryOf, IsNoticePlan, going_by, notice_by, reply_of}
+use Rattle.sieve_plan.specs.Sequences.{Settled, settled_unrun, SettlesInTurn, sequence_of, at_beginning, notice_left, forgotten_unless, CarriesOutSettled, DeliversInSequence}
 use Rattle.sieve_plan.specs.SequencePlans.{IsSettledPlan}
 use Rattle.sieve_plan.proofs.PlanLemmas.{answered, done, done_are, going_are, held_is, responds_along}
+use Rattle.sieve_plan.proofs.SequenceLaws.{carries_out}
 
 -- of what the host's scripts and the user's come to
 pub settling : (view : AccountView) (mail : MailSpec) (settled : Settled) (plan : Plan) (a : Account)
@@ -37,4 +41,21 @@ settling view mail settled plan a is of =
           rw (reported, filed, is.reply, is.sender, is.message, is.at)
           (ap (λ b. adds_notice_if_any mail.moment notice (replies_if_any mail.from (reply_of is.response) b)) (done mail (done_of a mail deeds) over plan.memory a memory)
           ∙ ap (adds_notice_if_any mail.moment notice) (answered mail is.response (acts mail (done_of a mail deeds) over a)));
+    }
+
+-- of a message with a long header
+telling : (moment : ℕ) (mail : MailSpec) (text : List ℕ) (plan : Plan) (a : Account)
+    → IsNoticePlan moment mail.octets text plan → LeavesNotice moment mail text a plan.report (delivers plan a)
+telling moment mail text plan a is =
+    record { reported = is.report; changed = rw (is.filed, is.report, is.memory, is.reply, is.message, is.at) refl }
+
+pub unread : (own : Addr) (host : HostScripts) (mail : MailSpec) (text : Option (List ℕ)) (plan : Plan) (a : Account)
+    → has_long_header mail.octets ≡ true → IsNoticePlan mail.moment mail.octets long_text plan → DeliversInSequence own host mail text a plan.report (delivers plan a)
+unread own host mail text plan a long is =
+    let P : Bool → Type 0 = λ long. MatchBool long (settled_unrun long_text ≡ settled_unrun long_text)
+    (MatchBool (is_looping mail) (settled_unrun long_text ≡ settled_unrun loop_text) (SettlesInTurn mail (sequence_of host text) at_beginning (settled_unrun long_text))) in
+    record {
+      settled = settled_unrun long_text;
+      settles = subst P (sym long) refl;
+      delivers = carries_out own mail.moment mail a plan.report (delivers plan a) (Tells long_text) (telling mail.moment mail long_text plan a is);
     }

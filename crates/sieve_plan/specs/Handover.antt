@@ -1,17 +1,15 @@
 -- What a script leaves to the one behind it, and a run that begins with it (RFC 5228, 2.10; RFC 5230; RFC 5232). Scripts that run one
 -- behind the other on a message are scripts of their own: a `stop` ends its own alone, and what a script requires is granted to it alone.
 use Rattle.std.specs.Prelude.{◌≡◌, ℕ, Bool, true, false, cond, not, ◌||◌, List, [], ◌∷◌, ◌++◌, drop, length, nat_eq, nat_lt, Option, Some, None}
-use Rattle.std.specs.List.{filter, list_any, All, Contains}
+use Rattle.std.specs.List.{filter, All, Contains}
 use Rattle.std.specs.Cmp.Lexicographic.{pointwise}
 use Rattle.mail_address.specs.declared.address.Addr.{Addr}
 use Rattle.mail_flags.specs.declared.placement.Placement.{Placement}
-use Rattle.sieve_syntax.specs.declared.tree.action.Action.{Action}
-use Rattle.sieve_syntax.specs.declared.tree.action.Action.TheVariants.{Keep, FileInto}
 use Rattle.sieve_syntax.specs.declared.tree.checks.MailCheck.{MailCheck}
 use Rattle.sieve_syntax.specs.declared.extension.vacation.VacationArgs.{VacationArgs}
-use Rattle.sieve_syntax.specs.RunState.{RunState, Failure, TooMuchWork, Flow, Going, Stopped, Failed, inbox, mailbox_named, is_filed, flags_given, filed_into}
-use Rattle.sieve_syntax.specs.Meaning.{TestAsking, after_test, holds, does, does_all, Actions}
-use Rattle.sieve_syntax.specs.Tree.{CommandTree, require, choose, stop, act, Branches, no_branches, branch, Commands, no_commands, command}
+use Rattle.sieve_syntax.specs.RunState.{RunState, Failure, TooMuchWork, Flow, Going, Stopped, Failed, inbox, is_filed, kept_with}
+use Rattle.sieve_syntax.specs.Meaning.{TestAsking, does_all, Actions}
+use Rattle.sieve_syntax.specs.Tree.{Commands}
 use Rattle.sieve_syntax.specs.Work.{all_take}
 
 -- what a script and those before it leave to the next: the mailboxes into which they filed the message, each with the flags of its copy,
@@ -32,61 +30,15 @@ nothing_left = record { filed = []; sent = []; flags = []; keep_flags = None; re
 -- ---- how a run begins
 
 -- mailboxes and addresses count among its own, so limits are of all together, and the flags that were set are set; a `vacation` of its
--- own is its first, and its implicit keep stands
+-- own is its first, its implicit keep stands, and it has executed no `keep` and no `fileinto` yet
 abbrev pub begins_from : Handover → RunState
-begins_from left = record { filed = left.filed; flags = left.flags; sent = left.sent; reply = None; cancelled = false }
-
--- the actions of what comes next, if the run goes on
-abbrev pub then_executes : Flow → (RunState → List Action) → List Action
-then_executes (Going so_far) next = next so_far
-then_executes (Stopped so_far) next = []
-then_executes (Failed failure) next = []
-
--- the actions that commands execute, in turn, for any asking of their tests (RFC 5228, 3): nothing after a `stop`, nor after an action that
--- fails, which is the last of them
-abbrev mutual
-  pub executes : TestAsking → CommandTree → RunState → List Action
-  executes asking (require names) so_far = []
-  executes asking (choose branches) so_far = choice_executes asking branches so_far
-  executes asking stop so_far = []
-  executes asking (act action) so_far = action ∷ []
-
-  -- those of the first block whose test holds
-  pub choice_executes : TestAsking → Branches → RunState → List Action
-  choice_executes asking no_branches so_far = []
-  choice_executes asking (branch condition block more) so_far = after_test (holds asking condition so_far) (all_execute asking block) (choice_executes asking more)
-
-  pub all_execute : TestAsking → Commands → RunState → List Action
-  all_execute asking no_commands so_far = []
-  all_execute asking (command first more) so_far = executes asking first so_far ++ then_executes (does asking first so_far) (all_execute asking more)
-
--- the actions that a run executes which begins with this
-abbrev pub actions_from : TestAsking → Commands → Handover → List Action
-actions_from asking commands left = all_execute asking commands (begins_from left)
+begins_from left = record { filed = left.filed; flags = left.flags; sent = left.sent; reply = None; cancelled = false; has_kept = false; names_inbox = false }
 
 -- ---- how it ends
 
--- the flags of the copy of its implicit keep: those of a `keep` that an earlier script executed, otherwise those that are set
-abbrev pub implicit_flags : Option (List ℕ) → RunState → List ℕ
-implicit_flags None at_end = flags_given None at_end
-implicit_flags (Some flags) at_end = flags
-
--- its implicit keep, unless it is cancelled; INBOX counts among the mailboxes
-abbrev pub keeps_implicitly : Handover → RunState → Flow
-keeps_implicitly left at_end = cond at_end.cancelled (Going at_end) (filed_into inbox (implicit_flags left.keep_flags at_end) true at_end)
-
--- `keep`, and a `fileinto` that names INBOX, which is a filing like any other
-abbrev pub is_keep : Action → Bool
-is_keep (Keep given) = true
-is_keep _ = false
-
-abbrev pub files_inbox : Action → Bool
-files_inbox (FileInto filing) = pointwise nat_eq (mailbox_named filing.mailbox) inbox
-files_inbox _ = false
-
--- whether it leaves the message to be kept: its implicit keep stands, or it executed a `keep`
-abbrev pub leaves_kept : List Action → RunState → Bool
-leaves_kept actions at_end = list_any is_keep actions || not at_end.cancelled
+-- whether it leaves the message to be kept: it executed a `keep`, or its implicit keep stands
+abbrev pub leaves_kept : RunState → Bool
+leaves_kept at_end = at_end.has_kept || not at_end.cancelled
 
 -- what earlier scripts filed stands as they filed it, and what is new comes behind it: a mailbox that has a copy keeps its place
 abbrev pub filed_behind : List Placement → List Placement → List Placement
@@ -114,39 +66,40 @@ abbrev pub inbox_flags : List Placement → Option (List ℕ)
 inbox_flags [] = None
 inbox_flags (there ∷ more) = cond (pointwise nat_eq there.mailbox inbox) (Some there.flags) (inbox_flags more)
 
--- what it leaves to the next
-abbrev pub leaves : List Action → Handover → (at_end : RunState) → Actions → Handover
-leaves actions left at_end done =
+-- what it leaves to the next: INBOX for good only where a `fileinto` named it, which is a filing like any other; and the flags of the copy in
+-- INBOX where it executed a `keep`
+abbrev pub leaves : Handover → (at_end : RunState) → Actions → Handover
+leaves left at_end done =
     record {
-      filed = filed_for_good (is_filed left.filed inbox || list_any files_inbox actions) done.filed;
+      filed = filed_for_good (is_filed left.filed inbox || at_end.names_inbox) done.filed;
       sent = done.sent;
       flags = at_end.flags;
-      keep_flags = cond (list_any is_keep actions) (inbox_flags at_end.filed) left.keep_flags;
+      keep_flags = cond at_end.has_kept (inbox_flags at_end.filed) left.keep_flags;
       reply = done.reply;
-      is_kept = leaves_kept actions at_end;
+      is_kept = leaves_kept at_end;
     }
 
--- how a run ends: what is done where no other runs, and what is left to the next; or it fails, and does nothing
-pub data RunEnd : Type 0 where
-  Ended : (done : Actions) → (next : Handover) → RunEnd
-  Broken : Failure → RunEnd
+-- how a script ends: what is done where no other runs, and what is left to the next; or it fails, and does nothing
+pub data ScriptEnd : Type 0 where
+  Ended : (done : Actions) → (next : Handover) → ScriptEnd
+  Broken : Failure → ScriptEnd
 
-abbrev pub ended_with : List Action → Handover → (at_end : RunState) → Flow → RunEnd
-ended_with actions left at_end (Going kept) = Ended (done_behind left kept) (leaves actions left at_end (done_behind left kept))
-ended_with actions left at_end (Stopped kept) = Ended (done_behind left kept) (leaves actions left at_end (done_behind left kept))
-ended_with actions left at_end (Failed failure) = Broken failure
+abbrev pub ended_with : Handover → (at_end : RunState) → Flow → ScriptEnd
+ended_with left at_end (Going kept) = Ended (done_behind left kept) (leaves left at_end (done_behind left kept))
+ended_with left at_end (Stopped kept) = Ended (done_behind left kept) (leaves left at_end (done_behind left kept))
+ended_with left at_end (Failed failure) = Broken failure
 
--- to its last command, or up to a `stop`
-abbrev pub ended_by : List Action → Handover → Flow → RunEnd
-ended_by actions left (Going at_end) = ended_with actions left at_end (keeps_implicitly left at_end)
-ended_by actions left (Stopped at_end) = ended_with actions left at_end (keeps_implicitly left at_end)
-ended_by actions left (Failed failure) = Broken failure
+-- to its last command, or up to a `stop`; then comes its implicit keep, whose copy has the flags of a `keep` that an earlier script executed,
+-- otherwise those that are set
+abbrev pub ended_by : Handover → Flow → ScriptEnd
+ended_by left (Going at_end) = ended_with left at_end (kept_with left.keep_flags at_end)
+ended_by left (Stopped at_end) = ended_with left at_end (kept_with left.keep_flags at_end)
+ended_by left (Failed failure) = Broken failure
 
 -- the end of a script's run that begins with this, for any asking and any work of its tests; one that takes more work than `most` fails
-abbrev pub end_of_run : TestAsking → (RunState → MailCheck → ℕ) → (most : ℕ) → Commands → Handover → RunEnd
+abbrev pub end_of_run : TestAsking → (RunState → MailCheck → ℕ) → (most : ℕ) → Commands → Handover → ScriptEnd
 end_of_run asking work most commands left =
-    cond (nat_lt most (all_take asking work commands (begins_from left))) (Broken TooMuchWork)
-    (ended_by (actions_from asking commands left) left (does_all asking commands (begins_from left)))
+    cond (nat_lt most (all_take asking work commands (begins_from left))) (Broken TooMuchWork) (ended_by left (does_all asking commands (begins_from left)))
 
 -- ---- what stands
 

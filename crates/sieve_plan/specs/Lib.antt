@@ -5,4 +5,5 @@ pub mod Delivered
 pub mod Handover
 pub mod Sequences
 pub mod Plans
+pub mod Turns
 pub mod SequencePlans

@@ -1,5 +1,5 @@
 -- Plans of deliveries, by what they are to do.
-use Rattle.std.specs.Prelude.{◌≡◌, ◌-◌, ℕ, cond, length, nat_lt, List, [], ◌∷◌, Option, None, Some}
+use Rattle.std.specs.Prelude.{◌≡◌, ℕ, cond, length, nat_lt, List, [], ◌∷◌, Option, None, Some}
 use Rattle.mail_address.specs.declared.address.Addr.{Addr}
 use Rattle.mail_flags.specs.declared.placement.Placement.{Placement}
 use Rattle.sieve_syntax.specs.RunState.{inbox}
@@ -8,44 +8,31 @@ use Rattle.sieve_syntax.specs.declared.extension.vacation.VacationArgs.{Vacation
 use Rattle.sieve_exec.specs.Mails.{MailSpec}
 use Rattle.sieve_exec.specs.Runs.{failure_view}
 use Rattle.sieve_vacation.specs.Layout.{IsVacationReply}
-use Rattle.store_accounts.specs.Account.{Account, latest}
+use Rattle.store_accounts.specs.Account.{latest}
 use Rattle.store_accounts.specs.Delivery.{no_memory}
 use Rattle.store_accounts.specs.declared.reply.ReplyKey.{ReplyKey}
 use Rattle.store_accounts.specs.declared.report.SentMemory.{SentMemory}
 use Rattle.store_accounts.specs.declared.report.VacationReply.{VacationReply}
 use Rattle.store_accounts.specs.declared.report.Plan.{Plan}
 use Rattle.store_accounts.specs.declared.report.VacationReport.{VacationReport}
-use Rattle.sieve_plan.specs.declared.disposition.Deeds.{Deeds}
-use Rattle.sieve_plan.specs.declared.disposition.Disposition.{Disposition as Found}
-use Rattle.sieve_plan.specs.declared.disposition.Disposition.TheVariants as found
+use Rattle.sieve_plan.specs.declared.deeds.Deeds.{Deeds}
 use Rattle.sieve_plan.specs.declared.limits.Limits.{Limits}
 use Rattle.sieve_plan.specs.declared.notice.NoticeCause.{NoticeCause}
-use Rattle.sieve_plan.specs.declared.notice.NoticeCause.TheVariants.{Loop, Invalid, Failed}
+use Rattle.sieve_plan.specs.declared.notice.NoticeCause.TheVariants.{Invalid, Failed}
 use Rattle.sieve_plan.specs.declared.vacation.VacationPlan.{VacationPlan}
 use Rattle.sieve_plan.specs.declared.view.AccountView.{AccountView}
 use Rattle.sieve_plan.specs.Sent.{full_text, held_notice, kept_handles, large_text, let_through, limits_by, many_text, not_among, redirect_key}
-use Rattle.sieve_plan.specs.Views.{IsViewOf}
-use Rattle.sieve_plan.specs.Delivered.{Disposition, Acts, Tells, Response, Silent, NoRoom, Quiet, Sent, Responds, failure_text, invalid_text, loop_text, vacation_report, report_of, notice_report, unflagged_copy, with_inbox}
+use Rattle.sieve_plan.specs.Delivered.{Response, Silent, NoRoom, Quiet, Sent, Responds, failure_text, invalid_text, vacation_report, notice_report, unflagged_copy, with_inbox}
 
 -- ---- what becomes of a message, as the code has it
 
+-- why a script failed
 abbrev pub notice_cause_text : NoticeCause → List ℕ
-notice_cause_text Loop = loop_text
 notice_cause_text Invalid = invalid_text
 notice_cause_text (Failed failure) = failure_text (failure_view failure)
 
 abbrev pub deeds_in : Deeds → Actions
 deeds_in deeds = record { filed = deeds.filed; sent = deeds.sent; reply = deeds.reply }
-
--- from the value of the code
-abbrev pub disposition_in : Found → Disposition
-disposition_in (found.Acts deeds) = Acts (deeds_in deeds)
-disposition_in (found.Tells why) = Tells (notice_cause_text why)
-
--- the view is of the account, as far as the disposition asks
-abbrev pub IsOfView : AccountView → MailSpec → Disposition → Account → Type 0
-IsOfView view mail (Acts deeds) a = IsViewOf view mail deeds a
-IsOfView view mail (Tells text) a = Unit {0}
 
 -- ---- what a view says of the deeds
 
@@ -103,18 +90,6 @@ pub record IsMemoryOf (over : List ReplyKey) (mail : MailSpec) (going : List Add
   pub message : (target : Addr) (more : List Addr) → going ≡ target ∷ more → memory.message ≡ redirect_key mail
   pub handles : memory.handles ≡ kept_handles mail going
   pub forgotten : memory.forgotten ≡ over
-
--- a plan that carries out the deeds as far as the view lets it, and a response to the sender
-pub record IsActingPlan (view : AccountView) (mail : MailSpec) (deeds : Actions) (plan : Plan) : Type 0 where
-  pub response : Response
-  pub is_response : Responds view.address mail.moment mail (λ key. view.last) (view.room - length (going_by view mail deeds)) deeds.reply response
-  pub message : plan.message.now ≡ mail.octets
-  pub sender : plan.sender.now ≡ mail.from
-  pub at : plan.moment ≡ mail.moment
-  pub filed : plan.filed ≡ filed_by view mail deeds
-  pub report : plan.report ≡ report_of (deeds_by view mail deeds) response (notice_by view mail deeds)
-  pub memory : IsMemoryOf view.over mail (going_by view mail deeds) plan.memory
-  pub reply : plan.reply ≡ reply_of response
 
 -- a plan that files the message into INBOX and leaves a notice
 pub record IsNoticePlan (moment : ℕ) (octets text : List ℕ) (plan : Plan) : Type 0 where

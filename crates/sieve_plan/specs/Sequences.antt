@@ -6,7 +6,10 @@ use Rattle.sieve_syntax.specs.Tree.{Commands}
 use Rattle.sieve_syntax.specs.Means.{Means}
 use Rattle.sieve_syntax.specs.RunState.{Failure}
 use Rattle.sieve_syntax.specs.Meaning.{TestAsking, asking_at, Actions}
-use Rattle.sieve_plan.specs.Handover.{Handover, nothing_left, begins_from, RunEnd, Ended, Broken, end_of_run}
+use Rattle.sieve_plan.specs.declared.scripts.HostScripts.{HostScripts}
+use Rattle.sieve_plan.specs.declared.scripts.Whose.{Whose}
+use Rattle.sieve_plan.specs.declared.scripts.Whose.TheVariants.{Before, Own, After}
+use Rattle.sieve_plan.specs.Handover.{Handover, nothing_left, begins_from, ScriptEnd, Ended, Broken, end_of_run}
 use Rattle.sieve_syntax.specs.Work.{max_work, all_take}
 use Rattle.sieve_exec.specs.Mails.{MailSpec}
 use Rattle.sieve_exec.specs.Truth.{truth_at}
@@ -20,21 +23,10 @@ use Rattle.sieve_plan.specs.Delivered.{failure_text, loop_text, long_text, inval
 
 -- ---- the scripts of a delivery
 
--- whose a script is: the host's, before or after the user's; or the user's, in whose place the default stands where none is active
-pub data Whose : Type 0 where
-  Before : Whose
-  Own : Whose
-  After : Whose
-
--- a script of a sequence, by its text
+-- a script of a sequence, by its text, and whose it is
 pub record SequenceScript : Type 0 where
   pub whose : Whose
   pub text : List ℕ
-
--- the texts of the host's scripts, in order
-pub record HostScripts : Type 0 where
-  pub before : List (List ℕ)
-  pub after : List (List ℕ)
 
 abbrev pub no_host_scripts : HostScripts
 no_host_scripts = record { before = []; after = [] }
@@ -83,7 +75,7 @@ abbrev pub asking_on : MailSpec → TestAsking
 asking_on mail = asking_at (truth_at mail)
 
 -- how a script's tree ends on a mail where the sequence has come so far
-abbrev pub end_at : MailSpec → Whose → Commands → SequenceState → RunEnd
+abbrev pub end_at : MailSpec → Whose → Commands → SequenceState → ScriptEnd
 end_at mail whose tree state = end_of_run (asking_on mail) (work_at mail) (work_limit whose state.host_work) tree state.left
 
 -- it runs to its end: what is done then, and what is left

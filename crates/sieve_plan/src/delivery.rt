@@ -5,15 +5,21 @@ ghost use Rattle.sieve_exec.specs.Mails.{mail_spec_of};
 ghost use Rattle.mail_address.specs.Spelling.{address_spelling};
 ghost use Rattle.store_accounts.specs.Account.{Account, delivers};
 ghost use Rattle.store_accounts.specs.Cells.{borrowed_octets};
-ghost use Rattle.sieve_plan.specs.Delivered.{Delivers, DeliversAs, has_long_header, with_inbox};
-ghost use Rattle.sieve_plan.specs.Plans.{IsActingPlan, IsMemoryOf, IsNoticePlan, IsOfView, deeds_in, disposition_in};
+ghost use Rattle.sieve_plan.specs.declared.scripts.HostScripts.{HostScripts};
+ghost use Rattle.sieve_plan.specs.Delivered.{has_long_header, with_inbox};
+ghost use Rattle.sieve_plan.specs.Plans.{IsMemoryOf, IsNoticePlan};
 ghost use Rattle.sieve_plan.specs.Sent.{redirect_key, sent_handle};
+ghost use Rattle.sieve_plan.specs.Sequences.{CarriesOutSettled, DeliversInSequence, forgotten_unless, notice_left};
+ghost use Rattle.sieve_plan.specs.SequencePlans.{notice_of, settled_of};
+ghost use Rattle.sieve_plan.specs.Views.{IsViewOf};
 
-use crate::disposition::{Deeds, Disposition};
+use crate::deeds::Deeds;
 use crate::limits::Limits;
-use crate::notice::LONG_TEXT;
+use crate::notice::{FailureNotice, LONG_TEXT};
+use crate::placements::{inbox, mailboxes, with_inbox};
 use crate::sent::{half_of, redirect_key, sent_handle};
-use crate::texts::{inbox, mailboxes, not_among, with_inbox};
+use crate::settlement::Settlement;
+use crate::targets::not_among;
 use crate::vacation::{VacationPlan, plan_vacation};
 use crate::view::AccountView;
 use mail_address::Addr;
@@ -24,7 +30,8 @@ use sieve_vacation::MAX_MOMENT;
 use std::alloc::{AllocError, Global};
 use store_accounts::{Plan, ReplyKey, Report, SentMemory, VacationReport};
 
-/// What a delivery of a mail is to write and to report, where this becomes of it: the deeds as far as the message may be sent on.
+/// What a delivery of a mail is to write and to report, where the scripts come to this: what they do, as far as the message may be sent
+/// on, and one notice at most.
 ///
 /// The mail's moment is at most [`MAX_MOMENT`]. The message and the sender are borrowed: no copy of the message is made. Where it is
 /// sent on its name is hashed, in time linear in its first Message-ID field or, without one, in its body; where a `vacation` was
@@ -34,25 +41,49 @@ pub fn plan<'m>(
     alloc: Global,
     view: AccountView,
     mail: &'m Mail<'_>,
-    disposition: Disposition,
+    settlement: Settlement,
 ) -> Result<Plan<'m>, AllocError>
     requires { mail.now.moment ≤ MAX_MOMENT }
-    ensures { IfOk result (λ plan. (a : Account) → IsOfView view mail.now (disposition_in disposition) a
-        → DeliversAs view.address mail.now.moment mail.now (disposition_in disposition) a plan.report (delivers plan a)) }
+    ensures { IfOk result (λ plan. (a : Account) → IsViewOf view mail.now (settled_of settlement).deeds a
+        → CarriesOutSettled view.address mail.now.moment mail.now (settled_of settlement) a plan.report (delivers plan a)) }
 {
-    match disposition {
-        Disposition::Acts(deeds) => act(alloc, view, mail, deeds),
-        Disposition::Tells(why) => tell(
-            alloc,
-            mail.message(),
-            mail.from(),
-            mail.moment(),
-            why.text(),
-        ),
-    }
+    let Settlement { deeds, notice } = settlement;
+    let Deeds { filed, sent, reply } = deeds;
+    let limits = Limits::new(view.room, mail.message().len(), view.known.len());
+    let fresh = not_among(alloc, view.known.as_slice(), sent.as_slice())?;
+    let held = limits.held_notice(sent.len(), fresh.len());
+    let going = limits.let_through(fresh);
+    let filed = filed_as(alloc, filed, going.len() < sent.len())?;
+    let left = view.room.saturating_sub(going.len() as u64);
+    let VacationPlan { vacation, reply } = plan_vacation(
+        alloc,
+        &view.address,
+        view.last,
+        left,
+        mail,
+        reply.as_ref(),
+    )?;
+    let names = mailboxes(alloc, filed.as_slice())?;
+    let over = forgotten_unless(alloc, notice, view.over);
+    let memory = memory_of(alloc, mail, going.as_slice(), over)?;
+    let notice = notice_left(alloc, notice, held)?;
+    Ok(Plan {
+        message: mail.message(),
+        sender: mail.from(),
+        moment: mail.moment(),
+        filed,
+        report: Report {
+            filed: names,
+            sent: going,
+            vacation,
+            notice,
+        },
+        memory,
+        reply,
+    })
 }
 
-/// Returns what a delivery of a message with a long header is to write and to report, whatever the account and the script are: none
+/// Returns what a delivery of a message with a long header is to write and to report, whatever the account and the scripts are: none
 /// of its fields is read.
 ///
 /// Takes only the memory of the notice and of INBOX's name. Lack of memory is the only error.
@@ -63,8 +94,8 @@ pub fn plan_unread<'m>(
     when: When,
 ) -> Result<Plan<'m>, AllocError>
     requires { has_long_header message.now ≡ true }
-    ensures { IfOk result (λ plan. (own : Address) (text : Option (List ℕ)) (a : Account)
-        → Delivers own (mail_spec_of message.now envelope.now when) text a plan.report (delivers plan a)) }
+    ensures { IfOk result (λ plan. (own : Address) (host : HostScripts) (text : Option (List ℕ)) (a : Account)
+        → DeliversInSequence own host (mail_spec_of message.now envelope.now when) text a plan.report (delivers plan a)) }
 {
     tell(
         alloc,
@@ -104,57 +135,6 @@ fn tell<'m>(
     })
 }
 
-/// Copies of the message join the mailboxes, each with its flags, it is sent on as far as it may be, and the sender is answered.
-fn act<'m>(
-    alloc: Global,
-    view: AccountView,
-    mail: &'m Mail<'_>,
-    deeds: Deeds,
-) -> Result<Plan<'m>, AllocError>
-    requires { mail.now.moment ≤ MAX_MOMENT }
-    ensures { IfOk result (IsActingPlan view mail.now (deeds_in deeds)) }
-{
-    let AccountView {
-        address,
-        last,
-        known,
-        room,
-        over,
-    } = view;
-    let Deeds { filed, sent, reply } = deeds;
-    let limits = Limits::new(room, mail.message().len(), known.len());
-    let fresh = not_among(alloc, known.as_slice(), sent.as_slice())?;
-    let held = limits.held_notice(sent.len(), fresh.len());
-    let going = limits.let_through(fresh);
-    let filed = filed_as(alloc, filed, going.len() < sent.len())?;
-    let left = room.saturating_sub(going.len() as u64);
-    let VacationPlan { vacation, reply } = plan_vacation(
-        alloc,
-        &address,
-        last,
-        left,
-        mail,
-        reply.as_ref(),
-    )?;
-    let names = mailboxes(alloc, filed.as_slice())?;
-    let memory = memory_of(alloc, mail, going.as_slice(), over)?;
-    let notice = copied(alloc, held)?;
-    Ok(Plan {
-        message: mail.message(),
-        sender: mail.from(),
-        moment: mail.moment(),
-        filed,
-        report: Report {
-            filed: names,
-            sent: going,
-            vacation,
-            notice,
-        },
-        memory,
-        reply,
-    })
-}
-
 /// The mailboxes, and INBOX among them where the message doesn't go to all addresses.
 fn filed_as(
     alloc: Global,
@@ -169,13 +149,32 @@ fn filed_as(
     Ok(filed)
 }
 
-/// A copy of the text, if there is one.
-fn copied(alloc: Global, text: Option<&[u8]>) -> Result<Option<Octets>, AllocError>
-    ensures { IfOk result (λ copy. copy ≡ borrowed_octets text.entry) }
+/// The notice that is left: that of a failure goes before that of mail that isn't sent on.
+fn notice_left(
+    alloc: Global,
+    why: Option<FailureNotice>,
+    held: Option<&[u8]>,
+) -> Result<Option<Octets>, AllocError>
+    ensures { IfOk result (λ notice. notice ≡ notice_left (notice_of why) (borrowed_octets held.entry)) }
 {
-    match text {
-        Some(text) => Ok(Some(Octets::from_slice(alloc, text)?)),
-        None => Ok(None),
+    match (why, held) {
+        (Some(why), _) => Ok(Some(why.text(alloc)?)),
+        (None, Some(text)) => Ok(Some(Octets::from_slice(alloc, text)?)),
+        (None, None) => Ok(None),
+    }
+}
+
+/// What is over is forgotten, unless there was a failure.
+fn forgotten_unless(
+    alloc: Global,
+    why: Option<FailureNotice>,
+    over: List<ReplyKey>,
+) -> List<ReplyKey>
+    ensures { result ≡ forgotten_unless (notice_of why) over }
+{
+    match why {
+        Some(_) => List::new(alloc),
+        None => over,
     }
 }
 

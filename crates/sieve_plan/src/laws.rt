@@ -1,17 +1,16 @@
 //! Laws of the definitions, each the contract of a function that does nothing.
-ghost use Rattle.std.specs.Prelude.{◌≡◌, ◌↔◌, ◌+◌, ◌++◌, ◌-◌, ◌<◌, ◌≤◌, ◌^◌, ℕ, Bool, true, false, length, List, [], ◌∷◌, Option, Some};
+ghost use Rattle.std.specs.Prelude.{◌≡◌, ◌↔◌, ◌+◌, ◌++◌, ◌-◌, ◌<◌, ◌≤◌, ◌^◌, ℕ, true, false, length, List, [], ◌∷◌, Option, Some};
 ghost use Rattle.std.specs.FinMap.{get};
 ghost use Rattle.std.specs.List.{AllByRecursion};
 ghost use Rattle.mail_address.specs.declared.address.Addr.{Addr};
 ghost use Rattle.mail_address.specs.Spelling.{address_spelling};
 ghost use Rattle.mail_head.specs.Heads.{body_of};
 ghost use Rattle.sieve_syntax.specs.declared.tree.action.Action.TheVariants.{Discard};
-ghost use Rattle.sieve_syntax.specs.declared.tree.checks.MailCheck.{MailCheck};
-ghost use Rattle.sieve_syntax.specs.Meaning.{Actions, OnlyLooks, TestAsking};
+ghost use Rattle.sieve_syntax.specs.Meaning.{Actions};
 ghost use Rattle.sieve_syntax.specs.Means.{Means};
-ghost use Rattle.sieve_syntax.specs.RunState.{RunState, inbox, is_filed};
-ghost use Rattle.sieve_syntax.specs.Trace.{NamesWithoutRepeats, actions_run};
-ghost use Rattle.sieve_syntax.specs.Tree.{Commands, act, no_commands, command};
+ghost use Rattle.sieve_syntax.specs.RunState.{inbox, is_filed};
+ghost use Rattle.sieve_syntax.specs.Trace.{NamesWithoutRepeats};
+ghost use Rattle.sieve_syntax.specs.Tree.{act, no_commands, command};
 ghost use Rattle.sieve_exec.specs.Mails.{MailSpec};
 ghost use Rattle.store_accounts.specs.Account.{Account};
 ghost use Rattle.store_accounts.specs.declared.report.Report.{Report};
@@ -19,8 +18,10 @@ ghost use Rattle.store_accounts.specs.ReplyRows.{is_key_between};
 ghost use Rattle.store_accounts.specs.declared.reply.ReplyKey.{ReplyKey};
 ghost use Rattle.sieve_plan.specs.Delivered.{Delivers, acts};
 ghost use Rattle.sieve_plan.specs.Few.{AreFew};
-ghost use Rattle.sieve_plan.specs.Handover.{actions_from, for_good, nothing_left, StandsAmong};
-ghost use Rattle.sieve_plan.specs.Sequences.{Own, SequenceScript, HostScripts, no_host_scripts, SequenceState, at_beginning, RunsToEnd, FailsFor, told_of, Settled, settled_well, SettlesInTurn, RunInTurn, DeliversInSequence};
+ghost use Rattle.sieve_plan.specs.declared.scripts.HostScripts.{HostScripts};
+ghost use Rattle.sieve_plan.specs.declared.scripts.Whose.TheVariants.{Own};
+ghost use Rattle.sieve_plan.specs.Handover.{for_good, StandsAmong};
+ghost use Rattle.sieve_plan.specs.Sequences.{SequenceScript, no_host_scripts, SequenceState, at_beginning, RunsToEnd, FailsFor, told_of, Settled, settled_well, SettlesInTurn, RunInTurn, DeliversInSequence};
 ghost use Rattle.sieve_plan.specs.Sent.{going, half_handle, half_of, is_among_texts, is_near, key_of, redirect_key, sent_handle, known_targets};
 
 /// A delivery has exactly one report, and the account afterwards is determined.
@@ -48,11 +49,6 @@ pub fn sent_on_is_found()
     ensures by_body { (a : Account) (mail : MailSpec) (kept : ℕ) (target : List ℕ)
         → get a.replies (sent_handle (half_of kept) (key_of (2 ∷ body_of mail.octets)) target, key_of (2 ∷ body_of mail.octets)) ≡ Some kept
         → is_near mail.moment kept ≡ true → AreFew a (key_of (2 ∷ body_of mail.octets)) (half_of kept) → is_among_texts (known_targets a mail) target ≡ true }
-{}
-
-/// Where tests only look, the actions that a script executes, by which is said what it leaves to the next, are those of its trace.
-pub fn actions_of_a_script()
-    ensures { (asking : TestAsking) (truth : RunState → MailCheck → Bool) (tree : Commands) → OnlyLooks asking truth → actions_from asking tree nothing_left ≡ actions_run truth tree }
 {}
 
 /// Without scripts of the host's a delivery is what it is by the user's script alone, or without one: the same report, and the same

@@ -1,12 +1,32 @@
-use Rattle.std.proofs.Common.{ap}
-use Rattle.sieve_plan.specs.Plans.{deeds_in, disposition_in, notice_cause_text}
-use Rattle.sieve_plan.proofs.PlanLemmas.{acting_fits, telling_fits}
+use Rattle.std.proofs.Common.{◌≡◌, length, map, refl, ap, ◌∙◌}
+use Rattle.mail_address.specs.Spelling.{address_spelling}
+use Rattle.sieve_plan.specs.Sent.{limits_by, not_among}
+use Rattle.sieve_plan.specs.Sequences.{notice_left}
+use Rattle.sieve_plan.specs.SequencePlans.{notice_of, settled_of}
+use Rattle.sieve_plan.specs.Plans.{fresh_by, limits_in, limits_of}
+use Rattle.sieve_plan.proofs.PlanLemmas.{acted}
+use Rattle.sieve_plan.proofs.SequencePlanLemmas.{settling}
 use Rattle.sieve_plan.proofs.delivery.plan.Goals as goal
 
-pub returns-in-Acts : goal.returns-in-Acts
-returns-in-Acts c = acting_fits c.args.view c.args.mail.now (disposition_in c.args.disposition) (deeds_in c.in-Acts.deeds) c.act.result (ap disposition_in c.in-Acts.is) c.act.ensures
-
-pub returns-in-Tells : goal.returns-in-Tells
-returns-in-Tells c =
-    telling_fits c.args.view c.args.mail.now (disposition_in c.args.disposition) (notice_cause_text c.in-Tells.why) c.text.result.now c.message.result.now c.moment.result c.tell.result (ap disposition_in c.in-Tells.is)
-    c.text.ensures c.message.ensures c.moment.ensures c.tell.ensures
+pub returns : goal.returns
+returns c a of =
+    let view = c.args.view in
+    let mail = c.args.mail.now in
+    let settled = settled_of c.args.settlement in
+    let deeds = settled.deeds in
+    let found : c.in_ok-fresh.fresh ≡ map address_spelling (fresh_by view deeds) =
+    c.in_ok-fresh.ensures ∙ (ap (λ known. map address_spelling (not_among known c.as_slice-2.result.now)) c.as_slice.ensures ∙ ap (λ targets. map address_spelling (not_among view.known targets)) c.as_slice-2.ensures) in
+    let limited : limits_of c.new-limits.result ≡ limits_in view mail =
+    c.new-limits.ensures ∙ (ap (λ size. limits_by view.room size c.len.result) (ap length c.message.ensures) ∙ ap (limits_by view.room (length mail.octets)) c.len.ensures) in
+    let filed = rw (c.len-4.ensures, c.len-5.ensures) at c.in_ok-filed.ensures in
+    let held = rw (c.len-2.ensures, c.len-3.ensures) at c.held_notice-held.ensures in
+    let answer = rw (c.saturating_sub-left.ensures, c.len-6.ensures, c.as_ref.ensures.value) at c.in_ok-vacation.ensures in
+    let remembers = rw (c.as_slice-4.ensures, c.forgotten_unless-over.ensures) at c.in_ok-memory.ensures in
+    let names : c.in_ok-names.names ≡ map (λ f. f.mailbox) c.in_ok-filed.filed = rw c.as_slice-3.ensures at c.in_ok-names.ensures in
+    let told = c.in_ok-notice.ensures in
+    let is =
+    acted view mail deeds c.in_ok-fresh.fresh c.let_through-going.result (limits_of c.new-limits.result) found limited (record { texts = c.let_through-going.ensures })
+    settled.notice c.in_ok-filed.filed _ c.in_ok-memory.memory c.in_ok-vacation.field-0 _ filed held answer remembers
+    c.message-2.ensures c.from.ensures c.moment.ensures refl refl refl
+    (λ i. record { filed = names i; sent = c.let_through-going.result; vacation = c.in_ok-vacation.field-0.vacation; notice = told i }) in
+    settling view mail settled _ a is of

@@ -1,5 +1,5 @@
 use Rattle.std.proofs.Common.{◌≡◌, map, take}
-use Rattle.sieve_plan.proofs.texts.mailboxes.Given as goal
+use Rattle.sieve_plan.proofs.placements.mailboxes.Given as goal
 
 abbrev pub invariant-loop-placement : goal.invariant-loop-placement
 invariant-loop-placement l = l.texts ≡ map (λ f. f.mailbox) (take l.placement-index l.filed)

@@ -1,0 +1,213 @@
+-- A script's turn, and the turns of a sequence.
+use Rattle.std.proofs.Common.{◌≡◌, ◌≤◌, ◌<◌, ◌+◌, ◌^◌, ℕ, Bool, true, false, cond, ◌||◌, List, [], ◌∷◌, drop, length, Option, Some, None, refl, sym, ap, subst, ◌∙◌, arith, inl, inr}
+use Rattle.std.specs.Prelude.{MatchBool, nat_lt}
+use Rattle.std.specs.Option.{option_map}
+use Rattle.std.proofs.lemmas.Bool.Decides.{nat_tests}
+use Rattle.std.proofs.lemmas.Option.{same_Some}
+use Rattle.sieve_syntax.specs.Tree.{Commands}
+use Rattle.sieve_syntax.specs.Means.{Means}
+use Rattle.sieve_syntax.specs.RunState.{RunState, Failure, TooMuchWork, TooManyMailboxes, Flow, Going, Stopped, Failed, inbox, is_filed, has_room, with_filed, cancelled_after, filed_into, implicit_flags, kept_with}
+use Rattle.sieve_syntax.specs.Meaning.{Actions, TestAsking, does_all}
+use Rattle.sieve_syntax.specs.Work.{all_take}
+use Rattle.sieve_code.specs.Instructions.{Instruction}
+use Rattle.sieve_code.specs.Jumps.{Course, RunEnd, end_by, end_within, ends_within, tree_course, IsCodeOf}
+use Rattle.sieve_code.specs.Jumps as run
+use Rattle.sieve_exec.specs.Mails.{MailSpec}
+use Rattle.sieve_exec.specs.Work.{work_at}
+use Rattle.sieve_plan.specs.declared.handover.Handover.{Handover as Left}
+use Rattle.sieve_plan.specs.declared.handover.Standing.{Standing}
+use Rattle.sieve_plan.specs.declared.scripts.HostScripts.{HostScripts}
+use Rattle.sieve_plan.specs.declared.scripts.Whose.{Whose}
+use Rattle.sieve_plan.specs.declared.scripts.Whose.TheVariants.{Before, Own, After}
+use Rattle.sieve_plan.specs.Handover.{Handover, begins_from, leaves_kept, filed_behind, filed_for_good, first_reply, inbox_flags, done_behind, leaves, ScriptEnd, Ended, Broken, ended_with, ended_by, end_of_run}
+use Rattle.sieve_plan.specs.Plans.{deeds_in}
+use Rattle.sieve_plan.specs.Delivered.{failure_text, has_long_header, is_looping, kept, long_text, loop_text}
+use Rattle.sieve_plan.specs.Sequences.{SequenceScript, SequenceState, asking_on, end_at, max_host_work, work_limit, host_work_behind, RunsToEnd, FailsFor, Breaks, told_of, Settled, settled_well, settled_unrun, SettlesInTurn, SettlesUnder, sequence_of, at_beginning}
+use Rattle.sieve_plan.specs.Turns.{handover_by, handover_of}
+
+-- ---- a run
+
+-- the end of the code's run is that of the tree's
+pub run_is : (mail : MailSpec) (code : List Instruction) (tree : Commands) (most : ℕ) (so_far : RunState) (end : RunEnd) → IsCodeOf code tree
+    → Some end ≡ ends_within (asking_on mail) (work_at mail) most code so_far → end ≡ end_within most (tree_course (asking_on mail) (work_at mail) tree so_far)
+run_is mail code tree most so_far end is_code is = same_Some _ _ (is ∙ ap (option_map (end_within most)) (is_code (asking_on mail) (work_at mail) so_far))
+
+-- so a script fails where it does
+broken : (most work : ℕ) (left : Handover) (flow : Flow) (failure : Failure) → end_within most (record { flow = flow; work = work }) ≡ run.Broken failure
+    → cond (nat_lt most work) (Broken TooMuchWork) (ended_by left flow) ≡ Broken failure
+broken most work left flow failure is = step (nat_lt most work) flow is
+  where
+    step : (much : Bool) (flow : Flow) → cond much (run.Broken TooMuchWork) (end_by flow work) ≡ run.Broken failure → cond much (Broken TooMuchWork) (ended_by left flow) ≡ Broken failure
+    step true flow is = let same : TooMuchWork ≡ failure = cc is in ap (λ f. Broken f) same
+    step false (Going state) is = absurd (cc is)
+    step false (Stopped state) is = absurd (cc is)
+    step false (Failed why) is = let same : why ≡ failure = cc is in ap (λ f. Broken f) same
+
+-- and otherwise its implicit keep comes last, and the work is the run's
+record Ends (most all : ℕ) (left : Handover) (flow : Flow) (at_end : RunState) (work : ℕ) : Type 0 where
+  is : cond (nat_lt most all) (Broken TooMuchWork) (ended_by left flow) ≡ ended_by left (Going at_end)
+  takes : work ≡ all
+  within : work ≤ most
+
+ended : (most all : ℕ) (left : Handover) (flow : Flow) (at_end : RunState) (work : ℕ) → end_within most (record { flow = flow; work = all }) ≡ run.Ended at_end work → Ends most all left flow at_end work
+ended most all left flow at_end work is = step (nat_lt most all) refl flow is
+  where
+    low : nat_lt most all ≡ false → work ≡ all → work ≤ most
+    low much takes = grind (arith, nat_tests)
+
+    step : (much : Bool) → nat_lt most all ≡ much → (flow : Flow) → cond much (run.Broken TooMuchWork) (end_by flow all) ≡ run.Ended at_end work → Ends most all left flow at_end work
+    step true over flow is = absurd (cc is)
+    step false over (Going state) is =
+        let same : state ≡ at_end = cc is in
+        let takes : work ≡ all = cc is in
+        record { is = ap (λ b. cond b (Broken TooMuchWork) (ended_by left (Going state))) over ∙ ap (λ s. ended_by left (Going s)) same; takes = takes; within = low over takes }
+    step false over (Stopped state) is =
+        let same : state ≡ at_end = cc is in
+        let takes : work ≡ all = cc is in
+        record { is = ap (λ b. cond b (Broken TooMuchWork) (ended_by left (Stopped state))) over ∙ ap (λ s. ended_by left (Going s)) same; takes = takes; within = low over takes }
+    step false over (Failed why) is = absurd (cc is)
+
+-- ---- an end
+
+-- the implicit keep changes neither the flags that are set nor the marks
+record KeepsMarks (one two : RunState) : Type 0 where
+  flags : two.flags ≡ one.flags
+  names : two.names_inbox ≡ one.names_inbox
+
+abbrev state_in : Flow → RunState → RunState
+state_in (Going state) other = state
+state_in (Stopped state) other = state
+state_in (Failed failure) other = other
+
+keeps_marks : (flags : Option (List ℕ)) (state : RunState) → KeepsMarks state (state_in (kept_with flags state) state)
+keeps_marks flags state = step state.cancelled (has_room state.filed inbox)
+  where
+    step : (cancelled room : Bool)
+        → KeepsMarks state (state_in (cond cancelled (Going state) (cond room (Going (record state { filed = with_filed state.filed (record { mailbox = inbox; flags = implicit_flags flags state }); cancelled = cancelled_after true state })) (Failed TooManyMailboxes))) state)
+    step true room = record { flags = refl; names = refl }
+    step false true = record { flags = refl; names = refl }
+    step false false = record { flags = refl; names = refl }
+
+-- what the code makes of an end
+pub record IsNext (stands : Standing) (at_end kept : RunState) (next : Left) : Type 0 where
+  pub filed : next.stands.done.filed ≡ filed_behind (filed_for_good stands.names_inbox stands.done.filed) kept.filed
+  pub sent : next.stands.done.sent ≡ kept.sent
+  pub reply : next.stands.done.reply ≡ first_reply stands.done.reply kept.reply
+  pub names : next.stands.names_inbox ≡ (is_filed (filed_for_good stands.names_inbox stands.done.filed) inbox || kept.names_inbox)
+  pub keep_flags : next.stands.keep_flags ≡ cond at_end.has_kept (inbox_flags at_end.filed) stands.keep_flags
+  pub flags : next.flags ≡ kept.flags
+  pub is_kept : next.is_kept ≡ leaves_kept at_end
+
+pub end_made : (stands : Standing) (flags : List (List ℕ)) (is_kept : Bool) (at_end kept : RunState) (next : Left) → Going kept ≡ kept_with stands.keep_flags at_end → IsNext stands at_end kept next
+    → ended_by (handover_by stands flags is_kept) (Going at_end) ≡ Ended (deeds_in next.stands.done) (handover_of next)
+end_made stands flags is_kept at_end kept next is made =
+    let left = handover_by stands flags is_kept in
+    let marks : KeepsMarks at_end kept = subst (λ f. KeepsMarks at_end (state_in f at_end)) (sym is) (keeps_marks stands.keep_flags at_end) in
+    let done : done_behind left kept ≡ deeds_in next.stands.done = λ i. record { filed = sym made.filed i; sent = sym made.sent i; reply = sym made.reply i } in
+    let names : (is_filed left.filed inbox || at_end.names_inbox) ≡ next.stands.names_inbox = ap (λ b. is_filed left.filed inbox || b) (sym marks.names) ∙ sym made.names in
+    let set : at_end.flags ≡ next.flags = sym marks.flags ∙ sym made.flags in
+    ap (ended_with left at_end) (sym is)
+    ∙ (λ i. Ended (done i) (record {
+      filed = filed_for_good (names i) (done i).filed;
+      sent = (done i).sent;
+      flags = set i;
+      keep_flags = sym made.keep_flags i;
+      reply = (done i).reply;
+      is_kept = sym made.is_kept i;
+    }))
+
+pub end_failed : (stands : Standing) (flags : List (List ℕ)) (is_kept : Bool) (at_end : RunState) (failure : Failure) → Failed failure ≡ kept_with stands.keep_flags at_end
+    → ended_by (handover_by stands flags is_kept) (Going at_end) ≡ Broken failure
+end_failed stands flags is_kept at_end failure is = ap (ended_with (handover_by stands flags is_kept) at_end) (sym is)
+
+-- ---- a turn
+
+-- the run begins with what is left, and may take what is left of the work
+pub run_comes : (mail : MailSpec) (whose : Whose) (code : List Instruction) (tree : Commands) (state : SequenceState) (most : ℕ) (so_far : RunState) (end : RunEnd) → IsCodeOf code tree
+    → Some end ≡ ends_within (asking_on mail) (work_at mail) most code so_far → most ≡ work_limit whose state.host_work → so_far ≡ begins_from state.left
+    → end ≡ end_within (work_limit whose state.host_work) (tree_course (asking_on mail) (work_at mail) tree (begins_from state.left))
+run_comes mail whose code tree state most so_far end is_code is limited begun =
+    run_is mail code tree most so_far end is_code is ∙ (λ i. end_within (limited i) (tree_course (asking_on mail) (work_at mail) tree (begun i)))
+
+module _ (mail : MailSpec) (whose : Whose) (tree : Commands) (state : SequenceState) (end : RunEnd)
+    (is : end ≡ end_within (work_limit whose state.host_work) (tree_course (asking_on mail) (work_at mail) tree (begins_from state.left))) where
+  -- its run fails
+  pub run_fails : (failure : Failure) → end ≡ run.Broken failure → (text : List ℕ) → Means text tree → FailsFor mail (record { whose = whose; text = text }) state (failure_text failure)
+  run_fails failure fails text means =
+      Breaks tree failure means
+      (broken (work_limit whose state.host_work) (all_take (asking_on mail) (work_at mail) tree (begins_from state.left)) state.left (does_all (asking_on mail) tree (begins_from state.left)) failure (sym is ∙ fails)) refl
+
+  run_ends : (at_end : RunState) (work : ℕ) → end ≡ run.Ended at_end work
+      → Ends (work_limit whose state.host_work) (all_take (asking_on mail) (work_at mail) tree (begins_from state.left)) state.left (does_all (asking_on mail) tree (begins_from state.left)) at_end work
+  run_ends at_end work over =
+      ended (work_limit whose state.host_work) (all_take (asking_on mail) (work_at mail) tree (begins_from state.left)) state.left (does_all (asking_on mail) tree (begins_from state.left)) at_end work (sym is ∙ over)
+
+  -- its implicit keep fails
+  pub keep_fails : (at_end : RunState) (work : ℕ) (failure : Failure) → end ≡ run.Ended at_end work → ended_by state.left (Going at_end) ≡ Broken failure
+      → (text : List ℕ) → Means text tree → FailsFor mail (record { whose = whose; text = text }) state (failure_text failure)
+  keep_fails at_end work failure over fails text means = Breaks tree failure means ((run_ends at_end work over).is ∙ fails) refl
+
+  -- it runs to its end
+  pub turn_ends : (at_end : RunState) (work : ℕ) (next : SequenceState) → end ≡ run.Ended at_end work → ended_by state.left (Going at_end) ≡ Ended next.done next.left
+      → next.host_work ≡ host_work_behind whose work state.host_work → (text : List ℕ) → Means text tree → RunsToEnd mail (record { whose = whose; text = text }) state next
+  turn_ends at_end work next over ends takes text means =
+      let run = run_ends at_end work over in
+      record { tree = tree; means = means; ends = run.is ∙ ends; work = takes ∙ ap (λ n. host_work_behind whose n state.host_work) run.takes }
+
+  pub work_within : (at_end : RunState) (work : ℕ) → end ≡ run.Ended at_end work → work ≤ work_limit whose state.host_work
+  work_within at_end work over = (run_ends at_end work over).within
+
+-- what the host's scripts took is a number of the code's
+pub host_work_fits : (whose : Whose) (work host_work : ℕ) → work ≤ work_limit whose host_work → host_work < 2 ^ 64 → host_work_behind whose work host_work < 2 ^ 64
+host_work_fits Before work host_work small low = omega (arith, small, low)
+host_work_fits Own work host_work small low = low
+host_work_fits After work host_work small low = omega (arith, small, low)
+
+-- ---- the turns of a sequence
+
+module _ (mail : MailSpec) (all : List SequenceScript) (from state : SequenceState) (place : ℕ)
+    (so : (settled : Settled) → SettlesInTurn mail (drop place all) state settled → SettlesInTurn mail all from settled) where
+  module _ (script : SequenceScript) (split : drop place all ≡ script ∷ drop (place + 1) all) where
+    here : (settled : Settled) → SettlesInTurn mail (script ∷ drop (place + 1) all) state settled → SettlesInTurn mail all from settled
+    here settled is = so settled (subst (λ l. SettlesInTurn mail l state settled) (sym split) is)
+
+    -- a script fails
+    pub turn_failed : (why : List ℕ) (done : Actions) → FailsFor mail script state why → done ≡ state.done → SettlesInTurn mail all from (record { deeds = done; notice = Some (told_of script.whose why) })
+    turn_failed why done fails stands = here _ (inl (record { why = why; fails = fails; stands = stands; told = refl }))
+
+    -- it doesn't leave the message to be kept
+    pub turn_last : (next : SequenceState) → RunsToEnd mail script state next → next.left.is_kept ≡ false → SettlesInTurn mail all from (settled_well next.done)
+    turn_last next runs gone =
+        here _ (inr (next, runs, subst (λ b. MatchBool b (SettlesInTurn mail (drop (place + 1) all) next (settled_well next.done)) (settled_well next.done ≡ settled_well next.done)) (sym gone) refl))
+
+    -- it does
+    pub turn_on : (next : SequenceState) → RunsToEnd mail script state next → next.left.is_kept ≡ true
+        → (settled : Settled) → SettlesInTurn mail (drop (place + 1) all) next settled → SettlesInTurn mail all from settled
+    turn_on next runs still settled later =
+        here settled (inr (next, runs, subst (λ b. MatchBool b (SettlesInTurn mail (drop (place + 1) all) next settled) (settled ≡ settled_well next.done)) (sym still) later))
+
+  -- there is no other
+  pub turns_over : drop place all ≡ [] → SettlesInTurn mail all from (settled_well state.done)
+  turns_over none = so (settled_well state.done) (subst (λ l. SettlesInTurn mail l state (settled_well state.done)) (sym none) refl)
+
+-- ---- a settlement
+
+module _ (host : HostScripts) (own : Option (List ℕ)) (mail : MailSpec) (short : has_long_header mail.octets ≡ false) where
+  behind : (settled : Settled) → MatchBool (is_looping mail) (settled ≡ settled_unrun loop_text) (SettlesInTurn mail (sequence_of host own) at_beginning settled) → SettlesUnder host own mail settled
+  behind settled is =
+      subst (λ long. MatchBool long (settled ≡ settled_unrun long_text) (MatchBool (is_looping mail) (settled ≡ settled_unrun loop_text) (SettlesInTurn mail (sequence_of host own) at_beginning settled)))
+      (sym short) is
+
+  -- no script runs
+  pub settles_unrun : (deeds : Actions) → is_looping mail ≡ true → deeds ≡ kept → SettlesUnder host own mail (record { deeds = deeds; notice = Some loop_text })
+  settles_unrun deeds loops is =
+      let settled : Settled = record { deeds = deeds; notice = Some loop_text } in
+      let same : settled ≡ settled_unrun loop_text = λ i. record { deeds = is i; notice = Some loop_text } in
+      behind settled (subst (λ looping. MatchBool looping (settled ≡ settled_unrun loop_text) (SettlesInTurn mail (sequence_of host own) at_beginning settled)) (sym loops) same)
+
+  -- they run in turn
+  pub settles_in_turn : (scripts : List SequenceScript) (settled : Settled) → is_looping mail ≡ false → scripts ≡ sequence_of host own → SettlesInTurn mail scripts at_beginning settled
+      → SettlesUnder host own mail settled
+  settles_in_turn scripts settled calm are is =
+      behind settled (subst (λ looping. MatchBool looping (settled ≡ settled_unrun loop_text) (SettlesInTurn mail (sequence_of host own) at_beginning settled)) (sym calm)
+      (subst (λ l. SettlesInTurn mail l at_beginning settled) are is))
