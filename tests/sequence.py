@@ -1,24 +1,28 @@
 #!/usr/bin/env python3
-"""Tries sequences of scripts, the host's before and after the user's, beside Dovecot's `dovecot-lda` with sieve_before and sieve_after,
-and tells where folders, flags, targets and replies differ from what the definitions (`sieve_plan/specs/Handover.antt`, `Sequences.antt`)
-say: `meaning` says it once more, in Python.
+"""Tries sequences of scripts, the host's before and after the user's: what `sieved deliver` makes of them beside Dovecot's `dovecot-lda` with
+sieve_before and sieve_after, and beside what the definitions (`sieve_plan/specs/Handover.antt`, `Sequences.antt`) say: `meaning` says it
+once more, in Python. Folders, flags, targets and replies are compared.
 
-  tests/sequence.py [--quick] [TRIAL ..]
+  tests/sequence.py [--quick] [--sieved SIEVED] [TRIAL ..]
 
-`cases` are by hand, with what the definitions say as it is written in each row; where Pigeonhole does otherwise the row says what, and why.
-`drawn` are 1,000 sequences of two to four scripts with a fixed seed (--quick 100). A difference whose reason isn't in REASONS fails.
-It needs root and dovecot-sieve; dovecot-lda runs as nobody.
+`cases` are by hand, with what is to come of each as it is written in its row, by the program alone; `beside` has the same by dovecot-lda:
+where Pigeonhole does otherwise the row says what, and why. `drawn` are 5,000 sequences of up to four scripts with a fixed seed
+by both, --quick a tenth of them: the program does as the definitions say, and a difference of dovecot-lda whose reason isn't in REASONS fails.
+`beside` and `drawn` need root and dovecot-sieve; dovecot-lda runs as nobody.
 """
-import glob, os, random, subprocess, sys, tempfile
+import glob, os, random, shutil, sqlite3, subprocess, sys, tempfile
+from contextlib import closing
 from concurrent.futures import ThreadPoolExecutor
 from dataclasses import dataclass
 from itertools import combinations
 from typing import Optional
 
-sys.path.insert(0, os.path.dirname(os.path.abspath(__file__)))
+HERE = os.path.dirname(os.path.abspath(__file__))
+sys.path.insert(0, HERE)
 import trials
 
-LDA, SEED, SEQUENCES, MOST_TARGETS = "/usr/lib/dovecot/dovecot-lda", 5228, 1_000, 16
+SIEVED = os.path.abspath(f"{HERE}/../crates/sieved/out/sieved")
+LDA, SEED, SEQUENCES, MOST_TARGETS = "/usr/lib/dovecot/dovecot-lda", 5228, 5_000, 16
 MAIL = b"From: Bob <bob@example.net>\r\nTo: alice@example.org\r\nSubject: lunch\r\nMessage-ID: <1@example.net>\r\n\r\nHello\r\n"
 REQUIRE = 'require ["fileinto", "copy", "vacation", "imap4flags"];\n'
 CONFIGURATION = """mail_location = maildir:{room}/mail
@@ -126,6 +130,47 @@ def meaning(scripts, slips=frozenset()):
         if not left.is_kept:
             break
     return done
+
+
+# ---- what the program does
+
+def by_sieved(before, user, after):
+    """Copies with their flags, targets, the reason of the answer, and the notices."""
+    with tempfile.TemporaryDirectory() as room:
+        shutil.copy(store(), f"{room}/mail.db")
+        host = []
+        for name, scripts in ("before", before), ("after", after):
+            for at, script in enumerate(scripts):
+                write(f"{room}/{name}{at}.sieve", REQUIRE + text(script))
+                host += [f"--{name}", f"{room}/{name}{at}.sieve"]
+        if user is not None:
+            sieved(room, "put", "--activate", "alice", "main", given=(REQUIRE + text(user)).encode())
+        sieved(room, "deliver", "--from", "bob@example.net", "--to", "alice@example.org", *host, "alice", given=MAIL)
+        with closing(sqlite3.connect(f"file:{room}/mail.db?mode=ro", uri=True)) as base:
+            filed = sorted(((name.decode(), frozenset(flags.decode().split())) for name, flags in base.execute("SELECT folder, flags FROM copy")), key=repr)
+            out = base.execute("SELECT target, message FROM outgoing").fetchall()
+            notices = [text.decode() for text, in base.execute("SELECT text FROM notice ORDER BY id")]
+    answers = [message for _, message in out if b"Auto-Submitted: auto-replied" in message]
+    sent = sorted(target.decode() for target, message in out if b"Auto-Submitted: auto-replied" not in message)
+    assert len(answers) <= 1, answers
+    return filed, sent, answers[0].split()[-1].decode() if answers else None, notices
+
+
+def store():
+    """A store with alice in it, made once."""
+    if not STORE:
+        STORE.append(tempfile.TemporaryDirectory())
+        sieved(STORE[0].name, "init")
+        sieved(STORE[0].name, "adduser", "alice", "alice@example.org", given=b"secret")
+    return f"{STORE[0].name}/mail.db"
+
+
+STORE = []
+
+
+def sieved(room, word, *words, given=b""):
+    done = subprocess.run([SIEVED, word, "--db", f"{room}/mail.db", *words], input=given, capture_output=True)
+    assert done.returncode == 0, (word, words, done)
 
 
 # ---- what dovecot-lda does
@@ -271,6 +316,31 @@ CASES = [
 ]
 
 
+# The notices of the cases in which a script fails, or the whole of a delivery.
+NOTICES = {
+    "two vacations": "vacation executed twice",
+    "two vacations behind one": "vacation executed twice",
+    "user's fails": "more than 16 redirects",
+    "before fails": "before: more than 16 redirects",
+    "after fails": "after: more than 16 redirects",
+    "targets of all together": "more than 16 redirects",
+    "answered, then a failure": "more than 16 redirects",
+    "INBOX's copy stands behind a failure": "after: more than 16 redirects",
+    "flags behind a failure": "more than 16 redirects",
+    "keep :flags behind a failure": "after: more than 16 redirects",
+}
+
+
+def cases():
+    told = []
+    for name, before, user, after, folders, sent, reply, *_ in CASES:
+        notices = [NOTICES[name]] if name in NOTICES else []
+        says, found = (sorted(folders, key=repr), sorted(sent), reply, notices), by_sieved(before, user, after)
+        told += [] if found == says else [f"{name}: {found}, expected {says}"]
+    assert not told, "\n".join(told)
+    return f"{len(CASES)} sequences"
+
+
 def tried(case):
     name, before, user, after, folders, sent, reply, *theirs = case
     says = sorted(folders, key=repr), sorted(sent), reply
@@ -281,7 +351,7 @@ def tried(case):
     return told + ([] if found == lda else [f"{name}: dovecot-lda {found}, expected {lda}"])
 
 
-def cases():
+def beside():
     trials.need_root()
     trials.need(LDA)
     with ThreadPoolExecutor(2) as pool:
@@ -320,7 +390,8 @@ def reasons(before, user, after, theirs):
 
 def compared(seed):
     before, user, after = drawn_sequence(seed)
-    ours, theirs = by_definitions(before, user, after), by_lda(before, user, after)
+    ours, theirs, built = by_definitions(before, user, after), by_lda(before, user, after), by_sieved(before, user, after)[:3]
+    assert built == ours, f"seed {seed}: sieved {built}, definitions {ours}"
     return None if ours == theirs else (seed, ours, theirs, reasons(before, user, after, theirs))
 
 
@@ -328,6 +399,7 @@ def drawn():
     trials.need_root()
     trials.need(LDA)
     count = trials.some(SEQUENCES)
+    store()
     with ThreadPoolExecutor(2) as pool:
         found = [it for it in pool.map(compared, range(SEED * 1_000_000, SEED * 1_000_000 + count)) if it]
     unknown = [it for it in found if it[3] is None]
@@ -339,5 +411,10 @@ def drawn():
     return f"{count} sequences: {count - len(found)} the same, {len(found)} differ for known reasons ({why})"
 
 
+def named(path):
+    global SIEVED
+    SIEVED = path
+
+
 if __name__ == "__main__":
-    trials.main({"cases": cases, "drawn": drawn}, lambda path: None)
+    trials.main({"cases": cases, "beside": beside, "drawn": drawn}, named)

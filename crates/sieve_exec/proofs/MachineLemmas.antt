@@ -7,13 +7,13 @@ use Rattle.std.proofs.lemmas.Bool.{lt-ltb, le-ltb}
 use Rattle.std.proofs.lemmas.List.{length-map}
 use Rattle.std.proofs.lemmas.Option.{same_Some, slice_get-map, slice_get_past, slice_get_read, slice_get_within}
 use Rattle.sieve_syntax.specs.declared.tree.checks.MailCheck.{MailCheck}
-use Rattle.sieve_syntax.specs.RunState.{RunState, TooMuchWork, Flow, Going}
+use Rattle.sieve_syntax.specs.RunState.{RunState, at_first, TooMuchWork, Flow, Going}
 use Rattle.sieve_syntax.specs.RunState as F
 use Rattle.sieve_syntax.specs.Meaning.{TestAsking, asking_at, Outcome as OutcomeSpec, Failed, outcome_after}
 use Rattle.sieve_syntax.specs.Work.{max_work, within_work}
 use Rattle.sieve_code.specs.declared.instr.Instr.{Instr}
 use Rattle.sieve_code.specs.Instructions.{Instruction, instr_view}
-use Rattle.sieve_code.specs.Jumps.{Course, course_of, with_work, IsForward, LeadsForward, Run, after_work, instr_work, turn, at_place, paid_turn, jumps_from, outcome_of, RunEnd, Ended, Broken, end_by, end_within}
+use Rattle.sieve_code.specs.Jumps.{Course, course_of, with_work, IsForward, LeadsForward, Run, after_work, instr_work, turn, at_place, paid_turn, jumps_from, outcome_of, RunEnd, Ended, Broken, end_by, end_within, ends_within, jumps}
 use Rattle.sieve_code.proofs.Runs.{behind_none, behind_both}
 use Rattle.sieve_code.proofs.Endings.{turn_ends, comes_to_an_end}
 use Rattle.sieve_exec.specs.Mails.{MailSpec}
@@ -172,7 +172,7 @@ over_is most whole flow left is =
     ∙ ap (λ n. Some (end_by flow n)) taken
 
 -- the outcome of a run that begins with nothing, by its end: that behind its implicit keep
-abbrev outcome_by_end : RunEnd → OutcomeSpec
+abbrev pub outcome_by_end : RunEnd → OutcomeSpec
 outcome_by_end (Ended so_far work) = outcome_after (Going so_far)
 outcome_by_end (Broken failure) = Failed failure
 
@@ -185,9 +185,14 @@ by_end course = step (nat_lt max_work course.work) course.flow
     step false (F.Stopped state) = refl
     step false (F.Failed failure) = refl
 
-pub outcome_is : (whole : Option Course) (end : RunEnd) → Some end ≡ option_map (end_within max_work) whole → outcome_of whole ≡ Some (outcome_by_end end)
+outcome_is : (whole : Option Course) (end : RunEnd) → Some end ≡ option_map (end_within max_work) whole → outcome_of whole ≡ Some (outcome_by_end end)
 outcome_is None end is = absurd (cc is)
 outcome_is (Some course) end is = ap Some (by_end course ∙ ap outcome_by_end (sym (same_Some _ _ is)))
+
+-- so that of code, by the end of its run that begins with nothing
+pub comes_to : (asking : TestAsking) (work : RunState → MailCheck → ℕ) (code : List Instruction) (first : RunState) (end : RunEnd) → Some end ≡ ends_within asking work max_work code first → first ≡ at_first
+    → jumps asking work code (length code) ≡ Some (outcome_by_end end)
+comes_to asking work code first end is same = outcome_is (jumps_from asking work code (length code) 0 false at_first) end (is ∙ ap (ends_within asking work max_work code) same)
 
 -- the outcome of a run that is over
 pub over_so : (result : Result Outcome AllocError) (end : OutcomeSpec) (whole : Option Course) → outcome_of whole ≡ Some end → IfOk result (λ done. outcome_view done ≡ end) → IfOk result (λ done. Some (outcome_view done) ≡ outcome_of whole)

@@ -1,7 +1,7 @@
 //! `fileinto`: the message is filed into a mailbox (RFC 5228, 4.1).
 ghost use Rattle.std.specs.Prelude.{◌≡◌, IfOk};
 ghost use Rattle.sieve_syntax.specs.RunState.{mailbox_named, performed};
-ghost use Rattle.sieve_syntax.specs.declared.tree.action.Action.TheVariants.{FileInto};
+ghost use Rattle.sieve_syntax.specs.declared.tree.action.Action.TheVariants as action;
 
 use crate::outcome::Failure;
 use crate::run_state::{INBOX, RunState};
@@ -17,7 +17,7 @@ impl RunState {
         alloc: Global,
         filing: &FileInto,
     ) -> Result<Option<Failure>, AllocError>
-        ensures { IfOk result (λ failed. flow_of failed (run_state_of self.new) ≡ performed (FileInto filing.now) (run_state_of self.old)) }
+        ensures { IfOk result (λ failed. flow_of failed (run_state_of self.new) ≡ performed (action.FileInto filing.now) (run_state_of self.old)) }
     {
         let mailbox = mailbox_named(filing.mailbox.as_slice());
         self.names_inbox = self.names_inbox || mailbox == INBOX;

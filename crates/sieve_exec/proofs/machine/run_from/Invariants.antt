@@ -11,7 +11,7 @@ use Rattle.sieve_exec.proofs.machine.run_from.Given as goal
 abbrev pub invariant-loop-place : goal.invariant-loop-place
 invariant-loop-place l = record {
   cached : l.machine.cached ≡ l.mail;
-  gives : Gives (asking_at (truth_at l.mail)) (work_at l.mail) l.most l.code (jumps_from (asking_at (truth_at l.mail)) (work_at l.mail) l.code (length l.code) 0 false (run_state_of l.state)) l.place l.machine.flag (run_state_of l.machine.state) l.machine.left;
+  gives : Gives (asking_at (truth_at l.mail)) (work_at l.mail) l.most l.code (jumps_from (asking_at (truth_at l.mail)) (work_at l.mail) l.code (length l.code) 0 false (run_state_of l.initial.machine.state)) l.place l.machine.flag (run_state_of l.machine.state) l.machine.left;
 }
 
 abbrev pub decreases-loop-place : goal.decreases-loop-place
