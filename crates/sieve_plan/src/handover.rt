@@ -87,14 +87,19 @@ impl Standing {
         ensures { IfOk result (λ end. (flags : ListOf (ListOf ℕ)) (is_kept : Bool)
             → IsScriptEnd (ended_by (handover_by self flags is_kept) (Going (run_state_of at_end))) (deeds_in self.done) end) }
     {
+        let Standing {
+            done,
+            names_inbox,
+            keep_flags,
+        } = self;
         let is_kept = at_end.has_kept || !at_end.cancelled;
-        let keep_flags = keep_flags_behind(alloc, &at_end, &self.keep_flags)?;
+        let next_flags = keep_flags_behind(alloc, &at_end, &keep_flags)?;
         let mut kept = at_end;
-        if let Some(failure) = kept.keep_implicitly(alloc, self.keep_flags)? {
-            return Ok(ScriptEnd::Failed(self.done, failure));
+        if let Some(failure) = kept.keep_implicitly(alloc, keep_flags)? {
+            return Ok(ScriptEnd::Failed(done, failure));
         }
-        let Deeds { filed, reply, .. } = self.done;
-        let before = filed_for_good(self.names_inbox, filed.into_vec());
+        let Deeds { filed, reply, .. } = done;
+        let before = filed_for_good(names_inbox, filed.into_vec());
         let names_inbox = has_inbox(before.as_slice()) || kept.names_inbox;
         Ok(ScriptEnd::Ended(Handover {
             stands: Standing {
@@ -104,7 +109,7 @@ impl Standing {
                     reply: first_reply(reply, kept.reply),
                 },
                 names_inbox,
-                keep_flags,
+                keep_flags: next_flags,
             },
             flags: kept.flags,
             is_kept,

@@ -7,6 +7,7 @@ ghost use Rattle.sieve_plan.specs.SequencePlans.{settled_of};
 ghost use Rattle.sieve_plan.specs.Turns.{script_in, sequence_state_of};
 
 use crate::deeds::Deeds;
+use crate::handover::Handover;
 use crate::looping::is_looping;
 use crate::notice::FailureNotice;
 use crate::scripts::{HostScripts, SequenceScript, sequence};
@@ -94,8 +95,9 @@ fn settle_in_turn(
 fn settled_well(state: SequenceState) -> Settlement
     ensures { settled_of result ≡ settled_well (sequence_state_of state).done }
 {
+    let Handover { stands, .. } = state.left;
     Settlement {
-        deeds: state.left.stands.done,
+        deeds: stands.done,
         notice: None,
     }
 }

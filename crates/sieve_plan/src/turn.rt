@@ -58,10 +58,10 @@ pub(crate) fn take_turn(
 {
     match check(alloc, script.text) {
         Ok(checked) => run_script(alloc, script.whose, &checked, mail, state),
-        Err(ScriptError::Fault(_)) => Ok(Turn::Failed(
-            state.left.stands.done,
-            NoticeCause::Invalid,
-        )),
+        Err(ScriptError::Fault(_)) => {
+            let Handover { stands, .. } = state.left;
+            Ok(Turn::Failed(stands.done, NoticeCause::Invalid))
+        }
         Err(ScriptError::Memory) => Err(AllocError),
     }
 }
