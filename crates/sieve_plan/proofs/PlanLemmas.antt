@@ -1,6 +1,5 @@
 -- What a plan makes of an account is what a delivery makes of it.
-use Rattle.std.proofs.Common.{◌≡◌, ◌-◌, ◌<◌, ℕ, true, false, cond, nat_lt, length, take, List, [], ◌∷◌, map, Option, Some, None, Ok, Err, Result, IfOk, refl, sym, ap, ◌∙◌, subst, arith}
-use Rattle.std.specs.declared.alloc.AllocError.{AllocError}
+use Rattle.std.proofs.Common.{◌≡◌, ◌-◌, ◌<◌, ℕ, true, false, cond, nat_lt, length, take, List, [], ◌∷◌, map, Option, Some, None, refl, sym, ap, ◌∙◌, subst, arith}
 use Rattle.std.proofs.Math.Seq.{take-nil}
 use Rattle.std.proofs.lemmas.Bool.{le-ltb}
 use Rattle.std.proofs.lemmas.List.{length-map, take-map}
@@ -12,13 +11,13 @@ use Rattle.sieve_syntax.specs.Meaning.{Actions}
 use Rattle.sieve_syntax.specs.declared.extension.vacation.VacationArgs.{VacationArgs}
 use Rattle.sieve_exec.specs.Mails.{MailSpec}
 use Rattle.sieve_vacation.specs.Reasons.{decision_of}
-use Rattle.store_accounts.specs.Account.{Account, room_in, files_copies, adds_notice_if_any, queues, remembers_sent, sends_on, replies_if_any, delivers}
+use Rattle.store_accounts.specs.Account.{Account, room_in, files_copies, queues, remembers_sent, sends_on, replies_if_any}
 use Rattle.store_tables.specs.declared.queue.QueuedKind.TheVariants as kind
 use Rattle.store_accounts.specs.declared.reply.ReplyKey.{ReplyKey}
 use Rattle.store_accounts.specs.declared.report.SentMemory.{SentMemory}
 use Rattle.store_accounts.specs.declared.report.Plan.{Plan}
 use Rattle.sieve_plan.specs.declared.view.AccountView.{AccountView}
-use Rattle.sieve_plan.specs.Sent.{fresh, going, half_of, held_notice, kept_handles, let_through, limits, limits_by, most_of_size, most_sent, not_among, redirect_key, over_keys, sent_handle, known_targets}
+use Rattle.sieve_plan.specs.Sent.{fresh, going, half_of, held_notice, kept_handles, let_through, limits, limits_by, most_of_size, most_sent, not_among, redirect_key, sent_handle, known_targets}
 use Rattle.sieve_plan.specs.Views.{IsViewOf, asks_for, known_of, last_of, last_reply}
 use Rattle.sieve_plan.specs.Delivered.{Response, Silent, NoRoom, Quiet, Sent, Responds, FollowsDecision, acts, done_of, held_of, redirects, remembers_going, responds, with_inbox}
 use Rattle.sieve_plan.specs.Plans.{IsMemoryOf, IsVacationPlan, deeds_by, filed_by, fresh_by, going_by, limits_in, notice_by, reply_of}

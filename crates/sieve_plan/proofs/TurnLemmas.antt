@@ -1,13 +1,14 @@
 -- A script's turn, and the turns of a sequence.
-use Rattle.std.proofs.Common.{◌≡◌, ◌≤◌, ◌<◌, ◌+◌, ◌^◌, ℕ, Bool, true, false, cond, ◌||◌, List, [], ◌∷◌, drop, length, Option, Some, None, refl, sym, ap, subst, ◌∙◌, arith, inl, inr}
-use Rattle.std.specs.Prelude.{MatchBool, nat_lt}
+use Rattle.std.proofs.Common.{◌≡◌, ◌≤◌, ◌<◌, ◌+◌, ◌^◌, ℕ, Bool, true, false, cond, ◌||◌, List, [], ◌∷◌, drop, drop-cons, get_or, length, map, suc, Option, Some, refl, sym, ap, subst, ◌∙◌, arith, inl, inr}
+use Rattle.std.specs.Prelude.{MatchBool, nat_lt, not}
 use Rattle.std.specs.Option.{option_map}
 use Rattle.std.proofs.lemmas.Bool.Decides.{nat_tests}
+use Rattle.std.proofs.lemmas.List.{drop-map}
 use Rattle.std.proofs.lemmas.Option.{same_Some}
 use Rattle.sieve_syntax.specs.Tree.{Commands}
 use Rattle.sieve_syntax.specs.Means.{Means}
-use Rattle.sieve_syntax.specs.RunState.{RunState, Failure, TooMuchWork, TooManyMailboxes, Flow, Going, Stopped, Failed, inbox, is_filed, has_room, with_filed, cancelled_after, filed_into, implicit_flags, kept_with}
-use Rattle.sieve_syntax.specs.Meaning.{Actions, TestAsking, does_all}
+use Rattle.sieve_syntax.specs.RunState.{RunState, Failure, TooMuchWork, TooManyMailboxes, Flow, Going, Stopped, Failed, inbox, is_filed, has_room, with_filed, cancelled_after, implicit_flags, kept_with}
+use Rattle.sieve_syntax.specs.Meaning.{Actions, does_all}
 use Rattle.sieve_syntax.specs.Work.{all_take}
 use Rattle.sieve_code.specs.Instructions.{Instruction}
 use Rattle.sieve_code.specs.Jumps.{Course, RunEnd, end_by, end_within, ends_within, tree_course, IsCodeOf}
@@ -17,13 +18,14 @@ use Rattle.sieve_exec.specs.Work.{work_at}
 use Rattle.sieve_plan.specs.declared.handover.Handover.{Handover as Left}
 use Rattle.sieve_plan.specs.declared.handover.Standing.{Standing}
 use Rattle.sieve_plan.specs.declared.scripts.HostScripts.{HostScripts}
+use Rattle.sieve_plan.specs.declared.scripts.SequenceScript.{SequenceScript as Script}
 use Rattle.sieve_plan.specs.declared.scripts.Whose.{Whose}
 use Rattle.sieve_plan.specs.declared.scripts.Whose.TheVariants.{Before, Own, After}
-use Rattle.sieve_plan.specs.Handover.{Handover, begins_from, leaves_kept, filed_behind, filed_for_good, first_reply, inbox_flags, done_behind, leaves, ScriptEnd, Ended, Broken, ended_with, ended_by, end_of_run}
+use Rattle.sieve_plan.specs.Handover.{Handover, begins_from, leaves_kept, filed_behind, filed_for_good, first_reply, inbox_flags, done_behind, Ended, Broken, ended_with, ended_by}
 use Rattle.sieve_plan.specs.Plans.{deeds_in}
 use Rattle.sieve_plan.specs.Delivered.{failure_text, has_long_header, is_looping, kept, long_text, loop_text}
-use Rattle.sieve_plan.specs.Sequences.{SequenceScript, SequenceState, asking_on, end_at, max_host_work, work_limit, host_work_behind, RunsToEnd, FailsFor, Breaks, told_of, Settled, settled_well, settled_unrun, SettlesInTurn, SettlesUnder, sequence_of, at_beginning}
-use Rattle.sieve_plan.specs.Turns.{handover_by, handover_of}
+use Rattle.sieve_plan.specs.Sequences.{SequenceScript, SequenceState, asking_on, work_limit, host_work_behind, RunsToEnd, FailsFor, Breaks, told_of, Settled, settled_well, settled_unrun, SettlesInTurn, SettlesUnder, sequence_of, at_beginning}
+use Rattle.sieve_plan.specs.Turns.{handover_by, handover_of, script_in}
 
 -- ---- a run
 
@@ -164,6 +166,23 @@ host_work_fits Own work host_work small low = low
 host_work_fits After work host_work small low = omega (arith, small, low)
 
 -- ---- the turns of a sequence
+
+pub was_false : (b : Bool) → not b ≡ true → b ≡ false
+was_false true is = absurd (cc is)
+was_false false is = refl
+
+pub was_true : (b : Bool) → not b ≡ false → b ≡ true
+was_true true is = refl
+was_true false is = absurd (cc is)
+
+-- the script at a place, and those behind it
+pub next_script : (scripts : List Script) (place : ℕ) (other : Script) → place < length scripts
+    → drop place (map script_in scripts) ≡ script_in (get_or scripts place other) ∷ drop (place + 1) (map script_in scripts)
+next_script scripts place other low =
+    let after : suc place ≡ place + 1 = omega arith in
+    drop-map script_in place scripts
+    ∙ (ap (map script_in) (drop-cons scripts place other low)
+    ∙ (ap (λ l. script_in (get_or scripts place other) ∷ l) (sym (drop-map script_in (suc place) scripts)) ∙ ap (λ n. script_in (get_or scripts place other) ∷ drop n (map script_in scripts)) after))
 
 module _ (mail : MailSpec) (all : List SequenceScript) (from state : SequenceState) (place : ℕ)
     (so : (settled : Settled) → SettlesInTurn mail (drop place all) state settled → SettlesInTurn mail all from settled) where

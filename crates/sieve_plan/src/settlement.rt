@@ -11,7 +11,7 @@ use crate::handover::Handover;
 use crate::looping::is_looping;
 use crate::notice::FailureNotice;
 use crate::scripts::{HostScripts, SequenceScript, sequence};
-use crate::turn::{SequenceState, Turn, take_turn};
+use crate::turn::{SequenceState, ScriptTurn, take_turn};
 use sieve_exec::Mail;
 use std::alloc::{AllocError, Global};
 
@@ -71,7 +71,7 @@ fn settle_in_turn(
     let mut state = SequenceState::first(alloc)?;
     for script in scripts {
         match take_turn(alloc, script, mail, state)? {
-            Turn::Failed(deeds, cause) => {
+            ScriptTurn::Failed(deeds, cause) => {
                 return Ok(Settlement {
                     deeds,
                     notice: Some(FailureNotice::Script {
@@ -80,7 +80,7 @@ fn settle_in_turn(
                     }),
                 });
             }
-            Turn::Ended(next) => {
+            ScriptTurn::Ended(next) => {
                 if !next.left.is_kept {
                     return Ok(settled_well(next));
                 }
