@@ -11,7 +11,7 @@ use crate::handover::Handover;
 use crate::looping::is_looping;
 use crate::notice::FailureNotice;
 use crate::scripts::{HostScripts, SequenceScript, sequence};
-use crate::turn::{SequenceState, ScriptTurn, take_turn};
+use crate::turn::{ScriptTurn, SequenceState, take_turn};
 use sieve_exec::Mail;
 use std::alloc::{AllocError, Global};
 
@@ -95,7 +95,8 @@ fn settle_in_turn(
 fn settled_well(state: SequenceState) -> Settlement
     ensures { settled_of result ≡ settled_well (sequence_state_of state).done }
 {
-    let Handover { stands, .. } = state.left;
+    let SequenceState { left, .. } = state;
+    let Handover { stands, .. } = left;
     Settlement {
         deeds: stands.done,
         notice: None,
