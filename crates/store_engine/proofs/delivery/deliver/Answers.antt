@@ -140,6 +140,12 @@ returns-in_err-view-clause-acts g c =
 pub returns-in_err-view-clause-spaced : goal.returns-in_err-view-clause-spaced
 returns-in_err-view-clause-spaced g c = delivery_spaced c.args.user.now c.args.envelope c.args.message.now (terms_of c.args.terms) (state g.S.Store c.args.store.now) (state g.S.Store c.recall.new.store) c.from_residual-in_err-view.result (returns-in_err-view-clause-acts g c)
 
+pub returns-in_err-view-clause-named : goal.returns-in_err-view-clause-named
+returns-in_err-view-clause-named g c =
+    let told = err_from_is_err_and c.from_residual-in_err-view.result c.from_residual-in_err-view.ensures.1 in
+    let transient : IfErr c.from_residual-in_err-view.result IsTransient = rw (told.1, told.2) c.in_err-view.ensures.named in
+    transient_refuses c.args.envelope c.args.message.now c.args.terms.when.moment c.from_residual-in_err-view.result (sym c.limit_refusal.ensures ∙ c.in_default.is) transient
+
 pub plan-requires : goal.plan-requires
 plan-requires g c = subst (λ (mail : MailSpec). mail.moment ≤ 253402300799) (sym c.in_ok-mail.ensures) (moment_fits c.args.envelope c.args.message.now c.args.terms.when.moment (sym c.limit_refusal.ensures ∙ c.in_default.is))
 
