@@ -113,7 +113,7 @@ fn add_failure(
     text: &mut Octets,
     notice: Option<FailureNotice>,
 ) -> Result<(), AllocError>
-    ensures { OnOk result (text.new ≡ text.old ++ flat_map ended_line (failure_lines (notice_of notice.entry))) }
+    ensures { OnOk result (text.new ≡ text.old ++ flat_map ended_line (failure_lines (notice_of notice))) }
 {
     match notice {
         Some(why) => add_line(text, b"failed: ", why.text(alloc)?.as_slice()),
