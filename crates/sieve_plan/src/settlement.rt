@@ -11,7 +11,7 @@ use crate::handover::Handover;
 use crate::looping::is_looping;
 use crate::notice::FailureNotice;
 use crate::scripts::{HostScripts, SequenceScript, sequence};
-use crate::turn::{ScriptTurn, SequenceState, take_turn};
+use crate::turn::{SequenceState, TurnEnd, take_turn};
 use sieve_exec::Mail;
 use std::alloc::{AllocError, Global};
 
@@ -71,7 +71,7 @@ fn settle_in_turn(
     let mut state = SequenceState::first(alloc)?;
     for script in scripts {
         match take_turn(alloc, script, mail, state)? {
-            ScriptTurn::Failed(deeds, cause) => {
+            TurnEnd::Failed(deeds, cause) => {
                 return Ok(Settlement {
                     deeds,
                     notice: Some(FailureNotice::Script {
@@ -80,7 +80,7 @@ fn settle_in_turn(
                     }),
                 });
             }
-            ScriptTurn::Ended(next) => {
+            TurnEnd::Ended(next) => {
                 if !next.left.is_kept {
                     return Ok(settled_well(next));
                 }

@@ -28,7 +28,7 @@ pub struct SequenceState {
 
 /// What a script's turn comes to.
 #[derive(Drop)]
-pub enum ScriptTurn {
+pub enum TurnEnd {
     /// It ran to its end, and the sequence has come so far.
     Ended(SequenceState),
     /// It failed: this is done by those before it.
@@ -53,7 +53,7 @@ pub(crate) fn take_turn(
     script: &SequenceScript<'_>,
     mail: &Mail<'_>,
     state: SequenceState,
-) -> Result<ScriptTurn, AllocError>
+) -> Result<TurnEnd, AllocError>
     ensures { IfOk result (TakesScriptTurn mail.now (script_in script.now) (sequence_state_of state)) }
 {
     match check(alloc, script.text) {
@@ -61,7 +61,7 @@ pub(crate) fn take_turn(
         Err(ScriptError::Fault(_)) => {
             let SequenceState { left, .. } = state;
             let Handover { stands, .. } = left;
-            Ok(ScriptTurn::Failed(stands.done, NoticeCause::Invalid))
+            Ok(TurnEnd::Failed(stands.done, NoticeCause::Invalid))
         }
         Err(ScriptError::Memory) => Err(AllocError),
     }
@@ -74,7 +74,7 @@ fn run_script(
     script: &Script,
     mail: &Mail<'_>,
     state: SequenceState,
-) -> Result<ScriptTurn, AllocError>
+) -> Result<TurnEnd, AllocError>
     ensures { IfOk result (λ turn. (text : List ℕ) → Means text (script_tree script.now) → TakesScriptTurn mail.now (record { whose = whose; text = text }) (sequence_state_of state) turn) }
 {
     let code = compile(alloc, script)?;
@@ -83,16 +83,16 @@ fn run_script(
     let Handover { stands, flags, .. } = left;
     let begun = stands.begin(alloc, flags)?;
     match run_from(alloc, &code, mail, begun, most)? {
-        RunEnd::Failed(failure) => Ok(ScriptTurn::Failed(stands.done, NoticeCause::Failed(failure))),
+        RunEnd::Failed(failure) => Ok(TurnEnd::Failed(stands.done, NoticeCause::Failed(failure))),
         RunEnd::Ended {
             state: at_end,
             work,
         } => match stands.end(alloc, at_end)? {
-            ScriptEnd::Failed(done, failure) => Ok(ScriptTurn::Failed(
+            ScriptEnd::Failed(done, failure) => Ok(TurnEnd::Failed(
                 done,
                 NoticeCause::Failed(failure),
             )),
-            ScriptEnd::Ended(left) => Ok(ScriptTurn::Ended(SequenceState {
+            ScriptEnd::Ended(left) => Ok(TurnEnd::Ended(SequenceState {
                 left,
                 host_work: host_work_behind(whose, work, host_work),
             })),
