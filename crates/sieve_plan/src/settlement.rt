@@ -11,7 +11,7 @@ use crate::handover::Handover;
 use crate::looping::is_looping;
 use crate::notice::FailureNotice;
 use crate::scripts::{HostScripts, SequenceScript, sequence};
-use crate::turn::{SequenceState, Turn, take_turn};
+use crate::turn::{SequenceState, TurnEnd, take_turn};
 use sieve_exec::Mail;
 use std::alloc::{AllocError, Global};
 
@@ -47,8 +47,7 @@ pub fn settle(
     settle_scripts(alloc, host, own, mail)
 }
 
-/// What the host's scripts and the user's come to on a mail, as [`settle`] says it, however many Received fields the mail has and
-/// however long its header is.
+/// What the host's scripts and the user's come to on a mail, as [`settle`] says it, however often that mail was received.
 pub fn settle_scripts(
     alloc: Global,
     host: &HostScripts,
@@ -72,7 +71,7 @@ fn settle_in_turn(
     let mut state = SequenceState::first(alloc)?;
     for script in scripts {
         match take_turn(alloc, script, mail, state)? {
-            Turn::Failed(deeds, cause) => {
+            TurnEnd::Failed(deeds, cause) => {
                 return Ok(Settlement {
                     deeds,
                     notice: Some(FailureNotice::Script {
@@ -81,7 +80,7 @@ fn settle_in_turn(
                     }),
                 });
             }
-            Turn::Ended(next) => {
+            TurnEnd::Ended(next) => {
                 if !next.left.is_kept {
                     return Ok(settled_well(next));
                 }

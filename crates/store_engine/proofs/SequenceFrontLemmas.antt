@@ -43,14 +43,17 @@ module _ (one other : MailSpec) (truth : truth_at one ≡ truth_at other) (work 
   fails_same script state why (IsInvalid none is) = IsInvalid none is
   fails_same script state why (Breaks tree failure means ends is) = Breaks tree failure means (sym (ends_same script.whose tree state) ∙ ends) is
 
+  settles_then : (more : List SequenceScript) (rest : (state : SequenceState) (settled : Settled) → SettlesInTurn one more state settled → SettlesInTurn other more state settled)
+      (next : SequenceState) (settled : Settled) (goes_on : Bool)
+      → MatchBool goes_on (SettlesInTurn one more next settled) (settled ≡ settled_well next.done) → MatchBool goes_on (SettlesInTurn other more next settled) (settled ≡ settled_well next.done)
+  settles_then more rest next settled true is = rest next settled is
+  settles_then more rest next settled false is = is
+
   settles_same : (scripts : List SequenceScript) (state : SequenceState) (settled : Settled) → SettlesInTurn one scripts state settled → SettlesInTurn other scripts state settled
   settles_same [] state settled is = is
   settles_same (script ∷ more) state settled (inl is) = inl (record { why = is.why; fails = fails_same script state is.why is.fails; stands = is.stands; told = is.told })
-  settles_same (script ∷ more) state settled (inr (next, runs, then)) = inr (next, runs_same script state next runs, go next.left.is_kept then)
-    where
-      go : (b : Bool) → MatchBool b (SettlesInTurn one more next settled) (settled ≡ settled_well next.done) → MatchBool b (SettlesInTurn other more next settled) (settled ≡ settled_well next.done)
-      go true is = settles_same more next settled is
-      go false is = is
+  settles_same (script ∷ more) state settled (inr (next, runs, then)) =
+      inr (next, runs_same script state next runs, settles_then more (λ from to is. settles_same more from to is) next settled next.left.is_kept then)
 
 -- ---- a mail with other octets
 
