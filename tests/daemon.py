@@ -9,7 +9,7 @@ does a tenth of what is done many times. It needs python3 alone.
 The trials: says, examples, octets, rubbish, silent, fifty, sixty, crowd, places, limits, knocks, waiters, busy, share, deaf, stalls, guesses, hostile, waits, away,
 fails, rests, tells, killed, growth; without a word, all.
 """
-import fcntl, os, random, re, select, shutil, socket, subprocess, threading, time
+import fcntl, hashlib, os, random, re, select, shutil, socket, subprocess, threading, time
 import trials
 from hostile import RULES, SESSION, Ledger, memory, said, until_ok
 from lmtp import Peer, daemon, greet
@@ -57,14 +57,23 @@ def says():
         assert told_of(store, *db, *port, "--memory", size, "--check") == (0, "", ""), size
     for zone in "+2400", "-0060", "Europe/Berlin", "ABC24", "":
         assert told_of(store, *db, *port, "--zone", zone, "--check") == (64, "", "sieved: bad argument\n"), zone
-    script = f"{store.folder.name}/default.sieve"
-    assert told_of(store, *db, *port, "--default", script) == (75, "", f"{script}: no such file\n")
-    open(script, "w").write("keep;\nfrob;\n")
-    assert told_of(store, *db, *port, "--default", script) == (65, f"{script}:2: unknown command\n", "")
-    open(script, "w").write(" " * 262140 + "keep;")
-    assert told_of(store, *db, *port, "--default", script, "--check") == (65, "", f"{script}: script too large\n")
-    open(script, "w").write(" " * 262139 + "keep;")
-    assert told_of(store, *db, *port, "--default", script, "--zone", "CET-1CEST,M3.5.0,M10.5.0/3", "--check") == (0, "", "")
+    script, good = f"{store.folder.name}/host.sieve", f"{store.folder.name}/good.sieve"
+    open(good, "w").write("keep;\n")
+    for word in "--before", "--default", "--after":
+        if os.path.exists(script):
+            os.remove(script)
+        beside = [] if word == "--default" else [word, good]
+        assert told_of(store, *db, *port, *beside, word, script) == (75, "", f"{script}: no such file\n"), word
+        open(script, "w").write("keep;\nfrob;\n")
+        assert told_of(store, *db, *port, *beside, word, script) == (65, f"{script}:2: unknown command\n", ""), word
+        open(script, "w").write(" " * 262140 + "keep;")
+        assert told_of(store, *db, *port, *beside, word, script, "--check") == (65, "", f"{script}: script too large\n"), word
+        open(script, "w").write(" " * 262139 + "keep;")
+        assert told_of(store, *db, *port, *beside, word, script, "--zone", "CET-1CEST,M3.5.0,M10.5.0/3", "--check") == (0, "", ""), word
+    for word in "--before", "--after":
+        assert told_of(store, *db, *port, *[word, good] * 16, "--check") == (0, "", ""), word
+        many = "sieved: bad argument\nsieved: more than 16 files for --before, or for --after\n"
+        assert told_of(store, *db, *port, *[word, good] * 17, "--check") == (64, "", many), word
     for file in absent, foreign:
         assert told_of(store, "--db", file, *port) == (65, "", "sieved: not a sieved database\n"), told_of(store, "--db", file, *port)
         assert told_of(store, "--db", file, *port, "--check") == (65, "", "sieved: not a sieved database\n")
@@ -654,9 +663,13 @@ def rests():
 
 
 def tells():
-    """The first line has version and process; behind a minute in which something happened one has its counts."""
+    """The first line has version and process, and the next ones name the files of the host's scripts; behind a minute in which something happened one has its counts."""
     store = new_store("alice", "bob")
-    words = store.words("daemon", "--managesieve", "0", "--lmtp", "0", "--quiet")
+    scripts = {f"{store.folder.name}/{name}.sieve": text for name, text in [("one", b"keep;"), ("two", b""), ("three", b"stop;\n"), ("four", b"# 4")]}
+    for file, text in scripts.items():
+        open(file, "wb").write(text)
+    one, two, three, four = scripts
+    words = store.words("daemon", "--managesieve", "0", "--lmtp", "0", "--quiet", "--after", four, "--before", one, "--default", three, "--before", two)
     server = subprocess.Popen(words, stdout=subprocess.PIPE, stderr=subprocess.PIPE)
     port, mail = (int(server.stdout.readline().rsplit(b":", 1)[1]) for _ in range(2))
     began = time.time()
@@ -672,6 +685,9 @@ def tells():
     first = server.stderr.readline().decode()
     version = subprocess.run([PROGRAM[0], "--version"], capture_output=True, text=True).stdout.split()[-1]
     assert first == f"sieved: begins version={version} pid={server.pid}\n", first
+    for word, file in ("before", one), ("before", two), ("default", three), ("after", four):
+        line, sum = server.stderr.readline().decode(), hashlib.sha256(scripts[file]).hexdigest()
+        assert line == f"sieved: {word} file={file} sha256={sum}\n", line
     status = server.stderr.readline().decode()
     after = time.time() - began
     end(server)

@@ -70,18 +70,31 @@ def octets_of(message):
             f"{id_line}{message['more']}\r\n{message['text']}\r\n")
 
 
-def deliver(acc, sender, message, moment, default=None):
+def come_to(message, scripts):
+    """Folders, targets, vacation and the notice of a failure: scripts one behind the other, each with what a notice of it begins with, as
+    docs/SCRIPTS.md has it. The next one runs where the message is still to be kept, which each of SCRIPTS says by INBOX."""
+    others, targets, vacation, is_kept = [], [], None, True
+    for whose, script in scripts:
+        meaning = SCRIPTS[script][1](message)
+        if isinstance(meaning, str):
+            return others + ["INBOX"], targets, vacation, whose + meaning
+        folders, more, answering = meaning
+        others += [name for name in folders if name != "INBOX" and name not in others]
+        targets += [target for target in more if target not in targets]
+        vacation, is_kept = vacation or answering, "INBOX" in folders
+        if not is_kept:
+            break
+    return others + ["INBOX"] * is_kept, targets, vacation, None
+
+
+def deliver(acc, sender, message, moment, default=None, before=None, after=None):
     """The lines of the report (RFC 5228, 2.10; RFC 5230, 4); the host's default script decides where none is active."""
     octets = octets_of(message)
-    script = acc["scripts"][acc["active"]] if acc["active"] else default
-    meaning = SCRIPTS[script][1](message) if script else (["INBOX"], [], None)
+    own = acc["scripts"][acc["active"]] if acc["active"] else default
+    scripts = [(whose, script) for whose, script in (("before: ", before), ("", own), ("after: ", after)) if script]
+    folders, targets, vacation, failure = come_to(message, scripts)
     if message["more"].count("Received:") > 100:
-        meaning = "more than 100 Received fields"
-    if isinstance(meaning, str):
-        acc["folders"].setdefault("INBOX", []).append(octets)
-        acc["notices"].append((moment, meaning))
-        return ["file INBOX", "notice " + meaning]
-    folders, targets, vacation = meaning
+        folders, targets, vacation, failure = ["INBOX"], [], None, "more than 100 Received fields"
     known = sent_to(acc, message, moment)
     fresh = [target for target in targets if target not in known]
     limits = [(MOST_WAITING - len(acc["queue"]), "queue is full"), (max(1, MOST_WRITTEN // len(octets)), "too large to be sent on to all"),
@@ -97,11 +110,11 @@ def deliver(acc, sender, message, moment, default=None):
         acc["queue"].append((acc["ids"], "redirect", sender, target, len(octets)))
         acc["ids"] += 1
         lines.append("send " + target)
-    remember(acc, message, going, moment)
+    remember(acc, message, going, moment, failure is None)
     if vacation:
         lines.append(answer(acc, sender, message, vacation, moment))
-    if len(going) < len(targets):
-        notice = next((text for most, text in limits if most < len(fresh)), "sent on before")
+    if failure or len(going) < len(targets):
+        notice = failure or next((text for most, text in limits if most < len(fresh)), "sent on before")
         acc["notices"].append((moment, notice))
         lines.append("notice " + notice)
     return lines or ["discard"]
@@ -119,10 +132,10 @@ def sent_to(acc, message, moment):
     return [target for (_, name, target), kept in acc["sent"].items() if name in names and abs(moment - kept) < HALF_DAY]
 
 
-def remember(acc, message, going, moment):
-    """What was sent on is kept by its half day; of half days before the last one 32 are forgotten, the oldest first."""
+def remember(acc, message, going, moment, forgets):
+    """What was sent on is kept by its half day; of half days before the last one 32 are forgotten, the oldest first, unless a script failed."""
     half = moment // HALF_DAY
-    for key in sorted(key for key in acc["sent"] if key[0] < half - 1)[:32]:
+    for key in sorted(key for key in acc["sent"] if key[0] < half - 1)[:32] if forgets else []:
         del acc["sent"][key]
     for target in going:
         acc["sent"][(half, names_of(message)[0], target)] = moment
@@ -488,7 +501,9 @@ def chosen_event(rng, streams, clock):
     if dice < 0.90:
         clock[0] += rng.choice([1, 1, 3600, DAY, 2 * DAY, -3600])
         sender = rng.choice(["bob@example.net"] * 6 + ["BOB@example.net", "dana@example.net", "", "owner-x@example.net", user + "@example.org"])
-        return ("deliver", user, sender, chosen_message(rng, user), clock[0], rng.choice([None, None, "lists", "two", "away", "none", "twice"]))
+        default = rng.choice([None, None, "lists", "two", "away", "none", "twice"])
+        host = [rng.choice([None, None, "keep", "lists", "lists", "copy", "away", "soon", "seen", "none", "twice"]) for _ in range(2)]
+        return ("deliver", user, sender, chosen_message(rng, user), clock[0], default, *host)
     if dice < 0.96:
         return chosen_keeping(rng, user, clock[0])
     if dice < 0.98:
@@ -533,7 +548,7 @@ def events_of(seed):
             streams[event[1]] = Stream(rng, SESSIONS[event[1]])
         events.append(event)
         if event[0] == "deliver" and len(events) < 300 and again.random() < 0.5:
-            events.append((*event[:4], event[4] + again.choice([0, 60, HALF_DAY - 1, HALF_DAY]), event[5]))
+            events.append((*event[:4], event[4] + again.choice([0, 60, HALF_DAY - 1, HALF_DAY]), *event[5:]))
     return events
 
 
@@ -554,8 +569,10 @@ def section(event, state):
     if kind == "deliver":
         lines = f"== from\n{event[2]}\n" if state.get("from") != event[2] else ""
         lines += f"== moment\n{event[4]}\n" if state.get("moment") != event[4] else ""
-        lines += ("== default\n" + SCRIPTS[event[5]][0] + "\n" if event[5] else "== default none\n") if state.get("default", "") != event[5] else ""
-        state.update({"from": event[2], "moment": event[4], "default": event[5]})
+        for word, script in zip(("default", "before", "after"), event[5:]):
+            lines += (f"== {word}\n{SCRIPTS[script][0]}\n" if script else f"== {word} none\n") if state.get(word, "") != script else ""
+            state[word] = script
+        state.update({"from": event[2], "moment": event[4]})
         return lines + f"== deliver {who}\n{octets_of(event[3]).replace(RECEIVED, '%{Received: x%0A*101}').replace(chr(13), '')}\n"
     if kind in ("password", "address"):
         return f"== {kind} {who}\n{event[2]}\n"

@@ -2,30 +2,42 @@
 use Rattle.std.proofs.Common.{◌≡◌, ℕ, List, refl, ap, get_or, [], ◌∷◌, ◌++◌, Some, None, arith}
 use Rattle.std.specs.Prelude.{codes}
 use Rattle.mail_flags.specs.declared.placement.Placement.{Placement}
-use Rattle.sieve_syntax.specs.Meaning.{Done, Failed}
-use Rattle.sieve_syntax.specs.RunState.{TooManyRedirects}
+use Rattle.sieve_syntax.specs.declared.extension.vacation.VacationArgs.{VacationArgs}
+use Rattle.sieve_plan.specs.Sequences.{settled_well}
 use Rattle.store_tables.specs.declared.queue.QueuedKind.TheVariants.{Redirect, Reply}
 use Rattle.store_accounts.specs.declared.report.VacationReport.TheVariants as vacation
 use Rattle.cli_reports.specs.Addresses.{shown_address, address_octet}
-use Rattle.cli_reports.specs.Reports.{delivery_report, outcome_report}
+use Rattle.cli_reports.specs.Reports.{delivery_report, settled_report}
 use Rattle.cli_reports.specs.Listings.{notice_line, notice_listing, queue_line, queue_listing}
 
 abbrev seen : List ℕ → Placement
 seen mailbox = record { mailbox = mailbox; flags = codes "\\Seen" }
 
 -- nothing done is told by `discard`, and mailboxes by a line each, without flags
-report-nothing : outcome_report (Done (record { filed = []; sent = []; reply = None })) ≡ codes "discard\n"
+report-nothing : settled_report (settled_well (record { filed = []; sent = []; reply = None })) ≡ codes "discard\n"
 report-nothing = refl
 
-report-two : outcome_report (Done (record { filed = seen (codes "lists") ∷ seen (codes "INBOX") ∷ []; sent = []; reply = None })) ≡ codes "file lists\nfile INBOX\n"
+report-two : settled_report (settled_well (record { filed = seen (codes "lists") ∷ seen (codes "INBOX") ∷ []; sent = []; reply = None })) ≡ codes "file lists\nfile INBOX\n"
 report-two = refl
 
 -- beside a mailbox there is no `discard`
-report-beside : outcome_report (Done (record { filed = seen (codes "INBOX") ∷ []; sent = []; reply = None })) ≡ codes "file INBOX\ndiscard\n" → ⊥
+report-beside : settled_report (settled_well (record { filed = seen (codes "INBOX") ∷ []; sent = []; reply = None })) ≡ codes "file INBOX\ndiscard\n" → ⊥
 report-beside e = cc
 
-report-failed : outcome_report (Failed TooManyRedirects) ≡ codes "failed: more than 16 redirects\n"
+-- of a script that failed what those before it did is told, and why it failed behind that
+report-failed :
+    settled_report (record { deeds = record { filed = seen (codes "Junk") ∷ seen (codes "INBOX") ∷ []; sent = []; reply = None }; notice = Some (codes "after: more than 16 redirects") })
+    ≡ codes "file Junk\nfile INBOX\nfailed: after: more than 16 redirects\n"
 report-failed = refl
+
+-- where nothing is done but that INBOX gets the message, the failure stands alone; where the sender is answered too, it doesn't
+report-failed-alone : (flags : List ℕ) → settled_report (record { deeds = record { filed = record { mailbox = codes "INBOX"; flags = flags } ∷ []; sent = []; reply = None }; notice = Some (codes "more than 16 redirects") })
+    ≡ codes "failed: more than 16 redirects\n"
+report-failed-alone flags = refl
+
+report-failed-answered : (args : VacationArgs) → settled_report (record { deeds = record { filed = seen (codes "INBOX") ∷ []; sent = []; reply = Some args }; notice = Some (codes "more than 16 redirects") })
+    ≡ codes "file INBOX\nvacation wanted\nfailed: more than 16 redirects\n"
+report-failed-answered args = refl
 
 -- a delivery tells of its folders, addresses, vacation reply and notice, in this order
 delivery-whole :

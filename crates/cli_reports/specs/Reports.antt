@@ -1,14 +1,15 @@
--- What the program prints of an outcome, of a delivery, or of a fault of the script.
-use Rattle.std.specs.Prelude.{ℕ, List, [], ◌∷◌, ◌++◌, codes, decimal, map, Bool, true, false, is_some, Option, Some, None}
+-- What the program prints of what scripts come to, of a delivery, or of a fault of the script.
+use Rattle.std.specs.Prelude.{ℕ, List, [], ◌∷◌, ◌++◌, ◌&&◌, ◌||◌, codes, cond, decimal, length, map, nat_eq, not, Bool, true, false, is_some, Option, Some, None}
 use Rattle.std.specs.List.{flat_map}
 use Rattle.mail_address.specs.declared.address.Addr.{Addr}
 use Rattle.mail_address.specs.Spelling.{address_spelling}
 use Rattle.mail_flags.specs.declared.placement.Placement.{Placement}
-use Rattle.sieve_syntax.specs.Meaning.{Outcome, Done, Failed}
+use Rattle.sieve_syntax.specs.Meaning.{Actions}
+use Rattle.sieve_syntax.specs.RunState.{inbox, is_filed}
+use Rattle.sieve_plan.specs.Sequences.{Settled}
 use Rattle.store_accounts.specs.declared.report.Report.{Report}
 use Rattle.store_accounts.specs.declared.report.VacationReport.{VacationReport}
 use Rattle.store_accounts.specs.declared.report.VacationReport.TheVariants as vacation
-use Rattle.sieve_plan.specs.Delivered.{failure_text}
 
 -- a line with its end
 abbrev pub ended_line : List ℕ → List ℕ
@@ -31,19 +32,32 @@ reply_lines false = []
 abbrev pub action_lines : List Placement → List Addr → Bool → List (List ℕ)
 action_lines filed sent answers = map (λ copy. file_line copy.mailbox) filed ++ (map (λ target. send_line (address_spelling target)) sent ++ reply_lines answers)
 
--- the lines of the actions; for a failure the one line that reports it
-abbrev pub outcome_lines : Outcome → List (List ℕ)
-outcome_lines (Done done) = action_lines done.filed done.sent (is_some done.reply)
-outcome_lines (Failed failure) = (codes "failed: " ++ failure_text failure) ∷ []
+-- the line on why a script failed, if one did
+abbrev pub failure_lines : Option (List ℕ) → List (List ℕ)
+failure_lines None = []
+failure_lines (Some why) = (codes "failed: " ++ why) ∷ []
+
+-- nothing is done but that INBOX gets the message
+abbrev pub is_inbox_alone : Actions → Bool
+is_inbox_alone deeds = (nat_eq (length deeds.filed) 1 && is_filed deeds.filed inbox) && (nat_eq (length deeds.sent) 0 && not (is_some deeds.reply))
+
+-- what is done is shown, unless a script failed and it is no more than that
+abbrev pub shows_deeds : Settled → Bool
+shows_deeds settled = not (is_some settled.notice) || not (is_inbox_alone settled.deeds)
+
+-- the lines of what is done, and behind them that of a failure
+abbrev pub settled_lines : Settled → List (List ℕ)
+settled_lines settled =
+    cond (shows_deeds settled) (action_lines settled.deeds.filed settled.deeds.sent (is_some settled.deeds.reply)) [] ++ failure_lines settled.notice
 
 -- `discard` if there is no other line
 abbrev pub or_discard : List (List ℕ) → List (List ℕ)
 or_discard [] = codes "discard" ∷ []
 or_discard (line ∷ more) = line ∷ more
 
--- the report on an outcome
-abbrev pub outcome_report : Outcome → List ℕ
-outcome_report outcome = flat_map ended_line (or_discard (outcome_lines outcome))
+-- the report on what scripts come to
+abbrev pub settled_report : Settled → List ℕ
+settled_report settled = flat_map ended_line (or_discard (settled_lines settled))
 
 -- the line of a vacation reply that joined the queue, or of the rule that forbade one
 abbrev pub vacation_lines : VacationReport → List (List ℕ)

@@ -1,4 +1,4 @@
-//! The lines that are printed: of a script's outcome, one for each action; of a fault of the script; and of
+//! The lines that are printed: of what scripts come to, one for each action; of a fault of the script; and of
 //! a user's queue and notices, one for each row.
 #![tactic(auto)]
 
@@ -9,4 +9,4 @@ pub mod listing;
 pub mod report;
 
 pub use listing::{list_queue, list_user_notices};
-pub use report::{report_fault, report_outcome};
+pub use report::{report_fault, report_settlement};

@@ -1,66 +1,79 @@
-//! The lines of an outcome, or of a fault of the script.
-ghost use Rattle.std.specs.Prelude.{◌≡◌, ◌++◌, codes, map, IfOk, OnOk};
+//! The lines of what scripts come to, or of a fault of the script.
+ghost use Rattle.std.specs.Prelude.{◌≡◌, ◌++◌, [], cond, is_some, map, nat_eq, IfOk, OnOk};
 ghost use Rattle.std.specs.List.{flat_map};
+ghost use Rattle.std.specs.Cmp.Lexicographic.{pointwise};
 ghost use Rattle.sieve_lex.specs.Faults.{fault_line};
-ghost use Rattle.sieve_exec.specs.Runs.{failure_view, outcome_view};
-ghost use Rattle.sieve_plan.specs.Delivered.{failure_text as failure_text_of};
+ghost use Rattle.sieve_syntax.specs.RunState.{inbox, is_filed};
+ghost use Rattle.sieve_plan.specs.Plans.{deeds_in};
+ghost use Rattle.sieve_plan.specs.SequencePlans.{notice_of, settled_of};
 ghost use Rattle.mail_address.specs.Spelling.{address_spelling};
-ghost use Rattle.cli_reports.specs.Reports.{file_line, send_line, action_lines, or_discard, reply_lines, ended_line, outcome_report};
+ghost use Rattle.cli_reports.specs.Reports.{file_line, send_line, action_lines, failure_lines, is_inbox_alone, reply_lines, ended_line, settled_lines, settled_report};
 
 use crate::line::add_line;
 use mail_address::{Addr, spell_address};
 use mail_flags::Placement;
 use octets::Octets;
+use sieve_exec::INBOX;
 use sieve_lex::ScriptFault;
-use sieve_plan::failure_text;
+use sieve_plan::{Deeds, FailureNotice, Settlement};
 use std::alloc::{AllocError, Global};
-use store_engine::{Failure, Outcome};
 
-/// The report: a line for each action, in order, or `discard` if there is none. A run that failed
-/// has one line, and no other.
-pub fn report_outcome(alloc: Global, outcome: &Outcome) -> Result<Octets, AllocError>
-    ensures { IfOk result (λ text. text ≡ outcome_report (outcome_view outcome.now)) }
+/// The report on what scripts come to: a line for each mailbox, each address and the reply, in this order, and behind them one on why
+/// a script failed, if one did; that line stands alone where nothing is done but that INBOX gets the message. `discard` if there is none
+/// of these.
+pub fn report_settlement(alloc: Global, settlement: &Settlement) -> Result<Octets, AllocError>
+    ensures { IfOk result (λ text. text ≡ settled_report (settled_of settlement.now)) }
 {
-    match outcome {
-        Outcome::Failed(failure) => of_failure(alloc, *failure),
-        Outcome::Done { filed, sent, reply } => of_done(
-            alloc,
-            filed.as_slice(),
-            sent.as_slice(),
-            reply.is_some(),
-        ),
-    }
-}
-
-/// The lines of the actions, or `discard`.
-fn of_done(
-    alloc: Global,
-    filed: &[Placement],
-    sent: &[Addr],
-    answers: bool,
-) -> Result<Octets, AllocError>
-    ensures { IfOk result (λ text. text ≡ flat_map ended_line (or_discard (action_lines filed.now sent.now answers))) }
-{
-    let text = of_lines(alloc, filed, sent, answers)?;
+    let text = of_lines(alloc, settlement)?;
     if text.is_empty() {
         return Octets::from_slice(alloc, b"discard\n");
     }
     Ok(text)
 }
 
-/// The lines of the actions.
-fn of_lines(
-    alloc: Global,
-    filed: &[Placement],
-    sent: &[Addr],
-    answers: bool,
-) -> Result<Octets, AllocError>
-    ensures { IfOk result (λ text. text ≡ flat_map ended_line (action_lines filed.now sent.now answers)) }
+/// The lines of what scripts come to.
+fn of_lines(alloc: Global, settlement: &Settlement) -> Result<Octets, AllocError>
+    ensures { IfOk result (λ text. text ≡ flat_map ended_line (settled_lines (settled_of settlement.now))) }
+{
+    let is_shown = settlement.notice.is_none() || !is_inbox_alone(&settlement.deeds);
+    let mut text = of_deeds(alloc, &settlement.deeds, is_shown)?;
+    add_failure(alloc, &mut text, settlement.notice)?;
+    Ok(text)
+}
+
+/// Whether nothing is done but that INBOX gets the message.
+fn is_inbox_alone(deeds: &Deeds) -> bool
+    ensures { result ≡ is_inbox_alone (deeds_in deeds.now) }
+{
+    deeds.filed.len() == 1
+        && is_filed_in_inbox(deeds.filed.as_slice())
+        && deeds.sent.len() == 0
+        && deeds.reply.is_none()
+}
+
+/// Whether INBOX is among the mailboxes.
+fn is_filed_in_inbox(filed: &[Placement]) -> bool
+    ensures { result ≡ is_filed filed.now inbox }
+{
+    filed.iter().any(|copy| is_in_inbox(copy))
+}
+
+fn is_in_inbox(copy: &Placement) -> bool
+    ensures { result ≡ pointwise nat_eq copy.now.mailbox inbox }
+{
+    copy.mailbox.as_slice() == INBOX
+}
+
+/// The lines of what is done, if it is shown.
+fn of_deeds(alloc: Global, deeds: &Deeds, is_shown: bool) -> Result<Octets, AllocError>
+    ensures { IfOk result (λ text. text ≡ flat_map ended_line (cond is_shown (action_lines deeds.now.filed deeds.now.sent (is_some deeds.now.reply)) [])) }
 {
     let mut text = Octets::new(alloc);
-    add_mailboxes(&mut text, filed)?;
-    add_targets(alloc, &mut text, sent)?;
-    add_answer(&mut text, answers)?;
+    if is_shown {
+        add_mailboxes(&mut text, deeds.filed.as_slice())?;
+        add_targets(alloc, &mut text, deeds.sent.as_slice())?;
+        add_answer(&mut text, deeds.reply.is_some())?;
+    }
     Ok(text)
 }
 
@@ -94,13 +107,18 @@ fn add_targets(alloc: Global, text: &mut Octets, sent: &[Addr]) -> Result<(), Al
     Ok(())
 }
 
-/// The line of a run that failed: `failed: more than 16 redirects`.
-fn of_failure(alloc: Global, failure: Failure) -> Result<Octets, AllocError>
-    ensures { IfOk result (λ text. text ≡ ended_line (codes "failed: " ++ failure_text_of (failure_view failure))) }
+/// Appends the line on why a script failed, if one did: `failed: more than 16 redirects`.
+fn add_failure(
+    alloc: Global,
+    text: &mut Octets,
+    notice: Option<FailureNotice>,
+) -> Result<(), AllocError>
+    ensures { OnOk result (text.new ≡ text.old ++ flat_map ended_line (failure_lines (notice_of notice))) }
 {
-    let mut text = Octets::new(alloc);
-    add_line(&mut text, b"failed: ", failure_text(failure))?;
-    Ok(text)
+    match notice {
+        Some(why) => add_line(text, b"failed: ", why.text(alloc)?.as_slice()),
+        None => Ok(()),
+    }
 }
 
 /// The line on a fault of the script: `line 3: unknown test`.

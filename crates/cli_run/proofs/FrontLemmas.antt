@@ -14,7 +14,7 @@ use Rattle.cli_run.specs.declared.fault.RunFault.{RunFault}
 use Rattle.cli_run.specs.declared.fault.RunFault.TheVariants.{Refused, Busy, Stream, NoMessage, NoMaildir, NoScript, Invalid, BadInput, BadArgument}
 use Rattle.store_accounts.specs.declared.refusal.Refusal.TheVariants as refusal
 use Rattle.sieve_exec.specs.declared.envelope.Envelope.{Envelope}
-use Rattle.sieve_exec.specs.declared.when.When.{When}
+use Rattle.store_engine.specs.declared.terms.Terms.{Terms}
 
 -- a message that grows behind its script
 framed_more : (came script message piece : List ℕ) → IsFramed came script message → IsFramed (came ++ piece) script (message ++ piece)
@@ -131,8 +131,8 @@ keeps_same None = tt
 keeps_same (Some text) = refl
 
 -- nothing is on the output then
-pub leaves_nothing : (envelope : Envelope) (when : When) (given held : Option (List ℕ)) (fault : RunFault) (r : Result TryAnswer RunFault) → r ≡ Err fault → HasNoAnswer given fault
-    → LeavesOutput envelope when given held held r
-leaves_nothing envelope when given held fault r is (inl (bad, none)) = subst (LeavesOutput envelope when given held held) (sym (is ∙ ap Err bad)) (none, keeps_same held)
-leaves_nothing envelope when given held fault r is (inr (inl lack)) = subst (LeavesOutput envelope when given held held) (sym (is ∙ ap Err lack)) (keeps_same held)
-leaves_nothing envelope when given held fault r is (inr (inr (stream, failed))) = subst (LeavesOutput envelope when given held held) (sym (is ∙ ap Err stream)) (inl (keeps_same held, failed))
+pub leaves_nothing : (envelope : Envelope) (terms : Terms) (given held : Option (List ℕ)) (fault : RunFault) (r : Result TryAnswer RunFault) → r ≡ Err fault → HasNoAnswer given fault
+    → LeavesOutput envelope terms given held held r
+leaves_nothing envelope terms given held fault r is (inl (bad, none)) = subst (LeavesOutput envelope terms given held held) (sym (is ∙ ap Err bad)) (none, keeps_same held)
+leaves_nothing envelope terms given held fault r is (inr (inl lack)) = subst (LeavesOutput envelope terms given held held) (sym (is ∙ ap Err lack)) (keeps_same held)
+leaves_nothing envelope terms given held fault r is (inr (inr (stream, failed))) = subst (LeavesOutput envelope terms given held held) (sym (is ∙ ap Err stream)) (inl (keeps_same held, failed))

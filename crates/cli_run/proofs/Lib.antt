@@ -8,6 +8,7 @@ pub mod FramingLemmas
 mod ImportLemmas
 mod LeaveLemmas
 mod MoveLemmas
+mod OwnLemmas
 mod PartLemmas
 mod PutLemmas
 mod ReportLemmas

@@ -23,7 +23,7 @@ module _ (around : Surroundings) (end : Reached) (streams : RunStreams) (sink : 
   ran asked other works = works
 
   -- a script was tried
-  pub tried : (asked : Subcommand) (a : TryArgs) → asked ≡ word.Try a → Tries a around.clock streams.input.old streams.output streams.errors status × TouchesNothing sink tables
+  pub tried : (asked : Subcommand) (a : TryArgs) → asked ≡ word.Try a → Tries a around.clock around.host streams.input.old streams.output streams.errors status × TouchesNothing sink tables
       → RunsAs around end streams sink status tables (Ok asked)
   tried asked a is works = subst (λ o. RunsAs around end streams sink status tables (Ok o)) (sym is) works
 

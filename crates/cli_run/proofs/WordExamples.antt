@@ -23,6 +23,8 @@ use Rattle.cli_run.specs.Streams.{IsWritten, WriteFailed}
 use Rattle.cli_run.specs.declared.fault.RunFault.{RunFault}
 use Rattle.cli_run.specs.Values.{WritesSalt, IsSalt, IsGivenMoment, AreTerms, IsSeparator, envelope_with}
 use Rattle.store_engine.specs.declared.terms.Terms.{Terms}
+use Rattle.sieve_plan.specs.declared.scripts.HostScripts.{HostScripts}
+use Rattle.cli_run.specs.declared.host_texts.HostTexts.{HostTexts}
 use Rattle.cli_run.specs.Subcommands.{IsAddUserEvent, IsPasswdEvent, IsDoneBy, IsStoredBy, IsPutEvent, upkeep_answer, DeniedAtEnd, IsDeliverEvent, IsDoneEvent, TellsEvent, TellsInvalid, HasMessage, ShowsOutgoing, notices_until, user_line}
 
 -- ---- values
@@ -147,24 +149,30 @@ notices-before h = cc
 added-swapped : (password : List ℕ) → IsAddUserEvent (Some digits) None alice home (Some (codes "secret\nmore")) (AddUser home alice salt password) → ⊥
 added-swapped password h = let e = h.same in cc
 
-is_deliver_event : (clock : Option ℕ) (default : Option (List ℕ)) (terms : Terms) → AreTerms (Some (codes "5")) None clock default terms
-    → IsDeliverEvent (envelope_with [] home) (Some (codes "5")) None alice clock default (Some (codes "M")) (Deliver alice (envelope_with [] home) (codes "M") terms)
-is_deliver_event clock default terms is = record { message = codes "M"; read = refl; terms = terms; under = is; same = refl }
+is_deliver_event : (clock : Option ℕ) (host : HostTexts) (terms : Terms) → AreTerms (Some (codes "5")) None clock host terms
+    → IsDeliverEvent (envelope_with [] home) (Some (codes "5")) None alice clock host (Some (codes "M")) (Deliver alice (envelope_with [] home) (codes "M") terms)
+is_deliver_event clock host terms is = record { message = codes "M"; read = refl; terms = terms; under = is; same = refl }
 
--- near misses: for the recipient's name in place of the user's; at the clock's moment; with another message; without the host's default script
-is_deliver_event-elsewhere : (clock : Option ℕ) (default : Option (List ℕ)) (terms : Terms) → IsDeliverEvent (envelope_with [] home) (Some (codes "5")) None alice clock default (Some (codes "M")) (Deliver home (envelope_with [] home) (codes "M") terms) → ⊥
-is_deliver_event-elsewhere clock default terms h = let e = h.same in cc
+-- near misses: for the recipient's name in place of the user's; at the clock's moment; with another message; without the host's default script; without
+-- the script that it has before each user's
+is_deliver_event-elsewhere : (clock : Option ℕ) (host : HostTexts) (terms : Terms) → IsDeliverEvent (envelope_with [] home) (Some (codes "5")) None alice clock host (Some (codes "M")) (Deliver home (envelope_with [] home) (codes "M") terms) → ⊥
+is_deliver_event-elsewhere clock host terms h = let e = h.same in cc
 
-is_deliver_event-late : (default : Option (List ℕ)) (terms : Terms) → terms.when.moment ≡ 7 → IsDeliverEvent (envelope_with [] home) (Some (codes "5")) None alice (Some 7) default (Some (codes "M")) (Deliver alice (envelope_with [] home) (codes "M") terms) → ⊥
-is_deliver_event-late default terms late h = let same : terms ≡ h.terms = let e = h.same in cc in moment-ignored (subst (Writes (codes "5")) (sym (ap (λ (t : Terms). t.when.moment) same) ∙ late) h.under.dated)
+is_deliver_event-late : (host : HostTexts) (terms : Terms) → terms.when.moment ≡ 7 → IsDeliverEvent (envelope_with [] home) (Some (codes "5")) None alice (Some 7) host (Some (codes "M")) (Deliver alice (envelope_with [] home) (codes "M") terms) → ⊥
+is_deliver_event-late host terms late h = let same : terms ≡ h.terms = let e = h.same in cc in moment-ignored (subst (Writes (codes "5")) (sym (ap (λ (t : Terms). t.when.moment) same) ∙ late) h.under.dated)
 
-is_deliver_event-other : (clock : Option ℕ) (default : Option (List ℕ)) (terms : Terms) → IsDeliverEvent (envelope_with [] home) (Some (codes "5")) None alice clock default (Some (codes "M")) (Deliver alice (envelope_with [] home) (codes "MM") terms) → ⊥
-is_deliver_event-other clock default terms h = let same : codes "MM" ≡ h.message = let e = h.same in cc in let no : codes "MM" ≡ codes "M" = same ∙ h.read in cc
+is_deliver_event-other : (clock : Option ℕ) (host : HostTexts) (terms : Terms) → IsDeliverEvent (envelope_with [] home) (Some (codes "5")) None alice clock host (Some (codes "M")) (Deliver alice (envelope_with [] home) (codes "MM") terms) → ⊥
+is_deliver_event-other clock host terms h = let same : codes "MM" ≡ h.message = let e = h.same in cc in let no : codes "MM" ≡ codes "M" = same ∙ h.read in cc
 
-is_deliver_event-bare : (clock : Option ℕ) (default : List ℕ) (terms : Terms) → terms.host.default ≡ None → IsDeliverEvent (envelope_with [] home) (Some (codes "5")) None alice clock (Some default) (Some (codes "M")) (Deliver alice (envelope_with [] home) (codes "M") terms) → ⊥
-is_deliver_event-bare clock default terms bare h =
+is_deliver_event-bare : (clock : Option ℕ) (host : HostTexts) (default : List ℕ) (terms : Terms) → terms.host.default ≡ None → host.default ≡ Some default → IsDeliverEvent (envelope_with [] home) (Some (codes "5")) None alice clock host (Some (codes "M")) (Deliver alice (envelope_with [] home) (codes "M") terms) → ⊥
+is_deliver_event-bare clock host default terms bare has h =
     let same : terms ≡ h.terms = let e = h.same in cc in
-    let no : None ≡ Some default = sym bare ∙ ap (λ (t : Terms). t.host.default) same ∙ h.under.scripted in cc
+    let no : None ≡ Some default = sym bare ∙ ap (λ (t : Terms). t.host.default) same ∙ h.under.scripted ∙ has in cc
+
+is_deliver_event-alone : (clock : Option ℕ) (host : HostTexts) (text : List ℕ) (terms : Terms) → terms.host.scripts.before ≡ [] → host.scripts.before ≡ text ∷ [] → IsDeliverEvent (envelope_with [] home) (Some (codes "5")) None alice clock host (Some (codes "M")) (Deliver alice (envelope_with [] home) (codes "M") terms) → ⊥
+is_deliver_event-alone clock host text terms alone has h =
+    let same : terms ≡ h.terms = let e = h.same in cc in
+    let no : [] ≡ text ∷ [] = sym alone ∙ ap (λ (t : Terms). t.host.scripts.before) same ∙ ap (λ (s : HostScripts). s.before) h.under.surrounded ∙ has in cc
 
 dequeued : IsDoneEvent alice (codes "5") (TakeOut alice 5)
 dequeued = record { id = 5; written = five; same = refl }

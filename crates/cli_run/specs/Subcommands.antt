@@ -58,6 +58,7 @@ use Rattle.cli_run.specs.Transitions.{StreamMove, TablesMove}
 use Rattle.cli_run.specs.TryScript.{Tries}
 use Rattle.cli_run.specs.Values.{IsNoNumber, IsNoUntil, IsSalt, HasNoSalt, AreTerms, HasNoWhen, IsSeparator, HasNoSeparator, envelope_with}
 use Rattle.cli_run.specs.declared.fault.RunFault.{RunFault}
+use Rattle.cli_run.specs.declared.host_texts.HostTexts.{HostTexts}
 use Rattle.sieve_exec.specs.declared.envelope.Envelope.{Envelope}
 use Rattle.store_engine.specs.declared.terms.Terms.{Terms}
 use Rattle.cli_run.specs.declared.fault.RunFault.TheVariants.{Refused, Stream, NoMessage, NoScript, Invalid, BadInput, BadArgument}
@@ -124,12 +125,12 @@ upkeep_answer (upkeep.RemoveAccount mail) = answer.Removed
 upkeep_answer (upkeep.TakeNotices until) = answer.NoticesTaken
 
 -- `deliver`: all that was read is for the user, with these addresses, at the moment in the arguments or of the clock and in the zone of the
--- arguments, by a host with this default script
-pub record IsDeliverEvent (envelope : Envelope) (at zone : Option (List ℕ)) (user : List ℕ) (clock : Option ℕ) (default given : Option (List ℕ)) (event : Event) : Type 0 where
+-- arguments, by a host with these scripts
+pub record IsDeliverEvent (envelope : Envelope) (at zone : Option (List ℕ)) (user : List ℕ) (clock : Option ℕ) (host : HostTexts) (given : Option (List ℕ)) (event : Event) : Type 0 where
   pub message : List ℕ
   pub read : ReadsAll given message
   pub terms : Terms
-  pub under : AreTerms at zone clock default terms
+  pub under : AreTerms at zone clock host terms
   pub same : event ≡ Deliver user envelope message terms
 
 -- `put`: all that was read is the text of the user's script with this name
@@ -552,17 +553,16 @@ SaltFailed digits random = InputFailed ⊎ ((digits ≡ None) × (random ≡ Non
 abbrev pub DeniedAtEnd : (RunFault → Type 0) → Option (List ℕ) → RunFault → Type 0
 DeniedAtEnd Denied left fault = Denied fault × IsAtEnd left
 
--- what surrounds a run: why the store at a place is denied, why a sink refuses, the clock, the system's random octets, and the text of the
--- script for accounts without an active one
+-- what surrounds a run: why the store at a place is denied, why a sink refuses, the clock, the system's random octets, and the host's scripts
 pub record Surroundings : Type 1 where
   pub denied : StoreLocation → RunFault → Type 0
   pub sunk : SinkError → Type 0
   pub clock : Option ℕ
   pub random : Option (List ℕ)
-  pub default : Option (List ℕ)
+  pub host : HostTexts
 
-abbrev pub surroundings : (StoreLocation → RunFault → Type 0) → (SinkError → Type 0) → Option ℕ → Option (List ℕ) → Option (List ℕ) → Surroundings
-surroundings denied sunk clock random default = record { denied = denied; sunk = sunk; clock = clock; random = random; default = default }
+abbrev pub surroundings : (StoreLocation → RunFault → Type 0) → (SinkError → Type 0) → Option ℕ → Option (List ℕ) → HostTexts → Surroundings
+surroundings denied sunk clock random host = record { denied = denied; sunk = sunk; clock = clock; random = random; host = host }
 
 -- what was to be read and what is left of it, what the sink kept, and the output
 module _ (around : Surroundings) (input : StreamMove) (sink : SinkMails) (output : StreamMove) where
@@ -590,7 +590,7 @@ module _ (around : Surroundings) (input : StreamMove) (sink : SinkMails) (output
   DoesSubcommand (word.Deliver a) result tables =
       StaysAsItWas sink.tells sink.had sink.has
       × DoesEvent (DeliverInputFailed (option_copied a.at) around.clock) (HasNoWhen (option_copied a.at) (option_copied a.zone)) (DeniedAtEnd (around.denied a.location) input.new)
-      (IsDeliverEvent (envelope_with a.from.now a.to.now) (option_copied a.at) (option_copied a.zone) a.user.now around.clock around.default input.old) output result tables
+      (IsDeliverEvent (envelope_with a.from.now a.to.now) (option_copied a.at) (option_copied a.zone) a.user.now around.clock around.host input.old) output result tables
   DoesSubcommand (word.Done a) result tables = Idle × DoesEvent ⊥ (IsNoNumber a.id.now) (around.denied a.location) (IsDoneEvent a.user.now a.id.now) output result tables
   DoesSubcommand (word.Drain a) result tables = (input.new ≡ input.old) × HasDrained around.sunk (around.denied a.location) a sink output result tables
   DoesSubcommand (word.Folders a) result tables = Idle × DoesFolders (around.denied a.location) a.user.now a.directories (option_copied a.separator) output result tables
@@ -708,7 +708,7 @@ run_streams input output errors = record { input = input; output = output; error
 module _ (around : Surroundings) (end : Reached) (streams : RunStreams) (sink : SinkMails) (status : ℕ) (tables : TablesMove) where
   -- what arguments that were read like this do: a script was tried; a subcommand did its work; or they ask for nothing, which is reported
   abbrev pub RunsAs : Result Subcommand ArgsError → Type 0
-  RunsAs (Ok (word.Try a)) = Tries a around.clock streams.input.old streams.output streams.errors status × TouchesNothing sink tables
+  RunsAs (Ok (word.Try a)) = Tries a around.clock around.host streams.input.old streams.output streams.errors status × TouchesNothing sink tables
   RunsAs (Ok asked) =
       RunsSubcommand (λ ending. DoesSubcommand around streams.input sink streams.output asked ending tables) (ReachesStore end.given end.at asked) end.cause streams.errors.old streams.errors.new status
   RunsAs (Err error) =

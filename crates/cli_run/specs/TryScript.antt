@@ -1,5 +1,5 @@
 -- What a run on an input leaves on the output.
-use Rattle.std.specs.Prelude.{◌≡◌, ℕ, ◌+◌, ◌≤◌, ◌⊎◌, List, Option, Some, None, option_copied, Result, Ok, Err}
+use Rattle.std.specs.Prelude.{◌≡◌, ℕ, ◌+◌, ◌≤◌, ◌⊎◌, List, [], ◌∷◌, Option, Some, None, option_copied, Result, Ok, Err}
 use Rattle.std.specs.Io.KnownBytes.{Keeps}
 use Rattle.sieve_lex.specs.declared.fault.FaultKind.{FaultKind}
 use Rattle.sieve_lex.specs.Faults.{fault_line}
@@ -7,12 +7,12 @@ use Rattle.sieve_lex.specs.Text.{line_ends}
 use Rattle.store_engine.specs.Tree.{Commands}
 use Rattle.store_engine.specs.Means.{Means}
 use Rattle.sieve_exec.specs.declared.envelope.Envelope.{Envelope}
-use Rattle.sieve_exec.specs.declared.when.When.{When}
 use Rattle.store_engine.specs.declared.terms.Terms.{Terms}
 use Rattle.cli_subcommands.specs.declared.subcommand.try_script.TryArgs.{TryArgs}
-use Rattle.sieve_exec.specs.Mails.{mail_spec_of}
-use Rattle.sieve_exec.specs.Outcomes.{outcome_at}
+use Rattle.sieve_plan.specs.Sequences.{Settled}
+use Rattle.store_engine.specs.Attempts.{IsValidOrNone, SettlesUnderTerms}
 use Rattle.cli_run.specs.declared.fault.RunFault.{RunFault}
+use Rattle.cli_run.specs.declared.host_texts.HostTexts.{HostTexts}
 use Rattle.store_accounts.specs.declared.refusal.Refusal.TheVariants as refusal
 use Rattle.cli_run.specs.declared.fault.RunFault.TheVariants.{Refused, Stream, BadInput, BadArgument}
 use Rattle.cli_run.specs.declared.answer.TryAnswer.{TryAnswer}
@@ -22,16 +22,22 @@ use Rattle.cli_run.specs.Framing.{IsFramed}
 use Rattle.cli_run.specs.Transitions.{StreamMove}
 use Rattle.cli_run.specs.Values.{AreTerms, HasNoWhen, envelope_with}
 use Rattle.cli_run.specs.Streams.{InputFailed, IsWriteCut, IsWritten}
-use Rattle.cli_reports.specs.Reports.{ended_line, outcome_report}
+use Rattle.cli_reports.specs.Reports.{ended_line, settled_report}
 
--- the input has a valid script, and the text is the report on its outcome on the message with the envelope
-pub record ReportsInput (envelope : Envelope) (when : When) (input text : List ℕ) : Type 0 where
+-- the user's script in an input: one of the length 0 says that the user has no active one
+abbrev pub own_script : List ℕ → Option (List ℕ)
+own_script [] = None
+own_script (octet ∷ more) = Some (octet ∷ more)
+
+-- the input has a valid script, or none, and the text is the report on what it and the host's scripts come to on the message with the envelope
+pub record ReportsInput (envelope : Envelope) (terms : Terms) (input text : List ℕ) : Type 0 where
   pub script : List ℕ
   pub message : List ℕ
   pub framed : IsFramed input script message
-  pub tree : Commands
-  pub means : Means script tree
-  pub told : text ≡ outcome_report (outcome_at (mail_spec_of message envelope when) tree)
+  pub valid : IsValidOrNone (own_script script)
+  pub settled : Settled
+  pub settles : SettlesUnderTerms terms envelope (own_script script) message settled
+  pub told : text ≡ settled_report settled
 
 -- the input has a script that is not valid, and the text is the line on a fault within it
 pub record RefusesInput (input text : List ℕ) : Type 0 where
@@ -59,9 +65,9 @@ abbrev pub HasNoAnswer : Option (List ℕ) → RunFault → Type 0
 HasNoAnswer given fault = ((fault ≡ BadInput) × OfInput given IsNoInput) ⊎ (fault ≡ memory) ⊎ ((fault ≡ Stream) × InputFailed)
 
 -- the answer is true of this input
-abbrev pub AnswersInput : Envelope → When → List ℕ → TryAnswer → Type 0
-AnswersInput envelope when input (Report text) = ReportsInput envelope when input text
-AnswersInput envelope when input (Refusal text) = RefusesInput input text
+abbrev pub AnswersInput : Envelope → Terms → List ℕ → TryAnswer → Type 0
+AnswersInput envelope terms input (Report text) = ReportsInput envelope terms input text
+AnswersInput envelope terms input (Refusal text) = RefusesInput input text
 
 -- the text of an answer
 abbrev pub answer_text : TryAnswer → List ℕ
@@ -75,13 +81,13 @@ status_at (Ok (Refusal _)) = 65
 status_at (Err fault) = status_of fault
 
 -- what is on the output in the end: the answer, or nothing, or if a write of it failed a prefix of the answer
-abbrev pub LeavesOutput : Envelope → When → Option (List ℕ) → Option (List ℕ) → Option (List ℕ) → Result TryAnswer RunFault → Type 0
-LeavesOutput envelope when given old new (Ok answer) = OfInput given (λ input. AnswersInput envelope when input answer) × IsPrinted (Ok tt) old new (answer_text answer)
-LeavesOutput envelope when given old new (Err BadInput) = OfInput given IsNoInput × Keeps old new
-LeavesOutput envelope when given old new (Err (Refused refusal.Memory)) = Keeps old new
-LeavesOutput envelope when given old new (Err Stream) =
-    (Keeps old new × InputFailed) ⊎ ((answer : TryAnswer) × OfInput given (λ input. AnswersInput envelope when input answer) × IsWriteCut old new (answer_text answer))
-LeavesOutput envelope when given old new (Err _) = ⊥
+abbrev pub LeavesOutput : Envelope → Terms → Option (List ℕ) → Option (List ℕ) → Option (List ℕ) → Result TryAnswer RunFault → Type 0
+LeavesOutput envelope terms given old new (Ok answer) = OfInput given (λ input. AnswersInput envelope terms input answer) × IsPrinted (Ok tt) old new (answer_text answer)
+LeavesOutput envelope terms given old new (Err BadInput) = OfInput given IsNoInput × Keeps old new
+LeavesOutput envelope terms given old new (Err (Refused refusal.Memory)) = Keeps old new
+LeavesOutput envelope terms given old new (Err Stream) =
+    (Keeps old new × InputFailed) ⊎ ((answer : TryAnswer) × OfInput given (λ input. AnswersInput envelope terms input answer) × IsWriteCut old new (answer_text answer))
+LeavesOutput envelope terms given old new (Err _) = ⊥
 
 -- what is reported of a fault, or a prefix of it if a write of it failed
 abbrev pub LeavesErrors : Option (List ℕ) → Option (List ℕ) → Result TryAnswer RunFault → Type 0
@@ -89,20 +95,21 @@ LeavesErrors old new (Ok _) = Keeps old new
 LeavesErrors old new (Err fault) = IsWritten old new (run_fault_line fault)
 
 -- a whole run: how it ended, its status, and what it left on the output and on the errors
-pub record RunsTry (envelope : Envelope) (when : When) (given : Option (List ℕ)) (output errors : StreamMove) (status : ℕ) : Type 0 where
+pub record RunsTry (envelope : Envelope) (terms : Terms) (given : Option (List ℕ)) (output errors : StreamMove) (status : ℕ) : Type 0 where
   pub ending : Result TryAnswer RunFault
   pub told : status ≡ status_at ending
-  pub left_output : LeavesOutput envelope when given output.old output.new ending
+  pub left_output : LeavesOutput envelope terms given output.old output.new ending
   pub left_errors : LeavesErrors errors.old errors.new ending
 
 -- nothing was tried or printed, and this fault is reported
 abbrev pub TriesNothing : RunFault → StreamMove → StreamMove → ℕ → Type 0
 TriesNothing fault output errors status = (status ≡ status_of fault) × (output.new ≡ output.old) × IsWritten errors.old errors.new (run_fault_line fault)
 
--- `try` with these arguments: a whole run at their moment, or else the clock's, and in their zone, or in UTC; or one of them is wrong;
+-- `try` with these arguments: a whole run at their moment, or else the clock's, in their zone, or in UTC, by a host
+-- with these scripts; or one of them is wrong;
 -- or they have no moment, and the clock has none
-abbrev pub Tries : TryArgs → Option ℕ → Option (List ℕ) → StreamMove → StreamMove → ℕ → Type 0
-Tries asked clock given output errors status =
-    ((terms : Terms) × AreTerms (option_copied asked.at) (option_copied asked.zone) clock None terms × RunsTry (envelope_with asked.from.now asked.to.now) terms.when given output errors status)
+abbrev pub Tries : TryArgs → Option ℕ → HostTexts → Option (List ℕ) → StreamMove → StreamMove → ℕ → Type 0
+Tries asked clock host given output errors status =
+    ((terms : Terms) × AreTerms (option_copied asked.at) (option_copied asked.zone) clock host terms × RunsTry (envelope_with asked.from.now asked.to.now) terms given output errors status)
     ⊎ (HasNoWhen (option_copied asked.at) (option_copied asked.zone) × TriesNothing BadArgument output errors status)
     ⊎ ((option_copied asked.at ≡ None) × (clock ≡ None) × TriesNothing Stream output errors status)

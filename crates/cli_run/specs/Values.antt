@@ -9,6 +9,7 @@ use Rattle.mail_dates.specs.HostZones.{IsZoneText, IsOffsetAt}
 use Rattle.mail_dates.specs.declared.host_zone.HostZone.{HostZone}
 use Rattle.sieve_exec.specs.declared.envelope.Envelope.{Envelope}
 use Rattle.store_engine.specs.declared.terms.Terms.{Terms}
+use Rattle.cli_run.specs.declared.host_texts.HostTexts.{HostTexts}
 
 -- the text isn't a number of 64 bits
 abbrev pub IsNoNumber : List ℕ → Type 0
@@ -64,12 +65,13 @@ IsHostZone (Some text) zone = IsZoneText text zone
 IsHostZone None zone = (moment : ℕ) → IsOffsetAt zone moment (pos 0)
 
 -- under what a message is delivered: at the moment that the argument has in decimal, or else the clock's, in the zone of the argument, by a
--- host with this default script
-pub record AreTerms (at zone : Option (List ℕ)) (clock : Option ℕ) (default : Option (List ℕ)) (terms : Terms) : Type 0 where
+-- host with these scripts
+pub record AreTerms (at zone : Option (List ℕ)) (clock : Option ℕ) (host : HostTexts) (terms : Terms) : Type 0 where
   pub dated : IsGivenMoment at clock terms.when.moment
   pub zoned : IsHostZone zone terms.host.zone
   pub clocked : IsOffsetAt terms.host.zone terms.when.moment terms.when.zone
-  pub scripted : terms.host.default ≡ default
+  pub scripted : terms.host.default ≡ host.default
+  pub surrounded : terms.host.scripts ≡ host.scripts
 
 -- the argument is there, and isn't a zone
 abbrev pub HasNoZone : Option (List ℕ) → Type 0

@@ -4,26 +4,27 @@ ghost use Rattle.sieve_lex.specs.Finding.{IfFault, IfFaultLine};
 ghost use Rattle.sieve_lex.specs.Text.{line_ends};
 ghost use Rattle.sieve_syntax.specs.Tree.{Commands};
 ghost use Rattle.sieve_syntax.specs.Means.{Means};
-ghost use Rattle.sieve_exec.specs.Mails.{mail_spec_of};
-ghost use Rattle.sieve_exec.specs.Outcomes.{outcome_at};
-ghost use Rattle.cli_reports.specs.Reports.{outcome_report};
-ghost use Rattle.sieve_exec.specs.Runs.{outcome_view};
+ghost use Rattle.sieve_plan.specs.SequencePlans.{settled_of};
+ghost use Rattle.store_accounts.specs.Cells.{borrowed_octets};
+ghost use Rattle.store_engine.specs.Attempts.{IsValidOrNone, SettlesUnderTerms};
+ghost use Rattle.store_engine.specs.Terms.{terms_of};
+ghost use Rattle.cli_reports.specs.Reports.{settled_report};
 ghost use Rattle.cli_run.specs.declared.answer.TryAnswer.TheVariants.{Report};
 ghost use Rattle.cli_run.specs.Faults.{IsUnanswered, memory};
 ghost use Rattle.cli_run.specs.Framing.{IsFramed};
 ghost use Rattle.cli_run.specs.KeptInputs.{KeepsInput, IsMessagePrefix};
-ghost use Rattle.cli_run.specs.TryScript.{AnswersInput, IsNoInput, answer_text};
+ghost use Rattle.cli_run.specs.TryScript.{AnswersInput, IsNoInput, answer_text, own_script};
 
 use crate::fault::RunFault;
 use crate::framing::split;
 use crate::kept_input::KeptInput;
-use cli_reports::{report_fault, report_outcome};
+use cli_reports::{report_fault, report_settlement};
 use mail_head::SizeCount;
 use octets::Octets;
 use sieve_lex::ScriptError;
 use std::alloc::Global;
 use store_accounts::Refusal;
-use store_engine::{Envelope, LentTerms, Outcome, attempt, attempt_on_prefix};
+use store_engine::{Envelope, LentTerms, Settlement, attempt, attempt_on_prefix};
 
 /// The answer to an input that is a script and a message.
 #[derive(Drop)]
@@ -45,14 +46,14 @@ impl TryAnswer {
     }
 }
 
-/// Tries the script of an input on its message, received with the envelope and delivered at that moment.
+/// Tries the script of an input on its message, received with the envelope and delivered under these terms.
 pub fn answer_to(
     alloc: Global,
     envelope: Envelope,
     terms: LentTerms<'_>,
     input: &KeptInput,
 ) -> Result<TryAnswer, RunFault>
-    ensures answer { IfOk result (λ answer. (came : List ℕ) → KeepsInput came input.now.octets.items input.now.count → AnswersInput envelope terms.entry.when came answer) }
+    ensures answer { IfOk result (λ answer. (came : List ℕ) → KeepsInput came input.now.octets.items input.now.count → AnswersInput envelope (terms_of terms.entry) came answer) }
     ensures none { IfErr result (λ fault. (came : List ℕ) → KeepsInput came input.now.octets.items input.now.count → IsUnanswered (IsNoInput came) fault) }
 {
     match split(input.kept()) {
@@ -68,7 +69,7 @@ pub fn answer_to(
     }
 }
 
-/// Tries a script on a message, of which this is a prefix that decides, received with the envelope and delivered at that moment.
+/// Tries a script on a message, of which this is a prefix that decides, received with the envelope and delivered under these terms.
 fn answer_on(
     alloc: Global,
     envelope: Envelope,
@@ -78,41 +79,52 @@ fn answer_on(
     count: Option<SizeCount>,
 ) -> Result<TryAnswer, RunFault>
     ensures answer { IfOk result (λ answer. (input message : List ℕ) → IsFramed input script.now message → IsMessagePrefix front.now count message
-        → AnswersInput envelope terms.entry.when input answer) }
+        → AnswersInput envelope (terms_of terms.entry) input answer) }
     ensures memory { IfErr result (λ fault. fault ≡ memory) }
 {
-    match outcome_on(alloc, script, envelope, front, count, terms) {
-        Ok(outcome) => report(alloc, outcome),
+    match settle_on(alloc, script, envelope, front, count, terms) {
+        Ok(settlement) => report(alloc, &settlement),
         Err(ScriptError::Fault(fault)) => Ok(TryAnswer::Refusal(report_fault(alloc, fault)?)),
         Err(ScriptError::Memory) => Err(RunFault::Refused(Refusal::Memory)),
     }
 }
 
-/// The outcome of a script on a message, of which this is a prefix that decides, or why it is no valid script.
-fn outcome_on(
+/// What a script and the host's come to on a message, of which this is a prefix that decides, or why it is no valid script.
+fn settle_on(
     alloc: Global,
     script: &[u8],
     envelope: Envelope,
     front: &[u8],
     count: Option<SizeCount>,
     terms: LentTerms<'_>,
-) -> Result<Outcome, ScriptError>
-    ensures valid { IfOk result (λ done. (tree : Commands) × Means script.now tree) }
-    ensures done { IfOk result (λ done. (tree : Commands) (message : List ℕ) → Means script.now tree → IsMessagePrefix front.now count message
-        → outcome_view done ≡ outcome_at (mail_spec_of message envelope terms.entry.when) tree) }
+) -> Result<Settlement, ScriptError>
+    ensures valid { IfOk result (λ done. IsValidOrNone (own_script script.now)) }
+    ensures done { IfOk result (λ done. (message : List ℕ) → IsMessagePrefix front.now count message
+        → SettlesUnderTerms (terms_of terms.entry) envelope (own_script script.now) message (settled_of done)) }
     ensures fault { IfFault result ((tree : Commands) → Means script.now tree → ⊥) }
     ensures line { IfFaultLine result (λ line. (1 ≤ line) × (line ≤ 1 + line_ends script.now)) }
 {
+    let own = own_of(script);
     match count {
-        Some(count) => attempt_on_prefix(alloc, script, envelope, front, count.size(), terms),
-        None => attempt(alloc, script, envelope, front, terms),
+        Some(count) => attempt_on_prefix(alloc, own, envelope, front, count.size(), terms),
+        None => attempt(alloc, own, envelope, front, terms),
     }
 }
 
-/// The report on what a script does.
-fn report(alloc: Global, outcome: Outcome) -> Result<TryAnswer, RunFault>
-    ensures report { IfOk result (λ answer. answer ≡ Report (outcome_report (outcome_view outcome))) }
+/// The user's script: none if its length is 0.
+fn own_of(script: &[u8]) -> Option<&[u8]>
+    ensures { borrowed_octets result ≡ own_script script.now }
+{
+    if script.is_empty() {
+        return None;
+    }
+    Some(script)
+}
+
+/// The report on what scripts come to.
+fn report(alloc: Global, settlement: &Settlement) -> Result<TryAnswer, RunFault>
+    ensures report { IfOk result (λ answer. answer ≡ Report (settled_report (settled_of settlement.now))) }
     ensures memory { IfErr result (λ fault. fault ≡ memory) }
 {
-    Ok(TryAnswer::Report(report_outcome(alloc, &outcome)?))
+    Ok(TryAnswer::Report(report_settlement(alloc, settlement)?))
 }

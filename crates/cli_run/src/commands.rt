@@ -15,11 +15,11 @@ ghost use Rattle.cli_run.specs.Transitions.{from_to};
 
 use crate::account_read::{MessageOf, read_once};
 use crate::fault::RunFault;
+use crate::host_texts::HostTexts;
 use crate::report::print_report;
 use crate::stream::{read_all, write_all, write_line};
 use crate::values::{decimal, envelope_of, first_input_line, given_salt, terms_for};
 use cli_subcommands::{AddUserArgs, DeliverArgs, InitArgs, ShowArgs, StoreLocation};
-use octets::Octets;
 use std::alloc::Global;
 use std::io::{Read, Write};
 use store_accounts::{Refusal, Store};
@@ -97,8 +97,8 @@ fn add<K: Keeper>(
     Ok(added?)
 }
 
-/// `deliver`: the input is a message for a user. `clock` is the moment if the arguments have none, and `default` the text of the
-/// script for accounts without an active one.
+/// `deliver`: the input is a message for a user. `clock` is the moment if the arguments have none, and `host` are the texts of
+/// the host's scripts.
 ///
 /// The report is written after the store was handed back, and takes no memory. What was delivered is on the disk by then, whether
 /// or not the store could be closed.
@@ -106,7 +106,7 @@ pub fn run_deliver<R: Read, W: Write, K: Keeper>(
     alloc: Global,
     asked: DeliverArgs<'_>,
     clock: Option<u64>,
-    default: Option<Octets>,
+    host: HostTexts,
     input: &mut R,
     output: &mut W,
     keeper: &mut K,
@@ -118,11 +118,11 @@ pub fn run_deliver<R: Read, W: Write, K: Keeper>(
         (HasNoWhen (option_copied asked.entry.at) (option_copied asked.entry.zone))
         (DeniedAtEnd (HasDenied K.refuses K.will_wait asked.entry.location) (R.remaining input.new))
         (IsDeliverEvent (envelope_with asked.entry.from.now asked.entry.to.now) (option_copied asked.entry.at) (option_copied asked.entry.zone)
-        asked.entry.user.now clock default (R.remaining input.old))
+        asked.entry.user.now clock host (R.remaining input.old))
         (from_to (W.contents output.old) (W.contents output.new)) result (from_to (K.holds keeper.old) (K.holds keeper.new)) }
     ensures given { OnOk result (HasGiven K.gives K.will_wait asked.entry.location) }
 {
-    let terms = terms_for(asked.at, asked.zone, clock, default)?;
+    let terms = terms_for(asked.at, asked.zone, clock, host)?;
     let envelope = envelope_of(alloc, asked.from, asked.to)?;
     let message = read_all(alloc, input)?;
     let report = deliver_in_store(

@@ -10,6 +10,7 @@ mod export;
 pub mod fault;
 pub mod fault_with_cause;
 mod framing;
+pub mod host_texts;
 mod import;
 mod kept_input;
 mod listing;

@@ -14,6 +14,7 @@ use crate::drain::run_drain;
 use crate::export::run_export;
 use crate::fault::{RunFault, refuse};
 use crate::fault_with_cause::FaultWithCause;
+use crate::host_texts::HostTexts;
 use crate::import::run_import;
 use crate::listing::run_folders;
 use crate::notices::run_notices;
@@ -28,7 +29,6 @@ use clap::Error;
 use clap::error::ErrorKind;
 use cli_subcommands::{ArgsError, RawArgs, Subcommand, TryArgs, read_command_line};
 use maildir_files::MailSink;
-use octets::Octets;
 use std::alloc::{AllocError, Global};
 use std::format;
 use std::io::{Read, Write};
@@ -43,8 +43,8 @@ const USAGE: u8 = 64;
 /// script is read from the input, the answer is written to the output, and what goes wrong to the errors.
 ///
 /// `clock` is the moment in seconds since 1970, if the clock could be read, `random` are 16 octets that can't be guessed, if the
-/// system gave some, and `default` is for `deliver` the text of the script for accounts without an active one. If arguments or
-/// values are wrong, nothing is read. The store is taken at most once, and handed back before the answer is written, except for
+/// system gave some, and `host` are for `deliver` and `try` the texts of the host's scripts. If arguments or values are wrong,
+/// nothing is read. The store is taken at most once, and handed back before the answer is written, except for
 /// notices, which are taken only after they were written. Messages that leave the store go into the sink.
 pub fn run_program<R: Read, W: Write, E: Write, K: Keeper, T: MailSink>(
     alloc: Global,
@@ -55,14 +55,14 @@ pub fn run_program<R: Read, W: Write, E: Write, K: Keeper, T: MailSink>(
     keeper: &mut K,
     clock: Option<u64>,
     random: Option<[u8; 16]>,
-    default: Option<Octets>,
+    host: HostTexts,
     sink: &mut T,
 ) -> u8
     ensures unread { result ≡ 64 → input.new ≡ input.old }
     ensures reads { result ≡ 0 → ReadsAllOrNone R.remaining input.old input.new }
     ensures back { K.is_out keeper.old ≡ false → K.is_out keeper.new ≡ false }
     ensures runs { IsTrue K.tells → RunsWords
-        (surroundings (HasDenied K.refuses K.will_wait) (HasRefused T.refuses) clock random default)
+        (surroundings (HasDenied K.refuses K.will_wait) (HasRefused T.refuses) clock random host)
         (run_reached (HasGiven K.gives K.will_wait) (T.is_at sink.new) (cause_of (K.said keeper.new) (text_said (T.said sink.new))))
         (run_streams (from_to (R.remaining input.old) (R.remaining input.new)) (from_to (W.contents output.old) (W.contents output.new))
         (from_to (E.contents errors.old) (E.contents errors.new)))
@@ -71,7 +71,7 @@ pub fn run_program<R: Read, W: Write, E: Write, K: Keeper, T: MailSink>(
 {
     match read_command_line(alloc, words) {
         Ok(asked) => run_subcommand(
-            alloc, asked, input, output, errors, keeper, clock, random, default, sink,
+            alloc, asked, input, output, errors, keeper, clock, random, host, sink,
         ),
         Err(error) => tell_unread(alloc, error, output, errors),
     }
@@ -87,14 +87,14 @@ pub fn run_subcommand<R: Read, W: Write, E: Write, K: Keeper, T: MailSink>(
     keeper: &mut K,
     clock: Option<u64>,
     random: Option<[u8; 16]>,
-    default: Option<Octets>,
+    host: HostTexts,
     sink: &mut T,
 ) -> u8
     ensures unread { result ≡ 64 → input.new ≡ input.old }
     ensures reads { result ≡ 0 → ReadsAllOrNone R.remaining input.old input.new }
     ensures back { K.is_out keeper.old ≡ false → K.is_out keeper.new ≡ false }
     ensures runs { IsTrue K.tells → RunsAs
-        (surroundings (HasDenied K.refuses K.will_wait) (HasRefused T.refuses) clock random default)
+        (surroundings (HasDenied K.refuses K.will_wait) (HasRefused T.refuses) clock random host)
         (run_reached (HasGiven K.gives K.will_wait) (T.is_at sink.new) (cause_of (K.said keeper.new) (text_said (T.said sink.new))))
         (run_streams (from_to (R.remaining input.old) (R.remaining input.new)) (from_to (W.contents output.old) (W.contents output.new))
         (from_to (E.contents errors.old) (E.contents errors.new)))
@@ -102,10 +102,10 @@ pub fn run_subcommand<R: Read, W: Write, E: Write, K: Keeper, T: MailSink>(
     ensures asked { K.unclosed keeper.old ≡ None → K.unclosed keeper.new ≡ None }
 {
     match asked {
-        Subcommand::Try(asked) => try_script(alloc, asked, clock, input, output, errors),
+        Subcommand::Try(asked) => try_script(alloc, asked, clock, host, input, output, errors),
         _ => {
             let done = act(
-                alloc, asked, input, output, keeper, clock, random, default, sink,
+                alloc, asked, input, output, keeper, clock, random, host, sink,
             );
             conclude(done, errors, keeper, sink)
         }
@@ -118,16 +118,17 @@ fn try_script<R: Read, W: Write, E: Write>(
     alloc: Global,
     asked: TryArgs<'_>,
     clock: Option<u64>,
+    host: HostTexts,
     input: &mut R,
     output: &mut W,
     errors: &mut E,
 ) -> u8
     ensures unread { result ≡ 64 → input.new ≡ input.old }
     ensures reads { result ≡ 0 → ReadsToEnd R.remaining input.old input.new }
-    ensures runs { Tries asked.entry clock (R.remaining input.old) (from_to (W.contents output.old) (W.contents output.new))
+    ensures runs { Tries asked.entry clock host (R.remaining input.old) (from_to (W.contents output.old) (W.contents output.new))
         (from_to (E.contents errors.old) (E.contents errors.new)) result }
 {
-    let terms = match terms_for(asked.at, asked.zone, clock, None) {
+    let terms = match terms_for(asked.at, asked.zone, clock, host) {
         Ok(terms) => terms,
         Err(fault) => return refuse(errors, fault),
     };
@@ -146,14 +147,14 @@ fn act<R: Read, W: Write, K: Keeper, T: MailSink>(
     keeper: &mut K,
     clock: Option<u64>,
     random: Option<[u8; 16]>,
-    default: Option<Octets>,
+    host: HostTexts,
     sink: &mut T,
 ) -> Result<(), RunFault>
     ensures unread { status_after result ≡ 64 → input.new ≡ input.old }
     ensures reads { OnOk result (ReadsAllOrNone R.remaining input.old input.new) }
     ensures back { K.is_out keeper.old ≡ false → K.is_out keeper.new ≡ false }
     ensures does { IsTrue K.tells → DoesSubcommand
-        (surroundings (HasDenied K.refuses K.will_wait) (HasRefused T.refuses) clock random default)
+        (surroundings (HasDenied K.refuses K.will_wait) (HasRefused T.refuses) clock random host)
         (from_to (R.remaining input.old) (R.remaining input.new)) (sink_mails T.tells (T.kept sink.old) (T.kept sink.new))
         (from_to (W.contents output.old) (W.contents output.new)) asked.entry result (from_to (K.holds keeper.old) (K.holds keeper.new)) }
     ensures reaches { OnOk result (ReachesStore (HasGiven K.gives K.will_wait) (T.is_at sink.new) asked.entry) }
@@ -171,7 +172,7 @@ fn act<R: Read, W: Write, K: Keeper, T: MailSink>(
         Subcommand::Export(asked) => run_export(alloc, asked, output, keeper),
         Subcommand::Import(asked) => run_import(alloc, asked, input, output, keeper),
         Subcommand::Deliver(asked) => {
-            run_deliver(alloc, asked, clock, default, input, output, keeper)
+            run_deliver(alloc, asked, clock, host, input, output, keeper)
         },
         Subcommand::Folders(asked) => run_folders(alloc, asked, output, keeper),
         Subcommand::Show(asked) => run_show(asked, output, keeper),

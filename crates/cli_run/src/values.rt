@@ -7,6 +7,7 @@ ghost use Rattle.cli_run.specs.Promise.{is_in_line};
 ghost use Rattle.cli_run.specs.Values.{IsNoNumber, HasNoNumber, IsNoPort, IsNoSize, IsNoUntil, WritesSalt, IsNoSalt, IsSalt, HasNoSalt, IsGivenMoment, IsHostZone, AreTerms, HasNoZone, HasNoWhen, IsSeparator, HasNoSeparator, envelope_with};
 
 use crate::fault::RunFault;
+use crate::host_texts::HostTexts;
 use hex::FromHex;
 use mail_dates::HostZone;
 use maildir_files::Separator;
@@ -137,21 +138,26 @@ pub fn zone_of(text: Option<&str>) -> Result<HostZone, RunFault>
 }
 
 /// Under what a message is delivered: at the moment in the arguments, or else the clock's, in seconds since 1970, in their zone, by a
-/// host with this default script.
+/// host with these scripts. Takes no memory.
 pub fn terms_for(
     at: Option<&str>,
     zone: Option<&str>,
     clock: Option<u64>,
-    default: Option<Octets>,
+    host: HostTexts,
 ) -> Result<Terms, RunFault>
-    ensures ok { IfOk result (AreTerms (option_copied at.entry) (option_copied zone.entry) clock default) }
+    ensures ok { IfOk result (AreTerms (option_copied at.entry) (option_copied zone.entry) clock host) }
     ensures right { OnOk result (HasNoWhen (option_copied at.entry) (option_copied zone.entry) → ⊥) }
     ensures fault { IfErr result (λ fault. ((fault ≡ RunFault.BadArgument) × HasNoWhen (option_copied at.entry) (option_copied zone.entry))
         ⊎ ((fault ≡ RunFault.Stream) × (option_copied at.entry ≡ None) × (clock ≡ None))) }
 {
     let zone = zone_of(zone)?;
     let moment = moment_of(at, clock)?;
-    Ok(HostSettings { zone, default }.into_terms(moment))
+    let settings = HostSettings {
+        zone,
+        default: host.default,
+        scripts: host.scripts,
+    };
+    Ok(settings.into_terms(moment))
 }
 
 /// The envelope of these addresses.

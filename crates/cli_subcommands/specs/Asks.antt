@@ -1,9 +1,10 @@
 -- What arguments ask for, from what `clap` found in them.
-use Rattle.std.specs.Prelude.{◌≡◌, ◌⊎◌, ℕ, Bool, true, false, List, [], codes, Option, Some, None, option_copied, option_map, unwrap_or, Result, Ok, Err}
+use Rattle.std.specs.Prelude.{◌≡◌, ◌⊎◌, ℕ, Bool, true, false, List, [], codes, Option, Some, None, option_copied, option_map, unwrap_or, map, Result, Ok, Err}
 use Rattle.clap.specs.Words.{first_value, found_of, matched_of, one_text, raw_values, rows_of, subcommand_name_of, subcommand_rows_of}
 use Rattle.clap.specs.declared.error.Error.{Error}
 use Rattle.clap.specs.declared.parser.matches.ArgMatches.{ArgMatches}
 use Rattle.cli_subcommands.specs.Ids.{IsNoSubcommand, subcommand_name}
+use Rattle.cli_subcommands.specs.declared.host_files.HostFiles.{HostFiles}
 use Rattle.cli_subcommands.specs.declared.raw_args.RawArgs.{RawArgs}
 use Rattle.cli_subcommands.specs.declared.location.StoreLocation.{StoreLocation}
 use Rattle.cli_subcommands.specs.declared.reading.ArgsError.{ArgsError}
@@ -36,6 +37,10 @@ use Rattle.cli_subcommands.specs.declared.subcommand.daemon.DaemonArgs.{DaemonAr
 use Rattle.cli_subcommands.specs.declared.subcommand.check.CheckArgs.{CheckArgs}
 use Rattle.cli_subcommands.specs.declared.subcommand.send.SendArgs.{SendArgs}
 use Rattle.cli_subcommands.specs.declared.subcommand.users.UsersArgs.{UsersArgs}
+
+-- the arguments of a command line, octet by octet, in their order
+abbrev pub arg_octets : RawArgs → List (List ℕ)
+arg_octets line = line.octets.items
 
 -- ---- what was given to a subcommand
 
@@ -131,7 +136,6 @@ pub record IsDeliverArgs (line : RawArgs) (m : ArgMatches) (a : DeliverArgs) : T
   pub to : IsArgAddress line (arg_text m (codes "to")) a.to.now
   pub at : option_copied a.at ≡ arg_value m (codes "at")
   pub zone : option_copied a.zone ≡ arg_value m (codes "zone")
-  pub default : option_copied a.default ≡ arg_value m (codes "default")
   pub user : a.user.now ≡ arg_text m (codes "user")
 
 pub record IsFoldersArgs (line : RawArgs) (m : ArgMatches) (a : FoldersArgs) : Type 0 where
@@ -191,7 +195,6 @@ pub record IsDaemonArgs (line : RawArgs) (m : ArgMatches) (a : DaemonArgs) : Typ
   pub mail : option_copied a.mail ≡ arg_value m (codes "mail")
   pub separator : option_copied a.separator ≡ arg_value m (codes "separator")
   pub zone : option_copied a.zone ≡ arg_value m (codes "zone")
-  pub default : option_copied a.default ≡ arg_value m (codes "default")
   pub host : option_copied a.host ≡ arg_value m (codes "host")
   pub memory : option_copied a.memory ≡ arg_value m (codes "memory")
   pub clients : option_copied a.clients ≡ arg_value m (codes "clients")
@@ -273,6 +276,23 @@ arg_texts m id = unwrap_or (option_map raw_values (matched_of (found_of m) id)) 
 -- `clap` found `check`, and these are the files that were given to it, in their order
 abbrev pub NamesFiles : ArgMatches → List (List ℕ) → Type 0
 NamesFiles m files = (given : ArgMatches) × EntersSubcommand m (codes "check") given × (files ≡ arg_texts given (codes "file"))
+
+-- the files of the host's scripts that were given to a subcommand, in their order
+pub record AreHostFiles (given : ArgMatches) (files : HostFiles) : Type 0 where
+  pub before : map (λ file. file.now) files.before.items ≡ arg_texts given (codes "before")
+  pub default : option_copied files.default ≡ arg_value given (codes "default")
+  pub after : map (λ file. file.now) files.after.items ≡ arg_texts given (codes "after")
+
+pub record HasNoHostFile (files : HostFiles) : Type 0 where
+  pub before : files.before.items ≡ []
+  pub default : files.default ≡ None
+  pub after : files.after.items ≡ []
+
+-- `clap` found a subcommand, and these are its files; or it found none, and there is no file
+abbrev pub NamesHostFiles : ArgMatches → HostFiles → Type 0
+NamesHostFiles m files =
+    ((subcommand_name_of m ≡ None) × HasNoHostFile files)
+    ⊎ ((name : List ℕ) × (given : ArgMatches) × EntersSubcommand m name given × AreHostFiles given files)
 
 -- what these arguments ask for; or why they ask for nothing: `clap` refused them, or has a text to show; an argument isn't UTF-8
 abbrev pub WasRead : RawArgs → Result Subcommand ArgsError → Type 0

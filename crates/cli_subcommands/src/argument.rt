@@ -15,7 +15,9 @@ pub enum CliArgument {
     AnyTo,
     At,
     Zone,
+    Before,
     Default,
+    After,
     Salt,
     Name,
     Address,
@@ -60,6 +62,8 @@ enum Form {
     Flag,
     /// `--name` and a value, which may begin with a hyphen.
     Option,
+    /// The same, any number of times.
+    Options,
     /// A value without a name, known by its position.
     Operand,
     /// Values without names, as many as are given.
@@ -68,7 +72,9 @@ enum Form {
 
 impl CliArgument {
     /// The argument for `clap`.
-    pub fn arg(self, alloc: Global) -> Arg<'static> {
+    pub fn arg(self, alloc: Global) -> Arg<'static>
+        ensures { result.id.now ≡ argument_id self }
+    {
         let arg = Arg::new(alloc, self.name())
             .required(self.is_required())
             .help(self.help());
@@ -76,6 +82,11 @@ impl CliArgument {
             Form::Flag => arg.long(self.name()).action(ArgAction::SetTrue),
             Form::Option => arg
                 .long(self.name())
+                .value_name(self.value_name())
+                .allow_hyphen_values(true),
+            Form::Options => arg
+                .long(self.name())
+                .action(ArgAction::Append)
                 .value_name(self.value_name())
                 .allow_hyphen_values(true),
             Form::Operand => arg.action(ArgAction::Set).value_name(self.value_name()),
@@ -120,6 +131,7 @@ impl CliArgument {
             | CliArgument::Memory
             | CliArgument::Clients
             | CliArgument::Senders => Form::Option,
+            CliArgument::Before | CliArgument::After => Form::Options,
             CliArgument::Name
             | CliArgument::Address
             | CliArgument::User
@@ -145,7 +157,9 @@ impl CliArgument {
             CliArgument::To | CliArgument::AnyTo => "to",
             CliArgument::At => "at",
             CliArgument::Zone => "zone",
+            CliArgument::Before => "before",
             CliArgument::Default => "default",
+            CliArgument::After => "after",
             CliArgument::Salt => "salt",
             CliArgument::Name => "name",
             CliArgument::Address => "address",
@@ -204,7 +218,11 @@ impl CliArgument {
             CliArgument::Port | CliArgument::Managesieve => "P",
             CliArgument::Memory => "MIB",
             CliArgument::Salt => "HEX32",
-            CliArgument::Db | CliArgument::Default | CliArgument::Files => "FILE",
+            CliArgument::Db
+            | CliArgument::Before
+            | CliArgument::Default
+            | CliArgument::After
+            | CliArgument::Files => "FILE",
             CliArgument::Script | CliArgument::AnyScript => "SCRIPT",
             CliArgument::Name | CliArgument::Host | CliArgument::HostName => "NAME",
             CliArgument::Lmtp => "P|PATH|-",
@@ -228,7 +246,11 @@ impl CliArgument {
             CliArgument::At => "Seconds since 1970 [default: the clock]",
             CliArgument::Zone =>
                 "The zone: +HHMM, or a rule as CET-1CEST,M3.5.0,M10.5.0/3 [default: +0000]",
+            CliArgument::Before =>
+                "A script of the host's that runs before the user's; any number of times",
             CliArgument::Default => "The script for accounts without an active one",
+            CliArgument::After =>
+                "A script of the host's that runs after the user's; any number of times",
             CliArgument::Salt => "16 random octets in hexadecimal [default: the system's]",
             CliArgument::Name => "1 to 64 of letters, digits and . _ - @",
             CliArgument::Address => "The mail address, without a display name",
@@ -278,7 +300,9 @@ impl CliArgument {
                 | CliArgument::AnyTo
                 | CliArgument::At
                 | CliArgument::Zone
+                | CliArgument::Before
                 | CliArgument::Default
+                | CliArgument::After
                 | CliArgument::AnyId
                 | CliArgument::Most
                 | CliArgument::Directories

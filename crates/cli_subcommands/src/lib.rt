@@ -3,6 +3,7 @@
 
 mod argument;
 mod given;
+mod host_files;
 mod location;
 mod program;
 mod raw_args;
@@ -10,6 +11,7 @@ mod reading;
 mod subcommand;
 mod subcommand_row;
 
+pub use host_files::{HostFiles, MAX_HOST_FILES, read_host_files};
 pub use location::StoreLocation;
 pub use program::VERSION;
 pub use raw_args::RawArgs;

@@ -1,6 +1,6 @@
 //! The arguments of a command line: the octets that the system hands over, and the texts that `clap` reads.
-ghost use Rattle.std.specs.Prelude.{IsTrue};
-ghost use Rattle.cli_subcommands.specs.Asks.{HasNoText, IsArgAddress};
+ghost use Rattle.std.specs.Prelude.{◌≡◌, IfOk, IsTrue};
+ghost use Rattle.cli_subcommands.specs.Asks.{HasNoText, IsArgAddress, arg_octets};
 
 use octets::Octets;
 use std::alloc::{AllocError, Global};
@@ -23,7 +23,9 @@ pub struct RawArgs {
 
 impl RawArgs {
     /// From the arguments in their order. Lack of memory is the only error.
-    pub fn new(alloc: Global, words: Vec<Octets>) -> Result<RawArgs, AllocError> {
+    pub fn new(alloc: Global, words: Vec<Octets>) -> Result<RawArgs, AllocError>
+        ensures { IfOk result (λ args. arg_octets args ≡ words.items) }
+    {
         let longest = words.iter().map(|word| word.len()).max().unwrap_or(0);
         let mut texts = Vec::new(alloc);
         for (at, word) in words.iter().enumerate() {

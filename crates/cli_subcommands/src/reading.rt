@@ -4,6 +4,7 @@ ghost use Rattle.cli_subcommands.specs.Asks.{HasNoText, NamesFiles, WasMatched, 
 
 use crate::argument::CliArgument;
 use crate::given::Given;
+use crate::host_files::texts_of;
 use crate::program::sieved;
 use crate::raw_args::RawArgs;
 use crate::subcommand::check::CHECK;
@@ -107,8 +108,7 @@ pub fn read_files<'a>(alloc: Global, matches: &ArgMatches<'a>) -> Result<Vec<&'a
     if name != CHECK.name {
         return Err(ArgsError::Unknown);
     }
-    let files = found.get_strs(CliArgument::Files.name()).unwrap_or(&[]);
-    match files.to_vec(alloc) {
+    match texts_of(alloc, found, CliArgument::Files) {
         Ok(files) => Ok(files),
         Err(refused) => Err(ArgsError::Said(Error::from(refused))),
     }

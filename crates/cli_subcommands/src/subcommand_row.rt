@@ -1,4 +1,7 @@
 //! The row of a subcommand in the help.
+ghost use Rattle.std.specs.Prelude.{IfOk};
+ghost use Rattle.cli_subcommands.specs.Rows.{IsCommandOf};
+
 use crate::argument::CliArgument;
 use clap::Command;
 use std::alloc::{AllocError, Global};
@@ -14,8 +17,10 @@ pub struct SubcommandRow {
 }
 
 impl SubcommandRow {
-    /// The subcommand for `clap`.
-    pub fn command<'a>(&self, alloc: Global) -> Result<Command<'a>, AllocError> {
+    /// The subcommand for `clap`. Lack of memory is the only error.
+    pub fn command<'a>(&self, alloc: Global) -> Result<Command<'a>, AllocError>
+        ensures { IfOk result (IsCommandOf self.now) }
+    {
         let mut command = Command::new(alloc, self.name)
             .about(self.about)
             .after_help(self.more);

@@ -29,7 +29,7 @@ use net_shares::{Grace, Scheduler, TimeAccount};
 use net_sockets::SystemSockets;
 use octets::Octets;
 use sqlite::ErrorCode;
-use std::alloc::Global;
+use std::alloc::{AllocError, Global};
 use std::collections::VecDeque;
 use std::io::Write;
 use std::mem::take;
@@ -141,9 +141,9 @@ impl<'a, N: Net + time::Clock, E: Write + Drop, K: Keeper + Drop, T: MailSink + 
         }
     }
 
-    /// The first line on the errors: the program's version, and the number of its process.
-    pub fn begin(&mut self, version: &[u8], pid: u32) {
-        self.news.begin(version, pid);
+    /// The first lines on the errors: the program's version with the number of its process, and these, if there was memory for them.
+    pub fn begin(&mut self, version: &[u8], pid: u32, lines: Result<Octets, AllocError>) {
+        self.news.begin(version, pid, lines);
     }
 
     /// Tells of the fault that ends the daemon, and gives its exit status.

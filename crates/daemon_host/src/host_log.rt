@@ -61,9 +61,10 @@ impl<E: Write + Drop> HostLog<E> {
         }
     }
 
-    /// Writes the first line: the program's version, and the number of its process.
-    pub fn begin(&mut self, version: &[u8], pid: u32) {
+    /// Writes the first line, the program's version and the number of its process, and then these lines, if there was memory for them.
+    pub fn begin(&mut self, version: &[u8], pid: u32, lines: Result<Octets, AllocError>) {
         self.tell_line(of_beginning(self.alloc, version, pid));
+        self.tell_line(lines);
     }
 
     /// Writes the line `status`, for each minute in which something happened.

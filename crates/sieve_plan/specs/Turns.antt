@@ -9,8 +9,8 @@ use Rattle.sieve_plan.specs.declared.handover.ScriptEnd.TheVariants as end
 use Rattle.sieve_plan.specs.declared.handover.Standing.{Standing}
 use Rattle.sieve_plan.specs.declared.scripts.SequenceScript.{SequenceScript as Script}
 use Rattle.sieve_plan.specs.declared.turn.SequenceState.{SequenceState as Progress}
-use Rattle.sieve_plan.specs.declared.turn.Turn.{Turn}
-use Rattle.sieve_plan.specs.declared.turn.Turn.TheVariants as turn
+use Rattle.sieve_plan.specs.declared.turn.TurnEnd.{TurnEnd}
+use Rattle.sieve_plan.specs.declared.turn.TurnEnd.TheVariants as turn
 use Rattle.sieve_plan.specs.Handover.{Handover, ScriptEnd, Ended, Broken, filed_for_good}
 use Rattle.sieve_plan.specs.Plans.{deeds_in, notice_cause_text}
 use Rattle.sieve_plan.specs.Sequences.{SequenceScript, SequenceState, RunsToEnd, FailsFor}
@@ -44,6 +44,6 @@ abbrev pub sequence_state_of : Progress → SequenceState
 sequence_state_of state = record { left = handover_of state.left; done = deeds_in state.left.stands.done; host_work = state.host_work }
 
 -- what a script's turn comes to where the sequence has come so far; where it fails, this is done by those before it
-abbrev pub TakesTurn : MailSpec → SequenceScript → SequenceState → Turn → Type 0
-TakesTurn mail script state (turn.Ended next) = RunsToEnd mail script state (sequence_state_of next)
-TakesTurn mail script state (turn.Failed before cause) = FailsFor mail script state (notice_cause_text cause) × (deeds_in before ≡ state.done)
+abbrev pub TakesScriptTurn : MailSpec → SequenceScript → SequenceState → TurnEnd → Type 0
+TakesScriptTurn mail script state (turn.Ended next) = RunsToEnd mail script state (sequence_state_of next)
+TakesScriptTurn mail script state (turn.Failed before cause) = FailsFor mail script state (notice_cause_text cause) × (deeds_in before ≡ state.done)

@@ -26,5 +26,5 @@ pub use notice::{FailureNotice, NoticeCause, failure_text};
 pub use outcome::evaluate_script;
 pub use scripts::{HostScripts, Whose};
 pub use sent::{half_handle, half_of, is_near_if, redirect_keys, sent_end, sent_handle};
-pub use settlement::{Settlement, settle};
+pub use settlement::{Settlement, settle, settle_scripts};
 pub use view::AccountView;

@@ -2,7 +2,7 @@
 ghost use Rattle.std.specs.Prelude.{◌≡◌, false, map, IfOk};
 ghost use Rattle.store_accounts.specs.Cells.{borrowed_octets};
 ghost use Rattle.sieve_plan.specs.Delivered.{has_long_header};
-ghost use Rattle.sieve_plan.specs.Sequences.{SettlesInTurn, SettlesUnder, at_beginning, settled_well};
+ghost use Rattle.sieve_plan.specs.Sequences.{SettlesInTurn, SettlesUnder, at_beginning, sequence_of, settled_well};
 ghost use Rattle.sieve_plan.specs.SequencePlans.{settled_of};
 ghost use Rattle.sieve_plan.specs.Turns.{script_in, sequence_state_of};
 
@@ -11,7 +11,7 @@ use crate::handover::Handover;
 use crate::looping::is_looping;
 use crate::notice::FailureNotice;
 use crate::scripts::{HostScripts, SequenceScript, sequence};
-use crate::turn::{SequenceState, Turn, take_turn};
+use crate::turn::{SequenceState, TurnEnd, take_turn};
 use sieve_exec::Mail;
 use std::alloc::{AllocError, Global};
 
@@ -44,6 +44,18 @@ pub fn settle(
             notice: Some(FailureNotice::Loop),
         });
     }
+    settle_scripts(alloc, host, own, mail)
+}
+
+/// What the host's scripts and the user's come to on a mail, as [`settle`] says it, however often that mail was received.
+pub fn settle_scripts(
+    alloc: Global,
+    host: &HostScripts,
+    own: Option<&[u8]>,
+    mail: &Mail<'_>,
+) -> Result<Settlement, AllocError>
+    ensures { IfOk result (λ settlement. SettlesInTurn mail.now (sequence_of host.now (borrowed_octets own.entry)) at_beginning (settled_of settlement)) }
+{
     let scripts = sequence(alloc, host, own)?;
     settle_in_turn(alloc, scripts.as_slice(), mail)
 }
@@ -59,7 +71,7 @@ fn settle_in_turn(
     let mut state = SequenceState::first(alloc)?;
     for script in scripts {
         match take_turn(alloc, script, mail, state)? {
-            Turn::Failed(deeds, cause) => {
+            TurnEnd::Failed(deeds, cause) => {
                 return Ok(Settlement {
                     deeds,
                     notice: Some(FailureNotice::Script {
@@ -68,7 +80,7 @@ fn settle_in_turn(
                     }),
                 });
             }
-            Turn::Ended(next) => {
+            TurnEnd::Ended(next) => {
                 if !next.left.is_kept {
                     return Ok(settled_well(next));
                 }

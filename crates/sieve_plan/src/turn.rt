@@ -3,7 +3,7 @@ ghost use Rattle.std.specs.Prelude.{◌≡◌, ◌<◌, ◌^◌, ℕ, List, IfOk
 ghost use Rattle.sieve_syntax.specs.Means.{Means};
 ghost use Rattle.sieve_syntax.specs.View.{script_tree};
 ghost use Rattle.sieve_plan.specs.Sequences.{at_beginning, host_work_behind as host_work_behind_of, work_limit as work_limit_of};
-ghost use Rattle.sieve_plan.specs.Turns.{TakesTurn, script_in, sequence_state_of};
+ghost use Rattle.sieve_plan.specs.Turns.{TakesScriptTurn, script_in, sequence_state_of};
 
 use crate::deeds::Deeds;
 use crate::handover::{Handover, ScriptEnd};
@@ -28,7 +28,7 @@ pub struct SequenceState {
 
 /// What a script's turn comes to.
 #[derive(Drop)]
-pub enum Turn {
+pub enum TurnEnd {
     /// It ran to its end, and the sequence has come so far.
     Ended(SequenceState),
     /// It failed: this is done by those before it.
@@ -53,15 +53,15 @@ pub(crate) fn take_turn(
     script: &SequenceScript<'_>,
     mail: &Mail<'_>,
     state: SequenceState,
-) -> Result<Turn, AllocError>
-    ensures { IfOk result (TakesTurn mail.now (script_in script.now) (sequence_state_of state)) }
+) -> Result<TurnEnd, AllocError>
+    ensures { IfOk result (TakesScriptTurn mail.now (script_in script.now) (sequence_state_of state)) }
 {
     match check(alloc, script.text) {
         Ok(checked) => run_script(alloc, script.whose, &checked, mail, state),
         Err(ScriptError::Fault(_)) => {
             let SequenceState { left, .. } = state;
             let Handover { stands, .. } = left;
-            Ok(Turn::Failed(stands.done, NoticeCause::Invalid))
+            Ok(TurnEnd::Failed(stands.done, NoticeCause::Invalid))
         }
         Err(ScriptError::Memory) => Err(AllocError),
     }
@@ -74,8 +74,8 @@ fn run_script(
     script: &Script,
     mail: &Mail<'_>,
     state: SequenceState,
-) -> Result<Turn, AllocError>
-    ensures { IfOk result (λ turn. (text : List ℕ) → Means text (script_tree script.now) → TakesTurn mail.now (record { whose = whose; text = text }) (sequence_state_of state) turn) }
+) -> Result<TurnEnd, AllocError>
+    ensures { IfOk result (λ turn. (text : List ℕ) → Means text (script_tree script.now) → TakesScriptTurn mail.now (record { whose = whose; text = text }) (sequence_state_of state) turn) }
 {
     let code = compile(alloc, script)?;
     let SequenceState { left, host_work } = state;
@@ -83,16 +83,16 @@ fn run_script(
     let Handover { stands, flags, .. } = left;
     let begun = stands.begin(alloc, flags)?;
     match run_from(alloc, &code, mail, begun, most)? {
-        RunEnd::Failed(failure) => Ok(Turn::Failed(stands.done, NoticeCause::Failed(failure))),
+        RunEnd::Failed(failure) => Ok(TurnEnd::Failed(stands.done, NoticeCause::Failed(failure))),
         RunEnd::Ended {
             state: at_end,
             work,
         } => match stands.end(alloc, at_end)? {
-            ScriptEnd::Failed(done, failure) => Ok(Turn::Failed(
+            ScriptEnd::Failed(done, failure) => Ok(TurnEnd::Failed(
                 done,
                 NoticeCause::Failed(failure),
             )),
-            ScriptEnd::Ended(left) => Ok(Turn::Ended(SequenceState {
+            ScriptEnd::Ended(left) => Ok(TurnEnd::Ended(SequenceState {
                 left,
                 host_work: host_work_behind(whose, work, host_work),
             })),

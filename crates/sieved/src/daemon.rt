@@ -1,11 +1,12 @@
 //! Many clients at once.
 use crate::descriptors::{TOO_FEW, are_enough};
-use crate::host_settings::read_settings;
+use crate::host_settings::{lines_of, read_settings};
 use crate::listening::{Listening, fault_of_socket, listen};
 use crate::options::{DaemonOptions, MailOptions, read_options};
 use cli_run::fault::RunFault;
 use cli_run::fault_with_cause::FaultWithCause;
 use cli_subcommands as words;
+use cli_subcommands::HostFiles;
 use daemon_core::life;
 use daemon_core::mail::{MailDaemon, Places};
 use daemon_host::host::Host;
@@ -24,7 +25,8 @@ use std::{fs, io};
 use store_lock::Keeper;
 
 /// Serves many clients at once from a keeper's store. `descriptor` may hold a socket that another process left for LMTP. The
-/// first line on the errors has the version and the process number. Returns the exit status if the daemon ends.
+/// first line on the errors has the version and the process number, and the next ones name the files of the host's scripts. Returns
+/// the exit status if the daemon ends.
 pub fn serve_daemon<
     N: Net + Files + Clock,
     D: AsFd,
@@ -36,6 +38,7 @@ pub fn serve_daemon<
     system: &N,
     alloc: Global,
     words: words::DaemonArgs<'_>,
+    files: &HostFiles<'_>,
     pid: u32,
     descriptor: &D,
     output: &mut W,
@@ -47,14 +50,7 @@ pub fn serve_daemon<
         Ok(asked) => asked,
         Err(fault) => return FaultWithCause::from(fault).refuse(&mut errors),
     };
-    let settings = match read_settings(
-        system,
-        alloc,
-        asked.zone,
-        words.default,
-        output,
-        &mut errors,
-    ) {
+    let settings = match read_settings(system, alloc, asked.zone, files, output, &mut errors) {
         Ok(settings) => settings,
         Err(status) => return status,
     };
@@ -71,6 +67,7 @@ pub fn serve_daemon<
         Ok(None) => return 0,
         Err(fault) => return fault.refuse(&mut errors),
     };
+    let lines = lines_of(alloc, files, &settings);
     let route = match route_of(alloc, asked.mail) {
         Ok(route) => route,
         Err(refused) => return FaultWithCause::from(refused).refuse(&mut errors),
@@ -89,7 +86,7 @@ pub fn serve_daemon<
                 words.quiet,
                 errors,
             );
-            host.begin(words::VERSION.as_bytes(), pid);
+            host.begin(words::VERSION.as_bytes(), pid, lines);
             live(alloc, &asked, host)
         }
         Err(error) => fault_of_socket(error).refuse(&mut errors),

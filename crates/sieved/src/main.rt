@@ -17,9 +17,11 @@ use check::check;
 use cli_run::fault::{RunFault, refuse};
 use cli_run::run::{run_subcommand, tell_unread};
 use cli_run::session::run_session;
-use cli_subcommands::{RawArgs, Subcommand, match_command_line, read_matches};
+use cli_subcommands::{
+    HostFiles, RawArgs, Subcommand, match_command_line, read_host_files, read_matches,
+};
 use daemon::serve_daemon;
-use host_settings::read_default;
+use host_settings::read_texts;
 use listener::serve;
 use maildir_files::{MailSink, Maildir};
 use octets::Octets;
@@ -62,21 +64,21 @@ fn run(rt: &HostRuntime, words: &RawArgs) -> u8 {
             &mut rt.stdout(),
             &mut rt.stderr(),
         ),
-        Ok(asked) => answer(
-            rt,
-            alloc,
-            asked,
-            Moment {
-                clock: clock(rt),
-                random: random(rt),
-                pid: process::id(rt.process()),
-            },
-            &mut rt.stdin(),
-            &mut rt.stdout(),
-            rt.stderr(),
-            FileKeeper::new(rt),
-            Maildir::new(rt),
-        ),
+        Ok(asked) => match read_host_files(alloc, &matches) {
+            Ok(files) => answer(
+                rt,
+                alloc,
+                asked,
+                &files,
+                moment(rt),
+                &mut rt.stdin(),
+                &mut rt.stdout(),
+                rt.stderr(),
+                FileKeeper::new(rt),
+                Maildir::new(rt),
+            ),
+            Err(refused) => refuse(&mut rt.stderr(), RunFault::from(refused)),
+        },
     }
 }
 
@@ -94,6 +96,7 @@ fn answer<N, R: Read + AsFd, W: Write, E: Write + Drop, K: Keeper + Drop, T: Mai
     net: &N,
     alloc: Global,
     asked: Subcommand<'_>,
+    files: &HostFiles<'_>,
     moment: Moment,
     input: &mut R,
     output: &mut W,
@@ -117,11 +120,11 @@ where
             )
         }
         Subcommand::Daemon(asked) => serve_daemon(
-            net, alloc, asked, moment.pid, &*input, output, errors, keeper, sink,
+            net, alloc, asked, files, moment.pid, &*input, output, errors, keeper, sink,
         ),
         asked => {
-            let default = match read_default(net, alloc, default_of(asked), output, &mut errors) {
-                Ok(default) => default,
+            let host = match read_texts(net, alloc, files, output, &mut errors) {
+                Ok(host) => host,
                 Err(status) => return status,
             };
             run_subcommand(
@@ -133,18 +136,10 @@ where
                 &mut keeper,
                 moment.clock,
                 moment.random,
-                default,
+                host,
                 &mut sink,
             )
         }
-    }
-}
-
-/// The path of the script for accounts without an active one, if the subcommand is `deliver` and names one.
-fn default_of(asked: Subcommand<'_>) -> Option<&str> {
-    match asked {
-        Subcommand::Deliver(asked) => asked.default,
-        _ => None,
     }
 }
 
@@ -172,6 +167,14 @@ fn word_at(rt: &HostRuntime, at: usize) -> Result<Option<Octets>, AllocError> {
         }
     }
     Err(AllocError)
+}
+
+fn moment(rt: &HostRuntime) -> Moment {
+    Moment {
+        clock: clock(rt),
+        random: random(rt),
+        pid: process::id(rt.process()),
+    }
 }
 
 /// Seconds since 1970, if the clock can be read.

@@ -13,8 +13,8 @@ use Rattle.store_accounts.specs.declared.report.Report.{Report}
 use Rattle.store_accounts.specs.declared.refusal.Refusal.{Refusal}
 use Rattle.managesieve_sessions.specs.Replies.{is_ok}
 use Rattle.managesieve_sessions.specs.Scripts.{IfElse, TellsFault, RepliesToText, RepliesToPut, RepliesToSet, RepliesToDelete, RepliesToRename, RepliesTo, obeyed, carried_out}
-use Rattle.sieve_plan.specs.Delivered.{Delivers}
-use Rattle.sieve_plan.proofs.DeliveryLaws.{one_delivery}
+use Rattle.sieve_plan.specs.Sequences.{DeliversInSequence}
+use Rattle.sieve_plan.proofs.SequenceLaws.{one_delivery_in_sequence}
 use Rattle.store_engine.specs.declared.answer.Answer.{Answer}
 use Rattle.store_engine.specs.Limits.{limit_refusal}
 use Rattle.store_accounts.specs.Account.{row_with}
@@ -128,7 +128,8 @@ delivered_one : (terms : Terms) (envelope : Envelope) (message : List ℕ) (a : 
 delivered_one terms envelope message a r1 r2 one two is was =
     let found : Some is.own ≡ Some was.own = sym (bare-found a.address is.own is.address) ∙ bare-found a.address was.own was.address in
     let same : is.own ≡ was.own = cc in
-    (one_delivery was.own (mail_spec_of message envelope terms.when) (deciding_text terms.host.default a) a r1 r2 one two (subst (λ own. Delivers own (mail_spec_of message envelope terms.when) (deciding_text terms.host.default a) a r1 one) same is.delivers) was.delivers).1
+    (one_delivery_in_sequence was.own terms.host.scripts (mail_spec_of message envelope terms.when) (deciding_text terms.host.default a) a r1 r2 one two
+    (subst (λ own. DeliversInSequence own terms.host.scripts (mail_spec_of message envelope terms.when) (deciding_text terms.host.default a) a r1 one) same is.delivers) was.delivers).1
 
 receives_one : (o : Option Refusal) (account : Option Account) (envelope : Envelope) (message : List ℕ) (terms : Terms) (answer : Answer) (one two : Option Account)
     → ReceivesIn o account envelope message terms answer one → ReceivesIn o account envelope message terms answer two → one ≡ two

@@ -7,7 +7,7 @@ use Rattle.sqlite.specs.State.{State, HasCleanDisk}
 use Rattle.sieve_exec.specs.declared.envelope.Envelope.{Envelope}
 use Rattle.sieve_exec.specs.Mails.{MailSpec, mail_spec_of}
 use Rattle.mail_address.specs.declared.address.Addr.{Addr}
-use Rattle.sieve_plan.specs.Delivered.{Delivers, DeliversAs, Disposes, Disposition}
+use Rattle.sieve_plan.specs.Sequences.{Settled, SettlesUnder, CarriesOutSettled, DeliversInSequence}
 use Rattle.store_accounts.specs.declared.refusal.Refusal.{Refusal}
 use Rattle.store_accounts.specs.declared.refusal.Refusal.TheVariants.{NoUser, TooLarge, BadEnvelope, BadMoment, AccountClosed}
 use Rattle.store_accounts.specs.declared.report.Plan.{Plan}
@@ -53,11 +53,12 @@ absent_refuses envelope message moment q refusal none is (inl absent) = subst (�
 absent_refuses envelope message moment q refusal none is (inr shut) = subst (λ o. IfErr o (RefusesDelivery envelope message moment)) (sym is) (inr (none, inr (inl shut)))
 
 -- what the plan says of the mail that was read, of the message under the envelope
-pub planned_at : (own : Addr) (text active : Option (List ℕ)) (mail : MailSpec) (disposition : Disposition) (envelope : Envelope) (message : List ℕ) (terms : Terms) (a : Account) (plan : Plan) → mail ≡ mail_spec_of message envelope terms.when
-    → active ≡ text → Disposes active mail disposition → DeliversAs own mail.moment mail disposition a plan.report (delivers plan a) → Delivers own (mail_spec_of message envelope terms.when) text a plan.report (delivers plan a)
-planned_at own text active mail disposition envelope message terms a plan read same disposes delivered =
-    subst (λ o. Delivers own (mail_spec_of message envelope terms.when) o a plan.report (delivers plan a)) same
-    (subst (λ (m : MailSpec). Delivers own m active a plan.report (delivers plan a)) read (record { disposition = disposition; disposes = disposes; delivers = delivered }))
+pub planned_at : (own : Addr) (text active : Option (List ℕ)) (mail : MailSpec) (settled : Settled) (envelope : Envelope) (message : List ℕ) (terms : Terms) (a : Account) (plan : Plan) → mail ≡ mail_spec_of message envelope terms.when
+    → active ≡ text → SettlesUnder terms.host.scripts active mail settled → CarriesOutSettled own mail.moment mail settled a plan.report (delivers plan a)
+    → DeliversInSequence own terms.host.scripts (mail_spec_of message envelope terms.when) text a plan.report (delivers plan a)
+planned_at own text active mail settled envelope message terms a plan read same settles delivered =
+    subst (λ o. DeliversInSequence own terms.host.scripts (mail_spec_of message envelope terms.when) o a plan.report (delivers plan a)) same
+    (subst (λ (m : MailSpec). DeliversInSequence own terms.host.scripts m active a plan.report (delivers plan a)) read (record { settled = settled; settles = settles; delivers = delivered }))
 
 module _ (user : List ℕ) (envelope : Envelope) (message : List ℕ) (terms : Terms) where
   abbrev Row : Accounts → Answer → Accounts → Type 0

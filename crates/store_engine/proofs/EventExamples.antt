@@ -13,7 +13,8 @@ use Rattle.store_tables.specs.declared.queue.QueuedKind.TheVariants.{Redirect}
 use Rattle.store_accounts.specs.declared.queue.QueuedMessage.{QueuedMessage}
 use Rattle.store_accounts.specs.declared.refusal.Refusal.TheVariants.{NoUser, BadMoment, UserExists, UserHasMail, BadUser, NoRow}
 use Rattle.sieve_plan.specs.Sent.{over_keys}
-use Rattle.sieve_plan.specs.Delivered.{Acts, kept, Silent, report_of, unflagged_copy}
+use Rattle.sieve_plan.specs.Delivered.{kept, Silent, report_of, unflagged_copy}
+use Rattle.sieve_plan.specs.Sequences.{no_host_scripts, settled_well}
 use Rattle.sieve_plan.proofs.PlanLemmas.{none_goes, none_told}
 use Rattle.store_engine.specs.declared.answer.Answer.{Answer}
 use Rattle.store_engine.specs.declared.answer.Answer.TheVariants.{Delivered, Added, Taken, Refused}
@@ -40,9 +41,9 @@ message = codes "Hi"
 abbrev row : ℕ → QueuedMessage
 row id = record { id = id; kind = Redirect; sender = codes "bob@example.net"; target = codes "carol@example.com"; message = message }
 
--- a host in UTC, without a default script
+-- a host in UTC, without scripts of its own
 abbrev in_utc : HostSettings
-in_utc = record { zone = Always (record { minutes = pos 0; within = (search (rules, ints), search (rules, ints)) }); default = None }
+in_utc = record { zone = Always (record { minutes = pos 0; within = (search (rules, ints), search (rules, ints)) }); default = None; scripts = no_host_scripts }
 
 -- the fifth second of 1970 there, and one past the year 9999
 abbrev at_five : Terms
@@ -111,8 +112,8 @@ module _ (a : Account) (open_is : is_closed_account a ≡ false) where
           own = own;
           address = address;
           delivers = record {
-            disposition = Acts kept;
-            disposes = rw none refl;
+            settled = settled_well kept;
+            settles = rw none refl;
             delivers = record { response = Silent; is_response = refl; reported = rw (none_goes a mail, none_told a mail) refl; changed = rw (none_goes a mail, none_told a mail) refl };
           };
         };

@@ -1,27 +1,28 @@
 pub mod ActLaws
 mod AloneExamples
-pub mod UpkeepLemmas
 pub mod AloneLemmas
-pub mod DeliveryLemmas
 pub mod CopyLemmas
+pub mod DeliveryLemmas
 mod EventExamples
-mod ImportExamples
+mod FlagLemmas
 pub mod HostLemmas
+mod ImportExamples
 pub mod ImportLemmas
 pub mod ImportingLemmas
 pub mod KeepingLemmas
-pub mod RecallLemmas
 mod LimitExamples
 pub mod LookupLemmas
-pub mod RunLemmas
-pub mod SoundLemmas
-pub mod SpacingLemmas
-pub mod MoveLemmas
-pub mod StandingLemmas
-pub mod TakingLemmas
 mod MailTakingExamples
 pub mod MailTakingLemmas
+pub mod MoveLemmas
+pub mod RecallLemmas
+pub mod RunLemmas
+pub mod SequenceFrontLemmas
+pub mod SoundLemmas
+pub mod SpacingLemmas
+pub mod StandingLemmas
+pub mod TakingLemmas
 mod UpkeepExamples
+pub mod UpkeepLemmas
 pub mod UserLemmas
 mod WorldExamples
-mod FlagLemmas

@@ -12,8 +12,6 @@ use Rattle.mail_address.specs.Outbound.{IsBareAddress}
 use Rattle.sieve_syntax.specs.Meaning.{Actions}
 use Rattle.sieve_exec.specs.Mails.{MailSpec}
 use Rattle.sieve_plan.specs.declared.view.AccountView.{AccountView}
-use Rattle.sieve_plan.specs.Delivered.{Disposition, Acts, Tells}
-use Rattle.sieve_plan.specs.Plans.{IsOfView}
 use Rattle.sieve_plan.specs.Sent.{half_of, is_near_if, near_targets, over_keys, known_in_half, known_targets, known_under}
 use Rattle.sieve_plan.specs.Views.{asks_room, known_of, last_of}
 use Rattle.store_tables.proofs.ResultLemmas.{on_any, on_ok}
@@ -153,11 +151,8 @@ recalls_then user P Q R a b c r x was early (Err e) late both = recalls_both_fai
 
 -- ---- what a delivery has to know
 
-pub told_recalled : (view : AccountView) (address : Addr) (mail : MailSpec) (disposition : Disposition) (text : List ℕ) (a : Account) → disposition ≡ Tells text → view.address ≡ address → IsRecalled view address mail disposition a
-told_recalled view address mail disposition text a is same = record { same = same; of = λ bare. subst (λ d. IsOfView view mail d a) (sym is) tt }
-
 pub deeds_recalled : (view : AccountView) (address : Addr) (mail : MailSpec) (deeds : Actions) (a : Account) → view.address ≡ address → view.last ≡ last_of a mail.from deeds.reply → view.known ≡ known_of a mail deeds.sent
-    → (asks_room deeds ≡ true → view.room ≡ room_in a) → view.over ≡ over_keys a mail.moment → IsRecalled view address mail (Acts deeds) a
+    → (asks_room deeds ≡ true → view.room ≡ room_in a) → view.over ≡ over_keys a mail.moment → IsRecalled view address mail deeds a
 deeds_recalled view address mail deeds a same last known room over =
     record { same = same; of = λ bare. record { address = subst (IsBareAddress a.address) (sym same) bare; last = last; known = known; room = room; over = over } }
 

@@ -11,7 +11,6 @@ use Rattle.store_text.specs.declared.part.Part.{Part}
 use Rattle.mail_address.specs.declared.address.Addr.{Addr}
 use Rattle.mail_address.specs.Spelling.{address_spelling}
 use Rattle.mail_flags.specs.declared.placement.Placement.{Placement}
-use Rattle.sieve_syntax.specs.RunState.{inbox}
 use Rattle.sieve_exec.specs.Mails.{MailSpec, mail_spec_of}
 use Rattle.managesieve_protocol.specs.declared.commands.ClientCommand.{ClientCommand}
 use Rattle.managesieve_protocol.specs.declared.commands.ClientCommand.TheVariants.{Capability, Noop, Logout, Authenticate, Unauthenticate, HaveSpace, PutScript, CheckScript, ListScripts, SetActive, GetScript, DeleteScript, RenameScript}
@@ -28,7 +27,8 @@ use Rattle.store_accounts.proofs.AccountLemmas.{bytes_antisymmetric}
 use Rattle.managesieve_sessions.specs.Limits.{scripts_limit, IsScriptName}
 use Rattle.managesieve_sessions.specs.Replies.{is_ok}
 use Rattle.managesieve_sessions.specs.Scripts.{HasRoom, RepliesToPut, RepliesToSet, RepliesToDelete, RepliesToRename, RepliesTo, active_name, carried_out, obeyed}
-use Rattle.sieve_plan.specs.Delivered.{Disposition, Acts, Tells, Response, Silent, NoRoom, Quiet, Sent, acts, done_of, held_of, redirects, responds, unflagged_copy, DeliversAs}
+use Rattle.sieve_plan.specs.Delivered.{Response, Silent, NoRoom, Quiet, Sent, acts, done_of, held_of, redirects, responds}
+use Rattle.sieve_plan.specs.Sequences.{Settled, CarriesOutSettled, notice_left, forgotten_unless}
 use Rattle.sieve_plan.specs.Sent.{kept_handles, redirect_key, over_keys}
 use Rattle.store_engine.specs.declared.event.Event.{Event}
 use Rattle.store_engine.specs.declared.answer.Answer.{Answer}
@@ -278,19 +278,16 @@ notes_sound : (moment : ℕ) (held : Option (List ℕ)) (a : Account) → IsSoun
 notes_sound moment None a own = own
 notes_sound moment (Some text) a own = record { address = own.address; scripts = own.scripts; few = own.few; active = own.active; filled = own.filled }
 
-delivers_sound : (addr : Addr) (moment : ℕ) (mail : MailSpec) (disposition : Disposition) (a a2 : Account) (report : Report) → IsSoundAccount a → DeliversAs addr moment mail disposition a report a2 → IsSoundAccount a2
-delivers_sound addr moment mail (Acts deeds) a a2 report own is =
-    let done = done_of a mail deeds in
-    let over = over_keys a moment in
+delivers_sound : (addr : Addr) (moment : ℕ) (mail : MailSpec) (settled : Settled) (a a2 : Account) (report : Report) → IsSoundAccount a → CarriesOutSettled addr moment mail settled a report a2 → IsSoundAccount a2
+delivers_sound addr moment mail settled a a2 report own is =
+    let done = done_of a mail settled.deeds in
+    let over = forgotten_unless settled.notice (over_keys a moment) in
     let sent = redirects mail done.sent (files_copies done.filed mail.octets a) in
     subst IsSoundAccount (sym is.changed)
-    (notes_sound moment (held_of a mail deeds) (responds mail is.response (acts mail done over a))
+    (notes_sound moment (notice_left settled.notice (held_of a mail settled.deeds)) (responds mail is.response (acts mail done over a))
     (responds_sound mail is.response (acts mail done over a)
     (keeps_sound (redirect_key mail) mail.moment (kept_handles mail done.sent) (forgets over sent)
     (forgets_sound over sent (redirects_sound mail done.sent (files_copies done.filed mail.octets a) (sound_filed a own mail.octets done.filed))))))
-delivers_sound addr moment mail (Tells text) a a2 report own is =
-    let kept = sound_filed a own mail.octets (unflagged_copy inbox ∷ []) in
-    subst IsSoundAccount (sym is.changed) (record { address = kept.address; scripts = kept.scripts; few = kept.few; active = kept.active; filled = kept.filled })
 
 -- ---- the acts of one user
 
@@ -405,7 +402,7 @@ act_sound user account later (own.Receives envelope message terms answer) sound 
         opened None none is = subst (λ o. IfSome o IsSoundAccount) (sym is.stays) sound
         opened (Some a) has is =
             subst (λ o. IfSome o IsSoundAccount) (sym is.changed)
-            (delivers_sound is.delivers.own terms.when.moment (mail_spec_of message envelope terms.when) is.delivers.delivers.disposition a is.after is.report (subst (λ o. IfSome o IsSoundAccount) (open_there account a has) sound) is.delivers.delivers.delivers)
+            (delivers_sound is.delivers.own terms.when.moment (mail_spec_of message envelope terms.when) is.delivers.delivers.settled a is.after is.report (subst (λ o. IfSome o IsSoundAccount) (open_there account a has) sound) is.delivers.delivers.delivers)
 act_sound user account later (own.Joins address salt password answer) sound (inl (new, is)) = go account sound is
   where
     over : (a : Account) → IsSoundAccount a → (closed full : Bool) → MatchBool closed (MatchBool full (MachineRefuses UserHasMail (Some a) answer later) (RenewsAlone a address salt password answer later)) (MachineRefuses UserExists (Some a) answer later) → IfSome later IsSoundAccount

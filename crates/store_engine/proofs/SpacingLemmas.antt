@@ -41,7 +41,8 @@ use Rattle.store_accounts.specs.declared.report.VacationReport.TheVariants as V
 use Rattle.store_accounts.specs.declared.refusal.Refusal.{Refusal}
 use Rattle.managesieve_sessions.specs.Scripts.{carried_out, obeyed}
 use Rattle.sieve_plan.specs.Views.{last_reply}
-use Rattle.sieve_plan.specs.Delivered.{Disposition, Acts, Tells, Response, Silent, NoRoom, Quiet, Sent, Sends, FollowsDecision, Responds, acts, done_of, held_of, redirects, responds, vacation_report, DeliversAs}
+use Rattle.sieve_plan.specs.Delivered.{Response, Silent, NoRoom, Quiet, Sent, Sends, FollowsDecision, Responds, acts, done_of, held_of, redirects, responds, vacation_report}
+use Rattle.sieve_plan.specs.Sequences.{Settled, CarriesOutSettled, notice_left, forgotten_unless}
 use Rattle.sieve_plan.specs.Sent.{half_handle, half_of, redirect_key, over_keys, sent_handle}
 use Rattle.store_engine.specs.declared.event.Event.{Event}
 use Rattle.store_engine.specs.declared.event.Event.TheVariants.{Open, Give, Step, GiveUp, Close, Deliver, AddUser, Import, TakeOut, TakeMail, DoUpkeep}
@@ -55,7 +56,7 @@ use Rattle.store_accounts.specs.declared.refusal.Refusal.TheVariants.{UserExists
 use Rattle.store_engine.specs.OwnActs as own
 use Rattle.store_engine.specs.OwnActs.{UserAct, ActsAlone, ActsInTurn, ReceivesOpen, ReceivesIn, RenewsAlone, JoinsIn, ReplacesAlone, ImportsIn, TakesRowAlone, TakesOpen, TakesFirstAlone, TakesMailOpen}
 use Rattle.store_engine.specs.World.{World, Next, Runs}
-use Rattle.store_engine.specs.Spacing.{Thread, SentReply, entry_of, entries_if, vacation_in, sent_in, sent_under, sent_by, sent_at, sent, kept_in, kept_moment, IsPast, ComeAfter, Follow, IsAtLeast, IsSpacing}
+use Rattle.store_engine.specs.Spacing.{Thread, SentReply, entry_of, entries_if, sent_in, sent_under, sent_by, sent_at, sent, kept_in, kept_moment, IsPast, ComeAfter, Follow, IsAtLeast, IsSpacing}
 use Rattle.store_engine.proofs.AloneLemmas.{put_own, next_alone, projection}
 use Rattle.store_accounts.proofs.AccountLemmas.{reply_total, reply_antisymmetric}
 use Rattle.store_engine.specs.declared.terms.Terms.{Terms}
@@ -204,6 +205,11 @@ are_over a moment =
     let is = is_key_between (3 ∷ []) (half_handle (half_of moment - 1)) in
     all_mapped (IsOver (four_octets (half_of moment - 1))) reply_key_of (take 32 (filter is (keys a.replies))) (all_taken (λ key. is key ≡ true) 32 (filter is (keys a.replies)) (all_passed is (keys a.replies)))
 
+-- after a failure none is forgotten
+forgotten_over : (notice : Option (List ℕ)) (a : Account) (moment : ℕ) → AllByRecursion (IsOver (four_octets (half_of moment - 1))) (forgotten_unless notice (over_keys a moment))
+forgotten_over None a moment = are_over a moment
+forgotten_over (Some text) a moment = tt
+
 -- so all the deeds leave what is kept of a thread
 acts_keep : (mail : MailSpec) (deeds : Actions) (below : List ℕ) (over : List ReplyKey) (a : Account) (thread : Thread) → AllByRecursion (IsOver below) over
     → get (acts mail deeds over a).replies (place thread) ≡ get a.replies (place thread)
@@ -291,15 +297,16 @@ responds_keeps own moment mail room reply a b (Sent key octets next) thread same
     let known = sent_is own moment mail (last_reply a mail.from) room reply key octets next is in
     answered_keeps mail moment next key octets a b thread same known.later
 
-delivers_keeps : (own : Addr) (moment : ℕ) (mail : MailSpec) (disposition : Disposition) (a a2 : Account) (report : Report) (thread : Thread) → DeliversAs own moment mail disposition a report a2
+delivers_keeps : (own : Addr) (moment : ℕ) (mail : MailSpec) (settled : Settled) (a a2 : Account) (report : Report) (thread : Thread) → CarriesOutSettled own moment mail settled a report a2
     → IsNoSooner (kept_in (Some a) thread) (kept_in (Some a2) thread)
-delivers_keeps own moment mail (Acts deeds) a a2 report thread is =
-    let done = done_of a mail deeds in
-    let b = acts mail done (over_keys a moment) a in
-    let same = acts_keep mail done (four_octets (half_of moment - 1)) (over_keys a moment) a thread (are_over a moment) in
-    subst (λ o. IsNoSooner (kept_in (Some a) thread) o) (sym (ap (λ c. kept_in (Some c) thread) is.changed ∙ notes_keep moment (held_of a mail deeds) (responds mail is.response b) thread))
-    (responds_keeps own moment mail (room_in a - length done.sent) deeds.reply a b is.response thread same is.is_response)
-delivers_keeps own moment mail (Tells text) a a2 report thread is = no_sooner_is (kept_in (Some a) thread) (kept_in (Some a2) thread) (ap (λ b. kept_in (Some b) thread) is.changed)
+delivers_keeps own moment mail settled a a2 report thread is =
+    let done = done_of a mail settled.deeds in
+    let over = forgotten_unless settled.notice (over_keys a moment) in
+    let b = acts mail done over a in
+    let same = acts_keep mail done (four_octets (half_of moment - 1)) over a thread (forgotten_over settled.notice a moment) in
+    subst (λ o. IsNoSooner (kept_in (Some a) thread) o)
+    (sym (ap (λ c. kept_in (Some c) thread) is.changed ∙ notes_keep moment (notice_left settled.notice (held_of a mail settled.deeds)) (responds mail is.response b) thread))
+    (responds_keeps own moment mail (room_in a - length done.sent) settled.deeds.reply a b is.response thread same is.is_response)
 
 -- commands leave what is remembered
 obeyed_keeps : (command : ClientCommand) (word : Option Status) (a : Account) → (obeyed command word a).replies ≡ a.replies
@@ -385,7 +392,7 @@ act_keeps user account later (own.Receives envelope message terms answer) thread
         opened None none is = no_sooner_is (kept_in account thread) (kept_in later thread) (ap (λ o. kept_in o thread) is.stays)
         opened (Some a) has is =
             subst (λ b. IsNoSooner (kept_in b thread) (kept_in later thread)) (sym (open_there account a has))
-            (subst (λ o. IsNoSooner (kept_in (Some a) thread) (kept_in o thread)) (sym is.changed) (delivers_keeps is.delivers.own terms.when.moment (mail_spec_of message envelope terms.when) is.delivers.delivers.disposition a is.after is.report thread is.delivers.delivers.delivers))
+            (subst (λ o. IsNoSooner (kept_in (Some a) thread) (kept_in o thread)) (sym is.changed) (delivers_keeps is.delivers.own terms.when.moment (mail_spec_of message envelope terms.when) is.delivers.delivers.settled a is.after is.report thread is.delivers.delivers.delivers))
 act_keeps user account later (own.Joins address salt password answer) thread (inl (new, is)) = go account is
   where
     -- an account that is opened anew keeps what it remembers
@@ -475,18 +482,15 @@ carried_one own user moment mail room reply held a b (Sent key octets next) is =
     subst (λ r. IsOneFor (Some a) (Some (adds_notice_if_any moment held (answered mail key octets next b))) (entries_if V.Sent user mail.from moment r)) (sym known.there)
     (known.past, subst (λ o. IsAtLeast o moment) (sym (notes_keep moment held (answered mail key octets next b) thread)) (remembered_now mail moment next key octets user known.args b known.keyed after))
 
-delivered_one : (own : Addr) (user : List ℕ) (moment : ℕ) (mail : MailSpec) (disposition : Disposition) (a a2 : Account) (report : Report) → DeliversAs own moment mail disposition a report a2
-    → IsOneFor (Some a) (Some a2) (entries_if report.vacation user mail.from moment (vacation_in disposition))
-delivered_one own user moment mail (Acts deeds) a a2 report is =
+delivered_one : (own : Addr) (user : List ℕ) (moment : ℕ) (mail : MailSpec) (settled : Settled) (a a2 : Account) (report : Report) → CarriesOutSettled own moment mail settled a report a2
+    → IsOneFor (Some a) (Some a2) (entries_if report.vacation user mail.from moment settled.deeds.reply)
+delivered_one own user moment mail settled a a2 report is =
+    let deeds = settled.deeds in
+    let done = done_of a mail deeds in
     subst (λ v. IsOneFor (Some a) (Some a2) (entries_if v user mail.from moment deeds.reply)) (sym (ap (λ r. r.vacation) is.reported))
     (subst (λ b. IsOneFor (Some a) (Some b) (entries_if (vacation_report is.response) user mail.from moment deeds.reply)) (sym is.changed)
-    (carried_one own user moment mail (room_in a - length (done_of a mail deeds).sent) deeds.reply (held_of a mail deeds) a (acts mail (done_of a mail deeds) (over_keys a moment) a) is.response is.is_response))
-delivered_one own user moment mail (Tells text) a a2 report is = go report.vacation
-  where
-    go : (v : VacationReport) → IsOneFor (Some a) (Some a2) (entries_if v user mail.from moment None)
-    go V.None = tt
-    go V.Sent = tt
-    go (V.Quiet n) = tt
+    (carried_one own user moment mail (room_in a - length done.sent) deeds.reply (notice_left settled.notice (held_of a mail deeds)) a
+    (acts mail done (forgotten_unless settled.notice (over_keys a moment)) a) is.response is.is_response))
 
 -- the entry of a user, by the account of that name
 named_one : (accounts later : Accounts) (user : List ℕ) (start end : Option Account) (sender : List ℕ) (moment : ℕ) (v : VacationReport) (reply : Option VacationArgs) → get accounts user ≡ start → get later user ≡ end
@@ -518,8 +522,8 @@ sent_one w next (Deliver user envelope message terms) answer (inl made) = subst 
     inserted : (o : Option Account) → open_account_of w.accounts user ≡ o → (is : DeliversIn w.accounts user terms envelope message o answer later) → IsOneAnswer w.accounts later (sent_in w.accounts user terms envelope message o answer later is)
     inserted None has is = tt
     inserted (Some a) has is =
-        named_one w.accounts later user (Some a) (Some is.account) envelope.from terms.when.moment is.report.vacation (vacation_in is.delivers.delivers.disposition) (open_there (get w.accounts user) a has) (ap (λ all. get all user) is.changed ∙ put_own w.accounts user is.account (bytes_eq_refl user))
-        (delivered_one is.delivers.own user terms.when.moment (mail_spec_of message envelope terms.when) is.delivers.delivers.disposition a is.account is.report is.delivers.delivers.delivers)
+        named_one w.accounts later user (Some a) (Some is.account) envelope.from terms.when.moment is.report.vacation is.delivers.delivers.settled.deeds.reply (open_there (get w.accounts user) a has) (ap (λ all. get all user) is.changed ∙ put_own w.accounts user is.account (bytes_eq_refl user))
+        (delivered_one is.delivers.own user terms.when.moment (mail_spec_of message envelope terms.when) is.delivers.delivers.settled a is.account is.report is.delivers.delivers.delivers)
 
     go : (o : Option Refusal) → (is : DeliversUnder o w.accounts user terms envelope message answer later) → IsOneAnswer w.accounts later (sent_under o w.accounts user terms envelope message answer later is)
     go (Some refusal) is = tt

@@ -15,7 +15,7 @@ use Rattle.store_accounts.specs.declared.refusal.Refusal.{Refusal}
 use Rattle.store_accounts.specs.declared.refusal.Refusal.TheVariants.{NoUser, UserExists, BadUser, NoRow, AccountClosed, UserHasMail, BadAccount}
 use Rattle.sieve_exec.specs.declared.envelope.Envelope.{Envelope}
 use Rattle.sieve_exec.specs.Mails.{mail_spec_of}
-use Rattle.sieve_plan.specs.Delivered.{Delivers}
+use Rattle.sieve_plan.specs.Sequences.{DeliversInSequence}
 use Rattle.managesieve_sessions.specs.Scripts.{IfElse}
 use Rattle.store_engine.specs.declared.answer.Answer.{Answer}
 use Rattle.store_engine.specs.declared.answer.Answer.TheVariants.{Delivered, Added, Imported, Taken, MailTaken, Refused}
@@ -50,11 +50,11 @@ script_or_default (Some text) default = Some text
 abbrev pub deciding_text : Option (List ℕ) → Account → Option (List ℕ)
 deciding_text default a = script_or_default (active_text a) default
 
--- a message is delivered to an account: to the address that it has, under the text that decides
+-- a message is delivered to an account: to the address that it has, by the host's scripts and, in its turn, the text that decides
 pub record DeliversTo (terms : Terms) (envelope : Envelope) (message : List ℕ) (a : Account) (report : Report) (a2 : Account) : Type 0 where
   pub own : Addr
   pub address : IsBareAddress a.address own
-  pub delivers : Delivers own (mail_spec_of message envelope terms.when) (deciding_text terms.host.default a) a report a2
+  pub delivers : DeliversInSequence own terms.host.scripts (mail_spec_of message envelope terms.when) (deciding_text terms.host.default a) a report a2
 
 -- a delivery to the user: the account is as after it, and no other changes
 pub record DeliversUser (accounts : Accounts) (user : List ℕ) (terms : Terms) (envelope : Envelope) (message : List ℕ)

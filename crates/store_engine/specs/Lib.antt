@@ -1,4 +1,5 @@
 pub mod AccountEvents
+pub mod Attempts
 pub mod Hosts
 pub mod Importable
 pub mod Limits

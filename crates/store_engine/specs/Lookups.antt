@@ -4,10 +4,10 @@ use Rattle.std.specs.FinMap.{get}
 use Rattle.sqlite.specs.State.{State, HasCleanDisk}
 use Rattle.mail_address.specs.declared.address.Addr.{Addr}
 use Rattle.mail_address.specs.Outbound.{IsBareAddress}
+use Rattle.sieve_syntax.specs.Meaning.{Actions}
 use Rattle.sieve_exec.specs.Mails.{MailSpec}
 use Rattle.sieve_plan.specs.declared.view.AccountView.{AccountView}
-use Rattle.sieve_plan.specs.Delivered.{Disposition}
-use Rattle.sieve_plan.specs.Plans.{IsOfView}
+use Rattle.sieve_plan.specs.Views.{IsViewOf}
 use Rattle.store_accounts.specs.declared.refusal.Refusal.{Refusal}
 use Rattle.store_accounts.specs.declared.refusal.Refusal.TheVariants.{NoUser, UserExists, UserHasMail}
 use Rattle.store_accounts.specs.Account.{Account, is_closed_account, is_removed, has_mail}
@@ -43,10 +43,10 @@ pub record Recalls {X : Type 0} (user : List ℕ) (Part : X → Account → Type
   pub shut : HasCleanDisk new → IsTrue new.is_open → IsTrue old.is_open
   pub named : IfErr result IsTransient
 
--- what a delivery has to know of the account, beside this address, which is the account's
-pub record IsRecalled (view : AccountView) (address : Addr) (mail : MailSpec) (disposition : Disposition) (a : Account) : Type 0 where
+-- what a delivery has to know of the account for these deeds, beside this address, which is the account's
+pub record IsRecalled (view : AccountView) (address : Addr) (mail : MailSpec) (deeds : Actions) (a : Account) : Type 0 where
   pub same : view.address ≡ address
-  pub of : IsBareAddress a.address address → IsOfView view mail disposition a
+  pub of : IsBareAddress a.address address → IsViewOf view mail deeds a
 
 -- ---- how an account stands
 

@@ -16,7 +16,6 @@ use Rattle.store_accounts.specs.declared.report.Report.{Report}
 use Rattle.store_accounts.specs.declared.report.VacationReport.{VacationReport}
 use Rattle.store_accounts.specs.declared.report.VacationReport.TheVariants as V
 use Rattle.store_accounts.specs.declared.refusal.Refusal.{Refusal}
-use Rattle.sieve_plan.specs.Delivered.{Disposition, Acts, Tells}
 use Rattle.store_engine.specs.declared.event.Event.{Event}
 use Rattle.store_engine.specs.declared.event.Event.TheVariants.{Deliver}
 use Rattle.store_engine.specs.declared.answer.Answer.{Answer}
@@ -51,15 +50,10 @@ abbrev pub entries_if : VacationReport → List ℕ → List ℕ → ℕ → Opt
 entries_if V.Sent user sender moment (Some args) = entry_of user sender moment args ∷ []
 entries_if vacation user sender moment reply = []
 
--- the `vacation` that is executed if a message comes to this
-abbrev pub vacation_in : Disposition → Option VacationArgs
-vacation_in (Acts deeds) = deeds.reply
-vacation_in (Tells text) = None
-
--- for a delivery to the user's account as it is
+-- for a delivery to the user's account as it is: the answer is that of the scripts' deeds
 abbrev pub sent_to_account : List ℕ → (terms : Terms) (envelope : Envelope) (message : List ℕ) (a : Account) (report : Report) (a2 : Account)
     → DeliversTo terms envelope message a report a2 → List SentReply
-sent_to_account user terms envelope message a report a2 made = entries_if report.vacation user envelope.from terms.when.moment (vacation_in made.delivers.disposition)
+sent_to_account user terms envelope message a report a2 made = entries_if report.vacation user envelope.from terms.when.moment made.delivers.settled.deeds.reply
 
 abbrev pub sent_in : (accounts : Accounts) (user : List ℕ) (terms : Terms) (envelope : Envelope) (message : List ℕ)
     (account : Option Account) (answer : Answer) (later : Accounts)

@@ -2,8 +2,7 @@
 ghost use Rattle.std.specs.Prelude.{◌≡◌, ◌⊎◌, ◌≤◌, ◌<◌, ◌^◌, ◌++◌, true, drop, flat_map, Err, OnOk, IfOk, IfErr, IfSome, option_copied};
 ghost use Rattle.sqlite.specs.Held.{state};
 ghost use Rattle.sqlite.specs.State.{HasCleanDisk};
-ghost use Rattle.sieve_plan.specs.Delivered.{Acts};
-ghost use Rattle.sieve_plan.specs.Plans.{deeds_in, disposition_in};
+ghost use Rattle.sieve_plan.specs.Plans.{deeds_in};
 ghost use Rattle.sieve_plan.specs.Sent.{near_targets, over_keys, known_in_half, known_under};
 ghost use Rattle.sieve_plan.specs.Views.{asks_room, known_of, last_of};
 ghost use Rattle.store_accounts.specs.Account.{delivers, room_in};
@@ -26,8 +25,8 @@ use mail_address::{Addr, bare_address};
 use octets::{List, Octets, Texts, as_deref};
 use sieve_exec::{Envelope, Mail};
 use sieve_plan::{
-    AccountView, Deeds, Disposition, dispose, half_handle, half_of, has_long_header, is_near_if,
-    plan, plan_unread, redirect_keys, sent_end, sent_handle,
+    AccountView, Deeds, half_handle, half_of, has_long_header, is_near_if, plan, plan_unread,
+    redirect_keys, sent_end, sent_handle, settle,
 };
 use sieve_syntax::VacationArgs;
 use sieve_vacation::{MAX_MOMENT, handle_key, has_short_texts};
@@ -44,14 +43,17 @@ pub(crate) struct Lookup {
     pub text: Option<Octets>,
 }
 
-/// Delivers a message to a user by the active script (RFC 5228, 2.10), in one transaction, which is its last act.
+/// Delivers a message to a user by the host's scripts and the active script (RFC 5228, 2.10), in one transaction, which is its
+/// last act.
 ///
-/// Where the host has a default script, an account without an active script is treated as if this were its active one, and an
+/// The host's scripts run before the user's and after it, each where those before it leave the message to be kept. Where the
+/// host has a default script, an account without an active script is treated as if this were its active one, and an
 /// account with an active script never sees it. The message is borrowed and read once; no copy of it is made beside
-/// what the store writes. What the script says is carried out: the message joins folders and the queue, and the sender is
-/// answered, at most once in a period. Without any script it joins INBOX; where the text is no script, where its run fails, or
-/// where the message has more than 100 Received fields, it joins INBOX too, and the user is left a notice. So it does where its
-/// header, with the empty line that ends it, has more than 1,048,576 octets; of that no field is read.
+/// what the store writes. What the scripts say is carried out: the message joins folders and the queue, and the sender is
+/// answered, at most once in a period. Without any script it joins INBOX. Where a text is no script, or where its run fails, what
+/// the scripts before it did is carried out, and the message joins INBOX too and the user is left a notice. So it does where the
+/// message has more than 100 Received fields, or a header of more than 1,048,576 octets, with the empty line that ends it: then
+/// no script is run, and of such a header no field is read.
 ///
 /// # Errors
 ///
@@ -87,40 +89,21 @@ pub fn deliver<S: Alter>(
         return carry_out(store, user, unread);
     }
     let mail = Mail::read(alloc, message, envelope, terms.when)?;
-    let disposition = dispose(alloc, deciding(&found.text, terms.host), &mail)?;
-    let view = recall(alloc, store, user, found.address, &mail, &disposition)?;
-    let plan = plan(alloc, view, &mail, disposition)?;
+    let settlement = settle(
+        alloc,
+        &terms.host.scripts,
+        deciding(&found.text, terms.host),
+        &mail,
+    )?;
+    let view = recall(alloc, store, user, found.address, &mail, &settlement.deeds)?;
+    let plan = plan(alloc, view, &mail, settlement)?;
     carry_out(store, user, plan)
 }
 
-/// What a delivery has to know of the user's account, which was entered, for this to become of a mail. Rows are found by their
-/// keys: one of the response that is asked for; if the message is to be sent on those of each of its one or two keys and of three
-/// half days, 32 at most; if rows are to join the queue the numbers of 1,000 of it; and 32 keys that are over, at most.
+/// What a delivery has to know of the user's account, which was entered, for these deeds to be done with a mail. Rows are found by
+/// their keys: one of the response that is asked for; if the message is to be sent on those of each of its one or two keys and of
+/// three half days, 32 at most; if rows are to join the queue the numbers of 1,000 of it; and 32 keys that are over, at most.
 fn recall<S: Alter>(
-    alloc: Global,
-    store: &mut Store<S>,
-    user: &[u8],
-    address: Addr,
-    mail: &Mail<'_>,
-    disposition: &Disposition,
-) -> Result<AccountView, Refusal>
-    requires { mail.now.moment ≤ MAX_MOMENT }
-    ensures { Recalls user.now (λ view a. IsRecalled view address mail.now (disposition_in disposition.now) a) (state S.Store store.old) (state S.Store store.new) result }
-{
-    match disposition {
-        Disposition::Acts(deeds) => recall_deeds(alloc, store, user, address, mail, deeds),
-        Disposition::Tells(_) => Ok(AccountView {
-            address,
-            last: None,
-            known: Texts::new(alloc),
-            room: 0,
-            over: List::new(alloc),
-        }),
-    }
-}
-
-/// The same for deeds.
-fn recall_deeds<S: Alter>(
     alloc: Global,
     store: &mut Store<S>,
     user: &[u8],
@@ -129,7 +112,7 @@ fn recall_deeds<S: Alter>(
     deeds: &Deeds,
 ) -> Result<AccountView, Refusal>
     requires { mail.now.moment ≤ MAX_MOMENT }
-    ensures { Recalls user.now (λ view a. IsRecalled view address mail.now (Acts (deeds_in deeds.now)) a) (state S.Store store.old) (state S.Store store.new) result }
+    ensures { Recalls user.now (λ view a. IsRecalled view address mail.now (deeds_in deeds.now) a) (state S.Store store.old) (state S.Store store.new) result }
 {
     let last = recall_last(alloc, store, user, mail.from(), deeds.reply.as_ref())?;
     let known = recall_known(alloc, store, user, mail, deeds.sent.as_slice())?;

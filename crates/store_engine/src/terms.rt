@@ -1,11 +1,13 @@
 //! What a delivery is done under: what the host says of each one, and when it is.
 ghost use Rattle.std.specs.Prelude.{◌≡◌, ℕ, pos, None, IfOk};
 ghost use Rattle.mail_dates.specs.HostZones.{IsOffsetAt};
+ghost use Rattle.sieve_plan.specs.Sequences.{no_host_scripts};
 ghost use Rattle.store_engine.specs.Terms.{terms_of};
 
 use mail_dates::HostZone;
 use octets::Octets;
 use sieve_exec::When;
+use sieve_plan::HostScripts;
 use std::alloc::{AllocError, Global};
 
 /// What the host says of each delivery. It is read once, when the program begins.
@@ -16,6 +18,8 @@ pub struct HostSettings {
     /// The text of its default script, if it has one: it is used for an account without an active script as if it were the active
     /// one.
     pub default: Option<Octets>,
+    /// The scripts of its own, which run before each user's script and after it.
+    pub scripts: HostScripts,
 }
 
 /// What a delivery is done under.
@@ -35,14 +39,16 @@ pub struct LentTerms<'a> {
 }
 
 impl HostSettings {
-    /// UTC, and no script of the host's own.
-    pub fn in_utc() -> HostSettings
+    /// UTC, and no script of the host's own. Takes no memory.
+    pub fn in_utc(alloc: Global) -> HostSettings
         ensures zone { (moment : ℕ) → IsOffsetAt result.zone moment (pos 0) }
         ensures default { result.default ≡ None }
+        ensures scripts { result.scripts ≡ no_host_scripts }
     {
         HostSettings {
             zone: HostZone::utc(),
             default: None,
+            scripts: HostScripts::none(alloc),
         }
     }
 
@@ -82,6 +88,7 @@ impl HostSettings {
         Ok(HostSettings {
             zone: self.zone,
             default,
+            scripts: self.scripts.try_clone(alloc)?,
         })
     }
 }

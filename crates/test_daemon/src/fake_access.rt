@@ -43,7 +43,7 @@ impl<S: Shelf + Drop> FakeAccess<S> {
     pub fn new(alloc: Global, shelf: S) -> FakeAccess<S> {
         FakeAccess {
             stage: FakeNetwork::new(alloc, shelf),
-            host: HostSettings::in_utc(),
+            host: HostSettings::in_utc(alloc),
             away: VecDeque::new(alloc),
             others: VecDeque::new(alloc),
             waits: VecDeque::new(alloc),

@@ -54,7 +54,7 @@ fn delivery(alloc: Global, text: &[u8]) -> Result<Option<Event>, AllocError> {
         user,
         envelope,
         message,
-        terms: HostSettings::in_utc().into_terms(moment),
+        terms: HostSettings::in_utc(alloc).into_terms(moment),
     }))
 }
 

@@ -175,7 +175,7 @@ fn delivery(alloc: Global, message: &[u8]) -> Result<Event, AllocError> {
         user,
         envelope,
         message,
-        terms: HostSettings::in_utc().into_terms(MOMENT),
+        terms: HostSettings::in_utc(alloc).into_terms(MOMENT),
     })
 }
 

@@ -1,8 +1,8 @@
 //! What the words of the command line ask for.
 use clap::{ArgMatches, Error};
 use cli_subcommands::{
-    ArgsError, DrainArgs, FoldersArgs, NoticesArgs, RawArgs, StoreLocation, Subcommand,
-    match_command_line, read_files, read_matches,
+    ArgsError, DrainArgs, FoldersArgs, HostFiles, NoticesArgs, RawArgs, StoreLocation, Subcommand,
+    match_command_line, read_files, read_host_files, read_matches,
 };
 use octets::Octets;
 use std::alloc::{AllocError, Global};
@@ -18,9 +18,24 @@ pub fn add_asked(alloc: Global, out: &mut Octets, words: &[u8]) -> Result<(), Al
     };
     match read_matches(&words, &matches) {
         Ok(Subcommand::Check(_)) => add_files(alloc, out, &matches),
-        Ok(asked) => add(out, asked),
+        Ok(asked) => {
+            add(out, asked)?;
+            add_host_files(out, &read_host_files(alloc, &matches)?)
+        }
         Err(error) => add_unread(alloc, out, &error),
     }
+}
+
+/// Appends the files of the host's scripts, each after the name of its option, in the order in which they run.
+fn add_host_files(out: &mut Octets, files: &HostFiles<'_>) -> Result<(), AllocError> {
+    for file in &files.before {
+        add_given(out, "before", Some(file))?;
+    }
+    add_given(out, "default", files.default)?;
+    for file in &files.after {
+        add_given(out, "after", Some(file))?;
+    }
+    Ok(())
 }
 
 /// Appends why the words ask for nothing.
@@ -110,7 +125,6 @@ fn add(out: &mut Octets, asked: Subcommand<'_>) -> Result<(), AllocError> {
             add_envelope(out, asked.from, asked.to)?;
             add_texts(out, &[asked.at.unwrap_or("no moment")])?;
             add_given(out, "zone", asked.zone)?;
-            add_given(out, "default", asked.default)?;
             add_texts(out, &[asked.user])
         }
         Subcommand::Folders(asked) => add_folders(out, asked),
@@ -172,7 +186,6 @@ fn add(out: &mut Octets, asked: Subcommand<'_>) -> Result<(), AllocError> {
                 ],
             )?;
             add_given(out, "zone", asked.zone)?;
-            add_given(out, "default", asked.default)?;
             add_given(out, "clients", asked.clients)?;
             add_given(out, "senders", asked.senders)
         }

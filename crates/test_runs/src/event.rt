@@ -1,9 +1,9 @@
 //! The events that sections are.
 use base64::engine::general_purpose::STANDARD;
 use mail_dates::HostZone;
-use octets::{Octets, parse_decimal};
+use octets::{Octets, Texts, parse_decimal};
 use std::alloc::{AllocError, Global};
-use store_engine::{Envelope, Event, HostSettings, Terms, Upkeep};
+use store_engine::{Envelope, Event, HostScripts, HostSettings, Terms, Upkeep};
 use store_text::AccountReadError;
 use test_files::LinePart::Text;
 use test_files::{Section, add_parts, decode_cell, split_at_first, with_ends};
@@ -22,21 +22,24 @@ pub struct DeliverySettings<'a> {
     pub zone: &'a str,
     /// The host's default script, if it has one.
     pub default: Option<&'a str>,
+    /// Its script before each user's, if it has one.
+    pub before: Option<&'a str>,
+    /// Its script after each user's, if it has one.
+    pub after: Option<&'a str>,
 }
 
 impl<'a> DeliverySettings<'a> {
-    /// What holds after a section `from`, `moment`, `zone` or `default`; one `default` whose note is `none` says that there is none.
+    /// What holds after a section `from`, `moment`, `zone`, `default`, `before` or `after`; one of the last three whose note is `none`
+    /// says that there is no such script.
     pub fn after(self, section: &Section<'a>) -> DeliverySettings<'a> {
         let text = section.text.trim_ascii_end();
         let mut next = self;
         match section.name {
             "from" => next.from = text,
             "zone" => next.zone = text,
-            "default" => next.default = if section.note == "none" {
-                None
-            } else {
-                Some(section.text)
-            },
+            "default" => next.default = script_in(section),
+            "before" => next.before = script_in(section),
+            "after" => next.after = script_in(section),
             _ => next.moment = number_in_digits(text),
         }
         next
@@ -51,8 +54,33 @@ impl DeliverySettings<'_> {
             Some(text) => Some(decode_cell(alloc, text)?),
             None => None,
         };
-        Ok(HostSettings { zone, default }.into_terms(self.moment))
+        let settings = HostSettings {
+            zone,
+            default,
+            scripts: HostScripts {
+                before: at_most_one(alloc, self.before)?,
+                after: at_most_one(alloc, self.after)?,
+            },
+        };
+        Ok(settings.into_terms(self.moment))
     }
+}
+
+/// The script in a section, unless its note says that there is none.
+fn script_in<'a>(section: &Section<'a>) -> Option<&'a str> {
+    if section.note == "none" {
+        return None;
+    }
+    Some(section.text)
+}
+
+/// The text in a cell, if there is one.
+fn at_most_one(alloc: Global, cell: Option<&str>) -> Result<Texts, AllocError> {
+    let mut texts = Texts::new(alloc);
+    if let Some(cell) = cell {
+        texts.push(decode_cell(alloc, cell)?)?;
+    }
+    Ok(texts)
 }
 
 /// The event that a section is, if it is one and its note says this.

@@ -2,6 +2,7 @@
 use crate::stream::{NEVER, ShortWriter};
 use crate::talk;
 use cli_run::fault::RunFault;
+use cli_run::host_texts::HostTexts;
 use cli_run::run::run_program;
 use cli_subcommands::RawArgs;
 use maildir_files::{KeptMail, MailSink, MemorySink};
@@ -10,6 +11,7 @@ use sqlite::{Connection, Error};
 use std::alloc::{AllocError, Global};
 use std::format;
 use store_accounts::Refusal;
+use store_engine::HostScripts;
 use store_lock::{Keeper, MemoryKeeper};
 use test_files::LinePart::{Number, Text};
 use test_files::{Answers, add_parts, text_in, words_of};
@@ -126,7 +128,7 @@ impl MemoryRuns {
             writes: NEVER,
             clock: CLOCK,
             random: RANDOM,
-            default: None,
+            host: HostCall::Nothing,
             shows_words: false,
         };
         let mut out = Octets::new(alloc);
@@ -166,8 +168,8 @@ fn add_flags(out: &mut Octets, flags: &[u8]) -> Result<(), AllocError> {
     add_parts(out, &[Text(b"#"), Text(flags)])
 }
 
-/// Appends what comes of a row that any keeper can have: `run`, `full`, `write N`, `default TEXT`, `timeless` and `said` are runs of the
-/// program, `send` is a command, and `greet`, `talk`, `gone` and `deaf` are sessions.
+/// Appends what comes of a row that any keeper can have: `run`, `full`, `write N`, `before TEXT`, `default TEXT`, `after TEXT`, `timeless` and
+/// `said` are runs of the program, `send` is a command, and `greet`, `talk`, `gone` and `deaf` are sessions.
 pub fn answer_run<'a, K: Keeper, T: MailSink>(
     alloc: Global,
     out: &mut Octets,
@@ -189,7 +191,7 @@ pub fn answer_run<'a, K: Keeper, T: MailSink>(
                 writes: if call == "full" { 0 } else { NEVER },
                 clock: if call == "timeless" { None } else { CLOCK },
                 random: if call == "timeless" { None } else { RANDOM },
-                default: None,
+                host: HostCall::Nothing,
                 shows_words: call == "said",
             };
             add_run(alloc, out, keeper, sink, run)
@@ -202,12 +204,12 @@ pub fn answer_run<'a, K: Keeper, T: MailSink>(
                 writes: writes_in(call),
                 clock: CLOCK,
                 random: RANDOM,
-                default: None,
+                host: HostCall::Nothing,
                 shows_words: false,
             };
             add_run(alloc, out, keeper, sink, run)
         }
-        call if call.starts_with("default ") => {
+        call if host_call(call).is_some() => {
             let run = Run {
                 path,
                 words,
@@ -215,7 +217,7 @@ pub fn answer_run<'a, K: Keeper, T: MailSink>(
                 writes: NEVER,
                 clock: CLOCK,
                 random: RANDOM,
-                default: call.strip_prefix("default ").map(str::as_bytes),
+                host: host_call(call).unwrap_or(HostCall::Nothing),
                 shows_words: false,
             };
             add_run(alloc, out, keeper, sink, run)
@@ -234,6 +236,46 @@ fn writes_in(call: &str) -> u64 {
     }
 }
 
+/// The script that the host has, by its text, if it has one.
+#[derive(Clone, Copy)]
+pub enum HostCall<'a> {
+    Nothing,
+    /// Before each user's script.
+    Before(&'a [u8]),
+    /// For accounts without an active one.
+    Default(&'a [u8]),
+    /// After each user's script.
+    After(&'a [u8]),
+}
+
+impl HostCall<'_> {
+    /// The texts of the host's scripts.
+    fn texts(self, alloc: Global) -> Result<HostTexts, AllocError> {
+        let mut texts = HostTexts {
+            default: None,
+            scripts: HostScripts::none(alloc),
+        };
+        match self {
+            HostCall::Nothing => {}
+            HostCall::Before(text) => texts.scripts.before.push(Octets::from_slice(alloc, text)?)?,
+            HostCall::Default(text) => texts.default = Some(Octets::from_slice(alloc, text)?),
+            HostCall::After(text) => texts.scripts.after.push(Octets::from_slice(alloc, text)?)?,
+        }
+        Ok(texts)
+    }
+}
+
+/// What a row `before TEXT`, `default TEXT` or `after TEXT` says.
+fn host_call(call: &str) -> Option<HostCall<'_>> {
+    let (word, text) = call.split_once(' ')?;
+    match word {
+        "before" => Some(HostCall::Before(text.as_bytes())),
+        "default" => Some(HostCall::Default(text.as_bytes())),
+        "after" => Some(HostCall::After(text.as_bytes())),
+        _ => None,
+    }
+}
+
 /// A run of the program.
 #[derive(Clone, Copy)]
 pub struct Run<'a> {
@@ -247,8 +289,7 @@ pub struct Run<'a> {
     pub clock: Option<u64>,
     /// What the system gives at random; none if it gives nothing.
     pub random: Option<[u8; 16]>,
-    /// The text of the script for accounts without an active one.
-    pub default: Option<&'a [u8]>,
+    pub host: HostCall<'a>,
     /// Whether all is shown of what is told of wrong words.
     pub shows_words: bool,
 }
@@ -262,10 +303,7 @@ pub fn add_run<K: Keeper, T: MailSink>(
     run: Run<'_>,
 ) -> Result<(), AllocError> {
     let words = RawArgs::new(alloc, words_of(alloc, run.words, run.path)?)?;
-    let default = match run.default {
-        Some(text) => Some(Octets::from_slice(alloc, text)?),
-        None => None,
-    };
+    let host = run.host.texts(alloc)?;
     let mut left = run.input;
     let mut output = ShortWriter::new(alloc, run.writes);
     let mut errors = Vec::new(alloc);
@@ -278,7 +316,7 @@ pub fn add_run<K: Keeper, T: MailSink>(
         keeper,
         run.clock,
         run.random,
-        default,
+        host,
         sink,
     );
     let told = errors.as_slice();

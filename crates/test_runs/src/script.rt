@@ -1,5 +1,5 @@
 //! Scripts and tests, each tried on a message with its envelope (RFC 5228).
-use cli_reports::{report_fault, report_outcome};
+use cli_reports::{report_fault, report_settlement};
 use octets::Octets;
 use sieve_lex::ScriptError;
 use std::alloc::{AllocError, Global};
@@ -128,13 +128,13 @@ fn answer_on(
     message: &[u8],
 ) -> Result<Octets, AllocError> {
     let envelope = trial.envelope(alloc)?;
-    let host = HostSettings::in_utc();
+    let host = HostSettings::in_utc(alloc);
     let terms = LentTerms {
         when: trial.when(),
         host: &host,
     };
-    match attempt(alloc, script, envelope, message, terms) {
-        Ok(outcome) => report_outcome(alloc, &outcome),
+    match attempt(alloc, Some(script), envelope, message, terms) {
+        Ok(settlement) => report_settlement(alloc, &settlement),
         Err(ScriptError::Fault(fault)) => report_fault(alloc, fault),
         Err(ScriptError::Memory) => Err(AllocError),
     }

@@ -62,7 +62,7 @@ impl<'a> Sections<'a> for Talk<'a> {
             "world" => self.renew(alloc),
             "cut" => self.add_cut(alloc, section),
             "scan" => add_scan(alloc, &mut self.told, section),
-            "from" | "moment" | "zone" | "default" => {
+            "from" | "moment" | "zone" | "default" | "before" | "after" => {
                 self.settings = self.settings.after(section);
                 Ok(())
             }
@@ -98,6 +98,8 @@ impl<'a> Talk<'a> {
                 moment: 0,
                 zone: "+0000",
                 default: None,
+                before: None,
+                after: None,
             },
         })
     }

@@ -46,7 +46,7 @@ fn add_tried(
     };
     let mut output = ShortWriter::new(alloc, writes);
     let mut errors = Vec::new(alloc);
-    let host = HostSettings::in_utc();
+    let host = HostSettings::in_utc(alloc);
     let status = try_run(
         alloc,
         empty_envelope(alloc),

@@ -11,6 +11,7 @@ pub static DAEMON: SubcommandRow = SubcommandRow {
     more: "At least one of --managesieve, --lmtp and --mail. Ports are of the loopback address; a PATH of digits alone is a port.
 --mail: INBOX moves into DIR/USER, another folder into its directory there (folders --maildir --separator), one message after ten events.
 Prints `listening on 127.0.0.1:P`, `listening on PATH` or `listening on -` for each once all listen. Ends by a signal alone.
+--before, --after: at most 16 each, and run in their order; a delivery reads all of them.
 --memory: of what isn't answered and of mail that comes in; from 1 to 65536. A client without room is told BYE, mail 452.
 --clients: from 1 to 1000. --senders: from 1 to 100. Where all places are taken one that isn't logged in, or has no recipient, makes room.
 Status 0: all is right (--check). 64: wrong words or numbers, or no socket at PATH. 65: no store, no DIR. 75: can't listen, another daemon, or try again later.",
@@ -22,7 +23,9 @@ Status 0: all is right (--check). 64: wrong words or numbers, or no socket at PA
         CliArgument::Mail,
         CliArgument::Separator,
         CliArgument::Zone,
+        CliArgument::Before,
         CliArgument::Default,
+        CliArgument::After,
         CliArgument::Host,
         CliArgument::Memory,
         CliArgument::Clients,
@@ -49,8 +52,6 @@ pub struct DaemonArgs<'a> {
     pub separator: Option<&'a str>,
     /// The host's zone; UTC if it is left out.
     pub zone: Option<&'a str>,
-    /// The path of the script for accounts without an active one.
-    pub default: Option<&'a str>,
     /// The host name in the greeting to clients of LMTP.
     pub host: Option<&'a str>,
     /// How much all connections together may hold, in MiB, in decimal: for ManageSieve what isn't answered yet, for LMTP lines and texts.
@@ -77,7 +78,6 @@ impl<'a> DaemonArgs<'a> {
             mail: given.value(CliArgument::Mail),
             separator: given.value(CliArgument::Separator),
             zone: given.value(CliArgument::Zone),
-            default: given.value(CliArgument::Default),
             host: given.value(CliArgument::Host),
             memory: given.value(CliArgument::Memory),
             clients: given.value(CliArgument::Clients),

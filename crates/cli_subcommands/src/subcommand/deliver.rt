@@ -10,6 +10,7 @@ pub static DELIVER: SubcommandRow = SubcommandRow {
     name: "deliver",
     about: "Delivers a message to a user by the active script",
     more: "Reads the message. Prints `file NAME`, `send ADDRESS`, `vacation sent`, `vacation quiet N`, `notice TEXT`, or `discard`.
+--before, --after: at most 16 each, and run in their order; a delivery reads all of them.
 Status 0: delivered, and on the disk. 64: wrong words or values. 65: refused for good. 67: no such user. 75: try again later.",
     arguments: &[
         CliArgument::Db,
@@ -18,7 +19,9 @@ Status 0: delivered, and on the disk. 64: wrong words or values. 65: refused for
         CliArgument::To,
         CliArgument::At,
         CliArgument::Zone,
+        CliArgument::Before,
         CliArgument::Default,
+        CliArgument::After,
         CliArgument::User,
     ],
 };
@@ -35,8 +38,6 @@ pub struct DeliverArgs<'a> {
     pub at: Option<&'a str>,
     /// The host's zone; UTC if it is left out.
     pub zone: Option<&'a str>,
-    /// The path of the script for accounts without an active one.
-    pub default: Option<&'a str>,
     /// The account's name.
     pub user: &'a str,
 }
@@ -51,7 +52,6 @@ impl<'a> DeliverArgs<'a> {
             to: given.address(CliArgument::To),
             at: given.value(CliArgument::At),
             zone: given.value(CliArgument::Zone),
-            default: given.value(CliArgument::Default),
             user: given.text(CliArgument::User),
         }
     }

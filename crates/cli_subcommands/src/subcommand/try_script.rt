@@ -8,14 +8,18 @@ use crate::subcommand_row::SubcommandRow;
 pub static TRY: SubcommandRow = SubcommandRow {
     name: "try",
     about: "Says what a script does with a message, and stores nothing",
-    more: "Reads a line with the script's length in decimal, the script, and the message.
+    more: "Reads a line with the script's length in decimal, the script, and the message. Length 0: the user has no active script.
 Prints `file NAME`, `send ADDRESS`, `vacation wanted`, or `discard`; `failed: TEXT` of a run that fails; or `line N: ..` of a script that isn't valid.
+--before, --after: at most 16 each, and run in their order, as in a delivery.
 Status 0: said. 64: wrong words. 65: not valid, or no such input. 75: memory, input or output failed.",
     arguments: &[
         CliArgument::From,
         CliArgument::AnyTo,
         CliArgument::At,
         CliArgument::Zone,
+        CliArgument::Before,
+        CliArgument::Default,
+        CliArgument::After,
     ],
 };
 

@@ -14,7 +14,7 @@ both P Q (Err fault) p q = tt
 pub returns-in-Init-clause-does : goal.returns-in-Init-clause-does
 returns-in-Init-clause-does g c tells =
     let kept = g.T.MailSink.kept c.args.sink.now in
-    let around = surroundings (HasDenied g.K.Keeper.refuses g.K.Keeper.will_wait) (HasRefused g.T.MailSink.refuses) c.args.clock c.args.random c.args.default in
+    let around = surroundings (HasDenied g.K.Keeper.refuses g.K.Keeper.will_wait) (HasRefused g.T.MailSink.refuses) c.args.clock c.args.random c.args.host in
     subst (λ asked. DoesSubcommand around (from_to (g.R.Read.remaining c.args.input.now) (g.R.Read.remaining c.args.input.now)) (sink_mails g.T.MailSink.tells kept kept) (from_to (g.W.Write.contents c.args.output.now) (g.W.Write.contents c.run_init.new.output)) asked c.run_init.result (from_to (g.K.Keeper.holds c.args.keeper.now) (g.K.Keeper.holds c.run_init.new.keeper))) (sym c.in-Init.is) (((λ told. refl), refl), c.run_init.ensures.does tells)
 
 pub returns-in-Init-clause-reaches : goal.returns-in-Init-clause-reaches
@@ -24,7 +24,7 @@ returns-in-Init-clause-reaches g c =
 pub returns-in-AddUser-clause-does : goal.returns-in-AddUser-clause-does
 returns-in-AddUser-clause-does g c tells =
     let kept = g.T.MailSink.kept c.args.sink.now in
-    let around = surroundings (HasDenied g.K.Keeper.refuses g.K.Keeper.will_wait) (HasRefused g.T.MailSink.refuses) c.args.clock c.args.random c.args.default in
+    let around = surroundings (HasDenied g.K.Keeper.refuses g.K.Keeper.will_wait) (HasRefused g.T.MailSink.refuses) c.args.clock c.args.random c.args.host in
     subst (λ asked. DoesSubcommand around (from_to (g.R.Read.remaining c.args.input.now) (g.R.Read.remaining c.run_adduser.new.input)) (sink_mails g.T.MailSink.tells kept kept) (from_to (g.W.Write.contents c.args.output.now) (g.W.Write.contents c.run_adduser.new.output)) asked c.run_adduser.result (from_to (g.K.Keeper.holds c.args.keeper.now) (g.K.Keeper.holds c.run_adduser.new.keeper))) (sym c.in-AddUser.is) ((λ told. refl), c.run_adduser.ensures.does tells)
 
 pub returns-in-AddUser-clause-reaches : goal.returns-in-AddUser-clause-reaches
@@ -34,7 +34,7 @@ returns-in-AddUser-clause-reaches g c =
 pub returns-in-Users-clause-does : goal.returns-in-Users-clause-does
 returns-in-Users-clause-does g c tells =
     let kept = g.T.MailSink.kept c.args.sink.now in
-    let around = surroundings (HasDenied g.K.Keeper.refuses g.K.Keeper.will_wait) (HasRefused g.T.MailSink.refuses) c.args.clock c.args.random c.args.default in
+    let around = surroundings (HasDenied g.K.Keeper.refuses g.K.Keeper.will_wait) (HasRefused g.T.MailSink.refuses) c.args.clock c.args.random c.args.host in
     subst (λ asked. DoesSubcommand around (from_to (g.R.Read.remaining c.args.input.now) (g.R.Read.remaining c.args.input.now)) (sink_mails g.T.MailSink.tells kept kept) (from_to (g.W.Write.contents c.args.output.now) (g.W.Write.contents c.run_users.new.output)) asked c.run_users.result (from_to (g.K.Keeper.holds c.args.keeper.now) (g.K.Keeper.holds c.run_users.new.keeper))) (sym c.in-Users.is) (((λ told. refl), refl), c.run_users.ensures.does tells)
 
 pub returns-in-Users-clause-reaches : goal.returns-in-Users-clause-reaches
@@ -44,7 +44,7 @@ returns-in-Users-clause-reaches g c =
 pub returns-in-Passwd-clause-does : goal.returns-in-Passwd-clause-does
 returns-in-Passwd-clause-does g c tells =
     let kept = g.T.MailSink.kept c.args.sink.now in
-    let around = surroundings (HasDenied g.K.Keeper.refuses g.K.Keeper.will_wait) (HasRefused g.T.MailSink.refuses) c.args.clock c.args.random c.args.default in
+    let around = surroundings (HasDenied g.K.Keeper.refuses g.K.Keeper.will_wait) (HasRefused g.T.MailSink.refuses) c.args.clock c.args.random c.args.host in
     subst (λ asked. DoesSubcommand around (from_to (g.R.Read.remaining c.args.input.now) (g.R.Read.remaining c.run_passwd.new.input)) (sink_mails g.T.MailSink.tells kept kept) (from_to (g.W.Write.contents c.args.output.now) (g.W.Write.contents c.run_passwd.new.output)) asked c.run_passwd.result (from_to (g.K.Keeper.holds c.args.keeper.now) (g.K.Keeper.holds c.run_passwd.new.keeper))) (sym c.in-Passwd.is) ((λ told. refl), c.run_passwd.ensures.does tells)
 
 pub returns-in-Passwd-clause-reaches : goal.returns-in-Passwd-clause-reaches
@@ -54,7 +54,7 @@ returns-in-Passwd-clause-reaches g c =
 pub returns-in-Address-clause-does : goal.returns-in-Address-clause-does
 returns-in-Address-clause-does g c tells =
     let kept = g.T.MailSink.kept c.args.sink.now in
-    let around = surroundings (HasDenied g.K.Keeper.refuses g.K.Keeper.will_wait) (HasRefused g.T.MailSink.refuses) c.args.clock c.args.random c.args.default in
+    let around = surroundings (HasDenied g.K.Keeper.refuses g.K.Keeper.will_wait) (HasRefused g.T.MailSink.refuses) c.args.clock c.args.random c.args.host in
     subst (λ asked. DoesSubcommand around (from_to (g.R.Read.remaining c.args.input.now) (g.R.Read.remaining c.args.input.now)) (sink_mails g.T.MailSink.tells kept kept) (from_to (g.W.Write.contents c.args.output.now) (g.W.Write.contents c.run_address.new.output)) asked c.run_address.result (from_to (g.K.Keeper.holds c.args.keeper.now) (g.K.Keeper.holds c.run_address.new.keeper))) (sym c.in-Address.is) (((λ told. refl), refl), c.run_address.ensures.does tells)
 
 pub returns-in-Address-clause-reaches : goal.returns-in-Address-clause-reaches
@@ -64,7 +64,7 @@ returns-in-Address-clause-reaches g c =
 pub returns-in-Scripts-clause-does : goal.returns-in-Scripts-clause-does
 returns-in-Scripts-clause-does g c tells =
     let kept = g.T.MailSink.kept c.args.sink.now in
-    let around = surroundings (HasDenied g.K.Keeper.refuses g.K.Keeper.will_wait) (HasRefused g.T.MailSink.refuses) c.args.clock c.args.random c.args.default in
+    let around = surroundings (HasDenied g.K.Keeper.refuses g.K.Keeper.will_wait) (HasRefused g.T.MailSink.refuses) c.args.clock c.args.random c.args.host in
     subst (λ asked. DoesSubcommand around (from_to (g.R.Read.remaining c.args.input.now) (g.R.Read.remaining c.args.input.now)) (sink_mails g.T.MailSink.tells kept kept) (from_to (g.W.Write.contents c.args.output.now) (g.W.Write.contents c.run_scripts.new.output)) asked c.run_scripts.result (from_to (g.K.Keeper.holds c.args.keeper.now) (g.K.Keeper.holds c.run_scripts.new.keeper))) (sym c.in-Scripts.is) (((λ told. refl), refl), c.run_scripts.ensures.does tells)
 
 pub returns-in-Scripts-clause-reaches : goal.returns-in-Scripts-clause-reaches
@@ -74,7 +74,7 @@ returns-in-Scripts-clause-reaches g c =
 pub returns-in-Put-clause-does : goal.returns-in-Put-clause-does
 returns-in-Put-clause-does g c tells =
     let kept = g.T.MailSink.kept c.args.sink.now in
-    let around = surroundings (HasDenied g.K.Keeper.refuses g.K.Keeper.will_wait) (HasRefused g.T.MailSink.refuses) c.args.clock c.args.random c.args.default in
+    let around = surroundings (HasDenied g.K.Keeper.refuses g.K.Keeper.will_wait) (HasRefused g.T.MailSink.refuses) c.args.clock c.args.random c.args.host in
     subst (λ asked. DoesSubcommand around (from_to (g.R.Read.remaining c.args.input.now) (g.R.Read.remaining c.run_put.new.input)) (sink_mails g.T.MailSink.tells kept kept) (from_to (g.W.Write.contents c.args.output.now) (g.W.Write.contents c.run_put.new.output)) asked c.run_put.result (from_to (g.K.Keeper.holds c.args.keeper.now) (g.K.Keeper.holds c.run_put.new.keeper))) (sym c.in-Put.is) ((λ told. refl), c.run_put.ensures.does tells)
 
 pub returns-in-Put-clause-reaches : goal.returns-in-Put-clause-reaches
@@ -84,7 +84,7 @@ returns-in-Put-clause-reaches g c =
 pub returns-in-Open-clause-does : goal.returns-in-Open-clause-does
 returns-in-Open-clause-does g c tells =
     let kept = g.T.MailSink.kept c.args.sink.now in
-    let around = surroundings (HasDenied g.K.Keeper.refuses g.K.Keeper.will_wait) (HasRefused g.T.MailSink.refuses) c.args.clock c.args.random c.args.default in
+    let around = surroundings (HasDenied g.K.Keeper.refuses g.K.Keeper.will_wait) (HasRefused g.T.MailSink.refuses) c.args.clock c.args.random c.args.host in
     subst (λ asked. DoesSubcommand around (from_to (g.R.Read.remaining c.args.input.now) (g.R.Read.remaining c.args.input.now)) (sink_mails g.T.MailSink.tells kept kept) (from_to (g.W.Write.contents c.args.output.now) (g.W.Write.contents c.run_open.new.output)) asked c.run_open.result (from_to (g.K.Keeper.holds c.args.keeper.now) (g.K.Keeper.holds c.run_open.new.keeper))) (sym c.in-Open.is) (((λ told. refl), refl), c.run_open.ensures.does tells)
 
 pub returns-in-Open-clause-reaches : goal.returns-in-Open-clause-reaches
@@ -94,7 +94,7 @@ returns-in-Open-clause-reaches g c =
 pub returns-in-Remove-clause-does : goal.returns-in-Remove-clause-does
 returns-in-Remove-clause-does g c tells =
     let kept = g.T.MailSink.kept c.args.sink.now in
-    let around = surroundings (HasDenied g.K.Keeper.refuses g.K.Keeper.will_wait) (HasRefused g.T.MailSink.refuses) c.args.clock c.args.random c.args.default in
+    let around = surroundings (HasDenied g.K.Keeper.refuses g.K.Keeper.will_wait) (HasRefused g.T.MailSink.refuses) c.args.clock c.args.random c.args.host in
     subst (λ asked. DoesSubcommand around (from_to (g.R.Read.remaining c.args.input.now) (g.R.Read.remaining c.args.input.now)) (sink_mails g.T.MailSink.tells kept kept) (from_to (g.W.Write.contents c.args.output.now) (g.W.Write.contents c.run_remove.new.output)) asked c.run_remove.result (from_to (g.K.Keeper.holds c.args.keeper.now) (g.K.Keeper.holds c.run_remove.new.keeper))) (sym c.in-Remove.is) (((λ told. refl), refl), c.run_remove.ensures.does tells)
 
 pub returns-in-Remove-clause-reaches : goal.returns-in-Remove-clause-reaches
@@ -104,7 +104,7 @@ returns-in-Remove-clause-reaches g c =
 pub returns-in-Export-clause-does : goal.returns-in-Export-clause-does
 returns-in-Export-clause-does g c tells =
     let kept = g.T.MailSink.kept c.args.sink.now in
-    let around = surroundings (HasDenied g.K.Keeper.refuses g.K.Keeper.will_wait) (HasRefused g.T.MailSink.refuses) c.args.clock c.args.random c.args.default in
+    let around = surroundings (HasDenied g.K.Keeper.refuses g.K.Keeper.will_wait) (HasRefused g.T.MailSink.refuses) c.args.clock c.args.random c.args.host in
     subst (λ asked. DoesSubcommand around (from_to (g.R.Read.remaining c.args.input.now) (g.R.Read.remaining c.args.input.now)) (sink_mails g.T.MailSink.tells kept kept) (from_to (g.W.Write.contents c.args.output.now) (g.W.Write.contents c.run_export.new.output)) asked c.run_export.result (from_to (g.K.Keeper.holds c.args.keeper.now) (g.K.Keeper.holds c.run_export.new.keeper))) (sym c.in-Export.is) (((λ told. refl), refl), c.run_export.ensures.does tells)
 
 pub returns-in-Export-clause-reaches : goal.returns-in-Export-clause-reaches
@@ -114,7 +114,7 @@ returns-in-Export-clause-reaches g c =
 pub returns-in-Import-clause-does : goal.returns-in-Import-clause-does
 returns-in-Import-clause-does g c tells =
     let kept = g.T.MailSink.kept c.args.sink.now in
-    let around = surroundings (HasDenied g.K.Keeper.refuses g.K.Keeper.will_wait) (HasRefused g.T.MailSink.refuses) c.args.clock c.args.random c.args.default in
+    let around = surroundings (HasDenied g.K.Keeper.refuses g.K.Keeper.will_wait) (HasRefused g.T.MailSink.refuses) c.args.clock c.args.random c.args.host in
     subst (λ asked. DoesSubcommand around (from_to (g.R.Read.remaining c.args.input.now) (g.R.Read.remaining c.run_import.new.input)) (sink_mails g.T.MailSink.tells kept kept) (from_to (g.W.Write.contents c.args.output.now) (g.W.Write.contents c.run_import.new.output)) asked c.run_import.result (from_to (g.K.Keeper.holds c.args.keeper.now) (g.K.Keeper.holds c.run_import.new.keeper))) (sym c.in-Import.is) ((λ told. refl), c.run_import.ensures.does tells)
 
 pub returns-in-Import-clause-reaches : goal.returns-in-Import-clause-reaches
@@ -124,7 +124,7 @@ returns-in-Import-clause-reaches g c =
 pub returns-in-Deliver-clause-does : goal.returns-in-Deliver-clause-does
 returns-in-Deliver-clause-does g c tells =
     let kept = g.T.MailSink.kept c.args.sink.now in
-    let around = surroundings (HasDenied g.K.Keeper.refuses g.K.Keeper.will_wait) (HasRefused g.T.MailSink.refuses) c.args.clock c.args.random c.args.default in
+    let around = surroundings (HasDenied g.K.Keeper.refuses g.K.Keeper.will_wait) (HasRefused g.T.MailSink.refuses) c.args.clock c.args.random c.args.host in
     subst (λ asked. DoesSubcommand around (from_to (g.R.Read.remaining c.args.input.now) (g.R.Read.remaining c.run_deliver.new.input)) (sink_mails g.T.MailSink.tells kept kept) (from_to (g.W.Write.contents c.args.output.now) (g.W.Write.contents c.run_deliver.new.output)) asked c.run_deliver.result (from_to (g.K.Keeper.holds c.args.keeper.now) (g.K.Keeper.holds c.run_deliver.new.keeper))) (sym c.in-Deliver.is) ((λ told. refl), c.run_deliver.ensures.does tells)
 
 pub returns-in-Deliver-clause-reaches : goal.returns-in-Deliver-clause-reaches
@@ -134,7 +134,7 @@ returns-in-Deliver-clause-reaches g c =
 pub returns-in-Folders-clause-does : goal.returns-in-Folders-clause-does
 returns-in-Folders-clause-does g c tells =
     let kept = g.T.MailSink.kept c.args.sink.now in
-    let around = surroundings (HasDenied g.K.Keeper.refuses g.K.Keeper.will_wait) (HasRefused g.T.MailSink.refuses) c.args.clock c.args.random c.args.default in
+    let around = surroundings (HasDenied g.K.Keeper.refuses g.K.Keeper.will_wait) (HasRefused g.T.MailSink.refuses) c.args.clock c.args.random c.args.host in
     subst (λ asked. DoesSubcommand around (from_to (g.R.Read.remaining c.args.input.now) (g.R.Read.remaining c.args.input.now)) (sink_mails g.T.MailSink.tells kept kept) (from_to (g.W.Write.contents c.args.output.now) (g.W.Write.contents c.run_folders.new.output)) asked c.run_folders.result (from_to (g.K.Keeper.holds c.args.keeper.now) (g.K.Keeper.holds c.run_folders.new.keeper))) (sym c.in-Folders.is) (((λ told. refl), refl), c.run_folders.ensures.does tells)
 
 pub returns-in-Folders-clause-reaches : goal.returns-in-Folders-clause-reaches
@@ -144,7 +144,7 @@ returns-in-Folders-clause-reaches g c =
 pub returns-in-Show-clause-does : goal.returns-in-Show-clause-does
 returns-in-Show-clause-does g c tells =
     let kept = g.T.MailSink.kept c.args.sink.now in
-    let around = surroundings (HasDenied g.K.Keeper.refuses g.K.Keeper.will_wait) (HasRefused g.T.MailSink.refuses) c.args.clock c.args.random c.args.default in
+    let around = surroundings (HasDenied g.K.Keeper.refuses g.K.Keeper.will_wait) (HasRefused g.T.MailSink.refuses) c.args.clock c.args.random c.args.host in
     subst (λ asked. DoesSubcommand around (from_to (g.R.Read.remaining c.args.input.now) (g.R.Read.remaining c.args.input.now)) (sink_mails g.T.MailSink.tells kept kept) (from_to (g.W.Write.contents c.args.output.now) (g.W.Write.contents c.run_show.new.output)) asked c.run_show.result (from_to (g.K.Keeper.holds c.args.keeper.now) (g.K.Keeper.holds c.run_show.new.keeper))) (sym c.in-Show.is) (((λ told. refl), refl), c.run_show.ensures.does tells)
 
 pub returns-in-Show-clause-reaches : goal.returns-in-Show-clause-reaches
@@ -154,7 +154,7 @@ returns-in-Show-clause-reaches g c =
 pub returns-in-Queue-clause-does : goal.returns-in-Queue-clause-does
 returns-in-Queue-clause-does g c tells =
     let kept = g.T.MailSink.kept c.args.sink.now in
-    let around = surroundings (HasDenied g.K.Keeper.refuses g.K.Keeper.will_wait) (HasRefused g.T.MailSink.refuses) c.args.clock c.args.random c.args.default in
+    let around = surroundings (HasDenied g.K.Keeper.refuses g.K.Keeper.will_wait) (HasRefused g.T.MailSink.refuses) c.args.clock c.args.random c.args.host in
     subst (λ asked. DoesSubcommand around (from_to (g.R.Read.remaining c.args.input.now) (g.R.Read.remaining c.args.input.now)) (sink_mails g.T.MailSink.tells kept kept) (from_to (g.W.Write.contents c.args.output.now) (g.W.Write.contents c.run_queue.new.output)) asked c.run_queue.result (from_to (g.K.Keeper.holds c.args.keeper.now) (g.K.Keeper.holds c.run_queue.new.keeper))) (sym c.in-Queue.is) (((λ told. refl), refl), c.run_queue.ensures.does tells)
 
 pub returns-in-Queue-clause-reaches : goal.returns-in-Queue-clause-reaches
@@ -164,7 +164,7 @@ returns-in-Queue-clause-reaches g c =
 pub returns-in-Done-clause-does : goal.returns-in-Done-clause-does
 returns-in-Done-clause-does g c tells =
     let kept = g.T.MailSink.kept c.args.sink.now in
-    let around = surroundings (HasDenied g.K.Keeper.refuses g.K.Keeper.will_wait) (HasRefused g.T.MailSink.refuses) c.args.clock c.args.random c.args.default in
+    let around = surroundings (HasDenied g.K.Keeper.refuses g.K.Keeper.will_wait) (HasRefused g.T.MailSink.refuses) c.args.clock c.args.random c.args.host in
     subst (λ asked. DoesSubcommand around (from_to (g.R.Read.remaining c.args.input.now) (g.R.Read.remaining c.args.input.now)) (sink_mails g.T.MailSink.tells kept kept) (from_to (g.W.Write.contents c.args.output.now) (g.W.Write.contents c.run_done.new.output)) asked c.run_done.result (from_to (g.K.Keeper.holds c.args.keeper.now) (g.K.Keeper.holds c.run_done.new.keeper))) (sym c.in-Done.is) (((λ told. refl), refl), c.run_done.ensures.does tells)
 
 pub returns-in-Done-clause-reaches : goal.returns-in-Done-clause-reaches
@@ -174,7 +174,7 @@ returns-in-Done-clause-reaches g c =
 pub returns-in-Notices-clause-does : goal.returns-in-Notices-clause-does
 returns-in-Notices-clause-does g c tells =
     let kept = g.T.MailSink.kept c.args.sink.now in
-    let around = surroundings (HasDenied g.K.Keeper.refuses g.K.Keeper.will_wait) (HasRefused g.T.MailSink.refuses) c.args.clock c.args.random c.args.default in
+    let around = surroundings (HasDenied g.K.Keeper.refuses g.K.Keeper.will_wait) (HasRefused g.T.MailSink.refuses) c.args.clock c.args.random c.args.host in
     subst (λ asked. DoesSubcommand around (from_to (g.R.Read.remaining c.args.input.now) (g.R.Read.remaining c.args.input.now)) (sink_mails g.T.MailSink.tells kept kept) (from_to (g.W.Write.contents c.args.output.now) (g.W.Write.contents c.run_notices.new.output)) asked c.run_notices.result (from_to (g.K.Keeper.holds c.args.keeper.now) (g.K.Keeper.holds c.run_notices.new.keeper))) (sym c.in-Notices.is) (((λ told. refl), refl), c.run_notices.ensures.does tells)
 
 pub returns-in-Notices-clause-reaches : goal.returns-in-Notices-clause-reaches
@@ -184,7 +184,7 @@ returns-in-Notices-clause-reaches g c =
 pub returns-in-Drain-clause-does : goal.returns-in-Drain-clause-does
 returns-in-Drain-clause-does g c tells =
     let kept = g.T.MailSink.kept c.args.sink.now in
-    let around = surroundings (HasDenied g.K.Keeper.refuses g.K.Keeper.will_wait) (HasRefused g.T.MailSink.refuses) c.args.clock c.args.random c.args.default in
+    let around = surroundings (HasDenied g.K.Keeper.refuses g.K.Keeper.will_wait) (HasRefused g.T.MailSink.refuses) c.args.clock c.args.random c.args.host in
     subst (λ asked. DoesSubcommand around (from_to (g.R.Read.remaining c.args.input.now) (g.R.Read.remaining c.args.input.now)) (sink_mails g.T.MailSink.tells kept (g.T.MailSink.kept c.run_drain.new.sink)) (from_to (g.W.Write.contents c.args.output.now) (g.W.Write.contents c.run_drain.new.output)) asked c.run_drain.result (from_to (g.K.Keeper.holds c.args.keeper.now) (g.K.Keeper.holds c.run_drain.new.keeper))) (sym c.in-Drain.is) (refl, c.run_drain.ensures.drains tells)
 
 pub returns-in-Drain-clause-reaches : goal.returns-in-Drain-clause-reaches

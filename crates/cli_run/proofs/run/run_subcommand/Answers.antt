@@ -12,7 +12,7 @@ use Rattle.cli_run.proofs.run.run_subcommand.Goals as goal
 pub returns-in_default : goal.returns-in_default
 returns-in_default g c =
     let told = c.conclude.ensures in
-    let around = surroundings (HasDenied g.K.Keeper.refuses g.K.Keeper.will_wait) (HasRefused g.T.MailSink.refuses) c.args.clock c.args.random c.args.default in
+    let around = surroundings (HasDenied g.K.Keeper.refuses g.K.Keeper.will_wait) (HasRefused g.T.MailSink.refuses) c.args.clock c.args.random c.args.host in
     let end = run_reached (HasGiven g.K.Keeper.gives g.K.Keeper.will_wait) (g.T.MailSink.is_at c.act-done.new.sink) (cause_of (g.K.Keeper.said c.conclude.new.keeper) (text_said (g.T.MailSink.said c.act-done.new.sink))) in
     let input = from_to (g.R.Read.remaining c.args.input.now) (g.R.Read.remaining c.act-done.new.input) in
     let output = from_to (g.W.Write.contents c.args.output.now) (g.W.Write.contents c.act-done.new.output) in
@@ -38,7 +38,7 @@ returns-in_default g c =
 
 pub returns-in-Try-clause-runs : goal.returns-in-Try-clause-runs
 returns-in-Try-clause-runs g c tells =
-    let around = surroundings (HasDenied g.K.Keeper.refuses g.K.Keeper.will_wait) (HasRefused g.T.MailSink.refuses) c.args.clock c.args.random c.args.default in
+    let around = surroundings (HasDenied g.K.Keeper.refuses g.K.Keeper.will_wait) (HasRefused g.T.MailSink.refuses) c.args.clock c.args.random c.args.host in
     let end = run_reached (HasGiven g.K.Keeper.gives g.K.Keeper.will_wait) (g.T.MailSink.is_at c.args.sink.now) (cause_of (g.K.Keeper.said c.args.keeper.now) (text_said (g.T.MailSink.said c.args.sink.now))) in
     let input = from_to (g.R.Read.remaining c.args.input.now) (g.R.Read.remaining c.try_script.new.input) in
     let output = from_to (g.W.Write.contents c.args.output.now) (g.W.Write.contents c.try_script.new.output) in

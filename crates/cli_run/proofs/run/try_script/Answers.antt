@@ -1,5 +1,6 @@
 -- The script was tried with the envelope, or there was no memory for one; or a value of the words is none; or the clock has no moment.
 use Rattle.std.proofs.Common.{◌≡◌, Err, inl, inr, refl, ap, ◌∙◌, subst}
+use Rattle.store_engine.specs.declared.terms.Terms.{Terms}
 use Rattle.cli_run.specs.Faults.{memory, status_of, run_fault_line}
 use Rattle.cli_run.specs.Streams.{IsWritten}
 use Rattle.cli_run.specs.TryScript.{RunsTry, TriesNothing}
@@ -24,10 +25,10 @@ returns-in-Ok-envelope_of-clause-runs g c =
     inl (
       c.in-Ok.terms,
       c.in-Ok.ensures.ok,
-      subst (λ envelope. RunsTry envelope c.in-Ok.terms.when (g.R.Read.remaining c.args.input.now) (from_to (g.W.Write.contents c.args.output.now) (g.W.Write.contents c.try_run.new.output)) (from_to (g.E.Write.contents c.args.errors.now) (g.E.Write.contents c.try_run.new.errors)) c.try_run.result)
+      subst (λ envelope. RunsTry envelope c.in-Ok.terms (g.R.Read.remaining c.args.input.now) (from_to (g.W.Write.contents c.args.output.now) (g.W.Write.contents c.try_run.new.output)) (from_to (g.E.Write.contents c.args.errors.now) (g.E.Write.contents c.try_run.new.errors)) c.try_run.result)
           c.in-Ok-envelope_of.ensures
-          (subst (λ when. RunsTry c.in-Ok-envelope_of.envelope when (g.R.Read.remaining c.args.input.now) (from_to (g.W.Write.contents c.args.output.now) (g.W.Write.contents c.try_run.new.output)) (from_to (g.E.Write.contents c.args.errors.now) (g.E.Write.contents c.try_run.new.errors)) c.try_run.result)
-          c.lend.ensures.when c.try_run.ensures.runs),
+          (subst (λ (terms : Terms). RunsTry c.in-Ok-envelope_of.envelope terms (g.R.Read.remaining c.args.input.now) (from_to (g.W.Write.contents c.args.output.now) (g.W.Write.contents c.try_run.new.output)) (from_to (g.E.Write.contents c.args.errors.now) (g.E.Write.contents c.try_run.new.errors)) c.try_run.result)
+          c.lend.ensures.lent c.try_run.ensures.runs),
     )
 
 pub returns-clause-runs : goal.returns-clause-runs

@@ -1,6 +1,7 @@
 -- What is answered of what is kept is answered of what came.
 use Rattle.std.proofs.Common.{◌≡◌, List, ℕ, Err, IfErr, subst, sym, rules}
 use Rattle.std.proofs.lemmas.Result.{IfErr-weaker, IfOk-weaker}
+use Rattle.store_engine.specs.Terms.{terms_of}
 use Rattle.cli_run.specs.Faults.{IsUnanswered}
 use Rattle.cli_run.specs.KeptInputs.{KeepsInput}
 use Rattle.cli_run.specs.TryScript.{AnswersInput, HasNoAnswer, IsNoInput, OfInput}
@@ -19,9 +20,9 @@ returns-clause-answer g c =
     let front = c.in_ok-front.front in
     let given = g.R.Read.remaining c.args.input.now in
     IfOk-weaker c.answer_to.result
-    (λ answer. (came : List ℕ) → KeepsInput came front.octets.items front.count → AnswersInput c.args.envelope c.args.terms.when came answer)
-    (λ answer. OfInput given (λ came. AnswersInput c.args.envelope c.args.terms.when came answer))
-    (λ answer so. of_input given (λ came. KeepsInput came front.octets.items front.count) (λ came. AnswersInput c.args.envelope c.args.terms.when came answer) so c.in_ok-front.ensures.ok)
+    (λ answer. (came : List ℕ) → KeepsInput came front.octets.items front.count → AnswersInput c.args.envelope (terms_of c.args.terms) came answer)
+    (λ answer. OfInput given (λ came. AnswersInput c.args.envelope (terms_of c.args.terms) came answer))
+    (λ answer so. of_input given (λ came. KeepsInput came front.octets.items front.count) (λ came. AnswersInput c.args.envelope (terms_of c.args.terms) came answer) so c.in_ok-front.ensures.ok)
     c.answer_to.ensures.answer
 
 pub returns-clause-none : goal.returns-clause-none

@@ -16,6 +16,7 @@ returns-clause-ok c =
       zoned = subst (λ (host : HostSettings). IsHostZone (option_copied c.args.zone) host.zone) (sym is) c.in_ok-zone.ensures.ok;
       clocked = subst (λ (host : HostSettings). IsOffsetAt host.zone it.when.moment it.when.zone) (sym is) (subst (λ n. IsOffsetAt c.in_ok-zone.zone n it.when.zone) (sym moment) c.into_terms.ensures.zone);
       scripted = ap (λ (host : HostSettings). host.default) is;
+      surrounded = ap (λ (host : HostSettings). host.scripts) is;
     }
 
 pub returns-clause-right : goal.returns-clause-right

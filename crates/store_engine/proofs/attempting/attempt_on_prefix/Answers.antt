@@ -1,33 +1,37 @@
-use Rattle.std.proofs.Common.{◌≡◌, ℕ, List, Some, IfOk, ap, ◌∙◌, subst}
+-- What scripts come to depends on the fields and the size alone.
+use Rattle.std.proofs.Common.{◌≡◌, ℕ, List, Some, IfOk, subst}
 use Rattle.std.proofs.lemmas.Result.{IfOk-weaker}
 use Rattle.mail_head.specs.Heads.{size_of}
 use Rattle.mail_head.specs.Prefixes.{IsHeaderPrefix}
-use Rattle.sieve_syntax.specs.Tree.{Commands}
-use Rattle.sieve_syntax.specs.Means.{Means}
 use Rattle.sieve_exec.specs.Mails.{MailSpec, mail_spec_of, with_size}
-use Rattle.sieve_exec.specs.Outcomes.{outcome_at}
-use Rattle.sieve_exec.specs.Runs.{outcome_view}
-use Rattle.sieve_exec.proofs.FrontLemmas.{of_front}
+use Rattle.sieve_plan.specs.Sequences.{SettlesInTurn, at_beginning, sequence_of}
+use Rattle.sieve_plan.specs.SequencePlans.{settled_of}
+use Rattle.store_accounts.specs.Cells.{borrowed_octets}
+use Rattle.store_engine.specs.AccountEvents.{script_or_default}
+use Rattle.store_engine.specs.Attempts.{SettlesUnderTerms}
+use Rattle.store_engine.specs.Terms.{terms_of}
+use Rattle.store_engine.proofs.SequenceFrontLemmas.{settles_of_front}
 use Rattle.store_engine.proofs.attempting.attempt_on_prefix.Goals as goal
 
 pub returns-clause-valid : goal.returns-clause-valid
-returns-clause-valid c = c.evaluate_script.ensures.valid
+returns-clause-valid c = c.settle_on.ensures.valid
 
 pub returns-clause-done : goal.returns-clause-done
 returns-clause-done c =
     let envelope = c.args.envelope in
     let when = c.args.terms.when in
     let front = c.args.front.now in
-    IfOk-weaker c.evaluate_script.result
-    (λ done. (tree : Commands) → Means c.args.script.now tree → outcome_view done ≡ outcome_at (with_size (Some c.args.size) (mail_spec_of front envelope when)) tree)
-    (λ done. (tree : Commands) (message : List ℕ) → Means c.args.script.now tree → IsHeaderPrefix front message → c.args.size ≡ size_of message
-    → outcome_view done ≡ outcome_at (mail_spec_of message envelope when) tree)
-    (λ done so tree message means has is.
-    so tree means ∙ ap (λ n. outcome_at (with_size (Some n) (mail_spec_of front envelope when)) tree) is ∙ of_front envelope when tree front message has)
-    (subst (λ (mail : MailSpec). IfOk c.evaluate_script.result (λ done. (tree : Commands) → Means c.args.script.now tree → outcome_view done ≡ outcome_at mail tree)) c.in_ok-known.ensures c.evaluate_script.ensures.done)
+    let host = c.args.terms.host.now in
+    let scripts = sequence_of host.scripts (script_or_default (borrowed_octets c.args.own) host.default) in
+    IfOk-weaker c.settle_on.result
+    (λ done. SettlesInTurn (with_size (Some c.args.size) (mail_spec_of front envelope when)) scripts at_beginning (settled_of done))
+    (λ done. (message : List ℕ) → IsHeaderPrefix front message → c.args.size ≡ size_of message
+    → SettlesUnderTerms (terms_of c.args.terms) envelope (borrowed_octets c.args.own) message (settled_of done))
+    (λ done so message has is. settles_of_front envelope when front message c.args.size scripts at_beginning (settled_of done) has is so)
+    (subst (λ (mail : MailSpec). IfOk c.settle_on.result (λ done. SettlesInTurn mail scripts at_beginning (settled_of done))) c.in_ok-known.ensures c.settle_on.ensures.done)
 
 pub returns-clause-fault : goal.returns-clause-fault
-returns-clause-fault c = c.evaluate_script.ensures.fault
+returns-clause-fault c = c.settle_on.ensures.fault
 
 pub returns-clause-line : goal.returns-clause-line
-returns-clause-line c = c.evaluate_script.ensures.line
+returns-clause-line c = c.settle_on.ensures.line

@@ -16,8 +16,10 @@ use Rattle.store_engine.proofs.LookupLemmas.{looks_recalled, recalled_keeps}
 use Rattle.store_engine.proofs.RunLemmas.{delivery_spaced}
 use Rattle.sieve_exec.specs.Mails.{MailSpec, mail_spec_of}
 use Rattle.sieve_plan.specs.declared.view.AccountView.{AccountView}
-use Rattle.sieve_plan.specs.Delivered.{Delivers, has_long_header}
-use Rattle.sieve_plan.specs.Plans.{disposition_in}
+use Rattle.sieve_plan.specs.Delivered.{has_long_header}
+use Rattle.sieve_plan.specs.Plans.{deeds_in}
+use Rattle.sieve_plan.specs.Sequences.{DeliversInSequence}
+use Rattle.sieve_plan.specs.SequencePlans.{settled_of}
 use Rattle.store_engine.proofs.delivery.deliver.Goals as goal
 
 pub returns-in-Some-clause-acts : goal.returns-in-Some-clause-acts
@@ -86,8 +88,8 @@ returns-then-has_long_header-clause-acts g c =
       own = found.address;
       address = is.address;
       delivers =
-          subst (λ text. Delivers found.address mail (script_or_default text c.args.terms.host.now.default) account plan.report (delivers plan account)) is.text
-          (c.in_ok-unread.ensures found.address (script_or_default found.text c.args.terms.host.now.default) account);
+          subst (λ text. DeliversInSequence found.address c.args.terms.host.now.scripts mail (script_or_default text c.args.terms.host.now.default) account plan.report (delivers plan account)) is.text
+          (c.in_ok-unread.ensures found.address c.args.terms.host.now.scripts (script_or_default found.text c.args.terms.host.now.default) account);
     })
     (state g.S.Store c.carry_out.new.store) c.carry_out.result c.carry_out.ensures.writes c.carry_out.ensures.told c.carry_out.ensures.named
 
@@ -109,19 +111,19 @@ returns-in_err-mail-clause-acts g c =
 pub returns-in_err-mail-clause-spaced : goal.returns-in_err-mail-clause-spaced
 returns-in_err-mail-clause-spaced g c = delivery_spaced c.args.user.now c.args.envelope c.args.message.now (terms_of c.args.terms) (state g.S.Store c.args.store.now) (state g.S.Store c.look_up-looked.new.store) c.from_residual-in_err-mail.result (returns-in_err-mail-clause-acts g c)
 
-pub dispose-requires : goal.dispose-requires
-dispose-requires g c = subst (λ (mail : MailSpec). has_long_header mail.octets ≡ false) (sym c.in_ok-mail.ensures) (sym c.has_long_header.ensures ∙ c.if-has_long_header.false)
+pub settle-requires : goal.settle-requires
+settle-requires g c = subst (λ (mail : MailSpec). has_long_header mail.octets ≡ false) (sym c.in_ok-mail.ensures) (sym c.has_long_header.ensures ∙ c.if-has_long_header.false)
 
-pub returns-in_err-disposition-clause-acts : goal.returns-in_err-disposition-clause-acts
-returns-in_err-disposition-clause-acts g c =
-    let undone : OnOk c.from_residual-in_err-disposition.result ⊥ = search rules in
-    let transient : IfErr c.from_residual-in_err-disposition.result IsTransient = search rules in
+pub returns-in_err-settlement-clause-acts : goal.returns-in_err-settlement-clause-acts
+returns-in_err-settlement-clause-acts g c =
+    let undone : OnOk c.from_residual-in_err-settlement.result ⊥ = search rules in
+    let transient : IfErr c.from_residual-in_err-settlement.result IsTransient = search rules in
     let none : limit_refusal c.args.envelope c.args.message.now c.args.terms.when.moment ≡ None = sym c.limit_refusal.ensures ∙ c.in_default.is in
     delivery_stopped c.args.user.now c.args.envelope c.args.message.now (terms_of c.args.terms) none (state g.S.Store c.args.store.now) (state g.S.Store c.look_up-looked.new.store) c.look_up-looked.result
-    c.look_up-looked.ensures.reads.keeps c.from_residual-in_err-disposition.result undone transient
+    c.look_up-looked.ensures.reads.keeps c.from_residual-in_err-settlement.result undone transient
 
-pub returns-in_err-disposition-clause-spaced : goal.returns-in_err-disposition-clause-spaced
-returns-in_err-disposition-clause-spaced g c = delivery_spaced c.args.user.now c.args.envelope c.args.message.now (terms_of c.args.terms) (state g.S.Store c.args.store.now) (state g.S.Store c.look_up-looked.new.store) c.from_residual-in_err-disposition.result (returns-in_err-disposition-clause-acts g c)
+pub returns-in_err-settlement-clause-spaced : goal.returns-in_err-settlement-clause-spaced
+returns-in_err-settlement-clause-spaced g c = delivery_spaced c.args.user.now c.args.envelope c.args.message.now (terms_of c.args.terms) (state g.S.Store c.args.store.now) (state g.S.Store c.look_up-looked.new.store) c.from_residual-in_err-settlement.result (returns-in_err-settlement-clause-acts g c)
 
 pub recall-requires : goal.recall-requires
 recall-requires g c = subst (λ (mail : MailSpec). mail.moment ≤ 253402300799) (sym c.in_ok-mail.ensures) (moment_fits c.args.envelope c.args.message.now c.args.terms.when.moment (sym c.limit_refusal.ensures ∙ c.in_default.is))
@@ -133,10 +135,16 @@ returns-in_err-view-clause-acts g c =
     let transient : IfErr c.from_residual-in_err-view.result IsTransient = rw (told.1, told.2) c.in_err-view.ensures.named in
     let none : limit_refusal c.args.envelope c.args.message.now c.args.terms.when.moment ≡ None = sym c.limit_refusal.ensures ∙ c.in_default.is in
     delivery_stopped c.args.user.now c.args.envelope c.args.message.now (terms_of c.args.terms) none (state g.S.Store c.args.store.now) (state g.S.Store c.recall.new.store) c.recall.result
-    (recalled_keeps c.args.user.now IsLookup (λ (view : AccountView) a. IsRecalled view c.in_ok-found.found.address c.in_ok-mail.mail (disposition_in c.in_ok-disposition.disposition) a) (state g.S.Store c.args.store.now) (state g.S.Store c.look_up-looked.new.store) (state g.S.Store c.recall.new.store) c.look_up-looked.result c.in_ok-found.found c.in_ok-found.was c.look_up-looked.ensures c.recall.result c.recall.ensures) c.from_residual-in_err-view.result undone transient
+    (recalled_keeps c.args.user.now IsLookup (λ (view : AccountView) a. IsRecalled view c.in_ok-found.found.address c.in_ok-mail.mail (deeds_in c.in_ok-settlement.settlement.deeds) a) (state g.S.Store c.args.store.now) (state g.S.Store c.look_up-looked.new.store) (state g.S.Store c.recall.new.store) c.look_up-looked.result c.in_ok-found.found c.in_ok-found.was c.look_up-looked.ensures c.recall.result c.recall.ensures) c.from_residual-in_err-view.result undone transient
 
 pub returns-in_err-view-clause-spaced : goal.returns-in_err-view-clause-spaced
 returns-in_err-view-clause-spaced g c = delivery_spaced c.args.user.now c.args.envelope c.args.message.now (terms_of c.args.terms) (state g.S.Store c.args.store.now) (state g.S.Store c.recall.new.store) c.from_residual-in_err-view.result (returns-in_err-view-clause-acts g c)
+
+pub returns-in_err-view-clause-named : goal.returns-in_err-view-clause-named
+returns-in_err-view-clause-named g c =
+    let told = err_from_is_err_and c.from_residual-in_err-view.result c.from_residual-in_err-view.ensures.1 in
+    let transient : IfErr c.from_residual-in_err-view.result IsTransient = rw (told.1, told.2) c.in_err-view.ensures.named in
+    transient_refuses c.args.envelope c.args.message.now c.args.terms.when.moment c.from_residual-in_err-view.result (sym c.limit_refusal.ensures ∙ c.in_default.is) transient
 
 pub plan-requires : goal.plan-requires
 plan-requires g c = subst (λ (mail : MailSpec). mail.moment ≤ 253402300799) (sym c.in_ok-mail.ensures) (moment_fits c.args.envelope c.args.message.now c.args.terms.when.moment (sym c.limit_refusal.ensures ∙ c.in_default.is))
@@ -147,7 +155,7 @@ returns-in_err-plan-clause-acts g c =
     let transient : IfErr c.from_residual-in_err-plan.result IsTransient = search rules in
     let none : limit_refusal c.args.envelope c.args.message.now c.args.terms.when.moment ≡ None = sym c.limit_refusal.ensures ∙ c.in_default.is in
     delivery_stopped c.args.user.now c.args.envelope c.args.message.now (terms_of c.args.terms) none (state g.S.Store c.args.store.now) (state g.S.Store c.recall.new.store) c.recall.result
-    (recalled_keeps c.args.user.now IsLookup (λ (view : AccountView) a. IsRecalled view c.in_ok-found.found.address c.in_ok-mail.mail (disposition_in c.in_ok-disposition.disposition) a) (state g.S.Store c.args.store.now) (state g.S.Store c.look_up-looked.new.store) (state g.S.Store c.recall.new.store) c.look_up-looked.result c.in_ok-found.found c.in_ok-found.was c.look_up-looked.ensures c.recall.result c.recall.ensures) c.from_residual-in_err-plan.result undone transient
+    (recalled_keeps c.args.user.now IsLookup (λ (view : AccountView) a. IsRecalled view c.in_ok-found.found.address c.in_ok-mail.mail (deeds_in c.in_ok-settlement.settlement.deeds) a) (state g.S.Store c.args.store.now) (state g.S.Store c.look_up-looked.new.store) (state g.S.Store c.recall.new.store) c.look_up-looked.result c.in_ok-found.found c.in_ok-found.was c.look_up-looked.ensures c.recall.result c.recall.ensures) c.from_residual-in_err-plan.result undone transient
 
 pub returns-in_err-plan-clause-spaced : goal.returns-in_err-plan-clause-spaced
 returns-in_err-plan-clause-spaced g c = delivery_spaced c.args.user.now c.args.envelope c.args.message.now (terms_of c.args.terms) (state g.S.Store c.args.store.now) (state g.S.Store c.recall.new.store) c.from_residual-in_err-plan.result (returns-in_err-plan-clause-acts g c)
@@ -157,10 +165,10 @@ returns-clause-acts g c =
     let found = c.in_ok-found.found in
     let view = c.in_ok-view.view in
     let plan = c.in_ok-plan.plan in
-    let disposition = disposition_in c.in_ok-disposition.disposition in
-    let Part = λ (v : AccountView) (a : Account). IsLookup found a × IsRecalled v found.address c.in_ok-mail.mail disposition a in
+    let settled = settled_of c.in_ok-settlement.settlement in
+    let Part = λ (v : AccountView) (a : Account). IsLookup found a × IsRecalled v found.address c.in_ok-mail.mail settled.deeds a in
     let look : LooksUp c.args.user.now Part (state g.S.Store c.args.store.now) (state g.S.Store c.recall.new.store) (Ok view) =
-    looks_recalled c.args.user.now IsLookup (λ (view : AccountView) a. IsRecalled view c.in_ok-found.found.address c.in_ok-mail.mail (disposition_in c.in_ok-disposition.disposition) a) (state g.S.Store c.args.store.now) (state g.S.Store c.look_up-looked.new.store) (state g.S.Store c.recall.new.store) c.look_up-looked.result found c.in_ok-found.was c.look_up-looked.ensures c.recall.result c.recall.ensures
+    looks_recalled c.args.user.now IsLookup (λ (view : AccountView) a. IsRecalled view c.in_ok-found.found.address c.in_ok-mail.mail (deeds_in c.in_ok-settlement.settlement.deeds) a) (state g.S.Store c.args.store.now) (state g.S.Store c.look_up-looked.new.store) (state g.S.Store c.recall.new.store) c.look_up-looked.result found c.in_ok-found.was c.look_up-looked.ensures c.recall.result c.recall.ensures
     view c.in_ok-view.was Part view (λ account one two. (one, two)) in
     let none : limit_refusal c.args.envelope c.args.message.now c.args.terms.when.moment ≡ None = sym c.limit_refusal.ensures ∙ c.in_default.is in
     delivery_written c.args.user.now c.args.envelope c.args.message.now (terms_of c.args.terms) none Part (state g.S.Store c.args.store.now) (state g.S.Store c.recall.new.store) (Ok view) view refl look plan
@@ -168,8 +176,8 @@ returns-clause-acts g c =
       own = view.address;
       address = subst (λ own. IsBareAddress account.address own) (sym is.1.same) is.0.address;
       delivers =
-          planned_at view.address _ (borrowed_octets c.deciding.result) c.in_ok-mail.mail disposition c.args.envelope c.args.message.now (terms_of c.args.terms) account plan c.in_ok-mail.ensures
-          (c.deciding.ensures ∙ ap (λ text. script_or_default text c.args.terms.host.now.default) is.0.text) c.in_ok-disposition.ensures (c.in_ok-plan.ensures account (is.1.of is.0.address));
+          planned_at view.address _ (borrowed_octets c.deciding.result) c.in_ok-mail.mail settled c.args.envelope c.args.message.now (terms_of c.args.terms) account plan c.in_ok-mail.ensures
+          (c.deciding.ensures ∙ ap (λ text. script_or_default text c.args.terms.host.now.default) is.0.text) c.in_ok-settlement.ensures (c.in_ok-plan.ensures account (is.1.of is.0.address));
     })
     (state g.S.Store c.carry_out-2.new.store) c.carry_out-2.result c.carry_out-2.ensures.writes c.carry_out-2.ensures.told c.carry_out-2.ensures.named
 
