@@ -1,13 +1,12 @@
 -- A script's turn, and the turns of a sequence.
-use Rattle.std.proofs.Common.{◌≡◌, ◌≤◌, ◌<◌, ◌+◌, ◌^◌, ℕ, Bool, true, false, cond, ◌||◌, List, [], ◌∷◌, drop, drop-cons, get_or, length, map, suc, Option, Some, refl, sym, ap, subst, ◌∙◌, arith, inl, inr}
+use Rattle.std.proofs.Common.{◌≡◌, ◌<◌, ◌+◌, ℕ, Bool, true, false, cond, List, [], ◌∷◌, drop, drop-cons, get_or, length, map, suc, Option, Some, refl, sym, ap, subst, ◌∙◌, arith, inl, inr}
 use Rattle.std.specs.Prelude.{MatchBool, nat_lt, not}
 use Rattle.std.specs.Option.{option_map}
-use Rattle.std.proofs.lemmas.Bool.Decides.{nat_tests}
 use Rattle.std.proofs.lemmas.List.{drop-map}
 use Rattle.std.proofs.lemmas.Option.{same_Some}
 use Rattle.sieve_syntax.specs.Tree.{Commands}
 use Rattle.sieve_syntax.specs.Means.{Means}
-use Rattle.sieve_syntax.specs.RunState.{RunState, Failure, TooMuchWork, TooManyMailboxes, Flow, Going, Stopped, Failed, inbox, is_filed, has_room, with_filed, cancelled_after, implicit_flags, kept_with}
+use Rattle.sieve_syntax.specs.RunState.{RunState, Failure, TooMuchWork, Flow, Going, Stopped, Failed}
 use Rattle.sieve_syntax.specs.Meaning.{Actions, does_all}
 use Rattle.sieve_syntax.specs.Work.{all_take}
 use Rattle.sieve_code.specs.Instructions.{Instruction}
@@ -15,17 +14,13 @@ use Rattle.sieve_code.specs.Jumps.{Course, RunEnd, end_by, end_within, ends_with
 use Rattle.sieve_code.specs.Jumps as run
 use Rattle.sieve_exec.specs.Mails.{MailSpec}
 use Rattle.sieve_exec.specs.Work.{work_at}
-use Rattle.sieve_plan.specs.declared.handover.Handover.{Handover as Left}
-use Rattle.sieve_plan.specs.declared.handover.Standing.{Standing}
 use Rattle.sieve_plan.specs.declared.scripts.HostScripts.{HostScripts}
 use Rattle.sieve_plan.specs.declared.scripts.SequenceScript.{SequenceScript as Script}
 use Rattle.sieve_plan.specs.declared.scripts.Whose.{Whose}
-use Rattle.sieve_plan.specs.declared.scripts.Whose.TheVariants.{Before, Own, After}
-use Rattle.sieve_plan.specs.Handover.{Handover, begins_from, leaves_kept, filed_behind, filed_for_good, first_reply, inbox_flags, done_behind, Ended, Broken, ended_with, ended_by}
-use Rattle.sieve_plan.specs.Plans.{deeds_in}
+use Rattle.sieve_plan.specs.Handover.{Handover, begins_from, Ended, Broken, ended_by}
 use Rattle.sieve_plan.specs.Delivered.{failure_text, has_long_header, is_looping, kept, long_text, loop_text}
 use Rattle.sieve_plan.specs.Sequences.{SequenceScript, SequenceState, asking_on, work_limit, host_work_behind, RunsToEnd, FailsFor, Breaks, told_of, Settled, settled_well, settled_unrun, SettlesInTurn, SettlesUnder, sequence_of, at_beginning}
-use Rattle.sieve_plan.specs.Turns.{handover_by, handover_of, script_in}
+use Rattle.sieve_plan.specs.Turns.{script_in}
 
 -- ---- a run
 
@@ -49,78 +44,21 @@ broken most work left flow failure is = step (nat_lt most work) flow is
 record Ends (most all : ℕ) (left : Handover) (flow : Flow) (at_end : RunState) (work : ℕ) : Type 0 where
   is : cond (nat_lt most all) (Broken TooMuchWork) (ended_by left flow) ≡ ended_by left (Going at_end)
   takes : work ≡ all
-  within : work ≤ most
 
 ended : (most all : ℕ) (left : Handover) (flow : Flow) (at_end : RunState) (work : ℕ) → end_within most (record { flow = flow; work = all }) ≡ run.Ended at_end work → Ends most all left flow at_end work
 ended most all left flow at_end work is = step (nat_lt most all) refl flow is
   where
-    low : nat_lt most all ≡ false → work ≡ all → work ≤ most
-    low much takes = grind (arith, nat_tests)
-
     step : (much : Bool) → nat_lt most all ≡ much → (flow : Flow) → cond much (run.Broken TooMuchWork) (end_by flow all) ≡ run.Ended at_end work → Ends most all left flow at_end work
     step true over flow is = absurd (cc is)
     step false over (Going state) is =
         let same : state ≡ at_end = cc is in
         let takes : work ≡ all = cc is in
-        record { is = ap (λ b. cond b (Broken TooMuchWork) (ended_by left (Going state))) over ∙ ap (λ s. ended_by left (Going s)) same; takes = takes; within = low over takes }
+        record { is = ap (λ b. cond b (Broken TooMuchWork) (ended_by left (Going state))) over ∙ ap (λ s. ended_by left (Going s)) same; takes = takes }
     step false over (Stopped state) is =
         let same : state ≡ at_end = cc is in
         let takes : work ≡ all = cc is in
-        record { is = ap (λ b. cond b (Broken TooMuchWork) (ended_by left (Stopped state))) over ∙ ap (λ s. ended_by left (Going s)) same; takes = takes; within = low over takes }
+        record { is = ap (λ b. cond b (Broken TooMuchWork) (ended_by left (Stopped state))) over ∙ ap (λ s. ended_by left (Going s)) same; takes = takes }
     step false over (Failed why) is = absurd (cc is)
-
--- ---- an end
-
--- the implicit keep changes neither the flags that are set nor the marks
-record KeepsMarks (one two : RunState) : Type 0 where
-  flags : two.flags ≡ one.flags
-  names : two.names_inbox ≡ one.names_inbox
-
-abbrev state_in : Flow → RunState → RunState
-state_in (Going state) other = state
-state_in (Stopped state) other = state
-state_in (Failed failure) other = other
-
-keeps_marks : (flags : Option (List ℕ)) (state : RunState) → KeepsMarks state (state_in (kept_with flags state) state)
-keeps_marks flags state = step state.cancelled (has_room state.filed inbox)
-  where
-    step : (cancelled room : Bool)
-        → KeepsMarks state (state_in (cond cancelled (Going state) (cond room (Going (record state { filed = with_filed state.filed (record { mailbox = inbox; flags = implicit_flags flags state }); cancelled = cancelled_after true state })) (Failed TooManyMailboxes))) state)
-    step true room = record { flags = refl; names = refl }
-    step false true = record { flags = refl; names = refl }
-    step false false = record { flags = refl; names = refl }
-
--- what the code makes of an end
-pub record IsNext (stands : Standing) (at_end kept : RunState) (next : Left) : Type 0 where
-  pub filed : next.stands.done.filed ≡ filed_behind (filed_for_good stands.names_inbox stands.done.filed) kept.filed
-  pub sent : next.stands.done.sent ≡ kept.sent
-  pub reply : next.stands.done.reply ≡ first_reply stands.done.reply kept.reply
-  pub names : next.stands.names_inbox ≡ (is_filed (filed_for_good stands.names_inbox stands.done.filed) inbox || kept.names_inbox)
-  pub keep_flags : next.stands.keep_flags ≡ cond at_end.has_kept (inbox_flags at_end.filed) stands.keep_flags
-  pub flags : next.flags ≡ kept.flags
-  pub is_kept : next.is_kept ≡ leaves_kept at_end
-
-pub end_made : (stands : Standing) (flags : List (List ℕ)) (is_kept : Bool) (at_end kept : RunState) (next : Left) → Going kept ≡ kept_with stands.keep_flags at_end → IsNext stands at_end kept next
-    → ended_by (handover_by stands flags is_kept) (Going at_end) ≡ Ended (deeds_in next.stands.done) (handover_of next)
-end_made stands flags is_kept at_end kept next is made =
-    let left = handover_by stands flags is_kept in
-    let marks : KeepsMarks at_end kept = subst (λ f. KeepsMarks at_end (state_in f at_end)) (sym is) (keeps_marks stands.keep_flags at_end) in
-    let done : done_behind left kept ≡ deeds_in next.stands.done = λ i. record { filed = sym made.filed i; sent = sym made.sent i; reply = sym made.reply i } in
-    let names : (is_filed left.filed inbox || at_end.names_inbox) ≡ next.stands.names_inbox = ap (λ b. is_filed left.filed inbox || b) (sym marks.names) ∙ sym made.names in
-    let set : at_end.flags ≡ next.flags = sym marks.flags ∙ sym made.flags in
-    ap (ended_with left at_end) (sym is)
-    ∙ (λ i. Ended (done i) (record {
-      filed = filed_for_good (names i) (done i).filed;
-      sent = (done i).sent;
-      flags = set i;
-      keep_flags = sym made.keep_flags i;
-      reply = (done i).reply;
-      is_kept = sym made.is_kept i;
-    }))
-
-pub end_failed : (stands : Standing) (flags : List (List ℕ)) (is_kept : Bool) (at_end : RunState) (failure : Failure) → Failed failure ≡ kept_with stands.keep_flags at_end
-    → ended_by (handover_by stands flags is_kept) (Going at_end) ≡ Broken failure
-end_failed stands flags is_kept at_end failure is = ap (ended_with (handover_by stands flags is_kept) at_end) (sym is)
 
 -- ---- a turn
 
@@ -155,15 +93,6 @@ module _ (mail : MailSpec) (whose : Whose) (tree : Commands) (state : SequenceSt
   turn_ends at_end work next over ends takes text means =
       let run = run_ends at_end work over in
       record { tree = tree; means = means; ends = run.is ∙ ends; work = takes ∙ ap (λ n. host_work_behind whose n state.host_work) run.takes }
-
-  pub work_within : (at_end : RunState) (work : ℕ) → end ≡ run.Ended at_end work → work ≤ work_limit whose state.host_work
-  work_within at_end work over = (run_ends at_end work over).within
-
--- what the host's scripts took is a number of the code's
-pub host_work_fits : (whose : Whose) (work host_work : ℕ) → work ≤ work_limit whose host_work → host_work < 2 ^ 64 → host_work_behind whose work host_work < 2 ^ 64
-host_work_fits Before work host_work small low = omega (arith, small, low)
-host_work_fits Own work host_work small low = low
-host_work_fits After work host_work small low = omega (arith, small, low)
 
 -- ---- the turns of a sequence
 
