@@ -70,7 +70,7 @@ fn run(rt: &HostRuntime, words: &RawArgs) -> u8 {
                 alloc,
                 asked,
                 &files,
-                moment(rt),
+                moment_of(rt),
                 &mut rt.stdin(),
                 &mut rt.stdout(),
                 rt.stderr(),
@@ -169,7 +169,8 @@ fn word_at(rt: &HostRuntime, at: usize) -> Result<Option<Octets>, AllocError> {
     Err(AllocError)
 }
 
-fn moment(rt: &HostRuntime) -> Moment {
+/// What the system tells now.
+fn moment_of(rt: &HostRuntime) -> Moment {
     Moment {
         clock: clock(rt),
         random: random(rt),
