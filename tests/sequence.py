@@ -353,7 +353,7 @@ def tried(case):
 
 def beside():
     trials.need_root()
-    trials.need(LDA)
+    trials.need(LDA, "sieve-test")
     with ThreadPoolExecutor(2) as pool:
         told = [line for lines in pool.map(tried, CASES) for line in lines]
     assert not told, "\n".join(told)
@@ -397,7 +397,7 @@ def compared(seed):
 
 def drawn():
     trials.need_root()
-    trials.need(LDA)
+    trials.need(LDA, "sieve-test")
     count = trials.some(SEQUENCES)
     store()
     with ThreadPoolExecutor(2) as pool:
