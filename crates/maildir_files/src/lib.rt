@@ -6,8 +6,10 @@ mod file_name;
 mod kept;
 mod maildir;
 mod memory_sink;
+mod parts;
 mod sink;
 mod sync;
+mod synced;
 
 pub use kept::KeptMail;
 pub use maildir::Maildir;

@@ -3,7 +3,8 @@ ghost use Rattle.std.specs.Prelude.{◌≡◌, []};
 
 use crate::file_name::{name_of, place_of};
 use crate::sink::{MailSink, SinkError};
-use crate::sync::{Identity, open_directory};
+use crate::sync::{Identity, sync_directory, sync_parent};
+use crate::synced::SyncedMaildirs;
 use std::fs::File;
 use std::io::{ErrorKind, Write};
 use std::{format, fs, io};
@@ -20,6 +21,7 @@ pub struct Maildir<'a> {
     /// The path, if one was opened.
     path: Option<String>,
     cause: Option<ErrorKind>,
+    synced: SyncedMaildirs,
 }
 
 impl<'a> Maildir<'a> {
@@ -29,6 +31,7 @@ impl<'a> Maildir<'a> {
             rt,
             path: None,
             cause: None,
+            synced: SyncedMaildirs::new(rt.alloc()),
         }
     }
 
@@ -58,11 +61,11 @@ impl MailSink for Maildir<'_> {
 
     ghost is_at = { λ maildir path. option_map string_bytes maildir.path ≡ Some path };
 
-    /// After Ok the names of the Maildir and of its `tmp`, `new` and `cur` are on the disk, whoever made them: each call syncs the
-    /// Maildir and its parent directory.
+    /// After Ok the names of the Maildir and of its `tmp`, `new` and `cur` are on the disk, whoever made them: the Maildir and its parent
+    /// directory are synced once for as long as these, and they, are the same directories.
     fn open(&mut self, path: &str) -> Result<(), SinkError> {
         self.cause = None;
-        match is_settled(self.rt, path) {
+        match self.synced.settle(self.rt, path) {
             Ok(true) => {
                 self.path = Some(String::from_str(self.rt.alloc(), path)?);
                 Ok(())
@@ -110,44 +113,6 @@ impl MailSink for Maildir<'_> {
     fn cause(&self) -> Option<ErrorKind> {
         self.cause
     }
-}
-
-/// Whether the path is a Maildir. If it is, its name and those of its directories are on the disk, even if the run that made them
-/// was killed.
-fn is_settled(rt: &HostRuntime, path: &str) -> io::Result<bool> {
-    if !is_maildir(rt, path)? {
-        return Ok(false);
-    }
-    sync_directory(rt, path)?;
-    sync_known_parent(rt, path)?;
-    Ok(true)
-}
-
-/// Syncs the parent directory of a path, if that can be done. One that may not be read is passed over: `make` is refused in it,
-/// so others make what it has. One of a file system that syncs no directories is too: no name in it waits for a disk.
-fn sync_known_parent(rt: &HostRuntime, path: &str) -> io::Result<()> {
-    match sync_parent(rt, path) {
-        Err(error) => match error.kind() {
-            ErrorKind::PermissionDenied | ErrorKind::InvalidInput => Ok(()),
-            _ => Err(error),
-        },
-        synced => synced,
-    }
-}
-
-/// Syncs the parent directory of a path, whose name is on the disk then. For a link it is the parent of its target.
-fn sync_parent(rt: &HostRuntime, path: &str) -> io::Result<()> {
-    sync_directory(rt, format!(in rt.alloc(); "{path}/..")?.as_str())
-}
-
-/// Syncs a directory: the names in it are on the disk then.
-fn sync_directory(rt: &HostRuntime, path: &str) -> io::Result<()> {
-    File::open(rt, path)?.sync_all()
-}
-
-/// Whether the path is a directory that has the directories `tmp` and `new`. No link is one, at the end of the path and below it.
-fn is_maildir(rt: &HostRuntime, path: &str) -> io::Result<bool> {
-    Ok(!path.is_empty() && is_directory(rt, path)? && has_parts(rt, path, &["tmp", "new"])?)
 }
 
 /// Whether a path has these directories below it. A link counts as none.
@@ -207,7 +172,7 @@ fn keep_in(
     let whole = Identity::wanted_at(rt, path)?;
     let before = Identity::wanted_at(rt, tmp.as_str())?;
     let parent = directory_of(rt, path, place)?;
-    let directory = open_directory(rt, parent.as_str())?;
+    let directory = Identity::wanted_at(rt, parent.as_str())?.open_at(rt, parent.as_str())?;
     if let Err(error) = write_and_move(rt, first.as_str(), last.as_str(), message) {
         let _ = fs::remove_file(rt, first.as_str());
         return Err(error);
