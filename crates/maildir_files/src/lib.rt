@@ -6,6 +6,7 @@ mod file_name;
 mod kept;
 mod maildir;
 mod memory_sink;
+mod new_names;
 mod parts;
 mod sink;
 mod sync;
