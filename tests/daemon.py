@@ -84,8 +84,8 @@ def says():
     assert told_of(store, "--db", old, "--managesieve", str(taken)) == (75, "", "sieved: input or output failed\nsieved: port is taken\n")
     assert os.stat(f"{store.file}.daemon").st_mode & 0o777 == 0o600
     end(server)
-    # A descriptor for each of 70 places, and 32.
-    assert [limited(count, store, *port, "--check") for count in (101, 102)] == [(64, TOO_FEW), (0, b"")]
+    # A descriptor for each of 70 places, and 192.
+    assert [limited(count, store, *port, "--check") for count in (261, 262)] == [(64, TOO_FEW), (0, b"")]
     server, _ = store.daemon()
     end(server)
     return "statuses 0, 64, 65 and 75, each with its line; a second daemon and a taken port; after a kill the next one begins"
@@ -273,7 +273,7 @@ def limits():
         for count in *counts, "4294967297", "18446744073709551616", "-1", "1.5", "x", "":
             assert told_of(store, *db, *port, word, count) == (64, "", "sieved: bad argument\n"), (word, count)
             assert told_of(store, *db, *port, word, count, "--check") == (64, "", "sieved: bad argument\n"), (word, count)
-    for words, needed in ("--clients 1 --senders 1", 34), ("--clients 01 --senders 100", 133), ("--clients 1000 --senders 100", 1132):
+    for words, needed in ("--clients 1 --senders 1", 194), ("--clients 01 --senders 100", 293), ("--clients 1000 --senders 100", 1292):
         few = [limited(needed - 1, store, *port, *words.split(), "--check"), limited(needed, store, *port, *words.split(), "--check")]
         assert few == [(64, TOO_FEW), (0, b"")], (words, few)
     server, sieve, lmtp = daemon(store, *port, "--lmtp", "0", "--clients", "2", "--senders", "1")
@@ -303,7 +303,7 @@ def limits():
     assert farewell == b'BYE "Idle."\r\n' and waited and stays and told.startswith(b"421"), (farewell, waited, stays, told)
     assert soon < 0.5 < late < 5, (soon, late)
     return (f"of 2 clients one that isn't logged in makes room, else the third waits; of one of LMTP one without LHLO goes within {soon * 1000:.0f} ms, with it "
-            f"within {late * 1000:.0f}, and one with a recipient stays; 34, 133 and 1132 descriptors are needed")
+            f"within {late * 1000:.0f}, and one with a recipient stays; 194, 293 and 1292 descriptors are needed")
 
 
 def limited(count, store, *words):

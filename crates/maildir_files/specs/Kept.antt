@@ -9,3 +9,11 @@ kept_mail user folder number message flags = record { user = user; folder = fold
 -- after a try that was refused: the messages as they were, or with this one at their end
 abbrev pub MayKeep : List KeptMail → KeptMail → List KeptMail → Type 0
 MayKeep old mail new = (new ≡ old) ⊎ (new ≡ old ++ mail ∷ [])
+
+-- what held at a path still holds there
+abbrev pub StaysTrue : {S : Type 0} → (S → List ℕ → Type 0) → S → S → Type 0
+StaysTrue at old new = (path : List ℕ) → at old path → at new path
+
+-- what held of a message at a path still holds there
+abbrev pub StaysPlaced : {S : Type 0} → (S → List ℕ → KeptMail → Type 0) → S → S → Type 0
+StaysPlaced placed old new = (path : List ℕ) (mail : KeptMail) → placed old path mail → placed new path mail

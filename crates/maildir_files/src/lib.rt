@@ -6,8 +6,11 @@ mod file_name;
 mod kept;
 mod maildir;
 mod memory_sink;
+mod new_names;
+mod parts;
 mod sink;
 mod sync;
+mod synced;
 
 pub use kept::KeptMail;
 pub use maildir::Maildir;

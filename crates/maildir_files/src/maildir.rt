@@ -2,15 +2,17 @@
 ghost use Rattle.std.specs.Prelude.{◌≡◌, []};
 
 use crate::file_name::{name_of, place_of};
+use crate::new_names::{NewNames, make_directory};
 use crate::sink::{MailSink, SinkError};
-use crate::sync::{Identity, open_directory};
-use std::fs::File;
-use std::io::{ErrorKind, Write};
-use std::{format, fs, io};
+use crate::sync::{Identity, sync_directory, sync_parent};
+use crate::synced::SyncedMaildirs;
+use std::io::ErrorKind;
+use std::{format, io};
 
 /// Keeps messages in a Maildir, each as a file of `new`, or with system flags of `cur`: one for any program that reads Maildirs.
 ///
-/// A file is written under `tmp`, and is in its place only once all of it is on the disk. Memory is that of some paths.
+/// A file is written under `tmp`, and is in its place only once all of it is on the disk. A file counts as put only if this value wrote all of
+/// it: one that stands in its place from before is replaced. Memory is that of some paths.
 ///
 /// No link is followed at the end of its path and below it: `tmp`, `new` and `cur` are directories of its own, and each is the same one,
 /// by its device and number, before a file came to its place and after. A path that ends in `/.` is a directory, whatever led there.
@@ -20,6 +22,9 @@ pub struct Maildir<'a> {
     /// The path, if one was opened.
     path: Option<String>,
     cause: Option<ErrorKind>,
+    synced: SyncedMaildirs,
+    /// What was put and isn't settled.
+    names: Option<NewNames>,
 }
 
 impl<'a> Maildir<'a> {
@@ -29,6 +34,8 @@ impl<'a> Maildir<'a> {
             rt,
             path: None,
             cause: None,
+            synced: SyncedMaildirs::new(rt.alloc()),
+            names: None,
         }
     }
 
@@ -44,27 +51,54 @@ impl<'a> Maildir<'a> {
             _ => SinkError::Failed,
         }
     }
+
+    /// No names yet, in the Maildir that is open.
+    fn no_names(&self) -> io::Result<NewNames> {
+        match &self.path {
+            Some(path) => NewNames::at(self.rt, path.as_str()),
+            None => Err(io::Error::from(ErrorKind::NotADirectory)),
+        }
+    }
+
+    /// Puts a message into the Maildir that is open, under a name, at a place in it.
+    fn put_at(&mut self, name: &str, place: &str, message: &[u8]) -> io::Result<()>
+        ensures { self.new.path ≡ self.old.path }
+    {
+        let mut names = match self.names.take() {
+            Some(names) => names,
+            None => self.no_names()?,
+        };
+        let put = names.put(self.rt, name, place, message);
+        self.names = Some(names);
+        put
+    }
 }
 
 impl MailSink for Maildir<'_> {
     ghost use Rattle.std.specs.Prelude.{◌≡◌, false, Some, option_map, string_bytes};
+    ghost use Rattle.std.proofs.Common.{rules};
 
     ghost tells = { false };
 
     // Any, since it tells none.
     ghost kept = { λ _. [] };
 
+    ghost unsettled = { λ _. [] };
+
+    ghost told = { Prim.search rules };
+
     ghost said = { λ maildir. maildir.cause };
 
     ghost is_at = { λ maildir path. option_map string_bytes maildir.path ≡ Some path };
 
-    /// After Ok the names of the Maildir and of its `tmp`, `new` and `cur` are on the disk, whoever made them: each call syncs the
-    /// Maildir and its parent directory.
+    /// After Ok the names of the Maildir and of its `tmp`, `new` and `cur` are on the disk, whoever made them: the Maildir and its parent
+    /// directory are synced once for as long as these, and they, are the same directories.
     fn open(&mut self, path: &str) -> Result<(), SinkError> {
         self.cause = None;
-        match is_settled(self.rt, path) {
+        match self.synced.settle(self.rt, path) {
             Ok(true) => {
                 self.path = Some(String::from_str(self.rt.alloc(), path)?);
+                self.names = None;
                 Ok(())
             }
             Ok(false) => Err(SinkError::NoMaildir),
@@ -95,7 +129,7 @@ impl MailSink for Maildir<'_> {
         };
         let name = name_of(self.rt.alloc(), user, folder, number, message)?;
         let place = place_of(self.rt.alloc(), name.as_str(), flags)?;
-        match keep_in(
+        match keep_at(
             self.rt,
             path.as_str(),
             name.as_str(),
@@ -107,47 +141,37 @@ impl MailSink for Maildir<'_> {
         }
     }
 
+    fn put(
+        &mut self,
+        user: &[u8],
+        folder: &[u8],
+        number: u64,
+        message: &[u8],
+        flags: &[u8],
+    ) -> Result<(), SinkError> {
+        self.cause = None;
+        let name = name_of(self.rt.alloc(), user, folder, number, message)?;
+        let place = place_of(self.rt.alloc(), name.as_str(), flags)?;
+        match self.put_at(name.as_str(), place.as_str(), message) {
+            Ok(()) => Ok(()),
+            Err(error) => Err(self.refusal(error)),
+        }
+    }
+
+    fn settle(&mut self) -> Result<(), SinkError> {
+        self.cause = None;
+        let Some(names) = self.names.take() else {
+            return Ok(());
+        };
+        match names.settle(self.rt) {
+            Ok(()) => Ok(()),
+            Err(error) => Err(self.refusal(error)),
+        }
+    }
+
     fn cause(&self) -> Option<ErrorKind> {
         self.cause
     }
-}
-
-/// Whether the path is a Maildir. If it is, its name and those of its directories are on the disk, even if the run that made them
-/// was killed.
-fn is_settled(rt: &HostRuntime, path: &str) -> io::Result<bool> {
-    if !is_maildir(rt, path)? {
-        return Ok(false);
-    }
-    sync_directory(rt, path)?;
-    sync_known_parent(rt, path)?;
-    Ok(true)
-}
-
-/// Syncs the parent directory of a path, if that can be done. One that may not be read is passed over: `make` is refused in it,
-/// so others make what it has. One of a file system that syncs no directories is too: no name in it waits for a disk.
-fn sync_known_parent(rt: &HostRuntime, path: &str) -> io::Result<()> {
-    match sync_parent(rt, path) {
-        Err(error) => match error.kind() {
-            ErrorKind::PermissionDenied | ErrorKind::InvalidInput => Ok(()),
-            _ => Err(error),
-        },
-        synced => synced,
-    }
-}
-
-/// Syncs the parent directory of a path, whose name is on the disk then. For a link it is the parent of its target.
-fn sync_parent(rt: &HostRuntime, path: &str) -> io::Result<()> {
-    sync_directory(rt, format!(in rt.alloc(); "{path}/..")?.as_str())
-}
-
-/// Syncs a directory: the names in it are on the disk then.
-fn sync_directory(rt: &HostRuntime, path: &str) -> io::Result<()> {
-    File::open(rt, path)?.sync_all()
-}
-
-/// Whether the path is a directory that has the directories `tmp` and `new`. No link is one, at the end of the path and below it.
-fn is_maildir(rt: &HostRuntime, path: &str) -> io::Result<bool> {
-    Ok(!path.is_empty() && is_directory(rt, path)? && has_parts(rt, path, &["tmp", "new"])?)
 }
 
 /// Whether a path has these directories below it. A link counts as none.
@@ -179,79 +203,16 @@ fn make_maildir(rt: &HostRuntime, path: &str) -> io::Result<()> {
     sync_parent(rt, path)
 }
 
-/// Makes a directory, if it isn't there. A link to one is an error.
-fn make_directory(rt: &HostRuntime, path: &str) -> io::Result<()> {
-    match fs::create_dir(rt, path) {
-        Err(error) if error.kind() == ErrorKind::AlreadyExists => {
-            Identity::wanted_at(rt, path)?;
-            Ok(())
-        }
-        made => made,
-    }
-}
-
 /// Puts a message into a Maildir under a name, at a place in it. After Ok the file and its name are on the disk; a file that doesn't come
 /// to its place isn't left under `tmp` either.
-///
-/// The Maildir, its `tmp` and the directory of the place are no links before and after that, and the same directories.
-fn keep_in(
+fn keep_at(
     rt: &HostRuntime,
     path: &str,
     name: &str,
     place: &str,
     message: &[u8],
 ) -> io::Result<()> {
-    let tmp = format!(in rt.alloc(); "{path}/tmp")?;
-    let first = format!(in rt.alloc(); "{path}/tmp/{name}")?;
-    let last = format!(in rt.alloc(); "{path}/{place}")?;
-    let whole = Identity::wanted_at(rt, path)?;
-    let before = Identity::wanted_at(rt, tmp.as_str())?;
-    let parent = directory_of(rt, path, place)?;
-    let directory = open_directory(rt, parent.as_str())?;
-    if let Err(error) = write_and_move(rt, first.as_str(), last.as_str(), message) {
-        let _ = fs::remove_file(rt, first.as_str());
-        return Err(error);
-    }
-    whole.expect_at(rt, path)?;
-    before.expect_at(rt, tmp.as_str())?;
-    Identity::of(&directory.metadata()?).expect_at(rt, parent.as_str())?;
-    directory.sync_all()
-}
-
-/// The directory of a Maildir in which a place is. `cur`, which a Maildir may lack that no program has read, is made if it isn't
-/// there, and its name is on the disk then. The name of one that was there came to the disk as the Maildir was opened.
-fn directory_of(rt: &HostRuntime, path: &str, place: &str) -> io::Result<String> {
-    if !place.starts_with("cur/") {
-        return Ok(format!(in rt.alloc(); "{path}/new")?);
-    }
-    let cur = format!(in rt.alloc(); "{path}/cur")?;
-    if !is_directory(rt, cur.as_str())? {
-        make_directory(rt, cur.as_str())?;
-        sync_directory(rt, path)?;
-    }
-    Ok(cur)
-}
-
-/// Writes a file and gives it its last path once all of it is on the disk. A file that has that path is replaced.
-fn write_and_move(rt: &HostRuntime, first: &str, last: &str, message: &[u8]) -> io::Result<()> {
-    write_whole(rt, first, message)?;
-    fs::rename(rt, first, last)
-}
-
-/// A new file that holds the message, on the disk. What an earlier try left under that path is removed first.
-fn write_whole(rt: &HostRuntime, path: &str, message: &[u8]) -> io::Result<()> {
-    let mut file = create_file(rt, path)?;
-    file.write_all(message)?;
-    file.sync_all()
-}
-
-/// Creates a file, without what was there under its path.
-fn create_file(rt: &HostRuntime, path: &str) -> io::Result<File> {
-    match File::create_new(rt, path) {
-        Err(error) if error.kind() == ErrorKind::AlreadyExists => {
-            fs::remove_file(rt, path)?;
-            File::create_new(rt, path)
-        }
-        created => created,
-    }
+    let mut names = NewNames::at(rt, path)?;
+    names.put(rt, name, place, message)?;
+    names.settle(rt)
 }

@@ -2,8 +2,9 @@
 use daemon_core::mail::Places;
 
 /// The number of descriptors for all but clients: 3 standard streams, 2 listeners, the one that events are waited for on, 4 for
-/// the store and its directory, 3 for locks, 3 for a Maildir, 1 for a client that finds no place, and 15 in reserve.
-const OTHERS: u64 = 32;
+/// the store and its directory, 3 for locks, 160 for the directories of 32 Maildirs, 3 for what is put there, 1 for a client that
+/// finds no place, and 15 in reserve.
+const OTHERS: u64 = 192;
 
 /// The message if there are too few.
 pub const TOO_FEW: &str =
