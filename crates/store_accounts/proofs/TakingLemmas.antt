@@ -77,7 +77,7 @@ held_folders what copies later folder left here others = same_map nat_list_cmp_t
 
 -- ---- the copy that goes
 
-abbrev is_gone : List ℕ → ℕ → Copy → Bool
+abbrev pub is_gone : List ℕ → ℕ → Copy → Bool
 is_gone folder n c = is_in folder c && c.n == n
 
 -- a row of a copy has a key of its owner, a folder and a number where both are these
@@ -89,7 +89,7 @@ module _ (folder : List ℕ) (copies : List Copy) (rise : IsAscending (λ c d. c
   left = delete_where (is_gone folder c.n) copies
 
   -- copies of one number are one
-  one_copy : (d : Copy) → Has copies d → d.n ≡ c.n → d ≡ c
+  pub one_copy : (d : Copy) → Has copies d → d.n ≡ c.n → d ≡ c
   one_copy d here same =
       let row = copy_row [] in
       let both : d ∷ [] ≡ c ∷ [] = sym (alone_at (λ x. x.n) row copies rise d here) ∙ ap (λ n. filter (λ (x : Copy). x.n == n) copies) same ∙ alone_at (λ x. x.n) row copies rise c there in
@@ -114,7 +114,7 @@ module _ (folder : List ℕ) (copies : List Copy) (rise : IsAscending (λ c d. c
       true≢false (sym (ap (λ k. is_eq (bytes_cmp k folder)) is ∙ bytes_eq_refl folder) ∙ apart))) copies
 
   -- its own has the rest
-  rest_left : (rest : List Copy) → filter (is_in folder) copies ≡ c ∷ rest → filter (is_in folder) left ≡ rest
+  pub rest_left : (rest : List Copy) → filter (is_in folder) copies ≡ c ∷ rest → filter (is_in folder) left ≡ rest
   rest_left rest split =
       let up = subst (IsAscending (λ x y. x.n < y.n)) split (ascending-filter (λ x y. x.n < y.n) (is_in folder) copies rise) in
       let later = all_weaker (λ d. c.n < d.n) (λ d. not (is_gone folder c.n d) ≡ true) (λ d low. ap not (and_right (is_in folder d) (d.n == c.n) (ne_eqb d.n c.n (λ same. omega (arith, same, low))))) rest up.0 in
@@ -280,28 +280,13 @@ module _ (user folder : List ℕ) (own : Tables) (a : Account) (s : IsShown user
       };
     }
 
-    one_gone : (b : Bool) → list_any (is_other_copy (filing_of c)) copies_are ≡ b → IsShown user (message_left user (filing_of c) b (copy_removed user folder (pos c.n) own)) (takes_mail folder 1 a)
-    one_gone true some = copy_gone some
-    one_gone false none = message_gone none
+    -- whether its message goes or not, the other copies are left
+    pub one_gone : (b : Bool) → list_any (is_other_copy (filing_of c)) copies_are ≡ b → (t : IsShown user (message_left user (filing_of c) b (copy_removed user folder (pos c.n) own)) (takes_mail folder 1 a)) × (t.copies.entries ≡ still)
+    unfolding copy_gone message_gone
+    one_gone true some = (copy_gone some, refl)
+    one_gone false none = (message_gone none, refl)
 
-  -- the rows that are left show the account without the message
-  pub mail_gone : (leaving : Option Leaving) → leaving ≡ option_map (leaving_of copies_are) (find (is_in folder) copies_are) → IsShown user (copy_taken user folder leaving own) (takes_mail folder 1 a)
-  mail_gone leaving told = subst (λ o. IsShown user (copy_taken user folder o own) (takes_mail folder 1 a)) (sym told) (go (find (is_in folder) copies_are) refl)
-    where
-      go : (o : Option Copy) → find (is_in folder) copies_are ≡ o → IsShown user (copy_taken user folder (option_map (leaving_of copies_are) o) own) (takes_mail folder 1 a)
-      go None is = none_taken is
-      go (Some c) is = one_gone c is (list_any (is_other_copy (filing_of c)) copies_are) refl
-
--- ---- the accounts
-
-pub mail_shows : (user folder : List ℕ) (leaving : Option Leaving) (ds : List Change) → AreTaking user folder leaving ds → (tables : Tables) (accounts : Accounts) → ShowsAccounts tables accounts → HasUser user accounts
-    → IsLeaving user folder leaving (rows_of user tables) → ShowsAccounts (made tables ds) (with_user accounts user (takes_mail folder 1))
-mail_shows user folder leaving ds taking tables accounts shows has told = go (get accounts user) refl has
-  where
-    go : (o : Option Account) → get accounts user ≡ o → IsSome o → ShowsAccounts (made tables ds) (in_place accounts user (takes_mail folder 1) (get accounts user))
-    go None is some = absurd (let e = some in cc)
-    go (Some a) is some =
-        let own = rows_of user tables in
-        let here = subst (IsShownOrAbsent user own) is (shows.users user) in
-        let gone = mail_gone user folder own a here leaving (told a here) in
-        rw is (shows_after tables accounts user ds (takes_mail folder 1 a) taking.owned shows (subst (λ t. IsShown user t (takes_mail folder 1 a)) (sym (taking.makes own)) gone))
+  -- where there is none, all are left
+  pub none_gone : find (is_in folder) copies_are ≡ None → (t : IsShown user own (takes_mail folder 1 a)) × (t.copies.entries ≡ copies_are)
+  unfolding none_taken
+  none_gone is = (none_taken is, refl)
