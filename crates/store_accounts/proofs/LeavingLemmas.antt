@@ -1,5 +1,5 @@
 -- The first messages of a folder leave it, one after the other.
-use Rattle.std.proofs.Common.{◌≡◌, ◌≢◌, ◌==◌, ◌&&◌, ◌||◌, ◌≤◌, ◌<◌, ◌+◌, ℕ, zero, suc, ℤ, pos, Bool, Bor, true, false, not, cond, List, [], ◌∷◌, ◌++◌, drop, take, map, filter, find, fold, slice_get, Option, Some, None, IsSome, Ok, Err, Result, Vec, OnOk, IfOk, length, get_or, option_map, unwrap_or, refl, sym, ap, ◌∙◌, subst, inl, inr, is_eq, eq-eqb, ne_eqb, eqb-true, add-one, append-nil, append_assoc, arith}
+use Rattle.std.proofs.Common.{◌≡◌, ◌≢◌, ◌==◌, ◌&&◌, ◌||◌, ◌≤◌, ◌<◌, ◌+◌, ℕ, zero, suc, ℤ, pos, Bool, Bor, true, false, not, cond, List, [], ◌∷◌, ◌++◌, drop, take, map, filter, find, slice_get, Option, Some, None, IsSome, Ok, Result, Vec, OnOk, IfOk, length, get_or, option_map, unwrap_or, refl, sym, ap, ◌∙◌, subst, inl, inr, is_eq, eq-eqb, ne_eqb, eqb-true, add-one, append-nil, append_assoc, arith}
 use Rattle.std.specs.List.{AllByRecursion, list_any}
 use Rattle.std.specs.FinMap.{get, same_map}
 use Rattle.std.specs.declared.alloc.Global.{Global}

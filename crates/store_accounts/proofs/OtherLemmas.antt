@@ -1,9 +1,9 @@
 -- The query for another copy of a message.
-use Rattle.std.proofs.Common.{◌≡◌, ◌==◌, ◌&&◌, ◌||◌, ℕ, zero, suc, ℤ, pos, Bool, true, false, not, cond, List, [], ◌∷◌, map, filter, take, length, refl, sym, ap, ap₂, ◌∙◌, subst, IsPermutation}
+use Rattle.std.proofs.Common.{◌≡◌, ◌==◌, ◌||◌, ℕ, zero, suc, ℤ, pos, Bool, true, false, not, cond, List, [], ◌∷◌, map, filter, take, length, refl, sym, ap, ap₂, ◌∙◌, subst, IsPermutation}
 use Rattle.std.specs.List.{list_all, list_any}
 use Rattle.std.proofs.lemmas.Bool.{and_from, and_parts}
 use Rattle.std.proofs.lemmas.List.{length-map}
-use Rattle.std.proofs.lemmas.List.Sorted.{length_permutation, IsPermutation-map}
+use Rattle.std.proofs.lemmas.List.Sorted.{length_permutation}
 use Rattle.sqlite_value.specs.declared.value.Value.TheVariants.{Int, Blob}
 use Rattle.sqlite_value.specs.declared.keys.Collation.TheVariants.{Binary}
 use Rattle.sqlite_value.specs.Order.{Row, column}
@@ -23,8 +23,8 @@ use Rattle.store_tables.specs.CopyTable.{copy, copy_tree, select_other}
 use Rattle.store_tables.proofs.SchemaFacts.{copy_listed}
 use Rattle.store_tables.proofs.TextFacts.{by_other, select_other_is, select_other_plain}
 use Rattle.store_accounts.specs.declared.filing.Filing.{Filing}
-use Rattle.store_accounts.specs.CopyRows.{Copy, copy_row, filing_of, is_other_copy}
-use Rattle.store_accounts.specs.Shows.{rows_of, IsShown, AreOtherRows, IsShared}
+use Rattle.store_accounts.specs.CopyRows.{Copy, copy_row, is_other_copy}
+use Rattle.store_accounts.specs.Shows.{rows_of, AreOtherRows, IsShared}
 use Rattle.store_accounts.proofs.AccountLemmas.{same_numbers}
 
 -- what the query is asked with

@@ -1,5 +1,5 @@
 -- Examples of what tables show, and near misses.
-use Rattle.std.proofs.Common.{◌≡◌, ◌==◌, ℕ, pos, ◌<◌, ◌≤◌, false, cond, List, [], ◌∷◌, filter, map, length, codes, Option, Some, None, option_map, inl, inr, refl, sym, ap, ◌∙◌, arith}
+use Rattle.std.proofs.Common.{◌≡◌, ◌==◌, ℕ, pos, ◌<◌, ◌≤◌, false, cond, List, [], ◌∷◌, filter, take, map, length, codes, Option, Some, None, option_map, inl, inr, refl, sym, ap, ◌∙◌, arith}
 use Rattle.std.specs.FinMap.{empty, insert}
 use Rattle.std.specs.List.{AllByRecursion, find}
 use Rattle.std.proofs.lemmas.List.Elements.{recursion_from_All, All-from_recursion}
@@ -27,7 +27,7 @@ use Rattle.store_accounts.specs.Taking.{copies_taken, leaving_in_turn}
 use Rattle.store_accounts.specs.MessageRows.{Message, message_row}
 use Rattle.store_tables.specs.MessageTable.{message_cells, message_tree}
 use Rattle.store_tables.specs.CopyTable.{copy_tree, n_column, copy_cells}
-use Rattle.store_accounts.specs.CopyRows.{Copy, copy_row, folders_from, flags_from, message_of, HasCopy, AreKept, ShowsCopies, is_in, leaving_of, numbered_of}
+use Rattle.store_accounts.specs.CopyRows.{Copy, copy_row, folders_from, flags_from, message_of, HasCopy, AreKept, ShowsCopies, is_in, copies_in, numbered_of}
 use Rattle.store_accounts.specs.Shows.{IsShown, IsAbsent, IsFirstOf, ShowsAccounts}
 use Rattle.store_accounts.specs.declared.taking.NumberedMessage.{NumberedMessage}
 use Rattle.store_accounts.proofs.NumberLemmas.{numbered_none}

@@ -1,5 +1,5 @@
 -- The first message of a folder leaves it: the copies, the messages and the folders that are left.
-use Rattle.std.proofs.Common.{◌≡◌, ◌≢◌, ◌==◌, ◌&&◌, ◌<◌, ℕ, pos, Bool, true, false, not, cond, List, [], ◌∷◌, ◌++◌, drop, map, filter, find, fold, slice_get, Option, Some, None, IsSome, option_map, unwrap_or, refl, sym, ap, ◌∙◌, subst, inl, inr, is_eq, true≢false, eq-eqb, ne_eqb, eqb-true, arith}
+use Rattle.std.proofs.Common.{◌≡◌, ◌≢◌, ◌==◌, ◌&&◌, ◌<◌, ℕ, pos, Bool, true, false, not, cond, List, [], ◌∷◌, ◌++◌, drop, map, filter, find, fold, slice_get, Option, Some, None, unwrap_or, refl, sym, ap, ◌∙◌, subst, inl, inr, is_eq, true≢false, eq-eqb, ne_eqb, eqb-true, arith}
 use Rattle.std.specs.List.{list_any}
 use Rattle.std.specs.FinMap.{empty, get, get-empty, get-insert, get-remove, same_map}
 use Rattle.std.proofs.lemmas.Bool.{cases_eq, and_parts, and_from, and_right, false_from_ne_true}
@@ -13,21 +13,18 @@ use Rattle.sqlite_keyed.proofs.ListLemmas.{all-filter, all_weaker, ascending-fil
 use Rattle.sqlite_typed.proofs.TestLemmas.{at_blobs, at_ints, last_term, then_term, same_bytes, bytes_eq_refl}
 use Rattle.store_tables.specs.Rows.{Tables, has_key}
 use Rattle.store_tables.proofs.ListLemmas.{equal_itself, filter_kept}
-use Rattle.store_tables.specs.declared.change.Change.{Change}
-use Rattle.store_accounts.specs.declared.taking.Leaving.{Leaving}
-use Rattle.store_accounts.specs.Account.{bytes_cmp, Account, Accounts, Folders, with_user, in_place, messages_in, filed, holding, left_in, takes_mail}
-use Rattle.store_tables.specs.Changes.{made, copy_removed, message_removed}
-use Rattle.store_accounts.specs.Taking.{message_left, copy_taken, AreTaking}
-use Rattle.store_accounts.specs.CopyRows.{Copy, copy_row, message_of, HasCopy, AreKept, filed_from, filing_of, is_in, is_other_copy, leaving_of}
+use Rattle.store_accounts.specs.Account.{bytes_cmp, Account, Folders, messages_in, filed, holding, left_in, takes_mail}
+use Rattle.store_tables.specs.Changes.{copy_removed, message_removed}
+use Rattle.store_accounts.specs.Taking.{message_left}
+use Rattle.store_accounts.specs.CopyRows.{Copy, copy_row, message_of, HasCopy, AreKept, filed_from, filing_of, is_in, is_other_copy}
 use Rattle.store_tables.specs.CopyTable.{copy_key, copy_tree}
 use Rattle.store_accounts.specs.MessageRows.{Message, message_row}
 use Rattle.store_tables.specs.MessageTable.{message_key, message_tree}
-use Rattle.store_accounts.specs.Shows.{rows_of, IsShown, IsShownOrAbsent, ShowsAccounts, IsLeaving}
-use Rattle.store_accounts.specs.Promises.{HasUser}
+use Rattle.store_accounts.specs.Shows.{IsShown}
 use Rattle.store_accounts.proofs.AccountLemmas.{bytes_antisymmetric, message_is, same_numbers}
 use Rattle.store_accounts.proofs.NumberLemmas.{alone_at, numbered_without}
 use Rattle.store_accounts.proofs.OrderLemmas.{filed_are}
-use Rattle.store_accounts.proofs.ShowLemmas.{filter_swapped, shows_after}
+use Rattle.store_accounts.proofs.ShowLemmas.{filter_swapped}
 
 -- ---- the folders that copies make
 

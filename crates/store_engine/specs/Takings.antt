@@ -1,5 +1,5 @@
 -- Messages that leave a folder together, in one transaction.
-use Rattle.std.specs.Prelude.{◌≡◌, ◌≢◌, ◌≤◌, ◌⊎◌, ℕ, zero, suc, List, [], ◌∷◌, map, take, length, slice_get, Option, Some, None, Ok, Err, Result, IfOk, IfErr}
+use Rattle.std.specs.Prelude.{◌≡◌, ◌≢◌, ◌≤◌, ◌⊎◌, ℕ, zero, suc, List, [], ◌∷◌, map, take, length, slice_get, Ok, Err, Result, IfOk}
 use Rattle.sqlite.specs.State.{State, HasCleanDisk}
 use Rattle.store_tables.specs.Rows.{Tables}
 use Rattle.store_accounts.specs.declared.taking.NumberedMessage.{NumberedMessage}
@@ -7,12 +7,10 @@ use Rattle.store_accounts.specs.declared.refusal.Refusal.{Refusal}
 use Rattle.store_accounts.specs.declared.refusal.Refusal.TheVariants.{NoUser, NoRow}
 use Rattle.store_accounts.specs.Account.{Account, Accounts, messages_in, folder_flags}
 use Rattle.store_accounts.specs.CopyRows.{Copy, copies_in, numbered_of}
-use Rattle.store_accounts.specs.Promises.{HasNoOpen, OfOpen, OverTables}
+use Rattle.store_accounts.specs.Promises.{HasNoOpen, OfOpen, OverTables, ReadsOwn}
 use Rattle.store_accounts.specs.Shows.{rows_of, OfCopies}
 use Rattle.managesieve_sessions.specs.Acts.{Acts}
-use Rattle.store_engine.specs.declared.answer.Answer.{Answer}
 use Rattle.store_engine.specs.declared.answer.Answer.TheVariants.{MailTaken}
-use Rattle.store_engine.specs.declared.event.Event.{Event}
 use Rattle.store_engine.specs.declared.event.Event.TheVariants.{TakeMail}
 use Rattle.store_engine.specs.AccountEvents.{MailTaking}
 use Rattle.store_engine.specs.World.{World, Runs}
@@ -79,10 +77,20 @@ pub record IsLongestRun (there mails : List NumberedMessage) (n : ℕ) : Type 0 
 abbrev pub mails_in : List ℕ → List Copy → List NumberedMessage
 mails_in folder copies = map numbered_of (copies_in folder copies)
 
+-- by the user's rows the first n of these are the longest run
+abbrev pub AreLongest : List ℕ → List ℕ → List NumberedMessage → ℕ → Tables → Type 0
+AreLongest user folder mails n own = OfCopies user own (λ copies. IsLongestRun (mails_in folder copies) mails n)
+
+-- how many of these messages are the folder's first, as a read of an open account's rows
+pub record CountsFirst (user folder : List ℕ) (mails : List NumberedMessage) (old new : State) (result : Result ℕ Refusal) : Type 0 where
+  pub reads : ReadsOwn user (AreLongest user folder mails) old new result
+  pub few : IfOk result (λ n. n ≤ max_together)
+  pub told : IfOk result (λ n. n ≤ length mails)
+
 -- by the user's rows as they were: the messages that left are the longest run of these; NoRow is answered only if it is empty
 abbrev pub TakesLongestRun : List ℕ → List ℕ → List NumberedMessage → State → State → Result ℕ Refusal → Type 0
 TakesLongestRun user folder mails old new (Ok n) =
-    HasCleanDisk new → OverTables old (λ tables. OfCopies user (rows_of user tables) (λ copies. IsLongestRun (mails_in folder copies) mails n))
+    HasCleanDisk new → OverTables old (λ tables. AreLongest user folder mails n (rows_of user tables))
 TakesLongestRun user folder mails old new (Err refusal) =
     HasCleanDisk new → OverTables old (λ tables. refusal ≡ NoRow → OfCopies user (rows_of user tables) (λ copies. EndsRun (mails_in folder copies) mails 0))
 

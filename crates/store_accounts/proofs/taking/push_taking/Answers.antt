@@ -1,4 +1,4 @@
-use Rattle.std.proofs.Common.{◌≡◌, ◌++◌, ◌∷◌, [], pos, rules}
+use Rattle.std.proofs.Common.{◌≡◌, ◌++◌, ◌∷◌, [], rules}
 use Rattle.store_tables.specs.declared.change.Change.TheVariants.{RemoveCopy, RemoveMessage}
 use Rattle.store_accounts.proofs.LeavingLemmas.{takings_pushed}
 use Rattle.store_accounts.proofs.taking.push_taking.Goals as goal

@@ -1,10 +1,10 @@
-use Rattle.std.proofs.Common.{◌≡◌, ◌∙◌, Ok, OnOk, true, false, ap, sym, subst, rules}
+use Rattle.std.proofs.Common.{◌≡◌, ◌∙◌, Ok, true, false, sym, subst, rules}
 use Rattle.std.specs.List.{list_any}
 use Rattle.sqlite.specs.Held.{state}
 use Rattle.store_accounts.specs.Listing.{AreFilingsOf}
 use Rattle.store_accounts.specs.Shows.{IsShared}
 use Rattle.store_accounts.specs.Taking.{is_other_beside, IsSharedBeside}
-use Rattle.store_accounts.proofs.AmongLemmas.{among_made, among_failed, among_both, among_late}
+use Rattle.store_accounts.proofs.AmongLemmas.{among_made, among_both}
 use Rattle.store_accounts.proofs.LeavingLemmas.{no_other, other_stays, other_listed}
 use Rattle.store_accounts.proofs.store.Store.is_shared_beside.Goals as goal
 
