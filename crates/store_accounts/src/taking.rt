@@ -103,8 +103,9 @@ fn taking_changes<'a>(
 }
 
 impl<S: Alter> Store<S> {
-    /// The folder's message after that many with the number of its copy and its flags, as in the user's rows; `None` if there are no
-    /// more. For an account that was entered. The copies before it are passed over; memory is in proportion to the message.
+    /// The folder's message after that many with the number of its copy and its flags, as in the user's rows; `None` if there
+    /// are no more. For an account that was entered. The copies before it are passed over; memory is in proportion to the
+    /// message.
     pub fn nth_numbered_of(
         &mut self,
         user: &[u8],
@@ -151,8 +152,8 @@ impl<S: Alter> Store<S> {
         self.nth_numbered_of(user, folder, 0)
     }
 
-    /// Whether there is another copy of the same message that is none of those that leave, for an account that was entered. At most
-    /// one copy is read; all of the user's, and no message, if another copy of the message is among those that leave.
+    /// Whether there is another copy of the same message that is none of those that leave, for an account that was entered. At
+    /// most one copy is read; all of the user's, and no message, if another copy of the message is among those that leave.
     fn is_shared_beside(
         &mut self,
         user: &[u8],
@@ -204,10 +205,10 @@ impl<S: Alter> Store<S> {
         Ok(leaving)
     }
 
-    /// Takes the first `count` messages out of the folder of a user whose account was entered, in one transaction: removes their
-    /// copies, each message's row with the last copy of it, and with its last message the folder. The numbers are not used again. The
-    /// caller has to see to it that the folder has as many messages: of one with fewer all are taken. The copies are found by their
-    /// key, and no message and no copy but another one of the same message is read.
+    /// Takes the first `count` messages out of the folder of a user whose account was entered, in one transaction: removes
+    /// their copies, each message's row with the last copy of it, and with its last message the folder. The numbers are not
+    /// used again. The caller has to see to it that the folder has as many messages: of one with fewer all are taken. The
+    /// copies are found by their key, and no message and no copy but another one of the same message is read.
     ///
     /// # Errors
     ///

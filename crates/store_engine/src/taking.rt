@@ -99,17 +99,19 @@ fn count_same<S: Alter>(
     Ok(most)
 }
 
-/// Takes the first of these messages out of the user's folder together, in one transaction, which is the last step, and returns how many,
-/// at least 1: the longest run of the folder's first messages that are, in order, the first of `mails`, and at most 64 of them. They are
-/// compared by their numbers, octets and flags, since after they were read somebody else may have taken mail out, or have removed the
-/// account and imported it again. The folder disappears with its last message. The messages' numbers aren't used again.
+/// Takes the first of these messages out of the user's folder together, in one transaction, which is the last step, and returns
+/// how many, at least 1: the longest run of the folder's first messages that are, in order, the first of `mails`, and at most
+/// 64 of them. They are compared by their numbers, octets and flags, since after they were read somebody else may have taken
+/// mail out, or have removed the account and imported it again. The folder disappears with its last message. The messages'
+/// numbers aren't used again.
 ///
 /// One message more than these is read, one after the other: memory is in proportion to the longest.
 ///
 /// # Errors
 ///
-/// In this order: [`Refusal::NoUser`], and [`Refusal::NoRow`] if the folder's first message isn't the first of these, or if there is
-/// none of the one or the other. [`Refusal::Memory`] and [`Refusal::Store`] may come at any point. The store then stays as it was.
+/// In this order: [`Refusal::NoUser`], and [`Refusal::NoRow`] if the folder's first message isn't the first of these, or if
+/// there is none of the one or the other. [`Refusal::Memory`] and [`Refusal::Store`] may come at any point. The store then
+/// stays as it was.
 pub fn take_mails<S: Alter>(
     store: &mut Store<S>,
     user: &[u8],
