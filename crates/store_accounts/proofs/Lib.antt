@@ -25,6 +25,7 @@ pub mod OtherLemmas
 pub mod TakingLemmas
 pub mod NthLemmas
 pub mod LeastLemmas
+pub mod LeavingLemmas
 pub mod AllLemmas
 pub mod PlaceLemmas
 pub mod NextLemmas

@@ -1,9 +1,9 @@
--- The query for another copy of a message, and what is told by it of the copy that leaves.
-use Rattle.std.proofs.Common.{◌≡◌, ◌==◌, ◌&&◌, ◌||◌, ℕ, zero, suc, ℤ, pos, Bool, true, false, not, cond, List, [], ◌∷◌, map, filter, take, length, Option, Some, None, option_map, refl, sym, ap, ap₂, ◌∙◌, subst, IsPermutation}
-use Rattle.std.specs.List.{find, list_all, list_any}
+-- The query for another copy of a message.
+use Rattle.std.proofs.Common.{◌≡◌, ◌==◌, ◌||◌, ℕ, zero, suc, ℤ, pos, Bool, true, false, not, cond, List, [], ◌∷◌, map, filter, take, length, refl, sym, ap, ap₂, ◌∙◌, subst, IsPermutation}
+use Rattle.std.specs.List.{list_all, list_any}
 use Rattle.std.proofs.lemmas.Bool.{and_from, and_parts}
 use Rattle.std.proofs.lemmas.List.{length-map}
-use Rattle.std.proofs.lemmas.List.Sorted.{length_permutation, IsPermutation-map}
+use Rattle.std.proofs.lemmas.List.Sorted.{length_permutation}
 use Rattle.sqlite_value.specs.declared.value.Value.TheVariants.{Int, Blob}
 use Rattle.sqlite_value.specs.declared.keys.Collation.TheVariants.{Binary}
 use Rattle.sqlite_value.specs.Order.{Row, column}
@@ -11,7 +11,7 @@ use Rattle.sqlite_sql.specs.Term.{col, holds, lit}
 use Rattle.sqlite_sql.specs.Query.{Output}
 use Rattle.sqlite_sql.specs.declared.ops.CompareOp.TheVariants.{Eq, Ne}
 use Rattle.sqlite_schema.specs.Rules.{equal}
-use Rattle.sqlite_keyed.proofs.ListLemmas.{filter-map, filter_same, filter-filter, slice_get-filter, IsPermutation-filter}
+use Rattle.sqlite_keyed.proofs.ListLemmas.{filter-map, filter_same, filter-filter, IsPermutation-filter}
 use Rattle.sqlite_typed.proofs.TestLemmas.{at_ints, last_term, then_term}
 use Rattle.sqlite.specs.State.{State, Shown}
 use Rattle.store_tables.specs.Rows.{Tables, HoldsTables, has_key}
@@ -23,9 +23,8 @@ use Rattle.store_tables.specs.CopyTable.{copy, copy_tree, select_other}
 use Rattle.store_tables.proofs.SchemaFacts.{copy_listed}
 use Rattle.store_tables.proofs.TextFacts.{by_other, select_other_is, select_other_plain}
 use Rattle.store_accounts.specs.declared.filing.Filing.{Filing}
-use Rattle.store_accounts.specs.Account.{Account}
-use Rattle.store_accounts.specs.CopyRows.{Copy, copy_row, filing_of, is_in, is_other_copy, leaving_of}
-use Rattle.store_accounts.specs.Shows.{rows_of, IsShown, AreOtherRows, IsNthFiling, IsShared, IsLeaving}
+use Rattle.store_accounts.specs.CopyRows.{Copy, copy_row, is_other_copy}
+use Rattle.store_accounts.specs.Shows.{rows_of, AreOtherRows, IsShared}
 use Rattle.store_accounts.proofs.AccountLemmas.{same_numbers}
 
 -- what the query is asked with
@@ -83,23 +82,3 @@ shared_is user f id n rows own same_id same_n empty tells are a s = ap not (tell
     go : (any : Bool) → not (cond any 1 0 == 0) ≡ any
     go true = refl
     go false = refl
-
--- ---- the copy that leaves
-
-module _ (user folder : List ℕ) (own : Tables) where
-  pub leaving_none : IsNthFiling user folder (pos 0) None own → IsLeaving user folder None own
-  leaving_none is a s = go (find (is_in folder) s.copies.entries) (is a s 0 refl ∙ ap (option_map filing_of) (slice_get-filter (is_in folder) s.copies.entries))
-    where
-      go : (o : Option Copy) → None ≡ option_map filing_of o → None ≡ option_map (leaving_of s.copies.entries) o
-      go None e = refl
-      go (Some c) e = absurd (let no = e in cc)
-
-  pub leaving_some : (f : Filing) (shared : Bool) → IsNthFiling user folder (pos 0) (Some f) own → IsShared user f shared own → IsLeaving user folder (Some (record { copy = f; is_shared = shared })) own
-  leaving_some f shared is has a s = go (find (is_in folder) s.copies.entries) (is a s 0 refl ∙ ap (option_map filing_of) (slice_get-filter (is_in folder) s.copies.entries))
-    where
-      go : (o : Option Copy) → Some f ≡ option_map filing_of o → Some (record { copy = f; is_shared = shared }) ≡ option_map (leaving_of s.copies.entries) o
-      go None e = absurd (let no = e in cc)
-      go (Some c) e =
-          let same : f ≡ filing_of c = cc in
-          let told : shared ≡ list_any (is_other_copy (filing_of c)) s.copies.entries = has a s ∙ ap (λ g. list_any (is_other_copy g) s.copies.entries) same in
-          λ i. Some (record { copy = same i; is_shared = told i })

@@ -1,5 +1,5 @@
 -- Examples of what tables show, and near misses.
-use Rattle.std.proofs.Common.{◌≡◌, ◌==◌, ℕ, pos, ◌<◌, ◌≤◌, false, cond, List, [], ◌∷◌, filter, map, length, codes, Option, Some, None, option_map, inl, inr, refl, sym, ap, ◌∙◌, arith}
+use Rattle.std.proofs.Common.{◌≡◌, ◌==◌, ℕ, pos, ◌<◌, ◌≤◌, false, cond, List, [], ◌∷◌, filter, take, map, length, codes, Option, Some, None, option_map, inl, inr, refl, sym, ap, ◌∙◌, arith}
 use Rattle.std.specs.FinMap.{empty, insert}
 use Rattle.std.specs.List.{AllByRecursion, find}
 use Rattle.std.proofs.lemmas.List.Elements.{recursion_from_All, All-from_recursion}
@@ -23,11 +23,11 @@ use Rattle.store_accounts.specs.NoticeRows.{notice_row}
 use Rattle.sqlite_rules.specs.Lists.{Has}
 use Rattle.store_accounts.specs.Delivery.{copied}
 use Rattle.store_tables.specs.Changes.{copy_removed, message_removed}
-use Rattle.store_accounts.specs.Taking.{copy_taken}
+use Rattle.store_accounts.specs.Taking.{copies_taken, leaving_in_turn}
 use Rattle.store_accounts.specs.MessageRows.{Message, message_row}
 use Rattle.store_tables.specs.MessageTable.{message_cells, message_tree}
 use Rattle.store_tables.specs.CopyTable.{copy_tree, n_column, copy_cells}
-use Rattle.store_accounts.specs.CopyRows.{Copy, copy_row, folders_from, flags_from, message_of, HasCopy, AreKept, ShowsCopies, is_in, leaving_of, numbered_of}
+use Rattle.store_accounts.specs.CopyRows.{Copy, copy_row, folders_from, flags_from, message_of, HasCopy, AreKept, ShowsCopies, is_in, copies_in, numbered_of}
 use Rattle.store_accounts.specs.Shows.{IsShown, IsAbsent, IsFirstOf, ShowsAccounts}
 use Rattle.store_accounts.specs.declared.taking.NumberedMessage.{NumberedMessage}
 use Rattle.store_accounts.proofs.NumberLemmas.{numbered_none}
@@ -155,25 +155,36 @@ a_row_a_folder = refl
 not_kept_unfiled : copied alice (codes "M1") 1 [] (λ tree. []) message_tree ≡ []
 not_kept_unfiled = refl
 
--- the user's rows once the first copy has left the folder
-abbrev without_first : List ℕ → List Copy → Tables → Tables
-without_first folder copies = copy_taken alice folder (option_map (leaving_of copies) (find (is_in folder) copies))
+-- the user's rows once the first copies, up to that many, have left the folder
+abbrev without_first : ℕ → List ℕ → List Copy → Tables → Tables
+without_first count folder copies = copies_taken alice folder (leaving_in_turn copies [] (take count (copies_in folder copies)))
 
 -- the first message of a folder is taken: of two copies of a message one goes, and its row stays
-row_stays : (own : Tables) → without_first (codes "lists") (first ∷ second ∷ []) own ≡ copy_removed alice (codes "lists") (pos 1) own
+row_stays : (own : Tables) → without_first 1 (codes "lists") (first ∷ second ∷ []) own ≡ copy_removed alice (codes "lists") (pos 1) own
 row_stays own = refl
 
 -- with the last copy the message's row goes
-row_goes : (own : Tables) → without_first (codes "INBOX") (second ∷ []) own ≡ message_removed alice (pos 1) (copy_removed alice (codes "INBOX") (pos 2) own)
+row_goes : (own : Tables) → without_first 1 (codes "INBOX") (second ∷ []) own ≡ message_removed alice (pos 1) (copy_removed alice (codes "INBOX") (pos 2) own)
 row_goes own = refl
 
 -- near miss: of two messages in the folder the first goes, and not the later one
-not_the_later : (own : Tables) → without_first (codes "INBOX") (first ∷ second ∷ third ∷ []) own ≡ copy_removed alice (codes "INBOX") (pos 2) own
+not_the_later : (own : Tables) → without_first 1 (codes "INBOX") (first ∷ second ∷ third ∷ []) own ≡ copy_removed alice (codes "INBOX") (pos 2) own
 not_the_later own = refl
 
 -- near miss: from a folder that has none nothing goes
-none_to_take : (own : Tables) → without_first (codes "work") (first ∷ second ∷ []) own ≡ own
+none_to_take : (own : Tables) → without_first 2 (codes "work") (first ∷ second ∷ []) own ≡ own
 none_to_take own = refl
+
+-- two copies of one message leave the folder together: its row goes once, with the later one
+abbrev again : Copy
+again = record second { n = 5 }
+
+row_goes_once : (own : Tables) → without_first 2 (codes "INBOX") (second ∷ again ∷ []) own ≡ message_removed alice (pos 1) (copy_removed alice (codes "INBOX") (pos 5) (copy_removed alice (codes "INBOX") (pos 2) own))
+row_goes_once own = refl
+
+-- near miss: it stays where a third one is in another folder
+row_stays_thrice : (own : Tables) → without_first 2 (codes "INBOX") (first ∷ second ∷ again ∷ []) own ≡ copy_removed alice (codes "INBOX") (pos 5) (copy_removed alice (codes "INBOX") (pos 2) own)
+row_stays_thrice own = refl
 
 -- a message whose first copy is gone keeps that copy's number
 second_keeps : AreKept (second ∷ []) (message_of first ∷ [])

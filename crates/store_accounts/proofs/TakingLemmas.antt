@@ -1,5 +1,5 @@
 -- The first message of a folder leaves it: the copies, the messages and the folders that are left.
-use Rattle.std.proofs.Common.{◌≡◌, ◌≢◌, ◌==◌, ◌&&◌, ◌<◌, ℕ, pos, Bool, true, false, not, cond, List, [], ◌∷◌, ◌++◌, drop, map, filter, find, fold, slice_get, Option, Some, None, IsSome, option_map, unwrap_or, refl, sym, ap, ◌∙◌, subst, inl, inr, is_eq, true≢false, eq-eqb, ne_eqb, eqb-true, arith}
+use Rattle.std.proofs.Common.{◌≡◌, ◌≢◌, ◌==◌, ◌&&◌, ◌<◌, ℕ, pos, Bool, true, false, not, cond, List, [], ◌∷◌, ◌++◌, drop, map, filter, find, fold, slice_get, Option, Some, None, unwrap_or, refl, sym, ap, ◌∙◌, subst, inl, inr, is_eq, true≢false, eq-eqb, ne_eqb, eqb-true, arith}
 use Rattle.std.specs.List.{list_any}
 use Rattle.std.specs.FinMap.{empty, get, get-empty, get-insert, get-remove, same_map}
 use Rattle.std.proofs.lemmas.Bool.{cases_eq, and_parts, and_from, and_right, false_from_ne_true}
@@ -13,21 +13,18 @@ use Rattle.sqlite_keyed.proofs.ListLemmas.{all-filter, all_weaker, ascending-fil
 use Rattle.sqlite_typed.proofs.TestLemmas.{at_blobs, at_ints, last_term, then_term, same_bytes, bytes_eq_refl}
 use Rattle.store_tables.specs.Rows.{Tables, has_key}
 use Rattle.store_tables.proofs.ListLemmas.{equal_itself, filter_kept}
-use Rattle.store_tables.specs.declared.change.Change.{Change}
-use Rattle.store_accounts.specs.declared.taking.Leaving.{Leaving}
-use Rattle.store_accounts.specs.Account.{bytes_cmp, Account, Accounts, Folders, with_user, in_place, messages_in, filed, holding, left_in, takes_mail}
-use Rattle.store_tables.specs.Changes.{made, copy_removed, message_removed}
-use Rattle.store_accounts.specs.Taking.{message_left, copy_taken, AreTaking}
-use Rattle.store_accounts.specs.CopyRows.{Copy, copy_row, message_of, HasCopy, AreKept, filed_from, filing_of, is_in, is_other_copy, leaving_of}
+use Rattle.store_accounts.specs.Account.{bytes_cmp, Account, Folders, messages_in, filed, holding, left_in, takes_mail}
+use Rattle.store_tables.specs.Changes.{copy_removed, message_removed}
+use Rattle.store_accounts.specs.Taking.{message_left}
+use Rattle.store_accounts.specs.CopyRows.{Copy, copy_row, message_of, HasCopy, AreKept, filed_from, filing_of, is_in, is_other_copy}
 use Rattle.store_tables.specs.CopyTable.{copy_key, copy_tree}
 use Rattle.store_accounts.specs.MessageRows.{Message, message_row}
 use Rattle.store_tables.specs.MessageTable.{message_key, message_tree}
-use Rattle.store_accounts.specs.Shows.{rows_of, IsShown, IsShownOrAbsent, ShowsAccounts, IsLeaving}
-use Rattle.store_accounts.specs.Promises.{HasUser}
+use Rattle.store_accounts.specs.Shows.{IsShown}
 use Rattle.store_accounts.proofs.AccountLemmas.{bytes_antisymmetric, message_is, same_numbers}
 use Rattle.store_accounts.proofs.NumberLemmas.{alone_at, numbered_without}
 use Rattle.store_accounts.proofs.OrderLemmas.{filed_are}
-use Rattle.store_accounts.proofs.ShowLemmas.{filter_swapped, shows_after}
+use Rattle.store_accounts.proofs.ShowLemmas.{filter_swapped}
 
 -- ---- the folders that copies make
 
@@ -77,7 +74,7 @@ held_folders what copies later folder left here others = same_map nat_list_cmp_t
 
 -- ---- the copy that goes
 
-abbrev is_gone : List ℕ → ℕ → Copy → Bool
+abbrev pub is_gone : List ℕ → ℕ → Copy → Bool
 is_gone folder n c = is_in folder c && c.n == n
 
 -- a row of a copy has a key of its owner, a folder and a number where both are these
@@ -89,7 +86,7 @@ module _ (folder : List ℕ) (copies : List Copy) (rise : IsAscending (λ c d. c
   left = delete_where (is_gone folder c.n) copies
 
   -- copies of one number are one
-  one_copy : (d : Copy) → Has copies d → d.n ≡ c.n → d ≡ c
+  pub one_copy : (d : Copy) → Has copies d → d.n ≡ c.n → d ≡ c
   one_copy d here same =
       let row = copy_row [] in
       let both : d ∷ [] ≡ c ∷ [] = sym (alone_at (λ x. x.n) row copies rise d here) ∙ ap (λ n. filter (λ (x : Copy). x.n == n) copies) same ∙ alone_at (λ x. x.n) row copies rise c there in
@@ -114,7 +111,7 @@ module _ (folder : List ℕ) (copies : List Copy) (rise : IsAscending (λ c d. c
       true≢false (sym (ap (λ k. is_eq (bytes_cmp k folder)) is ∙ bytes_eq_refl folder) ∙ apart))) copies
 
   -- its own has the rest
-  rest_left : (rest : List Copy) → filter (is_in folder) copies ≡ c ∷ rest → filter (is_in folder) left ≡ rest
+  pub rest_left : (rest : List Copy) → filter (is_in folder) copies ≡ c ∷ rest → filter (is_in folder) left ≡ rest
   rest_left rest split =
       let up = subst (IsAscending (λ x y. x.n < y.n)) split (ascending-filter (λ x y. x.n < y.n) (is_in folder) copies rise) in
       let later = all_weaker (λ d. c.n < d.n) (λ d. not (is_gone folder c.n d) ≡ true) (λ d low. ap not (and_right (is_in folder d) (d.n == c.n) (ne_eqb d.n c.n (λ same. omega (arith, same, low))))) rest up.0 in
@@ -280,28 +277,13 @@ module _ (user folder : List ℕ) (own : Tables) (a : Account) (s : IsShown user
       };
     }
 
-    one_gone : (b : Bool) → list_any (is_other_copy (filing_of c)) copies_are ≡ b → IsShown user (message_left user (filing_of c) b (copy_removed user folder (pos c.n) own)) (takes_mail folder 1 a)
-    one_gone true some = copy_gone some
-    one_gone false none = message_gone none
+    -- whether its message goes or not, the other copies are left
+    pub one_gone : (b : Bool) → list_any (is_other_copy (filing_of c)) copies_are ≡ b → (t : IsShown user (message_left user (filing_of c) b (copy_removed user folder (pos c.n) own)) (takes_mail folder 1 a)) × (t.copies.entries ≡ still)
+    unfolding copy_gone message_gone
+    one_gone true some = (copy_gone some, refl)
+    one_gone false none = (message_gone none, refl)
 
-  -- the rows that are left show the account without the message
-  pub mail_gone : (leaving : Option Leaving) → leaving ≡ option_map (leaving_of copies_are) (find (is_in folder) copies_are) → IsShown user (copy_taken user folder leaving own) (takes_mail folder 1 a)
-  mail_gone leaving told = subst (λ o. IsShown user (copy_taken user folder o own) (takes_mail folder 1 a)) (sym told) (go (find (is_in folder) copies_are) refl)
-    where
-      go : (o : Option Copy) → find (is_in folder) copies_are ≡ o → IsShown user (copy_taken user folder (option_map (leaving_of copies_are) o) own) (takes_mail folder 1 a)
-      go None is = none_taken is
-      go (Some c) is = one_gone c is (list_any (is_other_copy (filing_of c)) copies_are) refl
-
--- ---- the accounts
-
-pub mail_shows : (user folder : List ℕ) (leaving : Option Leaving) (ds : List Change) → AreTaking user folder leaving ds → (tables : Tables) (accounts : Accounts) → ShowsAccounts tables accounts → HasUser user accounts
-    → IsLeaving user folder leaving (rows_of user tables) → ShowsAccounts (made tables ds) (with_user accounts user (takes_mail folder 1))
-mail_shows user folder leaving ds taking tables accounts shows has told = go (get accounts user) refl has
-  where
-    go : (o : Option Account) → get accounts user ≡ o → IsSome o → ShowsAccounts (made tables ds) (in_place accounts user (takes_mail folder 1) (get accounts user))
-    go None is some = absurd (let e = some in cc)
-    go (Some a) is some =
-        let own = rows_of user tables in
-        let here = subst (IsShownOrAbsent user own) is (shows.users user) in
-        let gone = mail_gone user folder own a here leaving (told a here) in
-        rw is (shows_after tables accounts user ds (takes_mail folder 1 a) taking.owned shows (subst (λ t. IsShown user t (takes_mail folder 1 a)) (sym (taking.makes own)) gone))
+  -- where there is none, all are left
+  pub none_gone : find (is_in folder) copies_are ≡ None → (t : IsShown user own (takes_mail folder 1 a)) × (t.copies.entries ≡ copies_are)
+  unfolding none_taken
+  none_gone is = (none_taken is, refl)

@@ -22,6 +22,8 @@ pub mod SoundLemmas
 pub mod SpacingLemmas
 pub mod StandingLemmas
 pub mod TakingLemmas
+mod TogetherExamples
+pub mod TogetherLemmas
 mod UpkeepExamples
 pub mod UpkeepLemmas
 pub mod UserLemmas

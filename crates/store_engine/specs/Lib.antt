@@ -7,6 +7,7 @@ pub mod Lookups
 pub mod OwnActs
 pub mod Sound
 pub mod Spacing
+pub mod Takings
 pub mod Terms
 pub mod Upkeep
 pub mod World

@@ -31,7 +31,7 @@ pub use replay::{RunAnswers, run};
 pub use sieve_exec::{Envelope, Failure, Outcome, When};
 pub use sieve_plan::{HostScripts, Settlement};
 pub use store_accounts::{Plan, QueuedKind, QueuedMessage, Refusal, Report, VacationReport};
-pub use taking::{take_mail, take_out};
+pub use taking::{take_mail, take_mails, take_out};
 pub use terms::{HostSettings, LentTerms, Terms};
 pub use upkeep::{Upkeep, do_upkeep};
 pub use user::add_user;
