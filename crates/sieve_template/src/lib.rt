@@ -1,0 +1,14 @@
+//! What variables make of strings (RFC 5229), on octets: templates, their expansion, and the modifiers of `set`.
+//!
+//! Which variables there are and what they hold isn't decided here.
+#![tactic(auto)]
+
+pub mod limits;
+pub mod modifier;
+pub mod value;
+
+pub use limits::{
+    MAX_MATCH_VARIABLE, MAX_VALUE_CHARACTERS, MAX_VALUE_OCTETS, MAX_VARIABLE_NAME, MAX_VARIABLES,
+};
+pub use modifier::{Modifier, find_conflict, set_value};
+pub use value::{count_characters, cut_value};
