@@ -19,8 +19,8 @@ abbrev pub with_first_octet : (ℕ → ℕ) → List ℕ → List ℕ
 with_first_octet change [] = []
 with_first_octet change (octet ∷ rest) = change octet ∷ rest
 
--- what a modifier makes of a value: letters are those of US-ASCII (4.1.3), a number has no leading zeros (4.1.1), and of a text with
--- quoted wildcards as much is kept as a variable holds, with no wildcard apart from its backslash (4.1.2)
+-- what a modifier makes of a value: letters are those of US-ASCII (4.1.3), a number has no leading zeros (4.1.1), and of a text
+-- with quoted wildcards as much is kept as a variable holds, with no wildcard apart from its backslash (4.1.2)
 abbrev pub Modifies : Modifier → List ℕ → List ℕ → Type 0
 Modifies Lower value out = out ≡ map to_ascii_lowercase value
 Modifies Upper value out = out ≡ map to_ascii_uppercase value
@@ -46,7 +46,8 @@ pub record AppliesAt (modifiers : List Modifier) (precedence : ℕ) (value out :
   pub applied : (k : ℕ) → k < length modifiers → precedence_at modifiers k ≡ precedence → Modifies (slice_index_or modifiers k Lower) value out
   pub otherwise : ((k : ℕ) → k < length modifiers → precedence_at modifiers k ≢ precedence) → out ≡ value
 
--- what `set` stores: the modifiers are applied by their precedences, the highest first, and of the result is kept what a variable holds
+-- what `set` stores: the modifiers are applied by their precedences, the highest first, and of the result as much is kept as a
+-- variable holds
 pub record IsSetTo (modifiers : List Modifier) (value stored : List ℕ) : Type 0 where
   pub cased : List ℕ
   pub first_cased : List ℕ

@@ -123,8 +123,8 @@ fn length_of(alloc: Global, value: &[u8]) -> Result<Octets, AllocError>
     Ok(digits)
 }
 
-/// The index of the first modifier that has the precedence of one before it, which is an error of the script (RFC 5229, section 4.1).
-/// Looks at five modifiers at most.
+/// The index of the first modifier that has the precedence of one before it, which is an error of the script (RFC 5229, section
+/// 4.1). Looks at five modifiers at most.
 pub fn find_conflict(modifiers: &[Modifier]) -> Option<usize>
     ensures { MatchOption result (HaveNoConflict modifiers.now) (λ k. (k < length modifiers.now) × RepeatsPrecedence modifiers.now k
         × ((j : ℕ) → j < k → RepeatsPrecedence modifiers.now j → ⊥)) }

@@ -35,8 +35,8 @@ fn width(octet: u8, quote: bool) -> usize
     if quote && is_wildcard(octet) { 2 } else { 1 }
 }
 
-/// The place up to which a variable holds a text, with its wildcards quoted or as it is: at most 4,000 characters and 16,384 octets
-/// as written, and no part of a character. Looks at 16,385 octets at most.
+/// The place up to which a variable holds a text, with its wildcards quoted or as it is: at most 4,000 characters and 16,384
+/// octets as written, and no part of a character. Looks at 16,385 octets at most.
 pub fn end_of_value(text: &[u8], quote: bool) -> usize
     ensures { IsCutAt quote text.now result }
 {
