@@ -4,4 +4,6 @@ pub mod ModifierExamples
 pub mod PathLemmas
 pub mod TemplateLemmas
 pub mod TemplateLaws
+pub mod TemplateExistence
+pub mod SetLaws
 pub mod TemplateExamples

@@ -18,7 +18,7 @@ split_at_place text from place low =
     ∙ take-append-drop (place - from) (drop from text)
 
 -- a reference in a text is one in a longer text
-longer : (piece : Piece) (rest after more : List ℕ) → BeginsWithReference piece rest after → BeginsWithReference piece (rest ++ more) (after ++ more)
+pub longer : (piece : Piece) (rest after more : List ℕ) → BeginsWithReference piece rest after → BeginsWithReference piece (rest ++ more) (after ++ more)
 longer piece rest after more b = record {
   inside = b.inside;
   spelled = ap (λ l. l ++ more) b.spelled ∙ ap (λ l. 36 ∷ 123 ∷ l) (append_assoc b.inside (125 ∷ after) more);

@@ -1,9 +1,17 @@
 //! Laws of the definitions, each the contract of a function that does nothing.
 ghost use Rattle.std.specs.Prelude.{◌≡◌, ℕ, List};
+ghost use Rattle.sieve_template.specs.Modifiers.{IsSetTo};
 ghost use Rattle.sieve_template.specs.Templates.{AreThePieces};
+ghost use Rattle.sieve_template.specs.declared.modifier.Modifier.{Modifier};
 ghost use Rattle.sieve_template.specs.declared.template.Piece.{Piece};
 
-/// A text has one list of pieces at most; `read_template` gives one.
+/// A text has exactly one list of pieces.
 pub fn pieces_of_a_template()
-    ensures { (pieces others : List Piece) (text : List ℕ) → AreThePieces pieces text → AreThePieces others text → pieces ≡ others }
+    ensures some { (text : List ℕ) → (pieces : List Piece) × AreThePieces pieces text }
+    ensures one { (pieces others : List Piece) (text : List ℕ) → AreThePieces pieces text → AreThePieces others text → pieces ≡ others }
+{}
+
+/// What `set` stores of a value is one text at most; `set_value` gives one.
+pub fn value_of_a_set()
+    ensures { (modifiers : List Modifier) (value stored other : List ℕ) → IsSetTo modifiers value stored → IsSetTo modifiers value other → stored ≡ other }
 {}
