@@ -1,6 +1,6 @@
 -- Each text has pieces.
-use Rattle.std.proofs.Common.{refl, ◌≡◌, ◌⊎◌, ◌==◌, ℕ, zero, suc, ◌+◌, ◌-◌, ◌<◌, ◌≤◌, Bool, true, false, List, [], ◌∷◌, ◌++◌, length, take, drop, get_or, min, sym, ap, subst, ◌∙◌, inl, inr, ⊎_elim, arith, length-append}
-use Rattle.std.proofs.lemmas.List.{drop_more, drop_all, length-drop}
+use Rattle.std.proofs.Common.{refl, ◌≡◌, ◌⊎◌, ℕ, zero, suc, ◌+◌, ◌<◌, ◌≤◌, true, List, [], ◌∷◌, ◌++◌, length, take, drop, get_or, min, sym, ap, subst, ◌∙◌, inl, inr, ⊎_elim, arith, length-append}
+use Rattle.std.proofs.lemmas.List.{drop_more, length-drop}
 use Rattle.std.proofs.lemmas.Bool.{cases_Bool, cases_lt, cases_eq}
 use Rattle.std.specs.Char.{is_ascii_digit}
 use Rattle.std.specs.List.{list_all}
@@ -10,7 +10,7 @@ use Rattle.sieve_template.specs.Templates.{is_variable_octet, IsNumVariable, IsI
 use Rattle.sieve_template.specs.Reading.{name_run, NamesClose, BeginsInBraces}
 use Rattle.sieve_template.specs.declared.template.Piece.{Piece}
 use Rattle.sieve_template.specs.declared.template.Piece.TheVariants.{Text, Variable, Match, Namespaced}
-use Rattle.sieve_template.proofs.PathLemmas.{run_octets, not_both, named_some, identifier_if, number_if, neither_if, close_nothing, path_made, none_name, none_end, none_octet, brace_closes, dot_goes_on, inside_no_name, inside_no_end, inside_no_octet, inside_no_number, inside_no_path, name_and_brace, braces_name, braces_number, braces_path}
+use Rattle.sieve_template.proofs.PathLemmas.{run_octets, named_some, identifier_if, number_if, neither_if, close_nothing, path_made, none_name, none_end, none_octet, brace_closes, dot_goes_on, inside_no_name, inside_no_end, inside_no_octet, inside_no_number, inside_no_path, name_and_brace, braces_name, braces_number, braces_path}
 use Rattle.sieve_template.proofs.TemplateLemmas.{longer}
 
 -- octets of names are a number, an identifier, or no name
