@@ -1,7 +1,8 @@
 -- What `set` stores is one text.
 use Rattle.std.proofs.Common.{◌≡◌, ◌≢◌, ◌⊎◌, ℕ, zero, suc, ◌<◌, ◌≤◌, Bool, true, false, List, length, take, get_or, sym, ap, subst, ◌∙◌, inl, inr, ⊎_elim, arith}
+use Rattle.std.proofs.lemmas.List.{take_all}
 use Rattle.std.proofs.lemmas.Bool.{cases_eq}
-use Rattle.sieve_template.specs.Values.{written_text_as, IsKeptAs}
+use Rattle.sieve_template.specs.Values.{written_text_as, FitsVariable, IsKeptAs}
 use Rattle.sieve_template.specs.Modifiers.{precedence_at, Modifies, AppliesAt, IsSetTo}
 use Rattle.sieve_template.specs.declared.modifier.Modifier.{Modifier}
 use Rattle.sieve_template.specs.declared.modifier.Modifier.TheVariants.{Lower, Upper, LowerFirst, UpperFirst, QuoteWildcard, Length}
@@ -60,3 +61,10 @@ set_one modifiers value a b one other =
     let counted : one.counted ≡ other.counted =
     applied_one modifiers 10 other.quoted one.counted other.counted (subst (λ v. AppliesAt modifiers 10 v one.counted) quoted one.by_length) other.by_length in
     kept_one false other.counted a b (subst (λ v. IsKeptAs false v a) counted one.kept) other.kept
+
+-- a text that a variable holds is kept whole
+pub kept_whole : (text kept : List ℕ) → FitsVariable text → IsKeptAs false text kept → kept ≡ text
+kept_whole text kept fits is =
+    let all : take (length text) text ≡ text = take_all (length text) text (omega arith) in
+    let high : length text ≤ is.0 = is.1.longest (length text) (omega arith) (λ some inside. absurd (omega arith)) (subst FitsVariable (sym all) fits) in
+    is.2 ∙ take_all is.0 text high

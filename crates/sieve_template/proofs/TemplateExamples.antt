@@ -1,5 +1,5 @@
 -- The strings of RFC 5229, section 3, and near them what they aren't.
-use Rattle.std.proofs.Common.{refl, ◌≡◌, ◌==◌, ℕ, Bool, not, true, List, [], ◌∷◌, ◌++◌, codes, inl, inr, sym, subst, ◌∙◌, arith}
+use Rattle.std.proofs.Common.{refl, ◌≡◌, ◌==◌, ℕ, Bool, not, true, List, [], ◌∷◌, ◌++◌, codes, inl, inr, sym, subst, ◌∙◌, arith, ap, length}
 use Rattle.std.proofs.lemmas.Bool.{and_parts, false≢true, true≢false}
 use Rattle.std.proofs.lemmas.List.Folds.{list_all-append}
 use Rattle.std.specs.List.{list_all}
@@ -8,6 +8,7 @@ use Rattle.sieve_template.specs.Reading.{BeginsInBraces}
 use Rattle.sieve_template.specs.Expansion.{expanded_text}
 use Rattle.sieve_template.specs.declared.template.Piece.{Piece}
 use Rattle.sieve_template.specs.declared.template.Piece.TheVariants.{Text, Variable, Match, Namespaced}
+use Rattle.sieve_template.proofs.TemplateLaws.{pieces_one}
 use Rattle.sieve_template.proofs.PathLemmas.{inside_no_name, inside_no_end, inside_no_octet, inside_no_number, named_some}
 
 -- "${company}" is a reference to the variable of that name
@@ -158,3 +159,28 @@ once = refl
 -- with "company" holding "ACME" the string "${President, ${Company} Inc.}" stands for "${President, ACME Inc.}"
 acme : expanded_text (λ name. codes "ACME") (λ number. []) (λ path. []) (Text (codes "${President, ") ∷ Variable (codes "Company") ∷ Text (codes " Inc.}") ∷ []) ≡ codes "${President, ACME Inc.}"
 acme = refl
+
+-- section 4: "Dear ${HONORIFIC} ${last_name}," with "Mr" and "Coyote"
+dear : AreThePieces (Text (codes "Dear ") ∷ Variable (codes "HONORIFIC") ∷ Text (codes " ") ∷ Variable (codes "last_name") ∷ Text (codes ",") ∷ []) (codes "Dear ${HONORIFIC} ${last_name},")
+unfolding AreThePieces IsPieceOf BeginWithNoText IsInBraces IsIdentifier not_dollar
+dear = (
+  codes "${HONORIFIC} ${last_name},",
+  (refl, (λ e. cc), no_dollars (codes "Dear ") refl, tt),
+  (
+    codes " ${last_name},",
+    record { inside = codes "HONORIFIC"; spelled = refl; is = (refl, (refl, refl)) },
+    (
+      codes "${last_name},",
+      (refl, (λ e. cc), no_dollars (codes " ") refl, tt),
+      (
+        codes ",",
+        record { inside = codes "last_name"; spelled = refl; is = (refl, (refl, refl)) },
+        ([], (refl, (λ e. cc), no_dollars (codes ",") refl, tt), refl),
+      ),
+    ),
+  ),
+)
+
+-- and it isn't one text
+not_one_text : AreThePieces (Text (codes "Dear ${HONORIFIC} ${last_name},") ∷ []) (codes "Dear ${HONORIFIC} ${last_name},") → ⊥
+not_one_text are = let same = pieces_one _ _ (codes "Dear ${HONORIFIC} ${last_name},") dear are in omega (arith, ap length same)

@@ -1,6 +1,7 @@
 //! Laws of the definitions, each the contract of a function that does nothing.
-ghost use Rattle.std.specs.Prelude.{◌≡◌, ℕ, List};
+ghost use Rattle.std.specs.Prelude.{◌≡◌, ℕ, false, List};
 ghost use Rattle.sieve_template.specs.Modifiers.{IsSetTo};
+ghost use Rattle.sieve_template.specs.Values.{FitsVariable, IsKeptAs};
 ghost use Rattle.sieve_template.specs.Templates.{AreThePieces};
 ghost use Rattle.sieve_template.specs.declared.modifier.Modifier.{Modifier};
 ghost use Rattle.sieve_template.specs.declared.template.Piece.{Piece};
@@ -11,7 +12,9 @@ pub fn pieces_of_a_template()
     ensures one { (pieces others : List Piece) (text : List ℕ) → AreThePieces pieces text → AreThePieces others text → pieces ≡ others }
 {}
 
-/// What `set` stores of a value is one text at most; `set_value` gives one.
+/// What `set` stores of a value is one text at most; `set_value` gives one. A text that a variable holds is kept whole, so none
+/// with quoted wildcards is cut again.
 pub fn value_of_a_set()
-    ensures { (modifiers : List Modifier) (value stored other : List ℕ) → IsSetTo modifiers value stored → IsSetTo modifiers value other → stored ≡ other }
+    ensures whole { (text kept : List ℕ) → FitsVariable text → IsKeptAs false text kept → kept ≡ text }
+    ensures one { (modifiers : List Modifier) (value stored other : List ℕ) → IsSetTo modifiers value stored → IsSetTo modifiers value other → stored ≡ other }
 {}
