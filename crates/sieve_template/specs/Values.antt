@@ -3,7 +3,8 @@ use Rattle.std.specs.Prelude.{◌≡◌, ℕ, ◌<◌, ◌≤◌, ◌==◌, Bool
 use Rattle.std.specs.List.{flat_map}
 use Rattle.sieve_template.specs.declared.limits.TheConstants.{MAX_VALUE_CHARACTERS, MAX_VALUE_OCTETS}
 
--- an octet that begins a character of UTF-8: any but 0x80 to 0xBF, which go on with one. The same is said of a text that isn't UTF-8
+-- an octet that begins a character of UTF-8: any but 0x80 to 0xBF, which go on with one; the same is said of a text that isn't
+-- UTF-8
 abbrev pub begins_character : ℕ → Bool
 begins_character octet = nat_lt octet 128 || nat_le 192 octet
 
