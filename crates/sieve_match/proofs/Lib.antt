@@ -9,6 +9,9 @@ pub mod Cursors
 pub mod GlobExamples
 pub mod Patterns
 pub mod Steps
+pub mod CaptureLemmas
+pub mod CaptureSteps
+pub mod CaptureExamples
 pub mod Counts
 pub mod CostExamples
 pub mod Units

@@ -82,10 +82,10 @@ module _ (f : ℕ → ℕ) (v : List ℕ) where
     StandAt-cons : TakesOctet f item (get_or v k 0) → ItemsStandAt f rest m v (k + 1) → ItemsStandAt f (item ∷ rest) (suc m) v k
     StandAt-cons here after = record { fits = omega (arith, after.fits); takes = first_takes here after }
 
-    StandAt-head : ItemsStandAt f (item ∷ rest) (suc m) v k → TakesOctet f item (get_or v k 0)
+    pub StandAt-head : ItemsStandAt f (item ∷ rest) (suc m) v k → TakesOctet f item (get_or v k 0)
     StandAt-head h = subst (λ q. TakesOctet f item (get_or v q 0)) (omega arith) (h.takes 0 (omega arith))
 
-    StandAt-tail : ItemsStandAt f (item ∷ rest) (suc m) v k → ItemsStandAt f rest m v (k + 1)
+    pub StandAt-tail : ItemsStandAt f (item ∷ rest) (suc m) v k → ItemsStandAt f rest m v (k + 1)
     StandAt-tail h = record {
       fits = omega (arith, h.fits);
       takes = λ j l. subst (λ q. TakesOctet f (get_or rest j Star) (get_or v q 0)) (omega arith) (h.takes (suc j) (omega arith));

@@ -7,5 +7,7 @@ pub mod Numbers
 pub mod Glob
 pub mod Reading
 pub mod Segments
+pub mod Captures
+pub mod Wildcards
 pub mod Costs
 pub mod Units

@@ -5,6 +5,9 @@ ghost use Rattle.sieve_match.specs.Costs.{search_steps, pattern_steps, is_long_k
 ghost use Rattle.sieve_match.specs.Units.{key_units, pattern_units};
 ghost use Rattle.sieve_match.specs.Sorting.{ComesBefore};
 ghost use Rattle.sieve_match.specs.Numbers.{StandsForNumber, number_at, IsBelow, EqualNumbers};
+ghost use Rattle.sieve_match.specs.Glob.{Glob};
+ghost use Rattle.sieve_match.specs.Captures.{AreCaptures};
+ghost use Rattle.sieve_match.specs.declared.pattern.GlobItem.{GlobItem};
 
 /// The order of texts by images is total and transitive, and of two equal texts neither comes before the other.
 pub fn order_of_texts()
@@ -32,4 +35,14 @@ pub fn steps_and_work()
     ensures key { (key : List ℕ) (n : ℕ) → search_steps (length key) n ≤ 2 * key_units key n }
     ensures long_pattern { (pattern : List ℕ) (n : ℕ) → is_long_key pattern ≡ true → pattern_steps pattern n ≤ pattern_units pattern n }
     ensures pattern { (pattern : List ℕ) (n : ℕ) → pattern_steps pattern n ≤ 3 * pattern_units pattern n }
+{}
+
+/// Items that match a text have exactly one list of captures in it, and items that don't have none.
+pub fn captures_of_a_match()
+    ensures some { (image : ℕ → ℕ) (items : List GlobItem) (text : List ℕ) → Glob image items text
+        → (captured : List (List ℕ)) × AreCaptures image items text captured }
+    ensures matching { (image : ℕ → ℕ) (items : List GlobItem) (text : List ℕ) (captured : List (List ℕ))
+        → AreCaptures image items text captured → Glob image items text }
+    ensures one { (image : ℕ → ℕ) (items : List GlobItem) (text : List ℕ) (captured others : List (List ℕ))
+        → AreCaptures image items text captured → AreCaptures image items text others → captured ≡ others }
 {}

@@ -8,6 +8,7 @@ ghost use Rattle.std.proofs.lemmas.Str.Ascii.{uppercase-uppercase};
 ghost use Rattle.sieve_match.specs.Comparators.{EqualBy, ContainsBy, SameFrom};
 ghost use Rattle.sieve_match.specs.Costs.{search_steps};
 
+mod captures;
 pub mod counting;
 mod glob;
 pub mod laws;
@@ -21,6 +22,7 @@ mod spelling;
 mod twoway;
 
 pub use crate::pattern::GlobItem;
+pub use captures::{Captures, MAX_CAPTURES, captures_of};
 use counting::Steps;
 pub use glob::{matches, matches_counted};
 pub use masks::{MAX_PLACES, Masks};

@@ -1,0 +1,9 @@
+pub mod ValueLemmas
+pub mod ModifierLemmas
+pub mod ModifierExamples
+pub mod PathLemmas
+pub mod TemplateLemmas
+pub mod TemplateLaws
+pub mod TemplateExistence
+pub mod SetLaws
+pub mod TemplateExamples
