@@ -450,7 +450,7 @@ message_gained : (user message : List ℕ) (places : List Placement) (n : ℕ) (
 message_gained user message [] n own = sym (append-nil (own message_tree))
 message_gained user message (p ∷ places) n own = refl
 
-delivered_once : (user : List ℕ) (c : Counters) (plan : Plan) (own : Tables) → delivered_rows user c plan own message_tree ≡ own message_tree ++ once_for plan.filed (message_cells user (pos c.copy) plan.message.now)
+pub delivered_once : (user : List ℕ) (c : Counters) (plan : Plan) (own : Tables) → delivered_rows user c plan own message_tree ≡ own message_tree ++ once_for plan.filed (message_cells user (pos c.copy) plan.message.now)
 delivered_once user c plan own =
     let up = counters_raised user c plan own in
     let kept = message_kept user plan.message.now c.copy plan.filed up in

@@ -3,6 +3,7 @@ pub mod AccountLemmas
 pub mod CallLemmas
 pub mod QueryLemmas
 pub mod DeliveryLemmas
+pub mod DeliveriesLemmas
 pub mod OrderLemmas
 pub mod ReadLemmas
 pub mod StandingLemmas

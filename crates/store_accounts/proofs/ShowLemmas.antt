@@ -178,7 +178,7 @@ version_one (RemoveQueue owner) tables = refl
 version_one (RemoveNotices owner) tables = refl
 version_one (RemoveEarlyNotices owner until) tables = refl
 
-others_all : (user other : List ℕ) (ds : List Change) (tables : Tables) → AreOf user ds → other ≢ user → rows_of other (made tables ds) ≡ rows_of other tables
+pub others_all : (user other : List ℕ) (ds : List Change) (tables : Tables) → AreOf user ds → other ≢ user → rows_of other (made tables ds) ≡ rows_of other tables
 others_all user other [] tables are differ = refl
 others_all user other (d ∷ ds) tables are differ = others_all user other ds (made_one d tables) are.1 differ ∙ others_one d other tables (λ same. differ (same ∙ are.0))
 

@@ -1,6 +1,7 @@
 pub mod Account
 pub mod AccountRows
 pub mod CopyRows
+pub mod Deliveries
 pub mod Delivery
 pub mod EachRow
 pub mod FirstCells

@@ -287,7 +287,7 @@ fn push_notice<'a>(
 }
 
 /// The changes of the delivery to a user with these counters. `folded` is the plan's sender in lower case.
-fn delivery_changes<'a>(
+pub(crate) fn delivery_changes<'a>(
     alloc: Global,
     user: &'a [u8],
     folded: &'a [u8],

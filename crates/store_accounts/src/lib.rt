@@ -3,6 +3,7 @@
 
 mod account;
 mod cell;
+mod deliveries;
 mod delivery;
 mod filing;
 mod folder;
@@ -24,6 +25,7 @@ mod users;
 mod whole;
 
 pub use account::Counters;
+pub use deliveries::PlannedDelivery;
 pub use filing::Filing;
 pub use folder::Folder;
 pub use next::{CopyKey, QueueKey};
