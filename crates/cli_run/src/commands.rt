@@ -5,13 +5,12 @@ ghost use Rattle.store_lock.specs.Taken.{IsStoreTaken};
 ghost use Rattle.store_engine.specs.declared.answer.Answer.TheVariants.{Delivered, Added};
 ghost use Rattle.store_engine.specs.declared.event.Event.TheVariants as machine;
 ghost use Rattle.store_engine.specs.Terms.{terms_of};
-ghost use Rattle.cli_run.specs.Draining.{TurnsTables};
 ghost use Rattle.cli_run.specs.Promise.{status_after};
 ghost use Rattle.cli_run.specs.Serving.{HasDenied, HasGiven};
 ghost use Rattle.cli_run.specs.Streams.{ReadsToEnd};
 ghost use Rattle.cli_run.specs.Values.{IsNoNumber, HasNoWhen, HasNoSalt, envelope_with};
-ghost use Rattle.cli_run.specs.Subcommands.{IsAddUserEvent, IsDeliverEvent, DeliverInputFailed, SaltFailed, DeniedAtEnd, Puts, DoesEvent, DoesRead, DoesInit, ShowsMessage, LacksMessage, account_part};
-ghost use Rattle.cli_run.specs.Transitions.{from_to};
+ghost use Rattle.cli_run.specs.Subcommands.{IsAddUserEvent, IsDeliverEvent, DeliverInputFailed, SaltFailed, DeniedAtEnd, PutsInTables, DoesEvent, DoesRead, DoesInit, ShowsMessage, LacksMessage, account_part};
+ghost use Rattle.cli_run.specs.Transitions.{across};
 
 use crate::account_read::{MessageOf, read_once};
 use crate::fault::RunFault;
@@ -23,7 +22,7 @@ use cli_subcommands::{AddUserArgs, DeliverArgs, InitArgs, ShowArgs, StoreLocatio
 use std::alloc::Global;
 use std::io::{Read, Write};
 use store_accounts::{Refusal, Store};
-use store_engine::{Envelope, LentTerms, Report, add_user, deliver};
+use store_engine::{Envelope, KeptScripts, LentTerms, Report, add_user, deliver};
 use store_lock::Keeper;
 
 /// `init`: a new store.
@@ -33,8 +32,8 @@ pub fn run_init<W: Write, K: Keeper>(
     keeper: &mut K,
 ) -> Result<(), RunFault>
     ensures back { K.is_out keeper.old ≡ false → K.is_out keeper.new ≡ false }
-    ensures does { IsTrue K.tells → DoesInit (HasDenied K.refuses K.will_wait asked.entry.location) (from_to (W.contents output.old) (W.contents output.new))
-        result (from_to (K.holds keeper.old) (K.holds keeper.new)) }
+    ensures does { IsTrue K.tells → DoesInit (HasDenied K.refuses K.will_wait asked.entry.location)
+        (across W.contents output.old output.new) result (across K.holds keeper.old keeper.new) }
     ensures given { OnOk result (HasGiven K.gives K.will_wait asked.entry.location) }
 {
     let store = take_store(asked.location, true, keeper)?;
@@ -54,10 +53,11 @@ pub fn run_adduser<R: Read, W: Write, K: Keeper>(
     ensures unread { status_after result ≡ 64 → input.new ≡ input.old }
     ensures reads { OnOk result (ReadsToEnd R.remaining input.old input.new) }
     ensures back { K.is_out keeper.old ≡ false → K.is_out keeper.new ≡ false }
-    ensures does { IsTrue K.tells → DoesEvent (SaltFailed (option_copied asked.entry.salt) random) (HasNoSalt (option_copied asked.entry.salt))
+    ensures does { IsTrue K.tells → DoesEvent (SaltFailed (option_copied asked.entry.salt) random)
+        (HasNoSalt (option_copied asked.entry.salt))
         (DeniedAtEnd (HasDenied K.refuses K.will_wait asked.entry.location) (R.remaining input.new))
-        (IsAddUserEvent (option_copied asked.entry.salt) random asked.entry.name.now asked.entry.address.now (R.remaining input.old))
-        (from_to (W.contents output.old) (W.contents output.new)) result (from_to (K.holds keeper.old) (K.holds keeper.new)) }
+        (IsAddUserEvent (option_copied asked.entry.salt) random asked.entry.name.now asked.entry.address.now
+        (R.remaining input.old)) (across W.contents output.old output.new) result (across K.holds keeper.old keeper.new) }
     ensures given { OnOk result (HasGiven K.gives K.will_wait asked.entry.location) }
 {
     let salt = given_salt(asked.salt, random)?;
@@ -87,8 +87,8 @@ fn add<K: Keeper>(
 ) -> Result<(), RunFault>
     ensures late { status_after result ≢ 64 }
     ensures back { K.is_out keeper.old ≡ false → K.is_out keeper.new ≡ false }
-    ensures puts { IsTrue K.tells → TurnsTables
-        (Puts (HasDenied K.refuses K.will_wait location.entry) (machine.AddUser name.now address.now salt password.now) (λ done. Added) result) (K.holds keeper.old) (K.holds keeper.new) }
+    ensures puts { IsTrue K.tells → PutsInTables (HasDenied K.refuses K.will_wait location.entry)
+        (machine.AddUser name.now address.now salt password.now) (λ done. Added) result (across K.holds keeper.old keeper.new) }
     ensures given { OnOk result (HasGiven K.gives K.will_wait location.entry) }
 {
     let mut store = take_store(location, false, keeper)?;
@@ -117,9 +117,9 @@ pub fn run_deliver<R: Read, W: Write, K: Keeper>(
     ensures does { IsTrue K.tells → DoesEvent (DeliverInputFailed (option_copied asked.entry.at) clock)
         (HasNoWhen (option_copied asked.entry.at) (option_copied asked.entry.zone))
         (DeniedAtEnd (HasDenied K.refuses K.will_wait asked.entry.location) (R.remaining input.new))
-        (IsDeliverEvent (envelope_with asked.entry.from.now asked.entry.to.now) (option_copied asked.entry.at) (option_copied asked.entry.zone)
-        asked.entry.user.now clock host (R.remaining input.old))
-        (from_to (W.contents output.old) (W.contents output.new)) result (from_to (K.holds keeper.old) (K.holds keeper.new)) }
+        (IsDeliverEvent (envelope_with asked.entry.from.now asked.entry.to.now) (option_copied asked.entry.at)
+        (option_copied asked.entry.zone) asked.entry.user.now clock host (R.remaining input.old))
+        (across W.contents output.old output.new) result (across K.holds keeper.old keeper.new) }
     ensures given { OnOk result (HasGiven K.gives K.will_wait asked.entry.location) }
 {
     let terms = terms_for(asked.at, asked.zone, clock, host)?;
@@ -154,13 +154,14 @@ fn deliver_in_store<K: Keeper>(
 ) -> Result<Report, RunFault>
     ensures late { status_after result ≢ 64 }
     ensures back { K.is_out keeper.old ≡ false → K.is_out keeper.new ≡ false }
-    ensures puts { IsTrue K.tells → TurnsTables
-        (Puts (HasDenied K.refuses K.will_wait location.entry) (machine.Deliver user.now envelope message.now (terms_of terms.entry)) Delivered result)
-        (K.holds keeper.old) (K.holds keeper.new) }
+    ensures puts { IsTrue K.tells → PutsInTables (HasDenied K.refuses K.will_wait location.entry)
+        (machine.Deliver user.now envelope message.now (terms_of terms.entry)) Delivered result
+        (across K.holds keeper.old keeper.new) }
     ensures given { OnOk result (HasGiven K.gives K.will_wait location.entry) }
 {
     let mut store = take_store(location, false, keeper)?;
-    let delivered = deliver(alloc, &mut store, user, envelope, message, terms);
+    let mut kept = KeptScripts::new(alloc);
+    let delivered = deliver(alloc, &mut store, &mut kept, user, envelope, message, terms);
     let is_there = keeper.is_there(location.path);
     keeper.hand_back(store);
     let report = delivered?;
@@ -177,9 +178,11 @@ pub fn run_show<W: Write, K: Keeper>(
     keeper: &mut K,
 ) -> Result<(), RunFault>
     ensures back { K.is_out keeper.old ≡ false → K.is_out keeper.new ≡ false }
-    ensures does { IsTrue K.tells → DoesRead (IsNoNumber asked.entry.number.now) (HasDenied K.refuses K.will_wait asked.entry.location)
-        (account_part asked.entry.user.now (ShowsMessage asked.entry.folder.now asked.entry.number.now) (LacksMessage asked.entry.folder.now asked.entry.number.now))
-        (from_to (W.contents output.old) (W.contents output.new)) result (from_to (K.holds keeper.old) (K.holds keeper.new)) }
+    ensures does { IsTrue K.tells → DoesRead (IsNoNumber asked.entry.number.now)
+        (HasDenied K.refuses K.will_wait asked.entry.location)
+        (account_part asked.entry.user.now (ShowsMessage asked.entry.folder.now asked.entry.number.now)
+        (LacksMessage asked.entry.folder.now asked.entry.number.now))
+        (across W.contents output.old output.new) result (across K.holds keeper.old keeper.new) }
     ensures given { OnOk result (HasGiven K.gives K.will_wait asked.entry.location) }
 {
     let number = decimal(asked.number)?;

@@ -123,7 +123,7 @@ impl<'a, N: Net + time::Clock, E: Write + Drop, K: Keeper + Drop, T: MailSink + 
             system,
             sockets,
             broken: false,
-            held: HostStore::new(keeper, sink),
+            held: HostStore::new(alloc, keeper, sink),
             route,
             path,
             settings,

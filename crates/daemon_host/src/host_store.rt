@@ -16,7 +16,9 @@ use maildir_moves::{Moving, Route, move_next};
 use sqlite::ErrorCode;
 use std::alloc::{AllocError, Global};
 use std::io::ErrorKind;
-use store_engine::{Answer, Clients, Envelope, Event, LentTerms, Refusal, apply, deliver};
+use store_engine::{
+    Answer, Clients, Envelope, Event, KeptScripts, LentTerms, Refusal, apply, deliver,
+};
 use store_lock::{HeldStore, Keeper, StoreUnavailable};
 
 /// A store that is held now and then, and who keeps the mail that moves on from it.
@@ -25,14 +27,17 @@ pub struct HostStore<K: Keeper + Drop, T: MailSink + Drop> {
     held: HeldStore<K>,
     /// Who keeps the mail that moves on.
     sink: T,
+    /// The scripts that were checked for a delivery.
+    kept: KeptScripts,
 }
 
 impl<K: Keeper + Drop, T: MailSink + Drop> HostStore<K, T> {
     /// The store isn't held yet.
-    pub fn new(keeper: K, sink: T) -> HostStore<K, T> {
+    pub fn new(alloc: Global, keeper: K, sink: T) -> HostStore<K, T> {
         HostStore {
             held: HeldStore::new(keeper),
             sink,
+            kept: KeptScripts::new(alloc),
         }
     }
 
@@ -138,7 +143,7 @@ impl<K: Keeper + Drop, T: MailSink + Drop> HostStore<K, T> {
             return None;
         };
         let (user, message) = (request.user.as_slice(), request.message.as_slice());
-        match deliver(alloc, store, user, envelope, message, terms) {
+        match deliver(alloc, store, &mut self.kept, user, envelope, message, terms) {
             Ok(report) => Some(Answer::Delivered(report)),
             Err(refusal) => Some(Answer::Refused(refusal)),
         }

@@ -12,3 +12,4 @@ pub mod InboxLaws
 pub mod SequencePlanLemmas
 pub mod TurnLemmas
 mod SequenceExamples
+pub mod KeptLemmas

@@ -7,3 +7,4 @@ pub mod Sequences
 pub mod Plans
 pub mod Turns
 pub mod SequencePlans
+pub mod Kept

@@ -4,6 +4,7 @@
 mod deeds;
 mod delivery;
 mod handover;
+mod kept;
 pub mod laws;
 mod limits;
 mod long_header;
@@ -21,6 +22,7 @@ mod view;
 
 pub use deeds::Deeds;
 pub use delivery::{plan, plan_unread};
+pub use kept::{FoundScript, KeptScripts};
 pub use long_header::has_long_header;
 pub use notice::{FailureNotice, NoticeCause, failure_text};
 pub use outcome::evaluate_script;

@@ -8,6 +8,7 @@ ghost use Rattle.sieve_plan.specs.Turns.{script_in, sequence_state_of};
 
 use crate::deeds::Deeds;
 use crate::handover::Handover;
+use crate::kept::KeptScripts;
 use crate::looping::is_looping;
 use crate::notice::FailureNotice;
 use crate::scripts::{HostScripts, SequenceScript, sequence};
@@ -26,11 +27,13 @@ pub struct Settlement {
 
 /// What a mail comes to under the host's scripts and the text of the account's active script, if one is active (RFC 5228, 2.10).
 ///
-/// Its header isn't long (`has_long_header`). Each text is checked, compiled and run once, in turn, as long as the message is still to be
-/// kept; the host's scripts may take 50,000,000 units of work among them all, the user's a run's limit. No text is copied: what a script
-/// leaves to the next is, once for each. The fields are looked through once more for Received. Lack of memory is the only error.
+/// Its header isn't long (`has_long_header`). Each text is compiled and run once, in turn, as long as the message is still to be
+/// kept; it is checked first, unless its script is kept. The host's scripts may take 50,000,000 units of work among them all, the
+/// user's a run's limit. What a script leaves to the next is copied, once for each. The fields are looked through once more for
+/// Received. Lack of memory is the only error.
 pub fn settle(
     alloc: Global,
+    kept: &mut KeptScripts,
     host: &HostScripts,
     own: Option<&[u8]>,
     mail: &Mail<'_>,
@@ -44,12 +47,13 @@ pub fn settle(
             notice: Some(FailureNotice::Loop),
         });
     }
-    settle_scripts(alloc, host, own, mail)
+    settle_scripts(alloc, kept, host, own, mail)
 }
 
 /// What the host's scripts and the user's come to on a mail, as [`settle`] says it, however often that mail was received.
 pub fn settle_scripts(
     alloc: Global,
+    kept: &mut KeptScripts,
     host: &HostScripts,
     own: Option<&[u8]>,
     mail: &Mail<'_>,
@@ -57,12 +61,13 @@ pub fn settle_scripts(
     ensures { IfOk result (λ settlement. SettlesInTurn mail.now (sequence_of host.now (borrowed_octets own.entry)) at_beginning (settled_of settlement)) }
 {
     let scripts = sequence(alloc, host, own)?;
-    settle_in_turn(alloc, scripts.as_slice(), mail)
+    settle_in_turn(alloc, kept, scripts.as_slice(), mail)
 }
 
 /// What these scripts come to, each in its turn.
 fn settle_in_turn(
     alloc: Global,
+    kept: &mut KeptScripts,
     scripts: &[SequenceScript<'_>],
     mail: &Mail<'_>,
 ) -> Result<Settlement, AllocError>
@@ -70,7 +75,7 @@ fn settle_in_turn(
 {
     let mut state = SequenceState::first(alloc)?;
     for script in scripts {
-        match take_turn(alloc, script, mail, state)? {
+        match take_turn(alloc, kept, script, mail, state)? {
             TurnEnd::Failed(deeds, cause) => {
                 return Ok(Settlement {
                     deeds,

@@ -7,12 +7,13 @@ ghost use Rattle.sieve_plan.specs.Turns.{TakesScriptTurn, script_in, sequence_st
 
 use crate::deeds::Deeds;
 use crate::handover::{Handover, ScriptEnd};
+use crate::kept::{FoundScript, KeptScripts};
 use crate::notice::NoticeCause;
 use crate::scripts::{SequenceScript, Whose};
 use sieve_code::compile;
 use sieve_exec::{MAX_WORK, Mail, RunEnd, run_from};
 use sieve_lex::ScriptError;
-use sieve_syntax::{Script, check};
+use sieve_syntax::Script;
 use std::alloc::{AllocError, Global};
 
 /// How much work the host's scripts may take among them all: a quarter of what a run may, so that a delivery takes little longer with them.
@@ -47,17 +48,23 @@ impl SequenceState {
     }
 }
 
-/// Checks, compiles and runs a script where a sequence has come so far.
+/// Compiles and runs a script where a sequence has come so far. It is checked first, unless it is kept.
 pub(crate) fn take_turn(
     alloc: Global,
+    kept: &mut KeptScripts,
     script: &SequenceScript<'_>,
     mail: &Mail<'_>,
     state: SequenceState,
 ) -> Result<TurnEnd, AllocError>
     ensures { IfOk result (TakesScriptTurn mail.now (script_in script.now) (sequence_state_of state)) }
 {
-    match check(alloc, script.text) {
-        Ok(checked) => run_script(alloc, script.whose, &checked, mail, state),
+    match kept.find_or_check(alloc, script.text) {
+        Ok(FoundScript::Kept(place)) => {
+            run_script(alloc, script.whose, kept.script_at(place), mail, state)
+        }
+        Ok(FoundScript::Checked(checked)) => {
+            run_script(alloc, script.whose, &checked, mail, state)
+        }
         Err(ScriptError::Fault(_)) => {
             let SequenceState { left, .. } = state;
             let Handover { stands, .. } = left;

@@ -14,7 +14,7 @@ use crate::terms::{HostSettings, LentTerms};
 use octets::as_deref;
 use sieve_exec::{Envelope, Mail};
 use sieve_lex::ScriptError;
-use sieve_plan::{Settlement, settle_scripts};
+use sieve_plan::{KeptScripts, Settlement, settle_scripts};
 use sieve_syntax::check;
 use std::alloc::Global;
 
@@ -84,9 +84,16 @@ fn settle_on(
     ensures fault { IfFault result (IsNoScript (borrowed_octets own.entry)) }
     ensures line { IfFaultLine result (λ line. (1 ≤ line) × (line ≤ 1 + own_lines (borrowed_octets own.entry))) }
 {
+    let mut kept = KeptScripts::new(alloc);
     let Some(text) = own else {
-        return Ok(settle_scripts(alloc, &host.scripts, as_deref(&host.default), mail)?);
+        return Ok(settle_scripts(
+            alloc,
+            &mut kept,
+            &host.scripts,
+            as_deref(&host.default),
+            mail,
+        )?);
     };
     check(alloc, text)?;
-    Ok(settle_scripts(alloc, &host.scripts, own, mail)?)
+    Ok(settle_scripts(alloc, &mut kept, &host.scripts, own, mail)?)
 }

@@ -25,8 +25,8 @@ use mail_address::{Addr, bare_address};
 use octets::{List, Octets, Texts, as_deref};
 use sieve_exec::{Envelope, Mail};
 use sieve_plan::{
-    AccountView, Deeds, half_handle, half_of, has_long_header, is_near_if, plan, plan_unread,
-    redirect_keys, sent_end, sent_handle, settle,
+    AccountView, Deeds, KeptScripts, half_handle, half_of, has_long_header, is_near_if, plan,
+    plan_unread, redirect_keys, sent_end, sent_handle, settle,
 };
 use sieve_syntax::VacationArgs;
 use sieve_vacation::{MAX_MOMENT, handle_key, has_short_texts};
@@ -49,7 +49,8 @@ pub(crate) struct Lookup {
 /// The host's scripts run before the user's and after it, each where those before it leave the message to be kept. Where the
 /// host has a default script, an account without an active script is treated as if this were its active one, and an
 /// account with an active script never sees it. The message is borrowed and read once; no copy of it is made beside
-/// what the store writes. What the scripts say is carried out: the message joins folders and the queue, and the sender is
+/// what the store writes. A script that is kept isn't checked again, and one that is checked is kept, if there is memory for it.
+/// What the scripts say is carried out: the message joins folders and the queue, and the sender is
 /// answered, at most once in a period. Without any script it joins INBOX. Where a text is no script, or where its run fails, what
 /// the scripts before it did is carried out, and the message joins INBOX too and the user is left a notice. So it does where the
 /// message has more than 100 Received fields, or a header of more than 1,048,576 octets, with the empty line that ends it: then
@@ -65,6 +66,7 @@ pub(crate) struct Lookup {
 pub fn deliver<S: Alter>(
     alloc: Global,
     store: &mut Store<S>,
+    kept: &mut KeptScripts,
     user: &[u8],
     envelope: Envelope,
     message: &[u8],
@@ -91,6 +93,7 @@ pub fn deliver<S: Alter>(
     let mail = Mail::read(alloc, message, envelope, terms.when)?;
     let settlement = settle(
         alloc,
+        kept,
         &terms.host.scripts,
         deciding(&found.text, terms.host),
         &mail,

@@ -29,7 +29,7 @@ pub use machine::{World, apply, apply_free};
 pub use managesieve_sessions::Progress;
 pub use replay::{RunAnswers, run};
 pub use sieve_exec::{Envelope, Failure, Outcome, When};
-pub use sieve_plan::{HostScripts, Settlement};
+pub use sieve_plan::{HostScripts, KeptScripts, Settlement};
 pub use store_accounts::{Plan, QueuedKind, QueuedMessage, Refusal, Report, VacationReport};
 pub use taking::{take_mail, take_mails, take_out};
 pub use terms::{HostSettings, LentTerms, Terms};

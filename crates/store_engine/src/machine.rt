@@ -19,6 +19,7 @@ use crate::user::add_user;
 use managesieve_sessions::Session;
 use octets::Octets;
 use sieve_exec::Envelope;
+use sieve_plan::KeptScripts;
 use sqlite::Alter;
 use std::alloc::{AllocError, Global};
 use std::collections::BTreeMap;
@@ -217,7 +218,7 @@ fn carry_out_free(
 }
 
 /// A delivery with a borrowed envelope. It is copied only if no limit forbids the delivery, so those causes are reported
-/// without memory.
+/// without memory. No script is kept for the next one.
 fn carry_out_delivery<S: Alter>(
     alloc: Global,
     store: &mut Store<S>,
@@ -232,7 +233,16 @@ fn carry_out_delivery<S: Alter>(
         return Err(refusal);
     }
     let envelope = envelope.try_clone(alloc)?;
-    deliver(alloc, store, user, envelope, message, terms.lend())
+    let mut kept = KeptScripts::new(alloc);
+    deliver(
+        alloc,
+        store,
+        &mut kept,
+        user,
+        envelope,
+        message,
+        terms.lend(),
+    )
 }
 
 fn answer_of(done: Result<Answer, Refusal>) -> Answer

@@ -13,8 +13,8 @@ use sqlite::MemStore;
 use std::alloc::{AllocError, Global};
 use store_accounts::Store;
 use store_engine::{
-    Answer, Clients, Envelope, Event, Refusal, Terms, add_user, apply, deliver, do_upkeep, import,
-    take_mail, take_out,
+    Answer, Clients, Envelope, Event, KeptScripts, Refusal, Terms, add_user, apply, deliver,
+    do_upkeep, import, take_mail, take_out,
 };
 
 /// A store of store_engine, in memory, and where its mail moves on to.
@@ -104,5 +104,15 @@ fn let_delivery(
     let Ok(envelope) = envelope.try_clone(alloc) else {
         return false;
     };
-    deliver(alloc, store, user, envelope, message, terms.lend()).is_ok()
+    let mut kept = KeptScripts::new(alloc);
+    deliver(
+        alloc,
+        store,
+        &mut kept,
+        user,
+        envelope,
+        message,
+        terms.lend(),
+    )
+    .is_ok()
 }

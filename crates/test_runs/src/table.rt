@@ -23,7 +23,7 @@ pub enum Table {
 }
 
 /// All of them, in the order in which they are tried.
-pub const TABLES: [Table; 29] = [
+pub const TABLES: [Table; 30] = [
     Table::Text(TextTable::Ascii),
     Table::Text(TextTable::Addresses),
     Table::Text(TextTable::Targets),
@@ -36,6 +36,7 @@ pub const TABLES: [Table; 29] = [
     Table::Text(TextTable::Texts),
     Table::Text(TextTable::Tokens),
     Table::Text(TextTable::Faults),
+    Table::Text(TextTable::Kept),
     Table::Text(TextTable::Items),
     Table::Text(TextTable::Replies),
     Table::Text(TextTable::Logins),

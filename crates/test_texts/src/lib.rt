@@ -14,6 +14,7 @@ mod fault;
 mod flag;
 mod head;
 mod item;
+mod kept;
 mod line;
 mod login;
 mod reply;

@@ -1,7 +1,7 @@
 //! The files of cases whose answers need no store.
 use crate::{
-    account_file, address, ascii, comparison, date_part, fault, flag, head, item, line, login,
-    reply, token, vacation, word,
+    account_file, address, ascii, comparison, date_part, fault, flag, head, item, kept, line,
+    login, reply, token, vacation, word,
 };
 use octets::Octets;
 use std::alloc::{AllocError, Global};
@@ -22,6 +22,7 @@ pub enum TextTable {
     Texts,
     Tokens,
     Faults,
+    Kept,
     Items,
     Replies,
     Logins,
@@ -48,6 +49,7 @@ impl TextTable {
             TextTable::Texts => "texts.cases",
             TextTable::Tokens => "tokens.cases",
             TextTable::Faults => "faults.cases",
+            TextTable::Kept => "kept.cases",
             TextTable::Items => "items.cases",
             TextTable::Replies => "replies.cases",
             TextTable::Logins => "logins.cases",
@@ -100,6 +102,7 @@ impl TextTable {
             TextTable::Spellings => address::add_address_spelling(alloc, out, text, other),
             TextTable::Comparisons => comparison::add_comparison(out, text, other),
             TextTable::Globs => comparison::add_matches(out, text, other),
+            TextTable::Kept => kept::add_places(alloc, out, text, other),
             TextTable::Items => item::add_first(alloc, out, text, other),
             _ => out.extend_from_slice(b"not that many columns"),
         }
