@@ -15,7 +15,9 @@ kind_word Reply = codes "reply"
 
 -- the line of a message on its way out: number, kind, sender and target as lines show them in angle brackets, octets
 abbrev pub queue_line : QueuedEnvelope → List ℕ
-queue_line row = decimal row.id ++ (codes " " ++ (kind_word row.kind ++ (codes " <" ++ (shown_address row.sender ++ (codes "> <" ++ (shown_address row.target ++ (codes "> " ++ decimal row.len)))))))
+queue_line row =
+    decimal row.id ++ (codes " " ++ (kind_word row.kind ++ (codes " <" ++ (shown_address row.sender
+    ++ (codes "> <" ++ (shown_address row.target ++ (codes "> " ++ decimal row.len)))))))
 
 -- the line of a notice: the moment in seconds since 1970, and the text
 abbrev pub notice_line : Notice → List ℕ

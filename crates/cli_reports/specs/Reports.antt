@@ -28,9 +28,17 @@ abbrev pub reply_lines : Bool → List (List ℕ)
 reply_lines true = codes "vacation wanted" ∷ []
 reply_lines false = []
 
--- the lines of mailboxes, addresses and a reply, in this order
-abbrev pub action_lines : List Placement → List Addr → Bool → List (List ℕ)
-action_lines filed sent answers = map (λ copy. file_line copy.mailbox) filed ++ (map (λ target. send_line (address_spelling target)) sent ++ reply_lines answers)
+-- a line for each mailbox that the message goes into
+abbrev pub mailbox_lines : List Placement → List (List ℕ)
+mailbox_lines filed = map (λ copy. file_line copy.mailbox) filed
+
+-- a line for each address that the message is sent on to
+abbrev pub target_lines : List Addr → List (List ℕ)
+target_lines sent = map (λ target. send_line (address_spelling target)) sent
+
+-- the lines of what is done: of its mailboxes, its addresses and its reply, in this order
+abbrev pub action_lines : Actions → List (List ℕ)
+action_lines deeds = mailbox_lines deeds.filed ++ (target_lines deeds.sent ++ reply_lines (is_some deeds.reply))
 
 -- the line on why a script failed, if one did
 abbrev pub failure_lines : Option (List ℕ) → List (List ℕ)
@@ -39,7 +47,8 @@ failure_lines (Some why) = (codes "failed: " ++ why) ∷ []
 
 -- nothing is done but that INBOX gets the message
 abbrev pub is_inbox_alone : Actions → Bool
-is_inbox_alone deeds = (nat_eq (length deeds.filed) 1 && is_filed deeds.filed inbox) && (nat_eq (length deeds.sent) 0 && not (is_some deeds.reply))
+is_inbox_alone deeds =
+    (nat_eq (length deeds.filed) 1 && is_filed deeds.filed inbox) && (nat_eq (length deeds.sent) 0 && not (is_some deeds.reply))
 
 -- what is done is shown, unless a script failed and it is no more than that
 abbrev pub shows_deeds : Settled → Bool
@@ -47,8 +56,7 @@ shows_deeds settled = not (is_some settled.notice) || not (is_inbox_alone settle
 
 -- the lines of what is done, and behind them that of a failure
 abbrev pub settled_lines : Settled → List (List ℕ)
-settled_lines settled =
-    cond (shows_deeds settled) (action_lines settled.deeds.filed settled.deeds.sent (is_some settled.deeds.reply)) [] ++ failure_lines settled.notice
+settled_lines settled = cond (shows_deeds settled) (action_lines settled.deeds) [] ++ failure_lines settled.notice
 
 -- `discard` if there is no other line
 abbrev pub or_discard : List (List ℕ) → List (List ℕ)
@@ -72,7 +80,8 @@ notice_lines (Some notice) = (codes "notice " ++ notice) ∷ []
 
 -- the lines of what a delivery did: its folders, addresses, vacation reply and notice, in this order
 abbrev pub delivery_lines : Report → List (List ℕ)
-delivery_lines report = map file_line report.filed ++ (map send_line report.sent ++ (vacation_lines report.vacation ++ notice_lines report.notice))
+delivery_lines report =
+    map file_line report.filed ++ (map send_line report.sent ++ (vacation_lines report.vacation ++ notice_lines report.notice))
 
 -- the report on a delivery that was made
 abbrev pub delivery_report : Report → List ℕ

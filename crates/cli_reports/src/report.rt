@@ -1,13 +1,13 @@
 //! The lines of what scripts come to, or of a fault of the script.
-ghost use Rattle.std.specs.Prelude.{◌≡◌, ◌++◌, [], cond, is_some, map, nat_eq, IfOk, OnOk};
+ghost use Rattle.std.specs.Prelude.{◌≡◌, ◌++◌, [], cond, nat_eq, IfOk, OnOk};
 ghost use Rattle.std.specs.List.{flat_map};
 ghost use Rattle.std.specs.Cmp.Lexicographic.{pointwise};
 ghost use Rattle.sieve_lex.specs.Faults.{fault_line};
 ghost use Rattle.sieve_syntax.specs.RunState.{inbox, is_filed};
 ghost use Rattle.sieve_plan.specs.Plans.{deeds_in};
 ghost use Rattle.sieve_plan.specs.SequencePlans.{notice_of, settled_of};
-ghost use Rattle.mail_address.specs.Spelling.{address_spelling};
-ghost use Rattle.cli_reports.specs.Reports.{file_line, send_line, action_lines, failure_lines, is_inbox_alone, reply_lines, ended_line, settled_lines, settled_report};
+ghost use Rattle.cli_reports.specs.Reports.{action_lines, ended_line, failure_lines, is_inbox_alone, mailbox_lines, reply_lines, settled_lines};
+ghost use Rattle.cli_reports.specs.Reports.{settled_report, target_lines};
 
 use crate::line::add_line;
 use mail_address::{Addr, spell_address};
@@ -18,9 +18,9 @@ use sieve_lex::ScriptFault;
 use sieve_plan::{Deeds, FailureNotice, Settlement};
 use std::alloc::{AllocError, Global};
 
-/// The report on what scripts come to: a line for each mailbox, each address and the reply, in this order, and behind them one on why
-/// a script failed, if one did; that line stands alone where nothing is done but that INBOX gets the message. `discard` if there is none
-/// of these.
+/// The report on what scripts come to: a line for each mailbox, each address and the reply, in this order, and behind them one on
+/// why a script failed, if one did; that line stands alone where nothing is done but that INBOX gets the message. `discard` if
+/// there is none of these.
 pub fn report_settlement(alloc: Global, settlement: &Settlement) -> Result<Octets, AllocError>
     ensures { IfOk result (λ text. text ≡ settled_report (settled_of settlement.now)) }
 {
@@ -66,7 +66,7 @@ fn is_in_inbox(copy: &Placement) -> bool
 
 /// The lines of what is done, if it is shown.
 fn of_deeds(alloc: Global, deeds: &Deeds, is_shown: bool) -> Result<Octets, AllocError>
-    ensures { IfOk result (λ text. text ≡ flat_map ended_line (cond is_shown (action_lines deeds.now.filed deeds.now.sent (is_some deeds.now.reply)) [])) }
+    ensures { IfOk result (λ text. text ≡ flat_map ended_line (cond is_shown (action_lines (deeds_in deeds.now)) [])) }
 {
     let mut text = Octets::new(alloc);
     if is_shown {
@@ -89,7 +89,7 @@ fn add_answer(text: &mut Octets, answers: bool) -> Result<(), AllocError>
 
 /// Appends a line for each mailbox.
 fn add_mailboxes(text: &mut Octets, filed: &[Placement]) -> Result<(), AllocError>
-    ensures { OnOk result (text.new ≡ text.old ++ flat_map ended_line (map (λ copy. file_line copy.mailbox) filed.now)) }
+    ensures { OnOk result (text.new ≡ text.old ++ flat_map ended_line (mailbox_lines filed.now)) }
 {
     for copy in filed {
         add_line(text, b"file ", copy.mailbox.as_slice())?;
@@ -99,7 +99,7 @@ fn add_mailboxes(text: &mut Octets, filed: &[Placement]) -> Result<(), AllocErro
 
 /// Appends a line for each address that the message is sent to.
 fn add_targets(alloc: Global, text: &mut Octets, sent: &[Addr]) -> Result<(), AllocError>
-    ensures { OnOk result (text.new ≡ text.old ++ flat_map ended_line (map (λ target. send_line (address_spelling target)) sent.now)) }
+    ensures { OnOk result (text.new ≡ text.old ++ flat_map ended_line (target_lines sent.now)) }
 {
     for target in sent {
         add_line(text, b"send ", spell_address(alloc, target)?.as_slice())?;

@@ -16,7 +16,8 @@ use Rattle.cli_run.specs.TryScript.{OfInput}
 -- the line on a fault of a script: `line N: TEXT`, or `FILE:N: TEXT` if it is in a file
 abbrev pub fault_in_file : Option (List ℕ) → ScriptFault → List ℕ
 fault_in_file None fault = ended_line (fault_line fault.line fault.kind)
-fault_in_file (Some file) fault = ended_line (file ++ (codes ":" ++ (decimal fault.line ++ (codes ": " ++ fault_text fault.kind))))
+fault_in_file (Some file) fault =
+    ended_line (file ++ (codes ":" ++ (decimal fault.line ++ (codes ": " ++ fault_text fault.kind))))
 
 -- a text is longer than a script may be
 abbrev pub script_too_large : RunFault
@@ -41,7 +42,8 @@ status_found (Err fault) = status_of fault
 abbrev pub Has : List ℕ → Option ScriptFault → Type 0
 Has text verdict = (length text ≤ script_limit) × IsVerdict text verdict
 
--- what is then on the output: for a valid script nothing; else the line on its fault, or if a write of it failed a prefix; a text is too large only if it is
+-- what is then on the output: for a valid script nothing; else the line on its fault, or if a write of it failed a prefix; a text
+-- is too large only if it is
 abbrev pub PrintsFinding : Option (List ℕ) → List ℕ → Option (List ℕ) → Option (List ℕ) → Finding → Type 0
 PrintsFinding file text old new (Ok None) = Has text None × Keeps old new
 PrintsFinding file text old new (Ok (Some fault)) = Has text (Some fault) × IsPrinted (Ok tt) old new (fault_in_file file fault)
@@ -56,7 +58,8 @@ TellsFinding file old new (Ok verdict) = Keeps old new
 TellsFinding file old new (Err fault) = IsWritten old new (check_fault_line file fault)
 
 -- a text was checked
-pub record IsChecked (file : Option (List ℕ)) (text : List ℕ) (out_old out_new err_old err_new : Option (List ℕ)) (status : ℕ) : Type 0 where
+pub record IsChecked (file : Option (List ℕ)) (text : List ℕ) (out_old out_new err_old err_new : Option (List ℕ))
+    (status : ℕ) : Type 0 where
   pub finding : Finding
   pub ended : status ≡ status_found finding
   pub printed : PrintsFinding file text out_old out_new finding
@@ -74,4 +77,5 @@ pub record IsUnread (out_old out_new err_old err_new : Option (List ℕ)) (statu
 -- the input was checked
 abbrev pub ChecksInput : Option (List ℕ) → Option (List ℕ) → Option (List ℕ) → Option (List ℕ) → Option (List ℕ) → ℕ → Type 0
 ChecksInput given out_old out_new err_old err_new status =
-    IsUnread out_old out_new err_old err_new status ⊎ OfInput given (λ text. IsChecked None text out_old out_new err_old err_new status)
+    IsUnread out_old out_new err_old err_new status
+    ⊎ OfInput given (λ text. IsChecked None text out_old out_new err_old err_new status)

@@ -32,28 +32,37 @@ abbrev pub folder_mail : Option Account → List ℕ → List (List ℕ)
 folder_mail None folder = []
 folder_mail (Some a) folder = messages_in a.folders folder
 
--- the messages of the folder of the user's open account, in the order in which they came; none if there is no such account or folder
+-- the messages of the folder of the user's open account, in the order in which they came; none if there is no such account or
+-- folder
 abbrev pub mail_in : Accounts → List ℕ → List ℕ → List (List ℕ)
 mail_in accounts user folder = folder_mail (open_account_of accounts user) folder
 
 -- that many messages leave the user's folder, each the first of it: an event of the machine takes it, and is answered
 abbrev pub Leave : List ℕ → List ℕ → ℕ → Accounts → Accounts → Type 0
-Leave user folder count accounts later = Runs (world_of_accounts accounts) (replicate count (TakeMail user folder)) (replicate count MailTaken) (world_of_accounts later)
+Leave user folder count accounts later =
+    Runs (world_of_accounts accounts) (replicate count (TakeMail user folder)) (replicate count MailTaken)
+    (world_of_accounts later)
 
 -- tables that show accounts have this as the first message of the user's folder, with this number
 abbrev pub IsFirstMessage : List ℕ → List ℕ → NumberedMessage → Type 0
-IsFirstMessage user folder first = (tables : Tables) × (accounts : Accounts) × ShowsAccounts tables accounts × IsFirstOf user folder (Some first) (rows_of user tables)
+IsFirstMessage user folder first =
+    (tables : Tables) × (accounts : Accounts) × ShowsAccounts tables accounts
+    × IsFirstOf user folder (Some first) (rows_of user tables)
 
--- these are the messages, in order, each kept under its user, its folder and the number that it had in tables in which it was the first there
+-- these are the messages, in order, each kept under its user, its folder and the number that it had in tables in which it was the
+-- first there
 abbrev pub AreFirsts : List ℕ → List ℕ → List KeptMail → List (List ℕ) → Type 0
 AreFirsts user folder [] [] = Unit {0}
 AreFirsts user folder (mail ∷ mails) (message ∷ messages) =
-    (first : NumberedMessage) × IsFirstMessage user folder first × (mail ≡ kept_mail user folder first.number first.message first.flags) × (first.message ≡ message) × AreFirsts user folder mails messages
+    (first : NumberedMessage) × IsFirstMessage user folder first
+    × (mail ≡ kept_mail user folder first.number first.message first.flags) × (first.message ≡ message)
+    × AreFirsts user folder mails messages
 AreFirsts user folder mails messages = ⊥
 
 -- what a sink keeps grew by these messages of the user's folder, at its end; if it doesn't tell what it keeps nothing is said
 abbrev pub GrowsBy : List ℕ → List ℕ → Bool → List KeptMail → List KeptMail → List (List ℕ) → Type 0
-GrowsBy user folder tells old new messages = IsTrue tells → (mails : List KeptMail) × (new ≡ old ++ mails) × AreFirsts user folder mails messages
+GrowsBy user folder tells old new messages =
+    IsTrue tells → (mails : List KeptMail) × (new ≡ old ++ mails) × AreFirsts user folder mails messages
 
 -- it is as it was
 abbrev pub StaysAsItWas : Bool → List KeptMail → List KeptMail → Type 0
@@ -65,7 +74,8 @@ LeavesTables old new accounts later = Presents new later ⊎ ((new ≡ old) × (
 
 -- tables that offered accounts, of whichever version, then show what these became; a database without tables stays so
 pub record TurnsTables (Became : Accounts → Accounts → Type 0) (old new : Database) : Type 0 where
-  pub accounts : (accounts : Accounts) → OffersAccounts old accounts → (later : Accounts) × Became accounts later × LeavesTables old new accounts later
+  pub accounts : (accounts : Accounts) → OffersAccounts old accounts → (later : Accounts) × Became accounts later
+      × LeavesTables old new accounts later
   pub none : old.schema ≡ no_schema → new.schema ≡ no_schema
 
 -- ---- the user's folder, and a sink that grew by such messages
@@ -87,8 +97,8 @@ module _ (user folder : List ℕ) (Grew : List (List ℕ) → Type 0) where
     pub others : List (List ℕ)
     pub kept : Grew (take count (mail_in accounts user folder) ++ others)
 
-  -- over a store: whatever accounts it showed, it then shows what these became; an open connection is still open if Ok was answered, and
-  -- one that a fault of the disk has shut stays shut; and if it was open no crash loses a message
+  -- over a store: whatever accounts it showed, it then shows what these became; an open connection is still open if Ok was
+  -- answered, and one that a fault of the disk has shut stays shut; and if it was open no crash loses a message
   pub record MovesMail (answers_ok : Bool) (Became : Accounts → Accounts → Type 0) (old new : State) : Type 0 where
     pub carries : TurnsAccounts Became old new
     pub live : IsTrue answers_ok → HasCleanDisk new → IsTrue old.is_open → IsTrue new.is_open
@@ -119,9 +129,11 @@ module _ (user folder : List ℕ) (Grew : List (List ℕ) → Type 0) where
   abbrev pub NothingMoved : ℕ → Type 0
   NothingMoved count = (count ≡ 0) × Grew []
 
-  -- it broke off with a fault, after no more messages than were asked for; a fault that another try can't help comes before anything moved
+  -- it broke off with a fault, after no more messages than were asked for; a fault that another try can't help comes before
+  -- anything moved
   abbrev pub BrokeOff : ℕ → RunFault → Accounts → Accounts → Type 0
-  BrokeOff most fault accounts later = (count : ℕ) × StoppedShort count accounts later × (count ≤ most) × (NothingMoved count ⊎ (status_of fault ≡ 75))
+  BrokeOff most fault accounts later =
+      (count : ℕ) × StoppedShort count accounts later × (count ≤ most) × (NothingMoved count ⊎ (status_of fault ≡ 75))
 
   -- for a user who has an open account
   abbrev pub Drained : ℕ → Result ℕ RunFault → Accounts → Accounts → Type 0
@@ -144,15 +156,20 @@ abbrev pub SinkGrew : List ℕ → List ℕ → SinkMails → List (List ℕ) �
 SinkGrew user folder sink = GrowsBy user folder sink.tells sink.had sink.has
 
 abbrev pub DrainsFirst : List ℕ → List ℕ → SinkMails → Result Bool RunFault → State → State → Type 0
-DrainsFirst user folder sink result = MovesMail user folder (SinkGrew user folder sink) (is_ok result) (FirstMoved user folder (SinkGrew user folder sink) result)
+DrainsFirst user folder sink result =
+    MovesMail user folder (SinkGrew user folder sink) (is_ok result) (FirstMoved user folder (SinkGrew user folder sink) result)
 
 abbrev pub MovesAll : List ℕ → List ℕ → SinkMails → ℕ → Result ℕ RunFault → State → State → Type 0
-MovesAll user folder sink most result = MovesMail user folder (SinkGrew user folder sink) (is_ok result) (AnyMoved user folder (SinkGrew user folder sink) most result)
+MovesAll user folder sink most result =
+    MovesMail user folder (SinkGrew user folder sink) (is_ok result)
+    (AnyMoved user folder (SinkGrew user folder sink) most result)
 
 -- and there is no such user if that is the fault
 abbrev pub Drains : List ℕ → List ℕ → SinkMails → ℕ → Result ℕ RunFault → State → State → Type 0
 Drains user folder sink most result =
-    MovesMail user folder (SinkGrew user folder sink) (is_ok result) (λ accounts later. Drained user folder (SinkGrew user folder sink) most result accounts later × (result ≡ Err no_user → HasNoOpen user accounts))
+    MovesMail user folder (SinkGrew user folder sink) (is_ok result)
+    (λ accounts later. Drained user folder (SinkGrew user folder sink) most result accounts later
+    × (result ≡ Err no_user → HasNoOpen user accounts))
 
 -- ---- the subcommand
 
@@ -173,27 +190,38 @@ HasRefused refuses error = (asked : _) × refuses asked error
 abbrev pub IsUnkept : (SinkError → Type 0) → Type 0
 IsUnkept Sunk = (error : SinkError) × Sunk error
 
--- why a folder isn't drained to its end: no open account has the name; the place for the messages is no Maildir; or the subcommand is hindered, by the sink too
+-- why a folder isn't drained to its end: no open account has the name; the place for the messages is no Maildir; or the
+-- subcommand is hindered, by the sink too
 abbrev pub StopsDraining : (SinkError → Type 0) → Type 0 → (RunFault → Type 0) → List ℕ → RunFault → Accounts → Type 0
 StopsDraining Sunk Wrong Denied user fault accounts =
-    IsHindered (IsUnkept Sunk) Wrong Denied fault ⊎ ((fault ≡ NoMaildir) × Sunk sink.NoMaildir × (Wrong → ⊥)) ⊎ ((fault ≡ no_user) × HasNoOpen user accounts × (Wrong → ⊥))
+    IsHindered (IsUnkept Sunk) Wrong Denied fault ⊎ ((fault ≡ NoMaildir) × Sunk sink.NoMaildir × (Wrong → ⊥))
+    ⊎ ((fault ≡ no_user) × HasNoOpen user accounts × (Wrong → ⊥))
 
 -- over tables: their store was drained, and if it wasn't to its end the cause is reported
-abbrev pub MovesTables : (SinkError → Type 0) → (RunFault → Type 0) → DrainArgs → SinkMails → ℕ → Result ℕ RunFault → TablesMove → Type 0
+abbrev pub MovesTables : (SinkError → Type 0) → (RunFault → Type 0) → DrainArgs → SinkMails → ℕ → Result ℕ RunFault → TablesMove
+    → Type 0
 MovesTables Sunk Denied asked sink most result tables =
-    TurnsTables (λ accounts later. Drained asked.user.now asked.folder.now (SinkGrew asked.user.now asked.folder.now sink) most result accounts later × IfErr result (λ fault. StopsDraining Sunk ⊥ Denied asked.user.now fault accounts))
+    TurnsTables (λ accounts later. Drained asked.user.now asked.folder.now
+    (SinkGrew asked.user.now asked.folder.now sink) most result accounts later
+    × IfErr result (λ fault. StopsDraining Sunk ⊥ Denied asked.user.now fault accounts))
     tables.old tables.new
 
--- after Ok the subcommand did what it was asked for, and printed how many messages moved; after a fault those that moved stay moved,
--- nothing is printed, and the cause is reported; or that line wasn't printed whole
-abbrev pub WordDrained : (SinkError → Type 0) → (RunFault → Type 0) → DrainArgs → (List (List ℕ) → Type 0) → Option (List ℕ) → Option (List ℕ) → Result (Unit {0}) RunFault → Accounts → Accounts → Type 0
+-- after Ok the subcommand did what it was asked for, and printed how many messages moved; after a fault those that moved stay
+-- moved, nothing is printed, and the cause is reported; or that line wasn't printed whole
+abbrev pub WordDrained : (SinkError → Type 0) → (RunFault → Type 0) → DrainArgs → (List (List ℕ) → Type 0) → Option (List ℕ)
+    → Option (List ℕ) → Result (Unit {0}) RunFault → Accounts → Accounts → Type 0
 WordDrained Sunk Denied asked Grew old new (Ok done) accounts later =
-    (most : ℕ) × (count : ℕ) × IsMost (option_copied asked.most) most × Drained asked.user.now asked.folder.now Grew most (Ok count) accounts later × IsPrinted (Ok tt) old new (drained_line count)
+    (most : ℕ) × (count : ℕ) × IsMost (option_copied asked.most) most
+    × Drained asked.user.now asked.folder.now Grew most (Ok count) accounts later × IsPrinted (Ok tt) old new (drained_line count)
 WordDrained Sunk Denied asked Grew old new (Err fault) accounts later =
-    (most : ℕ) × (IsMost (option_copied asked.most) most ⊎ (most ≡ 0)) × (broke : BrokeOff asked.user.now asked.folder.now Grew most fault accounts later)
-    × ((Keeps old new × StopsDraining Sunk (HasNoNumber (option_copied asked.most)) Denied asked.user.now fault accounts) ⊎ IsPrinted (Err fault) old new (drained_line broke.0))
+    (most : ℕ) × (IsMost (option_copied asked.most) most ⊎ (most ≡ 0))
+    × (broke : BrokeOff asked.user.now asked.folder.now Grew most fault accounts later)
+    × ((Keeps old new × StopsDraining Sunk (HasNoNumber (option_copied asked.most)) Denied asked.user.now fault accounts)
+    ⊎ IsPrinted (Err fault) old new (drained_line broke.0))
 
 -- and over tables
-abbrev pub HasDrained : (SinkError → Type 0) → (RunFault → Type 0) → DrainArgs → SinkMails → StreamMove → Result (Unit {0}) RunFault → TablesMove → Type 0
+abbrev pub HasDrained : (SinkError → Type 0) → (RunFault → Type 0) → DrainArgs → SinkMails → StreamMove
+    → Result (Unit {0}) RunFault → TablesMove → Type 0
 HasDrained Sunk Denied asked sink output result tables =
-    TurnsTables (WordDrained Sunk Denied asked (SinkGrew asked.user.now asked.folder.now sink) output.old output.new result) tables.old tables.new
+    TurnsTables (WordDrained Sunk Denied asked (SinkGrew asked.user.now asked.folder.now sink) output.old output.new result)
+    tables.old tables.new

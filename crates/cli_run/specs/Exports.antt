@@ -31,7 +31,8 @@ pub record HasTold (user : List ℕ) (Written : AccountHead → List Part → Ty
 
 -- a prefix of the text was written: before its sum, if memory was refused or the store failed; up to the write that failed
 abbrev pub BrokeIn : Option (List ℕ) → Option (List ℕ) → RunFault → AccountHead → List Part → Type 0
-BrokeIn old new fault head parts = (IsSudden ⊥ fault × AppendsFront old new (account_body head parts)) ⊎ IsPrinted (Err fault) old new (account_text head parts)
+BrokeIn old new fault head parts =
+    (IsSudden ⊥ fault × AppendsFront old new (account_body head parts)) ⊎ IsPrinted (Err fault) old new (account_text head parts)
 
 -- it broke off in the text of this account
 abbrev pub IsCutOff : List ℕ → Option (List ℕ) → Option (List ℕ) → RunFault → Account → Type 0
@@ -51,10 +52,12 @@ PartsGoOn contents at parts old =
     → (early : List Part) → length early ≡ at → AreRead contents early old.now a → AreRead contents (early ++ parts) old.now a)
 
 -- the parts from one place to another were read and written; after a fault the first ones of them
-pub record PutsParts (contents : Contents) (from until : ℕ) (writer : Transition Writer) (output : StreamMove) (store : Transition State) (result : Result (Unit {0}) RunFault) : Type 0 where
+pub record PutsParts (contents : Contents) (from until : ℕ) (writer : Transition Writer) (output : StreamMove)
+    (store : Transition State) (result : Result (Unit {0}) RunFault) : Type 0 where
   pub keeps : KeepsTables store.old store.new result
   pub parts : List Part
   pub all : OnOk result (from + length parts ≡ until)
   pub read : HasCleanDisk store.new → PartsGoOn contents from parts store.old
   pub put : PutsSome result output.old output.new (flat_map part_line parts)
-  pub hashed : OnOk result ((text : List ℕ) → HasWritten writer.old text → HasWritten writer.new (text ++ flat_map part_line parts))
+  pub hashed : OnOk result ((text : List ℕ) → HasWritten writer.old text
+      → HasWritten writer.new (text ++ flat_map part_line parts))

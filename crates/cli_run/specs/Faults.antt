@@ -113,15 +113,17 @@ IsUnanswered no_input (Refused refusal.Memory) = Unit {0}
 IsUnanswered no_input BadInput = no_input
 IsUnanswered no_input _ = ⊥
 
--- another try may help: memory was refused, the store failed, or something else broke, which is reported as a read or a write that failed
+-- another try may help: memory was refused, the store failed, or something else broke, which is reported as a read or a write
+-- that failed
 abbrev pub IsSudden : Type 0 → RunFault → Type 0
 IsSudden Broken fault = (fault ≡ memory) ⊎ (fault ≡ store_failed) ⊎ ((fault ≡ Stream) × Broken)
 
--- what hinders any subcommand: memory was refused, or the store failed; what it reads broke; a value in the arguments is wrong, and only this is
--- reported as bad argument; or the store was denied, which is reported as it was, and only if no value is wrong
+-- what hinders any subcommand: memory was refused, or the store failed; what it reads broke; a value in the arguments is wrong,
+-- and only this is reported as bad argument; or the store was denied, which is reported as it was, and only if no value is wrong
 abbrev pub IsHindered : Type 0 → Type 0 → (RunFault → Type 0) → RunFault → Type 0
 IsHindered Broken Wrong Denied fault =
-    (fault ≡ memory) ⊎ (fault ≡ store_failed) ⊎ ((fault ≡ Stream) × Broken) ⊎ ((fault ≡ BadArgument) × Wrong) ⊎ (Denied fault × (Wrong → ⊥))
+    (fault ≡ memory) ⊎ (fault ≡ store_failed) ⊎ ((fault ≡ Stream) × Broken) ⊎ ((fault ≡ BadArgument) × Wrong)
+    ⊎ (Denied fault × (Wrong → ⊥))
 
 -- a session ended early: memory was refused, or a read or a write failed
 abbrev pub IsCutShort : RunFault → Type 0
@@ -137,8 +139,8 @@ abbrev pub IsPrinted : Result (Unit {0}) RunFault → Option (List ℕ) → Opti
 IsPrinted (Ok done) old new text = Appends old new text × WasFlushed new
 IsPrinted (Err fault) old new text = (fault ≡ Stream) × IsWriteCut old new text
 
--- what is reported at the end: why the store couldn't be closed, and why there is no answer; if a call was refused since the store failed,
--- that says both; that a script isn't valid is said on the output alone
+-- what is reported at the end: why the store couldn't be closed, and why there is no answer; if a call was refused since the
+-- store failed, that says both; that a script isn't valid is said on the output alone
 abbrev pub faults_told : Option Refusal → Result (Unit {0}) RunFault → List RunFault
 faults_told None (Ok done) = []
 faults_told (Some refusal) (Ok done) = Refused refusal ∷ []
@@ -153,7 +155,8 @@ abbrev pub text_said : Option ErrorKind → Option (List ℕ)
 text_said None = None
 text_said (Some kind) = file_text kind
 
--- what is known of a fault's cause: if the store failed, what its keeper said; if a read, a write or a Maildir did, what the sink said
+-- what is known of a fault's cause: if the store failed, what its keeper said; if a read, a write or a Maildir did, what the sink
+-- said
 abbrev pub cause_of : Option (List ℕ) → Option (List ℕ) → RunFault → Option (List ℕ)
 cause_of store sink (Refused refusal.Store) = store
 cause_of store sink Stream = sink
@@ -172,4 +175,5 @@ run_fault_lines cause fault = run_fault_line fault ++ cause_line (cause fault)
 -- each of these is reported, in order, each with its cause; or writing broke off in that
 abbrev pub AreTold : Option (List ℕ) → Option (List ℕ) → (RunFault → Option (List ℕ)) → List RunFault → Type 0
 AreTold old new cause [] = new ≡ old
-AreTold old new cause (fault ∷ more) = (mid : Option (List ℕ)) × IsWritten old mid (run_fault_lines cause fault) × AreTold mid new cause more
+AreTold old new cause (fault ∷ more) =
+    (mid : Option (List ℕ)) × IsWritten old mid (run_fault_lines cause fault) × AreTold mid new cause more

@@ -5,7 +5,8 @@ use Rattle.mail_head.specs.SizeCounts.{CountsSize}
 use Rattle.mail_head.specs.declared.size_count.SizeCount.{SizeCount}
 use Rattle.cli_run.specs.Framing.{IsFramed}
 
--- what came is a script and a message: of these the script is kept, and a prefix of the message that has its header; and the message's size is counted
+-- what came is a script and a message: of these the script is kept, and a prefix of the message that has its header; and the
+-- message's size is counted
 pub record KeepsHeader (came kept : List ℕ) (count : SizeCount) : Type 0 where
   pub script : List ℕ
   pub front : List ℕ

@@ -18,14 +18,15 @@ AppendsFront old new text = (k : ℕ) × Appends old new (take k text)
 abbrev pub AppendsSome : Option (List ℕ) → Option (List ℕ) → Type 0
 AppendsSome old new = (more : List ℕ) × Appends old new more
 
--- ---- calls of a reader or writer, one after the other. A function tells which octets a state of it has left, or holds, if those are known
+-- ---- calls of a reader or writer, one after the other. A function tells which octets a state of it has left or holds, if known
 
--- a signal came before a call that led from one state of a reader or writer to the other. The definition is opaque, and only `read_at` and
--- `write_some` say it: so whoever can say it made such a call
+-- a signal came before a call that led from one state of a reader or writer to the other. The definition is opaque, and only
+-- `read_at` and `write_some` say it: so whoever can say it made such a call
 pub WasInterrupted : {X : Type 0} → X → X → Type 0
 WasInterrupted old new = Unit {0}
 
--- a read that led from one state of the reader to the other returned that nothing is left. This too is opaque, and only `read_at` says it
+-- a read that led from one state of the reader to the other returned that nothing is left. This too is opaque, and only `read_at`
+-- says it
 pub TellsEnd : {R : Type 0} → R → R → Type 0
 TellsEnd old new = Unit {0}
 
@@ -34,17 +35,20 @@ pub was_interrupted : {X : Type 0} (old new : X) (error : Error) → error_kind 
 unfolding WasInterrupted
 was_interrupted old new error signal = tt
 
-pub tells_end : {R : Type 0} (remaining : R → Option (List ℕ)) (old new : R) → Consumes (remaining old) (remaining new) [] → IsAtEnd (remaining new) → TellsEnd old new
+pub tells_end : {R : Type 0} (remaining : R → Option (List ℕ)) (old new : R) → Consumes (remaining old) (remaining new) []
+    → IsAtEnd (remaining new) → TellsEnd old new
 unfolding TellsEnd
 tells_end remaining old new nothing none = tt
 
 -- a read gave octets, at least one; or a signal came before it
 abbrev pub ReadGoesOn : {R : Type 0} → (R → Option (List ℕ)) → R → R → Type 0
-ReadGoesOn remaining old new = ((octets : List ℕ) × (octets ≢ []) × Consumes (remaining old) (remaining new) octets) ⊎ WasInterrupted old new
+ReadGoesOn remaining old new =
+    ((octets : List ℕ) × (octets ≢ []) × Consumes (remaining old) (remaining new) octets) ⊎ WasInterrupted old new
 
 -- a write took octets, at least one; or a signal came before it
 abbrev pub WriteTakes : {W : Type 0} → (W → Option (List ℕ)) → W → W → Type 0
-WriteTakes contents old new = ((octets : List ℕ) × (octets ≢ []) × Appends (contents old) (contents new) octets) ⊎ WasInterrupted old new
+WriteTakes contents old new =
+    ((octets : List ℕ) × (octets ≢ []) × Appends (contents old) (contents new) octets) ⊎ WasInterrupted old new
 
 -- that many steps in order led here
 pub data InTurn {X : Type 0} (Step : X → X → Type 0) (old : X) : ℕ → X → Type 0 where
@@ -67,9 +71,9 @@ ReadsAllOrNone remaining old new = (new ≡ old) ⊎ ReadsToEnd remaining old ne
 
 -- ---- failures
 
--- a read of a reader that has these octets left failed, and not since a signal came before it; or the largest number of reads went on, and none
--- reached the end. The definition is opaque, and only the functions of `stream`, and `converse` after its last read, say it: so whoever can say it
--- made such reads
+-- a read of a reader that has these octets left failed, and not since a signal came before it; or the largest number of reads
+-- went on, and none reached the end. The definition is opaque, and only the functions of `stream`, and `converse` after its last
+-- read, say it: so whoever can say it made such reads
 pub ReadFailed : Option (List ℕ) → Type 0
 ReadFailed left = Unit {0}
 
@@ -78,11 +82,13 @@ pub read_failed : (left : Option (List ℕ)) (error : Error) → error_kind erro
 unfolding ReadFailed
 read_failed left error other = tt
 
-pub reads_end : {R : Type 0} (remaining : R → Option (List ℕ)) (old new : R) → InTurn (ReadGoesOn remaining) old 40000000 new → ReadFailed (remaining new)
+pub reads_end : {R : Type 0} (remaining : R → Option (List ℕ)) (old new : R) → InTurn (ReadGoesOn remaining) old 40000000 new
+    → ReadFailed (remaining new)
 unfolding ReadFailed
 reads_end remaining old new all = tt
 
--- a write to a writer that has these octets failed, or took nothing, or its flush failed; or the largest number of turns went on, and none was the last
+-- a write to a writer that has these octets failed, or took nothing, or its flush failed; or the largest number of turns went on,
+-- and none was the last
 pub WriteFailed : Option (List ℕ) → Type 0
 WriteFailed held = Unit {0}
 
@@ -99,7 +105,8 @@ pub flush_failed : (held : Option (List ℕ)) (error : Error) → WriteFailed he
 unfolding WriteFailed
 flush_failed held error = tt
 
-pub turns_end : {X : Type 0} (held : Option (List ℕ)) (Step : X → X → Type 0) (old new : X) → InTurn Step old 18446744073709551615 new → WriteFailed held
+pub turns_end : {X : Type 0} (held : Option (List ℕ)) (Step : X → X → Type 0) (old new : X)
+    → InTurn Step old 18446744073709551615 new → WriteFailed held
 unfolding WriteFailed
 turns_end held Step old new all = tt
 

@@ -66,26 +66,31 @@ use Rattle.cli_run.specs.declared.fault.RunFault.TheVariants.{Refused, Stream, N
 -- ---- how a subcommand ends, whatever it does
 
 -- it was done: the accounts became these, and the text that reports it is printed like this
-pub record IsDoneAndPrinted (Effect : Accounts → Accounts → List ℕ → Type 0) (IsPrinted : List ℕ → Type 0) (accounts later : Accounts) : Type 0 where
+pub record IsDoneAndPrinted (Effect : Accounts → Accounts → List ℕ → Type 0) (IsPrinted : List ℕ → Type 0)
+    (accounts later : Accounts) : Type 0 where
   pub text : List ℕ
   pub effect : Effect accounts later text
   pub printed : IsPrinted text
 
 -- nothing was done and nothing printed, for a cause
-pub record IsUndone (Cause : RunFault → Accounts → Type 0) (old new : Option (List ℕ)) (fault : RunFault) (accounts later : Accounts) : Type 0 where
+pub record IsUndone (Cause : RunFault → Accounts → Type 0) (old new : Option (List ℕ)) (fault : RunFault)
+    (accounts later : Accounts) : Type 0 where
   pub cause : Cause fault accounts
   pub stays : later ≡ accounts
   pub silent : Keeps old new
 
 -- after Ok it was done, and all of the text is printed; after a fault it wasn't, or it was, and a write of the text failed
-abbrev pub FinishesPrinted : (Accounts → Accounts → List ℕ → Type 0) → (RunFault → Accounts → Type 0) → Option (List ℕ) → Option (List ℕ) → Result (Unit {0}) RunFault → Accounts → Accounts → Type 0
+abbrev pub FinishesPrinted : (Accounts → Accounts → List ℕ → Type 0) → (RunFault → Accounts → Type 0) → Option (List ℕ)
+    → Option (List ℕ) → Result (Unit {0}) RunFault → Accounts → Accounts → Type 0
 FinishesPrinted Effect Cause old new (Ok done) accounts later = IsDoneAndPrinted Effect (IsPrinted (Ok tt) old new) accounts later
-FinishesPrinted Effect Cause old new (Err fault) accounts later = IsUndone Cause old new fault accounts later ⊎ IsDoneAndPrinted Effect (IsPrinted (Err fault) old new) accounts later
+FinishesPrinted Effect Cause old new (Err fault) accounts later =
+    IsUndone Cause old new fault accounts later ⊎ IsDoneAndPrinted Effect (IsPrinted (Err fault) old new) accounts later
 
 -- ---- subcommands that are an event of the machine
 
 -- `adduser`: the account of these arguments, whose password is the first line of what was read
-pub record IsAddUserEvent (digits random : Option (List ℕ)) (name address : List ℕ) (given : Option (List ℕ)) (event : Event) : Type 0 where
+pub record IsAddUserEvent (digits random : Option (List ℕ)) (name address : List ℕ) (given : Option (List ℕ))
+    (event : Event) : Type 0 where
   pub octets : List ℕ
   pub read : ReadsAll given octets
   pub salt : List ℕ
@@ -93,7 +98,8 @@ pub record IsAddUserEvent (digits random : Option (List ℕ)) (name address : Li
   pub same : event ≡ AddUser name address salt (first_line octets)
 
 -- `passwd`: the user's new password is the first line of what was read
-pub record IsPasswdEvent (digits random : Option (List ℕ)) (user : List ℕ) (given : Option (List ℕ)) (event : Event) : Type 0 where
+pub record IsPasswdEvent (digits random : Option (List ℕ)) (user : List ℕ) (given : Option (List ℕ))
+    (event : Event) : Type 0 where
   pub octets : List ℕ
   pub read : ReadsAll given octets
   pub salt : List ℕ
@@ -124,9 +130,10 @@ upkeep_answer upkeep.OpenAccount = answer.Opened
 upkeep_answer (upkeep.RemoveAccount mail) = answer.Removed
 upkeep_answer (upkeep.TakeNotices until) = answer.NoticesTaken
 
--- `deliver`: all that was read is for the user, with these addresses, at the moment in the arguments or of the clock and in the zone of the
--- arguments, by a host with these scripts
-pub record IsDeliverEvent (envelope : Envelope) (at zone : Option (List ℕ)) (user : List ℕ) (clock : Option ℕ) (host : HostTexts) (given : Option (List ℕ)) (event : Event) : Type 0 where
+-- `deliver`: all that was read is for the user, with these addresses, at the moment in the arguments or of the clock and in the
+-- zone of the arguments, by a host with these scripts
+pub record IsDeliverEvent (envelope : Envelope) (at zone : Option (List ℕ)) (user : List ℕ) (clock : Option ℕ) (host : HostTexts)
+    (given : Option (List ℕ)) (event : Event) : Type 0 where
   pub message : List ℕ
   pub read : ReadsAll given message
   pub terms : Terms
@@ -192,28 +199,41 @@ pub record RefusesEvent (Own : Event → Type 0) (fault : RunFault) (accounts : 
   pub told : fault ≡ Refused refusal
   pub next : Next (world_of_accounts accounts) event (answer.Refused refusal) (world_of_accounts accounts)
 
--- one event over a store that was taken for it and handed back: it was made, with this said of the result; or the machine refuses it, or
--- the subcommand was hindered
+-- one event over a store that was taken for it and handed back: it was made, with this said of the result; or the machine refuses
+-- it, or the subcommand was hindered
 abbrev pub Puts : {X : Type 0} → (RunFault → Type 0) → Event → (X → Answer) → Result X RunFault → Accounts → Accounts → Type 0
 Puts Denied event told (Ok x) accounts later = Next (world_of_accounts accounts) event (told x) (world_of_accounts later)
-Puts Denied event told (Err fault) accounts later = (later ≡ accounts) × (IsHindered ⊥ ⊥ Denied fault ⊎ RefusesEvent (λ e. e ≡ event) fault accounts)
+Puts Denied event told (Err fault) accounts later =
+    (later ≡ accounts) × (IsHindered ⊥ ⊥ Denied fault ⊎ RefusesEvent (λ e. e ≡ event) fault accounts)
+
+-- the same over tables
+abbrev pub PutsInTables : {X : Type 0} → (RunFault → Type 0) → Event → (X → Answer) → Result X RunFault → TablesMove → Type 0
+PutsInTables Denied event told result tables = TurnsTables (Puts Denied event told result) tables.old tables.new
 
 -- the subcommand over tables: an event of its own
-abbrev pub DoesEvent : Type 0 → Type 0 → (RunFault → Type 0) → (Event → Type 0) → StreamMove → Result (Unit {0}) RunFault → TablesMove → Type 0
+abbrev pub DoesEvent : Type 0 → Type 0 → (RunFault → Type 0) → (Event → Type 0) → StreamMove → Result (Unit {0}) RunFault
+    → TablesMove → Type 0
 DoesEvent Broken Wrong Denied Own output result tables =
-    TurnsTables (FinishesPrinted (MakesEvent Own) (λ fault accounts. IsHindered Broken Wrong Denied fault ⊎ RefusesEvent Own fault accounts) output.old output.new result)
+    TurnsTables (FinishesPrinted (MakesEvent Own) (λ fault accounts. IsHindered Broken Wrong Denied fault
+    ⊎ RefusesEvent Own fault accounts) output.old output.new result)
     tables.old tables.new
 
 -- ---- `put`, whose text may be no script
 
--- a script was given to the machine: it was stored; or its text is none, and no account changed; or it is refused, or the subcommand was hindered
-abbrev pub PutsScript : (RunFault → Type 0) → List ℕ → Upkeep → Result (Option ScriptFault) RunFault → Accounts → Accounts → Type 0
-PutsScript Denied user upkeep (Ok None) accounts later = Next (world_of_accounts accounts) (DoUpkeep user upkeep) answer.Stored (world_of_accounts later)
-PutsScript Denied user upkeep (Ok (Some fault)) accounts later = (later ≡ accounts) × Next (world_of_accounts accounts) (DoUpkeep user upkeep) (answer.Invalid fault) (world_of_accounts accounts)
-PutsScript Denied user upkeep (Err fault) accounts later = (later ≡ accounts) × (IsHindered ⊥ ⊥ Denied fault ⊎ RefusesEvent (λ e. e ≡ DoUpkeep user upkeep) fault accounts)
+-- a script was given to the machine: it was stored; or its text is none, and no account changed; or it is refused, or the
+-- subcommand was hindered
+abbrev pub PutsScript : (RunFault → Type 0) → List ℕ → Upkeep → Result (Option ScriptFault) RunFault → Accounts → Accounts
+    → Type 0
+PutsScript Denied user upkeep (Ok None) accounts later =
+    Next (world_of_accounts accounts) (DoUpkeep user upkeep) answer.Stored (world_of_accounts later)
+PutsScript Denied user upkeep (Ok (Some fault)) accounts later =
+    (later ≡ accounts) × Next (world_of_accounts accounts) (DoUpkeep user upkeep) (answer.Invalid fault)
+    (world_of_accounts accounts)
+PutsScript Denied user upkeep (Err fault) accounts later =
+    (later ≡ accounts) × (IsHindered ⊥ ⊥ Denied fault ⊎ RefusesEvent (λ e. e ≡ DoUpkeep user upkeep) fault accounts)
 
--- the line on a script's fault is printed whole, and the subcommand's fault is that the script isn't valid; or there was no memory for the line, or
--- a write of it failed
+-- the line on a script's fault is printed whole, and the subcommand's fault is that the script isn't valid; or there was no
+-- memory for the line, or a write of it failed
 abbrev pub TellsInvalid : ScriptFault → Option (List ℕ) → Option (List ℕ) → Result (Unit {0}) RunFault → Type 0
 TellsInvalid fault old new (Ok done) = ⊥
 TellsInvalid fault old new (Err told) =
@@ -227,7 +247,8 @@ TellsVerdict name None old new result = IsPrinted result old new (ended_line (co
 TellsVerdict name (Some fault) old new result = TellsInvalid fault old new result
 
 -- the machine answers to such an event that the text is no script, no account changes, and that is printed
-pub record RefusesScript (Own : Event → Type 0) (old new : Option (List ℕ)) (result : Result (Unit {0}) RunFault) (accounts later : Accounts) : Type 0 where
+pub record RefusesScript (Own : Event → Type 0) (old new : Option (List ℕ)) (result : Result (Unit {0}) RunFault)
+    (accounts later : Accounts) : Type 0 where
   pub event : Event
   pub own : Own event
   pub fault : ScriptFault
@@ -239,7 +260,8 @@ pub record RefusesScript (Own : Event → Type 0) (old new : Option (List ℕ)) 
 abbrev pub DoesPut : (RunFault → Type 0) → (Event → Type 0) → StreamMove → Result (Unit {0}) RunFault → TablesMove → Type 0
 DoesPut Denied Own output result tables =
     TurnsTables (λ accounts later.
-    FinishesPrinted (MakesEvent Own) (λ fault all. IsHindered InputFailed ⊥ Denied fault ⊎ RefusesEvent Own fault all) output.old output.new result accounts later
+    FinishesPrinted (MakesEvent Own) (λ fault all. IsHindered InputFailed ⊥ Denied fault
+    ⊎ RefusesEvent Own fault all) output.old output.new result accounts later
     ⊎ RefusesScript Own output.old output.new result accounts later)
     tables.old tables.new
 
@@ -247,14 +269,16 @@ DoesPut Denied Own output result tables =
 
 -- all that was read isn't the text of an account
 abbrev pub IsNoAccount : Option (List ℕ) → Type 0
-IsNoAccount given = (text : List ℕ) × ReadsAll given text × ((head : AccountHead) (parts : List Part) → IsAccountText text head parts → ⊥)
+IsNoAccount given =
+    (text : List ℕ) × ReadsAll given text × ((head : AccountHead) (parts : List Part) → IsAccountText text head parts → ⊥)
 
 -- no account was read: memory was refused, a read failed, or all that was read isn't the text of one
 abbrev pub IsNotRead : Option (List ℕ) → RunFault → Type 0
 IsNotRead given fault = (fault ≡ memory) ⊎ ((fault ≡ Stream) × InputFailed) ⊎ ((fault ≡ BadInput) × IsNoAccount given)
 
 -- that is reported, no account changed, and nothing is printed
-pub record RefusesText (given old new : Option (List ℕ)) (result : Result (Unit {0}) RunFault) (accounts later : Accounts) : Type 0 where
+pub record RefusesText (given old new : Option (List ℕ)) (result : Result (Unit {0}) RunFault)
+    (accounts later : Accounts) : Type 0 where
   pub none : IsNoAccount given
   pub told : result ≡ Err BadInput
   pub stays : later ≡ accounts
@@ -264,7 +288,8 @@ pub record RefusesText (given old new : Option (List ℕ)) (result : Result (Uni
 abbrev pub DoesImport : (RunFault → Type 0) → Option (List ℕ) → StreamMove → Result (Unit {0}) RunFault → TablesMove → Type 0
 DoesImport Denied given output result tables =
     TurnsTables (λ accounts later.
-    FinishesPrinted (MakesEvent (IsImportEvent given)) (λ fault all. IsHindered InputFailed ⊥ Denied fault ⊎ RefusesEvent (IsImportEvent given) fault all) output.old output.new result accounts later
+    FinishesPrinted (MakesEvent (IsImportEvent given)) (λ fault all. IsHindered InputFailed ⊥ Denied fault
+    ⊎ RefusesEvent (IsImportEvent given) fault all) output.old output.new result accounts later
     ⊎ RefusesText given output.old output.new result accounts later)
     tables.old tables.new
 
@@ -280,10 +305,12 @@ abbrev pub FindsIn : {X : Type 0} → (RunFault → Type 0) → List ℕ → (X 
 FindsIn Denied user Finds (Ok found) accounts = OfOpen accounts user (Finds found)
 FindsIn Denied user Finds (Err fault) accounts = IsHindered ⊥ ⊥ Denied fault ⊎ ((fault ≡ no_user) × HasNoOpen user accounts)
 
--- why nothing is shown: the subcommand was hindered; no value in the arguments is wrong, and there is no open account of the name; or what was
--- asked for isn't there, which this fault says
+-- why nothing is shown: the subcommand was hindered; no value in the arguments is wrong, and there is no open account of the
+-- name; or what was asked for isn't there, which this fault says
 abbrev pub ShowsNothing : Type 0 → (RunFault → Type 0) → List ℕ → (RunFault → Account → Type 0) → RunFault → Accounts → Type 0
-ShowsNothing Wrong Denied user Lacks fault accounts = IsHindered ⊥ Wrong Denied fault ⊎ ((fault ≡ no_user) × HasNoOpen user accounts × (Wrong → ⊥)) ⊎ OfOpen accounts user (Lacks fault)
+ShowsNothing Wrong Denied user Lacks fault accounts =
+    IsHindered ⊥ Wrong Denied fault ⊎ ((fault ≡ no_user) × HasNoOpen user accounts × (Wrong → ⊥))
+    ⊎ OfOpen accounts user (Lacks fault)
 
 -- what is asked of a user's account: this text shows it, and this fault says that it isn't there
 pub record AccountPart : Type 1 where
@@ -297,7 +324,8 @@ account_part user shows lacks = record { user = user; shows = shows; lacks = lac
 -- the subcommand over tables: it shows a part of the user's account
 abbrev pub DoesRead : Type 0 → (RunFault → Type 0) → AccountPart → StreamMove → Result (Unit {0}) RunFault → TablesMove → Type 0
 DoesRead Wrong Denied part output result tables =
-    TurnsTables (FinishesPrinted (Shows part.user part.shows) (ShowsNothing Wrong Denied part.user part.lacks) output.old output.new result) tables.old tables.new
+    TurnsTables (FinishesPrinted (Shows part.user part.shows)
+    (ShowsNothing Wrong Denied part.user part.lacks) output.old output.new result) tables.old tables.new
 
 -- a folder's name and the number of its messages, in a line
 abbrev pub folder_line : List ℕ × ℕ → List ℕ
@@ -317,7 +345,8 @@ ListsFolders line a text = text ≡ folder_listing line (map folder_size (entrie
 
 -- `folders --maildir`, with this separator of the levels of folders
 abbrev pub ListsDirectories : Option (List ℕ) → Account → List ℕ → Type 0
-ListsDirectories levels a text = (separator : Separator) × IsSeparator levels separator × ListsFolders (directory_line separator) a text
+ListsDirectories levels a text =
+    (separator : Separator) × IsSeparator levels separator × ListsFolders (directory_line separator) a text
 
 -- `queue`
 abbrev pub ListsQueue : Account → List ℕ → Type 0
@@ -383,7 +412,8 @@ user_line name a = cond (is_removed a) [] (cond (is_closed_account a) (closed_li
 
 -- the same from what the store returns of the account, and for a name, which may have none
 abbrev pub profile_line : List ℕ → Profile → List ℕ
-profile_line name p = cond (p.rounds == 0 && length p.digest == 0) [] (cond (p.rounds == 0) (closed_line name) (open_line name p.active p.address))
+profile_line name p =
+    cond (p.rounds == 0 && length p.digest == 0) [] (cond (p.rounds == 0) (closed_line name) (open_line name p.active p.address))
 
 abbrev pub found_line : List ℕ → Option Profile → List ℕ
 found_line name None = []
@@ -400,7 +430,9 @@ pub record ListsUsers (accounts later : Accounts) (text : List ℕ) : Type 0 whe
 
 -- the subcommand over tables: the users are listed, or it was hindered
 abbrev pub DoesUsers : (RunFault → Type 0) → StreamMove → Result (Unit {0}) RunFault → TablesMove → Type 0
-DoesUsers Denied output result tables = TurnsTables (FinishesPrinted ListsUsers (λ fault accounts. IsHindered ⊥ ⊥ Denied fault) output.old output.new result) tables.old tables.new
+DoesUsers Denied output result tables =
+    TurnsTables (FinishesPrinted ListsUsers (λ fault accounts. IsHindered ⊥ ⊥ Denied fault) output.old output.new result)
+    tables.old tables.new
 
 -- what was read of all accounts: they are listed, or the subcommand was hindered
 abbrev pub FindsUsers : (RunFault → Type 0) → Result (List ℕ) RunFault → Accounts → Type 0
@@ -421,7 +453,9 @@ pub record AddsUser (name old new : List ℕ) (next : Option (List ℕ)) (accoun
 
 -- over a store that is open at the end: whatever accounts it showed, it then shows what these became
 abbrev pub TurnsStore : (Accounts → Accounts → Type 0) → State → State → Type 0
-TurnsStore Became old new = HasCleanDisk new → IsTrue new.is_open → (accounts : Accounts) → Presents old.now accounts → (later : Accounts) × Became accounts later × Presents new.now later
+TurnsStore Became old new =
+    HasCleanDisk new → IsTrue new.is_open → (accounts : Accounts) → Presents old.now accounts → (later : Accounts)
+    × Became accounts later × Presents new.now later
 
 -- the notices up to a moment, in their order
 abbrev pub notices_until : ℕ → List Notice → List Notice
@@ -439,20 +473,26 @@ taking user until = DoUpkeep user (upkeep.TakeNotices until)
 abbrev pub IsUnlisted : List ℕ → Option (List ℕ) → Option (List ℕ) → RunFault → Accounts → Type 0
 IsUnlisted user old new fault accounts = Keeps old new × (IsSudden ⊥ fault ⊎ ((fault ≡ no_user) × HasNoOpen user accounts))
 
--- they are listed, and a write of that failed; or it is printed whole, and memory was refused, the store failed, or the machine refuses to take them
+-- they are listed, and a write of that failed; or it is printed whole, and memory was refused, the store failed, or the machine
+-- refuses to take them
 abbrev pub IsUntaken : List ℕ → ℕ → Option (List ℕ) → Option (List ℕ) → RunFault → Accounts → Type 0
 IsUntaken user until old new fault accounts =
     (text : List ℕ) × OfOpen accounts user (λ a. ListsUntil until a text)
-    × (IsPrinted (Err fault) old new text ⊎ (IsPrinted (Ok tt) old new text × (IsSudden ⊥ fault ⊎ RefusesEvent (λ e. e ≡ taking user until) fault accounts)))
+    × (IsPrinted (Err fault) old new text
+    ⊎ (IsPrinted (Ok tt) old new text × (IsSudden ⊥ fault ⊎ RefusesEvent (λ e. e ≡ taking user until) fault accounts)))
 
 -- after Ok they are printed whole and flushed, and were taken; after a fault none was
-abbrev pub TakesListed : List ℕ → ℕ → Option (List ℕ) → Option (List ℕ) → Result (Unit {0}) RunFault → Accounts → Accounts → Type 0
+abbrev pub TakesListed : List ℕ → ℕ → Option (List ℕ) → Option (List ℕ) → Result (Unit {0}) RunFault → Accounts → Accounts
+    → Type 0
 TakesListed user until old new (Ok done) accounts later =
-    (text : List ℕ) × OfOpen accounts user (λ a. ListsUntil until a text) × IsPrinted (Ok tt) old new text × Next (world_of_accounts accounts) (taking user until) answer.NoticesTaken (world_of_accounts later)
-TakesListed user until old new (Err fault) accounts later = (later ≡ accounts) × (IsUnlisted user old new fault accounts ⊎ IsUntaken user until old new fault accounts)
+    (text : List ℕ) × OfOpen accounts user (λ a. ListsUntil until a text) × IsPrinted (Ok tt) old new text
+    × Next (world_of_accounts accounts) (taking user until) answer.NoticesTaken (world_of_accounts later)
+TakesListed user until old new (Err fault) accounts later =
+    (later ≡ accounts) × (IsUnlisted user old new fault accounts ⊎ IsUntaken user until old new fault accounts)
 
 -- the subcommand was hindered: nothing is printed, and no account changed
-abbrev pub IsKeptFrom : Type 0 → (RunFault → Type 0) → Option (List ℕ) → Option (List ℕ) → Result (Unit {0}) RunFault → Accounts → Accounts → Type 0
+abbrev pub IsKeptFrom : Type 0 → (RunFault → Type 0) → Option (List ℕ) → Option (List ℕ) → Result (Unit {0}) RunFault → Accounts
+    → Accounts → Type 0
 IsKeptFrom Wrong Denied old new (Ok done) accounts later = ⊥
 IsKeptFrom Wrong Denied old new (Err fault) accounts later = IsHindered ⊥ Wrong Denied fault × (later ≡ accounts) × Keeps old new
 
@@ -475,12 +515,16 @@ HasExported user old new accounts = (text : List ℕ) × OfOpen accounts user (I
 
 -- it isn't: nothing is written; or it broke off, and a prefix of the text is
 abbrev pub IsUnprinted : List ℕ → Option (List ℕ) → Option (List ℕ) → RunFault → Accounts → Type 0
-IsUnprinted user old new fault accounts = IsUnlisted user old new fault accounts ⊎ OfOpen accounts user (IsCutOff user old new fault)
+IsUnprinted user old new fault accounts =
+    IsUnlisted user old new fault accounts ⊎ OfOpen accounts user (IsCutOff user old new fault)
 
 -- reads of a store, with this result
-pub record PrintsText (user : List ℕ) (out_old out_new : Option (List ℕ)) (old new : State) (result : Result (Unit {0}) RunFault) : Type 0 where
+pub record PrintsText (user : List ℕ) (out_old out_new : Option (List ℕ)) (old new : State)
+    (result : Result (Unit {0}) RunFault) : Type 0 where
   pub keeps : KeepsStore old new result
-  pub printed : HasCleanDisk new → OverAccounts old (λ accounts. MatchResult result (λ done. HasExported user out_old out_new accounts) (λ fault. IsUnprinted user out_old out_new fault accounts))
+  pub printed : HasCleanDisk new → OverAccounts old
+      (λ accounts. MatchResult result (λ done. HasExported user out_old out_new accounts)
+      (λ fault. IsUnprinted user out_old out_new fault accounts))
 
 -- what the accounts become after that: they stay, or the user's was closed
 abbrev pub BecomesClosed : Bool → List ℕ → Accounts → Accounts → Type 0
@@ -490,29 +534,34 @@ BecomesClosed true user accounts later = Next (world_of_accounts accounts) (clos
 -- the text is written, and the account isn't closed: memory was refused, the store failed, or the machine refuses to close it
 abbrev pub IsCloseFailed : Bool → List ℕ → Option (List ℕ) → Option (List ℕ) → RunFault → Accounts → Type 0
 IsCloseFailed false user old new fault accounts = ⊥
-IsCloseFailed true user old new fault accounts = HasExported user old new accounts × (IsSudden ⊥ fault ⊎ RefusesEvent (λ e. e ≡ closing user) fault accounts)
+IsCloseFailed true user old new fault accounts =
+    HasExported user old new accounts × (IsSudden ⊥ fault ⊎ RefusesEvent (λ e. e ≡ closing user) fault accounts)
 
--- after Ok the text is written whole and flushed, and only then the account was closed, if that is asked for; after a fault no account
--- changed, and nothing is written, a prefix of the text, or all of it
+-- after Ok the text is written whole and flushed, and only then the account was closed, if that is asked for; after a fault no
+-- account changed, and nothing is written, a prefix of the text, or all of it
 abbrev pub Exports : Bool → List ℕ → Option (List ℕ) → Option (List ℕ) → Result (Unit {0}) RunFault → Accounts → Accounts → Type 0
-Exports closes user old new (Ok done) accounts later = HasExported user old new accounts × BecomesClosed closes user accounts later
+Exports closes user old new (Ok done) accounts later =
+    HasExported user old new accounts × BecomesClosed closes user accounts later
 Exports closes user old new (Err fault) accounts later =
     (later ≡ accounts) × (IsUnprinted user old new fault accounts ⊎ IsCloseFailed closes user old new fault accounts)
 
 -- the subcommand over tables
 abbrev pub DoesExport : (RunFault → Type 0) → Bool → List ℕ → StreamMove → Result (Unit {0}) RunFault → TablesMove → Type 0
 DoesExport Denied closes user output result tables =
-    TurnsTables (λ accounts later. IsKeptFrom ⊥ Denied output.old output.new result accounts later ⊎ Exports closes user output.old output.new result accounts later)
+    TurnsTables (λ accounts later. IsKeptFrom ⊥ Denied output.old output.new result accounts later
+    ⊎ Exports closes user output.old output.new result accounts later)
     tables.old tables.new
 
 -- ---- `init`
 
 -- if there was no table, there is a store without accounts then; after a fault only if the output failed
 abbrev pub DoesInit : (RunFault → Type 0) → StreamMove → Result (Unit {0}) RunFault → TablesMove → Type 0
-DoesInit Denied output (Ok done) tables = (tables.old.schema ≡ no_schema) × Presents tables.new no_accounts × IsPrinted (Ok tt) output.old output.new (codes "ready\n")
+DoesInit Denied output (Ok done) tables =
+    (tables.old.schema ≡ no_schema) × Presents tables.new no_accounts × IsPrinted (Ok tt) output.old output.new (codes "ready\n")
 DoesInit Denied output (Err fault) tables =
     (IsHindered ⊥ ⊥ Denied fault × (tables.new ≡ tables.old) × Keeps output.old output.new)
-    ⊎ ((tables.old.schema ≡ no_schema) × Presents tables.new no_accounts × IsPrinted (Err fault) output.old output.new (codes "ready\n"))
+    ⊎ ((tables.old.schema ≡ no_schema) × Presents tables.new no_accounts
+    × IsPrinted (Err fault) output.old output.new (codes "ready\n"))
 
 -- ---- the subcommands
 
@@ -521,31 +570,43 @@ abbrev pub DoesNothing : StreamMove → Result (Unit {0}) RunFault → TablesMov
 DoesNothing output result tables = (result ≡ Err BadArgument) × (tables.new ≡ tables.old) × Keeps output.old output.new
 
 -- `folders`: directories in a Maildir are shown if they are asked for, and only then may a separator of levels be given
-abbrev pub DoesFolders : (RunFault → Type 0) → List ℕ → Bool → Option (List ℕ) → StreamMove → Result (Unit {0}) RunFault → TablesMove → Type 0
-DoesFolders Denied user true levels output result tables = DoesRead (HasNoSeparator levels) Denied (account_part user (ListsDirectories levels) LacksNothing) output result tables
-DoesFolders Denied user false None output result tables = DoesRead ⊥ Denied (account_part user (ListsFolders folder_line) LacksNothing) output result tables
+abbrev pub DoesFolders : (RunFault → Type 0) → List ℕ → Bool → Option (List ℕ) → StreamMove → Result (Unit {0}) RunFault
+    → TablesMove → Type 0
+DoesFolders Denied user true levels output result tables =
+    DoesRead (HasNoSeparator levels) Denied (account_part user (ListsDirectories levels) LacksNothing) output result tables
+DoesFolders Denied user false None output result tables =
+    DoesRead ⊥ Denied (account_part user (ListsFolders folder_line) LacksNothing) output result tables
 DoesFolders Denied user false (Some levels) output result tables = DoesNothing output result tables
 
 -- `queue`: all that is on its way out, or one message of it
-abbrev pub DoesQueue : (RunFault → Type 0) → List ℕ → Option (List ℕ) → StreamMove → Result (Unit {0}) RunFault → TablesMove → Type 0
-DoesQueue Denied user None output result tables = DoesRead ⊥ Denied (account_part user ListsQueue LacksNothing) output result tables
-DoesQueue Denied user (Some digits) output result tables = DoesRead (IsNoNumber digits) Denied (account_part user (ShowsOutgoing digits) (LacksOutgoing digits)) output result tables
+abbrev pub DoesQueue : (RunFault → Type 0) → List ℕ → Option (List ℕ) → StreamMove → Result (Unit {0}) RunFault → TablesMove
+    → Type 0
+DoesQueue Denied user None output result tables =
+    DoesRead ⊥ Denied (account_part user ListsQueue LacksNothing) output result tables
+DoesQueue Denied user (Some digits) output result tables =
+    DoesRead (IsNoNumber digits) Denied (account_part user (ShowsOutgoing digits) (LacksOutgoing digits)) output result tables
 
 -- `scripts`: all, or one of them
-abbrev pub DoesScripts : (RunFault → Type 0) → List ℕ → Option (List ℕ) → StreamMove → Result (Unit {0}) RunFault → TablesMove → Type 0
-DoesScripts Denied user None output result tables = DoesRead ⊥ Denied (account_part user ListsScripts LacksNothing) output result tables
-DoesScripts Denied user (Some name) output result tables = DoesRead ⊥ Denied (account_part user (ShowsScript name) (LacksScript name)) output result tables
+abbrev pub DoesScripts : (RunFault → Type 0) → List ℕ → Option (List ℕ) → StreamMove → Result (Unit {0}) RunFault → TablesMove
+    → Type 0
+DoesScripts Denied user None output result tables =
+    DoesRead ⊥ Denied (account_part user ListsScripts LacksNothing) output result tables
+DoesScripts Denied user (Some name) output result tables =
+    DoesRead ⊥ Denied (account_part user (ShowsScript name) (LacksScript name)) output result tables
 
 -- `notices`: all are listed; or those up to a moment are, and taken
-abbrev pub DoesNotices : (RunFault → Type 0) → List ℕ → Option (List ℕ) → StreamMove → Result (Unit {0}) RunFault → TablesMove → Type 0
-DoesNotices Denied user None output result tables = DoesRead ⊥ Denied (account_part user ListsNotices LacksNothing) output result tables
+abbrev pub DoesNotices : (RunFault → Type 0) → List ℕ → Option (List ℕ) → StreamMove → Result (Unit {0}) RunFault → TablesMove
+    → Type 0
+DoesNotices Denied user None output result tables =
+    DoesRead ⊥ Denied (account_part user ListsNotices LacksNothing) output result tables
 DoesNotices Denied user (Some digits) output result tables = TakesNotices Denied user digits output result tables
 
 -- what `deliver` reads broke: its input, or the clock, whose moment it takes if the arguments have none
 abbrev pub DeliverInputFailed : Option (List ℕ) → Option ℕ → Type 0
 DeliverInputFailed at clock = InputFailed ⊎ ((at ≡ None) × (clock ≡ None))
 
--- what `adduser` and `passwd` read broke: their input, or the system's random octets, which are the salt if the arguments have none
+-- what `adduser` and `passwd` read broke: their input, or the system's random octets, which are the salt if the arguments have
+-- none
 abbrev pub SaltFailed : Option (List ℕ) → Option (List ℕ) → Type 0
 SaltFailed digits random = InputFailed ⊎ ((digits ≡ None) × (random ≡ None))
 
@@ -553,7 +614,8 @@ SaltFailed digits random = InputFailed ⊎ ((digits ≡ None) × (random ≡ Non
 abbrev pub DeniedAtEnd : (RunFault → Type 0) → Option (List ℕ) → RunFault → Type 0
 DeniedAtEnd Denied left fault = Denied fault × IsAtEnd left
 
--- what surrounds a run: why the store at a place is denied, why a sink refuses, the clock, the system's random octets, and the host's scripts
+-- what surrounds a run: why the store at a place is denied, why a sink refuses, the clock, the system's random octets, and the
+-- host's scripts
 pub record Surroundings : Type 1 where
   pub denied : StoreLocation → RunFault → Type 0
   pub sunk : SinkError → Type 0
@@ -561,7 +623,8 @@ pub record Surroundings : Type 1 where
   pub random : Option (List ℕ)
   pub host : HostTexts
 
-abbrev pub surroundings : (StoreLocation → RunFault → Type 0) → (SinkError → Type 0) → Option ℕ → Option (List ℕ) → HostTexts → Surroundings
+abbrev pub surroundings : (StoreLocation → RunFault → Type 0) → (SinkError → Type 0) → Option ℕ → Option (List ℕ) → HostTexts
+    → Surroundings
 surroundings denied sunk clock random host = record { denied = denied; sunk = sunk; clock = clock; random = random; host = host }
 
 -- what was to be read and what is left of it, what the sink kept, and the output
@@ -570,34 +633,60 @@ module _ (around : Surroundings) (input : StreamMove) (sink : SinkMails) (output
   abbrev pub Idle : Type 0
   Idle = StaysAsItWas sink.tells sink.had sink.has × (input.new ≡ input.old)
 
-  -- each subcommand does its own work; only `init` makes a store, only `drain` moves messages into the sink, and only `adduser`, `passwd`, `put`,
-  -- `import` and `deliver` read
+  -- each subcommand does its own work; only `init` makes a store, only `drain` moves messages into the sink, and only `adduser`,
+  -- `passwd`, `put`, `import` and `deliver` read
   abbrev pub DoesSubcommand : Subcommand → Result (Unit {0}) RunFault → TablesMove → Type 0
   DoesSubcommand (word.Init a) result tables = Idle × DoesInit (around.denied a.location) output result tables
   DoesSubcommand (word.AddUser a) result tables =
-      StaysAsItWas sink.tells sink.had sink.has × DoesEvent (SaltFailed (option_copied a.salt) around.random) (HasNoSalt (option_copied a.salt)) (DeniedAtEnd (around.denied a.location) input.new) (IsAddUserEvent (option_copied a.salt) around.random a.name.now a.address.now input.old) output result tables
+      StaysAsItWas sink.tells sink.had sink.has
+      × DoesEvent (SaltFailed (option_copied a.salt) around.random) (HasNoSalt (option_copied a.salt))
+      (DeniedAtEnd (around.denied a.location) input.new)
+      (IsAddUserEvent (option_copied a.salt) around.random a.name.now a.address.now input.old) output result tables
   DoesSubcommand (word.Users a) result tables = Idle × DoesUsers (around.denied a.location) output result tables
   DoesSubcommand (word.Passwd a) result tables =
       StaysAsItWas sink.tells sink.had sink.has
-      × DoesEvent (SaltFailed (option_copied a.salt) around.random) (HasNoSalt (option_copied a.salt)) (DeniedAtEnd (around.denied a.location) input.new) (IsPasswdEvent (option_copied a.salt) around.random a.user.now input.old) output result tables
-  DoesSubcommand (word.Address a) result tables = Idle × DoesEvent ⊥ ⊥ (around.denied a.location) (IsUpkeepEvent a.user.now (upkeep.SetAddress a.address.now)) output result tables
-  DoesSubcommand (word.Scripts a) result tables = Idle × DoesScripts (around.denied a.location) a.user.now (option_copied a.script) output result tables
-  DoesSubcommand (word.Put a) result tables = StaysAsItWas sink.tells sink.had sink.has × DoesPut (DeniedAtEnd (around.denied a.location) input.new) (IsPutEvent a.user.now a.script.now a.activate input.old) output result tables
-  DoesSubcommand (word.Open a) result tables = Idle × DoesEvent ⊥ ⊥ (around.denied a.location) (IsUpkeepEvent a.user.now upkeep.OpenAccount) output result tables
-  DoesSubcommand (word.Remove a) result tables = Idle × DoesEvent ⊥ ⊥ (around.denied a.location) (IsUpkeepEvent a.user.now (upkeep.RemoveAccount a.mail)) output result tables
-  DoesSubcommand (word.Export a) result tables = Idle × DoesExport (around.denied a.location) a.and_close a.user.now output result tables
-  DoesSubcommand (word.Import a) result tables = StaysAsItWas sink.tells sink.had sink.has × DoesImport (DeniedAtEnd (around.denied a.location) input.new) input.old output result tables
+      × DoesEvent (SaltFailed (option_copied a.salt) around.random) (HasNoSalt (option_copied a.salt))
+      (DeniedAtEnd (around.denied a.location) input.new)
+      (IsPasswdEvent (option_copied a.salt) around.random a.user.now input.old) output result tables
+  DoesSubcommand (word.Address a) result tables =
+      Idle × DoesEvent ⊥ ⊥ (around.denied a.location)
+      (IsUpkeepEvent a.user.now (upkeep.SetAddress a.address.now)) output result tables
+  DoesSubcommand (word.Scripts a) result tables =
+      Idle × DoesScripts (around.denied a.location) a.user.now (option_copied a.script) output result tables
+  DoesSubcommand (word.Put a) result tables =
+      StaysAsItWas sink.tells sink.had sink.has
+      × DoesPut (DeniedAtEnd (around.denied a.location) input.new)
+      (IsPutEvent a.user.now a.script.now a.activate input.old) output result tables
+  DoesSubcommand (word.Open a) result tables =
+      Idle × DoesEvent ⊥ ⊥ (around.denied a.location) (IsUpkeepEvent a.user.now upkeep.OpenAccount) output result tables
+  DoesSubcommand (word.Remove a) result tables =
+      Idle × DoesEvent ⊥ ⊥ (around.denied a.location)
+      (IsUpkeepEvent a.user.now (upkeep.RemoveAccount a.mail)) output result tables
+  DoesSubcommand (word.Export a) result tables =
+      Idle × DoesExport (around.denied a.location) a.and_close a.user.now output result tables
+  DoesSubcommand (word.Import a) result tables =
+      StaysAsItWas sink.tells sink.had sink.has
+      × DoesImport (DeniedAtEnd (around.denied a.location) input.new) input.old output result tables
   DoesSubcommand (word.Deliver a) result tables =
       StaysAsItWas sink.tells sink.had sink.has
-      × DoesEvent (DeliverInputFailed (option_copied a.at) around.clock) (HasNoWhen (option_copied a.at) (option_copied a.zone)) (DeniedAtEnd (around.denied a.location) input.new)
-      (IsDeliverEvent (envelope_with a.from.now a.to.now) (option_copied a.at) (option_copied a.zone) a.user.now around.clock around.host input.old) output result tables
-  DoesSubcommand (word.Done a) result tables = Idle × DoesEvent ⊥ (IsNoNumber a.id.now) (around.denied a.location) (IsDoneEvent a.user.now a.id.now) output result tables
-  DoesSubcommand (word.Drain a) result tables = (input.new ≡ input.old) × HasDrained around.sunk (around.denied a.location) a sink output result tables
-  DoesSubcommand (word.Folders a) result tables = Idle × DoesFolders (around.denied a.location) a.user.now a.directories (option_copied a.separator) output result tables
+      × DoesEvent (DeliverInputFailed (option_copied a.at) around.clock) (HasNoWhen (option_copied a.at) (option_copied a.zone))
+      (DeniedAtEnd (around.denied a.location) input.new)
+      (IsDeliverEvent (envelope_with a.from.now a.to.now) (option_copied a.at)
+      (option_copied a.zone) a.user.now around.clock around.host input.old) output result tables
+  DoesSubcommand (word.Done a) result tables =
+      Idle × DoesEvent ⊥ (IsNoNumber a.id.now) (around.denied a.location) (IsDoneEvent a.user.now a.id.now) output result tables
+  DoesSubcommand (word.Drain a) result tables =
+      (input.new ≡ input.old) × HasDrained around.sunk (around.denied a.location) a sink output result tables
+  DoesSubcommand (word.Folders a) result tables =
+      Idle × DoesFolders (around.denied a.location) a.user.now a.directories (option_copied a.separator) output result tables
   DoesSubcommand (word.Show a) result tables =
-      Idle × DoesRead (IsNoNumber a.number.now) (around.denied a.location) (account_part a.user.now (ShowsMessage a.folder.now a.number.now) (LacksMessage a.folder.now a.number.now)) output result tables
-  DoesSubcommand (word.Queue a) result tables = Idle × DoesQueue (around.denied a.location) a.user.now (option_copied a.id) output result tables
-  DoesSubcommand (word.Notices a) result tables = Idle × DoesNotices (around.denied a.location) a.user.now (option_copied a.until) output result tables
+      Idle × DoesRead (IsNoNumber a.number.now) (around.denied a.location)
+      (account_part a.user.now (ShowsMessage a.folder.now a.number.now) (LacksMessage a.folder.now a.number.now)) output result
+      tables
+  DoesSubcommand (word.Queue a) result tables =
+      Idle × DoesQueue (around.denied a.location) a.user.now (option_copied a.id) output result tables
+  DoesSubcommand (word.Notices a) result tables =
+      Idle × DoesNotices (around.denied a.location) a.user.now (option_copied a.until) output result tables
   DoesSubcommand (word.Try a) result tables = Idle × DoesNothing output result tables
   DoesSubcommand (word.Send a) result tables = Idle × DoesNothing output result tables
   DoesSubcommand (word.Serve a) result tables = Idle × DoesNothing output result tables
@@ -605,7 +694,8 @@ module _ (around : Surroundings) (input : StreamMove) (sink : SinkMails) (output
   DoesSubcommand (word.Daemon a) result tables = Idle × DoesNothing output result tables
   DoesSubcommand (word.Check a) result tables = Idle × DoesNothing output result tables
 
--- the store that a subcommand works on, and for `drain` the Maildir, are those that it names, and the store was waited for as it says
+-- the store that a subcommand works on, and for `drain` the Maildir, are those that it names, and the store was waited for as it
+-- says
 abbrev pub ReachesStore : (StoreLocation → Type 0) → (List ℕ → Type 0) → Subcommand → Type 0
 ReachesStore Given At (word.Init a) = Given a.location
 ReachesStore Given At (word.AddUser a) = Given a.location
@@ -666,11 +756,13 @@ pub record IsUnsaid (error : Error) (out_old out_new err_old err_new : Option (L
 -- what is printed of a text that `clap` has
 abbrev pub TellsClapText : Error → Option (List ℕ) → Option (List ℕ) → Option (List ℕ) → Option (List ℕ) → ℕ → Type 0
 TellsClapText error out_old out_new err_old err_new status =
-    IsUsage error out_old out_new err_old err_new status ⊎ IsHelp error out_old out_new err_old err_new status ⊎ IsUnsaid error out_old out_new err_old err_new status
+    IsUsage error out_old out_new err_old err_new status ⊎ IsHelp error out_old out_new err_old err_new status
+    ⊎ IsUnsaid error out_old out_new err_old err_new status
 
 -- nothing was done, and this fault is reported
 abbrev pub IsOnly : RunFault → Option (List ℕ) → Option (List ℕ) → Option (List ℕ) → Option (List ℕ) → ℕ → Type 0
-IsOnly fault out_old out_new err_old err_new status = (status ≡ status_of fault) × (out_new ≡ out_old) × IsWritten err_old err_new (run_fault_line fault)
+IsOnly fault out_old out_new err_old err_new status =
+    (status ≡ status_of fault) × (out_new ≡ out_old) × IsWritten err_old err_new (run_fault_line fault)
 
 -- what is printed of arguments that ask for nothing
 abbrev pub TellsArgsError : ArgsError → Option (List ℕ) → Option (List ℕ) → Option (List ℕ) → Option (List ℕ) → ℕ → Type 0
@@ -679,7 +771,8 @@ TellsArgsError NotText out_old out_new err_old err_new status = IsOnly BadArgume
 TellsArgsError Unknown out_old out_new err_old err_new status = IsOnly BadArgument out_old out_new err_old err_new status
 
 -- a subcommand did its work: its status is that of how it ended, and what went wrong is reported, with its cause
-pub record RunsSubcommand (Did : Result (Unit {0}) RunFault → Type 0) (Reached : Type 0) (cause : RunFault → Option (List ℕ)) (err_old err_new : Option (List ℕ)) (status : ℕ) : Type 0 where
+pub record RunsSubcommand (Did : Result (Unit {0}) RunFault → Type 0) (Reached : Type 0) (cause : RunFault → Option (List ℕ))
+    (err_old err_new : Option (List ℕ)) (status : ℕ) : Type 0 where
   pub ending : Result (Unit {0}) RunFault
   pub ended : status ≡ status_after ending
   pub unclosed : Option Refusal
@@ -705,14 +798,19 @@ pub record RunStreams : Type 0 where
 abbrev pub run_streams : StreamMove → StreamMove → StreamMove → RunStreams
 run_streams input output errors = record { input = input; output = output; errors = errors }
 
-module _ (around : Surroundings) (end : Reached) (streams : RunStreams) (sink : SinkMails) (status : ℕ) (tables : TablesMove) where
-  -- what arguments that were read like this do: a script was tried; a subcommand did its work; or they ask for nothing, which is reported
+module _ (around : Surroundings) (end : Reached) (streams : RunStreams) (sink : SinkMails) (status : ℕ)
+    (tables : TablesMove) where
+  -- what arguments that were read like this do: a script was tried; a subcommand did its work; or they ask for nothing, which is
+  -- reported
   abbrev pub RunsAs : Result Subcommand ArgsError → Type 0
-  RunsAs (Ok (word.Try a)) = Tries a around.clock around.host streams.input.old streams.output streams.errors status × TouchesNothing sink tables
+  RunsAs (Ok (word.Try a)) =
+      Tries a around.clock around.host streams.input.old streams.output streams.errors status × TouchesNothing sink tables
   RunsAs (Ok asked) =
-      RunsSubcommand (λ ending. DoesSubcommand around streams.input sink streams.output asked ending tables) (ReachesStore end.given end.at asked) end.cause streams.errors.old streams.errors.new status
+      RunsSubcommand (λ ending. DoesSubcommand around streams.input sink streams.output asked ending tables)
+      (ReachesStore end.given end.at asked) end.cause streams.errors.old streams.errors.new status
   RunsAs (Err error) =
-      TellsArgsError error streams.output.old streams.output.new streams.errors.old streams.errors.new status × TouchesNothing sink tables × (streams.input.new ≡ streams.input.old)
+      TellsArgsError error streams.output.old streams.output.new streams.errors.old streams.errors.new status
+      × TouchesNothing sink tables × (streams.input.new ≡ streams.input.old)
 
   -- a run of the program with these arguments
   abbrev pub RunsWords : RawArgs → Type 0

@@ -10,6 +10,10 @@ pub record Transition {ℓ} (X : Type ℓ) : Type ℓ where
 abbrev pub from_to {ℓ} : {X : Type ℓ} → X → X → Transition X
 from_to old new = record { old = old; new = new }
 
+-- what a function tells of a value before a call and afterwards
+abbrev pub across : {A X : Type 0} → (A → X) → A → A → Transition X
+across f old new = from_to (f old) (f new)
+
 -- what a reader has left, or what was written, if it is known
 abbrev pub StreamMove : Type 0
 StreamMove = Transition (Option (List ℕ))

@@ -64,8 +64,8 @@ abbrev pub IsHostZone : Option (List ℕ) → HostZone → Type 0
 IsHostZone (Some text) zone = IsZoneText text zone
 IsHostZone None zone = (moment : ℕ) → IsOffsetAt zone moment (pos 0)
 
--- under what a message is delivered: at the moment that the argument has in decimal, or else the clock's, in the zone of the argument, by a
--- host with these scripts
+-- under what a message is delivered: at the moment that the argument has in decimal, or else the clock's, in the zone of the
+-- argument, by a host with these scripts
 pub record AreTerms (at zone : Option (List ℕ)) (clock : Option ℕ) (host : HostTexts) (terms : Terms) : Type 0 where
   pub dated : IsGivenMoment at clock terms.when.moment
   pub zoned : IsHostZone zone terms.host.zone

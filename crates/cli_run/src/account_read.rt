@@ -193,7 +193,8 @@ impl AccountRead for ScriptOf<'_> {
 
 /// The names of a user's scripts, and the active one.
 fn script_names<S: Alter>(store: &mut Store<S>, user: &[u8]) -> Result<ScriptNames, Refusal>
-    ensures { ReadsOpenAccount user.now (λ found a. AreScripts found.names found.active a) (state S.Store store.old) (state S.Store store.new) result }
+    ensures { ReadsOpenAccount user.now (λ found a. AreScripts found.names found.active a) (state S.Store store.old)
+        (state S.Store store.new) result }
 {
     let profile = store.enter(user)?;
     let names = store.scripts_of(user)?;
@@ -218,8 +219,8 @@ pub fn read_once<Q: AccountRead, K: Keeper>(
     keeper: &mut K,
 ) -> Result<Q::Found, RunFault>
     ensures back { K.is_out keeper.old ≡ false → K.is_out keeper.new ≡ false }
-    ensures found { IsTrue K.tells → TurnsTables
-        (λ accounts later. (later ≡ accounts) × FindsIn (HasDenied K.refuses K.will_wait location.entry) (Q.user wanted.now) (Q.finds wanted.now) result accounts)
+    ensures found { IsTrue K.tells → TurnsTables (λ accounts later. (later ≡ accounts)
+        × FindsIn (HasDenied K.refuses K.will_wait location.entry) (Q.user wanted.now) (Q.finds wanted.now) result accounts)
         (K.holds keeper.old) (K.holds keeper.new) }
     ensures given { OnOk result (HasGiven K.gives K.will_wait location.entry) }
 {

@@ -10,10 +10,10 @@ ghost use Rattle.store_engine.specs.Attempts.{IsValidOrNone, SettlesUnderTerms};
 ghost use Rattle.store_engine.specs.Terms.{terms_of};
 ghost use Rattle.cli_reports.specs.Reports.{settled_report};
 ghost use Rattle.cli_run.specs.declared.answer.TryAnswer.TheVariants.{Report};
-ghost use Rattle.cli_run.specs.Faults.{IsUnanswered, memory};
+ghost use Rattle.cli_run.specs.Faults.{memory};
 ghost use Rattle.cli_run.specs.Framing.{IsFramed};
-ghost use Rattle.cli_run.specs.KeptInputs.{KeepsInput, IsMessagePrefix};
-ghost use Rattle.cli_run.specs.TryScript.{AnswersInput, IsNoInput, answer_text, own_script};
+ghost use Rattle.cli_run.specs.KeptInputs.{IsMessagePrefix};
+ghost use Rattle.cli_run.specs.TryScript.{AnswersInput, AnswersKept, LeavesUnanswered, answer_text, own_script};
 
 use crate::fault::RunFault;
 use crate::framing::split;
@@ -53,8 +53,8 @@ pub fn answer_to(
     terms: LentTerms<'_>,
     input: &KeptInput,
 ) -> Result<TryAnswer, RunFault>
-    ensures answer { IfOk result (λ answer. (came : List ℕ) → KeepsInput came input.now.octets.items input.now.count → AnswersInput envelope (terms_of terms.entry) came answer) }
-    ensures none { IfErr result (λ fault. (came : List ℕ) → KeepsInput came input.now.octets.items input.now.count → IsUnanswered (IsNoInput came) fault) }
+    ensures answer { IfOk result (AnswersKept envelope (terms_of terms.entry) input.now.octets.items input.now.count) }
+    ensures none { IfErr result (LeavesUnanswered input.now.octets.items input.now.count) }
 {
     match split(input.kept()) {
         Some(framed) => answer_on(
@@ -69,7 +69,8 @@ pub fn answer_to(
     }
 }
 
-/// Tries a script on a message, of which this is a prefix that decides, received with the envelope and delivered under these terms.
+/// Tries a script on a message, of which this is a prefix that decides, received with the envelope and delivered under these
+/// terms.
 fn answer_on(
     alloc: Global,
     envelope: Envelope,
@@ -78,8 +79,8 @@ fn answer_on(
     front: &[u8],
     count: Option<SizeCount>,
 ) -> Result<TryAnswer, RunFault>
-    ensures answer { IfOk result (λ answer. (input message : List ℕ) → IsFramed input script.now message → IsMessagePrefix front.now count message
-        → AnswersInput envelope (terms_of terms.entry) input answer) }
+    ensures answer { IfOk result (λ answer. (input message : List ℕ) → IsFramed input script.now message
+        → IsMessagePrefix front.now count message → AnswersInput envelope (terms_of terms.entry) input answer) }
     ensures memory { IfErr result (λ fault. fault ≡ memory) }
 {
     match settle_on(alloc, script, envelope, front, count, terms) {

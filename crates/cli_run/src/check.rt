@@ -23,7 +23,8 @@ pub fn check_input<R: Read, W: Write, E: Write>(
     errors: &mut E,
 ) -> u8
     ensures reads { result ≡ 0 → ReadsToEnd R.remaining input.old input.new }
-    ensures checks { ChecksInput (R.remaining input.old) (W.contents output.old) (W.contents output.new) (E.contents errors.old) (E.contents errors.new) result }
+    ensures checks { ChecksInput (R.remaining input.old) (W.contents output.old) (W.contents output.new) (E.contents errors.old)
+        (E.contents errors.new) result }
 {
     match read_all(alloc, input) {
         Ok(text) => check_text(alloc, None, text.as_slice(), output, errors),
@@ -41,7 +42,8 @@ pub fn check_text<W: Write, E: Write>(
     output: &mut W,
     errors: &mut E,
 ) -> u8
-    ensures { IsChecked (option_copied file.entry) text.now (W.contents output.old) (W.contents output.new) (E.contents errors.old) (E.contents errors.new) result }
+    ensures { IsChecked (option_copied file.entry) text.now (W.contents output.old) (W.contents output.new)
+        (E.contents errors.old) (E.contents errors.new) result }
 {
     match print_finding(alloc, file, text, output) {
         Ok(None) => 0,

@@ -5,7 +5,7 @@ ghost use Rattle.cli_run.specs.Draining.{IsMost, DrainsFirst, MovesAll, Drains, 
 ghost use Rattle.cli_run.specs.Faults.{memory, no_user, store_failed, IsFailure, IsSudden};
 ghost use Rattle.cli_run.specs.Serving.{HasDenied, HasGiven};
 ghost use Rattle.cli_run.specs.Values.{HasNoNumber};
-ghost use Rattle.cli_run.specs.Transitions.{from_to};
+ghost use Rattle.cli_run.specs.Transitions.{across};
 
 use crate::commands::take_store;
 use crate::fault::RunFault;
@@ -28,9 +28,9 @@ pub fn run_drain<W: Write, K: Keeper, T: MailSink>(
     sink: &mut T,
 ) -> Result<(), RunFault>
     ensures back { K.is_out keeper.old ≡ false → K.is_out keeper.new ≡ false }
-    ensures drains { IsTrue K.tells → HasDrained (HasRefused T.refuses) (HasDenied K.refuses K.will_wait asked.entry.location) asked.entry
-        (sink_mails T.tells (T.kept sink.old) (T.kept sink.new)) (from_to (W.contents output.old) (W.contents output.new)) result
-        (from_to (K.holds keeper.old) (K.holds keeper.new)) }
+    ensures drains { IsTrue K.tells → HasDrained (HasRefused T.refuses) (HasDenied K.refuses K.will_wait asked.entry.location)
+        asked.entry (sink_mails T.tells (T.kept sink.old) (T.kept sink.new)) (across W.contents output.old output.new) result
+        (across K.holds keeper.old keeper.new) }
     ensures given { OnOk result (HasGiven K.gives K.will_wait asked.entry.location) }
     ensures placed { OnOk result (T.is_at sink.new asked.entry.maildir.now) }
 {
@@ -61,8 +61,8 @@ fn drain_store<K: Keeper, T: MailSink>(
     sink: &mut T,
 ) -> Result<u64, RunFault>
     ensures back { K.is_out keeper.old ≡ false → K.is_out keeper.new ≡ false }
-    ensures moves { IsTrue K.tells → MovesTables (HasRefused T.refuses) (HasDenied K.refuses K.will_wait asked.entry.location) asked.entry
-        (sink_mails T.tells (T.kept sink.old) (T.kept sink.new)) most result (from_to (K.holds keeper.old) (K.holds keeper.new)) }
+    ensures moves { IsTrue K.tells → MovesTables (HasRefused T.refuses) (HasDenied K.refuses K.will_wait asked.entry.location)
+        asked.entry (sink_mails T.tells (T.kept sink.old) (T.kept sink.new)) most result (across K.holds keeper.old keeper.new) }
     ensures given { OnOk result (HasGiven K.gives K.will_wait asked.entry.location) }
     ensures stays { (path : List ℕ) → T.is_at sink.old path → T.is_at sink.new path }
 {
@@ -86,7 +86,8 @@ fn move_first<S: Alter, T: MailSink>(
     folder: &[u8],
     sink: &mut T,
 ) -> Result<bool, RunFault>
-    ensures moves { DrainsFirst user.now folder.now (sink_mails T.tells (T.kept sink.old) (T.kept sink.new)) result (state S.Store store.old) (state S.Store store.new) }
+    ensures moves { DrainsFirst user.now folder.now (sink_mails T.tells (T.kept sink.old) (T.kept sink.new)) result
+        (state S.Store store.old) (state S.Store store.new) }
     ensures stays { (path : List ℕ) → T.is_at sink.old path → T.is_at sink.new path }
     ensures fault { IfErr result (IsSudden (IsUnkept (HasRefused T.refuses))) }
 {
@@ -140,7 +141,8 @@ fn move_all<S: Alter, T: MailSink>(
     most: u64,
     sink: &mut T,
 ) -> Result<u64, RunFault>
-    ensures moves { MovesAll user.now folder.now (sink_mails T.tells (T.kept sink.old) (T.kept sink.new)) most result (state S.Store store.old) (state S.Store store.new) }
+    ensures moves { MovesAll user.now folder.now (sink_mails T.tells (T.kept sink.old) (T.kept sink.new)) most result
+        (state S.Store store.old) (state S.Store store.new) }
     ensures stays { (path : List ℕ) → T.is_at sink.old path → T.is_at sink.new path }
     ensures fault { IfErr result (IsSudden (IsUnkept (HasRefused T.refuses))) }
 {
@@ -158,7 +160,8 @@ fn move_all<S: Alter, T: MailSink>(
 /// # Errors
 ///
 /// `NoUser` if there is no open account of the name; nothing has moved then. `Memory`, `Store`, and `Stream` if the sink failed,
-/// may come at any message: those that moved before stay in the sink, and the next one may be there though it is in the folder still.
+/// may come at any message: those that moved before stay in the sink, and the next one may be there though it is in the folder
+/// still.
 fn drain<S: Alter, T: MailSink>(
     store: &mut Store<S>,
     user: &[u8],
@@ -166,7 +169,8 @@ fn drain<S: Alter, T: MailSink>(
     most: u64,
     sink: &mut T,
 ) -> Result<u64, RunFault>
-    ensures moves { Drains user.now folder.now (sink_mails T.tells (T.kept sink.old) (T.kept sink.new)) most result (state S.Store store.old) (state S.Store store.new) }
+    ensures moves { Drains user.now folder.now (sink_mails T.tells (T.kept sink.old) (T.kept sink.new)) most result
+        (state S.Store store.old) (state S.Store store.new) }
     ensures stays { (path : List ℕ) → T.is_at sink.old path → T.is_at sink.new path }
     ensures fault { IfErr result (λ fault. IsSudden (IsUnkept (HasRefused T.refuses)) fault ⊎ (fault ≡ no_user)) }
 {

@@ -7,7 +7,7 @@ ghost use Rattle.cli_run.specs.Exports.{PutsParts};
 ghost use Rattle.cli_run.specs.Faults.{IsTextPut};
 ghost use Rattle.cli_run.specs.Serving.{HasDenied, HasGiven};
 ghost use Rattle.cli_run.specs.Subcommands.{DoesExport, Exports, PrintsText, TurnsStore};
-ghost use Rattle.cli_run.specs.Transitions.{from_to};
+ghost use Rattle.cli_run.specs.Transitions.{across, from_to};
 
 use crate::commands::take_store;
 use crate::fault::RunFault;
@@ -35,8 +35,8 @@ pub fn run_export<W: Write, K: Keeper>(
     keeper: &mut K,
 ) -> Result<(), RunFault>
     ensures back { K.is_out keeper.old ≡ false → K.is_out keeper.new ≡ false }
-    ensures does { IsTrue K.tells → DoesExport (HasDenied K.refuses K.will_wait asked.entry.location) asked.entry.and_close asked.entry.user.now
-        (from_to (W.contents output.old) (W.contents output.new)) result (from_to (K.holds keeper.old) (K.holds keeper.new)) }
+    ensures does { IsTrue K.tells → DoesExport (HasDenied K.refuses K.will_wait asked.entry.location) asked.entry.and_close
+        asked.entry.user.now (across W.contents output.old output.new) result (across K.holds keeper.old keeper.new) }
     ensures given { OnOk result (HasGiven K.gives K.will_wait asked.entry.location) }
 {
     let mut store = take_store(asked.location, false, keeper)?;
@@ -59,7 +59,8 @@ fn export<S: Alter, W: Write>(
     closes: bool,
     output: &mut W,
 ) -> Result<(), RunFault>
-    ensures { TurnsStore (Exports closes user.now (W.contents output.old) (W.contents output.new) result) (state S.Store store.old) (state S.Store store.new) }
+    ensures { TurnsStore (Exports closes user.now (W.contents output.old) (W.contents output.new) result)
+        (state S.Store store.old) (state S.Store store.new) }
 {
     print_text(alloc, store, user, output)?;
     if !closes {
@@ -75,7 +76,8 @@ fn print_text<S: Alter, W: Write>(
     user: &[u8],
     output: &mut W,
 ) -> Result<(), RunFault>
-    ensures { PrintsText user.now (W.contents output.old) (W.contents output.new) (state S.Store store.old) (state S.Store store.new) result }
+    ensures { PrintsText user.now (W.contents output.old) (W.contents output.new) (state S.Store store.old)
+        (state S.Store store.new) result }
 {
     let contents = list_contents(alloc, store, user)?;
     let (mut writer, head) = Writer::begin(alloc, &contents.head)?;
@@ -94,8 +96,8 @@ fn put_parts<S: Alter, W: Write>(
     output: &mut W,
 ) -> Result<(), RunFault>
     requires live { HasCleanDisk (state S.Store store.old) → IsTrue (state S.Store store.old).is_open }
-    ensures { PutsParts contents.now 0 (length contents.now.places) (from_to writer.old writer.new) (from_to (W.contents output.old) (W.contents output.new))
-        (from_to (state S.Store store.old) (state S.Store store.new)) result }
+    ensures { PutsParts contents.now 0 (length contents.now.places) (from_to writer.old writer.new)
+        (across W.contents output.old output.new) (from_to (state S.Store store.old) (state S.Store store.new)) result }
 {
     for at in 0..contents.places.len() {
         put_part(alloc, store, contents, at, writer, output)?;
@@ -113,7 +115,7 @@ fn put_part<S: Alter, W: Write>(
     output: &mut W,
 ) -> Result<(), RunFault>
     requires { at < length contents.now.places }
-    ensures { PutsParts contents.now at (at + 1) (from_to writer.old writer.new) (from_to (W.contents output.old) (W.contents output.new))
+    ensures { PutsParts contents.now at (at + 1) (from_to writer.old writer.new) (across W.contents output.old output.new)
         (from_to (state S.Store store.old) (state S.Store store.new)) result }
 {
     let part = read_part(alloc, store, contents, at)?;

@@ -34,7 +34,8 @@ impl FaultWithCause {
 
     /// Reports it on a line, and its cause, if known, on a second one. If a write fails, nothing more is written.
     pub fn tell<E: Write>(self, errors: &mut E)
-        ensures { IsWritten (E.contents errors.old) (E.contents errors.new) (run_fault_line self.fault ++ cause_line (option_copied self.cause)) }
+        ensures { IsWritten (E.contents errors.old) (E.contents errors.new)
+            (run_fault_line self.fault ++ cause_line (option_copied self.cause)) }
     {
         if write_all(errors, self.fault.line()).is_ok() {
             tell_cause(errors, self.cause);
@@ -44,7 +45,8 @@ impl FaultWithCause {
     /// Reports it as [`FaultWithCause::tell`] does, and returns its exit status.
     pub fn refuse<E: Write>(self, errors: &mut E) -> u8
         ensures status { result ≡ status_of self.fault }
-        ensures lines { IsWritten (E.contents errors.old) (E.contents errors.new) (run_fault_line self.fault ++ cause_line (option_copied self.cause)) }
+        ensures lines { IsWritten (E.contents errors.old) (E.contents errors.new)
+            (run_fault_line self.fault ++ cause_line (option_copied self.cause)) }
     {
         self.tell(errors);
         self.fault.status()

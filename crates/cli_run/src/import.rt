@@ -3,12 +3,11 @@ ghost use Rattle.std.specs.Prelude.{◌≡◌, ◌≢◌, ◌⊎◌, false, IsTr
 ghost use Rattle.std.specs.Io.KnownBytes.{IsAtEnd};
 ghost use Rattle.store_engine.specs.declared.answer.Answer.TheVariants.{Imported};
 ghost use Rattle.store_engine.specs.declared.event.Event.TheVariants as machine;
-ghost use Rattle.cli_run.specs.Draining.{TurnsTables};
 ghost use Rattle.cli_run.specs.Promise.{status_after};
 ghost use Rattle.cli_run.specs.Serving.{HasDenied, HasGiven};
 ghost use Rattle.cli_run.specs.Streams.{ReadsToEnd};
-ghost use Rattle.cli_run.specs.Subcommands.{IsImportEvent, DeniedAtEnd, DoesImport, IsNotRead, Puts};
-ghost use Rattle.cli_run.specs.Transitions.{from_to};
+ghost use Rattle.cli_run.specs.Subcommands.{IsImportEvent, DeniedAtEnd, DoesImport, IsNotRead, PutsInTables};
+ghost use Rattle.cli_run.specs.Transitions.{across};
 
 use crate::commands::take_store;
 use crate::fault::RunFault;
@@ -21,8 +20,8 @@ use store_text::AccountFile;
 
 /// `import`: adds the account whose text is the input.
 ///
-/// Time is linear in the text. Memory is that of the text and of its parts, and, after the text was freed, of its parts and of what
-/// the transaction takes.
+/// Time is linear in the text. Memory is that of the text and of its parts, and, after the text was freed, of its parts and of
+/// what the transaction takes.
 pub fn run_import<R: Read, W: Write, K: Keeper>(
     alloc: Global,
     asked: ImportArgs<'_>,
@@ -33,8 +32,9 @@ pub fn run_import<R: Read, W: Write, K: Keeper>(
     ensures unread { status_after result ≡ 64 → input.new ≡ input.old }
     ensures reads { OnOk result (ReadsToEnd R.remaining input.old input.new) }
     ensures back { K.is_out keeper.old ≡ false → K.is_out keeper.new ≡ false }
-    ensures does { IsTrue K.tells → DoesImport (DeniedAtEnd (HasDenied K.refuses K.will_wait asked.entry.location) (R.remaining input.new))
-        (R.remaining input.old) (from_to (W.contents output.old) (W.contents output.new)) result (from_to (K.holds keeper.old) (K.holds keeper.new)) }
+    ensures does { IsTrue K.tells → DoesImport
+        (DeniedAtEnd (HasDenied K.refuses K.will_wait asked.entry.location) (R.remaining input.new)) (R.remaining input.old)
+        (across W.contents output.old output.new) result (across K.holds keeper.old keeper.new) }
     ensures given { OnOk result (HasGiven K.gives K.will_wait asked.entry.location) }
 {
     let file = read_file(alloc, input)?;
@@ -63,8 +63,8 @@ fn add_file<K: Keeper>(
 ) -> Result<(), RunFault>
     ensures late { status_after result ≢ 64 }
     ensures back { K.is_out keeper.old ≡ false → K.is_out keeper.new ≡ false }
-    ensures puts { IsTrue K.tells → TurnsTables
-        (Puts (HasDenied K.refuses K.will_wait location.entry) (machine.Import file.now) (λ done. Imported) result) (K.holds keeper.old) (K.holds keeper.new) }
+    ensures puts { IsTrue K.tells → PutsInTables (HasDenied K.refuses K.will_wait location.entry) (machine.Import file.now)
+        (λ done. Imported) result (across K.holds keeper.old keeper.new) }
     ensures given { OnOk result (HasGiven K.gives K.will_wait location.entry) }
 {
     let mut store = take_store(location, false, keeper)?;

@@ -34,7 +34,8 @@ impl KeptInput {
     /// is kept has doubled: so the time is linear, and the memory in proportion to script and header, and a constant. What comes
     /// after that is counted in a piece that is used again.
     pub fn read<R: Read>(alloc: Global, input: &mut R) -> Result<KeptInput, RunFault>
-        ensures ok { IfOk result (λ front. OfInput (R.remaining input.old) (λ came. KeepsInput came front.octets.items front.count)) }
+        ensures ok { IfOk result
+            (λ front. OfInput (R.remaining input.old) (λ came. KeepsInput came front.octets.items front.count)) }
         ensures reads { OnOk result (ReadsToEnd R.remaining input.old input.new) }
         ensures err { IfErr result IsFailure }
         ensures failed { IfErr result (λ fault. fault ≡ RunFault.Stream → InputFailed) }
@@ -86,8 +87,10 @@ impl KeptInput {
         requires piece { more ≤ PIECE }
         requires small { IsKeptWithin (2 ^ 62) self.old.kept self.old.count }
         ensures keeps { (came : List ℕ) → KeepsInput came (take self.old.kept self.old.octets.items) self.old.count
-            → KeepsInput (came ++ take more (drop self.old.kept self.old.octets.items)) (take self.new.kept self.new.octets.items) self.new.count }
-        ensures within { (most : ℕ) → IsKeptWithin most self.old.kept self.old.count → IsKeptWithin (most + 2 * more) self.new.kept self.new.count }
+            → KeepsInput (came ++ take more (drop self.old.kept self.old.octets.items))
+            (take self.new.kept self.new.octets.items) self.new.count }
+        ensures within { (most : ℕ) → IsKeptWithin most self.old.kept self.old.count
+            → IsKeptWithin (most + 2 * more) self.new.kept self.new.count }
         ensures same { self.new.octets ≡ self.old.octets }
         ensures least { self.old.kept ≤ self.new.kept }
         ensures most { self.new.kept ≤ self.old.kept + more }
@@ -109,7 +112,8 @@ impl KeptInput {
         requires room { self.old.kept ≤ vec_len self.old.octets }
         requires small { 2 * self.old.kept ≤ 2 ^ 63 }
         requires all { self.old.count ≡ None }
-        ensures keeps { KeepsInput (take self.old.kept self.old.octets.items) (take self.old.kept self.old.octets.items) self.new.count }
+        ensures keeps { KeepsInput (take self.old.kept self.old.octets.items) (take self.old.kept self.old.octets.items)
+            self.new.count }
         ensures within { IsKeptWithin (2 * self.old.kept) self.old.kept self.new.count }
         ensures same { self.new.octets ≡ self.old.octets }
         ensures kept { self.new.kept ≡ self.old.kept }

@@ -5,7 +5,7 @@ ghost use Rattle.store_accounts.specs.Tally.{folder_count};
 ghost use Rattle.cli_reports.specs.Reports.{ended_line};
 ghost use Rattle.cli_run.specs.Serving.{HasDenied, HasGiven};
 ghost use Rattle.cli_run.specs.Subcommands.{DoesFolders, DoesRead, LacksNothing, folder_line, directory_line, folder_listing, account_part};
-ghost use Rattle.cli_run.specs.Transitions.{from_to};
+ghost use Rattle.cli_run.specs.Transitions.{across};
 
 use crate::account_read::{AccountRead, DirectoriesOf, FoldersOf, QueueOf, read_once};
 use crate::fault::RunFault;
@@ -99,7 +99,8 @@ fn directory_lines(
 
 /// Appends the line of a folder, which begins with its directory.
 fn add_directory(text: &mut Octets, directory: &[u8], folder: &Folder) -> Result<(), AllocError>
-    ensures { OnOk result (text.new ≡ text.old ++ ended_line (directory.now ++ (codes " " ++ (decimal folder.now.count ++ (codes " " ++ folder.now.name))))) }
+    ensures { OnOk result (text.new ≡ text.old
+        ++ ended_line (directory.now ++ (codes " " ++ (decimal folder.now.count ++ (codes " " ++ folder.now.name))))) }
 {
     text.extend_from_slice(directory)?;
     text.push(b' ')?;
@@ -119,8 +120,8 @@ pub fn run_listing<Q: Listing, W: Write, K: Keeper>(
 ) -> Result<(), RunFault>
     ensures back { K.is_out keeper.old ≡ false → K.is_out keeper.new ≡ false }
     ensures does { IsTrue K.tells → DoesRead ⊥ (HasDenied K.refuses K.will_wait location.entry)
-        (account_part (Q.user wanted.now) (Q.shows wanted.now) LacksNothing) (from_to (W.contents output.old) (W.contents output.new)) result
-        (from_to (K.holds keeper.old) (K.holds keeper.new)) }
+        (account_part (Q.user wanted.now) (Q.shows wanted.now) LacksNothing) (across W.contents output.old output.new) result
+        (across K.holds keeper.old keeper.new) }
     ensures given { OnOk result (HasGiven K.gives K.will_wait location.entry) }
 {
     let found = read_once(location, wanted, keeper)?;
@@ -137,9 +138,9 @@ pub fn run_folders<W: Write, K: Keeper>(
     keeper: &mut K,
 ) -> Result<(), RunFault>
     ensures back { K.is_out keeper.old ≡ false → K.is_out keeper.new ≡ false }
-    ensures does { IsTrue K.tells → DoesFolders (HasDenied K.refuses K.will_wait asked.entry.location) asked.entry.user.now asked.entry.directories
-        (option_copied asked.entry.separator) (from_to (W.contents output.old) (W.contents output.new)) result
-        (from_to (K.holds keeper.old) (K.holds keeper.new)) }
+    ensures does { IsTrue K.tells → DoesFolders (HasDenied K.refuses K.will_wait asked.entry.location) asked.entry.user.now
+        asked.entry.directories (option_copied asked.entry.separator) (across W.contents output.old output.new) result
+        (across K.holds keeper.old keeper.new) }
     ensures given { OnOk result (HasGiven K.gives K.will_wait asked.entry.location) }
 {
     if asked.directories {

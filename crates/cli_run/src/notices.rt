@@ -5,7 +5,7 @@ ghost use Rattle.cli_reports.specs.Listings.{notice_listing};
 ghost use Rattle.cli_run.specs.Promise.{status_after};
 ghost use Rattle.cli_run.specs.Serving.{HasDenied, HasGiven};
 ghost use Rattle.cli_run.specs.Subcommands.{DoesNotices, TakesListed, TakesNotices, TurnsStore, notices_until};
-ghost use Rattle.cli_run.specs.Transitions.{from_to};
+ghost use Rattle.cli_run.specs.Transitions.{across};
 
 use crate::account_read::NoticesOf;
 use crate::commands::take_store;
@@ -42,8 +42,9 @@ pub fn run_notices<W: Write, K: Keeper>(
     keeper: &mut K,
 ) -> Result<(), RunFault>
     ensures back { K.is_out keeper.old ≡ false → K.is_out keeper.new ≡ false }
-    ensures does { IsTrue K.tells → DoesNotices (HasDenied K.refuses K.will_wait asked.entry.location) asked.entry.user.now (option_copied asked.entry.until)
-        (from_to (W.contents output.old) (W.contents output.new)) result (from_to (K.holds keeper.old) (K.holds keeper.new)) }
+    ensures does { IsTrue K.tells → DoesNotices (HasDenied K.refuses K.will_wait asked.entry.location) asked.entry.user.now
+        (option_copied asked.entry.until) (across W.contents output.old output.new) result
+        (across K.holds keeper.old keeper.new) }
     ensures given { OnOk result (HasGiven K.gives K.will_wait asked.entry.location) }
 {
     match asked.until {
@@ -69,7 +70,7 @@ fn run_taking<W: Write, K: Keeper>(
 ) -> Result<(), RunFault>
     ensures back { K.is_out keeper.old ≡ false → K.is_out keeper.new ≡ false }
     ensures does { IsTrue K.tells → TakesNotices (HasDenied K.refuses K.will_wait location.entry) user.now until.now
-        (from_to (W.contents output.old) (W.contents output.new)) result (from_to (K.holds keeper.old) (K.holds keeper.new)) }
+        (across W.contents output.old output.new) result (across K.holds keeper.old keeper.new) }
     ensures given { OnOk result (HasGiven K.gives K.will_wait location.entry) }
 {
     let until = until_of(until)?;
@@ -88,7 +89,8 @@ fn print_and_take<S: Alter, W: Write>(
     output: &mut W,
 ) -> Result<(), RunFault>
     ensures late { status_after result ≢ 64 }
-    ensures takes { TurnsStore (TakesListed user.now until (W.contents output.old) (W.contents output.new) result) (state S.Store store.old) (state S.Store store.new) }
+    ensures takes { TurnsStore (TakesListed user.now until (W.contents output.old) (W.contents output.new) result)
+        (state S.Store store.old) (state S.Store store.new) }
 {
     let notices = store.notices(user)?;
     let text = lines_until(alloc, notices, until)?;

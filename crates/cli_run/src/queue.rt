@@ -2,12 +2,11 @@
 ghost use Rattle.std.specs.Prelude.{◌≡◌, ◌≢◌, false, IsTrue, OnOk, option_copied};
 ghost use Rattle.store_engine.specs.declared.answer.Answer.TheVariants.{Taken};
 ghost use Rattle.store_engine.specs.declared.event.Event.TheVariants.{TakeOut};
-ghost use Rattle.cli_run.specs.Draining.{TurnsTables};
 ghost use Rattle.cli_run.specs.Promise.{status_after};
 ghost use Rattle.cli_run.specs.Serving.{HasDenied, HasGiven};
 ghost use Rattle.cli_run.specs.Values.{IsNoNumber};
-ghost use Rattle.cli_run.specs.Subcommands.{IsDoneEvent, Puts, DoesEvent, DoesQueue, DoesRead, ShowsOutgoing, LacksOutgoing, account_part};
-ghost use Rattle.cli_run.specs.Transitions.{from_to};
+ghost use Rattle.cli_run.specs.Subcommands.{IsDoneEvent, PutsInTables, DoesEvent, DoesQueue, DoesRead, ShowsOutgoing, LacksOutgoing, account_part};
+ghost use Rattle.cli_run.specs.Transitions.{across};
 
 use crate::account_read::{OutgoingOf, QueueOf, read_once};
 use crate::commands::take_store;
@@ -30,8 +29,8 @@ pub fn run_queue<W: Write, K: Keeper>(
     keeper: &mut K,
 ) -> Result<(), RunFault>
     ensures back { K.is_out keeper.old ≡ false → K.is_out keeper.new ≡ false }
-    ensures does { IsTrue K.tells → DoesQueue (HasDenied K.refuses K.will_wait asked.entry.location) asked.entry.user.now (option_copied asked.entry.id)
-        (from_to (W.contents output.old) (W.contents output.new)) result (from_to (K.holds keeper.old) (K.holds keeper.new)) }
+    ensures does { IsTrue K.tells → DoesQueue (HasDenied K.refuses K.will_wait asked.entry.location) asked.entry.user.now
+        (option_copied asked.entry.id) (across W.contents output.old output.new) result (across K.holds keeper.old keeper.new) }
     ensures given { OnOk result (HasGiven K.gives K.will_wait asked.entry.location) }
 {
     match asked.id {
@@ -50,8 +49,8 @@ fn run_queued<W: Write, K: Keeper>(
 ) -> Result<(), RunFault>
     ensures back { K.is_out keeper.old ≡ false → K.is_out keeper.new ≡ false }
     ensures does { IsTrue K.tells → DoesRead (IsNoNumber id.now) (HasDenied K.refuses K.will_wait location.entry)
-        (account_part user.now (ShowsOutgoing id.now) (LacksOutgoing id.now)) (from_to (W.contents output.old) (W.contents output.new)) result
-        (from_to (K.holds keeper.old) (K.holds keeper.new)) }
+        (account_part user.now (ShowsOutgoing id.now) (LacksOutgoing id.now)) (across W.contents output.old output.new) result
+        (across K.holds keeper.old keeper.new) }
     ensures given { OnOk result (HasGiven K.gives K.will_wait location.entry) }
 {
     let id = decimal(id)?;
@@ -68,9 +67,9 @@ pub fn run_done<W: Write, K: Keeper>(
     keeper: &mut K,
 ) -> Result<(), RunFault>
     ensures back { K.is_out keeper.old ≡ false → K.is_out keeper.new ≡ false }
-    ensures does { IsTrue K.tells → DoesEvent ⊥ (IsNoNumber asked.entry.id.now) (HasDenied K.refuses K.will_wait asked.entry.location)
-        (IsDoneEvent asked.entry.user.now asked.entry.id.now) (from_to (W.contents output.old) (W.contents output.new)) result
-        (from_to (K.holds keeper.old) (K.holds keeper.new)) }
+    ensures does { IsTrue K.tells → DoesEvent ⊥ (IsNoNumber asked.entry.id.now)
+        (HasDenied K.refuses K.will_wait asked.entry.location) (IsDoneEvent asked.entry.user.now asked.entry.id.now)
+        (across W.contents output.old output.new) result (across K.holds keeper.old keeper.new) }
     ensures given { OnOk result (HasGiven K.gives K.will_wait asked.entry.location) }
 {
     let id = decimal(asked.id)?;
@@ -87,8 +86,8 @@ fn dequeue<K: Keeper>(
 ) -> Result<QueuedMessage, RunFault>
     ensures late { status_after result ≢ 64 }
     ensures back { K.is_out keeper.old ≡ false → K.is_out keeper.new ≡ false }
-    ensures puts { IsTrue K.tells → TurnsTables
-        (Puts (HasDenied K.refuses K.will_wait location.entry) (TakeOut user.now id) Taken result) (K.holds keeper.old) (K.holds keeper.new) }
+    ensures puts { IsTrue K.tells → PutsInTables (HasDenied K.refuses K.will_wait location.entry) (TakeOut user.now id) Taken
+        result (across K.holds keeper.old keeper.new) }
     ensures given { OnOk result (HasGiven K.gives K.will_wait location.entry) }
 {
     let mut store = take_store(location, false, keeper)?;

@@ -52,7 +52,8 @@ fn is_discarded(report: &Report) -> bool
 
 /// A line for each text.
 fn put_lines<W: Write>(output: &mut W, word: &[u8], texts: &[Octets]) -> Result<(), RunFault>
-    ensures { IsTextPut result (W.contents output.old) (W.contents output.new) (flat_map ended_line (map (λ text. word.now ++ text) texts.now)) }
+    ensures { IsTextPut result (W.contents output.old) (W.contents output.new)
+        (flat_map ended_line (map (λ text. word.now ++ text) texts.now)) }
 {
     for text in texts {
         put_line(output, word, text.as_slice())?;

@@ -7,7 +7,7 @@ ghost use Rattle.cli_run.specs.Serving.{HasDenied, HasGiven};
 ghost use Rattle.cli_run.specs.Streams.{IsWritten, ReadsAllOrNone, ReadsToEnd};
 ghost use Rattle.cli_run.specs.TryScript.{Tries};
 ghost use Rattle.cli_run.specs.Subcommands.{DoesSubcommand, TellsClapText, TellsArgsError, ReachesStore, RunsAs, RunsWords, surroundings, run_reached, run_streams};
-ghost use Rattle.cli_run.specs.Transitions.{from_to};
+ghost use Rattle.cli_run.specs.Transitions.{across};
 
 use crate::commands::{run_adduser, run_deliver, run_init, run_show};
 use crate::drain::run_drain;
@@ -63,10 +63,11 @@ pub fn run_program<R: Read, W: Write, E: Write, K: Keeper, T: MailSink>(
     ensures back { K.is_out keeper.old ≡ false → K.is_out keeper.new ≡ false }
     ensures runs { IsTrue K.tells → RunsWords
         (surroundings (HasDenied K.refuses K.will_wait) (HasRefused T.refuses) clock random host)
-        (run_reached (HasGiven K.gives K.will_wait) (T.is_at sink.new) (cause_of (K.said keeper.new) (text_said (T.said sink.new))))
-        (run_streams (from_to (R.remaining input.old) (R.remaining input.new)) (from_to (W.contents output.old) (W.contents output.new))
-        (from_to (E.contents errors.old) (E.contents errors.new)))
-        (sink_mails T.tells (T.kept sink.old) (T.kept sink.new)) result (from_to (K.holds keeper.old) (K.holds keeper.new)) words.now }
+        (run_reached (HasGiven K.gives K.will_wait) (T.is_at sink.new)
+        (cause_of (K.said keeper.new) (text_said (T.said sink.new))))
+        (run_streams (across R.remaining input.old input.new) (across W.contents output.old output.new)
+        (across E.contents errors.old errors.new)) (sink_mails T.tells (T.kept sink.old) (T.kept sink.new)) result
+        (across K.holds keeper.old keeper.new) words.now }
     ensures asked { K.unclosed keeper.old ≡ None → K.unclosed keeper.new ≡ None }
 {
     match read_command_line(alloc, words) {
@@ -95,10 +96,11 @@ pub fn run_subcommand<R: Read, W: Write, E: Write, K: Keeper, T: MailSink>(
     ensures back { K.is_out keeper.old ≡ false → K.is_out keeper.new ≡ false }
     ensures runs { IsTrue K.tells → RunsAs
         (surroundings (HasDenied K.refuses K.will_wait) (HasRefused T.refuses) clock random host)
-        (run_reached (HasGiven K.gives K.will_wait) (T.is_at sink.new) (cause_of (K.said keeper.new) (text_said (T.said sink.new))))
-        (run_streams (from_to (R.remaining input.old) (R.remaining input.new)) (from_to (W.contents output.old) (W.contents output.new))
-        (from_to (E.contents errors.old) (E.contents errors.new)))
-        (sink_mails T.tells (T.kept sink.old) (T.kept sink.new)) result (from_to (K.holds keeper.old) (K.holds keeper.new)) (Ok asked.entry) }
+        (run_reached (HasGiven K.gives K.will_wait) (T.is_at sink.new)
+        (cause_of (K.said keeper.new) (text_said (T.said sink.new))))
+        (run_streams (across R.remaining input.old input.new) (across W.contents output.old output.new)
+        (across E.contents errors.old errors.new)) (sink_mails T.tells (T.kept sink.old) (T.kept sink.new)) result
+        (across K.holds keeper.old keeper.new) (Ok asked.entry) }
     ensures asked { K.unclosed keeper.old ≡ None → K.unclosed keeper.new ≡ None }
 {
     match asked {
@@ -125,8 +127,8 @@ fn try_script<R: Read, W: Write, E: Write>(
 ) -> u8
     ensures unread { result ≡ 64 → input.new ≡ input.old }
     ensures reads { result ≡ 0 → ReadsToEnd R.remaining input.old input.new }
-    ensures runs { Tries asked.entry clock host (R.remaining input.old) (from_to (W.contents output.old) (W.contents output.new))
-        (from_to (E.contents errors.old) (E.contents errors.new)) result }
+    ensures runs { Tries asked.entry clock host (R.remaining input.old) (across W.contents output.old output.new)
+        (across E.contents errors.old errors.new) result }
 {
     let terms = match terms_for(asked.at, asked.zone, clock, host) {
         Ok(terms) => terms,
@@ -155,8 +157,8 @@ fn act<R: Read, W: Write, K: Keeper, T: MailSink>(
     ensures back { K.is_out keeper.old ≡ false → K.is_out keeper.new ≡ false }
     ensures does { IsTrue K.tells → DoesSubcommand
         (surroundings (HasDenied K.refuses K.will_wait) (HasRefused T.refuses) clock random host)
-        (from_to (R.remaining input.old) (R.remaining input.new)) (sink_mails T.tells (T.kept sink.old) (T.kept sink.new))
-        (from_to (W.contents output.old) (W.contents output.new)) asked.entry result (from_to (K.holds keeper.old) (K.holds keeper.new)) }
+        (across R.remaining input.old input.new) (sink_mails T.tells (T.kept sink.old) (T.kept sink.new))
+        (across W.contents output.old output.new) asked.entry result (across K.holds keeper.old keeper.new) }
     ensures reaches { OnOk result (ReachesStore (HasGiven K.gives K.will_wait) (T.is_at sink.new) asked.entry) }
 {
     match asked {
@@ -189,8 +191,8 @@ fn act<R: Read, W: Write, K: Keeper, T: MailSink>(
     }
 }
 
-/// The exit status of what was done in a store, or of the fault. It reports why the store couldn't be closed, and the fault,
-/// each with what the keeper or the sink knows of it. If a call was refused because the store failed, the report says both. That a
+/// The exit status of what was done in a store, or of the fault. It reports why the store couldn't be closed, and the fault, each
+/// with what the keeper or the sink knows of it. If a call was refused because the store failed, the report says both. That a
 /// script isn't valid was printed on the output.
 fn conclude<E: Write, K: Keeper, T: MailSink>(
     done: Result<(), RunFault>,
@@ -199,8 +201,8 @@ fn conclude<E: Write, K: Keeper, T: MailSink>(
     sink: &T,
 ) -> u8
     ensures status { result ≡ status_after done }
-    ensures told { AreTold (E.contents errors.old) (E.contents errors.new) (cause_of (K.said keeper.new) (text_said (T.said sink.now)))
-        (faults_told (K.unclosed keeper.old) done) }
+    ensures told { AreTold (E.contents errors.old) (E.contents errors.new)
+        (cause_of (K.said keeper.new) (text_said (T.said sink.now))) (faults_told (K.unclosed keeper.old) done) }
     ensures asked { K.unclosed keeper.new ≡ None }
     ensures same { IsTrue K.tells → K.holds keeper.new ≡ K.holds keeper.old }
     ensures kept { K.is_out keeper.new ≡ K.is_out keeper.old }
@@ -249,7 +251,8 @@ fn tell_fault<E: Write, K: Keeper, T: MailSink>(
     sink: &T,
 ) -> u8
     ensures status { result ≡ status_of fault }
-    ensures line { IsWritten (E.contents errors.old) (E.contents errors.new) (run_fault_lines (cause_of (K.said keeper.now) (text_said (T.said sink.now))) fault) }
+    ensures line { IsWritten (E.contents errors.old) (E.contents errors.new)
+        (run_fault_lines (cause_of (K.said keeper.now) (text_said (T.said sink.now))) fault) }
 {
     fault_of(fault, keeper, sink).tell(errors);
     fault.status()
@@ -283,7 +286,8 @@ pub fn tell_unread<W: Write, E: Write>(
     output: &mut W,
     errors: &mut E,
 ) -> u8
-    ensures { TellsArgsError error (W.contents output.old) (W.contents output.new) (E.contents errors.old) (E.contents errors.new) result }
+    ensures { TellsArgsError error (W.contents output.old) (W.contents output.new) (E.contents errors.old) (E.contents errors.new)
+        result }
 {
     match error {
         ArgsError::Said(error) => tell(alloc, &error, output, errors),
@@ -293,7 +297,8 @@ pub fn tell_unread<W: Write, E: Write>(
 
 /// Prints what `clap` has to say: errors of usage on the errors, help and version on the output.
 fn tell<W: Write, E: Write>(alloc: Global, error: &Error, output: &mut W, errors: &mut E) -> u8
-    ensures { TellsClapText error.now (W.contents output.old) (W.contents output.new) (E.contents errors.old) (E.contents errors.new) result }
+    ensures { TellsClapText error.now (W.contents output.old) (W.contents output.new) (E.contents errors.old)
+        (E.contents errors.new) result }
 {
     if error.kind() == ErrorKind::OutOfMemory {
         return refuse(errors, RunFault::Refused(Refusal::Memory));

@@ -10,7 +10,7 @@ ghost use Rattle.cli_run.specs.Promise.{status_after};
 ghost use Rattle.cli_run.specs.Serving.{HasDenied, HasGiven};
 ghost use Rattle.cli_run.specs.Streams.{ReadsToEnd};
 ghost use Rattle.cli_run.specs.Subcommands.{DeniedAtEnd, DoesPut, DoesRead, DoesScripts, IsStoredBy, LacksScript, ListsScripts, IsPutEvent, PutsScript, ShowsScript, TellsVerdict, account_part};
-ghost use Rattle.cli_run.specs.Transitions.{from_to};
+ghost use Rattle.cli_run.specs.Transitions.{across};
 
 use crate::account_read::{ScriptNames, ScriptOf, ScriptsOf, read_once};
 use crate::commands::take_store;
@@ -76,8 +76,9 @@ pub fn run_scripts<W: Write, K: Keeper>(
     keeper: &mut K,
 ) -> Result<(), RunFault>
     ensures back { K.is_out keeper.old ≡ false → K.is_out keeper.new ≡ false }
-    ensures does { IsTrue K.tells → DoesScripts (HasDenied K.refuses K.will_wait asked.entry.location) asked.entry.user.now (option_copied asked.entry.script)
-        (from_to (W.contents output.old) (W.contents output.new)) result (from_to (K.holds keeper.old) (K.holds keeper.new)) }
+    ensures does { IsTrue K.tells → DoesScripts (HasDenied K.refuses K.will_wait asked.entry.location) asked.entry.user.now
+        (option_copied asked.entry.script) (across W.contents output.old output.new) result
+        (across K.holds keeper.old keeper.new) }
     ensures given { OnOk result (HasGiven K.gives K.will_wait asked.entry.location) }
 {
     match asked.script {
@@ -102,8 +103,8 @@ fn run_script<W: Write, K: Keeper>(
 ) -> Result<(), RunFault>
     ensures back { K.is_out keeper.old ≡ false → K.is_out keeper.new ≡ false }
     ensures does { IsTrue K.tells → DoesRead ⊥ (HasDenied K.refuses K.will_wait location.entry)
-        (account_part user.now (ShowsScript name.now) (LacksScript name.now)) (from_to (W.contents output.old) (W.contents output.new)) result
-        (from_to (K.holds keeper.old) (K.holds keeper.new)) }
+        (account_part user.now (ShowsScript name.now) (LacksScript name.now)) (across W.contents output.old output.new) result
+        (across K.holds keeper.old keeper.new) }
     ensures given { OnOk result (HasGiven K.gives K.will_wait location.entry) }
 {
     let Some(text) = read_once(location, &ScriptOf(user, name), keeper)? else {
@@ -124,9 +125,10 @@ pub fn run_put<R: Read, W: Write, K: Keeper>(
     ensures unread { status_after result ≡ 64 → input.new ≡ input.old }
     ensures reads { OnOk result (ReadsToEnd R.remaining input.old input.new) }
     ensures back { K.is_out keeper.old ≡ false → K.is_out keeper.new ≡ false }
-    ensures does { IsTrue K.tells → DoesPut (DeniedAtEnd (HasDenied K.refuses K.will_wait asked.entry.location) (R.remaining input.new))
+    ensures does { IsTrue K.tells → DoesPut
+        (DeniedAtEnd (HasDenied K.refuses K.will_wait asked.entry.location) (R.remaining input.new))
         (IsPutEvent asked.entry.user.now asked.entry.script.now asked.entry.activate (R.remaining input.old))
-        (from_to (W.contents output.old) (W.contents output.new)) result (from_to (K.holds keeper.old) (K.holds keeper.new)) }
+        (across W.contents output.old output.new) result (across K.holds keeper.old keeper.new) }
     ensures given { OnOk result (HasGiven K.gives K.will_wait asked.entry.location) }
 {
     let octets = read_all(alloc, input)?;
@@ -156,7 +158,8 @@ fn store_script<K: Keeper>(
     ensures late { status_after result ≢ 64 }
     ensures back { K.is_out keeper.old ≡ false → K.is_out keeper.new ≡ false }
     ensures puts { IsTrue K.tells → TurnsTables
-        (PutsScript (HasDenied K.refuses K.will_wait location.entry) user.now (upkeep.StoreScript name text activate) result) (K.holds keeper.old) (K.holds keeper.new) }
+        (PutsScript (HasDenied K.refuses K.will_wait location.entry) user.now (upkeep.StoreScript name text activate) result)
+        (K.holds keeper.old) (K.holds keeper.new) }
     ensures given { OnOk result (HasGiven K.gives K.will_wait location.entry) }
 {
     let upkeep = Upkeep::StoreScript {

@@ -1,5 +1,5 @@
 //! One client's session over a reader and a writer, and a store that is taken for the commands that came together.
-ghost use Rattle.std.specs.Prelude.{◌≡◌, ◌≢◌, ◌⊎◌, ℕ, List, Option, Some, None, Result, is_ok, is_some, false, true, IsTrue, IfOk, IfErr, IfSome, OnOk, OnErr, option_copied};
+ghost use Rattle.std.specs.Prelude.{◌≡◌, ◌≢◌, ◌⊎◌, Some, None, is_ok, is_some, false, true, IsTrue, IfOk, IfErr, IfSome, OnOk, OnErr};
 ghost use Rattle.store_lock.specs.declared.keeper.StoreUnavailable.TheVariants.{Busy};
 ghost use Rattle.sqlite.specs.Held.{state};
 ghost use Rattle.store_accounts.specs.Account.{Accounts};
@@ -8,15 +8,14 @@ ghost use Rattle.store_accounts.specs.Opening.{IsKnown};
 ghost use Rattle.store_accounts.specs.Shows.{OffersAccounts};
 ghost use Rattle.managesieve_sessions.specs.Clients.{is_ready};
 ghost use Rattle.managesieve_sessions.specs.Steps.{Asked};
-ghost use Rattle.cli_run.specs.declared.fault.RunFault.{RunFault};
 ghost use Rattle.cli_run.specs.declared.fault.RunFault.TheVariants.{Stream};
-ghost use Rattle.cli_run.specs.Faults.{IsCutShort, store_failed};
-ghost use Rattle.cli_run.specs.Promise.{status_after};
-ghost use Rattle.cli_run.specs.Serving.{RoundsAnswer, AreSeen, Converses, HasGiven, HasNoted, HasOpenStore, Hinders, IsDenied, IsDeniedBy, IsDenialNoted, IsTold, KeepsFirst};
-ghost use Rattle.cli_run.specs.Serving.{PresentsSeen, Served, ServesTables, StepsOrStays, StopsServing, StopsAt, TellsEnding, TellsOne, Unstopped, WasOut, WritesAll};
-ghost use Rattle.cli_run.specs.Serving.{WritesFirst, database_seen};
+ghost use Rattle.cli_run.specs.Faults.{IsCutShort};
+ghost use Rattle.cli_run.specs.Serving.{AnswersAll, AnswersFirst, AnswersSeen, AreSeen, EndsSession, GoesOnToEnd, HasGiven};
+ghost use Rattle.cli_run.specs.Serving.{HasNoted, HasOpenStore, Hinders, IsCauseNoted, IsDenialNoted, IsDenied, IsDeniedBy};
+ghost use Rattle.cli_run.specs.Serving.{IsRefusalNoted, IsTold, KeepsFirst, PresentsSeen, RoundsAnswer, ServesTables, StepsSeen};
+ghost use Rattle.cli_run.specs.Serving.{StopsAt, StopsServing, TellsOne, Unstopped, WasOut, database_seen};
 ghost use Rattle.cli_run.specs.Streams.{OutputFailed, ReadsOn, ReadsToEnd};
-ghost use Rattle.cli_run.specs.Transitions.{from_to};
+ghost use Rattle.cli_run.specs.Transitions.{across, from_to};
 
 use crate::fault::{RunFault, refuse};
 use crate::fault_with_cause::{FaultWithCause, FirstFault};
@@ -36,13 +35,13 @@ const PIECE: usize = 4096;
 /// Once this many octets of answers wait, they are written, even if other commands are to be answered.
 const MAX_WAITING: usize = 65_536;
 
-/// Serves one client of ManageSieve (RFC 5804) over a reader and a writer: greets, and answers each command as soon as it
-/// is whole. For the commands that came together the store's lock is asked for once, and the store is opened
-/// once, for the first command that needs it; both are given back before anything is written or waited for. If the lock or the store
-/// can't be taken, or the store refuses the step, the client is told to try later (`NO (TRYLATER)`), and the command is dropped.
+/// Serves one client of ManageSieve (RFC 5804) over a reader and a writer: greets, and answers each command as soon as it is
+/// whole. For the commands that came together the store's lock is asked for once, and the store is opened once, for the first
+/// command that needs it; both are given back before anything is written or waited for. If the lock or the store can't be taken,
+/// or the store refuses the step, the client is told to try later (`NO (TRYLATER)`), and the command is dropped.
 ///
-/// Answers to commands that came together are written together, in their order, up to 64 KiB. Ends with the client's `LOGOUT`, with a
-/// `BYE`, or with the input.
+/// Answers to commands that came together are written together, in their order, up to 64 KiB. Ends with the client's `LOGOUT`,
+/// with a `BYE`, or with the input.
 ///
 /// # Errors
 ///
@@ -56,9 +55,10 @@ pub fn serve_one<R: Read, W: Write, K: Keeper>(
     keeper: &mut K,
 ) -> Result<(), RunFault>
     ensures back { K.is_out keeper.old ≡ false → K.is_out keeper.new ≡ false }
-    ensures serves { IsTrue K.tells → K.is_out keeper.old ≡ false → ServesTables (StopsServing K.refuses K.will_wait location.entry (Unit {0}))
-        (WasOut K.gives K.will_wait K.closes location.entry (Unit {0})) (from_to (R.remaining input.old) (R.remaining input.new))
-        (from_to (W.contents output.old) (W.contents output.new)) (from_to (K.holds keeper.old) (K.holds keeper.new)) result }
+    ensures serves { IsTrue K.tells → K.is_out keeper.old ≡ false → ServesTables
+        (StopsServing K.refuses K.will_wait location.entry (Unit {0}))
+        (WasOut K.gives K.will_wait K.closes location.entry (Unit {0})) (across R.remaining input.old input.new)
+        (across W.contents output.old output.new) (across K.holds keeper.old keeper.new) result }
     ensures reads { OnOk result (ReadsToEnd R.remaining input.old input.new ⊎ ReadsOn R.remaining input.old input.new) }
     ensures fault { IfErr result IsCutShort }
 {
@@ -80,8 +80,8 @@ pub fn serve_client<R: Read, W: Write, E: Write, K: Keeper>(
     ensures serves { IsTrue K.tells → K.is_out keeper.old ≡ false → ServesTables
         (StopsServing K.refuses K.will_wait location.entry (IsTold (E.contents errors.old) (E.contents errors.new)))
         (WasOut K.gives K.will_wait K.closes location.entry (IsTold (E.contents errors.old) (E.contents errors.new)))
-        (from_to (R.remaining input.old) (R.remaining input.new)) (from_to (W.contents output.old) (W.contents output.new))
-        (from_to (K.holds keeper.old) (K.holds keeper.new)) result }
+        (across R.remaining input.old input.new) (across W.contents output.old output.new)
+        (across K.holds keeper.old keeper.new) result }
     ensures told { TellsOne (E.contents errors.old) (E.contents errors.new) }
     ensures reads { OnOk result (ReadsToEnd R.remaining input.old input.new ⊎ ReadsOn R.remaining input.old input.new) }
     ensures fault { IfErr result IsCutShort }
@@ -103,11 +103,10 @@ pub fn run_session<R: Read, W: Write, E: Write, K: Keeper>(
 ) -> u8
     ensures back { K.is_out keeper.old ≡ false → K.is_out keeper.new ≡ false }
     ensures reads { result ≡ 0 → ReadsToEnd R.remaining input.old input.new ⊎ ReadsOn R.remaining input.old input.new }
-    ensures serves { IsTrue K.tells → K.is_out keeper.old ≡ false → (ending : Result (Unit {0}) RunFault) × (told : Option (List ℕ)) ×
-        (result ≡ status_after ending) × IfErr ending IsCutShort × TellsOne (E.contents errors.old) told × TellsEnding ending told (E.contents errors.new) ×
-        ServesTables (StopsServing K.refuses K.will_wait location.entry (IsTold (E.contents errors.old) told))
-        (WasOut K.gives K.will_wait K.closes location.entry (IsTold (E.contents errors.old) told)) (from_to (R.remaining input.old) (R.remaining input.new))
-        (from_to (W.contents output.old) (W.contents output.new)) (from_to (K.holds keeper.old) (K.holds keeper.new)) ending }
+    ensures serves { IsTrue K.tells → K.is_out keeper.old ≡ false → EndsSession (λ Told ending. ServesTables
+        (StopsServing K.refuses K.will_wait location.entry Told) (WasOut K.gives K.will_wait K.closes location.entry Told)
+        (across R.remaining input.old input.new) (across W.contents output.old output.new)
+        (across K.holds keeper.old keeper.new) ending) (across E.contents errors.old errors.new) result }
 {
     match serve_client(alloc, location, input, output, errors, keeper) {
         Ok(()) => 0,
@@ -129,11 +128,11 @@ fn converse<R: Read, W: Write, E: Write, K: Keeper>(
     ensures reads { OnOk result (ReadsToEnd R.remaining input.old input.new
         ⊎ ((session.new.client.closed ≡ true) × ReadsOn R.remaining input.old input.new)) }
     ensures back { K.is_out keeper.old ≡ false → K.is_out keeper.new ≡ false }
-    ensures serves { IsTrue K.tells → K.is_out keeper.old ≡ false → (accounts : Accounts) (first_in first_out : Option (List ℕ)) → Served Unstopped ⊥ accounts
-        (from_to first_in (R.remaining input.old)) (from_to first_out (W.contents output.old)) session.old.client (K.holds keeper.old) → Converses
+    ensures serves { IsTrue K.tells → K.is_out keeper.old ≡ false → GoesOnToEnd
         (StopsServing K.refuses K.will_wait location.entry (IsTold (E.contents errors.old) (E.contents errors.new)))
-        (WasOut K.gives K.will_wait K.closes location.entry (IsTold (E.contents errors.old) (E.contents errors.new))) accounts
-        (from_to first_in (R.remaining input.new)) (from_to first_out (W.contents output.new)) (K.holds keeper.new) result }
+        (WasOut K.gives K.will_wait K.closes location.entry (IsTold (E.contents errors.old) (E.contents errors.new)))
+        session.old.client (across R.remaining input.old input.new) (across W.contents output.old output.new)
+        (across K.holds keeper.old keeper.new) result }
     ensures told { TellsOne (E.contents errors.old) (E.contents errors.new) }
     ensures none { IsTrue K.tells → (K.holds keeper.old).schema ≡ no_schema → (K.holds keeper.new).schema ≡ no_schema }
     ensures fault { IfErr result IsCutShort }
@@ -167,9 +166,11 @@ fn answer_all<W: Write, K: Keeper>(
 ) -> Result<(), RunFault>
     ensures kept { KeepsFirst first_fault.old first_fault.new }
     ensures back { K.is_out keeper.old ≡ false → K.is_out keeper.new ≡ false }
-    ensures answers { IsTrue K.tells → K.is_out keeper.old ≡ false → (accounts : Accounts) → OffersAccounts (K.holds keeper.old) accounts → WritesAll
-        (StopsServing K.refuses K.will_wait location.entry (HasNoted first_fault.new)) (WasOut K.gives K.will_wait K.closes location.entry (HasNoted first_fault.new))
-        accounts (from_to session.old.client session.new.client) (from_to (W.contents output.old) (W.contents output.new)) (K.holds keeper.new) result }
+    ensures answers { IsTrue K.tells → K.is_out keeper.old ≡ false → AnswersAll
+        (StopsServing K.refuses K.will_wait location.entry (HasNoted first_fault.new))
+        (WasOut K.gives K.will_wait K.closes location.entry (HasNoted first_fault.new))
+        (from_to session.old.client session.new.client) (across W.contents output.old output.new)
+        (across K.holds keeper.old keeper.new) result }
     ensures none { IsTrue K.tells → (K.holds keeper.old).schema ≡ no_schema → (K.holds keeper.new).schema ≡ no_schema }
     ensures fault { IfErr result (λ fault. (fault ≡ Stream) × OutputFailed) }
 {
@@ -195,9 +196,11 @@ fn answer_some<W: Write, K: Keeper>(
     requires { is_ready session.old.client ≡ true }
     ensures kept { KeepsFirst first_fault.old first_fault.new }
     ensures back { K.is_out keeper.old ≡ false → K.is_out keeper.new ≡ false }
-    ensures answers { IsTrue K.tells → K.is_out keeper.old ≡ false → (accounts : Accounts) → OffersAccounts (K.holds keeper.old) accounts → WritesFirst
-        (StopsServing K.refuses K.will_wait location.entry (HasNoted first_fault.new)) (WasOut K.gives K.will_wait K.closes location.entry (HasNoted first_fault.new))
-        accounts (from_to session.old.client session.new.client) (from_to (W.contents output.old) (W.contents output.new)) (K.holds keeper.new) result }
+    ensures answers { IsTrue K.tells → K.is_out keeper.old ≡ false → AnswersFirst
+        (StopsServing K.refuses K.will_wait location.entry (HasNoted first_fault.new))
+        (WasOut K.gives K.will_wait K.closes location.entry (HasNoted first_fault.new))
+        (from_to session.old.client session.new.client) (across W.contents output.old output.new)
+        (across K.holds keeper.old keeper.new) result }
     ensures none { IsTrue K.tells → (K.holds keeper.old).schema ≡ no_schema → (K.holds keeper.new).schema ≡ no_schema }
     ensures fault { IfErr result (λ fault. (fault ≡ Stream) × OutputFailed) }
 {
@@ -221,14 +224,16 @@ fn answer_under_lock<K: Keeper>(
 ) -> bool
     requires { is_ready session.old.client ≡ true }
     ensures back { K.is_out keeper.old ≡ false → K.is_out keeper.new ≡ false }
-    ensures answers { IsTrue K.tells → (accounts : Accounts) → OffersAccounts (K.holds keeper.old) accounts → RoundsAnswer Unstopped
-        (WasOut K.gives K.will_wait K.closes location.entry (HasNoted first_fault.new)) accounts (from_to session.old.client session.new.client)
-        (from_to answers.old answers.new) (OffersAccounts (K.holds keeper.new)) }
+    ensures answers { IsTrue K.tells → (accounts : Accounts) → OffersAccounts (K.holds keeper.old) accounts
+        → RoundsAnswer Unstopped (WasOut K.gives K.will_wait K.closes location.entry (HasNoted first_fault.new)) accounts
+        (from_to session.old.client session.new.client) (from_to answers.old answers.new) (OffersAccounts (K.holds keeper.new)) }
     ensures whole { IsTrue result → StopsAt session.old.client answers.new session.new.client }
     ensures stopped { result ≡ false → is_ready session.new.client ≡ true }
-    ensures noted { result ≡ false → K.is_out keeper.old ≡ false → IsDenialNoted (IsDeniedBy K.refuses K.will_wait location.entry) first_fault.new }
+    ensures noted { result ≡ false → K.is_out keeper.old ≡ false
+        → IsDenialNoted (IsDeniedBy K.refuses K.will_wait location.entry) first_fault.new }
     ensures kept { KeepsFirst first_fault.old first_fault.new }
-    ensures cause { result ≡ false → K.is_out keeper.old ≡ false → Hinders (IsDenied K.refuses K.will_wait location.entry) session.new.client }
+    ensures cause { result ≡ false → K.is_out keeper.old ≡ false
+        → Hinders (IsDenied K.refuses K.will_wait location.entry) session.new.client }
     ensures none { IsTrue K.tells → (K.holds keeper.old).schema ≡ no_schema → (K.holds keeper.new).schema ≡ no_schema }
     ensures asked { K.unclosed keeper.old ≡ None → K.unclosed keeper.new ≡ None }
 {
@@ -274,7 +279,8 @@ fn give_back<K: Keeper>(store: Option<Store<K::S>>, keeper: &mut K) -> Option<Re
 }
 
 /// Answers the items that are ready, each by a step whose answer joins those that wait, until nothing is ready or much waits.
-/// Returns why the first item that couldn't be answered wasn't. The lock is held; the store is opened for the first that needs it, and stays open.
+/// Returns why the first item that couldn't be answered wasn't. The lock is held; the store is opened for the first that needs
+/// it, and stays open.
 fn answer_ready<K: Keeper>(
     session: &mut Session,
     location: StoreLocation<'_>,
@@ -282,10 +288,10 @@ fn answer_ready<K: Keeper>(
     store: &mut Option<Store<K::S>>,
     keeper: &mut K,
 ) -> Result<(), StoreUnavailable>
-    ensures answers { IsTrue K.tells → (accounts : Accounts) → AreSeen (HasGiven K.gives K.will_wait location.entry) (λ s. (state K.S.Store s).now)
-        (K.holds keeper.old) store.old accounts → RoundsAnswer Unstopped (HasOpenStore K.gives K.will_wait location.entry store.new) accounts
-        (from_to session.old.client session.new.client) (from_to answers.old answers.new)
-        (AreSeen (HasGiven K.gives K.will_wait location.entry) (λ s. (state K.S.Store s).now) (K.holds keeper.new) store.new) }
+    ensures answers { IsTrue K.tells → AnswersSeen (HasGiven K.gives K.will_wait location.entry)
+        (HasOpenStore K.gives K.will_wait location.entry store.new) (λ s. (state K.S.Store s).now)
+        (across K.holds keeper.old keeper.new) (from_to store.old store.new) (from_to session.old.client session.new.client)
+        (from_to answers.old answers.new) }
     ensures whole { OnOk result (StopsAt session.old.client answers.new session.new.client) }
     ensures stopped { OnErr result (is_ready session.new.client ≡ true) }
     ensures busy { result ≡ Err Busy → IsDeniedBy K.refuses K.will_wait location.entry Busy }
@@ -312,10 +318,10 @@ fn answer_first<K: Keeper>(
     store: &mut Option<Store<K::S>>,
     keeper: &mut K,
 ) -> Result<(), StoreUnavailable>
-    ensures steps { IsTrue K.tells → (accounts : Accounts) → AreSeen (HasGiven K.gives K.will_wait location.entry) (λ s. (state K.S.Store s).now)
-        (K.holds keeper.old) store.old accounts → StepsOrStays (HasOpenStore K.gives K.will_wait location.entry store.new) accounts
-        (from_to session.old.client session.new.client) (from_to answers.old answers.new)
-        (AreSeen (HasGiven K.gives K.will_wait location.entry) (λ s. (state K.S.Store s).now) (K.holds keeper.new) store.new) (is_ok result) }
+    ensures steps { IsTrue K.tells → StepsSeen (HasGiven K.gives K.will_wait location.entry)
+        (HasOpenStore K.gives K.will_wait location.entry store.new) (λ s. (state K.S.Store s).now)
+        (across K.holds keeper.old keeper.new) (from_to store.old store.new) (from_to session.old.client session.new.client)
+        (from_to answers.old answers.new) (is_ok result) }
     ensures same { OnErr result ((session.new ≡ session.old) × (answers.new ≡ answers.old)) }
     ensures open { IsTrue (is_some store.old) → IsTrue (is_some store.new) }
     ensures cause { OnErr result (Hinders (IsDenied K.refuses K.will_wait location.entry) session.new.client) }
@@ -343,10 +349,10 @@ fn answer_over_store<K: Keeper>(
     keeper: &mut K,
 ) -> Result<(), StoreUnavailable>
     requires { Asked session.old.client command.now }
-    ensures steps { IsTrue K.tells → (accounts : Accounts) → AreSeen (HasGiven K.gives K.will_wait location.entry) (λ s. (state K.S.Store s).now)
-        (K.holds keeper.old) store.old accounts → StepsOrStays (HasOpenStore K.gives K.will_wait location.entry store.new) accounts
-        (from_to session.old.client session.new.client) (from_to answers.old answers.new)
-        (AreSeen (HasGiven K.gives K.will_wait location.entry) (λ s. (state K.S.Store s).now) (K.holds keeper.new) store.new) (is_ok result) }
+    ensures steps { IsTrue K.tells → StepsSeen (HasGiven K.gives K.will_wait location.entry)
+        (HasOpenStore K.gives K.will_wait location.entry store.new) (λ s. (state K.S.Store s).now)
+        (across K.holds keeper.old keeper.new) (from_to store.old store.new) (from_to session.old.client session.new.client)
+        (from_to answers.old answers.new) (is_ok result) }
     ensures same { OnErr result ((session.new ≡ session.old) × (answers.new ≡ answers.old)) }
     ensures open { IsTrue (is_some store.old) → IsTrue (is_some store.new) }
     ensures cause { OnErr result (Hinders (IsDenied K.refuses K.will_wait location.entry) session.new.client) }
@@ -370,8 +376,8 @@ fn open_store<K: Keeper>(
     store: &mut Option<Store<K::S>>,
     keeper: &mut K,
 ) -> Result<Store<K::S>, StoreUnavailable>
-    ensures opened { IfOk result (λ opened. IsTrue K.tells
-        → PresentsSeen (HasGiven K.gives K.will_wait location.entry) (AreSeen (HasGiven K.gives K.will_wait location.entry) (λ s. (state K.S.Store s).now) (K.holds keeper.old) store.old)
+    ensures opened { IfOk result (λ opened. IsTrue K.tells → PresentsSeen (HasGiven K.gives K.will_wait location.entry)
+        (AreSeen (HasGiven K.gives K.will_wait location.entry) (λ s. (state K.S.Store s).now) (K.holds keeper.old) store.old)
         (state K.S.Store opened).now) }
     ensures ours { OnOk result (IsTrue K.tells → store.old ≡ None → IsKnown (K.holds keeper.old)) }
     ensures refused { OnErr result ((IsTrue K.tells → K.holds keeper.new ≡ K.holds keeper.old) × (store.new ≡ store.old)) }
@@ -404,9 +410,8 @@ fn note_denial<K: Keeper>(first_fault: &mut FirstFault, denial: StoreUnavailable
 fn note_refusal<K: Keeper>(first_fault: &mut FirstFault, refusal: Option<Refusal>, keeper: &K)
     ensures none { refusal ≡ None → first_fault.new ≡ first_fault.old }
     ensures noted { IfSome refusal (λ refusal. IsTrue (is_some first_fault.new.fault)) }
-    ensures first { first_fault.old.fault ≡ None → IfSome refusal (λ refusal. IfSome first_fault.new.fault (λ t. t.fault ≡ RunFault.Refused refusal)) }
-    ensures cause { first_fault.old.fault ≡ None → IfSome refusal (λ refusal. RunFault.Refused refusal ≡ store_failed
-        → IfSome first_fault.new.fault (λ t. option_copied t.cause ≡ K.said keeper.now)) }
+    ensures first { first_fault.old.fault ≡ None → IsRefusalNoted first_fault.new refusal }
+    ensures cause { first_fault.old.fault ≡ None → IsCauseNoted (K.said keeper.now) first_fault.new refusal }
     ensures later { IfSome first_fault.old.fault (λ first. first_fault.new.fault ≡ Some first) }
     ensures told { first_fault.new.is_told ≡ first_fault.old.is_told }
 {

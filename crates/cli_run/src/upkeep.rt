@@ -3,13 +3,12 @@ ghost use Rattle.std.specs.Prelude.{◌≡◌, ◌≢◌, false, IsTrue, OnOk, o
 ghost use Rattle.store_engine.specs.Hosts.{answer_of};
 ghost use Rattle.store_engine.specs.declared.event.Event.TheVariants.{DoUpkeep};
 ghost use Rattle.store_engine.specs.declared.upkeep.Upkeep.TheVariants as upkeep;
-ghost use Rattle.cli_run.specs.Draining.{TurnsTables};
 ghost use Rattle.cli_run.specs.Promise.{status_after};
 ghost use Rattle.cli_run.specs.Serving.{HasDenied, HasGiven};
 ghost use Rattle.cli_run.specs.Streams.{ReadsToEnd};
 ghost use Rattle.cli_run.specs.Values.{HasNoSalt};
-ghost use Rattle.cli_run.specs.Subcommands.{DeniedAtEnd, DoesEvent, IsPasswdEvent, IsDoneBy, IsUpkeepEvent, IsPlainUpkeep, Puts, SaltFailed, upkeep_answer};
-ghost use Rattle.cli_run.specs.Transitions.{from_to};
+ghost use Rattle.cli_run.specs.Subcommands.{DeniedAtEnd, DoesEvent, IsPasswdEvent, IsDoneBy, IsUpkeepEvent, IsPlainUpkeep, PutsInTables, SaltFailed, upkeep_answer};
+ghost use Rattle.cli_run.specs.Transitions.{across};
 
 use crate::commands::take_store;
 use crate::fault::RunFault;
@@ -35,10 +34,11 @@ pub fn run_passwd<R: Read, W: Write, K: Keeper>(
     ensures unread { status_after result ≡ 64 → input.new ≡ input.old }
     ensures reads { OnOk result (ReadsToEnd R.remaining input.old input.new) }
     ensures back { K.is_out keeper.old ≡ false → K.is_out keeper.new ≡ false }
-    ensures does { IsTrue K.tells → DoesEvent (SaltFailed (option_copied asked.entry.salt) random) (HasNoSalt (option_copied asked.entry.salt))
+    ensures does { IsTrue K.tells → DoesEvent (SaltFailed (option_copied asked.entry.salt) random)
+        (HasNoSalt (option_copied asked.entry.salt))
         (DeniedAtEnd (HasDenied K.refuses K.will_wait asked.entry.location) (R.remaining input.new))
         (IsPasswdEvent (option_copied asked.entry.salt) random asked.entry.user.now (R.remaining input.old))
-        (from_to (W.contents output.old) (W.contents output.new)) result (from_to (K.holds keeper.old) (K.holds keeper.new)) }
+        (across W.contents output.old output.new) result (across K.holds keeper.old keeper.new) }
     ensures given { OnOk result (HasGiven K.gives K.will_wait asked.entry.location) }
 {
     let salt = given_salt(asked.salt, random)?;
@@ -64,8 +64,8 @@ pub fn run_address<W: Write, K: Keeper>(
 ) -> Result<(), RunFault>
     ensures back { K.is_out keeper.old ≡ false → K.is_out keeper.new ≡ false }
     ensures does { IsTrue K.tells → DoesEvent ⊥ ⊥ (HasDenied K.refuses K.will_wait asked.entry.location)
-        (IsUpkeepEvent asked.entry.user.now (upkeep.SetAddress asked.entry.address.now)) (from_to (W.contents output.old) (W.contents output.new)) result
-        (from_to (K.holds keeper.old) (K.holds keeper.new)) }
+        (IsUpkeepEvent asked.entry.user.now (upkeep.SetAddress asked.entry.address.now))
+        (across W.contents output.old output.new) result (across K.holds keeper.old keeper.new) }
     ensures given { OnOk result (HasGiven K.gives K.will_wait asked.entry.location) }
 {
     let address = Octets::from_slice(alloc, asked.address.as_bytes())?;
@@ -89,8 +89,8 @@ pub fn run_open<W: Write, K: Keeper>(
 ) -> Result<(), RunFault>
     ensures back { K.is_out keeper.old ≡ false → K.is_out keeper.new ≡ false }
     ensures does { IsTrue K.tells → DoesEvent ⊥ ⊥ (HasDenied K.refuses K.will_wait asked.entry.location)
-        (IsUpkeepEvent asked.entry.user.now upkeep.OpenAccount) (from_to (W.contents output.old) (W.contents output.new)) result
-        (from_to (K.holds keeper.old) (K.holds keeper.new)) }
+        (IsUpkeepEvent asked.entry.user.now upkeep.OpenAccount) (across W.contents output.old output.new) result
+        (across K.holds keeper.old keeper.new) }
     ensures given { OnOk result (HasGiven K.gives K.will_wait asked.entry.location) }
 {
     let user = asked.user.as_bytes();
@@ -107,8 +107,8 @@ pub fn run_remove<W: Write, K: Keeper>(
 ) -> Result<(), RunFault>
     ensures back { K.is_out keeper.old ≡ false → K.is_out keeper.new ≡ false }
     ensures does { IsTrue K.tells → DoesEvent ⊥ ⊥ (HasDenied K.refuses K.will_wait asked.entry.location)
-        (IsUpkeepEvent asked.entry.user.now (upkeep.RemoveAccount asked.entry.mail)) (from_to (W.contents output.old) (W.contents output.new)) result
-        (from_to (K.holds keeper.old) (K.holds keeper.new)) }
+        (IsUpkeepEvent asked.entry.user.now (upkeep.RemoveAccount asked.entry.mail))
+        (across W.contents output.old output.new) result (across K.holds keeper.old keeper.new) }
     ensures given { OnOk result (HasGiven K.gives K.will_wait asked.entry.location) }
 {
     let user = asked.user.as_bytes();
@@ -128,8 +128,8 @@ fn keep_up<K: Keeper>(
     requires plain { IsPlainUpkeep upkeep.now }
     ensures late { status_after result ≢ 64 }
     ensures back { K.is_out keeper.old ≡ false → K.is_out keeper.new ≡ false }
-    ensures puts { IsTrue K.tells → TurnsTables
-        (Puts (HasDenied K.refuses K.will_wait location.entry) (DoUpkeep user.now upkeep.now) (λ done. upkeep_answer upkeep.now) result) (K.holds keeper.old) (K.holds keeper.new) }
+    ensures puts { IsTrue K.tells → PutsInTables (HasDenied K.refuses K.will_wait location.entry) (DoUpkeep user.now upkeep.now)
+        (λ done. upkeep_answer upkeep.now) result (across K.holds keeper.old keeper.new) }
     ensures given { OnOk result (HasGiven K.gives K.will_wait location.entry) }
 {
     let mut store = take_store(location, false, keeper)?;

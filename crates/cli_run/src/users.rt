@@ -8,7 +8,7 @@ ghost use Rattle.cli_run.specs.Draining.{TurnsTables};
 ghost use Rattle.cli_run.specs.Promise.{status_after};
 ghost use Rattle.cli_run.specs.Serving.{HasDenied, HasGiven};
 ghost use Rattle.cli_run.specs.Subcommands.{AddsUser, DoesUsers, FindsUsers, found_line, open_line, profile_line, user_listing};
-ghost use Rattle.cli_run.specs.Transitions.{from_to};
+ghost use Rattle.cli_run.specs.Transitions.{across};
 
 use crate::commands::take_store;
 use crate::fault::RunFault;
@@ -32,8 +32,8 @@ pub fn run_users<W: Write, K: Keeper>(
 ) -> Result<(), RunFault>
     ensures late { status_after result ≢ 64 }
     ensures back { K.is_out keeper.old ≡ false → K.is_out keeper.new ≡ false }
-    ensures does { IsTrue K.tells → DoesUsers (HasDenied K.refuses K.will_wait asked.entry.location) (from_to (W.contents output.old) (W.contents output.new))
-        result (from_to (K.holds keeper.old) (K.holds keeper.new)) }
+    ensures does { IsTrue K.tells → DoesUsers (HasDenied K.refuses K.will_wait asked.entry.location)
+        (across W.contents output.old output.new) result (across K.holds keeper.old keeper.new) }
     ensures given { OnOk result (HasGiven K.gives K.will_wait asked.entry.location) }
 {
     let text = list_users(alloc, asked.location, keeper)?;
@@ -61,7 +61,8 @@ fn list_users<K: Keeper>(
 
 /// A line for each account, in the order of the octets of the names. One account is read at a time.
 fn user_lines<S: Alter>(alloc: Global, store: &mut Store<S>) -> Result<Octets, Refusal>
-    ensures lists { FindsOver (λ text accounts. text ≡ user_listing (entries accounts)) (state S.Store store.old) (state S.Store store.new) result }
+    ensures lists { FindsOver (λ text accounts. text ≡ user_listing (entries accounts)) (state S.Store store.old)
+        (state S.Store store.new) result }
     ensures named { IfErr result IsTransient }
 {
     let mut text = Octets::new(alloc);

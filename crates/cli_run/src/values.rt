@@ -137,8 +137,8 @@ pub fn zone_of(text: Option<&str>) -> Result<HostZone, RunFault>
     }
 }
 
-/// Under what a message is delivered: at the moment in the arguments, or else the clock's, in seconds since 1970, in their zone, by a
-/// host with these scripts. Takes no memory.
+/// Under what a message is delivered: at the moment in the arguments, or else the clock's, in seconds since 1970, in their zone,
+/// by a host with these scripts. Takes no memory.
 pub fn terms_for(
     at: Option<&str>,
     zone: Option<&str>,
@@ -147,7 +147,8 @@ pub fn terms_for(
 ) -> Result<Terms, RunFault>
     ensures ok { IfOk result (AreTerms (option_copied at.entry) (option_copied zone.entry) clock host) }
     ensures right { OnOk result (HasNoWhen (option_copied at.entry) (option_copied zone.entry) → ⊥) }
-    ensures fault { IfErr result (λ fault. ((fault ≡ RunFault.BadArgument) × HasNoWhen (option_copied at.entry) (option_copied zone.entry))
+    ensures fault { IfErr result (λ fault.
+        ((fault ≡ RunFault.BadArgument) × HasNoWhen (option_copied at.entry) (option_copied zone.entry))
         ⊎ ((fault ≡ RunFault.Stream) × (option_copied at.entry ≡ None) × (clock ≡ None))) }
 {
     let zone = zone_of(zone)?;

@@ -53,7 +53,7 @@ pub fn read_host_files<'a>(
 }
 
 /// The values of an argument that may have many, in their order; none if it was left out. Lack of memory is the only error.
-pub fn texts_of<'a>(
+pub(crate) fn texts_of<'a>(
     alloc: Global,
     found: &ArgMatches<'a>,
     argument: CliArgument,

@@ -7,7 +7,7 @@ use std::alloc::{AllocError, Global};
 pub const VERSION: &str = "2.0.0~dev";
 
 /// The program with all subcommands.
-pub fn sieved<'a>(alloc: Global) -> Result<Command<'a>, AllocError> {
+pub(crate) fn sieved<'a>(alloc: Global) -> Result<Command<'a>, AllocError> {
     with_words(alloc, program(alloc)?, &SubcommandName::ALL)
 }
 

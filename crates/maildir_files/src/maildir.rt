@@ -52,6 +52,16 @@ impl<'a> Maildir<'a> {
         }
     }
 
+    /// What is answered for what came of a call: of an error as `refusal` says.
+    fn answer_for(&mut self, done: io::Result<()>) -> Result<(), SinkError>
+        ensures { self.new.path ≡ self.old.path }
+    {
+        match done {
+            Ok(()) => Ok(()),
+            Err(error) => Err(self.refusal(error)),
+        }
+    }
+
     /// No names yet, in the Maildir that is open.
     fn no_names(&self) -> io::Result<NewNames> {
         match &self.path {
@@ -109,10 +119,8 @@ impl MailSink for Maildir<'_> {
     /// After Ok the names of what was made are on the disk.
     fn make(&mut self, path: &str) -> Result<(), SinkError> {
         self.cause = None;
-        match make_maildir(self.rt, path) {
-            Ok(()) => Ok(()),
-            Err(error) => Err(self.refusal(error)),
-        }
+        let made = make_maildir(self.rt, path);
+        self.answer_for(made)
     }
 
     fn keep(
@@ -129,16 +137,14 @@ impl MailSink for Maildir<'_> {
         };
         let name = name_of(self.rt.alloc(), user, folder, number, message)?;
         let place = place_of(self.rt.alloc(), name.as_str(), flags)?;
-        match keep_at(
+        let kept = keep_at(
             self.rt,
             path.as_str(),
             name.as_str(),
             place.as_str(),
             message,
-        ) {
-            Ok(()) => Ok(()),
-            Err(error) => Err(self.refusal(error)),
-        }
+        );
+        self.answer_for(kept)
     }
 
     fn put(
@@ -152,10 +158,8 @@ impl MailSink for Maildir<'_> {
         self.cause = None;
         let name = name_of(self.rt.alloc(), user, folder, number, message)?;
         let place = place_of(self.rt.alloc(), name.as_str(), flags)?;
-        match self.put_at(name.as_str(), place.as_str(), message) {
-            Ok(()) => Ok(()),
-            Err(error) => Err(self.refusal(error)),
-        }
+        let put = self.put_at(name.as_str(), place.as_str(), message);
+        self.answer_for(put)
     }
 
     fn settle(&mut self) -> Result<(), SinkError> {
@@ -163,10 +167,8 @@ impl MailSink for Maildir<'_> {
         let Some(names) = self.names.take() else {
             return Ok(());
         };
-        match names.settle(self.rt) {
-            Ok(()) => Ok(()),
-            Err(error) => Err(self.refusal(error)),
-        }
+        let settled = names.settle(self.rt);
+        self.answer_for(settled)
     }
 
     fn cause(&self) -> Option<ErrorKind> {

@@ -67,6 +67,32 @@ impl MemorySink {
         calls == Some(0)
     }
 
+    /// A copy of the message that this call is told of, or `Failed` if this call is the one that fails.
+    fn copy_told(
+        &mut self,
+        user: &[u8],
+        folder: &[u8],
+        number: u64,
+        message: &[u8],
+        flags: &[u8],
+    ) -> Result<KeptMail, SinkError>
+        ensures messages { self.new.messages ≡ self.old.messages }
+        ensures unsettled { self.new.unsettled ≡ self.old.unsettled }
+        ensures copied { IfOk result (λ mail. mail ≡ kept_mail user.now folder.now number message.now flags.now) }
+    {
+        if self.fails() {
+            return Err(SinkError::Failed);
+        }
+        let alloc = self.alloc;
+        Ok(KeptMail {
+            user: Octets::from_slice(alloc, user)?,
+            folder: Octets::from_slice(alloc, folder)?,
+            number,
+            message: Octets::from_slice(alloc, message)?,
+            flags: Octets::from_slice(alloc, flags)?,
+        })
+    }
+
     /// Moves what was put to what is kept. Lack of memory is the only error; then nothing is kept of it.
     fn keep_all(&mut self) -> Result<(), AllocError>
         ensures kept { OnOk result (self.new.messages ≡ self.old.messages ++ self.old.unsettled) }
@@ -79,26 +105,6 @@ impl MemorySink {
         self.messages = List::from_vec(messages);
         appended
     }
-}
-
-/// A copy of a message, as the sink is told of it.
-fn mail_of(
-    alloc: Global,
-    user: &[u8],
-    folder: &[u8],
-    number: u64,
-    message: &[u8],
-    flags: &[u8],
-) -> Result<KeptMail, AllocError>
-    ensures { IfOk result (λ mail. mail ≡ kept_mail user.now folder.now number message.now flags.now) }
-{
-    Ok(KeptMail {
-        user: Octets::from_slice(alloc, user)?,
-        folder: Octets::from_slice(alloc, folder)?,
-        number,
-        message: Octets::from_slice(alloc, message)?,
-        flags: Octets::from_slice(alloc, flags)?,
-    })
 }
 
 impl MailSink for MemorySink {
@@ -138,10 +144,7 @@ impl MailSink for MemorySink {
         message: &[u8],
         flags: &[u8],
     ) -> Result<(), SinkError> {
-        if self.fails() {
-            return Err(SinkError::Failed);
-        }
-        let mail = mail_of(self.alloc, user, folder, number, message, flags)?;
+        let mail = self.copy_told(user, folder, number, message, flags)?;
         self.messages.push(mail)?;
         Ok(())
     }
@@ -154,10 +157,7 @@ impl MailSink for MemorySink {
         message: &[u8],
         flags: &[u8],
     ) -> Result<(), SinkError> {
-        if self.fails() {
-            return Err(SinkError::Failed);
-        }
-        let mail = mail_of(self.alloc, user, folder, number, message, flags)?;
+        let mail = self.copy_told(user, folder, number, message, flags)?;
         self.unsettled.push(mail)?;
         Ok(())
     }

@@ -30,7 +30,7 @@ pub struct AddressArgs<'a> {
 }
 
 impl<'a> AddressArgs<'a> {
-    pub fn read(given: &Given<'a, '_>) -> AddressArgs<'a>
+    pub(crate) fn read(given: &Given<'a, '_>) -> AddressArgs<'a>
         ensures { IsAddressArgs given.now.line.now given.now.matches.now result }
     {
         AddressArgs {

@@ -34,7 +34,7 @@ pub struct AddUserArgs<'a> {
 }
 
 impl<'a> AddUserArgs<'a> {
-    pub fn read(given: &Given<'a, '_>) -> AddUserArgs<'a>
+    pub(crate) fn read(given: &Given<'a, '_>) -> AddUserArgs<'a>
         ensures { IsAddUserArgs given.now.line.now given.now.matches.now result }
     {
         AddUserArgs {

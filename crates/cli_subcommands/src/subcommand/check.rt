@@ -21,7 +21,7 @@ pub struct CheckArgs<'a> {
 }
 
 impl<'a> CheckArgs<'a> {
-    pub fn read(given: &Given<'a, '_>) -> CheckArgs<'a>
+    pub(crate) fn read(given: &Given<'a, '_>) -> CheckArgs<'a>
         ensures { IsCheckArgs given.now.line.now given.now.matches.now result }
     {
         CheckArgs {

@@ -67,7 +67,7 @@ pub struct DaemonArgs<'a> {
 }
 
 impl<'a> DaemonArgs<'a> {
-    pub fn read(given: &Given<'a, '_>) -> DaemonArgs<'a>
+    pub(crate) fn read(given: &Given<'a, '_>) -> DaemonArgs<'a>
         ensures { IsDaemonArgs given.now.line.now given.now.matches.now result }
     {
         DaemonArgs {

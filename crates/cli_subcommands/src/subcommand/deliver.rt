@@ -43,7 +43,7 @@ pub struct DeliverArgs<'a> {
 }
 
 impl<'a> DeliverArgs<'a> {
-    pub fn read(given: &Given<'a, '_>) -> DeliverArgs<'a>
+    pub(crate) fn read(given: &Given<'a, '_>) -> DeliverArgs<'a>
         ensures { IsDeliverArgs given.now.line.now given.now.matches.now result }
     {
         DeliverArgs {

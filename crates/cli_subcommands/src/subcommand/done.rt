@@ -30,7 +30,7 @@ pub struct DoneArgs<'a> {
 }
 
 impl<'a> DoneArgs<'a> {
-    pub fn read(given: &Given<'a, '_>) -> DoneArgs<'a>
+    pub(crate) fn read(given: &Given<'a, '_>) -> DoneArgs<'a>
         ensures { IsDoneArgs given.now.line.now given.now.matches.now result }
     {
         DoneArgs {

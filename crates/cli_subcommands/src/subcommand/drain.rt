@@ -36,7 +36,7 @@ pub struct DrainArgs<'a> {
 }
 
 impl<'a> DrainArgs<'a> {
-    pub fn read(given: &Given<'a, '_>) -> DrainArgs<'a>
+    pub(crate) fn read(given: &Given<'a, '_>) -> DrainArgs<'a>
         ensures { IsDrainArgs given.now.line.now given.now.matches.now result }
     {
         DrainArgs {

@@ -32,7 +32,7 @@ pub struct ExportArgs<'a> {
 }
 
 impl<'a> ExportArgs<'a> {
-    pub fn read(given: &Given<'a, '_>) -> ExportArgs<'a>
+    pub(crate) fn read(given: &Given<'a, '_>) -> ExportArgs<'a>
         ensures { IsExportArgs given.now.line.now given.now.matches.now result }
     {
         ExportArgs {

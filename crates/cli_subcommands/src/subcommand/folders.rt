@@ -33,7 +33,7 @@ pub struct FoldersArgs<'a> {
 }
 
 impl<'a> FoldersArgs<'a> {
-    pub fn read(given: &Given<'a, '_>) -> FoldersArgs<'a>
+    pub(crate) fn read(given: &Given<'a, '_>) -> FoldersArgs<'a>
         ensures { IsFoldersArgs given.now.line.now given.now.matches.now result }
     {
         FoldersArgs {

@@ -21,7 +21,7 @@ pub struct ImportArgs<'a> {
 }
 
 impl<'a> ImportArgs<'a> {
-    pub fn read(given: &Given<'a, '_>) -> ImportArgs<'a>
+    pub(crate) fn read(given: &Given<'a, '_>) -> ImportArgs<'a>
         ensures { IsImportArgs given.now.line.now given.now.matches.now result }
     {
         ImportArgs {

@@ -21,7 +21,7 @@ pub struct InitArgs<'a> {
 }
 
 impl<'a> InitArgs<'a> {
-    pub fn read(given: &Given<'a, '_>) -> InitArgs<'a>
+    pub(crate) fn read(given: &Given<'a, '_>) -> InitArgs<'a>
         ensures { IsInitArgs given.now.line.now given.now.matches.now result }
     {
         InitArgs {

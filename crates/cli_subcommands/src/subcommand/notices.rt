@@ -32,7 +32,7 @@ pub struct NoticesArgs<'a> {
 }
 
 impl<'a> NoticesArgs<'a> {
-    pub fn read(given: &Given<'a, '_>) -> NoticesArgs<'a>
+    pub(crate) fn read(given: &Given<'a, '_>) -> NoticesArgs<'a>
         ensures { IsNoticesArgs given.now.line.now given.now.matches.now result }
     {
         NoticesArgs {

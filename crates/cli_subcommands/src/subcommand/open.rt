@@ -23,7 +23,7 @@ pub struct OpenArgs<'a> {
 }
 
 impl<'a> OpenArgs<'a> {
-    pub fn read(given: &Given<'a, '_>) -> OpenArgs<'a>
+    pub(crate) fn read(given: &Given<'a, '_>) -> OpenArgs<'a>
         ensures { IsOpenArgs given.now.line.now given.now.matches.now result }
     {
         OpenArgs {

@@ -30,7 +30,7 @@ pub struct PasswdArgs<'a> {
 }
 
 impl<'a> PasswdArgs<'a> {
-    pub fn read(given: &Given<'a, '_>) -> PasswdArgs<'a>
+    pub(crate) fn read(given: &Given<'a, '_>) -> PasswdArgs<'a>
         ensures { IsPasswdArgs given.now.line.now given.now.matches.now result }
     {
         PasswdArgs {

@@ -34,7 +34,7 @@ pub struct PutArgs<'a> {
 }
 
 impl<'a> PutArgs<'a> {
-    pub fn read(given: &Given<'a, '_>) -> PutArgs<'a>
+    pub(crate) fn read(given: &Given<'a, '_>) -> PutArgs<'a>
         ensures { IsPutArgs given.now.line.now given.now.matches.now result }
     {
         PutArgs {

@@ -31,7 +31,7 @@ pub struct QueueArgs<'a> {
 }
 
 impl<'a> QueueArgs<'a> {
-    pub fn read(given: &Given<'a, '_>) -> QueueArgs<'a>
+    pub(crate) fn read(given: &Given<'a, '_>) -> QueueArgs<'a>
         ensures { IsQueueArgs given.now.line.now given.now.matches.now result }
     {
         QueueArgs {

@@ -30,7 +30,7 @@ pub struct RemoveArgs<'a> {
 }
 
 impl<'a> RemoveArgs<'a> {
-    pub fn read(given: &Given<'a, '_>) -> RemoveArgs<'a>
+    pub(crate) fn read(given: &Given<'a, '_>) -> RemoveArgs<'a>
         ensures { IsRemoveArgs given.now.line.now given.now.matches.now result }
     {
         RemoveArgs {

@@ -31,7 +31,7 @@ pub struct ScriptsArgs<'a> {
 }
 
 impl<'a> ScriptsArgs<'a> {
-    pub fn read(given: &Given<'a, '_>) -> ScriptsArgs<'a>
+    pub(crate) fn read(given: &Given<'a, '_>) -> ScriptsArgs<'a>
         ensures { IsScriptsArgs given.now.line.now given.now.matches.now result }
     {
         ScriptsArgs {

@@ -35,7 +35,7 @@ pub struct SendArgs<'a> {
 }
 
 impl<'a> SendArgs<'a> {
-    pub fn read(given: &Given<'a, '_>) -> SendArgs<'a>
+    pub(crate) fn read(given: &Given<'a, '_>) -> SendArgs<'a>
         ensures { IsSendArgs given.now.line.now given.now.matches.now result }
     {
         SendArgs {

@@ -30,7 +30,7 @@ pub struct ServeArgs<'a> {
 }
 
 impl<'a> ServeArgs<'a> {
-    pub fn read(given: &Given<'a, '_>) -> ServeArgs<'a>
+    pub(crate) fn read(given: &Given<'a, '_>) -> ServeArgs<'a>
         ensures { IsServeArgs given.now.line.now given.now.matches.now result }
     {
         ServeArgs {

@@ -21,7 +21,7 @@ pub struct SessionArgs<'a> {
 }
 
 impl<'a> SessionArgs<'a> {
-    pub fn read(given: &Given<'a, '_>) -> SessionArgs<'a>
+    pub(crate) fn read(given: &Given<'a, '_>) -> SessionArgs<'a>
         ensures { IsSessionArgs given.now.line.now given.now.matches.now result }
     {
         SessionArgs {

@@ -33,7 +33,7 @@ pub struct ShowArgs<'a> {
 }
 
 impl<'a> ShowArgs<'a> {
-    pub fn read(given: &Given<'a, '_>) -> ShowArgs<'a>
+    pub(crate) fn read(given: &Given<'a, '_>) -> ShowArgs<'a>
         ensures { IsShowArgs given.now.line.now given.now.matches.now result }
     {
         ShowArgs {

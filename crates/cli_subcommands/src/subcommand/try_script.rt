@@ -37,7 +37,7 @@ pub struct TryArgs<'a> {
 }
 
 impl<'a> TryArgs<'a> {
-    pub fn read(given: &Given<'a, '_>) -> TryArgs<'a>
+    pub(crate) fn read(given: &Given<'a, '_>) -> TryArgs<'a>
         ensures { IsTryArgs given.now.line.now given.now.matches.now result }
     {
         TryArgs {

@@ -22,7 +22,7 @@ pub struct UsersArgs<'a> {
 }
 
 impl<'a> UsersArgs<'a> {
-    pub fn read(given: &Given<'a, '_>) -> UsersArgs<'a>
+    pub(crate) fn read(given: &Given<'a, '_>) -> UsersArgs<'a>
         ensures { IsUsersArgs given.now.line.now given.now.matches.now result }
     {
         UsersArgs {
