@@ -1,10 +1,11 @@
 #!/usr/bin/env python3
 """Measures the whole way of mail beside Dovecot: messages that are answered a second, and messages that IMAP can show a second.
 
-  bench/whole_way.py [--sync MS[,MS]] [--seconds S] [--turns N] [--rows C/U[,C/U]] [SIEVED]
+  bench/whole_way.py [--sync MS[,MS]] [--seconds S] [--turns N] [--rows C/U[,C/U]] [--stores K] [SIEVED]
 
 SIEVED: the program, crates/sieved/out/sieved where none is named. MS: so many milliseconds more each sync of both takes (0, 2 and 8
-where none is named). C/U: connections and users (1/1, 20/1, 20/20). Prints a table of docs/PERFORMANCE.md.
+where none is named). C/U: connections and users (1/1, 20/1, 20/20). K: among how many daemons with a store each sieved's users are
+parted (1). Prints a table of docs/PERFORMANCE.md.
 
 It needs root and Debian's dovecot-lmtpd and dovecot-sieve. Each user has one active script, which files what has `[list]` in its
 subject. Messages are of 8 kB. sieved runs as `daemon --mail`: a message is shown once its file is in `new` of the user's Maildir.
@@ -26,6 +27,23 @@ def names(users):
     return [f"user{at}" for at in range(users)]
 
 
+class StoresWay:
+    """Several daemons on one machine, each with a store of its own; the users are parted among them."""
+    name = "sieved"
+
+    def __init__(self, room, millis, users, program, count):
+        self.stores = [SievedWay(f"{room}/{at}", millis, names(users)[at::count], program) for at in range(min(count, users))]
+        self.owners = {user: store for store in self.stores for user in store.users}
+        self.maildirs = [maildir for store in self.stores for maildir in store.maildirs]
+
+    def at(self, user):
+        return self.owners[user]
+
+    def stop(self):
+        for store in self.stores:
+            store.stop()
+
+
 class DovecotWay(Dovecot):
     def __init__(self, room, millis, users):
         super().__init__(room, millis)
@@ -36,18 +54,21 @@ class DovecotWay(Dovecot):
         subprocess.run(["chown", "-R", "nobody:nogroup", f"{self.room}/mail"], check=True)
         self.maildirs = [f"{self.room}/mail/{user}/.lists" for user in names(users)]
 
+    def at(self, user):
+        return self
+
 
 class SievedWay:
     name = "sieved"
 
     def __init__(self, room, millis, users, program):
-        self.room, self.lmtp, self.sieve = f"{room}/sieved", free_port(), free_port()
+        self.room, self.lmtp, self.sieve, self.users = f"{room}/sieved", free_port(), free_port(), users
         os.makedirs(f"{self.room}/mail")
         db = f"{self.room}/mail.db"
         subprocess.run([program, "init", "--db", db], check=True, stdout=subprocess.DEVNULL)
         with open(f"{self.room}/script", "wb") as file:
             file.write(SCRIPT)
-        for user in names(users):
+        for user in users:
             words = [program, "adduser", "--db", db, "--salt", os.urandom(16).hex(), user, f"{user}@example.org"]
             subprocess.run(words, input=b"secret\n", check=True, stdout=subprocess.DEVNULL)
             with open(f"{self.room}/script", "rb") as file:
@@ -57,7 +78,10 @@ class SievedWay:
         self.process = subprocess.Popen(words, stdin=subprocess.DEVNULL, stdout=subprocess.DEVNULL, stderr=subprocess.DEVNULL, env=env)
         urgent(self.process.pid)
         wait_for(self.lmtp), wait_for(self.sieve)
-        self.maildirs = [f"{self.room}/mail/{user}/.lists" for user in names(users)]
+        self.maildirs = [f"{self.room}/mail/{user}/.lists" for user in users]
+
+    def at(self, user):
+        return self
 
     def stop(self):
         managesieve.end(self.process)
@@ -80,6 +104,7 @@ def send(server, user, at, seconds, told):
     pid = os.fork()
     if pid:
         return pid
+    server = server.at(user)
     server.user = user
     sender, count, end = Sender(server), 0, time.perf_counter() + seconds
     while time.perf_counter() < end:
@@ -125,16 +150,16 @@ def against(ours, theirs):
 
 
 def main(words):
-    options = {"--sync": "0,2,8", "--seconds": "3", "--turns": "2", "--rows": "1/1,20/1,20/20"}
+    options = {"--sync": "0,2,8", "--seconds": "3", "--turns": "2", "--rows": "1/1,20/1,20/20", "--stores": "1"}
     while words[:1] and words[0] in options:
         options[words[0]], words = words[1], words[2:]
     program, _ = program_of(words)
-    seconds, turns = float(options["--seconds"]), int(options["--turns"])
+    seconds, turns, stores = float(options["--seconds"]), int(options["--turns"]), int(options["--stores"])
     head("A sync takes more", "connections, users", "answered, sieved / Dovecot", "shown in the Maildir, sieved / Dovecot")
     for millis in map(float, options["--sync"].split(",")):
         for pair in options["--rows"].split(","):
             connections, users = map(int, pair.split("/"))
-            ours = best_of(turns, lambda room: SievedWay(room, millis, users, program), connections, users, seconds)
+            ours = best_of(turns, lambda room: StoresWay(room, millis, users, program, stores), connections, users, seconds)
             theirs = best_of(turns, lambda room: DovecotWay(room, millis, users), connections, users, seconds)
             row(f"{millis:g} ms", f"{connections}, {users}", against(ours[0], theirs[0]), against(ours[1], theirs[1]))
 

@@ -7,9 +7,10 @@ Prints a line for each trial, a last one that counts them, and ends with 1 where
 and Debian's dovecot-imapd and dovecot-managesieved, else its trials are left out. Dovecot's files are in a folder that goes with the trial,
 its ports on the loopback address.
 """
-import base64, imaplib, os, re, shutil, socket, socketserver, ssl, subprocess, tempfile, threading, time
+import base64, imaplib, os, random, re, shutil, socket, socketserver, ssl, subprocess, tempfile, threading, time
 import managesieve, scripts, trials
 from contextlib import contextmanager
+from lmtp import Peer, greet
 from postfix import free_port, wait_for
 
 OPERATING = f"{scripts.DOCS}/OPERATING.md"
@@ -303,6 +304,96 @@ def other_disk():
     return f"{len(counts)} folders, one of them there already: each message is in its folder, with its date and flags, each folder subscribed"
 
 
+class Mover:
+    """A daemon that moves a user's mail into the Maildir that Dovecot shows, with two clients that deliver; each message has a token."""
+
+    def __init__(self, host):
+        self.file, self.root, self.sent, self.seen, self.ends = host.store.command[3], f"{host.room}/var/mail/alice", [], {}, False
+        lmtp, words = free_port(), [scripts.PROGRAM[0], "put", "--db", self.file, "--activate", "alice", "m"]
+        subprocess.run(words, input=MOVED, check=True, capture_output=True)
+        subprocess.run(["chown", "-R", "nobody:nogroup", f"{host.room}/var"], check=True)
+        words = [scripts.PROGRAM[0], "daemon", "--db", self.file, "--lmtp", str(lmtp), "--mail", f"{host.room}/var/mail", "--quiet"]
+        self.process = subprocess.Popen(words, stdin=subprocess.DEVNULL, stdout=subprocess.DEVNULL, stderr=subprocess.DEVNULL, user="nobody", group="nogroup")
+        wait_for(lambda: listens(lmtp), "the daemon")
+        self.senders = [threading.Thread(target=self.send, args=(lmtp, at), daemon=True) for at in range(2)]
+        for sender in self.senders:
+            sender.start()
+
+    def send(self, port, at):
+        peer = Peer(port)
+        greet(peer)
+        while not self.ends:
+            token = f"{at}x{len(self.sent)}x{time.monotonic_ns()}"
+            (told,) = peer.deliver(f"Subject: f{len(self.sent) % FOLDERS}\r\nX-Token: {token}\r\n\r\nHi\r\n".encode(), b"alice@example.org")
+            assert told.startswith(b"250"), told
+            self.sent.append(token)
+            time.sleep(0.002)
+        peer.close()
+
+    def look(self, place, gone=False):
+        """Notes the messages that stand in a Maildir; those of one that goes are counted once and for all."""
+        found = []
+        for part in "new", "cur":
+            for name in os.listdir(f"{place}/{part}") if os.path.isdir(f"{place}/{part}") else []:
+                with open(f"{place}/{part}/{name}", "rb") as file:
+                    found.append(re.search(rb"X-Token: (\S+)", file.read())[1].decode())
+        for token in found if gone else []:
+            self.seen[token] = self.seen.get(token, 0) + 1
+        return found
+
+    def stop(self):
+        """How often each message that was answered stands somewhere once all has moved."""
+        self.ends = True
+        for sender in self.senders:
+            sender.join()
+        def all_moved():
+            counts = dict(self.seen)
+            for place in [self.root, *(entry.path for entry in os.scandir(self.root) if entry.name.startswith(".") and entry.is_dir())]:
+                for token in self.look(place):
+                    counts[token] = counts.get(token, 0) + 1
+            return counts if all(token in counts for token in self.sent) else None
+        wait_for(all_moved, "mail that moves", 120)
+        return all_moved()
+
+    def kill(self):
+        self.process.kill()
+        self.process.wait()
+
+
+FOLDERS = 4
+MOVED = b'require "fileinto";' + b"".join(b'if header :is "subject" "f%d" { fileinto "f%d"; stop; }' % (at, at) for at in range(FOLDERS))
+
+
+def changing_folders():
+    """Folders are renamed, deleted and made by IMAP while mail moves into them: each message that was answered is there, or was when its
+    folder went."""
+    with a_host() as host:
+        host.add_user("alice", host.store, "human")
+        mover, draw, count = Mover(host), random.Random(7), trials.some(2000)
+        try:
+            client, did = host.imap_client("alice", "human"), {"renamed": 0, "deleted": 0, "made": 0}
+            for at in range(count):
+                folder = f"f{draw.randrange(FOLDERS)}"
+                if draw.random() < 0.3:
+                    did["made"] += client.create(folder)[0] == "OK"
+                    continue
+                if client.rename(folder, f"g{at}")[0] != "OK":
+                    continue
+                did["renamed"] += 1
+                if draw.random() < 0.7:
+                    mover.look(f"{mover.root}/.g{at}", gone=True)
+                    assert client.delete(f"g{at}")[0] == "OK"
+                    did["deleted"] += 1
+            client.logout()
+            counts = mover.stop()
+        finally:
+            mover.kill()
+        twice = sum(number - 1 for number in counts.values() if number > 1)
+        assert twice <= 64 * did["renamed"], (twice, did)
+    done = ", ".join(f"{number} {word}" for word, number in did.items())
+    return f"{done}: each of {len(mover.sent)} messages is there, {twice} of them once more"
+
+
 def first_of(line):
     return line[0] if isinstance(line, tuple) else line
 
@@ -315,7 +406,7 @@ def name_of(line):
     return re.sub(r"\\(.)", r"\1", name[1:-1]) if name.startswith('"') else name
 
 
-TRIALS = {trial.__name__: trial for trial in (log_ins, two_stores, over_the_daemon, folders, flags, other_disk)}
+TRIALS = {trial.__name__: trial for trial in (log_ins, two_stores, over_the_daemon, folders, flags, other_disk, changing_folders)}
 
 if __name__ == "__main__":
     trials.main(TRIALS, lambda program: scripts.PROGRAM.__setitem__(0, program))
