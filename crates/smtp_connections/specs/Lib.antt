@@ -1,0 +1,5 @@
+pub mod Answers
+pub mod Connections
+pub mod Cuts
+pub mod Exchanges
+pub mod Lives
