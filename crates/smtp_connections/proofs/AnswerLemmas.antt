@@ -8,7 +8,7 @@ use Rattle.lmtp_dialogue.proofs.LineLemmas.{one_found, lines_stand}
 use Rattle.smtp_dialogue.specs.Replies.{IsReplyLine, BeginsReply, HearsReply}
 use Rattle.smtp_dialogue.specs.declared.reply.Heard.TheVariants as heard
 use Rattle.smtp_dialogue.proofs.ReplyLemmas.{one_line, begins, begins_more, dropped, hears_need, hears_reply, hears_bad, hears_long}
-use Rattle.smtp_connections.specs.Answers.{IsLineOfReply, IsFirstOfReply, IsFirstOfNone, EndsAnswer, AnswerFollows, Answers, heard_by, AnswersStand}
+use Rattle.smtp_connections.specs.Answers.{IsLineOfReply, IsFirstOfReply, IsFirstOfNone, EndsAnswer, AnswerFollows, Answers, heard_by, SmtpAnswersStand}
 use Rattle.smtp_connections.specs.declared.answer.SmtpAnswer.{SmtpAnswer}
 use Rattle.smtp_connections.specs.declared.answer.SmtpAnswer.TheVariants.{Part, Whole, NoReply, LongLine}
 
@@ -142,8 +142,8 @@ hears_by (line ∷ lines) all at before x begun (code, first, follows) =
     hears_by lines all (at + (line + 2)) (Some code) x (begins_more all at line code before first.line.text begun first.finds first.line.reads first.line.agrees)
     (subst (λ o. AnswerFollows lines (Some code) (at + (line + 2)) o x) (dropped all at (line + 2)) follows)
 
-pub answers_stand : AnswersStand
-answers_stand = record {
+pub smtp_answers_stand : SmtpAnswersStand
+smtp_answers_stand = record {
   one = λ octets a b one two. one_by one.0 two.0 None 0 octets a b one.1 two.1;
   stays = λ octets more answer whole is. (is.0, stays_by is.0 None 0 octets more answer whole is.1);
   hears = λ octets answer is. hears_by is.0 octets 0 None answer (begins octets) is.1;

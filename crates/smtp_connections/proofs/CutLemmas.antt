@@ -11,7 +11,7 @@ use Rattle.smtp_dialogue.specs.declared.extension.Extensions.{Extensions}
 use Rattle.smtp_dialogue.specs.declared.dialogue.Ending.{Ending}
 use Rattle.smtp_connections.specs.Answers.{AnswerFollows, Answers}
 use Rattle.smtp_connections.specs.Exchanges.{lost_at, ending_by}
-use Rattle.smtp_connections.specs.Connections.{ended, ended_in, has_octets, interrupted, ending_interrupted, Interrupts, BreaksOff, OffersBy, replied, first_ending, Follows, RepliesAndMore, TakesReply, AwaitsMore, HearsAnswer, HearsReplyTo, HearsIn, Hears, max_reply}
+use Rattle.smtp_connections.specs.Connections.{ended, ended_in, has_octets, interrupted, ending_interrupted, Interrupts, BreaksConnection, OffersBy, after_reply, first_ending, Follows, RepliesAndMore, TakesReply, AwaitsMore, HearsAnswer, HearsReplyTo, HearsIn, Hears, max_smtp_reply}
 use Rattle.smtp_connections.specs.Cuts.{CutsStand}
 use Rattle.smtp_connections.specs.declared.answer.SmtpAnswer.{SmtpAnswer}
 use Rattle.smtp_connections.specs.declared.answer.SmtpAnswer.TheVariants.{Part, Whole, NoReply, LongLine}
@@ -22,7 +22,7 @@ use Rattle.smtp_connections.specs.declared.exchange.SmtpExchange.TheVariants as 
 use Rattle.smtp_connections.specs.declared.exchange.SmtpPhase.{SmtpPhase}
 use Rattle.smtp_connections.specs.declared.exchange.SmtpPhase.TheVariants.{Writing, Awaiting, Ready, Over}
 use Rattle.smtp_connections.specs.declared.connection.SmtpConnection.{SmtpConnection as Code}
-use Rattle.smtp_connections.proofs.AnswerLemmas.{answers_stand}
+use Rattle.smtp_connections.proofs.AnswerLemmas.{smtp_answers_stand}
 use Rattle.smtp_connections.proofs.PhaseLemmas.{is_awaiting, after_not_awaiting}
 
 -- ---- when it isn't the server's turn
@@ -77,7 +77,7 @@ interrupts_join (x ∷ xs) ys n d e r s no one two =
 
 -- ---- after a fault
 
-pub breaks_join : (end : SmtpEnd) (ys : List ℕ) (c d e : Code) (r s : Option Ending) → BreaksOff end c r d → Hears ys d s e → BreaksOff end c (first_ending r s) e
+pub breaks_join : (end : SmtpEnd) (ys : List ℕ) (c d e : Code) (r s : Option Ending) → BreaksConnection end c r d → Hears ys d s e → BreaksConnection end c (first_ending r s) e
 breaks_join end ys c d e r s one two =
     let over = ended_over end c c.phase refl in
     let is : d.phase ≡ Over over.0 = ap (λ (m : Code). m.phase) one.leaves ∙ over.1 in
@@ -90,7 +90,7 @@ broken_same end (Awaiting exchange) c h = refl
 broken_same end Ready c h = refl
 broken_same end (Over x) c h = refl
 
-pub breaks_same : (end : SmtpEnd) (c e : Code) (h : List ℕ) (r : Option Ending) → BreaksOff end (record c { heard = h }) r e → BreaksOff end c r e
+pub breaks_same : (end : SmtpEnd) (c e : Code) (h : List ℕ) (r : Option Ending) → BreaksConnection end (record c { heard = h }) r e → BreaksConnection end c r e
 breaks_same end c e h r breaks = record { tells = breaks.tells; leaves = breaks.leaves ∙ broken_same end c.phase c h }
 
 -- ---- what was heard before is overwritten
@@ -128,14 +128,14 @@ take_more (suc n) (x ∷ xs) ys = let it = take_more n xs ys in (it.0, ap (λ l.
 stays_in : (n : ℕ) (xs ys : List ℕ) (answer : SmtpAnswer) → (answer ≡ Part → ⊥) → Answers (take n xs) answer → Answers (take n (xs ++ ys)) answer
 stays_in n xs ys answer whole is =
     let it = take_more n xs ys in
-    subst (λ o. Answers o answer) (sym it.1) (answers_stand.stays (take n xs) it.0 answer whole is)
+    subst (λ o. Answers o answer) (sym it.1) (smtp_answers_stand.stays (take n xs) it.0 answer whole is)
 
 -- of all, if of a front
 pub to_all : (n : ℕ) (all : List ℕ) (answer : SmtpAnswer) → (answer ≡ Part → ⊥) → Answers (take n all) answer → Answers all answer
-to_all n all answer whole is = subst (λ o. Answers o answer) (take-append-drop n all) (answers_stand.stays (take n all) (drop n all) answer whole is)
+to_all n all answer whole is = subst (λ o. Answers o answer) (take-append-drop n all) (smtp_answers_stand.stays (take n all) (drop n all) answer whole is)
 
 pub whole_reply : (n : ℕ) (all : List ℕ) (code count : ℕ) → Answers (take n all) (Whole code count) → HearsReply all (heard.Reply code count)
-whole_reply n all code count is = answers_stand.hears all (Whole code count) (to_all n all (Whole code count) (λ same. cc) is)
+whole_reply n all code count is = smtp_answers_stand.hears all (Whole code count) (to_all n all (Whole code count) (λ same. cc) is)
 
 -- ---- two pieces
 
@@ -158,7 +158,7 @@ takes_join exchange code count all b c d e r s within one two =
     let front = subst (λ t. RepliesAndMore exchange code t (has_octets (drop count all ++ b)) c (first_ending r s) e) (sym (take-append-le count all b within)) it in
     subst (λ t. RepliesAndMore exchange code (take count (all ++ b)) (has_octets t) c (first_ending r s) e) (sym (drop-append-le count all b within)) front
 
-part_join : (exchange : SmtpExchange) (all b : List ℕ) (c d e : Code) (r s : Option Ending) → c.phase ≡ Awaiting exchange → Answers (take max_reply all) Part → AwaitsMore all c r d → Hears b d s e
+part_join : (exchange : SmtpExchange) (all b : List ℕ) (c d e : Code) (r s : Option Ending) → c.phase ≡ Awaiting exchange → Answers (take max_smtp_reply all) Part → AwaitsMore all c r d → Hears b d s e
     → HearsReplyTo exchange (all ++ b) c (first_ending r s) e
 part_join exchange all b c d e r s is answers (inl (short, none, leaves)) two =
     let moved : Hears b (record c { heard = all }) s e = subst (λ m. Hears b m s e) leaves two in
@@ -167,26 +167,26 @@ part_join exchange all b c d e r s is answers (inl (short, none, leaves)) two =
     (record { answer = it.answer; answers = it.answers; hears = answer_same it.answer exchange (all ++ b) all c e s it.hears })
 part_join exchange all b c d e r s is answers (inr (long, breaks)) two = record {
   answer = Part;
-  answers = subst (λ o. Answers o Part) (sym (take-append-le max_reply all b long)) answers;
+  answers = subst (λ o. Answers o Part) (sym (take-append-le max_smtp_reply all b long)) answers;
   hears = inr (let size = length-append all b in omega (arith, size, long), breaks_join ends.LongReply b c d e r s breaks two);
 }
 
-answer_join : (answer : SmtpAnswer) (exchange : SmtpExchange) (all b : List ℕ) (c d e : Code) (r s : Option Ending) → c.phase ≡ Awaiting exchange → Answers (take max_reply all) answer
+answer_join : (answer : SmtpAnswer) (exchange : SmtpExchange) (all b : List ℕ) (c d e : Code) (r s : Option Ending) → c.phase ≡ Awaiting exchange → Answers (take max_smtp_reply all) answer
     → HearsAnswer answer exchange all c r d → Hears b d s e → HearsReplyTo exchange (all ++ b) c (first_ending r s) e
 answer_join Part exchange all b c d e r s is answers one two = part_join exchange all b c d e r s is answers one two
 answer_join (Whole code count) exchange all b c d e r s is answers one two = record {
   answer = Whole code count;
-  answers = stays_in max_reply all b (Whole code count) (λ same. cc) answers;
-  hears = takes_join exchange code count all b c d e r s (whole_reply max_reply all code count answers).0 one two;
+  answers = stays_in max_smtp_reply all b (Whole code count) (λ same. cc) answers;
+  hears = takes_join exchange code count all b c d e r s (whole_reply max_smtp_reply all code count answers).0 one two;
 }
 answer_join NoReply exchange all b c d e r s is answers one two = record {
   answer = NoReply;
-  answers = stays_in max_reply all b NoReply (λ same. cc) answers;
+  answers = stays_in max_smtp_reply all b NoReply (λ same. cc) answers;
   hears = breaks_join ends.NoReply b c d e r s one two;
 }
 answer_join LongLine exchange all b c d e r s is answers one two = record {
   answer = LongLine;
-  answers = stays_in max_reply all b LongLine (λ same. cc) answers;
+  answers = stays_in max_smtp_reply all b LongLine (λ same. cc) answers;
   hears = breaks_join ends.LongLine b c d e r s one two;
 }
 
@@ -263,7 +263,7 @@ Same r s d e = (r ≡ s) × (d ≡ e)
 one_interrupt : (b : Bool) (c d e : Code) (r s : Option Ending) → Interrupts b c r d → Interrupts b c s e → Same r s d e
 one_interrupt b c d e r s one two = (one.tells ∙ sym two.tells, one.leaves ∙ sym two.leaves)
 
-one_break : (end : SmtpEnd) (c d e : Code) (r s : Option Ending) → BreaksOff end c r d → BreaksOff end c s e → Same r s d e
+one_break : (end : SmtpEnd) (c d e : Code) (r s : Option Ending) → BreaksConnection end c r d → BreaksConnection end c s e → Same r s d e
 one_break end c d e r s one two = (one.tells ∙ sym two.tells, one.leaves ∙ sym two.leaves)
 
 one_more : (all : List ℕ) (c d e : Code) (r s : Option Ending) → AwaitsMore all c r d → AwaitsMore all c s e → Same r s d e
@@ -276,15 +276,15 @@ one_reply : (exchange : SmtpExchange) (code : ℕ) (reply first : List ℕ) (oth
     → RepliesAndMore exchange code reply b c r d → RepliesAndMore exchange code reply b c s e → Same r s d e
 one_reply exchange code reply first others b c d e r s are one two =
     let offered = one_offered exchange reply first others c.offered one.follows.offered two.follows.offered are one.follows.offers two.follows.offers in
-    let next : two.next ≡ one.next = two.follows.leaves ∙ (ap (λ f. replied exchange code reply f c) (sym offered) ∙ sym one.follows.leaves) in
+    let next : two.next ≡ one.next = two.follows.leaves ∙ (ap (λ f. after_reply exchange code reply f c) (sym offered) ∙ sym one.follows.leaves) in
     let it = one_interrupt b one.next d e one.behind two.behind one.interrupts (subst (λ m. Interrupts b m two.behind e) next two.interrupts) in
     (one.tells ∙ (ap (first_ending (ending_by exchange code)) it.0 ∙ sym two.tells), it.1)
 
-one_answer : (answer : SmtpAnswer) (exchange : SmtpExchange) (all : List ℕ) (c d e : Code) (r s : Option Ending) → Answers (take max_reply all) answer → HearsAnswer answer exchange all c r d
+one_answer : (answer : SmtpAnswer) (exchange : SmtpExchange) (all : List ℕ) (c d e : Code) (r s : Option Ending) → Answers (take max_smtp_reply all) answer → HearsAnswer answer exchange all c r d
     → HearsAnswer answer exchange all c s e → Same r s d e
 one_answer Part exchange all c d e r s is one two = one_more all c d e r s one two
 one_answer (Whole code count) exchange all c d e r s is one two =
-    let lines = reply_lines all code count (to_all max_reply all (Whole code count) (λ same. cc) is) in
+    let lines = reply_lines all code count (to_all max_smtp_reply all (Whole code count) (λ same. cc) is) in
     one_reply exchange code (take count all) lines.0 lines.1 (has_octets (drop count all)) c d e r s lines.2 one two
 one_answer NoReply exchange all c d e r s is one two = one_break ends.NoReply c d e r s one two
 one_answer LongLine exchange all c d e r s is one two = one_break ends.LongLine c d e r s one two
@@ -292,7 +292,7 @@ one_answer LongLine exchange all c d e r s is one two = one_break ends.LongLine 
 one_in : (p : SmtpPhase) (piece : List ℕ) (c d e : Code) (r s : Option Ending) → HearsIn p piece c r d → HearsIn p piece c s e → Same r s d e
 one_in (Awaiting exchange) piece c d e r s one two =
     let all = c.heard ++ piece in
-    let same : two.answer ≡ one.answer = answers_stand.one (take max_reply all) two.answer one.answer two.answers one.answers in
+    let same : two.answer ≡ one.answer = smtp_answers_stand.one (take max_smtp_reply all) two.answer one.answer two.answers one.answers in
     one_answer one.answer exchange all c d e r s one.answers one.hears (subst (λ a. HearsAnswer a exchange all c s e) same two.hears)
 one_in (Writing exchange count) piece c d e r s one two = one_interrupt (has_octets piece) c d e r s one two
 one_in Ready piece c d e r s one two = one_interrupt (has_octets piece) c d e r s one two

@@ -5,9 +5,9 @@ use Rattle.smtp_send.specs.Wires.{WirePasses}
 use Rattle.smtp_send.specs.Talks.{SendTalk}
 use Rattle.smtp_connections.specs.Answers.{Answers}
 use Rattle.smtp_connections.specs.Exchanges.{lost_at, ending_by}
-use Rattle.smtp_connections.specs.Connections.{ended, ended_in, has_octets, left_of, Interrupts, BreaksOff, replied, first_ending, RepliesAndMore, AwaitsMore, HearsAnswer, HearsIn, Hears, Writes, WritesIn, max_reply}
+use Rattle.smtp_connections.specs.Connections.{ended, ended_in, has_octets, left_to_write, Interrupts, BreaksConnection, after_reply, first_ending, RepliesAndMore, AwaitsMore, HearsAnswer, HearsIn, Hears, WritesSome, WritesIn, max_smtp_reply}
 use Rattle.smtp_connections.specs.Cuts.{stage_at}
-use Rattle.smtp_connections.specs.Lives.{SmtpHandover, SmtpPassed, passed_heard, passed_written, passed_ended, GoesOn, unread_at, IsSince, PassedAre, LifeStands, Lives, life_new, life_wrote, life_heard, life_begun, life_quit, life_ended, LivesStand}
+use Rattle.smtp_connections.specs.Lives.{SmtpHandover, SmtpPassed, passed_heard, passed_written, passed_ended, GoesOn, unread_at, IsSince, PassedAre, LifeStands, SmtpLives, life_new, life_wrote, life_heard, life_begun, life_quit, life_ended, LivesStand}
 use Rattle.smtp_connections.specs.declared.answer.SmtpAnswer.{SmtpAnswer}
 use Rattle.smtp_connections.specs.declared.answer.SmtpAnswer.TheVariants.{Part, Whole, NoReply, LongLine}
 use Rattle.smtp_connections.specs.declared.end.SmtpEnd.{SmtpEnd}
@@ -50,7 +50,7 @@ interrupt_stands true c e ending p it stands =
 abbrev Kept : Code → List ℕ → Code
 Kept c all = record c { heard = all }
 
-break_stands : (end : SmtpEnd) (all : List ℕ) (c e : Code) (ending : Option Ending) (p : SmtpPassed) → BreaksOff end c ending e → LifeStands (Kept c all) p → LifeStands e (passed_ended ending p)
+break_stands : (end : SmtpEnd) (all : List ℕ) (c e : Code) (ending : Option Ending) (p : SmtpPassed) → BreaksConnection end c ending e → LifeStands (Kept c all) p → LifeStands e (passed_ended ending p)
 break_stands end all c e ending p it stands =
     let m = Kept c all in
     let over = ended_over end m m.phase refl in
@@ -65,11 +65,11 @@ ended_twice (Some x) None g p = refl
 ended_twice (Some x) (Some y) None p = refl
 ended_twice (Some x) (Some y) (Some handover) p = refl
 
-reply_stands : (exchange : SmtpExchange) (code count : ℕ) (all : List ℕ) (b : Bool) (c e : Code) (ending : Option Ending) (p : SmtpPassed) → c.phase ≡ Awaiting exchange → Answers (take max_reply all) (Whole code count)
+reply_stands : (exchange : SmtpExchange) (code count : ℕ) (all : List ℕ) (b : Bool) (c e : Code) (ending : Option Ending) (p : SmtpPassed) → c.phase ≡ Awaiting exchange → Answers (take max_smtp_reply all) (Whole code count)
     → RepliesAndMore exchange code (take count all) b c ending e → LifeStands (Kept c all) p → LifeStands e (passed_ended ending p)
 reply_stands exchange code count all b c e ending p at is it stands =
     let reply = take count all in
-    let first = replied_stands exchange code count reply it.follows.offered (Kept c all) p at it.follows.offers (whole_reply max_reply all code count is).1 stands in
+    let first = replied_stands exchange code count reply it.follows.offered (Kept c all) p at it.follows.offers (whole_reply max_smtp_reply all code count is).1 stands in
     let next = subst (λ m. LifeStands m (passed_ended (ending_by exchange code) p)) (sym it.follows.leaves) first in
     let last = interrupt_stands b it.next e it.behind (passed_ended (ending_by exchange code) p) it.interrupts next in
     subst (λ q. LifeStands e q) (ended_twice (ending_by exchange code) it.behind p.goes p ∙ ap (λ r. passed_ended r p) (sym it.tells)) last
@@ -78,7 +78,7 @@ more_stands : (all : List ℕ) (c e : Code) (ending : Option Ending) (p : SmtpPa
 more_stands all c e ending p (inl it) stands = subst (λ m. LifeStands m (passed_ended ending p)) (sym it.2) (subst (λ r. LifeStands (Kept c all) (passed_ended r p)) (sym it.1) stands)
 more_stands all c e ending p (inr it) stands = break_stands ends.LongReply all c e ending p it.1 stands
 
-answer_stands : (answer : SmtpAnswer) (exchange : SmtpExchange) (all : List ℕ) (c e : Code) (ending : Option Ending) (p : SmtpPassed) → c.phase ≡ Awaiting exchange → Answers (take max_reply all) answer
+answer_stands : (answer : SmtpAnswer) (exchange : SmtpExchange) (all : List ℕ) (c e : Code) (ending : Option Ending) (p : SmtpPassed) → c.phase ≡ Awaiting exchange → Answers (take max_smtp_reply all) answer
     → HearsAnswer answer exchange all c ending e → LifeStands (Kept c all) p → LifeStands e (passed_ended ending p)
 answer_stands Part exchange all c e ending p at is it stands = more_stands all c e ending p it stands
 answer_stands (Whole code count) exchange all c e ending p at is it stands = reply_stands exchange code count all (has_octets (drop count all)) c e ending p at is it stands
@@ -100,13 +100,13 @@ heard_in (Over end) piece c e ending p at it stands = interrupt_stands (has_octe
 -- ---- octets were written
 
 wrote_in : (count before : ℕ) (exchange : SmtpExchange) (c e : Code) (p : SmtpPassed) → c.phase ≡ Writing exchange before → WritesIn count (Writing exchange before) c e → LifeStands c p
-    → LifeStands e (passed_written (take count (left_of c)) p)
-wrote_in count before exchange c e p at (inl (less, leaves)) stands = subst (λ m. LifeStands m (passed_written (take count (left_of c)) p)) (sym leaves) (wrote_some exchange before count c p stands at)
-wrote_in count before exchange c e p at (inr (all, leaves)) stands = subst (λ m. LifeStands m (passed_written (take count (left_of c)) p)) (sym leaves) (wrote_all exchange before count c p stands at all)
+    → LifeStands e (passed_written (take count (left_to_write c)) p)
+wrote_in count before exchange c e p at (inl (less, leaves)) stands = subst (λ m. LifeStands m (passed_written (take count (left_to_write c)) p)) (sym leaves) (wrote_some exchange before count c p stands at)
+wrote_in count before exchange c e p at (inr (all, leaves)) stands = subst (λ m. LifeStands m (passed_written (take count (left_to_write c)) p)) (sym leaves) (wrote_all exchange before count c p stands at all)
 
 -- ---- its whole life
 
-lives_by : {c : Code} {p : SmtpPassed} → Lives c p → LifeStands c p
+lives_by : {c : Code} {p : SmtpPassed} → SmtpLives c p → LifeStands c p
 lives_by (life_new host may c is) = new_stands host may c is
 lives_by (life_wrote count exchange before c e p life at fits writes) = wrote_in count before exchange c e p at (subst (λ q. WritesIn count q c e) at writes) (lives_by life)
 lives_by (life_heard piece c e ending p life hears) = heard_in c.phase piece c e ending p refl hears (lives_by life)

@@ -16,8 +16,8 @@ use Rattle.smtp_send.specs.Talks.{SendTalk, talk, talk_written, talk_heard, Talk
 use Rattle.smtp_send.specs.Wires.{WirePasses, sent_none, came_none}
 use Rattle.smtp_send.proofs.TalkLemmas.{treats}
 use Rattle.smtp_send.proofs.WireLemmas.{same, sent_more, message_more, came_more, forgets, reads_reply}
-use Rattle.smtp_connections.specs.Exchanges.{lost_at, lost_in, after_ending, after_turn, phase_after, ending_in, ending_by}
-use Rattle.smtp_connections.specs.Connections.{no_lines, lines_for, line_in, left_at, left_of, IsNewConnection, Begins, ended, ended_in, OffersBy, lines_after, replied}
+use Rattle.smtp_connections.specs.Exchanges.{lost_at, lost_in, after_ending, phase_by_turn, phase_after, ending_in, ending_by}
+use Rattle.smtp_connections.specs.Connections.{no_lines, message_lines, line_in, left_at, left_to_write, IsNewConnection, Begins, ended, ended_in, OffersBy, lines_after, after_reply}
 use Rattle.smtp_connections.specs.Cuts.{stage_at}
 use Rattle.smtp_connections.specs.Lives.{SmtpHandover, SmtpDeal, SmtpPassed, nothing_passed, passed_written, passed_heard, passed_with, passed_ended, passed_begun, DealsLead, IsUnderWay, GoesOn, unread_at, IsSince, PassedAre, LifeStands}
 use Rattle.smtp_connections.specs.declared.end.SmtpEnd.{SmtpEnd}
@@ -85,7 +85,7 @@ After c q h = record c { phase = q; heard = h }
 
 -- some of the rest of a stage
 under_way_more : (handover : SmtpHandover) (stage : SmtpStage) (count : ℕ) (c : Code) (q : SmtpPhase) (h : List ℕ) (start now : SendTalk) → IsUnderWay handover stage c start now → stage_at q ≡ stage_at c.phase
-    → left_at (After c q h) q ≡ drop count (left_of c) → IsUnderWay handover stage (After c q h) start (talk_written now (take count (left_of c)))
+    → left_at (After c q h) q ≡ drop count (left_to_write c) → IsUnderWay handover stage (After c q h) start (talk_written now (take count (left_to_write c)))
 under_way_more handover stage count c q h start now it at left = record {
   at = at ∙ it.at;
   offers = it.offers;
@@ -94,14 +94,14 @@ under_way_more handover stage count c q h start now it at left = record {
   lines = it.lines;
   before = it.before;
   codes = it.codes;
-  here = it.here ++ take count (left_of c);
+  here = it.here ++ take count (left_to_write c);
   whole =
       it.whole
-      ∙ (ap (λ t. it.here ++ t) (sym (take-append-drop count (left_of c)))
-      ∙ (sym (append_assoc it.here (take count (left_of c)) (drop count (left_of c))) ∙ ap (λ t. (it.here ++ take count (left_of c)) ++ t) (sym left)));
+      ∙ (ap (λ t. it.here ++ t) (sym (take-append-drop count (left_to_write c)))
+      ∙ (sym (append_assoc it.here (take count (left_to_write c)) (drop count (left_to_write c))) ∙ ap (λ t. (it.here ++ take count (left_to_write c)) ++ t) (sym left)));
   written =
-      ap (λ t. t ++ take count (left_of c)) it.written
-      ∙ (append_assoc start.written (it.before ++ it.here) (take count (left_of c)) ∙ ap (λ t. start.written ++ t) (append_assoc it.before it.here (take count (left_of c))));
+      ap (λ t. t ++ take count (left_to_write c)) it.written
+      ∙ (append_assoc start.written (it.before ++ it.here) (take count (left_to_write c)) ∙ ap (λ t. start.written ++ t) (append_assoc it.before it.here (take count (left_to_write c))));
   answered = it.answered;
   leads = it.leads;
 }
@@ -110,9 +110,9 @@ adds : (p : SmtpPassed) (octets sent came : List ℕ) → PassedAre p sent came 
 adds p octets sent came (one, two) = (ap (λ t. t ++ octets) one, two)
 
 written_by : (g : Option SmtpHandover) (count : ℕ) (c : Code) (q : SmtpPhase) (h : List ℕ) (p : SmtpPassed) → LifeStands c (record p { goes = g }) → unread_at c.phase c.heard ≡ [] → unread_at q h ≡ []
-    → stage_at q ≡ stage_at c.phase → left_at (After c q h) q ≡ drop count (left_of c) → IsSince q h [] → LifeStands (After c q h) (passed_written (take count (left_of c)) (record p { goes = g }))
+    → stage_at q ≡ stage_at c.phase → left_at (After c q h) q ≡ drop count (left_to_write c) → IsSince q h [] → LifeStands (After c q h) (passed_written (take count (left_to_write c)) (record p { goes = g }))
 written_by None count c q h p it old new at left since =
-    let octets = take count (left_of c) in
+    let octets = take count (left_to_write c) in
     let wire : WirePasses (PassedAre p) [] it.now = subst (λ u. WirePasses (PassedAre p) u it.now) old it.wire in
     record {
       start = it.start;
@@ -123,7 +123,7 @@ written_by None count c q h p it old new at left since =
       since = since;
     }
 written_by (Some handover) count c q h p it old new at left since =
-    let octets = take count (left_of c) in
+    let octets = take count (left_to_write c) in
     let wire : WirePasses (PassedAre p) [] it.now = subst (λ u. WirePasses (PassedAre p) u it.now) old it.wire in
     record {
       start = it.start;
@@ -138,19 +138,19 @@ written_by (Some handover) count c q h p it old new at left since =
 
 -- it stays the server's turn no longer than all is written
 left_more : (exchange : SmtpExchange) (before count : ℕ) (c : Code) (h : List ℕ) → c.phase ≡ Writing exchange before
-    → left_at (After c (Writing exchange (before + count)) h) (Writing exchange (before + count)) ≡ drop count (left_of c)
+    → left_at (After c (Writing exchange (before + count)) h) (Writing exchange (before + count)) ≡ drop count (left_to_write c)
 left_more exchange before count c h is =
     ap (drop (before + count)) (line_same exchange c (Writing exchange (before + count)) h) ∙ (sym (dropped (line_in c exchange) before count) ∙ ap (λ p. drop count (left_at c p)) (sym is))
 
 pub wrote_some : (exchange : SmtpExchange) (before count : ℕ) (c : Code) (p : SmtpPassed) → LifeStands c p → c.phase ≡ Writing exchange before
-    → LifeStands (record c { phase = Writing exchange (before + count) }) (passed_written (take count (left_of c)) p)
+    → LifeStands (record c { phase = Writing exchange (before + count) }) (passed_written (take count (left_to_write c)) p)
 wrote_some exchange before count c p it is =
     written_by p.goes count c (Writing exchange (before + count)) c.heard p it (ap (λ q. unread_at q c.heard) is) refl (written_stage exchange (before + count) before ∙ ap stage_at (sym is)) (left_more exchange before count c c.heard is) tt
 
-pub wrote_all : (exchange : SmtpExchange) (before count : ℕ) (c : Code) (p : SmtpPassed) → LifeStands c p → c.phase ≡ Writing exchange before → length (left_of c) ≤ count
-    → LifeStands (record c { phase = Awaiting exchange; heard = [] }) (passed_written (take count (left_of c)) p)
+pub wrote_all : (exchange : SmtpExchange) (before count : ℕ) (c : Code) (p : SmtpPassed) → LifeStands c p → c.phase ≡ Writing exchange before → length (left_to_write c) ≤ count
+    → LifeStands (record c { phase = Awaiting exchange; heard = [] }) (passed_written (take count (left_to_write c)) p)
 wrote_all exchange before count c p it is fits =
-    written_by p.goes count c (Awaiting exchange) [] p it (ap (λ q. unread_at q c.heard) is) refl (awaited_stage exchange before ∙ ap stage_at (sym is)) (sym (take_all count (left_of c) fits)) refl
+    written_by p.goes count c (Awaiting exchange) [] p it (ap (λ q. unread_at q c.heard) is) refl (awaited_stage exchange before ∙ ap stage_at (sym is)) (sym (take_all count (left_to_write c) fits)) refl
 
 -- ---- octets come
 
@@ -213,13 +213,13 @@ says_lost handover stage c start now it = record {
   answered = it.answered;
   speaks =
       subst (λ cs. Speaks c.offered handover.mail cs Sender (it.before ++ it.here) endings.Lost) (append-nil it.codes)
-      (it.leads [] it.here endings.Lost ((left_of c, it.whole), refl));
+      (it.leads [] it.here endings.Lost ((left_to_write c, it.whole), refl));
 }
 
-deal_of : (handover : SmtpHandover) (stage : SmtpStage) (c : Code) (start now : SendTalk) (ending : Ending) → IsUnderWay handover stage c start now → TalkSays c.offered handover.mail Sender start now ending
-    → Treats handover.offered c.may_eight_bit handover.mail start now ending
-deal_of handover stage c start now ending it says =
-    subst (λ o. Treats o c.may_eight_bit handover.mail start now ending) (sym it.offers) (treats c.offered c.may_eight_bit handover.mail start now ending it.addressed it.needs says)
+deal_of : (handover : SmtpHandover) (stage : SmtpStage) (c : Code) (start now done : SendTalk) (ending : Ending) → IsUnderWay handover stage c start now
+    → TalkSays c.offered handover.mail Sender start done ending → Treats handover.offered c.may_eight_bit handover.mail start done ending
+deal_of handover stage c start now done ending it says =
+    subst (λ o. Treats o c.may_eight_bit handover.mail start done ending) (sym it.offers) (treats c.offered c.may_eight_bit handover.mail start done ending it.addressed it.needs says)
 
 lose : (g : Option SmtpHandover) (q : SmtpPhase) (end : SmtpEnd) (c : Code) (p : SmtpPassed) → LifeStands (record c { phase = q }) (record p { goes = g })
     → LifeStands (record c { phase = Over end; lines = no_lines }) (passed_ended (lost_at q) (record p { goes = g }))
@@ -233,7 +233,7 @@ lose (Some handover) q end c p it =
       start = it.now;
       now = it.now;
       wire = forgets (PassedAre p) (unread_at q c.heard) it.now it.wire;
-      deals = (it.start, it.deals, deal_of handover it.goes.0 (record c { phase = q }) it.start it.now endings.Lost under (says_lost handover it.goes.0 (record c { phase = q }) it.start it.now under));
+      deals = (it.start, it.deals, deal_of handover it.goes.0 (record c { phase = q }) it.start it.now it.now endings.Lost under (says_lost handover it.goes.0 (record c { phase = q }) it.start it.now under));
       goes = (refl, refl);
       since = tt;
     })
@@ -253,10 +253,10 @@ ended_stands end c p it = ended_by c.phase end c p it
 -- ---- a reply comes
 
 -- all of a stage was written, if nothing of it is left
-stage_done : (handover : SmtpHandover) (stage : SmtpStage) (c : Code) (start now : SendTalk) (it : IsUnderWay handover stage c start now) → left_of c ≡ [] → stage_text c.offered handover.mail stage ≡ it.here
+stage_done : (handover : SmtpHandover) (stage : SmtpStage) (c : Code) (start now : SendTalk) (it : IsUnderWay handover stage c start now) → left_to_write c ≡ [] → stage_text c.offered handover.mail stage ≡ it.here
 stage_done handover stage c start now it none = it.whole ∙ (ap (λ t. it.here ++ t) none ∙ append-nil it.here)
 
-line_is : (stage : SmtpStage) (c : Code) (offered : Extensions) (mail : SmtpMail) → c.lines ≡ lines_for offered mail → line_in c (Message stage) ≡ stage_text offered mail stage
+line_is : (stage : SmtpStage) (c : Code) (offered : Extensions) (mail : SmtpMail) → c.lines ≡ message_lines offered mail → line_in c (Message stage) ≡ stage_text offered mail stage
 line_is Sender c offered mail is = ap (λ (l : MessageLines). l.mail) is
 line_is Recipient c offered mail is = ap (λ (l : MessageLines). l.rcpt) is
 line_is Data c offered mail is = refl
@@ -268,7 +268,7 @@ one_more : (offered : Extensions) (mail : SmtpMail) (stage : SmtpStage) (code : 
 one_more offered mail stage code turn later more ending is by = (more, refl, subst (λ t. ByTurn t later (Speaks offered mail later) more ending) (sym is) by)
 
 -- the stage after it
-next_stage : (handover : SmtpHandover) (stage onward : SmtpStage) (code : ℕ) (m : Code) (h : List ℕ) (start now : SendTalk) → smtp_turn_of stage code ≡ Goes onward → left_of m ≡ []
+next_stage : (handover : SmtpHandover) (stage onward : SmtpStage) (code : ℕ) (m : Code) (h : List ℕ) (start now : SendTalk) → smtp_turn_of stage code ≡ Goes onward → left_to_write m ≡ []
     → IsUnderWay handover stage m start now → IsUnderWay handover onward (After m (Writing (Message onward) 0) h) start (talk_heard now code)
 next_stage handover stage onward code m h start now is none it =
     let text = stage_text m.offered handover.mail stage in
@@ -294,7 +294,7 @@ next_stage handover stage onward code m h start now is none it =
     }
 
 -- or the end of the message
-says_end : (handover : SmtpHandover) (stage : SmtpStage) (code : ℕ) (ending : Ending) (m : Code) (start now : SendTalk) → smtp_turn_of stage code ≡ Ends ending → left_of m ≡ []
+says_end : (handover : SmtpHandover) (stage : SmtpStage) (code : ℕ) (ending : Ending) (m : Code) (start now : SendTalk) → smtp_turn_of stage code ≡ Ends ending → left_to_write m ≡ []
     → IsUnderWay handover stage m start now → TalkSays m.offered handover.mail Sender start (talk_heard now code) ending
 says_end handover stage code ending m start now is none it =
     let text = stage_text m.offered handover.mail stage in
@@ -319,7 +319,7 @@ same_stage a b is = cc
 
 -- what a stage's reply makes of its message
 abbrev Turned : NextStage → List ℕ → Code → Code
-Turned turn h m = record m { phase = after_turn turn; lines = lines_after (ending_in turn) m.lines; heard = h }
+Turned turn h m = record m { phase = phase_by_turn turn; lines = lines_after (ending_in turn) m.lines; heard = h }
 
 turned : (turn : NextStage) (stage : SmtpStage) (g : Option SmtpHandover) (code count : ℕ) (h : List ℕ) (m : Code) (p : SmtpPassed) → m.phase ≡ Awaiting (Message stage) → smtp_turn_of stage code ≡ turn
     → IsSmtpReply m.heard code (drop count m.heard) → LifeStands m (record p { goes = g }) → LifeStands (Turned turn h m) (passed_ended (ending_in turn) (record p { goes = g }))
@@ -346,19 +346,19 @@ turned (Ends ending) stage (Some handover) code count h m p at is reply it =
       start = done;
       now = done;
       wire = subst (λ u. WirePasses (PassedAre p) u done) (sym (unread_none (after_ending ending) h no)) (reads m.heard count code p it.now reply wire);
-      deals = (it.start, it.deals, deal_of handover stage m it.start done ending way (says_end handover stage code ending m it.start it.now is (ap (left_at m) at) way));
+      deals = (it.start, it.deals, deal_of handover stage m it.start it.now done ending way (says_end handover stage code ending m it.start it.now is (ap (left_at m) at) way));
       goes = (refl, ending_no_stage ending);
       since = no_since (after_ending ending) h p.since no;
     }
 
 -- a reply to something else
 other : (exchange : SmtpExchange) (g : Option SmtpHandover) (code : ℕ) (h : List ℕ) (offered : Extensions) (m : Code) (p : SmtpPassed) → m.phase ≡ Awaiting exchange → stage_at (Awaiting exchange) ≡ None
-    → LifeStands m (record p { goes = g }) → LifeStands (replied exchange code h offered m) (passed_ended (ending_by exchange code) (record p { goes = g }))
+    → LifeStands m (record p { goes = g }) → LifeStands (after_reply exchange code h offered m) (passed_ended (ending_by exchange code) (record p { goes = g }))
 other exchange (Some handover) code h offered m p at no it = let never : Some it.goes.0 ≡ None = sym it.goes.1.at ∙ (ap stage_at at ∙ no) in absurd (cc never)
 other exchange None code h offered m p at no it =
     let away = after_not_awaiting exchange code in
     let q = phase_after exchange code in
-    subst (λ r. LifeStands (replied exchange code h offered m) (passed_ended r (record p { goes = None }))) (sym (no_ending exchange code no))
+    subst (λ r. LifeStands (after_reply exchange code h offered m) (passed_ended r (record p { goes = None }))) (sym (no_ending exchange code no))
     (record {
       start = it.start;
       now = it.now;
@@ -369,9 +369,9 @@ other exchange None code h offered m p at no it =
     })
 
 pub replied_stands : (exchange : SmtpExchange) (code count : ℕ) (h : List ℕ) (offered : Extensions) (m : Code) (p : SmtpPassed) → m.phase ≡ Awaiting exchange → OffersBy exchange h m.offered offered
-    → IsSmtpReply m.heard code (drop count m.heard) → LifeStands m p → LifeStands (replied exchange code h offered m) (passed_ended (ending_by exchange code) p)
+    → IsSmtpReply m.heard code (drop count m.heard) → LifeStands m p → LifeStands (after_reply exchange code h offered m) (passed_ended (ending_by exchange code) p)
 replied_stands (Message stage) code count h offered m p at offers reply it =
-    subst (λ o. LifeStands (replied (Message stage) code h o m) (passed_ended (ending_by (Message stage) code) p)) (sym offers)
+    subst (λ o. LifeStands (after_reply (Message stage) code h o m) (passed_ended (ending_by (Message stage) code) p)) (sym offers)
     (turned (smtp_turn_of stage code) stage p.goes code count h m p at refl reply it)
 replied_stands Greeting code count h offered m p at offers reply it = other Greeting p.goes code h offered m p at refl it
 replied_stands Ehlo code count h offered m p at offers reply it = other Ehlo p.goes code h offered m p at refl it

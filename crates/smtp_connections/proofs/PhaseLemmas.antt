@@ -8,7 +8,7 @@ use Rattle.smtp_dialogue.specs.declared.dialogue.Ending.TheVariants as endings
 use Rattle.smtp_dialogue.specs.declared.dialogue.NextStage.{NextStage}
 use Rattle.smtp_dialogue.specs.declared.dialogue.NextStage.TheVariants.{Goes, Ends}
 use Rattle.smtp_connections.specs.Cuts.{stage_at}
-use Rattle.smtp_connections.specs.Exchanges.{lost_at, ending_by, on_success, after_ehlo, after_ending, after_turn, phase_after}
+use Rattle.smtp_connections.specs.Exchanges.{lost_at, ending_by, on_success, after_ehlo, after_ending, phase_by_turn, phase_after}
 use Rattle.smtp_connections.specs.declared.end.SmtpEnd.TheVariants as ends
 use Rattle.smtp_connections.specs.declared.exchange.SmtpExchange.{SmtpExchange}
 use Rattle.smtp_connections.specs.declared.exchange.SmtpExchange.TheVariants.{Greeting, Ehlo, Helo, Message, Reset, Quit}
@@ -38,7 +38,7 @@ ending_not (endings.Delayed code) = refl
 ending_not (endings.OutOfPlace code) = refl
 ending_not endings.Lost = refl
 
-turn_not : (turn : NextStage) → is_awaiting (after_turn turn) ≡ false
+turn_not : (turn : NextStage) → is_awaiting (phase_by_turn turn) ≡ false
 turn_not (Goes stage) = refl
 turn_not (Ends ending) = ending_not ending
 

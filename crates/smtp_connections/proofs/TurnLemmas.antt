@@ -10,9 +10,9 @@ use Rattle.smtp_dialogue.specs.declared.dialogue.Ending.TheVariants as endings
 use Rattle.smtp_dialogue.specs.declared.dialogue.NextStage.{NextStage}
 use Rattle.smtp_dialogue.specs.declared.dialogue.NextStage.TheVariants.{Goes, Ends}
 use Rattle.smtp_connections.specs.Answers.{Answers}
-use Rattle.smtp_connections.specs.Exchanges.{lost_at, after_turn, phase_after, ending_in, ending_by}
-use Rattle.smtp_connections.specs.Connections.{left_at, left_of, ended_in, has_octets, ending_interrupted, Interrupts, BreaksOff, first_ending, RepliesAndMore, AwaitsMore, HearsAnswer, HearsIn, Hears, max_reply}
-use Rattle.smtp_connections.specs.Cuts.{stage_at, RepliesTo, TurnsStand}
+use Rattle.smtp_connections.specs.Exchanges.{lost_at, phase_by_turn, phase_after, ending_in, ending_by}
+use Rattle.smtp_connections.specs.Connections.{left_at, left_to_write, ended_in, has_octets, ending_interrupted, Interrupts, BreaksConnection, first_ending, RepliesAndMore, AwaitsMore, HearsAnswer, HearsIn, Hears, max_smtp_reply}
+use Rattle.smtp_connections.specs.Cuts.{stage_at, RepliesInPhase, TurnsStand}
 use Rattle.smtp_connections.specs.declared.answer.SmtpAnswer.{SmtpAnswer}
 use Rattle.smtp_connections.specs.declared.answer.SmtpAnswer.TheVariants.{Part, Whole, NoReply, LongLine}
 use Rattle.smtp_connections.specs.declared.end.SmtpEnd.{SmtpEnd}
@@ -77,25 +77,25 @@ sent_reply : (exchange : SmtpExchange) (code count : ℕ) (all reply : List ℕ)
     → RepliesAndMore exchange code reply b c (Some endings.Sent) e → (c.phase ≡ Awaiting (Message Text)) × ((rest : List ℕ) × IsSmtpReply all 250 rest)
 sent_reply exchange code count all reply b c e at reads it =
     elim (first_is (ending_by exchange code) it.behind endings.Sent it.tells) [
-      inl by ↦
+      | inl by ↦
           let to = sent_by exchange code by in
           (at ∙ ap Awaiting to.exchange_is, (drop count all, subst (λ n. IsSmtpReply all n (drop count all)) to.code_is reads))
-    | inr by ↦ absurd (never_interrupted b it.next (by ∙ it.interrupts.tells))
+      | inr by ↦ absurd (never_interrupted b it.next (by ∙ it.interrupts.tells))
     ]
 
 sent_more : (all : List ℕ) (c e : Code) → AwaitsMore all c (Some endings.Sent) e → ⊥
 sent_more all c e (inl it) = let never : Some endings.Sent ≡ None = it.1 in cc
 sent_more all c e (inr it) = never_lost c.phase it.1.tells
 
-sent_answer : (answer : SmtpAnswer) (exchange : SmtpExchange) (all : List ℕ) (c e : Code) → c.phase ≡ Awaiting exchange → Answers (take max_reply all) answer
+sent_answer : (answer : SmtpAnswer) (exchange : SmtpExchange) (all : List ℕ) (c e : Code) → c.phase ≡ Awaiting exchange → Answers (take max_smtp_reply all) answer
     → HearsAnswer answer exchange all c (Some endings.Sent) e → (c.phase ≡ Awaiting (Message Text)) × ((rest : List ℕ) × IsSmtpReply all 250 rest)
 sent_answer Part exchange all c e at is it = absurd (sent_more all c e it)
 sent_answer (Whole code count) exchange all c e at is it =
-    sent_reply exchange code count all (take count all) (has_octets (drop count all)) c e at (whole_reply max_reply all code count is).1 it
+    sent_reply exchange code count all (take count all) (has_octets (drop count all)) c e at (whole_reply max_smtp_reply all code count is).1 it
 sent_answer NoReply exchange all c e at is it = absurd (never_lost c.phase it.tells)
 sent_answer LongLine exchange all c e at is it = absurd (never_lost c.phase it.tells)
 
-sent_in : (p : SmtpPhase) (piece : List ℕ) (c e : Code) → c.phase ≡ p → HearsIn p piece c (Some endings.Sent) e → RepliesTo (Awaiting (Message Text)) c piece 250
+sent_in : (p : SmtpPhase) (piece : List ℕ) (c e : Code) → c.phase ≡ p → HearsIn p piece c (Some endings.Sent) e → RepliesInPhase (Awaiting (Message Text)) c piece 250
 sent_in (Awaiting exchange) piece c e at it = sent_answer it.answer exchange (c.heard ++ piece) c e at it.answers it.hears
 sent_in (Writing exchange count) piece c e at it = absurd (never_interrupted (has_octets piece) c it.tells)
 sent_in Ready piece c e at it = absurd (never_interrupted (has_octets piece) c it.tells)
@@ -124,13 +124,13 @@ record ToData (exchange : SmtpExchange) (code : ℕ) : Type 0 where
 none_text : (p : SmtpPhase) → stage_at p ≡ None → stage_at p ≡ Some Text → ⊥
 none_text p no is = let never : Some Text ≡ None = sym is ∙ no in cc
 
-next_text : (is_taken : Bool) (onward : SmtpStage) (code : ℕ) → stage_at (after_turn (next_or_end is_taken onward code)) ≡ Some Text → (is_taken ≡ true) × (onward ≡ Text)
+next_text : (is_taken : Bool) (onward : SmtpStage) (code : ℕ) → stage_at (phase_by_turn (next_or_end is_taken onward code)) ≡ Some Text → (is_taken ≡ true) × (onward ≡ Text)
 next_text true onward code is = (refl, cc)
-next_text false onward code is = absurd (none_text (after_turn (Ends (ending_of code))) (ending_no_stage (ending_of code)) is)
+next_text false onward code is = absurd (none_text (phase_by_turn (Ends (ending_of code))) (ending_no_stage (ending_of code)) is)
 
-not_again : (is_sent : Bool) (code : ℕ) → stage_at (after_turn (if is_sent then Ends endings.Sent else Ends (ending_of code))) ≡ Some Text → ⊥
+not_again : (is_sent : Bool) (code : ℕ) → stage_at (phase_by_turn (if is_sent then Ends endings.Sent else Ends (ending_of code))) ≡ Some Text → ⊥
 not_again true code is = cc
-not_again false code is = none_text (after_turn (Ends (ending_of code))) (ending_no_stage (ending_of code)) is
+not_again false code is = none_text (phase_by_turn (Ends (ending_of code))) (ending_no_stage (ending_of code)) is
 
 text_by : (exchange : SmtpExchange) (code : ℕ) → stage_at (phase_after exchange code) ≡ Some Text → ToData exchange code
 text_by Greeting code is = absurd (none_text (phase_after Greeting code) (after_no_stage Greeting code refl) is)
@@ -151,13 +151,13 @@ no_text end c e is text =
     cc
 
 abbrev Began : List ℕ → Code → Type 0
-Began piece c = (stage_at c.phase ≡ Some Text) ⊎ ((code : ℕ) × RepliesTo (Awaiting (Message Data)) c piece code × (reply_class code ≡ 3))
+Began piece c = (stage_at c.phase ≡ Some Text) ⊎ ((code : ℕ) × RepliesInPhase (Awaiting (Message Data)) c piece code × (reply_class code ≡ 3))
 
 text_interrupt : (b : Bool) (piece : List ℕ) (c e : Code) (ending : Option Ending) → Interrupts b c ending e → stage_at e.phase ≡ Some Text → stage_at c.phase ≡ Some Text
 text_interrupt false piece c e ending it text = ap (λ (m : Code). stage_at m.phase) (sym it.leaves) ∙ text
 text_interrupt true piece c e ending it text = absurd (no_text ends.OutOfTurn c e (ap (λ (m : Code). m.phase) it.leaves) text)
 
-text_answer : (answer : SmtpAnswer) (exchange : SmtpExchange) (piece : List ℕ) (c e : Code) (ending : Option Ending) → c.phase ≡ Awaiting exchange → Answers (take max_reply (c.heard ++ piece)) answer
+text_answer : (answer : SmtpAnswer) (exchange : SmtpExchange) (piece : List ℕ) (c e : Code) (ending : Option Ending) → c.phase ≡ Awaiting exchange → Answers (take max_smtp_reply (c.heard ++ piece)) answer
     → HearsAnswer answer exchange (c.heard ++ piece) c ending e → stage_at e.phase ≡ Some Text → Began piece c
 text_answer Part exchange piece c e ending at is (inl it) text = inl (ap (λ (m : Code). stage_at m.phase) (sym it.2) ∙ text)
 text_answer Part exchange piece c e ending at is (inr it) text = absurd (no_text ends.LongReply c e (ap (λ (m : Code). m.phase) it.1.leaves) text)
@@ -165,7 +165,7 @@ text_answer (Whole code count) exchange piece c e ending at is it text =
     let all = c.heard ++ piece in
     let before = text_interrupt (has_octets (drop count all)) piece it.next e it.behind it.interrupts text in
     let to = text_by exchange code (ap (λ (m : Code). stage_at m.phase) (sym it.follows.leaves) ∙ before) in
-    inr (code, (at ∙ ap Awaiting to.exchange_is, (drop count all, (whole_reply max_reply all code count is).1)), to.class)
+    inr (code, (at ∙ ap Awaiting to.exchange_is, (drop count all, (whole_reply max_smtp_reply all code count is).1)), to.class)
 text_answer NoReply exchange piece c e ending at is it text = absurd (no_text ends.NoReply c e (ap (λ (m : Code). m.phase) it.leaves) text)
 text_answer LongLine exchange piece c e ending at is it text = absurd (no_text ends.LongLine c e (ap (λ (m : Code). m.phase) it.leaves) text)
 

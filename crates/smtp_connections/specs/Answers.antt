@@ -63,7 +63,7 @@ heard_by NoReply = heard.Bad
 heard_by LongLine = heard.Bad
 
 -- one thing comes first, and what isn't a part stays so whatever follows; it is as `HearsReply` has it
-pub record AnswersStand : Type 0 where
+pub record SmtpAnswersStand : Type 0 where
   pub one : (octets : List ℕ) (a b : SmtpAnswer) → Answers octets a → Answers octets b → a ≡ b
   pub stays : (octets more : List ℕ) (answer : SmtpAnswer) → answer ≢ Part → Answers octets answer → Answers (octets ++ more) answer
   pub hears : (octets : List ℕ) (answer : SmtpAnswer) → Answers octets answer → HearsReply octets (heard_by answer)

@@ -36,8 +36,8 @@ abbrev pub no_lines : MessageLines
 no_lines = record { mail = []; rcpt = []; text = [] }
 
 -- those of a message, to a server that offers this
-abbrev pub lines_for : Extensions → SmtpMail → MessageLines
-lines_for offered mail = record { mail = mail_line offered mail; rcpt = rcpt_line mail; text = sent_from sent_start mail.text }
+abbrev pub message_lines : Extensions → SmtpMail → MessageLines
+message_lines offered mail = record { mail = mail_line offered mail; rcpt = rcpt_line mail; text = sent_from sent_start mail.text }
 
 -- all that is written of an exchange
 abbrev pub line_in : SmtpConnection → SmtpExchange → List ℕ
@@ -58,8 +58,8 @@ left_at c Ready = []
 left_at c (Over end) = []
 
 -- what isn't written yet
-abbrev pub left_of : SmtpConnection → List ℕ
-left_of c = left_at c c.phase
+abbrev pub left_to_write : SmtpConnection → List ℕ
+left_to_write c = left_at c c.phase
 
 -- ---- a new one
 
@@ -96,15 +96,15 @@ wanted_at (Over end) = wanted.Nothing end
 -- some are left; or it is the server's turn, of which nothing is heard yet
 abbrev pub WritesIn : ℕ → SmtpPhase → SmtpConnection → SmtpConnection → Type 0
 WritesIn count (Writing exchange before) c e =
-    ((count < length (left_of c)) × (e ≡ record c { phase = Writing exchange (before + count) }))
-    ⊎ ((length (left_of c) ≤ count) × (e ≡ record c { phase = Awaiting exchange; heard = [] }))
+    ((count < length (left_to_write c)) × (e ≡ record c { phase = Writing exchange (before + count) }))
+    ⊎ ((length (left_to_write c) ≤ count) × (e ≡ record c { phase = Awaiting exchange; heard = [] }))
 WritesIn count (Awaiting exchange) c e = e ≡ c
 WritesIn count Ready c e = e ≡ c
 WritesIn count (Over end) c e = e ≡ c
 
 -- so many octets of what is left were written
-abbrev pub Writes : ℕ → SmtpConnection → SmtpConnection → Type 0
-Writes count c e = WritesIn count c.phase c e
+abbrev pub WritesSome : ℕ → SmtpConnection → SmtpConnection → Type 0
+WritesSome count c e = WritesIn count c.phase c e
 
 -- ---- a message begins
 
@@ -112,7 +112,7 @@ Writes count c e = WritesIn count c.phase c e
 pub record BeginsMessage (mail : SmtpMail) (c e : SmtpConnection) : Type 0 where
   pub addressed : IsMailAddressed mail
   pub needs : IsOffered c.offered c.may_eight_bit mail
-  pub begun : e ≡ record c { lines = lines_for c.offered mail; phase = Writing (Message Sender) 0 }
+  pub begun : e ≡ record c { lines = message_lines c.offered mail; phase = Writing (Message Sender) 0 }
 
 -- it goes out; or nothing is written for it, for a cause
 abbrev pub Begins : SmtpMail → SmtpConnection → Option Ending → SmtpConnection → Type 0
@@ -143,8 +143,8 @@ ended end c = ended_in end c.phase c
 -- ---- octets come
 
 -- the most octets of a reply, with the CRLF of each line
-abbrev pub max_reply : ℕ
-max_reply = 65536
+abbrev pub max_smtp_reply : ℕ
+max_smtp_reply = 65536
 
 abbrev pub has_octets : List ℕ → Bool
 has_octets [] = false
@@ -164,7 +164,7 @@ pub record Interrupts (is_more : Bool) (c : SmtpConnection) (ending : Option End
   pub leaves : e ≡ interrupted is_more c
 
 -- a fault ends it, and of what came nothing is kept
-pub record BreaksOff (end : SmtpEnd) (c : SmtpConnection) (ending : Option Ending) (e : SmtpConnection) : Type 0 where
+pub record BreaksConnection (end : SmtpEnd) (c : SmtpConnection) (ending : Option Ending) (e : SmtpConnection) : Type 0 where
   pub tells : ending ≡ lost_at c.phase
   pub leaves : e ≡ record (ended end c) { heard = [] }
 
@@ -183,8 +183,8 @@ lines_after None lines = lines
 lines_after (Some ending) lines = no_lines
 
 -- what a reply makes of it
-abbrev pub replied : SmtpExchange → ℕ → List ℕ → Extensions → SmtpConnection → SmtpConnection
-replied exchange code reply offered c =
+abbrev pub after_reply : SmtpExchange → ℕ → List ℕ → Extensions → SmtpConnection → SmtpConnection
+after_reply exchange code reply offered c =
     record c { phase = phase_after exchange code; offered = offered; lines = lines_after (ending_by exchange code) c.lines; heard = reply }
 
 abbrev pub first_ending : Option Ending → Option Ending → Option Ending
@@ -194,7 +194,7 @@ first_ending (Some ending) other = Some ending
 pub record Follows (exchange : SmtpExchange) (code : ℕ) (reply : List ℕ) (c e : SmtpConnection) : Type 0 where
   pub offered : Extensions
   pub offers : OffersBy exchange reply c.offered offered
-  pub leaves : e ≡ replied exchange code reply offered c
+  pub leaves : e ≡ after_reply exchange code reply offered c
 
 -- a reply came, and perhaps octets behind it, which are out of turn
 pub record RepliesAndMore (exchange : SmtpExchange) (code : ℕ) (reply : List ℕ) (is_more : Bool) (c : SmtpConnection) (ending : Option Ending) (e : SmtpConnection) : Type 0 where
@@ -210,19 +210,19 @@ TakesReply exchange code count all c ending e = RepliesAndMore exchange code (ta
 -- a reply isn't whole: more is awaited; or it would have too many octets
 abbrev pub AwaitsMore : List ℕ → SmtpConnection → Option Ending → SmtpConnection → Type 0
 AwaitsMore all c ending e =
-    ((length all < max_reply) × (ending ≡ None) × (e ≡ record c { heard = all }))
-    ⊎ ((max_reply ≤ length all) × BreaksOff ends.LongReply c ending e)
+    ((length all < max_smtp_reply) × (ending ≡ None) × (e ≡ record c { heard = all }))
+    ⊎ ((max_smtp_reply ≤ length all) × BreaksConnection ends.LongReply c ending e)
 
 abbrev pub HearsAnswer : SmtpAnswer → SmtpExchange → List ℕ → SmtpConnection → Option Ending → SmtpConnection → Type 0
 HearsAnswer Part exchange all c ending e = AwaitsMore all c ending e
 HearsAnswer (Whole code count) exchange all c ending e = TakesReply exchange code count all c ending e
-HearsAnswer NoReply exchange all c ending e = BreaksOff ends.NoReply c ending e
-HearsAnswer LongLine exchange all c ending e = BreaksOff ends.LongLine c ending e
+HearsAnswer NoReply exchange all c ending e = BreaksConnection ends.NoReply c ending e
+HearsAnswer LongLine exchange all c ending e = BreaksConnection ends.LongLine c ending e
 
 -- these came since all of the exchange was written; the first 65,536 of them are looked at
 pub record HearsReplyTo (exchange : SmtpExchange) (all : List ℕ) (c : SmtpConnection) (ending : Option Ending) (e : SmtpConnection) : Type 0 where
   pub answer : SmtpAnswer
-  pub answers : Answers (take max_reply all) answer
+  pub answers : Answers (take max_smtp_reply all) answer
   pub hears : HearsAnswer answer exchange all c ending e
 
 abbrev pub HearsIn : SmtpPhase → List ℕ → SmtpConnection → Option Ending → SmtpConnection → Type 0
@@ -240,19 +240,19 @@ Hears piece c ending e = HearsIn c.phase piece c ending e
 -- a reply isn't whole
 abbrev pub WaitsOn : SmtpConnection → Option Ending → SmtpConnection → Type 0
 WaitsOn c ending e =
-    ((length c.heard < max_reply) × (ending ≡ None) × (e ≡ c))
-    ⊎ ((max_reply ≤ length c.heard) × BreaksOff ends.LongReply c ending e)
+    ((length c.heard < max_smtp_reply) × (ending ≡ None) × (e ≡ c))
+    ⊎ ((max_smtp_reply ≤ length c.heard) × BreaksConnection ends.LongReply c ending e)
 
 abbrev pub JudgesAnswer : SmtpAnswer → SmtpExchange → Bool → SmtpConnection → Option Ending → SmtpConnection → Type 0
 JudgesAnswer Part exchange is_over c ending e = WaitsOn c ending e
 JudgesAnswer (Whole code count) exchange is_over c ending e = RepliesAndMore exchange code (take count c.heard) (has_octets (drop count c.heard) || is_over) c ending e
-JudgesAnswer NoReply exchange is_over c ending e = BreaksOff ends.NoReply c ending e
-JudgesAnswer LongLine exchange is_over c ending e = BreaksOff ends.LongLine c ending e
+JudgesAnswer NoReply exchange is_over c ending e = BreaksConnection ends.NoReply c ending e
+JudgesAnswer LongLine exchange is_over c ending e = BreaksConnection ends.LongLine c ending e
 
 -- all that came is kept, but for others behind it if that is so
 pub record Judges (exchange : SmtpExchange) (is_over : Bool) (c : SmtpConnection) (ending : Option Ending) (e : SmtpConnection) : Type 0 where
   pub answer : SmtpAnswer
-  pub answers : Answers (take max_reply c.heard) answer
+  pub answers : Answers (take max_smtp_reply c.heard) answer
   pub judges : JudgesAnswer answer exchange is_over c ending e
 
 -- ---- what is shown

@@ -7,7 +7,7 @@ use Rattle.smtp_dialogue.specs.declared.dialogue.SmtpStage.TheVariants.{Data, Te
 use Rattle.smtp_dialogue.specs.declared.dialogue.Ending.{Ending}
 use Rattle.smtp_dialogue.specs.declared.dialogue.Ending.TheVariants.{Sent}
 use Rattle.smtp_connections.specs.Exchanges.{lost_at}
-use Rattle.smtp_connections.specs.Connections.{Hears, first_ending, left_of}
+use Rattle.smtp_connections.specs.Connections.{Hears, first_ending, left_to_write}
 use Rattle.smtp_connections.specs.declared.end.SmtpEnd.TheVariants.{OutOfTurn}
 use Rattle.smtp_connections.specs.declared.exchange.SmtpExchange.TheVariants.{Greeting, Ehlo, Helo, Message, Reset, Quit}
 use Rattle.smtp_connections.specs.declared.exchange.SmtpPhase.{SmtpPhase}
@@ -37,14 +37,14 @@ stage_at Ready = None
 stage_at (Over end) = None
 
 -- a reply came to an exchange, all of which had been written
-abbrev pub RepliesTo : SmtpPhase → SmtpConnection → List ℕ → ℕ → Type 0
-RepliesTo phase c piece code = (c.phase ≡ phase) × ((rest : List ℕ) × IsSmtpReply (c.heard ++ piece) code rest)
+abbrev pub RepliesInPhase : SmtpPhase → SmtpConnection → List ℕ → ℕ → Type 0
+RepliesInPhase phase c piece code = (c.phase ≡ phase) × ((rest : List ℕ) × IsSmtpReply (c.heard ++ piece) code rest)
 
 -- a message is sent only by a 250 to its text, of which nothing was left to be written; what comes before all is written ends the
 -- connection, whatever it is, and the message is lost; and a text is begun only by a 3yz to DATA
 pub record TurnsStand : Type 0 where
-  pub sent : (piece : List ℕ) (c e : SmtpConnection) → Hears piece c (Some Sent) e → RepliesTo (Awaiting (Message Text)) c piece 250
-  pub early : (piece : List ℕ) (c e : SmtpConnection) (ending : Option Ending) → left_of c ≢ [] → piece ≢ [] → Hears piece c ending e
+  pub sent : (piece : List ℕ) (c e : SmtpConnection) → Hears piece c (Some Sent) e → RepliesInPhase (Awaiting (Message Text)) c piece 250
+  pub early : (piece : List ℕ) (c e : SmtpConnection) (ending : Option Ending) → left_to_write c ≢ [] → piece ≢ [] → Hears piece c ending e
       → (e.phase ≡ Over OutOfTurn) × (ending ≡ lost_at c.phase)
   pub text : (piece : List ℕ) (c e : SmtpConnection) (ending : Option Ending) → Hears piece c ending e → stage_at e.phase ≡ Some Text
-      → (stage_at c.phase ≡ Some Text) ⊎ ((code : ℕ) × RepliesTo (Awaiting (Message Data)) c piece code × (reply_class code ≡ 3))
+      → (stage_at c.phase ≡ Some Text) ⊎ ((code : ℕ) × RepliesInPhase (Awaiting (Message Data)) c piece code × (reply_class code ≡ 3))

@@ -49,16 +49,16 @@ after_ending (Delayed code) = Writing Reset 0
 after_ending (OutOfPlace code) = Over (ends.Unexpected code)
 after_ending Lost = Over ends.Closed
 
-abbrev pub after_turn : NextStage → SmtpPhase
-after_turn (Goes stage) = Writing (Message stage) 0
-after_turn (Ends ending) = after_ending ending
+abbrev pub phase_by_turn : NextStage → SmtpPhase
+phase_by_turn (Goes stage) = Writing (Message stage) 0
+phase_by_turn (Ends ending) = after_ending ending
 
 -- what follows a reply with this code to that
 abbrev pub phase_after : SmtpExchange → ℕ → SmtpPhase
 phase_after Greeting code = on_success code (Writing Ehlo 0)
 phase_after Ehlo code = after_ehlo code
 phase_after Helo code = on_success code Ready
-phase_after (Message stage) code = after_turn (smtp_turn_of stage code)
+phase_after (Message stage) code = phase_by_turn (smtp_turn_of stage code)
 phase_after Reset code = on_success code Ready
 phase_after Quit code = Over ends.Quit
 

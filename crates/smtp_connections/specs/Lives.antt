@@ -9,7 +9,7 @@ use Rattle.smtp_dialogue.specs.declared.dialogue.Ending.{Ending}
 use Rattle.smtp_send.specs.Talks.{SendTalk, talk, Treats}
 use Rattle.smtp_send.specs.Wires.{WirePasses}
 use Rattle.smtp_connections.specs.Exchanges.{lost_at}
-use Rattle.smtp_connections.specs.Connections.{IsNewConnection, left_of, lines_for, Writes, Hears, Begins, quitting, ended}
+use Rattle.smtp_connections.specs.Connections.{IsNewConnection, left_to_write, message_lines, WritesSome, Hears, Begins, quitting, ended}
 use Rattle.smtp_connections.specs.Cuts.{stage_at}
 use Rattle.smtp_connections.specs.declared.end.SmtpEnd.{SmtpEnd}
 use Rattle.smtp_connections.specs.declared.exchange.SmtpExchange.{SmtpExchange}
@@ -62,22 +62,22 @@ passed_begun handover ending p = passed_ended ending (record p { goes = Some han
 
 -- ---- all that may happen
 
-pub data Lives : SmtpConnection → SmtpPassed → Type 0 where
+pub data SmtpLives : SmtpConnection → SmtpPassed → Type 0 where
   -- it is new
-  life_new : (host : List ℕ) (may : Bool) (c : SmtpConnection) → IsNewConnection host may c → Lives c nothing_passed
+  life_new : (host : List ℕ) (may : Bool) (c : SmtpConnection) → IsNewConnection host may c → SmtpLives c nothing_passed
   -- some of what is left was written
-  life_wrote : (count : ℕ) (exchange : SmtpExchange) (before : ℕ) (c e : SmtpConnection) (p : SmtpPassed) → Lives c p → c.phase ≡ Writing exchange before
-      → count ≤ length (left_of c) → Writes count c e → Lives e (passed_written (take count (left_of c)) p)
+  life_wrote : (count : ℕ) (exchange : SmtpExchange) (before : ℕ) (c e : SmtpConnection) (p : SmtpPassed) → SmtpLives c p → c.phase ≡ Writing exchange before
+      → count ≤ length (left_to_write c) → WritesSome count c e → SmtpLives e (passed_written (take count (left_to_write c)) p)
   -- octets came
-  life_heard : (piece : List ℕ) (c e : SmtpConnection) (ending : Option Ending) (p : SmtpPassed) → Lives c p → Hears piece c ending e
-      → Lives e (passed_ended ending (passed_heard piece p))
+  life_heard : (piece : List ℕ) (c e : SmtpConnection) (ending : Option Ending) (p : SmtpPassed) → SmtpLives c p → Hears piece c ending e
+      → SmtpLives e (passed_ended ending (passed_heard piece p))
   -- a message was handed over
-  life_begun : (mail : SmtpMail) (c e : SmtpConnection) (ending : Option Ending) (p : SmtpPassed) → Lives c p → c.phase ≡ Ready → Begins mail c ending e
-      → Lives e (passed_begun (record { mail = mail; offered = c.offered }) ending p)
+  life_begun : (mail : SmtpMail) (c e : SmtpConnection) (ending : Option Ending) (p : SmtpPassed) → SmtpLives c p → c.phase ≡ Ready → Begins mail c ending e
+      → SmtpLives e (passed_begun (record { mail = mail; offered = c.offered }) ending p)
   -- QUIT is said
-  life_quit : (c : SmtpConnection) (p : SmtpPassed) → Lives c p → c.phase ≡ Ready → Lives (record c { phase = quitting }) p
+  life_quit : (c : SmtpConnection) (p : SmtpPassed) → SmtpLives c p → c.phase ≡ Ready → SmtpLives (record c { phase = quitting }) p
   -- it was ended
-  life_ended : (end : SmtpEnd) (c : SmtpConnection) (p : SmtpPassed) → Lives c p → Lives (ended end c) (passed_ended (lost_at c.phase) p)
+  life_ended : (end : SmtpEnd) (c : SmtpConnection) (p : SmtpPassed) → SmtpLives c p → SmtpLives (ended end c) (passed_ended (lost_at c.phase) p)
 
 -- ---- what holds of it
 
@@ -94,11 +94,11 @@ pub record IsUnderWay (handover : SmtpHandover) (stage : SmtpStage) (c : SmtpCon
   pub offers : handover.offered ≡ c.offered
   pub addressed : IsMailAddressed handover.mail
   pub needs : IsOffered c.offered c.may_eight_bit handover.mail
-  pub lines : c.lines ≡ lines_for c.offered handover.mail
+  pub lines : c.lines ≡ message_lines c.offered handover.mail
   pub before : List ℕ
   pub codes : List ℕ
   pub here : List ℕ
-  pub whole : stage_text c.offered handover.mail stage ≡ here ++ left_of c
+  pub whole : stage_text c.offered handover.mail stage ≡ here ++ left_to_write c
   pub written : now.written ≡ start.written ++ (before ++ here)
   pub answered : now.answered ≡ start.answered ++ codes
   pub leads : (later more : List ℕ) (ending : Ending) → Speaks c.offered handover.mail later stage more ending → Speaks c.offered handover.mail (codes ++ later) Sender (before ++ more) ending
@@ -136,4 +136,4 @@ pub record LifeStands (c : SmtpConnection) (p : SmtpPassed) : Type 0 where
   pub since : IsSince c.phase c.heard p.since
 
 pub record LivesStand : Type 0 where
-  pub stands : (c : SmtpConnection) (p : SmtpPassed) → Lives c p → LifeStands c p
+  pub stands : (c : SmtpConnection) (p : SmtpPassed) → SmtpLives c p → LifeStands c p

@@ -72,7 +72,7 @@ impl SmtpConnection {
 
     /// The octets that are to be written now. None while a reply is awaited, or if nothing is to be said. Constant time.
     pub fn out(&self) -> &[u8]
-        ensures { result.now ≡ s.left_of self.now }
+        ensures { result.now ≡ s.left_to_write self.now }
     {
         match self.phase {
             SmtpPhase::Writing(exchange, count) => behind(self.line(exchange), count),
@@ -99,8 +99,8 @@ impl SmtpConnection {
 
     /// So many octets of `out` were written. Takes no memory; constant time.
     pub fn wrote(&mut self, count: usize)
-        requires { count ≤ length (s.left_of self.old) }
-        ensures { s.Writes count self.old self.new }
+        requires { count ≤ length (s.left_to_write self.old) }
+        ensures { s.WritesSome count self.old self.new }
     {
         let SmtpPhase::Writing(exchange, before) = self.phase else {
             return;

@@ -69,7 +69,7 @@ impl SmtpExchange {
             }
             SmtpExchange::Ehlo => after_ehlo(code),
             SmtpExchange::Helo | SmtpExchange::Reset => on_success(code, SmtpPhase::Ready),
-            SmtpExchange::Message(stage) => after_turn(next_turn(stage, code)),
+            SmtpExchange::Message(stage) => phase_by_turn(next_turn(stage, code)),
             SmtpExchange::Quit => SmtpPhase::Over(SmtpEnd::Quit),
         }
     }
@@ -108,8 +108,8 @@ fn after_ehlo(code: u16) -> SmtpPhase
 }
 
 // What follows what a reply makes of a message.
-fn after_turn(turn: NextStage) -> SmtpPhase
-    ensures { result ≡ s.after_turn turn }
+fn phase_by_turn(turn: NextStage) -> SmtpPhase
+    ensures { result ≡ s.phase_by_turn turn }
 {
     match turn {
         NextStage::Goes(stage) => SmtpPhase::Writing(SmtpExchange::Message(stage), 0),

@@ -1,12 +1,12 @@
 //! Laws of the definitions, each the contract of a function that does nothing.
-ghost use Rattle.smtp_connections.specs.Answers.{AnswersStand};
+ghost use Rattle.smtp_connections.specs.Answers.{SmtpAnswersStand};
 ghost use Rattle.smtp_connections.specs.Cuts.{CutsStand, TurnsStand};
 ghost use Rattle.smtp_connections.specs.Lives.{LivesStand};
 
 /// One thing comes first in the octets of a server, and but for a part of a reply it is the same whatever follows; a whole reply is one
 /// as RFC 5321 has it, and a fault is none, whatever follows.
-pub fn answers_stand()
-    ensures { AnswersStand }
+pub fn smtp_answers_stand()
+    ensures { SmtpAnswersStand }
 {}
 
 /// Octets that come in other pieces do the same: two pieces do what both in one do, and what a piece does is one thing.

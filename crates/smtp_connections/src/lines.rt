@@ -39,7 +39,7 @@ impl MessageLines {
         offered: Extensions,
         message: SmtpMessage<'_>,
     ) -> Result<MessageLines, AllocError>
-        ensures { IfOk result (λ lines. lines ≡ s.lines_for offered (smtp_mail_of message.entry)) }
+        ensures { IfOk result (λ lines. lines ≡ s.message_lines offered (smtp_mail_of message.entry)) }
     {
         Ok(MessageLines {
             mail: mail_line(alloc, offered, message)?,

@@ -22,7 +22,7 @@ impl SmtpConnection {
     /// Lack of memory is the only error; nothing changes then. Time is linear in what is held of the reply.
     pub fn hear(&mut self, piece: &[u8]) -> Result<Option<Ending>, AllocError>
         ensures hears { IfOk result (λ ending. s.Hears piece.now self.old ending self.new) }
-        ensures held { length self.old.heard ≤ s.max_reply → length self.new.heard ≤ s.max_reply }
+        ensures held { length self.old.heard ≤ s.max_smtp_reply → length self.new.heard ≤ s.max_smtp_reply }
         ensures err { OnErr result (self.new ≡ self.old) }
     {
         match self.phase {
@@ -38,7 +38,7 @@ impl SmtpConnection {
         piece: &[u8],
     ) -> Result<Option<Ending>, AllocError>
         ensures hears { IfOk result (λ ending. s.HearsReplyTo exchange (self.old.heard ++ piece.now) self.old ending self.new) }
-        ensures held { length self.old.heard ≤ s.max_reply → length self.new.heard ≤ s.max_reply }
+        ensures held { length self.old.heard ≤ s.max_smtp_reply → length self.new.heard ≤ s.max_smtp_reply }
         ensures err { OnErr result (self.new ≡ self.old) }
     {
         let room = MAX_REPLY.saturating_sub(self.heard.len());
@@ -84,7 +84,7 @@ impl SmtpConnection {
 
     // What came is no reply: it is forgotten, and the connection is at its end.
     fn break_off(&mut self, end: SmtpEnd) -> Option<Ending>
-        ensures { s.BreaksOff end self.old result self.new }
+        ensures { s.BreaksConnection end self.old result self.new }
     {
         let ending = self.end(end);
         self.heard = Octets::new(self.alloc);
