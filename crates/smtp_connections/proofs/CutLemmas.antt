@@ -28,10 +28,10 @@ use Rattle.smtp_connections.proofs.PhaseLemmas.{is_awaiting, after_not_awaiting}
 -- ---- when it isn't the server's turn
 
 pub as_interrupt : (p : SmtpPhase) (piece : List ℕ) (c e : Code) (r : Option Ending) → is_awaiting p ≡ false → HearsIn p piece c r e → Interrupts (has_octets piece) c r e
-as_interrupt (Awaiting exchange) piece c e r no hears = absurd (cc no)
-as_interrupt (Writing exchange count) piece c e r no hears = hears
-as_interrupt Ready piece c e r no hears = hears
-as_interrupt (Over end) piece c e r no hears = hears
+as_interrupt (Awaiting exchange) piece c e r off hears = absurd (cc off)
+as_interrupt (Writing exchange count) piece c e r off hears = hears
+as_interrupt Ready piece c e r off hears = hears
+as_interrupt (Over end) piece c e r off hears = hears
 
 pub ended_over : (end : SmtpEnd) (c : Code) (p : SmtpPhase) → c.phase ≡ p → (x : SmtpEnd) × ((ended_in end p c).phase ≡ Over x)
 ended_over end c (Writing exchange count) is = (end, refl)
@@ -66,10 +66,10 @@ first_assoc (Some ending) b c = refl
 
 pub interrupts_join : (xs ys : List ℕ) (n d e : Code) (r s : Option Ending) → is_awaiting n.phase ≡ false → Interrupts (has_octets xs) n r d → Hears ys d s e
     → Interrupts (has_octets (xs ++ ys)) n (first_ending r s) e
-interrupts_join [] ys n d e r s no one two =
-    let here = as_interrupt n.phase ys n e s no (subst (λ m. Hears ys m s e) one.leaves two) in
+interrupts_join [] ys n d e r s off one two =
+    let here = as_interrupt n.phase ys n e s off (subst (λ m. Hears ys m s e) one.leaves two) in
     record { tells = ap (λ x. first_ending x s) one.tells ∙ here.tells; leaves = here.leaves }
-interrupts_join (x ∷ xs) ys n d e r s no one two =
+interrupts_join (x ∷ xs) ys n d e r s off one two =
     let over = ended_over ends.OutOfTurn n n.phase refl in
     let is : d.phase ≡ Over over.0 = ap (λ (m : Code). m.phase) one.leaves ∙ over.1 in
     let after = over_hears ys d e over.0 s is two in
@@ -142,12 +142,12 @@ whole_reply n all code count is = smtp_answers_stand.hears all (Whole code count
 replies_join : (exchange : SmtpExchange) (code : ℕ) (reply xs ys : List ℕ) (c d e : Code) (r s : Option Ending) → RepliesAndMore exchange code reply (has_octets xs) c r d → Hears ys d s e
     → RepliesAndMore exchange code reply (has_octets (xs ++ ys)) c (first_ending r s) e
 replies_join exchange code reply xs ys c d e r s one two =
-    let no : is_awaiting one.next.phase ≡ false = ap (λ (m : Code). is_awaiting m.phase) one.follows.leaves ∙ after_not_awaiting exchange code in
+    let off : is_awaiting one.next.phase ≡ false = ap (λ (m : Code). is_awaiting m.phase) one.follows.leaves ∙ after_not_awaiting exchange code in
     record {
       next = one.next;
       follows = one.follows;
       behind = first_ending one.behind s;
-      interrupts = interrupts_join xs ys one.next d e one.behind s no one.interrupts two;
+      interrupts = interrupts_join xs ys one.next d e one.behind s off one.interrupts two;
       tells = ap (λ x. first_ending x s) one.tells ∙ first_assoc (ending_by exchange code) one.behind s;
     }
 

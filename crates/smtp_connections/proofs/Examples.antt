@@ -86,7 +86,7 @@ cut_is_none code count is =
 not_251 : (count : ℕ) → Answers ok (Whole 251 count) → ⊥
 not_251 count is =
     let same : Whole 250 8 ≡ Whole 251 count = smtp_answers_stand.one ok (Whole 250 8) (Whole 251 count) ok_is_whole is in
-    let never : 250 ≡ 251 = cc in
+    let never : ◌≡◌ {A = ℕ} 250 251 = cc in
     absurd (omega (arith, never))
 
 -- ---- what follows a reply
@@ -137,7 +137,7 @@ wide = record { sender = 228 ∷ codes "@b"; target = codes "c@d"; text = [] }
 
 -- octets over 127 go without 8BITMIME if they may; near misses: they may not; and an address may never go without SMTPUTF8
 may_go : IsOffered no_extensions true eight_bit
-may_go = record { addresses = λ no. absurd (cc no); text = λ yes. refl }
+may_go = record { addresses = λ off. absurd (cc off); text = λ holds. refl }
 
 may_not : IsOffered no_extensions false eight_bit → ⊥
 may_not is = let never : false ≡ true = is.text refl in cc

@@ -6,3 +6,4 @@ pub mod JudgeLemmas
 pub mod LifeLemmas
 pub mod PhaseLemmas
 pub mod TurnLemmas
+pub mod WriteLemmas

@@ -32,16 +32,16 @@ use Rattle.smtp_connections.proofs.PhaseLemmas.{is_awaiting, after_not_awaiting,
 -- ---- while no reply is awaited
 
 pub unread_none : (p : SmtpPhase) (heard : List ℕ) → is_awaiting p ≡ false → unread_at p heard ≡ []
-unread_none (Awaiting exchange) heard no = absurd (cc no)
-unread_none (Writing exchange count) heard no = refl
-unread_none Ready heard no = refl
-unread_none (Over end) heard no = refl
+unread_none (Awaiting exchange) heard off = absurd (cc off)
+unread_none (Writing exchange count) heard off = refl
+unread_none Ready heard off = refl
+unread_none (Over end) heard off = refl
 
 pub no_since : (p : SmtpPhase) (heard since : List ℕ) → is_awaiting p ≡ false → IsSince p heard since
-no_since (Awaiting exchange) heard since no = absurd (cc no)
-no_since (Writing exchange count) heard since no = tt
-no_since Ready heard since no = tt
-no_since (Over end) heard since no = tt
+no_since (Awaiting exchange) heard since off = absurd (cc off)
+no_since (Writing exchange count) heard since off = tt
+no_since Ready heard since off = tt
+no_since (Over end) heard since off = tt
 
 -- ---- a new connection
 
@@ -190,8 +190,8 @@ came exchange piece c p it = record {
 
 -- what comes when it isn't the server's turn is of no message
 pub ignored : (piece : List ℕ) (c : Code) (p : SmtpPassed) → is_awaiting c.phase ≡ false → LifeStands c p → LifeStands c (passed_heard piece p)
-ignored piece c p no it =
-    let none = unread_none c.phase c.heard no in
+ignored piece c p off it =
+    let none = unread_none c.phase c.heard off in
     let wire : WirePasses (PassedAre p) [] it.now = subst (λ u. WirePasses (PassedAre p) u it.now) none it.wire in
     let more = came_more (PassedAre p) (PassedAre (passed_heard piece p)) [] piece piece it.now (comes p piece) refl wire in
     record {
@@ -200,7 +200,7 @@ ignored piece c p no it =
       wire = subst (λ u. WirePasses (PassedAre (passed_heard piece p)) u it.now) (sym none) (forgets (PassedAre (passed_heard piece p)) piece it.now more);
       deals = it.deals;
       goes = it.goes;
-      since = no_since c.phase c.heard (p.since ++ piece) no;
+      since = no_since c.phase c.heard (p.since ++ piece) off;
     }
 
 -- ---- it ends
@@ -237,9 +237,6 @@ lose (Some handover) q end c p it =
       goes = (refl, refl);
       since = tt;
     })
-
-no_loss : (g : Option SmtpHandover) (p : SmtpPassed) → passed_ended None (record p { goes = g }) ≡ record p { goes = g }
-no_loss g p = refl
 
 ended_by : (q : SmtpPhase) (end : SmtpEnd) (c : Code) (p : SmtpPassed) → LifeStands (record c { phase = q }) p → LifeStands (ended_in end q (record c { phase = q })) (passed_ended (lost_at q) p)
 ended_by (Writing exchange count) end c p it = lose p.goes (Writing exchange count) end c p it
@@ -340,31 +337,31 @@ turned (Ends ending) stage (Some handover) code count h m p at is reply it =
     let wire : WirePasses (PassedAre p) m.heard it.now = subst (λ q. WirePasses (PassedAre p) (unread_at q m.heard) it.now) at it.wire in
     let under : it.goes.0 ≡ stage = same_stage it.goes.0 stage (sym it.goes.1.at ∙ ap stage_at at) in
     let way : IsUnderWay handover stage m it.start it.now = subst (λ s. IsUnderWay handover s m it.start it.now) under it.goes.1 in
-    let no = ending_not ending in
+    let off = ending_not ending in
     let done = talk_heard it.now code in
     record {
       start = done;
       now = done;
-      wire = subst (λ u. WirePasses (PassedAre p) u done) (sym (unread_none (after_ending ending) h no)) (reads m.heard count code p it.now reply wire);
+      wire = subst (λ u. WirePasses (PassedAre p) u done) (sym (unread_none (after_ending ending) h off)) (reads m.heard count code p it.now reply wire);
       deals = (it.start, it.deals, deal_of handover stage m it.start it.now done ending way (says_end handover stage code ending m it.start it.now is (ap (left_at m) at) way));
       goes = (refl, ending_no_stage ending);
-      since = no_since (after_ending ending) h p.since no;
+      since = no_since (after_ending ending) h p.since off;
     }
 
 -- a reply to something else
 other : (exchange : SmtpExchange) (g : Option SmtpHandover) (code : ℕ) (h : List ℕ) (offered : Extensions) (m : Code) (p : SmtpPassed) → m.phase ≡ Awaiting exchange → stage_at (Awaiting exchange) ≡ None
     → LifeStands m (record p { goes = g }) → LifeStands (after_reply exchange code h offered m) (passed_ended (ending_by exchange code) (record p { goes = g }))
-other exchange (Some handover) code h offered m p at no it = let never : Some it.goes.0 ≡ None = sym it.goes.1.at ∙ (ap stage_at at ∙ no) in absurd (cc never)
-other exchange None code h offered m p at no it =
+other exchange (Some handover) code h offered m p at off it = let never : Some it.goes.0 ≡ None = sym it.goes.1.at ∙ (ap stage_at at ∙ off) in absurd (cc never)
+other exchange None code h offered m p at off it =
     let away = after_not_awaiting exchange code in
     let q = phase_after exchange code in
-    subst (λ r. LifeStands (after_reply exchange code h offered m) (passed_ended r (record p { goes = None }))) (sym (no_ending exchange code no))
+    subst (λ r. LifeStands (after_reply exchange code h offered m) (passed_ended r (record p { goes = None }))) (sym (no_ending exchange code off))
     (record {
       start = it.start;
       now = it.now;
       wire = subst (λ u. WirePasses (PassedAre p) u it.now) (sym (unread_none q h away)) (forgets (PassedAre p) (unread_at m.phase m.heard) it.now it.wire);
       deals = it.deals;
-      goes = (it.goes.0, after_no_stage exchange code no);
+      goes = (it.goes.0, after_no_stage exchange code off);
       since = no_since q h p.since away;
     })
 

@@ -27,7 +27,7 @@ chosen true x y one two = one
 chosen false x y one two = two
 
 success_not : (code : ℕ) (p : SmtpPhase) → is_awaiting p ≡ false → is_awaiting (on_success code p) ≡ false
-success_not code p no = chosen (reply_class code == 2) p (Over (ends.Unexpected code)) no refl
+success_not code p off = chosen (reply_class code == 2) p (Over (ends.Unexpected code)) off refl
 
 pub ending_not : (ending : Ending) → is_awaiting (after_ending ending) ≡ false
 ending_not endings.Sent = refl
@@ -112,20 +112,20 @@ no_stage true x y one two = one
 no_stage false x y one two = two
 
 success_no_stage : (code : ℕ) (p : SmtpPhase) → stage_at p ≡ None → stage_at (on_success code p) ≡ None
-success_no_stage code p no = no_stage (reply_class code == 2) p (Over (ends.Unexpected code)) no refl
+success_no_stage code p off = no_stage (reply_class code == 2) p (Over (ends.Unexpected code)) off refl
 
 pub after_no_stage : (exchange : SmtpExchange) (code : ℕ) → stage_at (Awaiting exchange) ≡ None → stage_at (phase_after exchange code) ≡ None
-after_no_stage Greeting code no = success_no_stage code (Writing Ehlo 0) refl
-after_no_stage Ehlo code no = no_stage (reply_class code == 5) (Writing Helo 0) (on_success code Ready) refl (success_no_stage code Ready refl)
-after_no_stage Helo code no = success_no_stage code Ready refl
-after_no_stage (Message stage) code no = absurd (cc no)
-after_no_stage Reset code no = success_no_stage code Ready refl
-after_no_stage Quit code no = refl
+after_no_stage Greeting code off = success_no_stage code (Writing Ehlo 0) refl
+after_no_stage Ehlo code off = no_stage (reply_class code == 5) (Writing Helo 0) (on_success code Ready) refl (success_no_stage code Ready refl)
+after_no_stage Helo code off = success_no_stage code Ready refl
+after_no_stage (Message stage) code off = absurd (cc off)
+after_no_stage Reset code off = success_no_stage code Ready refl
+after_no_stage Quit code off = refl
 
 pub no_ending : (exchange : SmtpExchange) (code : ℕ) → stage_at (Awaiting exchange) ≡ None → ending_by exchange code ≡ None
-no_ending Greeting code no = refl
-no_ending Ehlo code no = refl
-no_ending Helo code no = refl
-no_ending (Message stage) code no = absurd (cc no)
-no_ending Reset code no = refl
-no_ending Quit code no = refl
+no_ending Greeting code off = refl
+no_ending Ehlo code off = refl
+no_ending Helo code off = refl
+no_ending (Message stage) code off = absurd (cc off)
+no_ending Reset code off = refl
+no_ending Quit code off = refl

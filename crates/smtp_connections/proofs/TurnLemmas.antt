@@ -122,7 +122,7 @@ record ToData (exchange : SmtpExchange) (code : ℕ) : Type 0 where
   class : reply_class code ≡ 3
 
 none_text : (p : SmtpPhase) → stage_at p ≡ None → stage_at p ≡ Some Text → ⊥
-none_text p no is = let never : Some Text ≡ None = sym is ∙ no in cc
+none_text p off is = let never : Some Text ≡ None = sym is ∙ off in cc
 
 next_text : (is_taken : Bool) (onward : SmtpStage) (code : ℕ) → stage_at (phase_by_turn (next_or_end is_taken onward code)) ≡ Some Text → (is_taken ≡ true) × (onward ≡ Text)
 next_text true onward code is = (refl, cc)
@@ -140,7 +140,7 @@ text_by Reset code is = absurd (none_text (phase_after Reset code) (after_no_sta
 text_by Quit code is = absurd (none_text (phase_after Quit code) refl is)
 text_by (Message Sender) code is = let never : Recipient ≡ Text = (next_text (reply_class code == 2) Recipient code is).1 in absurd (cc never)
 text_by (Message Recipient) code is = let never : Data ≡ Text = (next_text (reply_class code == 2) Data code is).1 in absurd (cc never)
-text_by (Message Data) code is = let yes = (next_text (reply_class code == 3) Text code is).0 in record { exchange_is = refl; class = grind (arith, yes) }
+text_by (Message Data) code is = let holds = (next_text (reply_class code == 3) Text code is).0 in record { exchange_is = refl; class = grind (arith, holds) }
 text_by (Message Text) code is = absurd (not_again (code == 250) code is)
 
 -- a connection that is at its end has no stage

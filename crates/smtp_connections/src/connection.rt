@@ -105,7 +105,8 @@ impl SmtpConnection {
         let SmtpPhase::Writing(exchange, before) = self.phase else {
             return;
         };
-        if count < self.out().len() {
+        let left = self.line(exchange).len().saturating_sub(before);
+        if count < left {
             self.phase = SmtpPhase::Writing(exchange, before + count);
             return;
         }
@@ -177,6 +178,15 @@ fn helo_line(alloc: Global, host: &[u8]) -> Result<Octets, AllocError>
     line.extend_from_slice(host)?;
     line.extend_from_slice(b"\r\n")?;
     Ok(line)
+}
+
+pub(crate) fn has_octets(octets: &[u8]) -> bool
+    ensures { result ≡ s.has_octets octets.now }
+{
+    match octets {
+        [] => false,
+        _ => true,
+    }
 }
 
 // At most so many octets, from the first on.

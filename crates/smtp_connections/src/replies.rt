@@ -4,7 +4,7 @@ ghost use Rattle.smtp_connections.specs.Connections as s;
 ghost use Rattle.smtp_connections.specs.Exchanges.{ending_by};
 
 use crate::answer::{SmtpAnswer, read_answer};
-use crate::connection::{SmtpConnection, behind, front};
+use crate::connection::{SmtpConnection, behind, front, has_octets};
 use crate::end::SmtpEnd;
 use crate::exchange::{SmtpExchange, SmtpPhase};
 use crate::lines::MessageLines;
@@ -27,7 +27,7 @@ impl SmtpConnection {
     {
         match self.phase {
             SmtpPhase::Awaiting(exchange) => self.hear_reply(exchange, piece),
-            _ => Ok(self.interrupt(!piece.is_empty())),
+            _ => Ok(self.interrupt(has_octets(piece))),
         }
     }
 
@@ -42,7 +42,7 @@ impl SmtpConnection {
         ensures err { OnErr result (self.new ≡ self.old) }
     {
         let room = MAX_REPLY.saturating_sub(self.heard.len());
-        let is_over = !behind(piece, room).is_empty();
+        let is_over = has_octets(behind(piece, room));
         self.heard.extend_from_slice(front(piece, room))?;
         Ok(self.judge(exchange, is_over))
     }
@@ -66,10 +66,7 @@ impl SmtpConnection {
     fn has_behind(&self, count: usize) -> bool
         ensures { result ≡ s.has_octets (drop count self.now.heard) }
     {
-        match behind(self.heard.as_slice(), count) {
-            [] => false,
-            _ => true,
-        }
+        has_octets(behind(self.heard.as_slice(), count))
     }
 
     // A reply isn't whole, and may have no more octets than one may.
