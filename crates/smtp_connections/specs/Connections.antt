@@ -1,7 +1,8 @@
 -- One connection to a server of SMTP: what is written, and what is made of what comes.
 use Rattle.std.specs.Prelude.{◌≡◌, ◌⊎◌, ℕ, ◌+◌, ◌<◌, ◌≤◌, ◌||◌, Bool, true, false, List, [], ◌∷◌, ◌++◌, length, take, drop, codes, Option, Some, None}
 use Rattle.lmtp_dialogue.specs.Lines.{LineFinds, line_end}
-use Rattle.lmtp_dialogue.specs.declared.command_line.Found.TheVariants.{Line}
+use Rattle.lmtp_dialogue.specs.declared.command_line.Found.{Found}
+use Rattle.lmtp_dialogue.specs.declared.command_line.Found.TheVariants.{Need, Line, TooLong}
 use Rattle.smtp_dialogue.specs.Messages.{SmtpMail, IsMailAddressed, IsOffered, mail_line, rcpt_line, data_line, rset_line, quit_line, ehlo_line}
 use Rattle.smtp_dialogue.specs.Sent.{sent_from, sent_start}
 use Rattle.smtp_dialogue.specs.Extensions.{OffersExtensions, no_extensions}
@@ -257,6 +258,11 @@ pub record Judges (exchange : SmtpExchange) (is_over : Bool) (c : SmtpConnection
 
 -- ---- what is shown
 
+abbrev pub first_line_by : Found → List ℕ → List ℕ
+first_line_by (Line count) heard = take count heard
+first_line_by Need heard = []
+first_line_by TooLong heard = []
+
 -- the first line of a reply, without its CRLF; nothing if there is none
 abbrev pub ShowsFirstLine : List ℕ → List ℕ → Type 0
-ShowsFirstLine heard line = ((count : ℕ) × LineFinds (Line count) heard × (line ≡ take count heard)) ⊎ (line ≡ [])
+ShowsFirstLine heard line = (found : Found) × LineFinds found heard × (line ≡ first_line_by found heard)

@@ -7,8 +7,8 @@ use lmtp_dialogue::{Found, find_line};
 use smtp_dialogue::read_reply_line;
 
 /// What comes first in the octets that a server sent.
-#[derive(Clone, Copy, PartialEq, Eq)]
-pub enum SmtpAnswer {
+#[derive(Clone, Copy)]
+pub(crate) enum SmtpAnswer {
     /// A reply isn't whole yet: each line that is there is one of it, and no line is too long.
     Part,
     /// A reply with this code, and its number of octets with the CRLF of each line.
@@ -39,7 +39,7 @@ pub(crate) enum LineMeans {
 /// 4.2.1), or the first fault. Whatever it is, but for a part, it is the same if more octets follow.
 ///
 /// Time is linear in the octets of the reply; no memory is taken.
-pub fn read_answer(octets: &[u8]) -> SmtpAnswer
+pub(crate) fn read_answer(octets: &[u8]) -> SmtpAnswer
     ensures { s.Answers octets.now result }
 {
     let mut at = 0;

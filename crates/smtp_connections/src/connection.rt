@@ -97,7 +97,7 @@ impl SmtpConnection {
         }
     }
 
-    /// So many octets of `out` were written. Takes no memory; constant time.
+    /// So many octets of `out` were written. What comes behind them is to be heard after this. Takes no memory; constant time.
     pub fn wrote(&mut self, count: usize)
         requires { count ≤ length (s.left_to_write self.old) }
         ensures { s.WritesSome count self.old self.new }
@@ -165,7 +165,8 @@ impl SmtpConnection {
         let heard = self.heard.as_slice();
         match find_line(heard) {
             Found::Line(count) => front(heard, count),
-            _ => front(heard, 0),
+            Found::Need => front(heard, 0),
+            Found::TooLong => front(heard, 0),
         }
     }
 }

@@ -37,7 +37,7 @@ pub enum SmtpPhase {
 
 impl SmtpPhase {
     /// How the message that is under way ends if the connection is lost; none if no message is under way.
-    pub fn lost(self) -> Option<Ending>
+    pub(crate) fn lost(self) -> Option<Ending>
         ensures { result ≡ s.lost_at self }
     {
         match self {
@@ -60,7 +60,7 @@ impl SmtpExchange {
     }
 
     /// What follows a reply with this code. Constant time.
-    pub fn phase_after(self, code: u16) -> SmtpPhase
+    pub(crate) fn phase_after(self, code: u16) -> SmtpPhase
         ensures { result ≡ s.phase_after self code }
     {
         match self {
@@ -75,7 +75,7 @@ impl SmtpExchange {
     }
 
     /// How the message ends with a reply with this code; none if it continues, or if this is no message's. Constant time.
-    pub fn ending_by(self, code: u16) -> Option<Ending>
+    pub(crate) fn ending_by(self, code: u16) -> Option<Ending>
         ensures { result ≡ s.ending_by self code }
     {
         match self {

@@ -2,17 +2,16 @@
 //! ended.
 #![tactic(auto)]
 
-pub mod answer;
+mod answer;
 pub mod connection;
 pub mod end;
 pub mod exchange;
 pub mod laws;
-pub mod lines;
+mod lines;
 mod replies;
 pub mod wanted;
 
 pub use connection::SmtpConnection;
 pub use end::SmtpEnd;
 pub use exchange::{SmtpExchange, SmtpPhase};
-pub use lines::MessageLines;
 pub use wanted::SmtpWanted;

@@ -10,18 +10,18 @@ use std::alloc::{AllocError, Global};
 
 /// All that is written for one message, but for DATA.
 #[derive(Drop)]
-pub struct MessageLines {
+pub(crate) struct MessageLines {
     /// The line of MAIL.
-    pub mail: Octets,
+    pub(crate) mail: Octets,
     /// The line of RCPT.
-    pub rcpt: Octets,
+    pub(crate) rcpt: Octets,
     /// The text as it is sent, with the dot after it: at most twice the message's octets and five.
-    pub text: Octets,
+    pub(crate) text: Octets,
 }
 
 impl MessageLines {
     /// Those of no message. Takes no memory.
-    pub fn none(alloc: Global) -> MessageLines
+    pub(crate) fn none(alloc: Global) -> MessageLines
         ensures { result ≡ s.no_lines }
     {
         MessageLines {
@@ -34,7 +34,7 @@ impl MessageLines {
     /// Those of a message, to a server that offers this. Time and memory are linear in its octets.
     ///
     /// Lack of memory is the only error.
-    pub fn of(
+    pub(crate) fn of(
         alloc: Global,
         offered: Extensions,
         message: SmtpMessage<'_>,

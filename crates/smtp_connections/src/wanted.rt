@@ -22,7 +22,7 @@ pub enum SmtpWanted {
 
 impl SmtpPhase {
     /// What is waited for.
-    pub fn wanted(self) -> SmtpWanted
+    pub(crate) fn wanted(self) -> SmtpWanted
         ensures { result ≡ s.wanted_at self }
     {
         match self {
