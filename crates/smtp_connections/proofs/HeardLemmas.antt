@@ -16,6 +16,7 @@ use Rattle.smtp_connections.specs.declared.exchange.SmtpExchange.{SmtpExchange}
 use Rattle.smtp_connections.specs.declared.exchange.SmtpPhase.{SmtpPhase}
 use Rattle.smtp_connections.specs.declared.exchange.SmtpPhase.TheVariants.{Writing, Awaiting, Ready, Over}
 use Rattle.smtp_connections.specs.declared.connection.SmtpConnection.{SmtpConnection as Code}
+use Rattle.smtp_connections.proofs.BoundLemmas.{bounded_by, deals_taken}
 use Rattle.smtp_connections.proofs.PhaseLemmas.{is_awaiting}
 use Rattle.smtp_connections.proofs.CutLemmas.{ended_over, broken_same, whole_reply}
 use Rattle.smtp_connections.proofs.LifeLemmas.{new_stands, wrote_some, wrote_all, came, ignored, ended_stands, replied_stands, begun_stands, quit_stands}
@@ -115,4 +116,8 @@ lives_by (life_quit c p life at) = quit_stands c p at (lives_by life)
 lives_by (life_ended end c p life) = ended_stands end c p (lives_by life)
 
 pub lives_stand : LivesStand
-lives_stand = record { stands = λ c p life. lives_by life }
+lives_stand = record {
+  stands = λ c p life. lives_by life;
+  taken = λ c p life. let it = lives_by life in deals_taken c.may_eight_bit p.deals it.start it.deals;
+  bounded = λ c p life. bounded_by life;
+}

@@ -105,7 +105,7 @@ hears_kept exchange c e piece room is_over r keeps it = record {
 
 -- ---- no more is kept than was
 
-ended_heard : (end : SmtpEnd) (p : SmtpPhase) (c : Code) → (ended_in end p c).heard ≡ c.heard
+pub ended_heard : (end : SmtpEnd) (p : SmtpPhase) (c : Code) → (ended_in end p c).heard ≡ c.heard
 ended_heard end (Writing exchange count) c = refl
 ended_heard end (Awaiting exchange) c = refl
 ended_heard end Ready c = refl
@@ -139,6 +139,11 @@ judged_held LongLine exchange is_over c e r it = breaks_held ends.LongLine c e r
 pub judges_held : (exchange : SmtpExchange) (is_over : Bool) (c e : Code) (r : Option Ending) → Judges exchange is_over c r e → length e.heard ≤ length c.heard
 judges_held exchange is_over c e r it = judged_held it.answer exchange is_over c e r it.judges
 
+pub length_take : (room : ℕ) (piece : List ℕ) → length (take room piece) ≤ room
+length_take zero piece = omega arith
+length_take (suc room) [] = omega arith
+length_take (suc room) (x ∷ piece) = let it = length_take room piece in omega arith
+
 -- so what is kept has no more octets than a reply may have
 pub keeps_bound : (exchange : SmtpExchange) (c e : Code) (piece : List ℕ) (room : ℕ) (is_over : Bool) (r : Option Ending) → room + length c.heard ≤ max_smtp_reply → Judges exchange is_over (Fronted c room piece) r e
     → length e.heard ≤ max_smtp_reply
@@ -147,8 +152,3 @@ keeps_bound exchange c e piece room is_over r fits it =
     let two = length-append c.heard (take room piece) in
     let three = length_take room piece in
     omega (arith, one, two, three, fits)
-  where
-    length_take : (room : ℕ) (piece : List ℕ) → length (take room piece) ≤ room
-    length_take zero piece = omega arith
-    length_take (suc room) [] = omega arith
-    length_take (suc room) (x ∷ piece) = let it = length_take room piece in omega arith

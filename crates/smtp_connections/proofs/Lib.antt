@@ -1,4 +1,5 @@
 pub mod AnswerLemmas
+pub mod BoundLemmas
 pub mod CutLemmas
 pub mod Examples
 pub mod HeardLemmas

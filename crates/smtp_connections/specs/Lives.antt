@@ -1,15 +1,17 @@
 -- All that may happen to a connection, and what passed over it.
 use Rattle.std.specs.Prelude.{◌≡◌, ◌≤◌, ℕ, Bool, List, [], ◌∷◌, ◌++◌, length, take, Option, Some, None}
+use Rattle.std.specs.List.{All}
 use Rattle.smtp_dialogue.specs.Messages.{SmtpMail, IsMailAddressed, IsOffered}
-use Rattle.smtp_dialogue.specs.Dialogues.{Speaks, stage_text}
+use Rattle.smtp_dialogue.specs.Dialogues.{Speaks, stage_text, IsMessageTaken}
 use Rattle.smtp_dialogue.specs.declared.extension.Extensions.{Extensions}
 use Rattle.smtp_dialogue.specs.declared.dialogue.SmtpStage.{SmtpStage}
 use Rattle.smtp_dialogue.specs.declared.dialogue.SmtpStage.TheVariants.{Sender}
 use Rattle.smtp_dialogue.specs.declared.dialogue.Ending.{Ending}
+use Rattle.smtp_dialogue.specs.declared.dialogue.Ending.TheVariants.{Sent}
 use Rattle.smtp_send.specs.Talks.{SendTalk, talk, Treats}
 use Rattle.smtp_send.specs.Wires.{WirePasses}
 use Rattle.smtp_connections.specs.Exchanges.{lost_at}
-use Rattle.smtp_connections.specs.Connections.{IsNewConnection, left_to_write, message_lines, WritesSome, Hears, Begins, quitting, ended}
+use Rattle.smtp_connections.specs.Connections.{IsNewConnection, left_to_write, message_lines, WritesSome, Hears, Begins, quitting, ended, max_smtp_reply}
 use Rattle.smtp_connections.specs.Cuts.{stage_at}
 use Rattle.smtp_connections.specs.declared.end.SmtpEnd.{SmtpEnd}
 use Rattle.smtp_connections.specs.declared.exchange.SmtpExchange.{SmtpExchange}
@@ -135,5 +137,12 @@ pub record LifeStands (c : SmtpConnection) (p : SmtpPassed) : Type 0 where
   pub goes : GoesOn p.goes c start now
   pub since : IsSince c.phase c.heard p.since
 
+-- a message that is told as sent was taken: all of it was written, and its last reply, that to the text, is 250
+abbrev pub IsTakenIfSent : SmtpDeal → Type 0
+IsTakenIfSent deal = deal.ending ≡ Sent → (answered written : List ℕ) × IsMessageTaken deal.handover.offered deal.handover.mail answered written
+
 pub record LivesStand : Type 0 where
   pub stands : (c : SmtpConnection) (p : SmtpPassed) → SmtpLives c p → LifeStands c p
+  pub taken : (c : SmtpConnection) (p : SmtpPassed) → SmtpLives c p → All IsTakenIfSent p.deals
+  -- and no more is kept of a reply than one may have
+  pub bounded : (c : SmtpConnection) (p : SmtpPassed) → SmtpLives c p → length c.heard ≤ max_smtp_reply

@@ -21,7 +21,8 @@ pub fn turns_stand()
 {}
 
 /// Whatever happens to a connection, and in whatever pieces: each message was dealt with as `Treats` of `smtp_send` has it, one after
-/// the other, and of what was written and came just that was for messages.
+/// the other, and of what was written and came just that was for messages. One that is told as Sent was taken whole by a 250 of its own.
+/// Of a reply at most 65,536 octets are kept.
 pub fn lives_stand()
     ensures { LivesStand }
 {}

@@ -8,6 +8,9 @@ use octets::Octets;
 use smtp_dialogue::{DotStuffed, Extensions, SmtpMessage, mail_line, rcpt_line};
 use std::alloc::{AllocError, Global};
 
+/// Of a text's octets one in so many is reserved besides, for what its lines get more when they are sent.
+const SPARE: usize = 32;
+
 /// All that is written for one message, but for DATA.
 #[derive(Drop)]
 pub(crate) struct MessageLines {
@@ -54,7 +57,7 @@ fn sent_text(alloc: Global, text: &[u8]) -> Result<Octets, AllocError>
     ensures { IfOk result (λ sent. sent ≡ sent_from sent_start text.now) }
 {
     let mut sent = Octets::new(alloc);
-    sent.reserve(text.len())?;
+    sent.reserve(text.len().saturating_add(text.len() / SPARE))?;
     let mut parts = DotStuffed::new(text);
     while let Some(part) = parts.next() {
         sent.extend_from_slice(part)?;
