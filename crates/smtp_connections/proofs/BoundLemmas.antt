@@ -1,5 +1,5 @@
 -- How much is kept of a reply, and which messages were taken.
-use Rattle.std.proofs.Common.{◌≡◌, ℕ, zero, suc, ◌+◌, ◌<◌, ◌≤◌, Bool, List, [], ◌∷◌, ◌++◌, length, take, drop, Option, Some, None, inl, inr, refl, sym, ap, ◌∙◌, subst, arith}
+use Rattle.std.proofs.Common.{◌≡◌, ℕ, ◌≤◌, Bool, List, [], ◌∷◌, ◌++◌, length, take, drop, Option, Some, None, inl, inr, ap, ◌∙◌, subst, arith}
 use Rattle.std.specs.List.{All}
 use Rattle.std.proofs.lemmas.List.Elements.{All-nil, All-cons}
 use Rattle.smtp_dialogue.specs.Messages.{SmtpMail}
@@ -10,7 +10,7 @@ use Rattle.smtp_dialogue.specs.declared.dialogue.Ending.TheVariants as endings
 use Rattle.smtp_dialogue.proofs.DialogueLemmas.{speaks_right}
 use Rattle.smtp_send.specs.Talks.{SendTalk, Treats}
 use Rattle.smtp_connections.specs.Answers.{Answers}
-use Rattle.smtp_connections.specs.Connections.{Begins, BreaksConnection, Hears, HearsAnswer, HearsIn, Interrupts, AwaitsMore, RepliesAndMore, WritesIn, WritesSome, has_octets, max_smtp_reply}
+use Rattle.smtp_connections.specs.Connections.{Begins, BreaksConnection, HearsAnswer, HearsIn, Interrupts, AwaitsMore, RepliesAndMore, WritesIn, has_octets, max_smtp_reply}
 use Rattle.smtp_connections.specs.Lives.{SmtpDeal, SmtpPassed, DealsLead, IsTakenIfSent, SmtpLives, life_new, life_wrote, life_heard, life_begun, life_quit, life_ended}
 use Rattle.smtp_connections.specs.declared.answer.SmtpAnswer.{SmtpAnswer}
 use Rattle.smtp_connections.specs.declared.answer.SmtpAnswer.TheVariants.{Part, Whole, NoReply, LongLine}

@@ -1,5 +1,5 @@
 -- Octets in other pieces do the same.
-use Rattle.std.proofs.Common.{◌≡◌, ◌⊎◌, ℕ, zero, suc, ◌+◌, ◌<◌, ◌≤◌, Bool, true, false, List, [], ◌∷◌, ◌++◌, length, take, drop, Option, Some, None, inl, inr, refl, sym, ap, ◌∙◌, subst, append_assoc, arith}
+use Rattle.std.proofs.Common.{◌≡◌, ℕ, zero, suc, ◌+◌, ◌≤◌, Bool, true, false, List, [], ◌∷◌, ◌++◌, length, take, drop, Option, Some, None, inl, inr, refl, sym, ap, ◌∙◌, subst, append_assoc, arith}
 use Rattle.std.proofs.Math.Seq.{take-append-add}
 use Rattle.std.proofs.lemmas.List.{drop-append-le, take-append-le, take-append-drop, length-append, length-take-le}
 use Rattle.lmtp_dialogue.specs.Lines.{LineFinds, line_end}
@@ -11,7 +11,7 @@ use Rattle.smtp_dialogue.specs.declared.extension.Extensions.{Extensions}
 use Rattle.smtp_dialogue.specs.declared.dialogue.Ending.{Ending}
 use Rattle.smtp_connections.specs.Answers.{AnswerFollows, Answers}
 use Rattle.smtp_connections.specs.Exchanges.{lost_at, ending_by}
-use Rattle.smtp_connections.specs.Connections.{ended, ended_in, has_octets, interrupted, ending_interrupted, Interrupts, BreaksConnection, OffersBy, after_reply, first_ending, Follows, RepliesAndMore, TakesReply, AwaitsMore, HearsAnswer, HearsReplyTo, HearsIn, Hears, max_smtp_reply}
+use Rattle.smtp_connections.specs.Connections.{ended_in, has_octets, interrupted, ending_interrupted, Interrupts, BreaksConnection, OffersBy, after_reply, first_ending, Follows, RepliesAndMore, TakesReply, AwaitsMore, HearsAnswer, HearsReplyTo, HearsIn, Hears, max_smtp_reply}
 use Rattle.smtp_connections.specs.Cuts.{CutsStand}
 use Rattle.smtp_connections.specs.declared.answer.SmtpAnswer.{SmtpAnswer}
 use Rattle.smtp_connections.specs.declared.answer.SmtpAnswer.TheVariants.{Part, Whole, NoReply, LongLine}

@@ -1,8 +1,7 @@
 -- Right cases of the definitions, and near misses.
-use Rattle.std.proofs.Common.{◌≡◌, ◌≢◌, ◌≤◌, ℕ, ◌+◌, ◌==◌, ◌&&◌, not, Bool, true, false, List, [], ◌∷◌, ◌++◌, length, drop, Option, Some, None, codes, inl, inr, refl, sym, ap, ◌∙◌, subst, arith}
+use Rattle.std.proofs.Common.{◌≡◌, ◌≢◌, ℕ, ◌+◌, ◌==◌, ◌&&◌, not, Bool, true, false, List, [], ◌∷◌, ◌++◌, length, Some, None, codes, inl, inr, refl, sym, ap, ◌∙◌, subst, arith}
 use Rattle.std.proofs.lemmas.List.{length-append}
-use Rattle.lmtp_dialogue.specs.Lines.{line_end, HasNoLineEnd, IsCrlfLine, LineFinds}
-use Rattle.lmtp_dialogue.specs.declared.command_line.Found.TheVariants as found
+use Rattle.lmtp_dialogue.specs.Lines.{line_end, HasNoLineEnd}
 use Rattle.smtp_dialogue.specs.Messages.{SmtpMail, IsOffered}
 use Rattle.smtp_dialogue.specs.Extensions.{no_extensions}
 use Rattle.smtp_dialogue.specs.declared.extension.Extensions.{Extensions}
@@ -10,13 +9,13 @@ use Rattle.smtp_dialogue.specs.declared.dialogue.SmtpStage.TheVariants.{Sender, 
 use Rattle.smtp_dialogue.specs.declared.dialogue.Ending.TheVariants as endings
 use Rattle.smtp_dialogue.specs.Dialogues.{Speaks}
 use Rattle.smtp_send.specs.Talks.{SendTalk, talk, Treats}
-use Rattle.smtp_connections.specs.Answers.{Answers, AnswerFollows}
+use Rattle.smtp_connections.specs.Answers.{Answers}
 use Rattle.smtp_connections.specs.Exchanges.{lost_at, phase_after, ending_by}
 use Rattle.smtp_connections.specs.Connections.{left_at, left_to_write, Begins, Hears, WritesIn, WritesSome}
-use Rattle.smtp_connections.specs.declared.answer.SmtpAnswer.TheVariants.{Part, Whole, NoReply, LongLine}
+use Rattle.smtp_connections.specs.declared.answer.SmtpAnswer.TheVariants.{Part, Whole}
 use Rattle.smtp_connections.specs.declared.end.SmtpEnd.TheVariants as ends
-use Rattle.smtp_connections.specs.declared.exchange.SmtpExchange.TheVariants.{Greeting, Ehlo, Helo, Message, Reset, Quit}
-use Rattle.smtp_connections.specs.declared.exchange.SmtpPhase.TheVariants.{Writing, Awaiting, Ready, Over}
+use Rattle.smtp_connections.specs.declared.exchange.SmtpExchange.TheVariants.{Ehlo, Helo, Message, Reset}
+use Rattle.smtp_connections.specs.declared.exchange.SmtpPhase.TheVariants.{Writing, Awaiting, Over}
 use Rattle.smtp_connections.specs.declared.connection.SmtpConnection.{SmtpConnection as Code}
 use Rattle.smtp_connections.proofs.AnswerLemmas.{smtp_answers_stand}
 use Rattle.smtp_connections.proofs.TurnLemmas.{turns_stand}

@@ -1,11 +1,11 @@
 -- What holds of a connection when octets came, and so of its whole life.
-use Rattle.std.proofs.Common.{◌≡◌, ◌⊎◌, ℕ, Bool, true, false, List, [], ◌++◌, take, drop, Option, Some, None, inl, inr, refl, sym, ap, ◌∙◌, subst}
+use Rattle.std.proofs.Common.{◌≡◌, ℕ, Bool, true, false, List, [], ◌++◌, take, drop, Option, Some, None, inl, inr, refl, sym, ap, ◌∙◌, subst}
 use Rattle.smtp_dialogue.specs.declared.dialogue.Ending.{Ending}
 use Rattle.smtp_send.specs.Wires.{WirePasses}
 use Rattle.smtp_send.specs.Talks.{SendTalk}
 use Rattle.smtp_connections.specs.Answers.{Answers}
 use Rattle.smtp_connections.specs.Exchanges.{lost_at, ending_by}
-use Rattle.smtp_connections.specs.Connections.{ended, ended_in, has_octets, left_to_write, Interrupts, BreaksConnection, after_reply, first_ending, RepliesAndMore, AwaitsMore, HearsAnswer, HearsIn, Hears, WritesSome, WritesIn, max_smtp_reply}
+use Rattle.smtp_connections.specs.Connections.{ended, has_octets, left_to_write, Interrupts, BreaksConnection, first_ending, RepliesAndMore, AwaitsMore, HearsAnswer, HearsIn, WritesIn, max_smtp_reply}
 use Rattle.smtp_connections.specs.Cuts.{stage_at}
 use Rattle.smtp_connections.specs.Lives.{SmtpHandover, SmtpPassed, passed_heard, passed_written, passed_ended, GoesOn, unread_at, IsSince, PassedAre, LifeStands, SmtpLives, life_new, life_wrote, life_heard, life_begun, life_quit, life_ended, LivesStand}
 use Rattle.smtp_connections.specs.declared.answer.SmtpAnswer.{SmtpAnswer}

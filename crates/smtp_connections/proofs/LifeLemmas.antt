@@ -1,7 +1,7 @@
 -- What holds of a connection, whatever happened to it.
-use Rattle.std.proofs.Common.{◌≡◌, ◌⊎◌, ℕ, zero, suc, ◌+◌, ◌<◌, ◌≤◌, Bool, true, false, List, [], ◌∷◌, ◌++◌, length, take, drop, Option, Some, None, inl, inr, refl, sym, ap, ◌∙◌, subst, append-nil, append_assoc, arith}
+use Rattle.std.proofs.Common.{◌≡◌, ℕ, zero, suc, ◌+◌, ◌≤◌, Bool, false, List, [], ◌∷◌, ◌++◌, length, take, drop, Option, Some, None, refl, sym, ap, ◌∙◌, subst, append-nil, append_assoc, arith}
 use Rattle.std.proofs.lemmas.List.{take-append-drop}
-use Rattle.smtp_dialogue.specs.Messages.{SmtpMail, IsMailAddressed, IsOffered}
+use Rattle.smtp_dialogue.specs.Messages.{SmtpMail}
 use Rattle.smtp_dialogue.specs.Dialogues.{Speaks, ByTurn, stage_text, smtp_turn_of}
 use Rattle.smtp_dialogue.specs.Replies.{IsSmtpReply}
 use Rattle.smtp_dialogue.specs.declared.extension.Extensions.{Extensions}
@@ -15,11 +15,11 @@ use Rattle.smtp_dialogue.proofs.ReplyLemmas.{dropped}
 use Rattle.smtp_send.specs.Talks.{SendTalk, talk, talk_written, talk_heard, TalkSays, Treats}
 use Rattle.smtp_send.specs.Wires.{WirePasses, sent_none, came_none}
 use Rattle.smtp_send.proofs.TalkLemmas.{treats}
-use Rattle.smtp_send.proofs.WireLemmas.{same, sent_more, message_more, came_more, forgets, reads_reply}
-use Rattle.smtp_connections.specs.Exchanges.{lost_at, lost_in, after_ending, phase_by_turn, phase_after, ending_in, ending_by}
+use Rattle.smtp_send.proofs.WireLemmas.{sent_more, message_more, came_more, forgets, reads_reply}
+use Rattle.smtp_connections.specs.Exchanges.{lost_at, after_ending, phase_by_turn, phase_after, ending_in, ending_by}
 use Rattle.smtp_connections.specs.Connections.{no_lines, message_lines, line_in, left_at, left_to_write, IsNewConnection, Begins, ended, ended_in, OffersBy, lines_after, after_reply}
 use Rattle.smtp_connections.specs.Cuts.{stage_at}
-use Rattle.smtp_connections.specs.Lives.{SmtpHandover, SmtpDeal, SmtpPassed, nothing_passed, passed_written, passed_heard, passed_with, passed_ended, passed_begun, DealsLead, IsUnderWay, GoesOn, unread_at, IsSince, PassedAre, LifeStands}
+use Rattle.smtp_connections.specs.Lives.{SmtpHandover, SmtpPassed, nothing_passed, passed_written, passed_heard, passed_ended, passed_begun, DealsLead, IsUnderWay, GoesOn, unread_at, IsSince, PassedAre, LifeStands}
 use Rattle.smtp_connections.specs.declared.end.SmtpEnd.{SmtpEnd}
 use Rattle.smtp_connections.specs.declared.exchange.SmtpExchange.{SmtpExchange}
 use Rattle.smtp_connections.specs.declared.exchange.SmtpExchange.TheVariants.{Greeting, Ehlo, Helo, Message, Reset, Quit}

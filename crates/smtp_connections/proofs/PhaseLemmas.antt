@@ -1,5 +1,5 @@
 -- What follows a reply.
-use Rattle.std.proofs.Common.{◌≡◌, ℕ, ◌==◌, Bool, true, false, Option, Some, None, refl, ap, ◌∙◌, arith}
+use Rattle.std.proofs.Common.{◌≡◌, ℕ, ◌==◌, Bool, true, false, Option, Some, None, refl, ap, ◌∙◌}
 use Rattle.std.specs.Prelude.{if◌then◌else◌}
 use Rattle.smtp_dialogue.specs.Dialogues.{reply_class, smtp_turn_of}
 use Rattle.smtp_dialogue.specs.declared.dialogue.SmtpStage.{SmtpStage}
@@ -8,7 +8,7 @@ use Rattle.smtp_dialogue.specs.declared.dialogue.Ending.TheVariants as endings
 use Rattle.smtp_dialogue.specs.declared.dialogue.NextStage.{NextStage}
 use Rattle.smtp_dialogue.specs.declared.dialogue.NextStage.TheVariants.{Goes, Ends}
 use Rattle.smtp_connections.specs.Cuts.{stage_at}
-use Rattle.smtp_connections.specs.Exchanges.{lost_at, ending_by, on_success, after_ehlo, after_ending, phase_by_turn, phase_after}
+use Rattle.smtp_connections.specs.Exchanges.{lost_at, ending_by, on_success, after_ending, phase_by_turn, phase_after}
 use Rattle.smtp_connections.specs.declared.end.SmtpEnd.TheVariants as ends
 use Rattle.smtp_connections.specs.declared.exchange.SmtpExchange.{SmtpExchange}
 use Rattle.smtp_connections.specs.declared.exchange.SmtpExchange.TheVariants.{Greeting, Ehlo, Helo, Message, Reset, Quit}

@@ -1,17 +1,16 @@
 -- What a reply may do at most.
 use Rattle.std.proofs.Common.{◌≡◌, ◌≢◌, ◌⊎◌, ℕ, ◌==◌, Bool, true, false, List, [], ◌∷◌, ◌++◌, take, drop, Option, Some, None, inl, inr, refl, sym, ap, ◌∙◌, subst, arith}
 use Rattle.std.specs.Prelude.{if◌then◌else◌}
-use Rattle.smtp_dialogue.specs.Dialogues.{reply_class, smtp_turn_of, next_or_end, ending_of}
+use Rattle.smtp_dialogue.specs.Dialogues.{reply_class, next_or_end, ending_of}
 use Rattle.smtp_dialogue.specs.Replies.{IsSmtpReply}
 use Rattle.smtp_dialogue.specs.declared.dialogue.SmtpStage.{SmtpStage}
 use Rattle.smtp_dialogue.specs.declared.dialogue.SmtpStage.TheVariants.{Sender, Recipient, Data, Text}
 use Rattle.smtp_dialogue.specs.declared.dialogue.Ending.{Ending}
 use Rattle.smtp_dialogue.specs.declared.dialogue.Ending.TheVariants as endings
-use Rattle.smtp_dialogue.specs.declared.dialogue.NextStage.{NextStage}
-use Rattle.smtp_dialogue.specs.declared.dialogue.NextStage.TheVariants.{Goes, Ends}
+use Rattle.smtp_dialogue.specs.declared.dialogue.NextStage.TheVariants.{Ends}
 use Rattle.smtp_connections.specs.Answers.{Answers}
 use Rattle.smtp_connections.specs.Exchanges.{lost_at, phase_by_turn, phase_after, ending_in, ending_by}
-use Rattle.smtp_connections.specs.Connections.{left_at, left_to_write, ended_in, has_octets, ending_interrupted, Interrupts, BreaksConnection, first_ending, RepliesAndMore, AwaitsMore, HearsAnswer, HearsIn, Hears, max_smtp_reply}
+use Rattle.smtp_connections.specs.Connections.{left_at, ended_in, has_octets, ending_interrupted, Interrupts, first_ending, RepliesAndMore, AwaitsMore, HearsAnswer, HearsIn, max_smtp_reply}
 use Rattle.smtp_connections.specs.Cuts.{stage_at, RepliesInPhase, TurnsStand}
 use Rattle.smtp_connections.specs.declared.answer.SmtpAnswer.{SmtpAnswer}
 use Rattle.smtp_connections.specs.declared.answer.SmtpAnswer.TheVariants.{Part, Whole, NoReply, LongLine}

@@ -1,5 +1,5 @@
 -- Octets are written.
-use Rattle.std.proofs.Common.{◌≡◌, ℕ, ◌+◌, ◌-◌, ◌<◌, ◌≤◌, List, [], length, drop, inl, inr, refl, sym, ap, ◌∙◌, subst, arith}
+use Rattle.std.proofs.Common.{◌≡◌, ℕ, ◌+◌, ◌-◌, ◌<◌, ◌≤◌, [], length, inl, inr, refl, sym, ap, ◌∙◌, subst, arith}
 use Rattle.std.proofs.lemmas.List.{length-drop}
 use Rattle.smtp_connections.specs.Connections.{line_in, left_at, left_to_write, WritesIn, WritesSome}
 use Rattle.smtp_connections.specs.declared.exchange.SmtpExchange.{SmtpExchange}

@@ -1,7 +1,6 @@
 -- What follows a reply (RFC 5321, sections 3 and 4.3.2).
-use Rattle.std.specs.Prelude.{◌≡◌, ℕ, ◌==◌, if◌then◌else◌, Option, Some, None}
+use Rattle.std.specs.Prelude.{ℕ, ◌==◌, if◌then◌else◌, Option, Some, None}
 use Rattle.smtp_dialogue.specs.Dialogues.{reply_class, smtp_turn_of}
-use Rattle.smtp_dialogue.specs.declared.dialogue.SmtpStage.{SmtpStage}
 use Rattle.smtp_dialogue.specs.declared.dialogue.Ending.{Ending}
 use Rattle.smtp_dialogue.specs.declared.dialogue.Ending.TheVariants.{Sent, Refused, Delayed, OutOfPlace, Lost, Undeclared, Unaddressed}
 use Rattle.smtp_dialogue.specs.declared.dialogue.NextStage.{NextStage}

@@ -40,8 +40,8 @@ pub struct SmtpConnection {
 }
 
 impl SmtpConnection {
-    /// One that has just been made, to a server that has said nothing: its greeting is awaited. The host is the name by which EHLO and
-    /// HELO name this one. A message with octets over 127 in its text may go without 8BITMIME if that is so.
+    /// One that has just been made, to a server that has said nothing: its greeting is awaited. EHLO and HELO have this host's name. With
+    /// `may_eight_bit` a message with octets over 127 in its text goes to a server without 8BITMIME too.
     ///
     /// Lack of memory is the only error.
     pub fn new(
@@ -63,7 +63,7 @@ impl SmtpConnection {
         })
     }
 
-    /// What is waited for. Constant time.
+    /// What is waited for, and for how long (RFC 5321, section 4.5.3.2). Constant time.
     pub fn wanted(&self) -> SmtpWanted
         ensures { result ≡ s.wanted_at self.now.phase }
     {
@@ -97,7 +97,8 @@ impl SmtpConnection {
         }
     }
 
-    /// So many octets of `out` were written. What comes behind them is to be heard after this. Takes no memory; constant time.
+    /// So many octets of `out` were written. What came before that is to be heard before, and what comes after it after this call: a
+    /// reply that is heard once all is written counts. Takes no memory; constant time.
     pub fn wrote(&mut self, count: usize)
         requires { count ≤ length (s.left_to_write self.old) }
         ensures { s.WritesSome count self.old self.new }
@@ -135,7 +136,7 @@ impl SmtpConnection {
         Ok(None)
     }
 
-    /// Says QUIT, if a message may begin.
+    /// Says QUIT, if a message may begin (section 4.1.1.10).
     pub fn quit(&mut self)
         requires { self.old.phase ≡ phases.Ready }
         ensures { self.new ≡ record self.old { phase = s.quitting } }

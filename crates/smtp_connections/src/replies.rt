@@ -19,6 +19,9 @@ const MAX_REPLY: usize = 65_536;
 impl SmtpConnection {
     /// Octets of the server came. Returns how the message that was under way ended, if it did.
     ///
+    /// A reply (RFC 5321, section 4.2) has lines of at most 2,048 octets and at most 65,536 in all. With another one, with what is no
+    /// reply, and with octets that come when it isn't the server's turn the connection is at its end; what comes later isn't looked at.
+    ///
     /// Lack of memory is the only error; nothing changes then. Time is linear in what is held of the reply.
     pub fn hear(&mut self, piece: &[u8]) -> Result<Option<Ending>, AllocError>
         ensures hears { IfOk result (λ ending. s.Hears piece.now self.old ending self.new) }

@@ -1,4 +1,4 @@
-use Rattle.std.proofs.Common.{◌+◌, [], true, false, take, drop, refl, sym, ap, ◌∙◌, subst, arith}
+use Rattle.std.proofs.Common.{◌+◌, [], true, false, take, refl, sym, ap, ◌∙◌, subst, arith}
 use Rattle.std.proofs.lemmas.List.{length-drop}
 use Rattle.lmtp_dialogue.specs.Lines.{LineFinds}
 use Rattle.lmtp_dialogue.specs.declared.command_line.Found.TheVariants as found

@@ -1,4 +1,4 @@
-use Rattle.std.proofs.Common.{take, sym, ap, ◌∙◌, subst}
+use Rattle.std.proofs.Common.{take, ap, ◌∙◌, subst}
 use Rattle.lmtp_dialogue.specs.Lines.{LineFinds}
 use Rattle.lmtp_dialogue.specs.declared.command_line.Found.TheVariants.{Need, Line, TooLong}
 use Rattle.smtp_connections.proofs.connection.SmtpConnection.reply_line.Goals as goal

@@ -1,5 +1,5 @@
-use Rattle.std.proofs.Common.{◌≡◌, ◌-◌, ◌<◌, ◌≤◌, [], length, ap, sym, subst, arith}
-use Rattle.smtp_connections.specs.Connections.{line_in, WritesSome}
+use Rattle.std.proofs.Common.{length, ap, sym, subst, arith}
+use Rattle.smtp_connections.specs.Connections.{WritesSome}
 use Rattle.smtp_connections.specs.declared.exchange.SmtpPhase.TheVariants.{Awaiting}
 use Rattle.smtp_connections.proofs.WriteLemmas.{writes_more, writes_all}
 use Rattle.smtp_connections.proofs.connection.SmtpConnection.wrote.Goals as goal
