@@ -1,13 +1,14 @@
 #!/usr/bin/env python3
 """Kills `sieved daemon` at random moments under load, and looks for what it had acknowledged.
 
-  bench/kill_daemon.py [--mail] [SIEVED [COUNT]]      500 times where no COUNT is named; --mail: the daemon moves mail into Maildirs
+  bench/kill_daemon.py [--mail] [--senders N] [SIEVED [COUNT]]      500 times where no COUNT is named
 
-Four clients of LMTP deliver messages to two users, two clients of ManageSieve put scripts; then the daemon is killed by SIGKILL and
-started again on the same store, two times of three at a moment when an answer is awaited. After each kill every message that was
-answered 250 stands in its user's folder or Maildir, every script that was answered OK is there as it was put last (or as the one on
-its way), and a message stands there twice only where it was sent again, or in folder and Maildir where it was on its way. It prints
-how many kills came while an answer was awaited (to the dot of a text, to a script), and what was found.
+--mail: the daemon moves mail into Maildirs; --senders N: so many clients of LMTP in place of four. They deliver messages to two
+users, and two clients of ManageSieve put scripts; then the daemon is killed by SIGKILL and started again on the same store, two
+times of three at a moment when an answer is awaited. After each kill every message that was answered 250 stands in its user's folder
+or Maildir, every script that was answered OK is there as it was put last (or as the one on its way), and a message stands there twice
+only where it was sent again, or in folder and Maildir where it was on its way: 64 of them at most. It prints how many kills came while
+an answer was awaited (to the dot of a text, to a script), and what was found.
 """
 import os, random, re, shutil, socket, sqlite3, subprocess, sys, tempfile, threading, time
 
@@ -16,6 +17,8 @@ import managesieve
 from beside_dovecot import free_port, wait_for
 
 SENDERS, UPLOADERS, USERS = 4, 2, ["alice", "bob"]
+# So many messages of a folder move together at most.
+TOGETHER = 64
 
 
 class Load:
@@ -145,7 +148,7 @@ def check(file, load, mail, seen):
         count, spare = found.get(key, 0) + there.get(key, 0), load.sent.get(key, 0)
         if count > spare:
             both += count - spare
-    if both > load.kills:
+    if both > TOGETHER:
         sys.exit(f"{both} messages are there once more than they were sent, after {load.kills} kills")
     for at in range(UPLOADERS):
         text = scripts.get(USERS[at], b"# -1")
@@ -156,12 +159,16 @@ def check(file, load, mail, seen):
 
 
 def main(words):
-    moves = "--mail" in words
-    words = [word for word in words if word != "--mail"]
+    moves, words = "--mail" in words, [word for word in words if word != "--mail"]
+    senders = SENDERS
+    if "--senders" in words:
+        at = words.index("--senders")
+        senders = int(words[at + 1])
+        del words[at:at + 2]
     program, words = program_of(words)
     count = int(words[0]) if words else 500
     store = managesieve.Store(USERS, sieved=program)
-    load, waiting, seen, both = Load(), 0, {}, 0
+    load, waiting, seen, both, most = Load(), 0, {}, 0, 0
     mail = f"{os.path.dirname(store.file)}/mail" if moves else None
     for user in USERS if moves else []:
         for part in "tmp", "new", "cur":
@@ -172,7 +179,7 @@ def main(words):
         process = subprocess.Popen(words, stdin=subprocess.DEVNULL, stdout=subprocess.DEVNULL, stderr=subprocess.DEVNULL)
         wait_for(lmtp), wait_for(sieve)
         load.awaited = 0
-        clients = [Sender(load, lmtp, at) for at in range(SENDERS)] + [Uploader(load, sieve, at) for at in range(UPLOADERS)]
+        clients = [Sender(load, lmtp, at) for at in range(senders)] + [Uploader(load, sieve, at) for at in range(UPLOADERS)]
         for client in clients:
             client.start()
         time.sleep(random.uniform(0.02, 0.3))
@@ -186,8 +193,9 @@ def main(words):
         for client in clients:
             client.join()
         both = check(store.file, load, mail, seen)
+        most = max(most, both)
     print(f"{count} kills, {waiting} of them while an answer was awaited: each of {len(load.answered):,} messages that were answered 250 is there, "
-          f"and each of {sum(load.stored.values()):,} scripts; {both} messages once more than they were sent, on their way into a Maildir", flush=True)
+          f"and each of {sum(load.stored.values()):,} scripts; {most} messages at most once more than they were sent, on their way into a Maildir", flush=True)
 
 
 if __name__ == "__main__":

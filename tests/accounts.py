@@ -193,6 +193,37 @@ def users():
     return "in the order of octets; closed and removed ones; an output that isn't read keeps no mail out"
 
 
+def by_environment():
+    """SIEVED_DB names the store where --db is left out, and SIEVED_WAIT=1 says what --wait does."""
+    trials.need("flock")
+    with Host("alice") as host, Host("bob") as other:
+        file, elsewhere = host.store.file, other.store.file
+        here, there = host.word("users")[1], other.word("users")[1]
+        assert here.startswith("alice ") and there.startswith("bob ")
+
+        def word(*words, **env):
+            variables = {name: value for name, value in os.environ.items() if not name.startswith("SIEVED_")}
+            done = subprocess.run([PROGRAM[0], *words], env={**variables, **env}, capture_output=True)
+            return done.returncode, done.stdout.decode() + done.stderr.decode()
+
+        assert word("users", SIEVED_DB=file, SIEVED_WAIT="1") == (0, here)
+        assert word("users", "--wait", SIEVED_DB=file) == (0, here)
+        assert word("users", "--db", elsewhere, "--wait", SIEVED_DB=file) == (0, there), "the option counts before the variable"
+        assert word("users", f"--db={elsewhere}", SIEVED_DB=file, SIEVED_WAIT="1") == (0, there)
+        assert word("users")[0] == word("users", SIEVED_DB="")[0] == word("users", SIEVED_WAIT="1")[0] == 64
+        assert "--db <FILE>" in word("users", SIEVED_DB="")[1]
+        assert word("users", "--wait", SIEVED_DB=b"\xff")[0] == 64, "a value that is no text names nothing"
+        holder = subprocess.Popen(["flock", f"{file}.lock", "cat"], stdin=subprocess.PIPE, stdout=subprocess.PIPE)
+        holder.stdin.write(b"x")
+        holder.stdin.flush()
+        holder.stdout.read(1)
+        for wait in "", "0", "11", "yes":
+            assert word("users", SIEVED_DB=file, SIEVED_WAIT=wait) == (75, "sieved: busy\n"), wait
+        holder.stdin.close()
+        holder.wait()
+    return "by variables as by options; the option counts first; a variable that is empty, no text or not 1 counts as none"
+
+
 def put_refused():
     """What is refused, in PUTSCRIPT's order, leaves the scripts as they are."""
     with Host("alice") as host:
@@ -423,7 +454,7 @@ def check():
     return "lines for those that are wrong, and the worst status"
 
 
-TRIALS = {trial.__name__: trial for trial in (password, salts, address, closed, removal, users, scripts, put_refused, notices, exported, largest, exported_daemon, exported_short, check)}
+TRIALS = {trial.__name__: trial for trial in (password, salts, address, closed, removal, users, scripts, by_environment, put_refused, notices, exported, largest, exported_daemon, exported_short, check)}
 
 if __name__ == "__main__":
     trials.main(TRIALS, lambda program: PROGRAM.__setitem__(0, program))

@@ -26,11 +26,11 @@ CLUSTER = f"{TOP}/docs/CLUSTER.md"
 WORLD, FRONT = "192.0.2.1", "192.0.2.10"
 ADDRESSES = {"front": FRONT, "s1": "192.0.2.11", "s2": "192.0.2.12"}
 # The folders that a host has for itself, copied from the machine's where it has them.
-OWN = ["/etc/postfix", "/etc/dovecot", "/etc/stunnel", "/etc/cluster", "/etc/systemd/system", "/var/spool/postfix", "/var/lib/postfix", "/var/lib/dovecot",
+OWN = ["/etc/postfix", "/etc/dovecot", "/etc/stunnel", "/etc/cluster", "/etc/systemd/system", "/etc/default", "/usr/share/doc/sieved", "/var/spool/postfix", "/var/lib/postfix", "/var/lib/dovecot",
        "/var/lib/sieved", "/var/log", "/root", "/usr/local/bin"]
 # What a store machine has on the disk that another machine has too.
 ON_DISK = ["/var/lib/sieved", "/var/spool/postfix"]
-FRESH = ["/etc/stunnel", "/etc/cluster", "/etc/systemd/system", "/var/lib/sieved", "/var/log", "/root", "/usr/local/bin", "/var/lib/dovecot"]
+FRESH = ["/usr/share/doc/sieved", "/etc/stunnel", "/etc/cluster", "/etc/systemd/system", "/var/lib/sieved", "/var/log", "/root", "/usr/local/bin", "/var/lib/dovecot"]
 # Beside the page's lines: no name service, a log, and times that a trial can wait for.
 POSTCONF = ["smtp_dns_support_level = disabled", "maillog_file = /var/log/postfix.log", "inet_protocols = ipv4", "minimal_backoff_time = 1s", "maximal_backoff_time = 2s",
             "queue_run_delay = 1s", "enable_long_queue_ids = yes", "transport_retry_time = 1s", "smtputf8_enable = no", "myhostname = {name}.example.org", "compatibility_level = 3.6",
@@ -66,11 +66,14 @@ import glob, os, re, subprocess, sys
 UNITS = "@PACKAGING@/systemd"
 
 def line_of(unit):
-    line = None
-    for path in [f"{UNITS}/{unit}", *sorted(glob.glob(f"/etc/systemd/system/{unit}.d/*.conf"))]:
-        for found in re.findall(r"^ExecStart=(.*)$", open(path).read(), re.MULTILINE):
+    file, line = "/dev/null", None
+    for path in [*glob.glob(f"{UNITS}/{unit}"), *glob.glob(f"/etc/systemd/system/{unit}"), *sorted(glob.glob(f"/etc/systemd/system/{unit}.d/*.conf"))]:
+        text = open(path).read()
+        for found in re.findall(r"^EnvironmentFile=(.*)$", text, re.MULTILINE):
+            file = found
+        for found in re.findall(r"^ExecStart=(.*)$", text, re.MULTILINE):
             line = found or None
-    return line
+    return f"(set -a; . {file}; exec {line})"
 
 def spawn(words, name):
     log = open(f"/var/log/{name}.log", "a")
@@ -83,8 +86,8 @@ def start(unit):
         subprocess.run(["dovecot"], check=True)
     elif unit.startswith("stunnel@"):
         spawn(["stunnel", f"/etc/stunnel/{unit[8:]}.conf"], "stunnel")
-    elif unit == "sieved-daemon.service":
-        spawn(["runuser", "-u", "sieved", "--", "sh", "-c", "umask 077; exec " + line_of(unit)], "sieved")
+    elif unit == "sieved-ports.service":
+        spawn(["runuser", "-u", "sieved", "--", "sh", "-c", "umask 077; " + line_of(unit)], "sieved")
     elif unit == "sieved-send.timer":
         loop = f"while sleep 2; do {line_of('sieved-send.service')}; done"
         spawn(["runuser", "-u", "sieved", "--", "sh", "-c", loop], "send")
@@ -161,6 +164,8 @@ class Host:
             self.write(path, text)
         if not like:
             shutil.copy(PROGRAM[0], f"{self.room}/usr/local/bin/sieved")
+            shutil.copy(f"{TOP}/packaging/default", f"{self.room}/etc/default/sieved")
+            shutil.copytree(f"{TOP}/packaging/examples", f"{self.room}/usr/share/doc/sieved/examples", dirs_exist_ok=True)
         os.chmod(f"{self.room}/usr/local/bin/systemctl", 0o755)
         self.begin()
 
@@ -473,7 +478,7 @@ class Users:
             except Exception as again:
                 error = again
                 if self.is_open(name, old) is None:
-                    return self.front.do(f"ssh -n {old} rm -rf /var/lib/sieved/mail/{name} /root/{name}.account; rm -f /root/{name}.account")
+                    return self.front.do(f"ssh -n {old} 'runuser -u sieved -- rm -rf /var/lib/sieved/mail/{name} && rm -f /root/{name}.account' && rm -f /root/{name}.account")
         raise error
 
     def table(self, change):
@@ -498,7 +503,7 @@ class Users:
                     self.table(f"UPDATE user SET machine = '{new}', moves = 0 WHERE name = '{name}'")
                     self.front.do("postfix reload; postqueue -f")
                     return
-                self.front.do(f"ssh {new} rm -rf /var/lib/sieved/mail/{name}")
+                self.front.do(f"ssh {new} runuser -u sieved -- rm -rf /var/lib/sieved/mail/{name}")
                 if self.is_open(name, old) is False:
                     self.front.do(f"ssh {old} runuser -u sieved -- sieved open --db /var/lib/sieved/mail.db --wait {name}")
                 self.table(f"UPDATE user SET moves = 0 WHERE name = '{name}'")

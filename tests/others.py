@@ -32,7 +32,7 @@ LETTER = b"From: c@example.net\r\nTo: bob@example.org\r\nSubject: x\r\n\r\nHi\r\
 
 def environment():
     """That of the package's unit, which says how the C library gives memory back."""
-    unit = os.path.join(os.path.dirname(os.path.abspath(__file__)), "../packaging/systemd/sieved-lmtp.service")
+    unit = os.path.join(os.path.dirname(os.path.abspath(__file__)), "../packaging/systemd/sieved.service")
     with open(unit) as lines:
         told = [line.strip().split("=", 1)[1] for line in lines if line.startswith("Environment=")]
     return dict(os.environ, **dict(word.split("=", 1) for word in told))

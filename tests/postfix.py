@@ -153,7 +153,7 @@ class Host:
         environment = " ".join(f"{name}={self.env[name]}" for name in ("SIEVED", "SIEVED_DB", "SIEVED_MAIL", "SIEVED_DRAIN"))
         text = re.sub(r"argv=(/usr/bin/env (\S+=\S+ ))?/usr/local/sbin/", rf"argv=/usr/bin/env {environment} \g<2>{self.room}/bin/", text)
         for given, own in (("user=sieved", "user=nobody"), ("runuser -u sieved -- sieved ", f"{NOBODY} {self.room}/bin/sieved "), ("/usr/local/sbin/", f"{self.room}/bin/"),
-                           ("/etc/postfix/", f"{self.room}/etc/"), ("/etc/default/", f"{self.room}/etc/"), ("/var/lib/sieved/", f"{self.room}/var/"),
+                           ("/etc/postfix/", f"{self.room}/etc/"), ("/etc/default/", f"{self.room}/etc/default-"), ("/var/lib/sieved/", f"{self.room}/var/"),
                            ("postmap ", f"postmap -c {self.room}/etc "), ("postconf -", f"postconf -c {self.room}/etc -"), ("postfix reload", f"postfix -c {self.room}/etc reload")):
             text = text.replace(given, own)
         return text
@@ -167,7 +167,7 @@ class Host:
 
     def run_unit(self, name, instance="", user=""):
         """Runs a unit's command with the variables of its file, as systemd does."""
-        with open(f"{PACKAGING}/systemd/{name}.service") as file:
+        with open(f"{PACKAGING}/examples/{name}.service") as file:
             unit = self.ours(file.read().replace("%i", instance))
         command = f"set -a; . {re.search('EnvironmentFile=(.*)', unit)[1]}; exec {re.search('ExecStart=(.*)', unit)[1]}"
         done = subprocess.run([*user.split(), "sh", "-c", command], env=self.env, capture_output=True)

@@ -101,10 +101,11 @@ class Host:
 
     def add_user(self, user, backend, password):
         """By the page's lines."""
-        lines = self.ours(block("touch /etc/dovecot/users.imap", "A user has") + block("secret=$(openssl", "Nothing has to be restarted"))
-        lines = lines[:lines.index("printf '%s lmtp:")].rstrip().removesuffix("&&").replace("runuser -u sieved -- sieved", scripts.PROGRAM[0])
-        lines = lines.replace("port=4191", f"port={backend.port}").replace(f"{self.room}/var/mail.db", backend.command[3])
-        subprocess.run(["sh", "-e", "-c", lines], env={**os.environ, "PASSWORD": password, "user": user}, check=True, capture_output=True)
+        lines = self.ours(block("touch /etc/dovecot/users.imap", "A user has") + block("secret=$(openssl", "- **sieved's own password"))
+        lines = lines[:lines.index("printf '%s lmtp:")].rstrip().removesuffix("&&").replace("| sieved adduser", f"| {scripts.PROGRAM[0]} adduser")
+        lines = lines.replace("port=4191", f"port={backend.port}")
+        told = {"PASSWORD": password, "user": user, "SIEVED_DB": backend.command[3]}
+        subprocess.run(["sh", "-e", "-c", lines], env={**os.environ, **told}, check=True, capture_output=True)
         with open(f"{self.room}/users.sieve") as file:
             return file.read().rsplit("pass=", 1)[1].strip()
 

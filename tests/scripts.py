@@ -1,12 +1,13 @@
 #!/usr/bin/env python3
-"""Tries packaging/sieved-deliver, sieved-queue and sieved-drain with what strangers send, programs that are killed and disks that are full.
+"""Tries packaging/sieved-deliver, sieved-queue and sieved-drain with what strangers send, programs that are killed and disks that are full,
+and packaging/sieved with what an owner or a stranger plants where root finds a store.
 
   tests/scripts.py [--sieved SIEVED] [TRIAL ..]       SIEVED: the program, crates/sieved/out/sieved where none is named
 
 Prints a line for each trial, a last one that counts them, and ends with 1 where one failed. `tests/run` runs it. A trial whose
 tool (awk, flock, mkswap, shellcheck, strace) or right (root, to mount a small disk, to limit memory) isn't there is left out.
 """
-import collections, hashlib, itertools, os, random, re, shutil, signal, sqlite3, subprocess, time
+import collections, hashlib, itertools, os, pwd, random, re, shutil, signal, sqlite3, subprocess, tempfile, time
 import mailboxes, managesieve, trials
 from contextlib import contextmanager
 
@@ -326,8 +327,7 @@ def queue_by_hand():
         assert host.deliver("--no-drain", "--from", sender, "--to", "alice@example.org", "alice", data=MAIL % b"\x1b[2J" + sender.encode())[0] == 0
     with open(f"{DOCS}/OPERATING.md") as file:
         lines = [line[4:] for line in file.read().split("**A row that can't go.**")[1].split("\n## ")[0].split("\n") if line.startswith("    ")]
-    ours = "\n".join(lines).replace("runuser -u sieved -- sieved", f"'{host.sieved}'").replace("/var/lib/sieved/mail.db", host.file)
-    ours = ours.replace("sendmail -i", "'%s' -i" % host.env["SENDMAIL"])
+    ours = re.sub(r"\bsieved (?=queue|done)", f"'{host.sieved}' ", "\n".join(lines)).replace("sendmail -i", "'%s' -i" % host.env["SENDMAIL"])
     messages = [message for _, _, message in host.rows("alice").values()]
     for number, (sender, target) in enumerate([("alice@example.org", "far@example.com"), ("<>", "\"$(touch x)`touch y`;'\"@example.com")], 1):
         done = subprocess.run(["sh", "-e", "-c", ours.replace("alice 3", f"alice {number}").replace("row-3", f"row-{number}")], env=host.env, cwd=host.room,
@@ -713,7 +713,7 @@ def restore_keeps_the_old():
     with open(f"{DOCS}/OPERATING.md") as file:
         section = file.read().split("\n## Back up and restore\n")[1].split("\n## ")[0]
     host = Host("alice", "bob")
-    ours = re.sub(r"runuser -u sieved -- (sieved )?", lambda found: f"'{host.sieved}' " if found[1] else "", section)
+    ours = re.sub(r"\bsieved (?=folders|users)", f"'{host.sieved}' ", section.replace("runuser -u sieved -- ", ""))
     for given, own in (("/var/lib/sieved", host.room), ("/var/backups/sieved", f"{host.room}/backups"), (" -o sieved -g sieved", ""), ("systemctl ", ": "),
                        ("sieved-drain alice", f"'{PACKAGING}/sieved-drain' alice"), ("/etc/postfix/sieved", f"{host.room}/table")):
         ours = ours.replace(given, own)
@@ -742,6 +742,161 @@ def restore_keeps_the_old():
     done = run(lacking, "bash")
     assert (done.returncode, done.stdout, done.stderr) == (0, b"carol\n", b"") and run(started).returncode == 0, done
     return "a copy that is cut off changes nothing; a good one is the store, and the old one's mail is drained from where it stands"
+
+
+# the program's start
+
+# Says as whom it runs, the store of the environment, and its words.
+SAYS_WHO = """#!/bin/sh
+printf '%s %s %s' "$(id -u)" "$(id -g)" "${SIEVED_DB-none}"
+for word do printf ' [%s]' "$word"; done
+"""
+# Users that each Debian has: mail and news.
+OWNER, STRANGER = 8, 9
+
+
+class Root:
+    """Directories of root's and of others, and packaging/sieved over a stand-in that says as whom it runs, or over the program."""
+
+    def __init__(self, program=None):
+        trials.need_root()
+        trials.need("setpriv")
+        self.folder = tempfile.TemporaryDirectory()
+        self.room = os.path.realpath(self.folder.name)
+        os.chmod(self.room, 0o755)
+        self.group = pwd.getpwuid(OWNER).pw_gid
+        with open(f"{PACKAGING}/sieved") as file:
+            text = file.read()
+        self.file("who", 0, 0o755, SAYS_WHO)
+        place = "/usr/local/lib/sieved/sieved"
+        assert text.count(place) == 1
+        self.sieved = self.file("sieved", 0, 0o755, text.replace(place, program or f"{self.room}/who"))
+
+    def directory(self, name, owner, mode=0o755):
+        os.mkdir(f"{self.room}/{name}")
+        os.chmod(f"{self.room}/{name}", mode)
+        os.chown(f"{self.room}/{name}", owner, owner)
+        return f"{self.room}/{name}"
+
+    def file(self, name, owner, mode=0o600, text=""):
+        with open(f"{self.room}/{name}", "w") as file:
+            file.write(text)
+        os.chmod(file.name, mode)
+        os.chown(file.name, owner, owner)
+        return file.name
+
+    def link(self, name, target, owner=0):
+        os.symlink(target, f"{self.room}/{name}")
+        os.chown(f"{self.room}/{name}", owner, owner, follow_symlinks=False)
+        return f"{self.room}/{name}"
+
+    def call(self, *words, user=0, cwd=None, data=b"", **env):
+        variables = {name: value for name, value in os.environ.items() if name != "SIEVED_DB"}
+        how = {"user": user, "group": user, "extra_groups": []} if user else {}
+        done = subprocess.run([self.sieved, *words], env={**variables, **env}, input=data, capture_output=True, cwd=cwd or "/", **how)
+        return done.returncode, done.stdout.decode(), done.stderr.decode()
+
+    def of(self, *words, **how):
+        """As whom the program ran; None where it didn't."""
+        status, printed, said = self.call(*words, **how)
+        if status:
+            assert (status, printed) == (64, "") and said.startswith("sieved: not as root: "), (status, printed, said)
+            return None
+        return int(printed.split()[0])
+
+
+def root_as_owner():
+    root = Root()
+    root.directory("theirs", OWNER, 0o700)
+    store = root.file("theirs/mail.db", OWNER)
+    root.directory("own", 0, 0o700)
+    mine = root.file("own/mail.db", 0)
+    assert root.call("users", "--db", store) == (0, f"{OWNER} {root.group} none [users] [--db] [{store}]", "")
+    assert root.call("put", f"--db={store}", "a b", "") == (0, f"{OWNER} {root.group} none [put] [--db={store}] [a b] []", "")
+    assert root.call("users", SIEVED_DB=store) == (0, f"{OWNER} {root.group} {store} [users]", "")
+    assert root.call("users", "--db", store, SIEVED_DB=mine) == (0, f"{OWNER} {root.group} none [users] [--db] [{store}]", "")
+    assert root.call("users", "--db", mine, SIEVED_DB=store) == (0, f"0 0 none [users] [--db] [{mine}]", ""), "root's own store"
+    assert root.of("users", "--db", "mail.db", cwd=f"{root.room}/theirs") == OWNER and root.of("users", "--db", "mail.db", cwd=f"{root.room}/own") == 0
+    assert root.of("users", "--db", "../theirs/./mail.db", cwd=f"{root.room}/own") == OWNER
+    assert root.of("init", "--db", f"{root.room}/theirs/new.db") == OWNER and root.of("init", "--db", f"{root.room}/own/new.db") == 0
+    # What needs no store is root's, whatever the environment says.
+    for words in (), ("--version",), ("check", "a.sieve"), ("try", "--from", "--db"):
+        assert root.of(*words, SIEVED_DB=store) == 0, words
+    # Who isn't root stays who it is.
+    assert root.of("users", "--db", mine, user=STRANGER) == root.of("users", "--db", store, user=STRANGER) == STRANGER
+    # A store that is another's in a directory of root's.
+    assert root.of("users", "--db", root.file("own/another.db", OWNER)) == OWNER
+    return "by an option, by the environment, by a path from anywhere; root's own store, and what needs none, stay root's"
+
+
+def root_goes_no_further():
+    root = Root()
+    root.directory("theirs", OWNER)
+    root.directory("own", 0)
+    mine = root.file("own/mail.db", 0)
+    # Whatever the owner plants is found with the owner's rights.
+    root.link("theirs/mail.db", "/etc/shadow", OWNER)
+    root.link("theirs/sub", f"{root.room}/own", OWNER)
+    root.link("theirs/by-root", f"{root.room}/own")
+    os.link(mine, f"{root.room}/theirs/hard.db")
+    for name in "mail.db", "sub/mail.db", "by-root/mail.db", "hard.db", "absent/mail.db", "sub/../own/mail.db":
+        assert root.of("users", "--db", f"{root.room}/theirs/{name}") == OWNER, name
+    # Links of root's are followed, as far as their way is safe; one of another's is its owner's.
+    root.link("absolute", f"{root.room}/theirs")
+    root.link("relative", "theirs")
+    root.link("own/to-theirs", "../relative/x.db")
+    root.link("to-own", "absolute/../own")
+    root.link("anothers", f"{root.room}/own", STRANGER)
+    assert root.of("users", "--db", f"{root.room}/absolute/x.db") == root.of("users", "--db", f"{root.room}/relative/x.db") == OWNER
+    assert root.of("users", "--db", f"{root.room}/own/to-theirs") == OWNER and root.of("users", "--db", f"{root.room}/anothers/mail.db") == STRANGER
+    # `..` behind a link is the parent of what it leads to, and so is theirs where the link is in theirs.
+    assert root.of("users", "--db", f"{root.room}/to-own/mail.db") == OWNER
+    root.link("loop", "loop")
+    assert root.of("users", "--db", f"{root.room}/loop/mail.db") is None
+    # Where others may write root doesn't go on; in a directory with the sticky bit each thing has its owner.
+    root.directory("open", 0, 0o777)
+    root.directory("grouped", 0, 0o775)
+    root.directory("sticky", 0, 0o1777)
+    root.directory("sticky/theirs", OWNER, 0o700)
+    root.directory("sticky/own", 0, 0o700)
+    root.link("sticky/to-own", f"{root.room}/own", STRANGER)
+    for name in "open/mail.db", "grouped/mail.db", "open/own/mail.db", "sticky/mail.db":
+        assert root.of("init", "--db", f"{root.room}/{name}") is None, name
+    root.file("sticky/mail.db", 0)
+    root.link("sticky/roots", mine)
+    assert root.of("users", "--db", f"{root.room}/sticky/mail.db") is None and root.of("users", "--db", f"{root.room}/sticky/roots") is None
+    assert root.of("users", "--db", f"{root.room}/sticky/theirs/mail.db") == OWNER and root.of("init", "--db", f"{root.room}/sticky/own/mail.db") == 0
+    assert root.of("users", "--db", f"{root.room}/sticky/to-own/mail.db") == STRANGER
+    # What names no file, stores of two owners, and words that may or may not name a store.
+    for name in "", ".", "..", f"{root.room}/own/", f"{root.room}/own/.", f"{root.room}/own/..":
+        assert root.of("users", "--db", name) is None, name
+    theirs = f"{root.room}/theirs/x.db"
+    assert root.of("users", "--db", theirs, f"--db={mine}") is None and root.of("users", "--db", theirs, "--db", theirs) == OWNER
+    assert root.of("deliver", "--from", "--db", theirs) == OWNER and root.of("put", "--db", mine, "--", "--db", theirs) is None
+    root.directory("nobodys", 54_321)
+    assert root.of("users", "--db", f"{root.room}/nobodys/mail.db") is None, "an owner without a name"
+    return "links of the owner's and of others, directories that others may write to, names of no file, two owners"
+
+
+def root_runs_words():
+    root = Root(PROGRAM[0])
+    os.chmod(root.directory("theirs", OWNER, 0o700), 0o700)
+    file = f"{root.room}/theirs/mail.db"
+    if subprocess.run(["setpriv", f"--reuid={OWNER}", "--clear-groups", "test", "-x", PROGRAM[0]]).returncode:
+        raise trials.LeftOut("no program that others may run")
+    assert root.call("init", "--db", file) == (0, "ready\n", "")
+    assert root.call("adduser", "alice", "alice@example.org", data=b"secret\n", SIEVED_DB=file) == (0, "added alice\n", "")
+    assert root.call("users", "--db", file)[1] == "alice - alice@example.org\n"
+    made = [os.lstat(f"{root.room}/theirs/{name}") for name in os.listdir(f"{root.room}/theirs")]
+    assert len(made) > 1 and {one.st_uid for one in made} == {OWNER}, "each file is the owner's"
+    os.rename(f"{file}.lock", f"{root.room}/theirs/old")
+    root.file("roots", 0, 0o600, "as it was")
+    root.link("theirs/mail.db.lock", f"{root.room}/roots", OWNER)
+    status, printed, said = root.call("users", "--db", file)
+    assert status == 75 and not printed and said.startswith("sieved: store failed\n"), (status, printed, said)
+    with open(f"{root.room}/roots") as kept:
+        assert kept.read() == "as it was"
+    return "a store that root makes is its owner's; a planted lock leads nowhere"
 
 
 # the scripts' text
@@ -777,7 +932,7 @@ def text_by_shellcheck():
 TRIALS = {trial.__name__: trial for trial in (
     text_by_sh, text_by_shellcheck, deliver_statuses, deliver_faults, deliver_cut, deliver_killed, deliver_full_disk,
     queue_addresses, queue_targets, queue_rows, queue_beside, queue_by_hand, drain_folders, drain_flags, drain_unread, drain_no_place, drain_subscriptions, drain_users, drain_listings, drain_killed,
-    drain_full_disk, drain_order, reserve_makes_room, swap_serves, restore_keeps_the_old)}
+    drain_full_disk, drain_order, reserve_makes_room, swap_serves, restore_keeps_the_old, root_as_owner, root_goes_no_further, root_runs_words)}
 
 if __name__ == "__main__":
     trials.main(TRIALS, lambda program: PROGRAM.__setitem__(0, program))

@@ -11,7 +11,7 @@ state of two moments is opened once. Nothing is thought durable that wasn't sync
 
 The trials: init, adduser, deliver, done, imported, exported, drain, session; `drain_seen`, where two of three messages have a system flag, and
 `drain_made`, where the Maildir lacks `cur` besides; `drain_killed` and `drain_refused`, where a run before was broken off as it had made
-`cur`; `daemon`, which moves a message, where one before was killed as it had made the Maildir; `upgrade_last`, `upgrade_fourth` and
+`cur`; `daemon`, which moves a message, where one before was killed as it had made the Maildir; `daemon_together`, which moves 64 at once; `upgrade_last`, `upgrade_fourth` and
 `upgrade_second`, the first word over a store that a program of version 1 or 2 wrote (crates/test_runs/data); `again`, where the power goes once more as what it left is opened;
 `unsynced`, a disk that loses a commit between its write and its sync, over which the next word reads the disk; and `planted`, in
 which a sync is left out of the log, an answer stands before one, or a commit before the last write, and a state has to be found
@@ -643,6 +643,42 @@ def daemon():
     return sweep(log, look, moves(before))
 
 
+def daemon_together():
+    """The daemon moves messages together: 64, of which one call may be lost, and four, of which three may; with --quick six."""
+    return "; ".join(swept_batch(count, most) for count, most in ([(6, 1)] if trials.QUICK else [(64, 1), (4, 3)]))
+
+
+def swept_batch(count, most):
+    """Looks at all states of a batch; then at those of one in which the file of a message isn't synced, or the folder that it came to."""
+    room = Room()
+    os.mkdir(f"{room.folder}/mail")
+    for number in range(count):
+        room.run("deliver", "--from", "bob@example.net", "--to", "alice@example.org", "alice", data=b"Message-ID: <%d@example.net>\r\n\r\nHi\r\n" % number)
+    log, _ = room.recorded("daemon", "--mail", f"{room.folder}/mail", talk=until_moved, ends=-signal.SIGTERM)
+    look = Look([])
+    before, after = (look.at(left_by(log, State(moment))) for moment in (0, len(log.calls)))
+    assert (len(messages_of(before)), messages_of(after), len(after[1])) == (count, [], count), (before, after)
+    judge = lambda state, answers: of_batch(before, state)
+    told, whole = f"{count} messages: {sweep(log, look, judge, most)}", log.calls
+    name = [call for call in whole if call.kind == "name" and "/new/" in call.target[0]][-1]
+    for target in name.target[1], os.path.dirname(name.target[0]):
+        at = max(at for at, call in enumerate(whole) if call.target == target and has_work(whole, at))
+        log.calls = whole[:at] + whole[at + 1:]
+        assert is_found(log, look, judge), f"a sync of {target} is left out, and not found"
+    return told
+
+
+def of_batch(before, state):
+    """Where a batch is: all of it in the store, some of it in the Maildir too; or all of it in the Maildir alone."""
+    mails, moved = messages_of(before), Counter(state[1])
+    if moved - Counter(mails):
+        return None
+    if state[0][-1] == before[0][-1]:
+        return "in the store"
+    without = tuple((table, () if table in ("copy", "message") else found) for table, found in before[0][-1])
+    return "in the Maildir" if state[0][-1] == without and moved == Counter(mails) else None
+
+
 def until_moved(process):
     """Ends a daemon that has moved a message, or says that it stays. One that is killed ends by itself."""
     begun = re.search(rb" pid=(\d+)", process.stderr.readline())
@@ -906,7 +942,7 @@ def is_found(log, look, judge):
     return False
 
 
-TRIALS = {trial.__name__: trial for trial in (init, adduser, deliver, done, imported, exported, drain, drain_seen, drain_made, drain_killed, drain_refused, daemon, session, upgrade_last, upgrade_fourth, upgrade_second, again, unsynced, planted)}
+TRIALS = {trial.__name__: trial for trial in (init, adduser, deliver, done, imported, exported, drain, drain_seen, drain_made, drain_killed, drain_refused, daemon, daemon_together, session, upgrade_last, upgrade_fourth, upgrade_second, again, unsynced, planted)}
 
 
 if __name__ == "__main__":

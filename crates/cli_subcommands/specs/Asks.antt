@@ -1,8 +1,9 @@
 -- What arguments ask for, from what `clap` found in them.
-use Rattle.std.specs.Prelude.{◌≡◌, ◌⊎◌, ℕ, Bool, true, false, List, [], codes, Option, Some, None, option_copied, option_map, unwrap_or, map, Result, Ok, Err}
+use Rattle.std.specs.Prelude.{◌≡◌, ◌⊎◌, ℕ, Bool, true, false, ◌||◌, List, [], codes, Option, Some, None, option_copied, option_map, unwrap_or, map, Result, Ok, Err}
 use Rattle.clap.specs.Words.{first_value, found_of, matched_of, one_text, raw_values, rows_of, subcommand_name_of, subcommand_rows_of}
 use Rattle.clap.specs.declared.error.Error.{Error}
 use Rattle.clap.specs.declared.parser.matches.ArgMatches.{ArgMatches}
+use Rattle.cli_subcommands.specs.Defaults.{named_path}
 use Rattle.cli_subcommands.specs.Ids.{IsNoSubcommand, subcommand_name}
 use Rattle.cli_subcommands.specs.declared.host_files.HostFiles.{HostFiles}
 use Rattle.cli_subcommands.specs.declared.raw_args.RawArgs.{RawArgs}
@@ -68,9 +69,17 @@ pub is_arg_address : (line : RawArgs) (value octets : List ℕ) → IsArgAddress
 unfolding IsArgAddress
 is_arg_address line value octets = tt
 
-pub record IsLocation (m : ArgMatches) (a : StoreLocation) : Type 0 where
-  pub path : a.path.now ≡ arg_text m (codes "db")
-  pub waits : IsFlag m (codes "wait") a.waits
+-- the path that a command line takes: its option's, or else the environment's
+abbrev pub chosen_path : RawArgs → Option (List ℕ) → List ℕ
+chosen_path line (Some path) = path
+chosen_path line None = unwrap_or (named_path line.defaults) []
+
+-- where the store is: `--db` counts before `SIEVED_DB`, and `SIEVED_WAIT` says what `--wait` does
+pub record IsLocation (line : RawArgs) (m : ArgMatches) (a : StoreLocation) : Type 0 where
+  pub path : a.path.now ≡ chosen_path line (arg_value m (codes "db"))
+  pub flag : Bool
+  pub given : IsFlag m (codes "wait") flag
+  pub waits : a.waits ≡ (flag || line.defaults.waits)
 
 -- ---- each subcommand, with what was given to it
 
@@ -81,57 +90,57 @@ pub record IsTryArgs (line : RawArgs) (m : ArgMatches) (a : TryArgs) : Type 0 wh
   pub zone : option_copied a.zone ≡ arg_value m (codes "zone")
 
 pub record IsInitArgs (line : RawArgs) (m : ArgMatches) (a : InitArgs) : Type 0 where
-  pub location : IsLocation m a.location
+  pub location : IsLocation line m a.location
 
 pub record IsAddUserArgs (line : RawArgs) (m : ArgMatches) (a : AddUserArgs) : Type 0 where
-  pub location : IsLocation m a.location
+  pub location : IsLocation line m a.location
   pub salt : option_copied a.salt ≡ arg_value m (codes "salt")
   pub name : a.name.now ≡ arg_text m (codes "name")
   pub address : a.address.now ≡ arg_text m (codes "address")
 
 pub record IsUsersArgs (line : RawArgs) (m : ArgMatches) (a : UsersArgs) : Type 0 where
-  pub location : IsLocation m a.location
+  pub location : IsLocation line m a.location
 
 pub record IsPasswdArgs (line : RawArgs) (m : ArgMatches) (a : PasswdArgs) : Type 0 where
-  pub location : IsLocation m a.location
+  pub location : IsLocation line m a.location
   pub salt : option_copied a.salt ≡ arg_value m (codes "salt")
   pub user : a.user.now ≡ arg_text m (codes "name")
 
 pub record IsAddressArgs (line : RawArgs) (m : ArgMatches) (a : AddressArgs) : Type 0 where
-  pub location : IsLocation m a.location
+  pub location : IsLocation line m a.location
   pub user : a.user.now ≡ arg_text m (codes "name")
   pub address : a.address.now ≡ arg_text m (codes "address")
 
 pub record IsScriptsArgs (line : RawArgs) (m : ArgMatches) (a : ScriptsArgs) : Type 0 where
-  pub location : IsLocation m a.location
+  pub location : IsLocation line m a.location
   pub user : a.user.now ≡ arg_text m (codes "user")
   pub script : option_copied a.script ≡ arg_value m (codes "script")
 
 pub record IsPutArgs (line : RawArgs) (m : ArgMatches) (a : PutArgs) : Type 0 where
-  pub location : IsLocation m a.location
+  pub location : IsLocation line m a.location
   pub activate : IsFlag m (codes "activate") a.activate
   pub user : a.user.now ≡ arg_text m (codes "user")
   pub script : a.script.now ≡ arg_text m (codes "script")
 
 pub record IsRemoveArgs (line : RawArgs) (m : ArgMatches) (a : RemoveArgs) : Type 0 where
-  pub location : IsLocation m a.location
+  pub location : IsLocation line m a.location
   pub mail : IsFlag m (codes "mail") a.mail
   pub user : a.user.now ≡ arg_text m (codes "name")
 
 pub record IsOpenArgs (line : RawArgs) (m : ArgMatches) (a : OpenArgs) : Type 0 where
-  pub location : IsLocation m a.location
+  pub location : IsLocation line m a.location
   pub user : a.user.now ≡ arg_text m (codes "name")
 
 pub record IsExportArgs (line : RawArgs) (m : ArgMatches) (a : ExportArgs) : Type 0 where
-  pub location : IsLocation m a.location
+  pub location : IsLocation line m a.location
   pub and_close : IsFlag m (codes "and-close") a.and_close
   pub user : a.user.now ≡ arg_text m (codes "user")
 
 pub record IsImportArgs (line : RawArgs) (m : ArgMatches) (a : ImportArgs) : Type 0 where
-  pub location : IsLocation m a.location
+  pub location : IsLocation line m a.location
 
 pub record IsDeliverArgs (line : RawArgs) (m : ArgMatches) (a : DeliverArgs) : Type 0 where
-  pub location : IsLocation m a.location
+  pub location : IsLocation line m a.location
   pub from : IsArgAddress line (arg_text m (codes "from")) a.from.now
   pub to : IsArgAddress line (arg_text m (codes "to")) a.to.now
   pub at : option_copied a.at ≡ arg_value m (codes "at")
@@ -139,56 +148,56 @@ pub record IsDeliverArgs (line : RawArgs) (m : ArgMatches) (a : DeliverArgs) : T
   pub user : a.user.now ≡ arg_text m (codes "user")
 
 pub record IsFoldersArgs (line : RawArgs) (m : ArgMatches) (a : FoldersArgs) : Type 0 where
-  pub location : IsLocation m a.location
+  pub location : IsLocation line m a.location
   pub user : a.user.now ≡ arg_text m (codes "user")
   pub directories : IsFlag m (codes "maildir") a.directories
   pub separator : option_copied a.separator ≡ arg_value m (codes "separator")
 
 pub record IsShowArgs (line : RawArgs) (m : ArgMatches) (a : ShowArgs) : Type 0 where
-  pub location : IsLocation m a.location
+  pub location : IsLocation line m a.location
   pub user : a.user.now ≡ arg_text m (codes "user")
   pub folder : a.folder.now ≡ arg_text m (codes "folder")
   pub number : a.number.now ≡ arg_text m (codes "number")
 
 pub record IsQueueArgs (line : RawArgs) (m : ArgMatches) (a : QueueArgs) : Type 0 where
-  pub location : IsLocation m a.location
+  pub location : IsLocation line m a.location
   pub user : a.user.now ≡ arg_text m (codes "user")
   pub id : option_copied a.id ≡ arg_value m (codes "id")
 
 pub record IsDoneArgs (line : RawArgs) (m : ArgMatches) (a : DoneArgs) : Type 0 where
-  pub location : IsLocation m a.location
+  pub location : IsLocation line m a.location
   pub user : a.user.now ≡ arg_text m (codes "user")
   pub id : a.id.now ≡ arg_text m (codes "id")
 
 pub record IsNoticesArgs (line : RawArgs) (m : ArgMatches) (a : NoticesArgs) : Type 0 where
-  pub location : IsLocation m a.location
+  pub location : IsLocation line m a.location
   pub until : option_copied a.until ≡ arg_value m (codes "until")
   pub user : a.user.now ≡ arg_text m (codes "user")
 
 pub record IsDrainArgs (line : RawArgs) (m : ArgMatches) (a : DrainArgs) : Type 0 where
-  pub location : IsLocation m a.location
+  pub location : IsLocation line m a.location
   pub most : option_copied a.most ≡ arg_value m (codes "most")
   pub user : a.user.now ≡ arg_text m (codes "user")
   pub folder : a.folder.now ≡ arg_text m (codes "folder")
   pub maildir : a.maildir.now ≡ arg_text m (codes "maildir")
 
 pub record IsSendArgs (line : RawArgs) (m : ArgMatches) (a : SendArgs) : Type 0 where
-  pub path : a.path.now ≡ arg_text m (codes "db")
+  pub path : a.path.now ≡ chosen_path line (arg_value m (codes "db"))
   pub smtp : a.smtp.now ≡ arg_text m (codes "smtp")
   pub host : option_copied a.host ≡ arg_value m (codes "host")
   pub most : option_copied a.most ≡ arg_value m (codes "most")
   pub send_8bit : IsFlag m (codes "send-8bit") a.send_8bit
 
 pub record IsServeArgs (line : RawArgs) (m : ArgMatches) (a : ServeArgs) : Type 0 where
-  pub location : IsLocation m a.location
+  pub location : IsLocation line m a.location
   pub port : a.port.now ≡ arg_text m (codes "port")
   pub sessions : option_copied a.sessions ≡ arg_value m (codes "sessions")
 
 pub record IsSessionArgs (line : RawArgs) (m : ArgMatches) (a : SessionArgs) : Type 0 where
-  pub location : IsLocation m a.location
+  pub location : IsLocation line m a.location
 
 pub record IsDaemonArgs (line : RawArgs) (m : ArgMatches) (a : DaemonArgs) : Type 0 where
-  pub path : a.path.now ≡ arg_text m (codes "db")
+  pub path : a.path.now ≡ chosen_path line (arg_value m (codes "db"))
   pub managesieve : option_copied a.managesieve ≡ arg_value m (codes "managesieve")
   pub lmtp : option_copied a.lmtp ≡ arg_value m (codes "lmtp")
   pub names : option_copied a.names ≡ arg_value m (codes "names")

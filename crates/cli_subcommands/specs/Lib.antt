@@ -1,3 +1,4 @@
 pub mod Asks
+pub mod Defaults
 pub mod Ids
 pub mod Rows

@@ -71,12 +71,12 @@ enum Form {
 }
 
 impl CliArgument {
-    /// The argument for `clap`.
-    pub fn arg(self, alloc: Global) -> Arg<'static>
+    /// The argument for `clap`: `has_store` says whether the environment names the store, and so no argument has to.
+    pub fn arg(self, alloc: Global, has_store: bool) -> Arg<'static>
         ensures { result.id.now ≡ argument_id self }
     {
         let arg = Arg::new(alloc, self.name())
-            .required(self.is_required())
+            .required(self.is_required(has_store))
             .help(self.help());
         match self.form() {
             Form::Flag => arg.long(self.name()).action(ArgAction::SetTrue),
@@ -238,8 +238,9 @@ impl CliArgument {
 
     fn help(self) -> &'static str {
         match self {
-            CliArgument::Db => "The store's file",
-            CliArgument::Wait => "Waits where another process has the store",
+            CliArgument::Db => "The store's file [default: SIEVED_DB of the environment]",
+            CliArgument::Wait =>
+                "Waits where another process has the store, as SIEVED_WAIT=1 of the environment does",
             CliArgument::From => "The envelope's sender [default: none]",
             CliArgument::To => "The envelope's recipient",
             CliArgument::AnyTo => "The envelope's recipient [default: none]",
@@ -271,7 +272,8 @@ impl CliArgument {
             CliArgument::Mail => "Moves mail on into the users' Maildirs in this directory",
             CliArgument::Host =>
                 "The name that clients of LMTP are greeted with [default: localhost]",
-            CliArgument::Quiet => "Tells of no delivery that was made",
+            CliArgument::Quiet =>
+                "Tells of no delivery that was made, of no message that moved, and of no login",
             CliArgument::Check => "Says what would go wrong, and serves nobody",
             CliArgument::Smtp => "The mail server's address and port, or the path of its socket",
             CliArgument::HostName => "The name that EHLO says [default: localhost]",
@@ -292,7 +294,10 @@ impl CliArgument {
         }
     }
 
-    fn is_required(self) -> bool {
+    fn is_required(self, has_store: bool) -> bool {
+        if has_store && matches!(self, CliArgument::Db) {
+            return false;
+        }
         !matches!(
             self,
             CliArgument::Wait

@@ -1,6 +1,6 @@
 //! The arguments that were given to a subcommand.
-ghost use Rattle.std.specs.Prelude.{◌≡◌, false, option_copied};
-ghost use Rattle.cli_subcommands.specs.Asks.{HasNoText, IsArgAddress, IsFlag, IsLocation, arg_text, arg_value};
+ghost use Rattle.std.specs.Prelude.{◌≡◌, codes, false, option_copied};
+ghost use Rattle.cli_subcommands.specs.Asks.{HasNoText, IsArgAddress, IsFlag, IsLocation, arg_text, arg_value, chosen_path};
 ghost use Rattle.cli_subcommands.specs.Ids.{argument_id};
 
 use crate::argument::CliArgument;
@@ -44,13 +44,23 @@ impl<'a> Given<'a, '_> {
         self.line.address(self.text(argument))
     }
 
+    /// The path of the store: that of the option, else the environment's.
+    pub fn path(&self) -> &'a str
+        ensures { result.now ≡ chosen_path self.now.line.now (arg_value self.now.matches.now (codes "db")) }
+    {
+        match self.value(CliArgument::Db) {
+            Some(path) => path,
+            None => self.line.default_path().unwrap_or(""),
+        }
+    }
+
     /// Where the store is.
     pub fn location(&self) -> StoreLocation<'a>
-        ensures { IsLocation self.now.matches.now result }
+        ensures { IsLocation self.now.line.now self.now.matches.now result }
     {
         StoreLocation {
-            path: self.text(CliArgument::Db),
-            waits: self.flag(CliArgument::Wait),
+            path: self.path(),
+            waits: self.flag(CliArgument::Wait) || self.line.waits_by_default(),
         }
     }
 

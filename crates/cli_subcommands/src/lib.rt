@@ -2,6 +2,7 @@
 #![tactic(auto)]
 
 mod argument;
+mod environment;
 mod given;
 mod host_files;
 mod location;
@@ -11,6 +12,7 @@ mod reading;
 mod subcommand;
 mod subcommand_row;
 
+pub use environment::StoreDefaults;
 pub use host_files::{HostFiles, MAX_HOST_FILES, read_host_files};
 pub use location::StoreLocation;
 pub use program::VERSION;

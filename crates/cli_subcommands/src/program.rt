@@ -6,9 +6,9 @@ use std::alloc::{AllocError, Global};
 /// The program's version, as a package has it: one that ends with `~dev` comes before the release.
 pub const VERSION: &str = "2.0.0~dev";
 
-/// The program with all subcommands.
-pub(crate) fn sieved<'a>(alloc: Global) -> Result<Command<'a>, AllocError> {
-    with_words(alloc, program(alloc)?, &SubcommandName::ALL)
+/// The program with all subcommands; `has_store` says whether the environment names the store.
+pub(crate) fn sieved<'a>(alloc: Global, has_store: bool) -> Result<Command<'a>, AllocError> {
+    with_words(alloc, program(alloc)?, &SubcommandName::ALL, has_store)
 }
 
 /// A command with these subcommands added.
@@ -16,10 +16,11 @@ fn with_words<'a>(
     alloc: Global,
     program: Command<'a>,
     words: &[SubcommandName],
+    has_store: bool,
 ) -> Result<Command<'a>, AllocError> {
     let mut command = program;
     for word in words {
-        command = command.subcommand(word.row().command(alloc)?)?;
+        command = command.subcommand(word.row().command(alloc, has_store)?)?;
     }
     Ok(command)
 }

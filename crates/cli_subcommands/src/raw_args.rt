@@ -1,7 +1,9 @@
 //! The arguments of a command line: the octets that the system hands over, and the texts that `clap` reads.
-ghost use Rattle.std.specs.Prelude.{◌≡◌, IfOk, IsTrue};
+ghost use Rattle.std.specs.Prelude.{◌≡◌, IfOk, IsTrue, option_copied};
 ghost use Rattle.cli_subcommands.specs.Asks.{HasNoText, IsArgAddress, arg_octets};
+ghost use Rattle.cli_subcommands.specs.Defaults.{AreNoDefaults, named_path};
 
+use crate::environment::StoreDefaults;
 use octets::Octets;
 use std::alloc::{AllocError, Global};
 use std::str;
@@ -9,7 +11,7 @@ use std::str;
 /// The options that may come before an address, in the same argument.
 const ADDRESS_OPTIONS: [&str; 2] = ["--from=", "--to="];
 
-/// The arguments after the program's name.
+/// The arguments after the program's name, and what the environment says of the store where they don't.
 ///
 /// An address may be any octets, while `clap` reads texts. So an argument that isn't UTF-8 has a stand-in there, in which `--from=`
 /// and `--to=` stay. Each stand-in is longer than any argument, and than the stand-ins before it: no other value equals it, and if
@@ -19,12 +21,14 @@ const ADDRESS_OPTIONS: [&str; 2] = ["--from=", "--to="];
 pub struct RawArgs {
     octets: Vec<Octets>,
     texts: Vec<String>,
+    defaults: StoreDefaults,
 }
 
 impl RawArgs {
-    /// From the arguments in their order. Lack of memory is the only error.
+    /// From the arguments in their order, in an environment that says nothing. Lack of memory is the only error.
     pub fn new(alloc: Global, words: Vec<Octets>) -> Result<RawArgs, AllocError>
-        ensures { IfOk result (λ args. arg_octets args ≡ words.items) }
+        ensures words { IfOk result (λ args. arg_octets args ≡ words.items) }
+        ensures unsaid { IfOk result (λ args. AreNoDefaults args.defaults) }
     {
         let longest = words.iter().map(|word| word.len()).max().unwrap_or(0);
         let mut texts = Vec::new(alloc);
@@ -35,7 +39,34 @@ impl RawArgs {
         Ok(RawArgs {
             octets: words,
             texts,
+            defaults: StoreDefaults::none(),
         })
+    }
+
+    /// The same arguments in an environment that says this.
+    pub fn with_defaults(self, defaults: StoreDefaults) -> RawArgs
+        ensures words { arg_octets result ≡ arg_octets self }
+        ensures defaults { result.defaults ≡ defaults }
+    {
+        RawArgs {
+            octets: self.octets,
+            texts: self.texts,
+            defaults,
+        }
+    }
+
+    /// The store's path in the environment, if it names one.
+    pub(crate) fn default_path(&self) -> Option<&str>
+        ensures { option_copied result ≡ named_path self.now.defaults }
+    {
+        self.defaults.path()
+    }
+
+    /// Whether the environment says to wait for the store's lock.
+    pub(crate) fn waits_by_default(&self) -> bool
+        ensures { result ≡ self.now.defaults.waits }
+    {
+        self.defaults.waits()
     }
 
     /// What `clap` reads, a text for each argument.

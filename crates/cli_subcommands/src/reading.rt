@@ -118,7 +118,7 @@ pub fn read_files<'a>(alloc: Global, matches: &ArgMatches<'a>) -> Result<Vec<&'a
 fn match_words<'a>(alloc: Global, words: &'a RawArgs) -> Result<ArgMatches<'a>, Error>
     ensures { WasMatched words.now result }
 {
-    sieved(alloc)?.try_get_matches_from(words.texts())
+    sieved(alloc, words.default_path().is_some())?.try_get_matches_from(words.texts())
 }
 
 /// Whether the error speaks of the arguments themselves, or of lack of memory.

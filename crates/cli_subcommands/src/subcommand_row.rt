@@ -17,15 +17,15 @@ pub struct SubcommandRow {
 }
 
 impl SubcommandRow {
-    /// The subcommand for `clap`. Lack of memory is the only error.
-    pub fn command<'a>(&self, alloc: Global) -> Result<Command<'a>, AllocError>
+    /// The subcommand for `clap`: `has_store` says whether the environment names the store. Lack of memory is the only error.
+    pub fn command<'a>(&self, alloc: Global, has_store: bool) -> Result<Command<'a>, AllocError>
         ensures { IfOk result (IsCommandOf self.now) }
     {
         let mut command = Command::new(alloc, self.name)
             .about(self.about)
             .after_help(self.more);
         for argument in self.arguments {
-            command = command.arg(argument.arg(alloc))?;
+            command = command.arg(argument.arg(alloc, has_store))?;
         }
         Ok(command)
     }

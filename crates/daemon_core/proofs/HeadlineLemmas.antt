@@ -31,7 +31,7 @@ use Rattle.daemon_core.specs.Holding.{firm_client, firm_connection, firm_at, IsB
 use Rattle.daemon_core.specs.MailActs.{MailLine, LmtpTells, TellsOn}
 use Rattle.daemon_core.specs.MailRules.{mail_rules, lmtp_connection_at}
 use Rattle.daemon_core.specs.ClientStates.{client_at}
-use Rattle.daemon_core.specs.Moves.{LetAt, MovedAt, takes_of, answers_of}
+use Rattle.daemon_core.specs.Moves.{LetAt, MovedAt, takes_by, answers_by, takes_of, answers_of}
 use Rattle.daemon_core.specs.declared.mail.MailDaemon.{MailDaemon}
 use Rattle.daemon_core.specs.declared.note.Note.{Note}
 use Rattle.daemon_core.specs.declared.note.Note.TheVariants.{Did, Away, Freed, Spoke, Answered, Asked, Looked, Moved}
@@ -48,17 +48,17 @@ use Rattle.daemon_core.proofs.WordLemmas.{FitsBy, words_of, none_sent, line_afte
 
 -- ---- acts as events
 
--- a message that moved, or none
+-- messages that moved, or none
 runs_let : (w v : World) (others : List Event) → LetAt others w v → (told : List Answer) × Runs w (others ++ []) told v × ((before : List Answer) × (told ≡ before ++ []))
 runs_let w v others led = (led.told, subst (λ events. Runs w events led.told v) (sym (append-nil others)) led.theirs, (led.told, sym (append-nil led.told)))
 
 runs_moved : (w v : World) (others : List Event) (m : Moving) → MovedAt others m w v → (told : List Answer) × Runs w (others ++ takes_of m) told v × ((before : List Answer) × (told ≡ before ++ answers_of m))
-runs_moved w v others (moving.Kept mail answer) led =
-    let event : Event = TakeMail mail.user mail.folder in (
-      led.done.told ++ answer ∷ [],
-      runs_then others (event ∷ []) led.done.told (answer ∷ []) w led.done.between v led.done.theirs (runs_one led.done.between v event answer led.done.ours),
-      (led.done.told, refl),
-    )
+runs_moved w v others (moving.Kept batch answer) led = (
+  led.done.told ++ answers_by batch answer,
+  runs_then others (takes_by batch) led.done.told (answers_by batch answer) w led.done.between v led.done.theirs led.done.ours,
+  (led.done.told, refl),
+)
+runs_moved w v others moving.Went led = runs_let w v others led
 runs_moved w v others moving.Nothing led = runs_let w v others led
 runs_moved w v others moving.Passed led = runs_let w v others led
 runs_moved w v others (moving.Failed refusal) led = runs_let w v others led

@@ -1,12 +1,13 @@
 -- What all connections hold stays within what they may.
-use Rattle.std.proofs.Common.{◌≡◌, ◌⊎◌, ◌∙◌, inl, inr, ℕ, ◌+◌, ◌-◌, ◌*◌, ◌≤◌, ◌==◌, nat_lt, Bool, true, false, cond, List, [], ◌∷◌, length, Option, Some, None, refl, sym, ap, subst, arith}
+use Rattle.std.proofs.Common.{◌≡◌, ◌⊎◌, ◌∙◌, inl, inr, ℕ, zero, suc, ◌+◌, ◌-◌, ◌*◌, ◌≤◌, ◌==◌, nat_lt, Bool, true, false, cond, List, [], ◌∷◌, length, Option, Some, None, refl, sym, ap, subst, arith}
 use Rattle.std.specs.Cmp.{eq_by_cmp_equiv, nat_cmp_total}
 use Rattle.std.specs.FinMap.{get, get-insert}
 use Rattle.std.specs.Ordering.{nat_cmp}
 use Rattle.std.specs.BTreeMap as tree
 use Rattle.lmtp_dialogue.specs.Receivers.{held_by}
 use Rattle.store_engine.specs.Hosts.{HasClients}
-use Rattle.store_engine.specs.World.{World, Clients, Next, OpensSession}
+use Rattle.store_engine.specs.Takings.{times}
+use Rattle.store_engine.specs.World.{World, Clients, Next, OpensSession, Runs}
 use Rattle.store_engine.specs.declared.answer.Answer.{Answer}
 use Rattle.store_engine.specs.declared.event.Event.{Event}
 use Rattle.store_engine.specs.declared.event.Event.TheVariants.{Open, Give, Step as StepOf, GiveUp, Close, Deliver, AddUser, Import, TakeOut, TakeMail, DoUpkeep}
@@ -73,9 +74,16 @@ still_grows w v more is = none_grows w.sessions v.sessions more (ap (λ (x : Wor
 before_is : (before mid after : Clients) (more : ℕ → ℕ) → mid ≡ before → Grows mid after more → Grows before after more
 before_is before mid after more is grows k = omega (arith, ap (λ (m : Clients). unread_of (get m k)) is, grows k)
 
+-- messages that leave a folder
+takings_grow : (n : ℕ) (user folder : List ℕ) (answer : Answer) (w v : World) → Runs w (times n (TakeMail user folder)) (times n answer) v → Grows w.sessions v.sessions (λ k. 0)
+takings_grow zero user folder answer w v run = still_grows w v (λ k. 0) run
+takings_grow (suc n) user folder answer w v run = λ k.
+    omega (arith, event_grows w run.0 (TakeMail user folder) answer run.1 k, takings_grow n user folder answer run.0 v run.2 k)
+
 moved_grows : (w v : World) (others : List Event) (m : Moving) → MovedAt others m w v → Grows w.sessions v.sessions (λ k. 0)
-moved_grows w v others (moving.Kept mail answer) led =
-    before_is w.sessions led.done.between.sessions v.sessions (λ k. 0) led.done.apart (event_grows led.done.between v (TakeMail mail.user mail.folder) answer led.done.ours)
+moved_grows w v others (moving.Kept batch answer) led =
+    before_is w.sessions led.done.between.sessions v.sessions (λ k. 0) led.done.apart (takings_grow (length batch.mails) batch.user batch.folder answer led.done.between v led.done.ours)
+moved_grows w v others moving.Went led = none_grows w.sessions v.sessions (λ k. 0) led.apart
 moved_grows w v others moving.Nothing led = none_grows w.sessions v.sessions (λ k. 0) led.apart
 moved_grows w v others moving.Passed led = none_grows w.sessions v.sessions (λ k. 0) led.apart
 moved_grows w v others (moving.Failed refusal) led = none_grows w.sessions v.sessions (λ k. 0) led.apart

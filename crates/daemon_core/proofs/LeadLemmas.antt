@@ -1,5 +1,5 @@
 -- What a move of the daemon makes of accounts and sessions.
-use Rattle.std.proofs.Common.{◌≡◌, ◌⊎◌, inl, inr, ℕ, ◌==◌, Bool, true, false, List, Option, Some, None, is_some, IfSome, refl, sym, ◌∙◌, ap, subst}
+use Rattle.std.proofs.Common.{◌≡◌, ◌⊎◌, inl, inr, ℕ, zero, suc, ◌==◌, Bool, true, false, List, [], ◌∷◌, length, Option, Some, None, is_some, IfSome, refl, sym, ◌∙◌, ap, subst}
 use Rattle.std.specs.FinMap.{get}
 use Rattle.managesieve_sessions.specs.Clients.{Client}
 use Rattle.sqlite_trees.specs.Tree.{Trees}
@@ -10,8 +10,9 @@ use Rattle.store_engine.specs.declared.answer.Answer.{Answer}
 use Rattle.store_engine.specs.declared.answer.Answer.TheVariants.{Refused}
 use Rattle.store_engine.specs.declared.clients.Clients.{Clients as CodeClients}
 use Rattle.store_engine.specs.declared.event.Event.{Event}
-use Rattle.store_engine.specs.declared.event.Event.TheVariants.{Open, Give, Close, TakeMail}
-use Rattle.maildir_files.specs.declared.kept.KeptMail.{KeptMail}
+use Rattle.store_engine.specs.declared.event.Event.TheVariants.{Open, Give, Close}
+use Rattle.store_accounts.specs.declared.refusal.Refusal.{Refusal}
+use Rattle.store_engine.specs.Takings.{times}
 use Rattle.lmtp_connections.specs.Connections.{LmtpStep}
 use Rattle.net_loop.specs.declared.act.Act.{Act}
 use Rattle.net_loop.specs.declared.act.Act.TheVariants.{Woke, Began, Timed, Late, Waits, Resumed, Worked, Came, NoneCame, Crowded, Displaced, Listened, InUse, Heard, ReadBlocked, Over, Sent, WriteBlocked, Lost, Noted, Full, Again, Shut, Dropped, Ended}
@@ -23,6 +24,8 @@ use Rattle.net_loop.specs.Turns.{TurnAllows, ServiceOpens as Enters, HeardOrLack
 use Rattle.net_loop.proofs.RoomLemmas.{claims_one}
 use Rattle.net_loop.specs.Talk.{client_of, client_kind}
 use Rattle.maildir_moves.specs.Enduring.{MayLeave, ShowsMade, ShowsTried, none_tried}
+use Rattle.maildir_moves.specs.Moving.{TriedMoving, takings_of}
+use Rattle.maildir_moves.specs.declared.batch.MailBatch.{MailBatch}
 use Rattle.maildir_moves.specs.declared.moving.Moving.{Moving}
 use Rattle.maildir_moves.specs.declared.moving.Moving.TheVariants as moving
 use Rattle.maildir_moves.proofs.EnduringLemmas.{left_alone, left_weaker}
@@ -34,7 +37,7 @@ use Rattle.daemon_core.specs.MailRules.{mail_rules, lmtp_connection_at, OpensBy,
 use Rattle.daemon_core.specs.Moves.{MovedAt, TriedAt}
 use Rattle.daemon_core.specs.ClientStates.{client_at, has_login}
 use Rattle.daemon_core.specs.Eviction.{is_flooded}
-use Rattle.daemon_core.specs.Tried.{TriesBy, TriesAt}
+use Rattle.daemon_core.specs.Tried.{AreRefusals, TriesBy, TriesAt}
 use Rattle.daemon_core.proofs.RoomLemmas.{no_user_goes}
 use Rattle.daemon_core.specs.declared.daemon.Daemon.{Daemon}
 use Rattle.daemon_core.specs.declared.mail.MailDaemon.{MailDaemon}
@@ -50,24 +53,33 @@ unauthenticated_of (Some c) is = by c.user is
     by None none = refl
     by (Some name) some = let never : true ≡ false = some in cc
 
--- what an act tried, as a crash may leave it: what the event makes of the world that it met
+-- what an act tried, as a crash may leave it: what the events make of the world that they met
 abbrev pub TriedBy : World → Note → World → Trees → Type 0
-TriedBy w note v trees = (event : Event) × (met : World) × TriesBy w note v event met × ShowsMade event met trees
+TriedBy w note v trees = (events : List Event) × (met : World) × TriesBy w note v events met × ShowsMade events met trees
 
 abbrev pub TriedHere : World → Act Note → World → Trees → Type 0
-TriedHere w act v trees = (event : Event) × (met : World) × TriesAt w act v event met × ShowsMade event met trees
+TriedHere w act v trees = (events : List Event) × (met : World) × TriesAt w act v events met × ShowsMade events met trees
 
-did_tried : (others : List Event) (event : Event) (answer : Answer) (w v : World) (done : DoneAt others event answer w v) (trees : Trees) → ShowsTried event answer done.between trees → TriedBy w (Did others event answer) v trees
-did_tried others event (Refused refusal) w v done trees made = (event, done.between, (refl, record { done = done; met_is = refl; refused = tt }), made)
+did_tried : (others : List Event) (event : Event) (answer : Answer) (w v : World) (done : DoneAt others event answer w v) (trees : Trees) → ShowsTried (event ∷ []) answer done.between trees → TriedBy w (Did others event answer) v trees
+did_tried others event (Refused refusal) w v done trees made = (event ∷ [], done.between, (refl, record { done = done; met_is = refl; refused = tt }), made)
 did_tried others event _ w v done trees none = absurd none
 
-taking_tried : (others : List Event) (mail : KeptMail) (answer : Answer) (w v : World) (moved : MovedAt others (moving.Kept mail answer) w v) (trees : Trees)
-    → ShowsTried (TakeMail mail.user mail.folder) answer moved.done.between trees → TriedBy w (Moved others (moving.Kept mail answer)) v trees
-taking_tried others mail (Refused refusal) w v moved trees made = (TakeMail mail.user mail.folder, moved.done.between, (refl, record { done = moved.done; met_is = refl; refused = tt }), made)
-taking_tried others mail _ w v moved trees none = absurd none
+are_refusals : (n : ℕ) (refusal : Refusal) → AreRefusals (times n (Refused refusal))
+are_refusals zero refusal = tt
+are_refusals (suc n) refusal = (tt, are_refusals n refusal)
+
+taking_tried : (others : List Event) (batch : MailBatch) (answer : Answer) (w v : World) (moved : MovedAt others (moving.Kept batch answer) w v) (trees : Trees)
+    → TriedMoving (moving.Kept batch answer) moved.done.between trees → TriedBy w (Moved others (moving.Kept batch answer)) v trees
+taking_tried others batch (Refused refusal) w v moved trees tried = (
+  takings_of batch tried.0,
+  moved.done.between,
+  (tried.0, tried.1, refl, record { done = moved.done; met_is = refl; refused = are_refusals (length batch.mails) refusal }),
+  tried.2,
+)
+taking_tried others batch _ w v moved trees tried = absurd tried.2
 
 moved_tried : (others : List Event) (m : Moving) (w v : World) (moved : MovedAt others m w v) (trees : Trees) → TriedAt others m w v moved trees → TriedBy w (Moved others m) v trees
-moved_tried others (moving.Kept mail answer) w v moved trees tried = taking_tried others mail answer w v moved trees tried
+moved_tried others (moving.Kept batch answer) w v moved trees tried = taking_tried others batch answer w v moved trees tried
 moved_tried others _ w v moved trees none = absurd none
 
 module _ {R : Type 0} (view : View R) (d e : MailDaemon) (r q : R) where
@@ -135,7 +147,7 @@ module _ {R : Type 0} (view : View R) (d e : MailDaemon) (r q : R) where
   done_so : (others : List Event) (event : Event) (answer : Answer) (w : World) → IsWorld view r d.daemon.clients.sessions w → IsEventDone view others event answer r d.daemon.clients.sessions q e.daemon.clients.sessions → LedBy w (Did others event answer)
   done_so others event answer w is done =
       let it = done w is in
-      (it.0, it.1, record { is = it.2.is; left = left_weaker (view.leaves r) (view.leaves q) w.accounts it.0.accounts (ShowsTried event answer it.1.between) (TriedBy w (Did others event answer) it.0) (did_tried others event answer w it.0 it.1) it.2.left })
+      (it.0, it.1, record { is = it.2.is; left = left_weaker (view.leaves r) (view.leaves q) w.accounts it.0.accounts (ShowsTried (event ∷ []) answer it.1.between) (TriedBy w (Did others event answer) it.0) (did_tried others event answer w it.0 it.1) it.2.left })
 
   -- what is done for a client of ManageSieve
   noted : (note : Note) (w : World) → IsWorld view r d.daemon.clients.sessions w → NoteMakes view r d.daemon note q e.daemon → LedBy w note

@@ -100,16 +100,16 @@ module _ {O R : Type 0} (told : Telling O Note R) (store : StoreFacts O R) (sure
   pub answer_delivery : (request : DeliveryRequest) (answer : Answer) (became : RecipientReply) → DeliversMessage told store id request (access_state o d.clients.sessions) (Some answer) (access_state p c.sessions) → IsDeliveryReply request.sender answer became
       → ConnectionDoes now (Brought request became) said before after → (h : Holding) → h ≡ asked_at now d.holding → One (record d { clients = c; holding = h })
   answer_delivery request answer became delivers is does h had = λ tell. (
-    note.Did delivers.1.0 (delivery_of request (terms delivers.0 (store.host o))) answer,
-    delivers.1.2 tell,
-    record { lmtp_step = Brought request became; is = (request, terms delivers.0 (store.host o), became, refl, is, refl); does = does; spare = λ size. other_step room size (Brought request became) refl; held = less; stores = delivers.1.1 (sure p tell); states = refl; holding = had },
+    note.Did delivers.2.0 (delivery_of request (terms delivers.0 (store.host o))) answer,
+    delivers.2.2 tell,
+    record { lmtp_step = Brought request became; is = (request, terms delivers.0 (store.host o), became, refl, is, refl); does = does; spare = λ size. other_step room size (Brought request became) refl; held = less; stores = delivers.2.1 (sure p tell); states = refl; holding = had },
   )
 
   pub unbrought : (request : DeliveryRequest) → DeliversMessage told store id request (access_state o d.clients.sessions) None (access_state p c.sessions) → ConnectionDoes now Away said before after → One (record d { clients = c })
   unbrought request delivers does = λ tell. (
     note.Away,
-    delivers.1.1 tell,
-    record { lmtp_step = Away; is = refl; does = does; spare = λ size. other_step room size Away refl; held = less; stores = delivers.1.0 (sure p tell); states = refl; holding = refl },
+    delivers.2.1 tell,
+    record { lmtp_step = Away; is = refl; does = does; spare = λ size. other_step room size Away refl; held = less; stores = delivers.2.0 (sure p tell); states = refl; holding = refl },
   )
 
 -- one step of a connection that is as it was

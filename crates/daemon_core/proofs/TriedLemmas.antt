@@ -2,11 +2,10 @@
 use Rattle.std.proofs.Common.{◌≡◌, ◌⊎◌, ℕ, ◌==◌, Bool, true, false, List, [], ◌∷◌, ◌++◌, refl, sym, ◌∙◌, ap, subst, inl, inr}
 use Rattle.sqlite_trees.specs.Tree.{Trees}
 use Rattle.store_accounts.specs.Shows.{ShowsIn}
-use Rattle.store_engine.specs.World.{World}
+use Rattle.store_engine.specs.World.{World, Runs}
 use Rattle.store_engine.specs.declared.answer.Answer.{Answer}
 use Rattle.store_engine.specs.declared.answer.Answer.TheVariants.{Refused}
 use Rattle.store_engine.specs.declared.event.Event.{Event}
-use Rattle.store_engine.specs.declared.event.Event.TheVariants.{TakeMail}
 use Rattle.maildir_moves.specs.Enduring.{MayLeave}
 use Rattle.maildir_moves.specs.declared.moving.Moving.TheVariants as moving
 use Rattle.maildir_moves.proofs.RefusedLemmas.{refused_same}
@@ -14,7 +13,8 @@ use Rattle.net_loop.specs.declared.act.Act.{Act}
 use Rattle.net_loop.specs.declared.act.Act.TheVariants.{Displaced, Came, Heard, Noted, Worked, Full, Ended}
 use Rattle.daemon_core.specs.Acts.{LacksThen, IsMadeOr, IsHeardOr, LeadsIn, ActLeads, RestsOn}
 use Rattle.daemon_core.specs.DaemonRules.{lmtp}
-use Rattle.daemon_core.specs.Tried.{RefusedAt, TriesBy, TriesAt, TriedIn, LeavesTried, IsLeftByCrash}
+use Rattle.daemon_core.specs.Moves.{answers_by, takes_by}
+use Rattle.daemon_core.specs.Tried.{AreRefusals, RefusedAt, AllRefusedAt, TriesBy, TriesAt, TriedIn, LeavesTried, IsLeftByCrash}
 use Rattle.daemon_core.specs.declared.note.Note.{Note}
 use Rattle.daemon_core.specs.declared.note.Note.TheVariants.{Did, Away, Freed, Spoke, Answered, Asked, Looked, Moved}
 use Rattle.daemon_core.proofs.LeadLemmas.{TriedHere}
@@ -54,7 +54,7 @@ tried_behind : (w mid : World) (act : Act Note) (acts : List (Act Note)) (end : 
 tried_behind w mid act acts end trees led left =
     let t = left.tried in
     record {
-      event = left.event;
+      events = left.events;
       met = left.met;
       tried = record {
         some = act ∷ t.some;
@@ -74,7 +74,7 @@ tried_behind w mid act acts end trees led left =
 tried_now : (w mid : World) (act : Act Note) (acts : List (Act Note)) (end : World) (trees : Trees) → TriedHere w act mid trees → RestsOn mid acts end → LeavesTried w (act ∷ acts) end trees
 tried_now w mid act acts end trees tried rests =
     record {
-      event = tried.0;
+      events = tried.0;
       met = tried.1;
       tried = record { some = []; act = act; rest = acts; front = refl; before = w; leads = refl; after = mid; tries = tried.2; rests = rests };
       made = tried.3;
@@ -85,9 +85,21 @@ pub refused_stays : (others : List Event) (event : Event) (answer : Answer) (w m
 refused_stays others event (Refused refusal) w met next at = refused_same at.done.between next event refusal at.done.ours ∙ ap (λ (x : World). x.accounts) (sym at.met_is)
 refused_stays others event _ w met next at = absurd at.refused
 
-tries_stays : (w : World) (note : Note) (next : World) (event : Event) (met : World) → TriesBy w note next event met → next.accounts ≡ met.accounts
+-- nor do several
+runs_refused : (events : List Event) (answers : List Answer) (w v : World) → Runs w events answers v → AreRefusals answers → v.accounts ≡ w.accounts
+runs_refused [] [] w v run refused = ap (λ (x : World). x.accounts) run
+runs_refused (event ∷ events) (Refused refusal ∷ answers) w v run refused = runs_refused events answers run.0 v run.2 refused.1 ∙ refused_same w run.0 event refusal run.1
+runs_refused (event ∷ events) (_ ∷ answers) w v run refused = absurd refused.0
+runs_refused [] (answer ∷ answers) w v run refused = absurd run
+runs_refused (event ∷ events) [] w v run refused = absurd run
+
+all_refused_stay : (others events : List Event) (answers : List Answer) (w met next : World) → AllRefusedAt others events answers w met next → next.accounts ≡ met.accounts
+all_refused_stay others events answers w met next at = runs_refused events answers at.done.between next at.done.ours at.refused ∙ ap (λ (x : World). x.accounts) (sym at.met_is)
+
+tries_stays : (w : World) (note : Note) (next : World) (events : List Event) (met : World) → TriesBy w note next events met → next.accounts ≡ met.accounts
 tries_stays w (Did others event answer) next tried met tries = refused_stays others event answer w met next tries.1
-tries_stays w (Moved others (moving.Kept mail answer)) next tried met tries = refused_stays others (TakeMail mail.user mail.folder) answer w met next tries.1
+tries_stays w (Moved others (moving.Kept batch answer)) next tried met tries = all_refused_stay others (takes_by batch) (answers_by batch answer) w met next tries.3
+tries_stays w (Moved others moving.Went) next tried met tries = absurd tries
 tries_stays w (Moved others moving.Nothing) next tried met tries = absurd tries
 tries_stays w (Moved others moving.Passed) next tried met tries = absurd tries
 tries_stays w (Moved others (moving.Failed refusal)) next tried met tries = absurd tries
@@ -99,10 +111,10 @@ tries_stays w Answered next tried met tries = absurd tries
 tries_stays w (Asked others user lookup) next tried met tries = absurd tries
 tries_stays w (Looked wanted) next tried met tries = absurd tries
 
-act_stays : (w : World) (act : Act Note) (next : World) (event : Event) (met : World) → TriesAt w act next event met → next.accounts ≡ met.accounts
-act_stays w (Noted id note) next event met tries = tries_stays w note next event met tries
-act_stays w (Worked note) next event met tries = tries_stays w note next event met tries
-act_stays w _ next event met tries = absurd tries
+act_stays : (w : World) (act : Act Note) (next : World) (events : List Event) (met : World) → TriesAt w act next events met → next.accounts ≡ met.accounts
+act_stays w (Noted id note) next events met tries = tries_stays w note next events met tries
+act_stays w (Worked note) next events met tries = tries_stays w note next events met tries
+act_stays w _ next events met tries = absurd tries
 
 -- ---- what is left behind acts
 
@@ -117,9 +129,9 @@ rests_same : (w : World) (acts : List (Act Note)) (v : World) → RestsOn w acts
 rests_same w [] v rests = ap (λ (x : World). x.accounts) rests
 rests_same w (act ∷ acts) v rests = rests_same rests.0 acts v rests.3 ∙ rests.2
 
--- an event that was tried met the accounts that are there at the end
-pub tried_same : (start : World) (acts : List (Act Note)) (end : World) (event : Event) (met : World) → TriedIn start acts end event met → end.accounts ≡ met.accounts
-tried_same start acts end event met tried = rests_same tried.after tried.rest end tried.rests ∙ act_stays tried.before tried.act tried.after event met tried.tries
+-- events that were tried met the accounts that are there at the end
+pub tried_same : (start : World) (acts : List (Act Note)) (end : World) (events : List Event) (met : World) → TriedIn start acts end events met → end.accounts ≡ met.accounts
+tried_same start acts end events met tried = rests_same tried.after tried.rest end tried.rests ∙ act_stays tried.before tried.act tried.after events met tried.tries
 
 pub left_on : (a b c : Trees → Type 0) (w mid v : World) (act : Act Note) (acts : List (Act Note)) → ActLeads w act acts mid → MayLeave a w.accounts b mid.accounts (TriedHere w act mid) → LeavesOn b mid acts c v
     → LeavesOn a w (act ∷ acts) c v

@@ -10,7 +10,7 @@ use Rattle.store_engine.specs.declared.event.Event.TheVariants.{Open, Give, Step
 use Rattle.net_loop.specs.Rules.{Rules}
 use Rattle.net_loop.specs.Talk.{is_same_id}
 use Rattle.daemon_core.specs.StoreAccess.{View, ViewStillShows, IsEventDone, NothingDone}
-use Rattle.maildir_moves.specs.Moving.{span_behind}
+use Rattle.maildir_moves.specs.Moving.{pause_behind}
 use Rattle.daemon_core.specs.Holds.{asked_at, holding_behind, has_work, is_move_due, is_rested, holding_looked, holding_moved, patience_by}
 use Rattle.daemon_core.specs.Moves.{IsMessageMoved}
 use Rattle.daemon_core.specs.Eviction.{unauthenticated_claim}
@@ -145,7 +145,7 @@ abbrev pub WorksBy : {R : Type 0} → View R → Daemon → R → ℕ → Note �
 WorksBy view d r now (Looked wanted) after h q =
     ViewStillShows view r q × (after ≡ d.clients.sessions) × (h ≡ holding_looked d.holding now (is_rested d.holding now) (is_rested d.holding now || wanted))
 WorksBy view d r now (Moved others moving) after h q =
-    (is_move_due d.holding now ≡ true) × IsMessageMoved view others moving r d.clients.sessions q after × (h ≡ holding_moved d.holding now (Some (span_behind moving)))
+    (is_move_due d.holding now ≡ true) × IsMessageMoved view others moving r d.clients.sessions q after × (h ≡ holding_moved d.holding now (Some (pause_behind moving)))
 WorksBy view d r now Away after h q = (is_move_due d.holding now ≡ true) × NothingDone view r d.clients.sessions q after × (h ≡ holding_moved d.holding now None)
 WorksBy view d r now _ after h q = ⊥
 

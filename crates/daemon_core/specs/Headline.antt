@@ -47,9 +47,9 @@ pub record HoldsAfter (names : Names) (host : List ℕ) (w : World) (now : ℕ) 
   pub mail : (id : ℕ) → (o : Option MailLine) × TellsOn names host id now None acts o × IfSome o (λ l. IsPrefixOf l.sent l.spelled)
 
 -- from these accounts and no connection on, at each prefix of the acts, and at the end with the accounts that the store shows then and the
--- daemon's sessions. A crash at the end, while the store is held and no fault of the disk has shut it, leaves these accounts, or what one
--- event makes of them that was refused since they last changed, at the very world that it met (`IsLeftByCrash`). So what was acknowledged stays,
--- but for what that event makes of it, and nothing is half there
+-- daemon's sessions. A crash at the end, while the store is held and no fault of the disk has shut it, leaves these accounts, or what the
+-- events of one act make of them that were refused since they last changed, at the very world that they met (`IsLeftByCrash`). So what was
+-- acknowledged stays, but for what these events make of it, and nothing is half there
 pub record Headline {R : Type 0} (view : View R) (names : Names) (host : List ℕ) (start : Accounts) (now : ℕ) (acts : List (Act Note)) (r : R) (d : MailDaemon) : Type 0 where
   pub each_moment : (some rest : List (Act Note)) → some ++ rest ≡ acts → (v : World) × HoldsAfter names host (world_of start) now some v
   pub end : World

@@ -5,6 +5,7 @@ use Rattle.lmtp_dialogue.specs.declared.receiver.Lookup.TheVariants.{Known, Unkn
 use Rattle.std.specs.FinMap.{get}
 use Rattle.sqlite_trees.specs.Tree.{Trees}
 use Rattle.store_accounts.specs.Account.{Accounts, known_one}
+use Rattle.mail_dates.specs.HostZones.{IsOffsetAt}
 use Rattle.sieve_exec.specs.declared.when.When.{When}
 use Rattle.sqlite.specs.State.{State, HasCleanDisk}
 use Rattle.store_engine.specs.Hosts.{SessionMap, HasClients, KeepsClients}
@@ -17,6 +18,7 @@ use Rattle.store_engine.specs.declared.event.Event.{Event}
 use Rattle.store_engine.specs.declared.event.Event.TheVariants.{Open, Give, Step, GiveUp, Close, Deliver}
 use Rattle.maildir_files.specs.declared.kept.KeptMail.{KeptMail}
 use Rattle.maildir_moves.specs.Enduring.{Endures, MayLeave, ShowsTried, none_tried}
+use Rattle.maildir_moves.specs.declared.moving.Moving.{Moving}
 use Rattle.managesieve_sessions.specs.Acts.{HasAccounts}
 use Rattle.lmtp_connections.specs.declared.demand.DeliveryRequest.{DeliveryRequest}
 use Rattle.net_loop.specs.declared.act.Act.TheVariants.{Noted, Worked}
@@ -39,6 +41,12 @@ pub record StoreFacts (O R : Type 0) : Type 1 where
   pub host : O → HostSettings
   -- which messages the sink has, if mail moves on; of one that doesn't tell them this may be any
   pub has : R → List KeptMail → Type 0
+  -- the sink was at the place of the user's folder as each message was put that moved on
+  pub there : R → Moving → Type 0
+  -- it is held, so that no other process can change it
+  pub had : R → Type 0
+  -- the clock gives this moment, in seconds since 1970, the next time that it is read
+  pub gave : O → ℕ → Type 0
 
 -- an outside that accesses a store, and the sessions of its clients
 pub record AccessState (O : Type 0) : Type 0 where
@@ -76,6 +84,15 @@ pub record DoneAt (others : List Event) (event : Event) (answer : Answer) (w nex
   pub apart : between.sessions ≡ w.sessions
   pub ours : Next between event answer next
 
+-- the same of events that are one act, each with its answer
+pub record AllDoneAt (others events : List Event) (answers : List Answer) (w next : World) : Type 0 where
+  pub strangers : AreOthers w.sessions others
+  pub told : List Answer
+  pub between : World
+  pub theirs : Runs w others told between
+  pub apart : between.sessions ≡ w.sessions
+  pub ours : Runs between events answers next
+
 -- the store shows the accounts of a world, and the sessions are its own
 pub record IsWorld {R : Type 0} (view : View R) (r : R) (kept : SessionMap) (w : World) : Type 0 where
   pub shown : view.shows r w.accounts
@@ -92,12 +109,16 @@ pub record ComesTo {R : Type 0} (view : View R) (r : R) (w : World) (Tried : Tre
 abbrev pub IsEventDone : {R : Type 0} → View R → List Event → Event → Answer → R → SessionMap → R → SessionMap → Type 0
 IsEventDone view others event answer r before q after =
     (w : World) → IsWorld view r before w
-    → (next : World) × (done : DoneAt others event answer w next) × ComesTo view r w (ShowsTried event answer done.between) q after next
+    → (next : World) × (done : DoneAt others event answer w next) × ComesTo view r w (ShowsTried (event ∷ []) answer done.between) q after next
 
 -- all accounts and sessions that there were are still there
 pub record NothingDone {R : Type 0} (view : View R) (r : R) (before : SessionMap) (q : R) (after : SessionMap) : Type 0 where
   pub shown : ViewStillShows view r q
   pub kept : KeepsClients before after
+
+-- others' events came before it only where the store wasn't held
+abbrev pub NoneWhileHad : {O R : Type 0} → Telling O Note R → StoreFacts O R → AccessState O → List Event → Type 0
+NoneWhileHad told store before others = store.had (told.rest before.outside) → others ≡ []
 
 -- an event was done and answered, or the store wasn't available and nothing was; if something is told, it is that
 abbrev pub AppliesEvent : {O R : Type 0} → Telling O Note R → StoreFacts O R → ℕ → Event → AccessState O → Option Answer → AccessState O → Type 0
@@ -106,6 +127,7 @@ AppliesEvent told store id event before (Some answer) after =
     × (store.clean (told.rest after.outside)
     → IsEventDone store.view others event answer (told.rest before.outside) before.sessions (told.rest after.outside) after.sessions)
     × TellsIf told before.outside (Noted id (Did others event answer)) after.outside
+    × NoneWhileHad told store before others
 AppliesEvent told store id event before None after =
     (store.clean (told.rest after.outside) → NothingDone store.view (told.rest before.outside) before.sessions (told.rest after.outside) after.sessions)
     × TellsIf told before.outside (Noted id Away) after.outside
@@ -150,6 +172,7 @@ FindsAccount told store id user before (Some lookup) after =
     × (store.clean (told.rest after.outside)
     → IsAccountAsked store.view others user lookup (told.rest before.outside) before.sessions (told.rest after.outside) after.sessions)
     × TellsIf told before.outside (Noted id (Asked others user lookup)) after.outside
+    × NoneWhileHad told store before others
 FindsAccount told store id user before None after =
     (store.clean (told.rest after.outside) → NothingDone store.view (told.rest before.outside) before.sessions (told.rest after.outside) after.sessions)
     × TellsIf told before.outside (Noted id Away) after.outside
@@ -158,7 +181,11 @@ FindsAccount told store id user before None after =
 abbrev pub delivery_of : DeliveryRequest → Terms → Event
 delivery_of request terms = Deliver request.user (record { from = request.sender; to = request.recipient }) request.message terms
 
--- the same as `AppliesEvent`, at a moment and in a zone that the call has read, under what the store's host says
+-- at the moment that the clock gives in a call, in the zone that the host says
+abbrev pub IsNow : {O R : Type 0} → StoreFacts O R → O → When → Type 0
+IsNow store before when = store.gave before when.moment × IsOffsetAt (store.host before).zone when.moment when.zone
+
+-- the same as `AppliesEvent`, at such a moment, under what the store's host says
 abbrev pub DeliversMessage : {O R : Type 0} → Telling O Note R → StoreFacts O R → ℕ → DeliveryRequest → AccessState O → Option Answer → AccessState O → Type 0
 DeliversMessage told store id request before answer after =
-    (when : When) × AppliesEvent told store id (delivery_of request (terms when (store.host before.outside))) before answer after
+    (when : When) × IsNow store before.outside when × AppliesEvent told store id (delivery_of request (terms when (store.host before.outside))) before answer after

@@ -7,6 +7,7 @@ ghost use Rattle.daemon_core.specs.Holds as rules;
 
 use crate::daemon::{Daemon, Holding};
 use crate::store_access::StoreAccess;
+use maildir_moves::MovePause;
 
 /// How many milliseconds pass from one look whether somebody waits for the store to the next.
 const LOOK_SPAN: u64 = 20;
@@ -14,11 +15,12 @@ const LOOK_SPAN: u64 = 20;
 /// After how many milliseconds without an event that asked it the store is given back.
 const MAX_REST: u64 = 10000;
 
-/// How many milliseconds without an event that asked it are a rest in which a message moves on.
-const QUIET_SPAN: u64 = 20;
+/// How many milliseconds without an event that asked it, from the look behind the last one, are a rest in which messages move on. Whoever
+/// sends one message behind the other sends the next one sooner.
+const LULL_SPAN: u64 = 2;
 
-/// After how many events that asked the store a message moves on, even if there are more of them.
-const MAX_EVENTS: u64 = 10;
+/// After how many events that asked the store a batch of messages moves on, even if there are more of them.
+pub(crate) const MAX_EVENTS: u64 = 10;
 
 /// How many milliseconds later it is looked for mail again, if somebody waited for the store, or it wasn't available.
 const AGAIN_SPAN: u64 = 50;
@@ -56,9 +58,16 @@ fn is_looked(holding: &Holding) -> bool {
 fn is_turn(holding: &Holding, now: u64) -> bool
     ensures { result ≡ rules.is_turn holding.now now }
 {
-    holding.events == 0
-        || MAX_EVENTS <= holding.events
-        || holding.asked.wrapping_add(QUIET_SPAN) <= now
+    holding.events == 0 || MAX_EVENTS <= holding.events || is_lull(holding, now)
+}
+
+/// Whether the store isn't held, or nobody asked it for a while since it was looked, behind the last event, whether somebody waits.
+fn is_lull(holding: &Holding, now: u64) -> bool
+    ensures { result ≡ rules.is_lull holding.now now }
+{
+    !holding.is_held
+        || (holding.asked < holding.look
+            && holding.look.wrapping_add(LULL_SPAN) <= now.wrapping_add(LOOK_SPAN))
 }
 
 /// Does something by itself.
@@ -115,30 +124,37 @@ fn span_behind(rests: bool) -> u64
     if rests { LONG_SPAN } else { AGAIN_SPAN }
 }
 
-/// Has a message move on.
+/// How many events are counted behind a step of a move: as many as let the next step of its batch follow, whatever comes between.
+fn events_behind(goes_on: bool) -> u64
+    ensures { result ≡ rules.events_behind goes_on }
+{
+    if goes_on { MAX_EVENTS } else { 0 }
+}
+
+/// Has messages move on, by one step.
 fn move_next<O: StoreAccess>(daemon: &mut Daemon, outside: &mut O, now: u64)
     requires { rules.is_move_due daemon.old.holding now ≡ true }
     ensures kept { ToldBefore O.told outside.old outside.new }
     ensures works { WorksIf O.told (daemon_rules O.store.view) (machine_state outside.old daemon.old) now (machine_state outside.new daemon.new) }
 {
     let fresh = daemon.holding.events != 0;
-    let span = outside.move_next(&mut daemon.clients, now, fresh);
-    daemon.holding = moved(daemon.holding, now, span);
+    let pause = outside.move_next(&mut daemon.clients, now, fresh);
+    daemon.holding = moved(daemon.holding, now, pause);
 }
 
 /// What is known of the store after a message was to move on: for how long none is to; none if the store wasn't available.
-fn moved(holding: Holding, now: u64, span: Option<u64>) -> Holding
-    ensures { result ≡ rules.holding_moved holding now span }
+fn moved(holding: Holding, now: u64, pause: Option<MovePause>) -> Holding
+    ensures { result ≡ rules.holding_moved holding now pause }
 {
-    match span {
-        Some(span) => Holding {
+    match pause {
+        Some(pause) => Holding {
             is_held: true,
             look: now,
             asked: now,
             moves: holding.moves,
-            next: now.wrapping_add(span),
+            next: now.wrapping_add(pause.span),
             soon: false,
-            events: 0,
+            events: events_behind(pause.goes_on),
         },
         None => Holding {
             is_held: holding.is_held,

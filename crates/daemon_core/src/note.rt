@@ -37,7 +37,7 @@ pub enum Note {
     },
     /// It was looked whether somebody waits for the store, and whether somebody does.
     Looked(bool),
-    /// A message was to move on, and this became of it.
+    /// Messages were to move on, by one step, and this became of them.
     Moved {
         /// As of [`Note::Did`].
         others: List<Event>,

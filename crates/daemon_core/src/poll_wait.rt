@@ -6,6 +6,7 @@ ghost use Rattle.daemon_core.specs.MailRules as mail;
 
 use crate::client_state::SessionWait;
 use crate::daemon::{Daemon, Holding};
+use crate::look::MAX_EVENTS;
 use crate::mail::MailDaemon;
 use lmtp_connections::Wanted;
 
@@ -14,6 +15,9 @@ const WHILE_AWAY: u32 = 5;
 
 /// The same while the daemon holds the store.
 const WHILE_HAD: u32 = 20;
+
+/// The same if mail came that is to move once it is quiet.
+const WHILE_LULL: u32 = 2;
 
 /// The same while something is kept back.
 const WHILE_KEPT: u32 = 100;
@@ -65,7 +69,18 @@ fn patience_by_store(holding: &Holding) -> u32
     if is_moving(holding) {
         return 0;
     }
-    WHILE_HAD
+    while_had(holding)
+}
+
+/// The same if the store is held.
+fn while_had(holding: &Holding) -> u32
+    ensures { result ≡ holds.patience_had holding.now }
+{
+    if holding.moves && holding.events != 0 {
+        WHILE_LULL
+    } else {
+        WHILE_HAD
+    }
 }
 
 /// The same if the store isn't held.
@@ -79,11 +94,13 @@ fn while_away(holding: &Holding) -> u32
     }
 }
 
-/// Whether the next message is to move at once, unless an event comes before.
+/// Whether the next message is to move at once, unless an event comes before; or the next step of a batch, whatever comes.
 fn is_moving(holding: &Holding) -> bool
     ensures { result ≡ holds.is_moving holding.now }
 {
-    holding.moves && holding.events == 0 && holding.next <= holding.asked
+    holding.moves
+        && (holding.events == 0 || MAX_EVENTS <= holding.events)
+        && holding.next <= holding.asked
 }
 
 fn least(span: u32, other: u32) -> u32

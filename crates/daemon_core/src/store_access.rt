@@ -11,6 +11,7 @@ ghost use Rattle.daemon_core.specs.StoreAccess.{StoreFacts, access_state, Applie
 use crate::note::Note;
 use lmtp_connections::DeliveryRequest;
 use lmtp_dialogue::Lookup;
+use maildir_moves::MovePause;
 use net_loop::outside::Outside;
 use store_engine::{Answer, Clients, Event};
 
@@ -63,10 +64,10 @@ pub trait StoreAccess: Outside<Note = Note> {
         ensures told { TellsIf Self.told self.old (Noted id Spoke) self.new }
         ensures shown { StillShowsIf Self.told store.view self.old self.new };
 
-    /// Has the first message of a folder move on, whichever folder that is: the sink keeps it, and then it is taken out of the store,
-    /// which is held all the while. `fresh`, if events asked the store since the last call. Returns for how many milliseconds no other
-    /// message is to move; none if the store isn't available now.
-    fn move_next(&mut self, clients: &mut Clients, now: u64, fresh: bool) -> Option<u64>
+    /// Has the first messages of a folder move on by one step, whichever folder that is: they are read, the sink keeps them one after the
+    /// other, and then they are taken out of the store together. `fresh`, if events asked the store since the last call. Returns when the
+    /// next step is to be; none if the store isn't available now.
+    fn move_next(&mut self, clients: &mut Clients, now: u64, fresh: bool) -> Option<MovePause>
         ensures kept { ToldBefore Self.told self.old self.new }
         ensures moves { MovesNextMessage Self.told store (access_state self.old clients.old.sessions) result (access_state self.new clients.new.sessions) };
 

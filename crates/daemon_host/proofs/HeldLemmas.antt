@@ -1,5 +1,6 @@
 -- What a store shows that is had now and then, from one call to the next.
-use Rattle.std.proofs.Common.{◌≡◌, ℕ, Bool, false, List, [], ◌∷◌, ◌++◌, Option, Some, None, Result, IsTrue, IfSome, refl, sym, ◌∙◌, ap, subst, inl, inr}
+use Rattle.std.proofs.Common.{◌≡◌, ℕ, Bool, true, false, List, [], ◌∷◌, ◌++◌, All, Contains, Option, Some, None, Result, IsTrue, IfSome, refl, sym, ◌∙◌, ap, subst, inl, inr}
+use Rattle.std.proofs.lemmas.List.Elements.{All-contains_itself, Contains-append_right}
 use Rattle.sqlite_trees.specs.declared.store.Store.{Ghosts}
 use Rattle.sqlite.specs.Effect.{Database}
 use Rattle.sqlite.specs.Held.{Held, state}
@@ -26,15 +27,17 @@ use Rattle.store_engine.specs.declared.answer.Answer.TheVariants.{Delivered}
 use Rattle.store_engine.proofs.HostLemmas.{account_crash, account_event, delivery_may}
 use Rattle.store_engine.specs.declared.answer.Answer.{Answer}
 use Rattle.store_engine.specs.declared.event.Event.{Event}
+use Rattle.store_lock.specs.Laws.{never_told}
 use Rattle.maildir_files.specs.declared.kept.KeptMail.{KeptMail}
-use Rattle.maildir_moves.specs.Moving.{KeepsIt, MovesMessage, TriedMoving}
+use Rattle.maildir_moves.specs.Moving.{LeftAmong, MovesMessage, TriedMoving, kept_mails}
+use Rattle.maildir_moves.specs.Relying.{Grows}
 use Rattle.maildir_moves.specs.declared.moving.Moving.{Moving}
 use Rattle.maildir_moves.specs.declared.moving.Moving.TheVariants as moving
 use Rattle.daemon_core.specs.Moves.{HasKept, IsMessageMoved}
 use Rattle.daemon_core.proofs.MoveLemmas.{let_none, moved_then}
 use Rattle.daemon_core.proofs.StillLemmas.{still_then}
 use Rattle.daemon_core.specs.StoreAccess.{View, ViewStillShows, IsEventDone, IsAccountAsked, IsFoundIn, NothingDone, delivery_of}
-use Rattle.daemon_host.specs.Held.{SinkHasMail, ShowsBy, LeavesBy}
+use Rattle.daemon_host.specs.Held.{IsThereBy, MailIsThere, RouteRelies, SinkHasMail, ShowsBy, LeavesBy}
 use Rattle.store_engine.specs.declared.terms.Terms.{Terms}
 use Rattle.daemon_host.specs.declared.host_store.HostStore.{HostStore}
 
@@ -105,7 +108,7 @@ pub done_behind : {R : Type 0} (view : View R) (r m q : R) (event : Event) (answ
 done_behind view r m q event answer before after still done = λ w at.
     let here = still w.accounts at.shown in
     let it = done w (record { shown = here.0; sessions = at.sessions }) in
-    (it.0, it.1, record { is = it.2.is; left = left_then (view.leaves r) (view.leaves m) (view.leaves q) w.accounts w.accounts it.0.accounts (ShowsTried event answer it.1.between) here.1 it.2.left })
+    (it.0, it.1, record { is = it.2.is; left = left_then (view.leaves r) (view.leaves m) (view.leaves q) w.accounts w.accounts it.0.accounts (ShowsTried (event ∷ []) answer it.1.between) here.1 it.2.left })
 
 -- nothing was done behind such a call
 pub nothing_behind : {R : Type 0} (view : View R) (r m q : R) (before after : SessionMap) → ViewStillShows view r m → NothingDone view m before q after → NothingDone view r before q after
@@ -162,30 +165,60 @@ delivered_crash request terms user message envelope old new kept r is_user is_en
     account_crash (delivery_of request terms) (λ accounts. Delivery accounts request.user own request.message terms) (MayRefuseDelivery own request.message terms.when.moment) (λ w answer next done. done)
     (delivery_may request.user request.message own terms) old new kept r (answer_by Delivered r) (delivery_acts request terms user message envelope old new r is_user is_envelope is_message acts)
 
--- what a sink keeps, as the daemon sees it
-pub has_kept : {K S T : Type 0} (tells : Bool) (kept : T → List KeptMail) (r q : HostStore K T S) (m : Moving) → KeepsIt tells (kept r.sink) (kept q.sink) m → HasKept (SinkHasMail tells kept) m r q
-has_kept tells kept r q (moving.Kept mail answer) keeps = λ mails had told. keeps told ∙ ap (λ l. l ++ mail ∷ []) (had told)
-has_kept tells kept r q moving.Nothing keeps = tt
-has_kept tells kept r q moving.Passed keeps = tt
-has_kept tells kept r q (moving.Failed refusal) keeps = tt
-has_kept tells kept r q (moving.Stays stay) keeps = tt
+-- ---- what a sink keeps, as the daemon sees it
 
--- the same behind calls that leave the sink as it is
-pub kept_behind : {K S T : Type 0} (tells : Bool) (kept : T → List KeptMail) (r a b q : HostStore K T S) (m : Moving) → a.sink ≡ r.sink → q ≡ b → HasKept (SinkHasMail tells kept) m a b → HasKept (SinkHasMail tells kept) m r q
-kept_behind tells kept r a b q (moving.Kept mail answer) same then has = λ mails had.
-    subst (λ held. SinkHasMail tells kept held (mails ++ mail ∷ [])) (sym then) (has mails (λ told. ap kept same ∙ had told))
-kept_behind tells kept r a b q moving.Nothing same then has = tt
-kept_behind tells kept r a b q moving.Passed same then has = tt
-kept_behind tells kept r a b q (moving.Failed refusal) same then has = tt
-kept_behind tells kept r a b q (moving.Stays stay) same then has = tt
+-- what left, as a sink may keep it
+abbrev leaving : Moving → List KeptMail
+leaving (moving.Kept batch answer) = kept_mails batch
+leaving m = []
+
+contains_behind : (before mails : List KeptMail) → All (Contains (before ++ mails)) mails
+contains_behind before mails = λ k d less. Contains-append_right before mails _ (All-contains_itself mails k d less)
+
+left_behind : (mails : List KeptMail) (m : Moving) → LeftAmong m (mails ++ leaving m)
+left_behind mails (moving.Kept batch answer) = contains_behind mails (kept_mails batch)
+left_behind mails moving.Nothing = tt
+left_behind mails moving.Passed = tt
+left_behind mails moving.Went = tt
+left_behind mails (moving.Failed refusal) = tt
+left_behind mails (moving.Stays stay) = tt
+
+-- a step of a move, by what it says of the sink and of the route
+pub has_kept : {K S T : Type 0} (tells : Bool) (kept : T → List KeptMail) (is_at : T → List ℕ → Type 0) (has_put keeps_at : T → List ℕ → KeptMail → Type 0) (r q : HostStore K T S) (m : Moving)
+    → (IsTrue tells → Grows (kept r.sink) (kept q.sink))
+    → (RouteRelies is_at has_put keeps_at r.route r.sink → RouteRelies is_at has_put keeps_at q.route q.sink × IsThereBy keeps_at q.route q.sink m)
+    → (RouteRelies is_at has_put keeps_at r.route r.sink → IsTrue tells → LeftAmong m (kept q.sink))
+    → HasKept (SinkHasMail tells kept is_at has_put keeps_at) (MailIsThere keeps_at) m r q
+has_kept true kept is_at has_put keeps_at r q m grows keeps told mails had =
+    let more = grows refl in
+    let is : kept q.sink ≡ mails ++ more.0 = more.1 ∙ ap (λ l. l ++ more.0) (had.told refl) in
+    (more.0, record { told = λ _. is; relies = (keeps had.relies).0 }, subst (LeftAmong m) is (told had.relies refl), (keeps had.relies).1)
+has_kept false kept is_at has_put keeps_at r q m grows keeps told mails had =
+    (leaving m, record { told = λ no. never_told no; relies = (keeps had.relies).0 }, left_behind mails m, (keeps had.relies).1)
+
+-- what the sink has and the route relies on stays where both are as they were
+pub mover_has : {K S T : Type 0} (tells : Bool) (kept : T → List KeptMail) (is_at : T → List ℕ → Type 0) (has_put keeps_at : T → List ℕ → KeptMail → Type 0) (r q : HostStore K T S) (mails : List KeptMail)
+    → q.sink ≡ r.sink → q.route ≡ r.route → SinkHasMail tells kept is_at has_put keeps_at r mails → SinkHasMail tells kept is_at has_put keeps_at q mails
+mover_has tells kept is_at has_put keeps_at r q mails sink route has = record {
+  told = λ tell. ap kept sink ∙ has.told tell;
+  relies = subst (λ s. RouteRelies is_at has_put keeps_at q.route s) (sym sink) (subst (λ o. RouteRelies is_at has_put keeps_at o r.sink) (sym route) has.relies);
+}
+
+pub mover_there : {K S T : Type 0} (keeps_at : T → List ℕ → KeptMail → Type 0) (r q : HostStore K T S) (m : Moving) → q.sink ≡ r.sink → q.route ≡ r.route → MailIsThere keeps_at r m → MailIsThere keeps_at q m
+mover_there keeps_at r q m sink route there = subst (λ s. IsThereBy keeps_at q.route s m) (sym sink) (subst (λ o. IsThereBy keeps_at o r.sink m) (sym route) there)
+
+-- what a sink keeps, as the daemon sees it, behind calls that leave it and the route as they are
+pub kept_behind : {R : Type 0} (has : R → List KeptMail → Type 0) (there : R → Moving → Type 0) (r a b q : R) (m : Moving) → ((mails : List KeptMail) → has r mails → has a mails) → q ≡ b → HasKept has there m a b → HasKept has there m r q
+kept_behind has there r a b q m still same kept = λ mails had.
+    let it = kept mails (still mails had) in
+    (it.0, subst (λ x. has x (mails ++ it.0)) (sym same) it.1, it.2, subst (λ x. there x m) (sym same) it.3)
 
 -- and before calls that do
-pub kept_then : {K S T : Type 0} (tells : Bool) (kept : T → List KeptMail) (r a q : HostStore K T S) (m : Moving) → q.sink ≡ a.sink → HasKept (SinkHasMail tells kept) m r a → HasKept (SinkHasMail tells kept) m r q
-kept_then tells kept r a q (moving.Kept mail answer) same has = λ mails had told. ap kept same ∙ has mails had told
-kept_then tells kept r a q moving.Nothing same has = tt
-kept_then tells kept r a q moving.Passed same has = tt
-kept_then tells kept r a q (moving.Failed refusal) same has = tt
-kept_then tells kept r a q (moving.Stays stay) same has = tt
+pub kept_then : {R : Type 0} (has : R → List KeptMail → Type 0) (there : R → Moving → Type 0) (r a q : R) (m : Moving)
+    → ((mails : List KeptMail) → has a mails → has q mails) → (there a m → there q m) → HasKept has there m r a → HasKept has there m r q
+kept_then has there r a q m still stays kept = λ mails had.
+    let it = kept mails had in
+    (it.0, still (mails ++ it.0) it.1, it.2, stays it.3)
 
 -- a message moved on, and nobody came between
 pub moved_alone : {R : Type 0} (view : View R) (r q : R) (m : Moving) (kept : SessionMap)

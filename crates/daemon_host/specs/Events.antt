@@ -18,10 +18,9 @@ abbrev pub with_delivery : Bool → EventCounts → EventCounts
 with_delivery true c = record c { delivered = more c.delivered }
 with_delivery false c = record c { refused = more c.refused }
 
--- a message that moved on, if it did
-abbrev pub moved_by : Bool → EventCounts → EventCounts
-moved_by true c = record c { moved = more c.moved }
-moved_by false c = c
+-- so many messages that moved on
+abbrev pub moved_by : ℕ → EventCounts → EventCounts
+moved_by count c = record c { moved = min (c.moved + count) 18446744073709551615 }
 
 -- a command that was answered, and a login that failed
 abbrev pub with_command : EventCounts → EventCounts

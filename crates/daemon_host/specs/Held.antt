@@ -1,5 +1,5 @@
 -- What a store shows that is held now and then.
-use Rattle.std.specs.Prelude.{◌≡◌, ℕ, Bool, true, false, List, [], Option, Some, None, IsTrue}
+use Rattle.std.specs.Prelude.{◌≡◌, ℕ, Bool, true, false, List, [], Option, Some, None, IsSome, IsTrue}
 use Rattle.sqlite_trees.specs.Tree.{Trees}
 use Rattle.sqlite_trees.specs.declared.store.Store.{Ghosts}
 use Rattle.sqlite.specs.Effect.{Database}
@@ -13,7 +13,9 @@ use Rattle.managesieve_sessions.specs.Acts.{HasAccounts}
 use Rattle.store_engine.specs.Hosts.{SessionMap}
 use Rattle.store_engine.specs.World.{World}
 use Rattle.maildir_moves.specs.Enduring.{MayLeave, leaves_of, none_tried}
-use Rattle.maildir_moves.specs.Moving.{MovesMessage, TriedMoving}
+use Rattle.maildir_moves.specs.Moving.{IsStill, MovesMessage, TriedMoving}
+use Rattle.maildir_moves.specs.Relying.{LeftThere, ReliesOn}
+use Rattle.maildir_moves.specs.declared.route.Route.{Route}
 use Rattle.maildir_moves.specs.declared.moving.Moving.{Moving}
 use Rattle.maildir_files.specs.declared.kept.KeptMail.{KeptMail}
 use Rattle.store_engine.specs.declared.answer.Answer.{Answer}
@@ -23,6 +25,10 @@ use Rattle.store_engine.specs.declared.event.Event.{Event}
 use Rattle.daemon_core.specs.StoreAccess.{View, AccessState, ViewStillShows, IsEventDone, NothingDone, IsFoundIn}
 use Rattle.daemon_host.specs.Events.{is_full}
 use Rattle.daemon_host.specs.declared.host_store.HostStore.{HostStore}
+
+-- it is held
+abbrev pub HoldsStore : {K S T : Type 0} → HostStore K T S → Type 0
+HoldsStore host = IsSome host.held.store
 
 -- while it is held the store shows the accounts; otherwise they are those of its keeper's tables, and none can be claimed if it doesn't
 -- tell these
@@ -97,6 +103,21 @@ MovesBy view clean None r q = ViewStillShows view r q
 abbrev pub HostMovesNext : {K S T : Type 0} → Ghosts S → Bool → (K → Database) → Option Moving → HostStore K T S → HostStore K T S → Type 0
 HostMovesNext g tells holds moving held later = MovesBy (host_view g tells holds) (IsClean g tells) moving held later
 
--- the messages that the sink has, if it tells them
-abbrev pub SinkHasMail : {K S T : Type 0} → Bool → (T → List KeptMail) → HostStore K T S → List KeptMail → Type 0
-SinkHasMail tells kept held mails = IsTrue tells → kept held.sink ≡ mails
+-- on what a route relies that may not be there
+abbrev pub RouteRelies : {T : Type 0} → (T → List ℕ → Type 0) → (T → List ℕ → KeptMail → Type 0) → (T → List ℕ → KeptMail → Type 0) → Option Route → T → Type 0
+RouteRelies is_at has_put keeps_at None sink = Unit {0}
+RouteRelies is_at has_put keeps_at (Some route) sink = ReliesOn is_at has_put keeps_at route.load sink
+
+-- the messages that the sink has, if it tells them; and of what was put earlier it has what the route relies on
+pub record SinkHasMail {K S T : Type 0} (tells : Bool) (kept : T → List KeptMail) (is_at : T → List ℕ → Type 0) (has_put keeps_at : T → List ℕ → KeptMail → Type 0)
+    (held : HostStore K T S) (mails : List KeptMail) : Type 0 where
+  pub told : IsTrue tells → kept held.sink ≡ mails
+  pub relies : RouteRelies is_at has_put keeps_at held.route held.sink
+
+-- the sink was at the place of that folder, by the route, as those were put that moved on
+abbrev pub IsThereBy : {T : Type 0} → (T → List ℕ → KeptMail → Type 0) → Option Route → T → Moving → Type 0
+IsThereBy keeps_at None sink m = IsStill m
+IsThereBy keeps_at (Some route) sink m = LeftThere (keeps_at sink) route.load m
+
+abbrev pub MailIsThere : {K S T : Type 0} → (T → List ℕ → KeptMail → Type 0) → HostStore K T S → Moving → Type 0
+MailIsThere keeps_at held m = IsThereBy keeps_at held.route held.sink m

@@ -8,9 +8,11 @@ ghost use Rattle.daemon_core.specs.StoreAccess.{access_state, delivery_of};
 ghost use Rattle.net_loop.specs.Told.{IsLoopAct};
 ghost use Rattle.daemon_host.specs.Events as events;
 ghost use Rattle.daemon_host.specs.Held as held;
-ghost use Rattle.daemon_host.specs.Held.{host_view, IsClean, StillShown, HostBrings, HostMovesNext, SinkHasMail, IsToldAs, Seeks};
+ghost use Rattle.daemon_host.specs.Held.{HoldsStore, host_view, IsClean, StillShown, HostBrings, HostMovesNext, MailIsThere, SinkHasMail, IsToldAs, Seeks};
+ghost use Rattle.daemon_host.specs.Moments.{GivesNext, IsReadNext, MayShow};
 ghost use Rattle.daemon_core.specs.Moves.{HasKept};
 
+use crate::delivery_clock::{DeliveryClock, SystemClock};
 use crate::host_log::HostLog;
 use crate::host_store::HostStore;
 use crate::store_turns::StoreTurns;
@@ -21,7 +23,7 @@ use daemon_core::store_access::StoreAccess;
 use lmtp_connections::DeliveryRequest;
 use lmtp_dialogue::Lookup;
 use maildir_files::MailSink;
-use maildir_moves::{Moving, Route, span_behind};
+use maildir_moves::{MovePause, Moving, Route, pause_behind};
 use net_loop::act::Act;
 use net_loop::outcome::{self, Accepted, Input, Output, Wake};
 use net_loop::outside::{Clock, Outside, Sockets};
@@ -35,7 +37,7 @@ use std::io::Write;
 use std::mem::take;
 use std::net::Net;
 use std::time;
-use std::time::{Instant, SystemTime};
+use std::time::Instant;
 use store_engine::{Answer, Clients, Event, HostSettings, LentTerms, Refusal};
 use store_lock::{Keeper, StoreUnavailable};
 
@@ -65,12 +67,12 @@ const TRY_LATER: &[u8] = b"NO (TRYLATER) \"Try later.\"\r\n";
 pub struct Host<'a, N: Net + time::Clock, E: Write + Drop, K: Keeper + Drop, T: MailSink + Drop> {
     alloc: Global,
     system: &'a N,
+    /// When messages are delivered.
+    clock: SystemClock<'a, N>,
     sockets: SystemSockets<'a, N>,
     /// A wait has failed.
     broken: bool,
     held: HostStore<K, T>,
-    /// Where mail moves on to, if it does.
-    route: Option<Route>,
     path: &'a str,
     /// What the host says of each delivery.
     settings: HostSettings,
@@ -121,10 +123,10 @@ impl<'a, N: Net + time::Clock, E: Write + Drop, K: Keeper + Drop, T: MailSink + 
         Host {
             alloc,
             system,
+            clock: SystemClock::new(system),
             sockets,
             broken: false,
-            held: HostStore::new(alloc, keeper, sink),
-            route,
+            held: HostStore::new(alloc, keeper, sink, route),
             path,
             settings,
             queue: StoreTurns::new(alloc),
@@ -234,6 +236,7 @@ impl<'a, N: Net + time::Clock, E: Write + Drop, K: Keeper + Drop, T: MailSink + 
     fn enter_user(&mut self, id: u32, user: &[u8])
         ensures same { self.new.held ≡ self.old.held }
         ensures settings { self.new.settings ≡ self.old.settings }
+        ensures clock { self.new.clock ≡ self.old.clock }
     {
         if let Ok(name) = Octets::from_slice(self.alloc, user) {
             let _ = self.turns.enter(id, TimeAccount::User(name));
@@ -351,6 +354,7 @@ impl<'a, N: Net + time::Clock, E: Write + Drop, K: Keeper + Drop, T: MailSink + 
     fn is_awaited(&mut self) -> bool
         ensures shown { StillShown K.S.Store K.tells K.holds self.old.held self.new.held }
         ensures sink { self.new.held.sink ≡ self.old.held.sink }
+        ensures route { self.new.held.route ≡ self.old.held.route }
         ensures settings { self.new.settings ≡ self.old.settings }
     {
         let now = self.sockets.now();
@@ -439,6 +443,7 @@ impl<'a, N: Net + time::Clock, E: Write + Drop, K: Keeper + Drop, T: MailSink + 
         let answer = self.held.apply_event(clients, event)?;
         self.news.note_answer(&answer, self.held.code());
         note_time(&mut self.news, self.system, begun);
+        note_login(&mut self.news, clients, id, is_unauthenticated);
         let kept = self.is_kept();
         Some(answer_if_kept(answer, kept, is_unauthenticated, later))
     }
@@ -459,6 +464,7 @@ impl<'a, N: Net + time::Clock, E: Write + Drop, K: Keeper + Drop, T: MailSink + 
     fn is_kept(&mut self) -> bool
         ensures kept { IsClean K.S.Store K.tells self.new.held → (result ≡ true) × (self.new.held ≡ self.old.held) }
         ensures sink { self.new.held.sink ≡ self.old.held.sink }
+        ensures route { self.new.held.route ≡ self.old.held.route }
     {
         if self.is_lost() {
             self.give_back();
@@ -484,9 +490,9 @@ impl<'a, N: Net + time::Clock, E: Write + Drop, K: Keeper + Drop, T: MailSink + 
 
     /// Delivers a message at the moment that the clock shows, if the store may be asked and is available.
     fn try_deliver(&mut self, id: u32, request: &DeliveryRequest) -> Option<Answer>
-        ensures { (when : When) × ((kept : SessionMap) → HostBrings K.S.Store K.tells K.holds (delivery_of request.now (terms when self.old.settings)) result (access_state self.old.held kept) (access_state self.new.held kept)) }
+        ensures { (when : When) × IsReadNext MayShow self.old.clock self.old.settings when × ((kept : SessionMap) → HostBrings K.S.Store K.tells K.holds (delivery_of request.now (terms when self.old.settings)) result (access_state self.old.held kept) (access_state self.new.held kept)) }
     {
-        let when = self.settings.at(seconds(self.system)).when;
+        let when = self.settings.at(self.clock.seconds()).when;
         if !self.may_ask(id) {
             return None;
         }
@@ -525,17 +531,17 @@ impl<'a, N: Net + time::Clock, E: Write + Drop, K: Keeper + Drop, T: MailSink + 
         tell_answer(answer, code)
     }
 
-    /// Has a message move on, if the store may be asked and is available.
+    /// Has messages move on by one step, if the store may be asked and is available.
     fn try_move_next(&mut self, now: u64, fresh: bool) -> Option<Moving>
         ensures moves { HostMovesNext K.S.Store K.tells K.holds result self.old.held self.new.held }
-        ensures keeps { IfSome result (λ moving. HasKept (SinkHasMail T.tells T.kept) moving self.old.held self.new.held) }
+        ensures keeps { IfSome result (λ moving. HasKept (SinkHasMail T.tells T.kept T.is_at T.has_put T.keeps_at) (MailIsThere T.keeps_at) moving self.old.held self.new.held) }
     {
         if !self.may_move() {
             return None;
         }
         let fresh = fresh || !self.held.has_store();
         self.reach();
-        let moving = self.move_next_on_route(now, fresh)?;
+        let moving = self.held.move_next(now, fresh)?;
         self.news
             .note_moving(&moving, self.held.code(), self.held.sink_cause());
         let _ = self.is_kept();
@@ -546,25 +552,16 @@ impl<'a, N: Net + time::Clock, E: Write + Drop, K: Keeper + Drop, T: MailSink + 
     fn may_move(&mut self) -> bool
         ensures shown { StillShown K.S.Store K.tells K.holds self.old.held self.new.held }
         ensures sink { self.new.held.sink ≡ self.old.held.sink }
+        ensures route { self.new.held.route ≡ self.old.held.route }
     {
         !self.news.has_failed() && !self.is_awaited()
-    }
-
-    /// Has a message move on, if mail does, and the store is held.
-    fn move_next_on_route(&mut self, now: u64, fresh: bool) -> Option<Moving>
-        ensures moves { HostMovesNext K.S.Store K.tells K.holds result self.old.held self.new.held }
-        ensures keeps { IfSome result (λ moving. HasKept (SinkHasMail T.tells T.kept) moving self.old.held self.new.held) }
-    {
-        let Some(route) = &mut self.route else {
-            return None;
-        };
-        self.held.move_next(route, now, fresh)
     }
 
     /// Takes the store, if it isn't held and isn't left alone. The time for that is nobody's: a new act begins.
     fn reach(&mut self)
         ensures shown { StillShown K.S.Store K.tells K.holds self.old.held self.new.held }
         ensures sink { self.new.held.sink ≡ self.old.held.sink }
+        ensures route { self.new.held.route ≡ self.old.held.route }
         ensures settings { self.new.settings ≡ self.old.settings }
     {
         if self.held.has_store() || self.news.lasts(self.sockets.now()) {
@@ -586,6 +583,7 @@ impl<'a, N: Net + time::Clock, E: Write + Drop, K: Keeper + Drop, T: MailSink + 
         ensures shown { IsClean K.S.Store K.tells self.new.held → StillShown K.S.Store K.tells K.holds self.old.held self.new.held }
         ensures given { self.new.held.held.store ≡ None }
         ensures sink { self.new.held.sink ≡ self.old.held.sink }
+        ensures route { self.new.held.route ≡ self.old.held.route }
     {
         let refusal = self.held.give_back();
         let now = self.sockets.now();
@@ -703,21 +701,23 @@ fn note_time<C: time::Clock, E: Write + Drop>(
     }
 }
 
+/// Tells who is logged in now at a client, if nobody was before and somebody is.
+fn note_login<E: Write + Drop>(
+    news: &mut HostLog<E>,
+    clients: &Clients,
+    id: u32,
+    is_unauthenticated: bool,
+) {
+    match user_of(clients, id) {
+        Some(user) if is_unauthenticated => news.tell_login(user),
+        _ => {}
+    }
+}
+
 /// How many microseconds have passed since then, if the clock can be read; an hour at most.
 fn micros_since<C: time::Clock>(clock: &C, begun: Option<Instant>) -> Option<u64> {
     let passed = begun?.elapsed(clock).ok()?;
     Some(passed.as_secs().min(3600) * 1000000 + passed.subsec_micros() as u64)
-}
-
-/// The seconds since 1970; if the clock can't be read, a moment at which nothing is delivered.
-fn seconds<C: time::Clock>(clock: &C) -> u64 {
-    let Ok(now) = SystemTime::now(clock) else {
-        return u64::MAX;
-    };
-    match now.duration_since(SystemTime::UNIX_EPOCH) {
-        Ok(passed) => passed.as_secs(),
-        Err(_) => u64::MAX,
-    }
 }
 
 impl<N: Net + time::Clock, E: Write + Drop, K: Keeper + Drop, T: MailSink + Drop> Outside
@@ -822,7 +822,10 @@ impl<N: Net + time::Clock, E: Write + Drop, K: Keeper + Drop, T: MailSink + Drop
       view = host_view K.S.Store K.tells K.holds;
       clean = IsClean K.S.Store K.tells;
       host = λ host. host.settings;
-      has = SinkHasMail T.tells T.kept;
+      has = SinkHasMail T.tells T.kept T.is_at T.has_put T.keeps_at;
+      there = MailIsThere T.keeps_at;
+      had = HoldsStore;
+      gave = λ host moment. GivesNext MayShow host.clock moment;
     } };
 
     fn apply_event(&mut self, id: u32, clients: &mut Clients, event: &Event) -> Option<Answer> {
@@ -880,9 +883,9 @@ impl<N: Net + time::Clock, E: Write + Drop, K: Keeper + Drop, T: MailSink + Drop
         }
     }
 
-    fn move_next(&mut self, _clients: &mut Clients, now: u64, fresh: bool) -> Option<u64> {
+    fn move_next(&mut self, _clients: &mut Clients, now: u64, fresh: bool) -> Option<MovePause> {
         match self.try_move_next(now, fresh) {
-            Some(moving) => Some(span_behind(&moving)),
+            Some(moving) => Some(pause_behind(&moving)),
             None => None,
         }
     }

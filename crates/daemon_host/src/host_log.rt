@@ -1,11 +1,11 @@
 //! The log on standard error, the counts of its status line, and the pause after a failure of the store.
 ghost use Rattle.std.specs.Prelude.{◌≡◌, true};
 ghost use Rattle.daemon_host.specs.Events as events;
-ghost use Rattle.daemon_host.specs.Log.{is_delivered_answer, has_moved, moving_failed_store};
+ghost use Rattle.daemon_host.specs.Log.{is_delivered_answer, moved_count as count_of, moving_failed_store};
 ghost use Rattle.daemon_host.specs.Pauses.{PauseIsOver};
 
 use crate::log::{
-    has_failed, is_delivered, is_moved, of_beginning, of_delivery, of_moving, of_slow,
+    has_failed, is_delivered, moved_count, of_beginning, of_delivery, of_login, of_moving, of_slow,
 };
 use crate::pause::Pause;
 use cli_run::fault::RunFault;
@@ -34,7 +34,7 @@ const STATUS_SPAN: u64 = 60000;
 pub struct HostLog<E: Write + Drop> {
     alloc: Global,
     errors: E,
-    /// No delivery that was made is told of, and no message that moved.
+    /// No delivery that was made is told of, no message that moved, and no login.
     quiet: bool,
     /// The store failed, and is to be given back.
     failed: bool,
@@ -102,6 +102,13 @@ impl<E: Write + Drop> HostLog<E> {
         }
         let line = of_slow(self.alloc, what, user_of(account), micros / 1000);
         self.tell_line(line);
+    }
+
+    /// A user logged in.
+    pub fn tell_login(&mut self, user: &[u8]) {
+        if !self.quiet {
+            self.tell_line(of_login(self.alloc, user));
+        }
     }
 
     /// A command of ManageSieve was answered.
@@ -224,7 +231,7 @@ impl<E: Write + Drop> HostLog<E> {
         }
     }
 
-    /// The same of a message that was to move on, which is told of.
+    /// The same of messages that were to move on, which are told of.
     pub fn note_moving(
         &mut self,
         moving: &Moving,
@@ -232,14 +239,13 @@ impl<E: Write + Drop> HostLog<E> {
         cause: Option<ErrorKind>,
     )
         ensures failed { self.new.failed ≡ events.failed_by (moving_failed_store moving.now) code self.old.failed }
-        ensures counted { self.new.tally.counts ≡ events.moved_by (has_moved moving.now) self.old.tally.counts }
+        ensures counted { self.new.tally.counts ≡ events.moved_by (count_of moving.now) self.old.tally.counts }
     {
         if has_failed(moving) {
             self.note_failure(code);
         }
-        if is_moved(moving) {
-            count(&mut self.tally.counts.moved);
-        }
+        let moved = &mut self.tally.counts.moved;
+        *moved = moved.saturating_add(moved_count(moving));
         self.tell_line(of_moving(self.alloc, moving, cause, self.quiet));
     }
 

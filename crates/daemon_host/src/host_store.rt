@@ -5,7 +5,7 @@ ghost use Rattle.store_engine.specs.Hosts.{IsGivenUp, SessionMap};
 ghost use Rattle.store_engine.specs.Terms.{terms_of};
 ghost use Rattle.store_lock.specs.Taken.{DeniesStore, GivesStore};
 ghost use Rattle.daemon_core.specs.StoreAccess.{access_state, delivery_of};
-ghost use Rattle.daemon_host.specs.Held.{IsClean, StillShown, HostBrings, HostMovesNext, SinkHasMail, Seeks};
+ghost use Rattle.daemon_host.specs.Held.{IsClean, StillShown, HostBrings, HostMovesNext, MailIsThere, SinkHasMail, Seeks};
 ghost use Rattle.daemon_core.specs.Moves.{HasKept};
 
 use daemon_core::recipient_account::find_account;
@@ -27,16 +27,19 @@ pub struct HostStore<K: Keeper + Drop, T: MailSink + Drop> {
     held: HeldStore<K>,
     /// Who keeps the mail that moves on.
     sink: T,
+    /// Where it moves on to, if it does.
+    route: Option<Route>,
     /// The scripts that were checked for a delivery.
     kept: KeptScripts,
 }
 
 impl<K: Keeper + Drop, T: MailSink + Drop> HostStore<K, T> {
     /// The store isn't held yet.
-    pub fn new(alloc: Global, keeper: K, sink: T) -> HostStore<K, T> {
+    pub fn new(alloc: Global, keeper: K, sink: T, route: Option<Route>) -> HostStore<K, T> {
         HostStore {
             held: HeldStore::new(keeper),
             sink,
+            route,
             kept: KeptScripts::new(alloc),
         }
     }
@@ -74,6 +77,7 @@ impl<K: Keeper + Drop, T: MailSink + Drop> HostStore<K, T> {
     pub fn is_awaited(&mut self, path: &str) -> bool
         ensures shown { StillShown K.S.Store K.tells K.holds self.old self.new }
         ensures sink { self.new.sink ≡ self.old.sink }
+        ensures route { self.new.route ≡ self.old.route }
     {
         self.held.keeper.is_awaited(path)
     }
@@ -87,6 +91,7 @@ impl<K: Keeper + Drop, T: MailSink + Drop> HostStore<K, T> {
         ensures denied { IfErr result (DeniesStore K.refuses K.will_wait path.now false) }
         ensures given { OnOk result (self.old.held.store ≡ None → GivesStore K.gives K.will_wait path.now false) }
         ensures sink { self.new.sink ≡ self.old.sink }
+        ensures route { self.new.route ≡ self.old.route }
         ensures shown { StillShown K.S.Store K.tells K.holds self.old self.new }
     {
         self.held.take(path, false)
@@ -97,6 +102,7 @@ impl<K: Keeper + Drop, T: MailSink + Drop> HostStore<K, T> {
         ensures shown { IsClean K.S.Store K.tells self.new → StillShown K.S.Store K.tells K.holds self.old self.new }
         ensures given { self.new.held.store ≡ None }
         ensures sink { self.new.sink ≡ self.old.sink }
+        ensures route { self.new.route ≡ self.old.route }
     {
         self.held.give_back();
         self.held.keeper.take_close_error()
@@ -149,11 +155,15 @@ impl<K: Keeper + Drop, T: MailSink + Drop> HostStore<K, T> {
         }
     }
 
-    /// Has the first message of a folder move on, as [`maildir_moves::move_next`] does. None if the store isn't held.
-    pub fn move_next(&mut self, route: &mut Route, now: u64, fresh: bool) -> Option<Moving>
+    /// Has the first messages of a folder move on by one step, as [`maildir_moves::move_next`] does. None if mail doesn't move on, or the
+    /// store isn't held.
+    pub fn move_next(&mut self, now: u64, fresh: bool) -> Option<Moving>
         ensures moves { HostMovesNext K.S.Store K.tells K.holds result self.old self.new }
-        ensures keeps { IfSome result (λ moving. HasKept (SinkHasMail T.tells T.kept) moving self.old self.new) }
+        ensures keeps { IfSome result (λ moving. HasKept (SinkHasMail T.tells T.kept T.is_at T.has_put T.keeps_at) (MailIsThere T.keeps_at) moving self.old self.new) }
     {
+        let Some(route) = &mut self.route else {
+            return None;
+        };
         let Some(store) = &mut self.held.store else {
             return None;
         };

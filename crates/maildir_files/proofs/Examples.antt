@@ -1,10 +1,11 @@
 -- Directories of folders, each with a near miss.
 use Rattle.std.proofs.Common.{◌≡◌, refl, ap, codes, List, ℕ, [], ◌∷◌, ◌++◌, inl, inr, arith}
-use Rattle.std.specs.Prelude.{drop, slice_index}
+use Rattle.std.specs.Prelude.{Some, None, drop, slice_index}
 use Rattle.std.specs.Str.{chars, is_utf8}
 use Rattle.base64.specs.Rfc4648.{encode_symbols}
 use Rattle.maildir_files.specs.declared.separator.Separator.TheVariants.{Dot, Slash}
 use Rattle.maildir_files.specs.Directory.{MayShare, digest_form, directory}
+use Rattle.maildir_files.specs.Subscriptions.{list_version, with_folder}
 
 -- a blank is itself
 blank_kept : directory Dot (codes "Sent Items") ≡ codes ".Sent Items"
@@ -187,3 +188,17 @@ unfolding chars is_utf8 lib.Utf8.encode
 two_ends (inl same) = let seventh : 74 ≡ 106 = ap (λ l. slice_index l 6) same in absurd (omega (arith, seventh))
 two_ends (inr (inl (one, two))) = cc
 two_ends (inr (inr (one, two, three))) = cc
+
+-- ---- subscriptions
+
+-- the first folder makes the list
+first_folder : with_folder [] (codes "work.x") ≡ Some (list_version ++ (10 ∷ (codes "work" ++ 9 ∷ (codes "x" ++ 10 ∷ []))))
+first_folder = refl
+
+-- a list of version 1 has no tabs, and its last line may lack its end
+old_list : with_folder (codes "lists") (codes "work.x") ≡ Some (codes "lists" ++ (10 ∷ (codes "work.x" ++ 10 ∷ [])))
+old_list = refl
+
+-- a near miss: the folder is in it
+has_it_already : with_folder (list_version ++ (10 ∷ (codes "work" ++ 9 ∷ (codes "x" ++ 10 ∷ [])))) (codes "work.x") ≡ None
+has_it_already = refl

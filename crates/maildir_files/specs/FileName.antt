@@ -1,8 +1,11 @@
 -- The names of files that keep messages.
-use Rattle.std.specs.Prelude.{ℕ, List, [], ◌∷◌, length, ◌++◌, codes, decimal}
+use Rattle.std.specs.Prelude.{◌≡◌, ℕ, List, [], ◌∷◌, length, ◌++◌, codes, decimal, string_bytes}
 use Rattle.std.specs.Int.{w64, to_be_bytes}
 use Rattle.sha2.specs.Sha256.{sha256}
 use Rattle.hex.specs.Hex.{encode_lower}
+use Rattle.maildir_files.specs.declared.file_place.FilePlace.{FilePlace}
+use Rattle.maildir_files.specs.declared.file_place.Subdirectory.{Subdirectory}
+use Rattle.maildir_files.specs.declared.file_place.Subdirectory.TheVariants.{New, Cur}
 
 -- a text after its length, in eight octets, the highest first
 abbrev pub with_length : List ℕ → List ℕ
@@ -16,7 +19,17 @@ digested_text user folder message = with_length user ++ with_length folder ++ me
 abbrev pub file_name : List ℕ → List ℕ → ℕ → List ℕ → List ℕ
 file_name user folder number message = decimal number ++ (codes "." ++ encode_lower (sha256 (digested_text user folder message)))
 
--- where the file of that name is in a Maildir: in `new`, and if its message has letters in `cur`, with them after its name
-abbrev pub place_by : List ℕ → List ℕ → List ℕ
-place_by name [] = codes "new/" ++ name
-place_by name (letter ∷ more) = codes "cur/" ++ (name ++ (codes ":2," ++ letter ∷ more))
+-- the directory of a file whose message has these letters: `new`, or `cur` if there are some
+abbrev pub subdirectory_by : List ℕ → Subdirectory
+subdirectory_by [] = New
+subdirectory_by (letter ∷ more) = Cur
+
+-- what a file of that name is called where it is: in `cur` with the letters after its name
+abbrev pub name_by : List ℕ → List ℕ → List ℕ
+name_by name [] = name
+name_by name (letter ∷ more) = name ++ (codes ":2," ++ letter ∷ more)
+
+-- where the file of that name is in a Maildir, by its message's letters
+pub record IsPlaceBy (name letters : List ℕ) (place : FilePlace) : Type 0 where
+  pub subdirectory : place.subdirectory ≡ subdirectory_by letters
+  pub called : string_bytes place.name ≡ name_by name letters

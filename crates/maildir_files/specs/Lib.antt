@@ -1,7 +1,10 @@
 pub mod FileName
 pub mod Kept
+pub mod Known
 pub mod Levels
 pub mod Listed
+pub mod Puts
 pub mod Spelling
+pub mod Subscriptions
 pub mod Directory
 pub mod Inside

@@ -1,11 +1,12 @@
 //! The names of files that keep messages, and where they are.
-ghost use Rattle.std.specs.Prelude.{◌≡◌, ◌++◌, IfOk};
+ghost use Rattle.std.specs.Prelude.{◌≡◌, ◌≢◌, [], ◌++◌, IfOk};
 ghost use Rattle.std.specs.Str.{IsUtf8};
 ghost use Rattle.std.specs.String.{string_bytes};
 ghost use Rattle.sha2.specs.Sha256.{sha256};
 ghost use Rattle.mail_flags.specs.Flags.{named_flags, letters};
-ghost use Rattle.maildir_files.specs.FileName.{with_length, digested_text, file_name, place_by};
+ghost use Rattle.maildir_files.specs.FileName.{with_length, digested_text, file_name, IsPlaceBy};
 
+use crate::file_place::{FilePlace, Subdirectory};
 use mail_flags::Flags;
 use sha2::{Digest, Sha256};
 use std::alloc::{AllocError, Global};
@@ -30,15 +31,36 @@ pub fn name_of(
 
 /// Where the file of that name is in a Maildir, by the text that names its message's flags: in `new`; if some of them are system
 /// flags in `cur`, with their letters after its name, as `cur/NAME:2,FS`. Other flags have no letters, and are told nowhere.
-pub fn place_of(alloc: Global, name: &str, flags: &[u8]) -> Result<String, AllocError>
-    ensures { IfOk result (λ place. string_bytes place ≡ place_by name.now (letters (named_flags flags.now))) }
+pub fn place_of(alloc: Global, name: &str, flags: &[u8]) -> Result<FilePlace, AllocError>
+    ensures { IfOk result (IsPlaceBy name.now (letters (named_flags flags.now))) }
 {
     let letters = Flags::read(alloc, flags)?.letters(alloc)?;
     match str::from_utf8(letters.as_slice()) {
-        Ok("") => format!(in alloc; "new/{name}"),
-        Ok(letters) => format!(in alloc; "cur/{name}:2,{letters}"),
-        Err(_) => format!(in alloc; "new/{name}"),
+        Ok("") => place_in_new(alloc, name),
+        Ok(letters) => place_in_cur(alloc, name, letters),
+        Err(_) => place_in_new(alloc, name),
     }
+}
+
+/// The place of a file without letters.
+fn place_in_new(alloc: Global, name: &str) -> Result<FilePlace, AllocError>
+    ensures { IfOk result (IsPlaceBy name.now []) }
+{
+    Ok(FilePlace {
+        subdirectory: Subdirectory::New,
+        name: String::from_str(alloc, name)?,
+    })
+}
+
+/// The place of a file with letters.
+fn place_in_cur(alloc: Global, name: &str, letters: &str) -> Result<FilePlace, AllocError>
+    requires { letters.now ≢ [] }
+    ensures { IfOk result (IsPlaceBy name.now letters.now) }
+{
+    Ok(FilePlace {
+        subdirectory: Subdirectory::Cur,
+        name: format!(in alloc; "{name}:2,{letters}")?,
+    })
 }
 
 /// The digest of a user, a folder and a message, each with its own place in what is hashed.

@@ -3,14 +3,19 @@
 
 pub mod file_laws;
 mod file_name;
+mod file_place;
+mod identity;
 mod kept;
+mod mail_files;
 mod maildir;
 mod memory_sink;
 mod new_names;
 mod parts;
 mod sink;
+mod subscriptions;
 mod sync;
 mod synced;
+mod system_files;
 
 pub use kept::KeptMail;
 pub use maildir::Maildir;

@@ -1,11 +1,17 @@
 //! A sink over a Maildir.
-ghost use Rattle.std.specs.Prelude.{◌≡◌, []};
+ghost use Rattle.std.specs.Prelude.{[], IsOk, OnOk};
+ghost use Rattle.std.specs.String.{string_bytes};
+ghost use Rattle.maildir_files.specs.Known.{StaysGot, StaysHeld, path_in};
+ghost use Rattle.maildir_files.specs.Puts.{IsWaiting, StaysWaiting};
 
 use crate::file_name::{name_of, place_of};
+use crate::file_place::FilePlace;
+use crate::mail_files::MailFiles;
 use crate::new_names::{NewNames, make_directory};
 use crate::sink::{MailSink, SinkError};
-use crate::sync::{Identity, sync_directory, sync_parent};
+use crate::sync::{sync_directory, sync_parent};
 use crate::synced::SyncedMaildirs;
+use crate::system_files::SystemFiles;
 use std::io::ErrorKind;
 use std::{format, io};
 
@@ -16,77 +22,45 @@ use std::{format, io};
 ///
 /// No link is followed at the end of its path and below it: `tmp`, `new` and `cur` are directories of its own, and each is the same one,
 /// by its device and number, before a file came to its place and after. A path that ends in `/.` is a directory, whatever led there.
+pub type Maildir<'a> = FileSink<SystemFiles<'a>>;
+
+/// Keeps messages in a Maildir of a file system, as [`Maildir`] says.
 #[derive(Drop)]
-pub struct Maildir<'a> {
-    rt: &'a HostRuntime,
+pub struct FileSink<F: MailFiles + Drop> {
+    files: F,
     /// The path, if one was opened.
     path: Option<String>,
     cause: Option<ErrorKind>,
-    synced: SyncedMaildirs,
+    synced: SyncedMaildirs<F::Directory>,
     /// What was put and isn't settled.
-    names: Option<NewNames>,
+    names: Option<NewNames<F::Directory>>,
 }
 
-impl<'a> Maildir<'a> {
+impl<'a> FileSink<SystemFiles<'a>> {
     /// A sink that has no place yet.
     pub fn new(rt: &'a HostRuntime) -> Maildir<'a> {
-        Maildir {
-            rt,
+        FileSink::over(SystemFiles::new(rt))
+    }
+}
+
+impl<F: MailFiles + Drop> FileSink<F> {
+    /// A sink over these files that has no place yet.
+    fn over(files: F) -> FileSink<F> {
+        let synced = SyncedMaildirs::new(files.alloc());
+        FileSink {
+            files,
             path: None,
             cause: None,
-            synced: SyncedMaildirs::new(rt.alloc()),
+            synced,
             names: None,
         }
     }
-
-    /// What is answered for an error of the system, `NoMaildir` if something else is where a directory is to be. What is known of it is kept
-    /// for `cause`.
-    fn refusal(&mut self, error: io::Error) -> SinkError
-        ensures { self.new.path ≡ self.old.path }
-    {
-        self.cause = Some(error.kind());
-        match error.kind() {
-            ErrorKind::OutOfMemory => SinkError::Memory,
-            ErrorKind::NotADirectory => SinkError::NoMaildir,
-            _ => SinkError::Failed,
-        }
-    }
-
-    /// What is answered for what came of a call: of an error as `refusal` says.
-    fn answer_for(&mut self, done: io::Result<()>) -> Result<(), SinkError>
-        ensures { self.new.path ≡ self.old.path }
-    {
-        match done {
-            Ok(()) => Ok(()),
-            Err(error) => Err(self.refusal(error)),
-        }
-    }
-
-    /// No names yet, in the Maildir that is open.
-    fn no_names(&self) -> io::Result<NewNames> {
-        match &self.path {
-            Some(path) => NewNames::at(self.rt, path.as_str()),
-            None => Err(io::Error::from(ErrorKind::NotADirectory)),
-        }
-    }
-
-    /// Puts a message into the Maildir that is open, under a name, at a place in it.
-    fn put_at(&mut self, name: &str, place: &str, message: &[u8]) -> io::Result<()>
-        ensures { self.new.path ≡ self.old.path }
-    {
-        let mut names = match self.names.take() {
-            Some(names) => names,
-            None => self.no_names()?,
-        };
-        let put = names.put(self.rt, name, place, message);
-        self.names = Some(names);
-        put
-    }
 }
 
-impl MailSink for Maildir<'_> {
+impl<F: MailFiles + Drop> MailSink for FileSink<F> {
     ghost use Rattle.std.specs.Prelude.{◌≡◌, false, Some, option_map, string_bytes};
     ghost use Rattle.std.proofs.Common.{rules};
+    ghost use Rattle.maildir_files.specs.Puts.{HasPut, KeepsMail};
 
     ghost tells = { false };
 
@@ -97,30 +71,54 @@ impl MailSink for Maildir<'_> {
 
     ghost told = { Prim.search rules };
 
-    ghost said = { λ maildir. maildir.cause };
+    ghost said = { λ sink. sink.cause };
 
-    ghost is_at = { λ maildir path. option_map string_bytes maildir.path ≡ Some path };
+    ghost is_at = { λ sink path. option_map string_bytes sink.path ≡ Some path };
+
+    ghost has_put = { λ sink path mail. HasPut F.got_file sink.files (option_map string_bytes sink.path) sink.names path mail };
+
+    ghost keeps_at = { λ sink path mail. KeepsMail F.keeps_file sink.files path mail };
 
     /// After Ok the names of the Maildir and of its `tmp`, `new` and `cur` are on the disk, whoever made them: the Maildir and its parent
     /// directory are synced once for as long as these, and they, are the same directories.
     fn open(&mut self, path: &str) -> Result<(), SinkError> {
         self.cause = None;
-        match self.synced.settle(self.rt, path) {
+        match self.synced.settle(&self.files, path) {
             Ok(true) => {
-                self.path = Some(String::from_str(self.rt.alloc(), path)?);
+                self.path = Some(String::from_str(self.files.alloc(), path)?);
                 self.names = None;
                 Ok(())
             }
             Ok(false) => Err(SinkError::NoMaildir),
-            Err(error) => Err(self.refusal(error)),
+            Err(error) => Err(refusal_of(&mut self.cause, error)),
         }
     }
 
     /// After Ok the names of what was made are on the disk.
     fn make(&mut self, path: &str) -> Result<(), SinkError> {
         self.cause = None;
-        let made = make_maildir(self.rt, path);
-        self.answer_for(made)
+        let made = make_maildir(&self.files, path);
+        answer_for(&mut self.cause, made)
+    }
+
+    fn make_way(&mut self, path: &str) -> Result<(), SinkError> {
+        self.cause = None;
+        let made = make_way(&self.files, path);
+        answer_for(&mut self.cause, made)
+    }
+
+    /// By Dovecot's list in the user's Maildir, under its own lock. A folder that can't be subscribed is made nevertheless.
+    fn subscribe(&mut self, home: &str, place: &str) -> Result<(), SinkError> {
+        self.cause = None;
+        let Some(directory) = directory_in(home, place) else {
+            return Ok(());
+        };
+        match self.files.subscribe(home, directory) {
+            Err(error) if error.kind() == ErrorKind::AlreadyExists => {
+                Err(refusal_of(&mut self.cause, error))
+            }
+            _ => Ok(()),
+        }
     }
 
     fn keep(
@@ -135,16 +133,16 @@ impl MailSink for Maildir<'_> {
         let Some(path) = &self.path else {
             return Err(SinkError::NoMaildir);
         };
-        let name = name_of(self.rt.alloc(), user, folder, number, message)?;
-        let place = place_of(self.rt.alloc(), name.as_str(), flags)?;
+        let name = name_of(self.files.alloc(), user, folder, number, message)?;
+        let place = place_of(self.files.alloc(), name.as_str(), flags)?;
         let kept = keep_at(
-            self.rt,
+            &mut self.files,
             path.as_str(),
             name.as_str(),
-            place.as_str(),
+            &place,
             message,
         );
-        self.answer_for(kept)
+        answer_for(&mut self.cause, kept)
     }
 
     fn put(
@@ -156,10 +154,20 @@ impl MailSink for Maildir<'_> {
         flags: &[u8],
     ) -> Result<(), SinkError> {
         self.cause = None;
-        let name = name_of(self.rt.alloc(), user, folder, number, message)?;
-        let place = place_of(self.rt.alloc(), name.as_str(), flags)?;
-        let put = self.put_at(name.as_str(), place.as_str(), message);
-        self.answer_for(put)
+        let Some(path) = &self.path else {
+            return Err(SinkError::NoMaildir);
+        };
+        let name = name_of(self.files.alloc(), user, folder, number, message)?;
+        let place = place_of(self.files.alloc(), name.as_str(), flags)?;
+        let put = put_at(
+            &mut self.files,
+            &mut self.names,
+            path.as_str(),
+            name.as_str(),
+            &place,
+            message,
+        );
+        answer_for(&mut self.cause, put)
     }
 
     fn settle(&mut self) -> Result<(), SinkError> {
@@ -167,8 +175,11 @@ impl MailSink for Maildir<'_> {
         let Some(names) = self.names.take() else {
             return Ok(());
         };
-        let settled = names.settle(self.rt);
-        self.answer_for(settled)
+        let Some(path) = &self.path else {
+            return Err(SinkError::NoMaildir);
+        };
+        let settled = names.settle(&self.files, path.as_str());
+        answer_for(&mut self.cause, settled)
     }
 
     fn cause(&self) -> Option<ErrorKind> {
@@ -176,45 +187,102 @@ impl MailSink for Maildir<'_> {
     }
 }
 
+/// What is answered for an error of the system, `NoMaildir` if something else is where a directory is to be. What is known of it is kept.
+fn refusal_of(cause: &mut Option<ErrorKind>, error: io::Error) -> SinkError {
+    *cause = Some(error.kind());
+    match error.kind() {
+        ErrorKind::OutOfMemory => SinkError::Memory,
+        ErrorKind::NotADirectory => SinkError::NoMaildir,
+        _ => SinkError::Failed,
+    }
+}
+
+/// What is answered for what came of a call: of an error as `refusal_of` says.
+fn answer_for(cause: &mut Option<ErrorKind>, done: io::Result<()>) -> Result<(), SinkError>
+    ensures { OnOk result (IsOk done) }
+{
+    match done {
+        Ok(()) => Ok(()),
+        Err(error) => Err(refusal_of(cause, error)),
+    }
+}
+
+/// How the directory of a folder is named behind its first dot; none for INBOX, which is the user's Maildir itself.
+fn directory_in<'a>(home: &str, place: &'a str) -> Option<&'a [u8]> {
+    let below = place.as_bytes().strip_prefix(home.as_bytes())?;
+    let name = below.strip_prefix(b"/.")?;
+    (!name.is_empty()).then(|| name)
+}
+
 /// Whether a path has these directories below it. A link counts as none.
-fn has_parts(rt: &HostRuntime, path: &str, parts: &[&str]) -> io::Result<bool> {
+fn has_parts<F: MailFiles>(files: &F, path: &str, parts: &[&str]) -> io::Result<bool> {
     for part in parts {
-        if !is_directory(rt, format!(in rt.alloc(); "{path}/{part}")?.as_str())? {
+        let below = format!(in files.alloc(); "{path}/{part}")?;
+        if files.identity_at(below.as_str())?.is_none() {
             return Ok(false);
         }
     }
     Ok(true)
 }
 
-/// Whether the path is a directory. One that can't be there isn't, and no link to one is.
-fn is_directory(rt: &HostRuntime, path: &str) -> io::Result<bool> {
-    Ok(Identity::at(rt, path)?.is_some())
+/// Makes a directory in which Maildirs are to be. After Ok its name is on the disk.
+fn make_way<F: MailFiles>(files: &F, path: &str) -> io::Result<()> {
+    make_directory(files, path)?;
+    sync_parent(files, path)
 }
 
 /// Makes a Maildir, with its directories `tmp`, `new` and `cur`, if they aren't there. After Ok their names are on the disk. Nothing is
 /// made beyond a link: one at the end of the path has to lead to a whole Maildir.
-fn make_maildir(rt: &HostRuntime, path: &str) -> io::Result<()> {
+fn make_maildir<F: MailFiles>(files: &F, path: &str) -> io::Result<()> {
     let parts = ["tmp", "new", "cur"];
-    if !has_parts(rt, path, &parts)? {
-        make_directory(rt, path)?;
+    if !has_parts(files, path, &parts)? {
+        make_directory(files, path)?;
         for part in parts {
-            make_directory(rt, format!(in rt.alloc(); "{path}/{part}")?.as_str())?;
+            make_directory(files, format!(in files.alloc(); "{path}/{part}")?.as_str())?;
         }
     }
-    sync_directory(rt, path)?;
-    sync_parent(rt, path)
+    sync_directory(files, path)?;
+    sync_parent(files, path)
+}
+
+/// Puts a message into a Maildir under a name, at a place in it, beside those that were put since it was settled last.
+fn put_at<F: MailFiles>(
+    files: &mut F,
+    found: &mut Option<NewNames<F::Directory>>,
+    path: &str,
+    name: &str,
+    place: &FilePlace,
+    message: &[u8],
+) -> io::Result<()>
+    ensures put { OnOk result (IsWaiting F.got_file files.new found.new path.now place.now.subdirectory (string_bytes place.now.name) message.now) }
+    ensures still_waiting { StaysWaiting F.got_file files.old found.old files.new found.new }
+    ensures still_kept { StaysHeld F.keeps_file files.old files.new }
+{
+    match found {
+        Some(names) => names.put(files, path, name, place, message),
+        None => {
+            let mut names = NewNames::at(files, path)?;
+            let put = names.put(files, path, name, place, message);
+            *found = Some(names);
+            put
+        }
+    }
 }
 
 /// Puts a message into a Maildir under a name, at a place in it. After Ok the file and its name are on the disk; a file that doesn't come
 /// to its place isn't left under `tmp` either.
-fn keep_at(
-    rt: &HostRuntime,
+fn keep_at<F: MailFiles>(
+    files: &mut F,
     path: &str,
     name: &str,
-    place: &str,
+    place: &FilePlace,
     message: &[u8],
-) -> io::Result<()> {
-    let mut names = NewNames::at(rt, path)?;
-    names.put(rt, name, place, message)?;
-    names.settle(rt)
+) -> io::Result<()>
+    ensures kept { OnOk result (F.keeps_file files.new (path_in path.now place.now.subdirectory) (string_bytes place.now.name) message.now) }
+    ensures still_got { StaysGot F.got_file files.old files.new }
+    ensures still_kept { StaysHeld F.keeps_file files.old files.new }
+{
+    let mut names = NewNames::at(files, path)?;
+    names.put(files, path, name, place, message)?;
+    names.settle(files, path)
 }

@@ -136,6 +136,14 @@ impl MailSink for MemorySink {
         Ok(())
     }
 
+    fn make_way(&mut self, _path: &str) -> Result<(), SinkError> {
+        Ok(())
+    }
+
+    fn subscribe(&mut self, _home: &str, _place: &str) -> Result<(), SinkError> {
+        Ok(())
+    }
+
     fn keep(
         &mut self,
         user: &[u8],

@@ -1,6 +1,6 @@
 //! Which directories a Maildir is made of.
-use crate::sync::Identity;
-use std::fs::File;
+use crate::identity::Identity;
+use crate::mail_files::MailFiles;
 use std::io::ErrorKind;
 use std::{format, io};
 
@@ -18,20 +18,20 @@ pub(crate) struct Parts {
 impl Parts {
     /// Those at a path; none if it is no Maildir, which is a directory that has the directories `tmp` and `new`. No link is one, at the end
     /// of the path and below it.
-    pub(crate) fn at(rt: &HostRuntime, path: &str) -> io::Result<Option<Parts>> {
+    pub(crate) fn at<F: MailFiles>(files: &F, path: &str) -> io::Result<Option<Parts>> {
         if path.is_empty() {
             return Ok(None);
         }
-        let Some(whole) = Identity::at(rt, path)? else {
+        let Some(whole) = files.identity_at(path)? else {
             return Ok(None);
         };
-        let Some(tmp) = part_at(rt, path, "tmp")? else {
+        let Some(tmp) = part_at(files, path, "tmp")? else {
             return Ok(None);
         };
-        let Some(new) = part_at(rt, path, "new")? else {
+        let Some(new) = part_at(files, path, "new")? else {
             return Ok(None);
         };
-        let Some(parent) = part_at(rt, path, "..")? else {
+        let Some(parent) = part_at(files, path, "..")? else {
             return Ok(None);
         };
         Ok(Some(Parts {
@@ -39,19 +39,23 @@ impl Parts {
             parent,
             tmp,
             new,
-            cur: part_at(rt, path, "cur")?,
+            cur: part_at(files, path, "cur")?,
         }))
     }
 
     /// Opens them all. Fails if one of them is another one now.
-    pub(crate) fn open_at(self, rt: &HostRuntime, path: &str) -> io::Result<OpenParts> {
-        let whole = self.whole.open_at(rt, path)?;
-        let parent = open_part(rt, path, "..", self.parent)?;
-        let mut others = Vec::new(rt.alloc());
-        others.push(open_part(rt, path, "tmp", self.tmp)?)?;
-        others.push(open_part(rt, path, "new", self.new)?)?;
+    pub(crate) fn open_at<F: MailFiles>(
+        self,
+        files: &F,
+        path: &str,
+    ) -> io::Result<OpenParts<F::Directory>> {
+        let whole = files.open_directory(path, self.whole)?;
+        let parent = open_part(files, path, "..", self.parent)?;
+        let mut others = Vec::new(files.alloc());
+        others.push(open_part(files, path, "tmp", self.tmp)?)?;
+        others.push(open_part(files, path, "new", self.new)?)?;
         if let Some(cur) = self.cur {
-            others.push(open_part(rt, path, "cur", cur)?)?;
+            others.push(open_part(files, path, "cur", cur)?)?;
         }
         Ok(OpenParts {
             whole,
@@ -64,18 +68,18 @@ impl Parts {
 /// The directories of a Maildir, and the one that it is in, each open: while they are, no other directory gets the number of one of them,
 /// even if that is removed. At most 5 descriptors.
 #[derive(Drop)]
-pub(crate) struct OpenParts {
-    whole: File,
-    parent: File,
-    others: Vec<File>,
+pub(crate) struct OpenParts<D> {
+    whole: D,
+    parent: D,
+    others: Vec<D>,
 }
 
-impl OpenParts {
+impl<D: Drop> OpenParts<D> {
     /// Syncs the Maildir and its parent: its name and those of its directories are on the disk then. A file system that syncs no
     /// directories may have the parent: no name in it waits for a disk.
-    pub(crate) fn sync(&self) -> io::Result<()> {
-        self.whole.sync_all()?;
-        match self.parent.sync_all() {
+    pub(crate) fn sync<F: MailFiles<Directory = D>>(&mut self, files: &F) -> io::Result<()> {
+        files.sync_names(&mut self.whole)?;
+        match files.sync_names(&mut self.parent) {
             Err(error) if error.kind() == ErrorKind::InvalidInput => Ok(()),
             synced => synced,
         }
@@ -83,11 +87,19 @@ impl OpenParts {
 }
 
 /// Which directory a part of a Maildir is.
-fn part_at(rt: &HostRuntime, path: &str, part: &str) -> io::Result<Option<Identity>> {
-    Identity::at(rt, format!(in rt.alloc(); "{path}/{part}")?.as_str())
+fn part_at<F: MailFiles>(files: &F, path: &str, part: &str) -> io::Result<Option<Identity>> {
+    files.identity_at(format!(in files.alloc(); "{path}/{part}")?.as_str())
 }
 
 /// Opens a part of a Maildir. Fails if it is another one.
-fn open_part(rt: &HostRuntime, path: &str, part: &str, identity: Identity) -> io::Result<File> {
-    identity.open_at(rt, format!(in rt.alloc(); "{path}/{part}")?.as_str())
+fn open_part<F: MailFiles>(
+    files: &F,
+    path: &str,
+    part: &str,
+    identity: Identity,
+) -> io::Result<F::Directory> {
+    files.open_directory(
+        format!(in files.alloc(); "{path}/{part}")?.as_str(),
+        identity,
+    )
 }

@@ -51,7 +51,8 @@ pub trait MailSink {
     /// grants it.
     ghost has_put: { Self → List ℕ → KeptMail → Type 0 } = { λ _ _ _. ⊤ };
 
-    /// Holds of a message that was put while the sink was at the path, and then settled, from then on. Only an Ok of `settle` grants it.
+    /// Holds of a message that was kept while the sink was at the path, or put then and settled later, from then on. Only an Ok of `keep`
+    /// or of `settle` grants it.
     ghost keeps_at: { Self → List ℕ → KeptMail → Type 0 } = { λ _ _ _. ⊤ };
 
     /// What holds of a sink that refused a call, and why. Only refusals say it, so who can say it of any sink asked it, and was refused
@@ -88,6 +89,32 @@ pub trait MailSink {
         ensures still_kept { StaysPlaced keeps_at self.old self.new }
         ensures denied { IfErr result (refuses self.old) };
 
+    /// Makes a directory at the path, on the way to a place, if none is there, within one that is. After Ok a crash doesn't lose its name.
+    ///
+    /// # Errors
+    ///
+    /// Why it can't be made; a link is none.
+    fn make_way(&mut self, path: &str) -> Result<(), SinkError>
+        ensures unmoved { StaysTrue is_at self.old self.new }
+        ensures same { IsTrue tells → kept self.new ≡ kept self.old }
+        ensures waits { IsTrue tells → unsettled self.new ≡ unsettled self.old }
+        ensures still_put { StaysPlaced has_put self.old self.new }
+        ensures still_kept { StaysPlaced keeps_at self.old self.new }
+        ensures denied { IfErr result (refuses self.old) };
+
+    /// Has clients list the folder at a place within its user's, if that can be done: who can't see the list goes without.
+    ///
+    /// # Errors
+    ///
+    /// Why it can't be done yet: another program is changing the list.
+    fn subscribe(&mut self, home: &str, place: &str) -> Result<(), SinkError>
+        ensures unmoved { StaysTrue is_at self.old self.new }
+        ensures same { IsTrue tells → kept self.new ≡ kept self.old }
+        ensures waits { IsTrue tells → unsettled self.new ≡ unsettled self.old }
+        ensures still_put { StaysPlaced has_put self.old self.new }
+        ensures still_kept { StaysPlaced keeps_at self.old self.new }
+        ensures denied { IfErr result (refuses self.old) };
+
     /// Keeps the message that has this number in the user's folder, with the flags that the text names, so that a crash after Ok doesn't
     /// lose it. What an earlier try kept of the same message under the same number isn't kept twice (a Maildir: while it is where that
     /// put it).
@@ -106,6 +133,7 @@ pub trait MailSink {
         ensures stays { StaysTrue is_at self.old self.new }
         ensures kept { OnOk result (IsTrue tells → kept self.new ≡ kept self.old ++ kept_mail user.now folder.now number message.now flags.now ∷ []) }
         ensures refused { OnErr result (IsTrue tells → MayKeep (kept self.old) (kept_mail user.now folder.now number message.now flags.now) (kept self.new)) }
+        ensures kept_there { OnOk result ((path : List ℕ) → is_at self.old path → keeps_at self.new path (kept_mail user.now folder.now number message.now flags.now)) }
         ensures waits { IsTrue tells → unsettled self.new ≡ unsettled self.old }
         ensures still_put { StaysPlaced has_put self.old self.new }
         ensures still_kept { StaysPlaced keeps_at self.old self.new }

@@ -1,4 +1,5 @@
 //! Maildirs that are on the disk.
+use crate::mail_files::MailFiles;
 use crate::parts::{OpenParts, Parts};
 use crate::sync::{sync_directory, sync_known_parent};
 use std::alloc::{AllocError, Global};
@@ -9,22 +10,22 @@ const MAX_REMEMBERED: usize = 32;
 
 /// A Maildir whose name, and those of its directories, are on the disk for as long as it is made of these.
 #[derive(Drop)]
-struct SyncedMaildir {
+struct SyncedMaildir<D> {
     path: String,
     parts: Parts,
-    _open: OpenParts,
+    _open: OpenParts<D>,
 }
 
 /// Maildirs that were synced by this process, so that none is synced twice. Others remove, rename and make directories meanwhile, so
 /// each is asked again which directories it is made of. The longest unused come first.
 #[derive(Drop)]
-pub(crate) struct SyncedMaildirs {
-    entries: Vec<SyncedMaildir>,
+pub(crate) struct SyncedMaildirs<D> {
+    entries: Vec<SyncedMaildir<D>>,
 }
 
-impl SyncedMaildirs {
+impl<D: Drop> SyncedMaildirs<D> {
     /// None. Takes no memory.
-    pub(crate) fn new(alloc: Global) -> SyncedMaildirs {
+    pub(crate) fn new(alloc: Global) -> SyncedMaildirs<D> {
         SyncedMaildirs {
             entries: Vec::new(alloc),
         }
@@ -32,12 +33,16 @@ impl SyncedMaildirs {
 
     /// Whether the path is a Maildir. If it is, its name and those of its directories are on the disk, even if the run that made them
     /// was killed, and whatever else came under that path since it was asked last.
-    pub(crate) fn settle(&mut self, rt: &HostRuntime, path: &str) -> io::Result<bool> {
-        let Some(parts) = Parts::at(rt, path)? else {
+    pub(crate) fn settle<F: MailFiles<Directory = D>>(
+        &mut self,
+        files: &F,
+        path: &str,
+    ) -> io::Result<bool> {
+        let Some(parts) = Parts::at(files, path)? else {
             return Ok(false);
         };
         if !self.recall(path, &parts) {
-            self.sync(rt, path, parts)?;
+            self.sync(files, path, parts)?;
         }
         Ok(true)
     }
@@ -57,17 +62,22 @@ impl SyncedMaildirs {
     }
 
     /// Syncs a Maildir, and remembers it, if all of it may be opened.
-    fn sync(&mut self, rt: &HostRuntime, path: &str, parts: Parts) -> io::Result<()> {
-        match parts.open_at(rt, path) {
-            Ok(open) => {
-                open.sync()?;
+    fn sync<F: MailFiles<Directory = D>>(
+        &mut self,
+        files: &F,
+        path: &str,
+        parts: Parts,
+    ) -> io::Result<()> {
+        match parts.open_at(files, path) {
+            Ok(mut open) => {
+                open.sync(files)?;
                 // Without memory for it, it is synced again next time.
-                let _ = self.remember(rt.alloc(), path, parts, open);
+                let _ = self.remember(files.alloc(), path, parts, open);
                 Ok(())
             }
             Err(_) => {
-                sync_directory(rt, path)?;
-                sync_known_parent(rt, path)
+                sync_directory(files, path)?;
+                sync_known_parent(files, path)
             }
         }
     }
@@ -78,7 +88,7 @@ impl SyncedMaildirs {
         alloc: Global,
         path: &str,
         parts: Parts,
-        open: OpenParts,
+        open: OpenParts<D>,
     ) -> Result<(), AllocError> {
         if self.entries.len() >= MAX_REMEMBERED {
             drop(self.entries.remove(0));

@@ -2,6 +2,8 @@ pub mod Enduring
 pub mod Moving
 pub mod Order
 pub mod Place
+pub mod Relying
 pub mod Rests
+pub mod Steps
 pub mod Turns
 pub mod Waits

@@ -1,4 +1,4 @@
--- Who may be moved next, given who was moved last: a message of each user a round, and of a user's folders one after the other.
+-- Who may be moved next, given who was moved last: a batch of each user a round, and of a user's folders one after the other.
 use Rattle.std.specs.Prelude.{◌≡◌, ◌⊎◌, ◌<◌, ◌&&◌, ℕ, not, Bool, true, false, List, [], ◌∷◌, ◌++◌, find, filter, Option, Some, None, option_map, IsTrue, nat_eq}
 use Rattle.std.specs.Ordering.{is_lt}
 use Rattle.std.specs.Cmp.Lexicographic.{pointwise}

@@ -1,16 +1,21 @@
-//! Mail that moves on out of a store: which message is next, where it goes, and which folders rest. It is kept by a sink first, and
-//! taken out then.
+//! Mail that moves on out of a store: whose is next, where it goes, and which folders rest. A sink keeps it first; then it is taken
+//! out.
 #![tactic(auto)]
 
+mod batch;
+mod first_mails;
 pub mod laws;
+mod load;
 mod maildir_path;
 mod moving;
 mod order;
 mod rest;
 mod route;
 
-pub use maildir_path::{home_of, place_in};
-pub use moving::{Kept, Moving, Stay, StayReason, move_first_mail};
+pub use batch::{BegunBatch, MailBatch};
+pub use load::Load;
+pub use maildir_path::place_in;
+pub use moving::{MovePause, Moving, Stay, StayReason, pause_behind};
 pub use order::{FolderMark, MoveOrder};
 pub use rest::{Rest, Rests};
-pub use route::{Route, move_next, span_behind};
+pub use route::{Route, move_next};

@@ -1,6 +1,5 @@
-//! Whose turn it is: a message of each user a round, and of a user's folders one after the other.
+//! Whose turn it is: a batch of each user a round, and of a user's folders one after the other.
 ghost use Rattle.std.specs.Prelude.{◌≡◌, ◌+◌, ◌<◌, ◌^◌, ◌++◌, ◌∷◌, [], None, IfOk, OnOk, OnErr, find, filter, not, option_copied};
-ghost use Rattle.store_tables.specs.Cells.{borrowed_octets};
 ghost use Rattle.maildir_moves.specs.Order as order;
 ghost use Rattle.maildir_moves.specs.Turns.{BeginsRound, OrderStays, TurnEnds, TurnGoesOn};
 

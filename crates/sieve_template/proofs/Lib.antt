@@ -6,4 +6,5 @@ pub mod TemplateLemmas
 pub mod TemplateLaws
 pub mod TemplateExistence
 pub mod SetLaws
+pub mod KeptLemmas
 pub mod TemplateExamples

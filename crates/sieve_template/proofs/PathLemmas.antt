@@ -196,6 +196,12 @@ unfolding IsIdentifier
 identifier_if [] some digit all = omega (arith, some)
 identifier_if (x ∷ rest) some digit all = (digit, all)
 
+-- an identifier is octets of names, the first of which is no digit
+pub identifier_parts : (name : List ℕ) → IsIdentifier name → (0 < length name) × ((is_ascii_digit (get_or name 0 0) ≡ false) × (list_all is_variable_octet name ≡ true))
+unfolding IsIdentifier
+identifier_parts [] is = absurd is
+identifier_parts (x ∷ rest) is = (omega arith, is)
+
 pub number_if : (name : List ℕ) → 0 < length name → list_all is_ascii_digit name ≡ true → IsNumVariable name
 unfolding IsNumVariable
 number_if [] some all = omega (arith, some)

@@ -7,14 +7,14 @@ use Rattle.sieve_template.specs.Modifiers.{precedence_at, Modifies, AppliesAt, I
 use Rattle.sieve_template.specs.declared.modifier.Modifier.{Modifier}
 use Rattle.sieve_template.specs.declared.modifier.Modifier.TheVariants.{Lower, Upper, LowerFirst, UpperFirst, QuoteWildcard, Length}
 
-kept_one : (quote : Bool) (text a b : List ℕ) → IsKeptAs quote text a → IsKeptAs quote text b → a ≡ b
+pub kept_one : (quote : Bool) (text a b : List ℕ) → IsKeptAs quote text a → IsKeptAs quote text b → a ≡ b
 kept_one quote text a b one other =
     let low : one.0 ≤ other.0 = other.1.longest one.0 one.1.within one.1.whole one.1.fits in
     let high : other.0 ≤ one.0 = one.1.longest other.0 other.1.within other.1.whole other.1.fits in
     let same : one.0 ≡ other.0 = omega arith in
     one.2 ∙ ap (λ n. written_text_as quote (take n text)) same ∙ sym other.2
 
-modifies_one : (modifier : Modifier) (value a b : List ℕ) → Modifies modifier value a → Modifies modifier value b → a ≡ b
+pub modifies_one : (modifier : Modifier) (value a b : List ℕ) → Modifies modifier value a → Modifies modifier value b → a ≡ b
 modifies_one Lower value a b one other = one ∙ sym other
 modifies_one Upper value a b one other = one ∙ sym other
 modifies_one LowerFirst value a b one other = one ∙ sym other

@@ -1,11 +1,15 @@
 -- How the pieces of a text go on from reference to reference.
-use Rattle.std.proofs.Common.{refl, ◌≡◌, ℕ, zero, suc, ◌+◌, ◌-◌, ◌<◌, ◌≤◌, true, List, [], ◌∷◌, ◌++◌, length, take, drop, get_or, sym, ap, subst, ◌∙◌, ⊎_elim, Option, None, Some, MatchOption, arith, append_assoc, length-append}
-use Rattle.std.proofs.lemmas.List.{drop_more, drop_at, drop-drop, length-drop, take-append-drop, append-nil, length-take}
+use Rattle.std.proofs.Common.{refl, ◌≡◌, ℕ, zero, suc, ◌+◌, ◌-◌, ◌<◌, ◌≤◌, true, List, [], ◌∷◌, ◌++◌, length, take, drop, get_or, sym, ap, subst, ◌∙◌, ⊎_elim, Option, None, Some, MatchOption, MatchBool, is_some, Bool, min, arith, append_assoc, length-append}
+use Rattle.std.proofs.lemmas.List.{drop_more, drop_at, drop-drop, length-drop, take-append-drop, append-nil, length-take, take_all}
 use Rattle.std.specs.Char.{is_ascii_digit}
 use Rattle.std.proofs.lemmas.Bool.{and_parts, cases_eq}
 use Rattle.std.specs.List.{list_all}
 use Rattle.sieve_template.specs.Templates.{IsNumVariable, IsInBraces, BeginsWithReference, HasNoReference, BeginWithNoText, IsPieceOf, AreThePieces}
-use Rattle.sieve_template.specs.Reading.{BeginsInBraces, StandsInBraces, StandsAtPlace, NoReferenceIn, text_pieces}
+use Rattle.octets.specs.Decimal.{number_of}
+use Rattle.sieve_template.specs.declared.limits.TheConstants.{MAX_MATCH_VARIABLE}
+use Rattle.sieve_template.specs.Reading.{RefersBy, BeginsInBraces, StandsInBraces, StandsAtPlace, NoReferenceIn, text_pieces}
+use Rattle.sieve_template.specs.declared.reference.ReferenceKind.{ReferenceKind}
+use Rattle.sieve_template.specs.declared.reference.ReferenceKind.TheVariants.{ByName, ByNumber, ByPath}
 use Rattle.sieve_template.specs.declared.reference.Reference.{Reference}
 use Rattle.sieve_template.specs.declared.template.Piece.{Piece}
 use Rattle.sieve_template.specs.declared.template.Piece.TheVariants.{Text, Variable, Match, Namespaced}
@@ -161,3 +165,27 @@ none_more text from place before here k low high piece after b = ⊎_elim
     (λ same. here piece after (subst (λ n. BeginsWithReference piece (drop n text) after) same b))
     (λ other. before k low (omega arith) piece after b)
     (cases_eq k place)
+
+-- a text has a reference where one is found, and none where none is
+stands_some : (kind : ReferenceKind) (inside : List ℕ) → RefersBy kind inside → (piece : Piece) × IsInBraces piece inside
+unfolding IsInBraces
+stands_some ByName inside is = (Variable inside, (refl, is))
+stands_some ByNumber inside is = (Match (min (number_of inside) (MAX_MATCH_VARIABLE + 1)), (refl, is))
+stands_some ByPath inside is = (Namespaced inside, (refl, is))
+
+has_some : (text : List ℕ) (place : ℕ) (reference : Reference) → StandsAtPlace text place reference → HasNoReference text → ⊥
+has_some text place reference stands none =
+    let found = stands_some reference.kind reference.inside.now stands.kind in
+    none (take place text) (drop place text) (drop reference.end text) found.0 (sym (take-append-drop place text))
+    (record { inside = reference.inside.now; spelled = stands.spelled; is = found.1 })
+
+has_none : (text : List ℕ) → NoReferenceIn text 0 (length text) → HasNoReference text
+has_none text none =
+    let same : length text - 0 ≡ length text = omega arith in
+    subst HasNoReference (ap (λ n. take n text) same ∙ take_all (length text) text (omega arith)) (plain_between text 0 (length text) none (omega arith))
+
+pub has_is : (text : List ℕ) (found : Option (ℕ × Reference)) (b : Bool)
+    → MatchOption found (NoReferenceIn text 0 (length text)) (λ f. (0 ≤ f.0) × NoReferenceIn text 0 f.0 × StandsAtPlace text f.0 f.1) → b ≡ is_some found
+    → MatchBool b (HasNoReference text → ⊥) (HasNoReference text)
+has_is text None b none is = subst (λ v. MatchBool v (HasNoReference text → ⊥) (HasNoReference text)) (sym is) (has_none text none)
+has_is text (Some f) b some is = subst (λ v. MatchBool v (HasNoReference text → ⊥) (HasNoReference text)) (sym is) (has_some text f.0 f.1 some.2)

@@ -1,9 +1,9 @@
 -- What `set` makes of a value (RFC 5229, section 4.1).
-use Rattle.std.specs.Prelude.{◌≡◌, ◌≢◌, ℕ, ◌<◌, true, false, List, [], ◌∷◌, length, map, slice_index_or, decimal}
+use Rattle.std.specs.Prelude.{◌≡◌, ◌≢◌, ℕ, ◌<◌, ◌==◌, true, false, cond, List, [], ◌∷◌, length, map, slice_index_or, decimal, Option, Some, None}
 use Rattle.std.specs.Char.{to_ascii_lowercase, to_ascii_uppercase}
 use Rattle.sieve_template.specs.declared.modifier.Modifier.{Modifier}
 use Rattle.sieve_template.specs.declared.modifier.Modifier.TheVariants.{Lower, Upper, LowerFirst, UpperFirst, QuoteWildcard, Length}
-use Rattle.sieve_template.specs.Values.{character_count, IsKeptAs}
+use Rattle.sieve_template.specs.Values.{character_count, IsKeptAs, kept_as}
 
 -- the table of precedences (4.1): the modifier with the highest one is applied first
 abbrev pub precedence_of : Modifier → ℕ
@@ -58,3 +58,29 @@ pub record IsSetTo (modifiers : List Modifier) (value stored : List ℕ) : Type 
   pub by_quoting : AppliesAt modifiers 20 first_cased quoted
   pub by_length : AppliesAt modifiers 10 quoted counted
   pub kept : IsKeptAs false counted stored
+
+-- ---- the same as functions
+
+-- what a modifier makes of a value
+abbrev pub modified : Modifier → List ℕ → List ℕ
+modified Lower value = map to_ascii_lowercase value
+modified Upper value = map to_ascii_uppercase value
+modified LowerFirst value = with_first_octet to_ascii_lowercase value
+modified UpperFirst value = with_first_octet to_ascii_uppercase value
+modified QuoteWildcard value = kept_as true value
+modified Length value = decimal (character_count value)
+
+-- the first modifier of a precedence, the only one where no two have one
+abbrev pub first_with : List Modifier → ℕ → Option Modifier
+first_with [] precedence = None
+first_with (modifier ∷ more) precedence = cond (precedence_of modifier == precedence) (Some modifier) (first_with more precedence)
+
+-- a value as a modifier leaves it, if there is one
+abbrev pub modified_if_any : Option Modifier → List ℕ → List ℕ
+modified_if_any None value = value
+modified_if_any (Some modifier) value = modified modifier value
+
+-- what `set` stores: the one text with `IsSetTo`, where no two modifiers have one precedence
+unfoldable pub value_set : List Modifier → List ℕ → List ℕ
+value_set modifiers value =
+    kept_as false (modified_if_any (first_with modifiers 10) (modified_if_any (first_with modifiers 20) (modified_if_any (first_with modifiers 30) (modified_if_any (first_with modifiers 40) value))))

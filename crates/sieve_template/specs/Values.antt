@@ -1,5 +1,5 @@
 -- The characters of a text, and how much of it a variable holds (RFC 5229, section 6).
-use Rattle.std.specs.Prelude.{◌≡◌, ℕ, ◌<◌, ◌≤◌, ◌==◌, Bool, true, ◌||◌, cond, nat_lt, nat_le, List, [], ◌∷◌, length, take, slice_index, count_by}
+use Rattle.std.specs.Prelude.{◌≡◌, ℕ, zero, suc, ◌<◌, ◌≤◌, ◌==◌, Bool, true, ◌||◌, ◌&&◌, cond, nat_lt, nat_le, List, [], ◌∷◌, length, take, slice_index, count_by}
 use Rattle.std.specs.List.{flat_map}
 use Rattle.sieve_template.specs.declared.limits.TheConstants.{MAX_VALUE_CHARACTERS, MAX_VALUE_OCTETS}
 
@@ -47,3 +47,20 @@ pub record IsCutAt (quote : Bool) (text : List ℕ) (place : ℕ) : Type 0 where
 -- what is kept of a text, as it is written
 abbrev pub IsKeptAs : Bool → List ℕ → List ℕ → Type 0
 IsKeptAs quote text kept = (place : ℕ) × IsCutAt quote text place × (kept ≡ written_text_as quote (take place text))
+
+-- ---- the same as functions
+
+-- whether what is kept may end at a place
+abbrev pub may_end : Bool → List ℕ → ℕ → Bool
+may_end quote text place =
+    (place == 0 || (nat_le (length text) place || begins_character (slice_index text place)))
+    && (nat_le (length (written_text_as quote (take place text))) MAX_VALUE_OCTETS && nat_le (character_count (written_text_as quote (take place text))) MAX_VALUE_CHARACTERS)
+
+-- the greatest number up to one that passes, and 0 if none does
+abbrev pub greatest_member : (ℕ → Bool) → ℕ → ℕ
+greatest_member passes zero = 0
+greatest_member passes (suc n) = cond (passes (suc n)) (suc n) (greatest_member passes n)
+
+-- what is kept of a text: the one text with `IsKeptAs`
+unfoldable pub kept_as : Bool → List ℕ → List ℕ
+kept_as quote text = written_text_as quote (take (greatest_member (may_end quote text) (length text)) text)

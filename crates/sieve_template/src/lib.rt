@@ -16,5 +16,6 @@ pub use limits::{
     MAX_MATCH_VARIABLE, MAX_VALUE_CHARACTERS, MAX_VALUE_OCTETS, MAX_VARIABLE_NAME, MAX_VARIABLES,
 };
 pub use modifier::{Modifier, find_conflict, set_value};
-pub use template::{Piece, Template, read_template};
+pub use reference::is_variable_name;
+pub use template::{Piece, Template, has_reference, read_template};
 pub use value::{count_characters, cut_value};

@@ -1,7 +1,7 @@
 //! The modifiers of `set` (RFC 5229, section 4.1).
-ghost use Rattle.std.specs.Prelude.{◌≡◌, ◌≢◌, ◌↔◌, ℕ, ◌<◌, length, slice_index_or, MatchOption, IfOk, IsTrue};
+ghost use Rattle.std.specs.Prelude.{◌≡◌, ◌↔◌, ℕ, ◌<◌, length, MatchOption, IfOk, IsTrue};
 ghost use Rattle.sieve_template.specs.Values.{quoted_text};
-ghost use Rattle.sieve_template.specs.Modifiers.{precedence_of, precedence_at, Modifies, RepeatsPrecedence, HaveNoConflict, AppliesAt, IsSetTo};
+ghost use Rattle.sieve_template.specs.Modifiers.{precedence_of, Modifies, RepeatsPrecedence, HaveNoConflict, IsSetTo, first_with, modified_if_any, value_set};
 
 use crate::value::{count_characters, cut_value, end_of_value, is_wildcard};
 use octets::{Octets, write_decimal};
@@ -153,8 +153,7 @@ fn repeats(modifiers: &[Modifier], k: usize) -> bool
 
 // The first modifier of a precedence.
 fn with_precedence(modifiers: &[Modifier], precedence: u8) -> Option<Modifier>
-    ensures { MatchOption result ((k : ℕ) → k < length modifiers.now → precedence_at modifiers.now k ≢ precedence)
-        (λ modifier. (k : ℕ) × (k < length modifiers.now) × (precedence_at modifiers.now k ≡ precedence) × (slice_index_or modifiers.now k Modifier.Lower ≡ modifier)) }
+    ensures { result ≡ first_with modifiers.now precedence }
 {
     for modifier in modifiers {
         if modifier.precedence() == precedence {
@@ -164,15 +163,14 @@ fn with_precedence(modifiers: &[Modifier], precedence: u8) -> Option<Modifier>
     None
 }
 
-// What the modifier of a precedence makes of a value, if there is one.
+// What the first modifier of a precedence makes of a value, if there is one.
 fn apply_at(
     alloc: Global,
     modifiers: &[Modifier],
     precedence: u8,
     value: Octets,
 ) -> Result<Octets, AllocError>
-    requires { HaveNoConflict modifiers.now }
-    ensures { IfOk result (λ out. AppliesAt modifiers.now precedence value out) }
+    ensures { IfOk result (λ out. out ≡ modified_if_any (first_with modifiers.now precedence) value) }
 {
     match with_precedence(modifiers, precedence) {
         Some(modifier) => modifier.apply(alloc, value),
@@ -181,10 +179,10 @@ fn apply_at(
 }
 
 /// What `set` stores: the modifiers are applied to a value by their precedences, the highest first, and of the result as much is
-/// kept as a variable holds. The only error is lack of memory.
+/// kept as a variable holds; of two with one precedence the first counts. The only error is lack of memory.
 pub fn set_value(alloc: Global, modifiers: &[Modifier], value: Octets) -> Result<Octets, AllocError>
-    requires { HaveNoConflict modifiers.now }
-    ensures { IfOk result (λ stored. IsSetTo modifiers.now value stored) }
+    ensures stored { IfOk result (λ stored. stored ≡ value_set modifiers.now value) }
+    ensures right { HaveNoConflict modifiers.now → IfOk result (λ stored. IsSetTo modifiers.now value stored) }
 {
     let cased = apply_at(alloc, modifiers, 40, value)?;
     let first_cased = apply_at(alloc, modifiers, 30, cased)?;

@@ -4,11 +4,11 @@ ghost use Rattle.std.specs.List.{list_all};
 ghost use Rattle.std.specs.Char.{is_ascii_digit};
 ghost use Rattle.octets.specs.Decimal.{number_of};
 ghost use Rattle.sieve_template.specs.Templates as templates;
-ghost use Rattle.sieve_template.specs.Templates.{IsNumVariable, IsVariableName, IsInBraces, BeginsWithReference};
+ghost use Rattle.sieve_template.specs.Templates.{IsNumVariable, IsIdentifier, IsVariableName, IsInBraces, BeginsWithReference};
 ghost use Rattle.sieve_template.specs.Reading.{name_run, IsNameOf, RefersBy, NamesClose, BeginsInBraces, StandsInBraces, IsPathTo, StandsAtPlace, NoReferenceIn};
 ghost use Rattle.sieve_template.specs.declared.template.Piece.{Piece};
 
-use crate::limits::MAX_MATCH_VARIABLE;
+use crate::limits::{MAX_MATCH_VARIABLE, MAX_VARIABLE_NAME};
 use crate::template::Piece;
 use octets::Octets;
 use std::alloc::{AllocError, Global};
@@ -81,6 +81,32 @@ fn name_kind(name: &[u8]) -> Option<NameKind>
         return None;
     }
     Some(NameKind::Number)
+}
+
+fn are_variable_octets(name: &[u8]) -> bool
+    ensures { result ≡ list_all templates.is_variable_octet name.now }
+{
+    name.iter().all(|octet| is_variable_octet(*octet))
+}
+
+fn is_identifier(name: &[u8]) -> bool
+    ensures { IsTrue result ↔ IsIdentifier name.now }
+{
+    if name.is_empty() {
+        return false;
+    }
+    if name[0].is_ascii_digit() {
+        return false;
+    }
+    are_variable_octets(name)
+}
+
+/// Whether a text is the name of a variable that a script may set: a letter of US-ASCII or `_`, then letters, digits and `_` (RFC 5229,
+/// section 3), and no longer than is accepted. Linear; takes no memory.
+pub fn is_variable_name(name: &[u8]) -> bool
+    ensures { IsTrue result ↔ (IsIdentifier name.now × (length name.now ≤ MAX_VARIABLE_NAME)) }
+{
+    name.len() <= MAX_VARIABLE_NAME && is_identifier(name)
 }
 
 // The place behind the closing brace, if names stand from `from` on, one or more with a dot between them, and then the brace.

@@ -1,6 +1,6 @@
 //! How a string is read where variables are required (RFC 5229, section 3).
-ghost use Rattle.std.specs.Prelude.{◌≡◌, ◌++◌, IfOk, OnOk, OnErr};
-ghost use Rattle.sieve_template.specs.Templates.{AreThePieces};
+ghost use Rattle.std.specs.Prelude.{◌≡◌, ◌++◌, IfOk, OnOk, OnErr, MatchBool};
+ghost use Rattle.sieve_template.specs.Templates.{AreThePieces, HasNoReference};
 ghost use Rattle.sieve_template.specs.Reading.{text_pieces};
 
 use crate::reference::{find_reference, piece_of};
@@ -31,6 +31,13 @@ fn push_text(alloc: Global, pieces: &mut Template, text: &[u8]) -> Result<(), Al
         return Ok(());
     }
     pieces.push(Piece::Text(Octets::from_slice(alloc, text)?))
+}
+
+/// Whether a reference stands in a string. One pass; takes no memory.
+pub fn has_reference(text: &[u8]) -> bool
+    ensures { MatchBool result (HasNoReference text.now → ⊥) (HasNoReference text.now) }
+{
+    find_reference(text, 0).is_some()
 }
 
 /// Reads a string: the references that stand in it, and between them the text, which stays as it is. One pass; the only error is

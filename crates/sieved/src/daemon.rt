@@ -11,6 +11,7 @@ use daemon_core::life;
 use daemon_core::mail::{MailDaemon, Places};
 use daemon_host::host::Host;
 use maildir_files::MailSink;
+use maildir_homes::{MailHomes, read_homes};
 use maildir_moves::Route;
 use net_loop::service::Service;
 use net_sockets::SystemSockets;
@@ -50,6 +51,10 @@ pub fn serve_daemon<
         Ok(asked) => asked,
         Err(fault) => return FaultWithCause::from(fault).refuse(&mut errors),
     };
+    let homes = match homes_of(alloc, asked.mail) {
+        Ok(homes) => homes,
+        Err(fault) => return fault.refuse(&mut errors),
+    };
     let settings = match read_settings(system, alloc, asked.zone, files, output, &mut errors) {
         Ok(settings) => settings,
         Err(status) => return status,
@@ -59,6 +64,7 @@ pub fn serve_daemon<
         alloc,
         words,
         &asked,
+        &homes,
         descriptor,
         &mut errors,
         &mut keeper,
@@ -68,10 +74,7 @@ pub fn serve_daemon<
         Err(fault) => return fault.refuse(&mut errors),
     };
     let lines = lines_of(alloc, files, &settings);
-    let route = match route_of(alloc, asked.mail) {
-        Ok(route) => route,
-        Err(refused) => return FaultWithCause::from(refused).refuse(&mut errors),
-    };
+    let route = route_of(alloc, asked.mail, homes);
     match watch(system, alloc, listening, output) {
         Ok(sockets) => {
             let mut host = Host::new(
@@ -99,13 +102,14 @@ fn begin<N: Net + Files, D: AsFd, E: Write, K: Keeper>(
     alloc: Global,
     words: words::DaemonArgs<'_>,
     asked: &DaemonOptions<'_>,
+    homes: &Option<MailHomes>,
     descriptor: &D,
     errors: &mut E,
     keeper: &mut K,
 ) -> Result<Option<Listening>, FaultWithCause> {
     look_at_limit(asked.places)?;
     look_at_store(words.path, errors, keeper)?;
-    look_at_mail(system, asked.mail)?;
+    look_at_mail(system, homes)?;
     let listening = listen(system, alloc, asked, descriptor)?;
     if words.check {
         return Ok(None);
@@ -146,24 +150,42 @@ fn look_at_store<E: Write, K: Keeper>(
     Ok(())
 }
 
-/// Checks that the directory of the Maildirs exists.
-fn look_at_mail<N: Files>(system: &N, mail: Option<MailOptions<'_>>) -> Result<(), FaultWithCause> {
+/// Where the users' Maildirs are, if mail moves on.
+fn homes_of(
+    alloc: Global,
+    mail: Option<MailOptions<'_>>,
+) -> Result<Option<MailHomes>, FaultWithCause> {
     let Some(mail) = mail else {
+        return Ok(None);
+    };
+    match read_homes(alloc, mail.homes.as_bytes()) {
+        Ok(Some(homes)) => Ok(Some(homes)),
+        Ok(None) => Err(FaultWithCause::from(RunFault::BadArgument)),
+        Err(refused) => Err(FaultWithCause::from(refused)),
+    }
+}
+
+/// Checks that the directory that all Maildirs are in exists.
+fn look_at_mail<N: Files>(system: &N, homes: &Option<MailHomes>) -> Result<(), FaultWithCause> {
+    let Some(homes) = homes else {
         return Ok(());
     };
-    match fs::metadata(system, mail.dir) {
+    let Ok(dir) = str::from_utf8(homes.dir.as_slice()) else {
+        return Err(FaultWithCause::from(RunFault::NoMaildir));
+    };
+    match fs::metadata(system, dir) {
         Ok(found) if found.is_dir() => Ok(()),
         _ => Err(FaultWithCause::from(RunFault::NoMaildir)),
     }
 }
 
 /// The route of mail into Maildirs, if mail moves on.
-fn route_of(alloc: Global, mail: Option<MailOptions<'_>>) -> Result<Option<Route>, AllocError> {
-    let Some(mail) = mail else {
-        return Ok(None);
-    };
-    let dir = Octets::from_slice(alloc, mail.dir.as_bytes())?;
-    Ok(Some(Route::new(alloc, dir, mail.separator)))
+fn route_of(
+    alloc: Global,
+    mail: Option<MailOptions<'_>>,
+    homes: Option<MailHomes>,
+) -> Option<Route> {
+    Some(Route::new(alloc, homes?, mail?.separator))
 }
 
 /// Registers all listeners with the system, and prints that they listen.
@@ -186,21 +208,26 @@ fn live<N: Net + Clock, E: Write + Drop, K: Keeper + Drop, T: MailSink + Drop>(
     asked: &DaemonOptions<'_>,
     mut host: Host<'_, N, E, K, T>,
 ) -> u8 {
-    let name = match Octets::from_slice(alloc, asked.host.as_bytes()) {
-        Ok(name) => name,
+    let mut daemon = match daemon_of(alloc, asked) {
+        Ok(daemon) => daemon,
         Err(refused) => return host.refuse(FaultWithCause::from(refused)),
     };
-    let mut daemon = MailDaemon::new(
+    let mut service = Service::new(alloc);
+    match life::serve_clients(&mut host, &mut daemon, &mut service, u64::MAX) {
+        Ok(()) => 0,
+        Err(_) => host.refuse(FaultWithCause::from(RunFault::Stream)),
+    }
+}
+
+/// A daemon with no client yet.
+fn daemon_of(alloc: Global, asked: &DaemonOptions<'_>) -> Result<MailDaemon, AllocError> {
+    let name = Octets::from_slice(alloc, asked.host.as_bytes())?;
+    Ok(MailDaemon::new(
         alloc,
         asked.names,
         name,
         asked.mail.is_some(),
         asked.memory,
         asked.places,
-    );
-    let mut service = Service::new(alloc);
-    match life::serve_clients(&mut host, &mut daemon, &mut service, u64::MAX) {
-        Ok(()) => 0,
-        Err(_) => host.refuse(FaultWithCause::from(RunFault::Stream)),
-    }
+    ))
 }

@@ -18,7 +18,8 @@ use cli_run::fault::{RunFault, refuse};
 use cli_run::run::{run_subcommand, tell_unread};
 use cli_run::session::run_session;
 use cli_subcommands::{
-    HostFiles, RawArgs, Subcommand, match_command_line, read_host_files, read_matches,
+    HostFiles, RawArgs, StoreDefaults, Subcommand, match_command_line, read_host_files,
+    read_matches,
 };
 use daemon::serve_daemon;
 use host_settings::read_texts;
@@ -143,24 +144,45 @@ where
     }
 }
 
-/// The arguments after the program's name.
+/// The arguments after the program's name, in this environment.
 fn words_after_name(rt: &HostRuntime) -> Result<RawArgs, AllocError> {
     let mut words = Vec::new(rt.alloc());
     for at in 1..usize::MAX {
-        match word_at(rt, at)? {
+        match text_at(rt, Place::Argument(at))? {
             Some(word) => words.push(word)?,
             None => break,
         }
     }
-    RawArgs::new(rt.alloc(), words)
+    let words = RawArgs::new(rt.alloc(), words)?;
+    Ok(words.with_defaults(store_defaults(rt)?))
 }
 
-/// The argument at an index, counted from the program's name; `None` after the last one.
-fn word_at(rt: &HostRuntime, at: usize) -> Result<Option<Octets>, AllocError> {
+/// What the environment says of the store.
+fn store_defaults(rt: &HostRuntime) -> Result<StoreDefaults, AllocError> {
+    let db = text_at(rt, Place::Variable("SIEVED_DB"))?;
+    let wait = text_at(rt, Place::Variable("SIEVED_WAIT"))?;
+    Ok(StoreDefaults::from_variables(db, wait))
+}
+
+/// Where the system has a text for the program.
+#[derive(Clone, Copy)]
+enum Place<'a> {
+    /// The argument at this index, counted from the program's name.
+    Argument(usize),
+    /// The variable of the environment with this name.
+    Variable(&'a str),
+}
+
+/// The text at a place; `None` after the last argument, and of a variable that isn't set.
+fn text_at(rt: &HostRuntime, place: Place<'_>) -> Result<Option<Octets>, AllocError> {
     let mut room = Vec::new(rt.alloc());
     for bits in 8..usize::BITS {
         room.resize(1 << bits, 0)?;
-        match rt.arg(at, &mut room) {
+        let filled = match place {
+            Place::Argument(at) => rt.arg(at, &mut room),
+            Place::Variable(name) => rt.var(name, &mut room),
+        };
+        match filled {
             Ok(len) => return Ok(Some(Octets::from_slice(rt.alloc(), &room[..len])?)),
             Err(FillError::NotPresent) => return Ok(None),
             Err(FillError::TooLong) => {}

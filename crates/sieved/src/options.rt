@@ -40,8 +40,8 @@ pub enum LmtpEndpoint<'a> {
 /// Where mail moves to.
 #[derive(Clone, Copy)]
 pub struct MailOptions<'a> {
-    /// The directory of the users' Maildirs.
-    pub dir: &'a str,
+    /// Where the users' Maildirs are, as `read_homes` reads it.
+    pub homes: &'a str,
     /// The separator of the levels of a folder's name in a Maildir.
     pub separator: Separator,
 }
@@ -93,14 +93,14 @@ pub fn read_options(words: DaemonArgs<'_>) -> Result<DaemonOptions<'_>, RunFault
 
 /// Where mail moves to. A separator of levels may be given only with it.
 fn mail_of(words: DaemonArgs<'_>) -> Result<Option<MailOptions<'_>>, RunFault> {
-    let Some(dir) = words.mail else {
+    let Some(homes) = words.mail else {
         return match words.separator {
             Some(_) => Err(RunFault::BadArgument),
             None => Ok(None),
         };
     };
     let separator = separator_of(words.separator)?;
-    Ok(Some(MailOptions { dir, separator }))
+    Ok(Some(MailOptions { homes, separator }))
 }
 
 fn endpoint_of(text: &str) -> LmtpEndpoint<'_> {

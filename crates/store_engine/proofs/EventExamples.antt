@@ -26,27 +26,27 @@ use Rattle.store_engine.specs.declared.terms.HostSettings.{HostSettings}
 use Rattle.store_engine.specs.declared.terms.Terms.{Terms}
 use Rattle.store_engine.proofs.AloneLemmas.{put_own, put_other, delivery_other}
 
-abbrev alice : List ℕ
+abbrev pub alice : List ℕ
 alice = codes "alice"
 
-abbrev bob : List ℕ
+abbrev pub bob : List ℕ
 bob = codes "bob"
 
-abbrev envelope : Envelope
+abbrev pub envelope : Envelope
 envelope = record { from = codes "bob@example.net"; to = codes "alice@example.org" }
 
-abbrev message : List ℕ
+abbrev pub message : List ℕ
 message = codes "Hi"
 
 abbrev row : ℕ → QueuedMessage
 row id = record { id = id; kind = Redirect; sender = codes "bob@example.net"; target = codes "carol@example.com"; message = message }
 
 -- a host in UTC, without scripts of its own
-abbrev in_utc : HostSettings
+abbrev pub in_utc : HostSettings
 in_utc = record { zone = Always (record { minutes = pos 0; within = (search (rules, ints), search (rules, ints)) }); default = None; scripts = no_host_scripts }
 
 -- the fifth second of 1970 there, and one past the year 9999
-abbrev at_five : Terms
+abbrev pub at_five : Terms
 at_five = record { when = record { moment = 5; zone = pos 0; within = (search (rules, ints), search (rules, ints)) }; host = in_utc }
 
 abbrev too_late : Terms

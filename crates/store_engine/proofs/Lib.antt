@@ -2,6 +2,8 @@ pub mod ActLaws
 mod AloneExamples
 pub mod AloneLemmas
 pub mod CopyLemmas
+mod DeliveriesExamples
+pub mod DeliveriesLemmas
 pub mod DeliveryLemmas
 mod EventExamples
 mod FlagLemmas

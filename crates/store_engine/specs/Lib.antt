@@ -1,5 +1,6 @@
 pub mod AccountEvents
 pub mod Attempts
+pub mod Deliveries
 pub mod Hosts
 pub mod Importable
 pub mod Limits

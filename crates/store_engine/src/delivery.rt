@@ -106,7 +106,7 @@ pub fn deliver<S: Alter>(
 /// What a delivery has to know of the user's account, which was entered, for these deeds to be done with a mail. Rows are found by
 /// their keys: one of the response that is asked for; if the message is to be sent on those of each of its one or two keys and of
 /// three half days, 32 at most; if rows are to join the queue the numbers of 1,000 of it; and 32 keys that are over, at most.
-fn recall<S: Alter>(
+pub(crate) fn recall<S: Alter>(
     alloc: Global,
     store: &mut Store<S>,
     user: &[u8],
@@ -289,7 +289,7 @@ fn recall_over<S: Alter>(
 }
 
 /// Why nothing is delivered to a user without an open account: it is closed, or there is none.
-fn absence<S: Alter>(store: &mut Store<S>, user: &[u8]) -> Result<Refusal, Refusal>
+pub(crate) fn absence<S: Alter>(store: &mut Store<S>, user: &[u8]) -> Result<Refusal, Refusal>
     ensures reads { ReadsAccounts (λ refusal accounts. refusal ≡ absence_of (get accounts user.now)) (state S.Store store.old) (state S.Store store.new) result }
     ensures told { IfOk result (λ refusal. (refusal ≡ Refusal.NoUser) ⊎ (refusal ≡ Refusal.AccountClosed)) }
 {
@@ -304,7 +304,11 @@ fn absence<S: Alter>(store: &mut Store<S>, user: &[u8]) -> Result<Refusal, Refus
 
 /// What a delivery has to know of the user's open account. An account whose address is no addr-spec is refused as `Store`: no
 /// delivery to it is defined.
-fn look_up<S: Alter>(alloc: Global, store: &mut Store<S>, user: &[u8]) -> Result<Lookup, Refusal>
+pub(crate) fn look_up<S: Alter>(
+    alloc: Global,
+    store: &mut Store<S>,
+    user: &[u8],
+) -> Result<Lookup, Refusal>
     ensures { LooksUp user.now IsLookup (state S.Store store.old) (state S.Store store.new) result }
 {
     let ActiveScript { profile, text } = active_script(store, user)?;
@@ -336,7 +340,7 @@ fn commit<S: Alter>(store: &mut Store<S>, user: &[u8], plan: &Plan<'_>) -> Resul
 }
 
 /// What the plan reports.
-fn report_of(plan: Plan<'_>) -> Report
+pub(crate) fn report_of(plan: Plan<'_>) -> Report
     ensures { result ≡ plan.entry.report }
 {
     let Plan {
@@ -353,7 +357,7 @@ fn report_of(plan: Plan<'_>) -> Report
 
 /// The text that decides: that of the active script, and where none is active the host's default, if there is one. An active name
 /// that no script has counts as none.
-fn deciding<'t>(active: &'t Option<Octets>, host: &'t HostSettings) -> Option<&'t [u8]>
+pub(crate) fn deciding<'t>(active: &'t Option<Octets>, host: &'t HostSettings) -> Option<&'t [u8]>
     ensures { borrowed_octets result ≡ script_or_default active.now host.now.default }
 {
     match active {

@@ -11,7 +11,6 @@ use Rattle.daemon_core.proofs.EventLemmas.{runs_then, runs_one}
 use Rattle.maildir_moves.specs.Enduring.{ShowsTried, none_tried}
 use Rattle.maildir_moves.proofs.EnduringLemmas.{left_alone, left_then}
 use Rattle.maildir_moves.specs.declared.moving.Moving.{Moving}
-use Rattle.maildir_moves.specs.declared.moving.Moving.TheVariants as moving
 use Rattle.maildir_files.specs.declared.kept.KeptMail.{KeptMail}
 use Rattle.daemon_core.specs.Moves.{HasKept, IsMessageMoved}
 use Rattle.daemon_core.proofs.MoveLemmas.{moved_then}
@@ -70,7 +69,7 @@ done_behind view others event answer s mid t before after lets applied = λ w is
     let made = applied let_them.0 (record { shown = let_them.2; sessions = has_behind before w let_them.0 let_them.1.apart is.sessions }) in (
       made.0,
       record { strangers = let_them.1.strangers; told = let_them.1.told; between = let_them.0; theirs = let_them.1.runs; apart = let_them.1.apart; ours = made.1 },
-      record { is = made.2.is; left = left_then (view.leaves s) (view.leaves mid) (view.leaves t) w.accounts let_them.0.accounts made.0.accounts (ShowsTried event answer let_them.0) let_them.3 made.2.left },
+      record { is = made.2.is; left = left_then (view.leaves s) (view.leaves mid) (view.leaves t) w.accounts let_them.0.accounts made.0.accounts (ShowsTried (event ∷ []) answer let_them.0) let_them.3 made.2.left },
     )
 
 -- and then an account is looked for
@@ -95,9 +94,7 @@ moved_behind view others m s mid t kept lets moved = λ w is.
     (has_behind kept w let_them.0 let_them.1.apart is.sessions) let_them.3 m it.0 it.1 it.2 it.3
 
 -- which the sink has, where others' events leave what it has
-pub kept_behind : {S : Type 0} (has : S → List KeptMail → Type 0) (m : Moving) (s mid t u : S) → StillHas has s mid → u ≡ t → HasKept has m mid t → HasKept has m s u
-kept_behind has (moving.Kept mail answer) s mid t u still same kept = λ mails had. subst (λ x. has x (mails ++ mail ∷ [])) (sym same) (kept mails (still mails had))
-kept_behind has moving.Nothing s mid t u still same kept = tt
-kept_behind has moving.Passed s mid t u still same kept = tt
-kept_behind has (moving.Failed refusal) s mid t u still same kept = tt
-kept_behind has (moving.Stays stay) s mid t u still same kept = tt
+pub kept_behind : {S : Type 0} (has : S → List KeptMail → Type 0) (there : S → Moving → Type 0) (m : Moving) (s mid t u : S) → StillHas has s mid → u ≡ t → HasKept has there m mid t → HasKept has there m s u
+kept_behind has there m s mid t u still same kept = λ mails had.
+    let it = kept mails (still mails had) in
+    (it.0, subst (λ x. has x (mails ++ it.0)) (sym same) it.1, it.2, subst (λ x. there x m) (sym same) it.3)

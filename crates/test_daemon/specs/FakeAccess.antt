@@ -1,8 +1,9 @@
 -- What an outside in memory tells.
-use Rattle.std.specs.Prelude.{Bool, not, List}
+use Rattle.std.specs.Prelude.{⊤, Bool, not, List}
 use Rattle.net_loop.specs.declared.act.Act.{Act}
 use Rattle.net_loop.specs.Told.{Telling}
 use Rattle.maildir_files.specs.declared.kept.KeptMail.{KeptMail}
+use Rattle.maildir_moves.specs.declared.moving.Moving.{Moving}
 use Rattle.daemon_core.specs.StoreAccess.{View, StoreFacts}
 use Rattle.daemon_core.specs.declared.note.Note.{Note}
 use Rattle.test_daemon.specs.declared.fake_access.FakeAccess.{FakeAccess}
@@ -21,6 +22,6 @@ shelf_of access = access.stage.fake.rest
 abbrev pub fake_telling : {S : Type 0} → Telling (FakeAccess S) Note S
 fake_telling = record { tells = is_told; seen = acts_told_by; rest = shelf_of }
 
--- what is known of such a store: its disk returns what was written, and what the host says
-abbrev pub fake_store : {S : Type 0} → View S → (S → List KeptMail → Type 0) → StoreFacts (FakeAccess S) S
-fake_store view has = record { view = view; clean = λ shelf. Unit {0}; host = λ access. access.host; has = has }
+-- what is known of such a store: its disk returns what was written, what the host says, that others may come at any time, and that its clock may give any moment
+abbrev pub fake_store : {S : Type 0} → View S → (S → List KeptMail → Type 0) → (S → Moving → Type 0) → StoreFacts (FakeAccess S) S
+fake_store view has there = record { view = view; clean = λ shelf. Unit {0}; host = λ access. access.host; has = has; there = there; had = λ shelf. ⊥; gave = λ access moment. ⊤ }

@@ -1,5 +1,5 @@
 -- What an event makes of accounts that are kept in memory.
-use Rattle.std.specs.Prelude.{◌≡◌, ℕ, Bool, true, false, List}
+use Rattle.std.specs.Prelude.{◌≡◌, ℕ, Bool, true, false, List, [], ◌∷◌}
 use Rattle.lmtp_dialogue.specs.declared.receiver.Lookup.{Lookup}
 use Rattle.store_accounts.specs.Account.{Accounts}
 use Rattle.store_engine.specs.Hosts.{SessionMap}
@@ -16,7 +16,7 @@ use Rattle.daemon_core.specs.StoreAccess.{View, ViewStillShows, IsWorld, ComesTo
 -- whatever accounts there were, the event with this answer leads from them to those that there are; if it was refused it was tried
 abbrev pub IsApplied : {S : Type 0} → View S → Event → Answer → S → SessionMap → S → SessionMap → Type 0
 IsApplied view event answer s before t after =
-    (w : World) → IsWorld view s before w → (next : World) × Next w event answer next × ComesTo view s w (ShowsTried event answer w) t after next
+    (w : World) → IsWorld view s before w → (next : World) × Next w event answer next × ComesTo view s w (ShowsTried (event ∷ []) answer w) t after next
 
 -- an event of accounts happened, and nothing of it is left beside the accounts that there are then; or all is as it was
 abbrev pub IsLet : {S : Type 0} → View S → Event → Bool → S → S → Type 0

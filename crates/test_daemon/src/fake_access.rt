@@ -1,5 +1,5 @@
 //! The outside of the daemon, in memory.
-ghost use Rattle.std.specs.Prelude.{◌≡◌, [], ◌∷◌, ◌++◌, true, false, IsTrue, IfSome, not};
+ghost use Rattle.std.specs.Prelude.{◌≡◌, ◌<◌, [], ◌∷◌, ◌++◌, true, false, length, IsTrue, IfSome, not};
 ghost use Rattle.net_loop.specs.Told.{IsLoopAct, TellsIf};
 ghost use Rattle.net_loop.specs.declared.act.Act.TheVariants.{Noted};
 ghost use Rattle.store_engine.specs.Hosts.{SessionMap, IsGivenUp};
@@ -13,7 +13,7 @@ use daemon_core::note::Note;
 use daemon_core::store_access::StoreAccess;
 use lmtp_connections::DeliveryRequest;
 use lmtp_dialogue::Lookup;
-use maildir_moves::span_behind;
+use maildir_moves::{MovePause, pause_behind};
 use net_loop::act::Act;
 use net_loop::outcome::{Accepted, Input, Output, WaitError, Wake};
 use net_loop::outside::{Clock, Outside, Sockets};
@@ -32,8 +32,9 @@ pub struct FakeAccess<S: Shelf + Drop> {
     pub host: HostSettings,
     /// For each event that is to be applied to the store, whether it is away; once the list is used up it never is.
     pub away: VecDeque<bool>,
-    /// What others do before the next event that finds the store: events of accounts.
-    pub others: VecDeque<Event>,
+    /// What others do before the next call that finds the store: events of accounts, up to a gap; what is behind that comes before a
+    /// later call.
+    pub others: VecDeque<Option<Event>>,
     /// Whether others wait for the store, each time that it is looked.
     pub waits: VecDeque<bool>,
 }
@@ -138,7 +139,7 @@ impl<S: Shelf + Drop> FakeAccess<S> {
     fn bring(&mut self, id: u32, clients: &mut Clients, event: Event) -> Option<Answer>
         requires { ¬ IsGivenUp event }
         ensures kept { IsTrue (is_told self.new) → IsTrue (is_told self.old) }
-        ensures brings { AppliesEvent fake_telling (fake_store S.view S.has) id event (access_state self.old clients.old.sessions) result (access_state self.new clients.new.sessions) }
+        ensures brings { AppliesEvent fake_telling (fake_store S.view S.has S.there) id event (access_state self.old clients.old.sessions) result (access_state self.new clients.new.sessions) }
     {
         if self.is_away() {
             self.stage.keep(Act::Noted(id, Note::Away));
@@ -158,7 +159,7 @@ impl<S: Shelf + Drop> FakeAccess<S> {
         ensures lost { self.new.stage.fake.lost ≡ self.old.stage.fake.lost }
     {
         let mut others = Vec::new(self.stage.fake.alloc);
-        while let Some(event) = self.others.pop_front() {
+        while let Some(event) = next_other(&mut self.others) {
             self.let_one(event, &mut others);
         }
         List::from_vec(others)
@@ -177,6 +178,13 @@ impl<S: Shelf + Drop> FakeAccess<S> {
             change_other(alloc, &mut self.stage.fake.rest, event, others);
         }
     }
+}
+
+/// The next event of others, unless a gap comes before it, which is over then.
+fn next_other(others: &mut VecDeque<Option<Event>>) -> Option<Event>
+    ensures { IfSome result (λ event. length others.new.items < length others.old.items) }
+{
+    others.pop_front()?
 }
 
 /// Lets an event of accounts happen, if there is room to tell it, and tells it after those before it; one that is refused isn't
@@ -281,7 +289,7 @@ impl<S: Shelf + Drop> Clock for FakeAccess<S> {
 }
 
 impl<S: Shelf + Drop> StoreAccess for FakeAccess<S> {
-    ghost store = { fake_store S.view S.has };
+    ghost store = { fake_store S.view S.has S.there };
 
     fn apply_event(&mut self, id: u32, clients: &mut Clients, event: &Event) -> Option<Answer> {
         if self.is_away() {
@@ -326,16 +334,16 @@ impl<S: Shelf + Drop> StoreAccess for FakeAccess<S> {
         }
     }
 
-    fn move_next(&mut self, clients: &mut Clients, now: u64, fresh: bool) -> Option<u64> {
+    fn move_next(&mut self, clients: &mut Clients, now: u64, fresh: bool) -> Option<MovePause> {
         if self.is_away() {
             self.stage.keep(Act::Worked(Note::Away));
             return None;
         }
         let others = self.let_others();
         let moving = self.stage.fake.rest.move_next(now, fresh);
-        let span = span_behind(&moving);
+        let pause = pause_behind(&moving);
         self.stage.keep(Act::Worked(Note::Moved { others, moving }));
-        Some(span)
+        Some(pause)
     }
 
     fn tell_answered(&mut self, id: u32) {

@@ -26,11 +26,13 @@ pub struct MemShelf {
 }
 
 impl Shelf for MemShelf {
-    ghost use Rattle.test_daemon.specs.Memory.{shelf_view};
+    ghost use Rattle.test_daemon.specs.Memory.{HasMailOn, MailLeftThere, shelf_view};
 
     ghost view = { shelf_view };
 
-    ghost has = { λ shelf mails. shelf.sink.messages ≡ mails };
+    ghost has = { HasMailOn };
+
+    ghost there = { MailLeftThere };
 
     fn apply_event(&mut self, clients: &mut Clients, event: &Event) -> Answer {
         match apply(clients, &mut self.store, event) {

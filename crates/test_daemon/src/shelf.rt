@@ -3,6 +3,7 @@ ghost use Rattle.std.specs.Prelude.{◌≡◌, List, true};
 ghost use Rattle.lmtp_connections.specs.Connections.{IsFinding};
 ghost use Rattle.store_engine.specs.Hosts.{IsGivenUp};
 ghost use Rattle.maildir_files.specs.declared.kept.KeptMail.{KeptMail};
+ghost use Rattle.maildir_moves.specs.declared.moving.Moving.{Moving as MovingOf};
 ghost use Rattle.daemon_core.specs.StoreAccess.{View};
 ghost use Rattle.daemon_core.specs.Moves.{HasKept};
 ghost use Rattle.test_daemon.specs.Shelves.{IsApplied, IsLet, IsSought, IsMovedOn, StillHas, is_of_accounts};
@@ -19,6 +20,9 @@ pub trait Shelf {
 
     /// The messages that moved on.
     ghost has: { Self → List KeptMail → Type 0 };
+
+    /// Where they were put.
+    ghost there: { Self → MovingOf → Type 0 };
 
     /// One event, as [`store_engine::apply`] applies it.
     fn apply_event(&mut self, clients: &mut Clients, event: &Event) -> Answer
@@ -38,8 +42,8 @@ pub trait Shelf {
         ensures found { IsFinding result }
         ensures sought { IsSought view user.now result self.old self.new };
 
-    /// Has the first message of a folder move on, as [`maildir_moves::move_next`] does.
+    /// Has the first messages of a folder move on by one step, as [`maildir_moves::move_next`] does.
     fn move_next(&mut self, now: u64, fresh: bool) -> Moving
         ensures moves { IsMovedOn view result self.old self.new }
-        ensures keeps { HasKept has result self.old self.new };
+        ensures keeps { HasKept has there result self.old self.new };
 }

@@ -3,9 +3,10 @@
 use crate::others::{SALT, parse_event};
 use daemon_core::note::Note;
 use maildir_files::{MemorySink, Separator};
+use maildir_homes::MailHomes;
 use maildir_moves::Route;
 use net_loop::act::Act;
-use octets::{List, Octets, write_decimal};
+use octets::{List, Octets, parse_decimal, write_decimal};
 use sqlite::{Alter, Connection};
 use std::alloc::{AllocError, Global};
 use std::collections::VecDeque;
@@ -29,10 +30,15 @@ pub fn new_shelf(alloc: Global) -> Result<MemShelf, AllocError> {
         Ok(store) => Ok(MemShelf {
             store,
             sink: MemorySink::new(alloc),
-            route: Route::new(alloc, Octets::from_slice(alloc, b"mail")?, Separator::Dot),
+            route: Route::new(alloc, new_homes(alloc)?, Separator::Dot),
         }),
         Err(_) => Err(AllocError),
     }
+}
+
+/// Maildirs in one directory.
+fn new_homes(alloc: Global) -> Result<MailHomes, AllocError> {
+    MailHomes::in_directory(alloc, Octets::from_slice(alloc, b"mail")?)
 }
 
 impl ScheduleOwner<FakeAccess<MemShelf>> for Accounts {
@@ -47,9 +53,12 @@ impl ScheduleOwner<FakeAccess<MemShelf>> for Accounts {
         match word {
             b"user" => begin_with(self.alloc, &mut outside.stage.fake.rest.store, rest),
             b"away" => add(&mut outside.away, true),
+            b"there" => add(&mut outside.away, false),
+            b"gap" => add(&mut outside.others, None),
             b"wanted" => add(&mut outside.waits, true),
             b"unkept" => {
-                outside.stage.fake.rest.sink.fail_after(0);
+                let count = parse_decimal(rest).unwrap_or(0);
+                outside.stage.fake.rest.sink.fail_after(count);
                 Ok(())
             }
             b"mail" => self.note(
@@ -60,7 +69,7 @@ impl ScheduleOwner<FakeAccess<MemShelf>> for Accounts {
             ),
             b"told" => self.note(line, rest, told_by(outside), checks),
             b"others" => match parse_event(self.alloc, rest)? {
-                Some(event) => add(&mut outside.others, event),
+                Some(event) => add(&mut outside.others, Some(event)),
                 None => self.note(line, rest, b"no such event", checks),
             },
             _ => self.ask(outside, line, text, checks),

@@ -1,17 +1,18 @@
 //! What the words of the command line ask for.
 use clap::{ArgMatches, Error};
 use cli_subcommands::{
-    ArgsError, DrainArgs, FoldersArgs, HostFiles, NoticesArgs, RawArgs, StoreLocation, Subcommand,
-    match_command_line, read_files, read_host_files, read_matches,
+    ArgsError, DrainArgs, FoldersArgs, HostFiles, NoticesArgs, RawArgs, StoreDefaults,
+    StoreLocation, Subcommand, match_command_line, read_files, read_host_files, read_matches,
 };
 use octets::Octets;
 use std::alloc::{AllocError, Global};
 use std::format;
 use test_files::words_of;
 
-/// What the words ask for, with the values in them; or whether what `clap` says is an error.
+/// What the words ask for, with the values in them; or whether what `clap` says is an error. Words at the front that set a variable,
+/// as `SIEVED_DB=F`, are the environment's.
 pub fn add_asked(alloc: Global, out: &mut Octets, words: &[u8]) -> Result<(), AllocError> {
-    let words = RawArgs::new(alloc, words_of(alloc, words, "F")?)?;
+    let words = read_words(alloc, words_of(alloc, words, "F")?)?;
     let matches = match match_command_line(alloc, &words) {
         Ok(matches) => matches,
         Err(error) => return add_unread(alloc, out, &error),
@@ -24,6 +25,32 @@ pub fn add_asked(alloc: Global, out: &mut Octets, words: &[u8]) -> Result<(), Al
         }
         Err(error) => add_unread(alloc, out, &error),
     }
+}
+
+/// The arguments, in the environment that the words at the front say.
+fn read_words(alloc: Global, words: Vec<Octets>) -> Result<RawArgs, AllocError> {
+    let mut arguments = Vec::new(alloc);
+    let mut db = None;
+    let mut wait = None;
+    for word in words {
+        if let Some(value) = value_of(word.as_slice(), b"SIEVED_DB=", &arguments) {
+            db = Some(Octets::from_slice(alloc, value)?);
+        } else if let Some(value) = value_of(word.as_slice(), b"SIEVED_WAIT=", &arguments) {
+            wait = Some(Octets::from_slice(alloc, value)?);
+        } else {
+            arguments.push(word)?;
+        }
+    }
+    let arguments = RawArgs::new(alloc, arguments)?;
+    Ok(arguments.with_defaults(StoreDefaults::from_variables(db, wait)))
+}
+
+/// The value of the variable that a word before all arguments sets, if it is this one.
+fn value_of<'a>(word: &'a [u8], variable: &[u8], arguments: &[Octets]) -> Option<&'a [u8]> {
+    if arguments.is_empty() {
+        return word.strip_prefix(variable);
+    }
+    None
 }
 
 /// Appends the files of the host's scripts, each after the name of its option, in the order in which they run.

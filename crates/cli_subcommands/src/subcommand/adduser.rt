@@ -10,7 +10,7 @@ pub static ADDUSER: SubcommandRow = SubcommandRow {
     name: "adduser",
     about: "Adds an account",
     more: "Reads the password, up to the first line end. Prints `added NAME`.
-An account of the name that is closed is opened anew, with what it remembers of senders.
+An account of the name that is closed, and has no mail, is opened anew, with what it remembers of senders.
 Status 0: added. 64: wrong words or salt. 65: such a user is not allowed, or there already. 75: try again later.",
     arguments: &[
         CliArgument::Db,

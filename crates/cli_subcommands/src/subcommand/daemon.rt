@@ -9,7 +9,8 @@ pub static DAEMON: SubcommandRow = SubcommandRow {
     name: "daemon",
     about: "Serves many clients of ManageSieve and of LMTP at once, and moves mail into Maildirs",
     more: "At least one of --managesieve, --lmtp and --mail. Ports are of the loopback address; a PATH of digits alone is a port.
---mail: INBOX moves into DIR/USER, another folder into its directory there (folders --maildir --separator), one message after ten events.
+--mail: INBOX moves into DIR/USER, or where DIR names it by %u, %n and %d (USER, before and after its @); another folder into its
+directory there (folders --maildir --separator).
 Prints `listening on 127.0.0.1:P`, `listening on PATH` or `listening on -` for each once all listen. Ends by a signal alone.
 --before, --after: at most 16 each, and run in their order; a delivery reads all of them.
 --memory: of what isn't answered and of mail that comes in; from 1 to 65536. A client without room is told BYE, mail 452.
@@ -71,7 +72,7 @@ impl<'a> DaemonArgs<'a> {
         ensures { IsDaemonArgs given.now.line.now given.now.matches.now result }
     {
         DaemonArgs {
-            path: given.text(CliArgument::Db),
+            path: given.path(),
             managesieve: given.value(CliArgument::Managesieve),
             lmtp: given.value(CliArgument::Lmtp),
             names: given.value(CliArgument::Names),

@@ -39,7 +39,7 @@ impl<'a> SendArgs<'a> {
         ensures { IsSendArgs given.now.line.now given.now.matches.now result }
     {
         SendArgs {
-            path: given.text(CliArgument::Db),
+            path: given.path(),
             smtp: given.text(CliArgument::Smtp),
             host: given.value(CliArgument::HostName),
             most: given.value(CliArgument::MostRows),

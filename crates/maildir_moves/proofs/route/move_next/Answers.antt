@@ -1,48 +1,73 @@
-use Rattle.std.proofs.Common.{subst, ap}
+use Rattle.std.proofs.Common.{◌≡◌, Option, Some, ap, sym, ◌∙◌}
 use Rattle.sqlite.specs.Held.{state}
-use Rattle.store_accounts.specs.Next.{IsNextFiled}
-use Rattle.store_accounts.specs.declared.refusal.Refusal.TheVariants.{Memory}
-use Rattle.maildir_moves.specs.Order.{start_of}
-use Rattle.maildir_moves.specs.Turns.{TurnsTo}
-use Rattle.maildir_moves.specs.declared.order.MoveOrder.{MoveOrder}
-use Rattle.maildir_moves.specs.declared.rest.Rests.{Rests}
-use Rattle.maildir_moves.specs.declared.moving.Moving.TheVariants as moving
-use Rattle.maildir_moves.proofs.MoveLemmas.{moves_behind, still_on, still_then}
-use Rattle.maildir_moves.proofs.TurnLemmas.{held_behind, round_ends, turn_is}
+use Rattle.maildir_moves.specs.declared.batch.BegunBatch.{BegunBatch}
+use Rattle.maildir_moves.specs.declared.load.Load.{Load}
+use Rattle.maildir_moves.specs.declared.route.Route.{Route}
+use Rattle.maildir_moves.proofs.CarryLemmas.{follows_from, left_among, same_begun, with_begun}
+use Rattle.maildir_moves.proofs.StepLemmas.{goes_on_from, step_on, steps_from}
+use Rattle.maildir_moves.proofs.TurnLemmas.{going_on, turns_from}
 use Rattle.maildir_moves.proofs.route.move_next.Goals as goal
 
-pub returns-in_default-clause-moves : goal.returns-in_default-clause-moves
-returns-in_default-clause-moves g c = still_on (moving.Failed Memory) (state g.S.Store c.args.store.now) tt
+pub returns-in-Some-clause-steps : goal.returns-in-Some-clause-steps
+returns-in-Some-clause-steps g c =
+    let old = state g.S.Store c.args.store.now in
+    let new = state g.S.Store c.go_on.new.store in
+    step_on c.args.now c.args.route.now c.go_on.result c.go_on.new.route old new c.in-Some.begun (sym (ap (λ (l : Load). l.begun) c.hear.ensures.load) ∙ sym c.take.ensures.value ∙ c.in-Some.is)
+    (goes_on_from c.in-Some.begun c.args.route.now.load (record c.hear.new.self.load { begun = c.take.new.self }) c.take.new.self c.go_on.result c.go_on.new.route.load old new
+    (ap (λ (l : Load). let b : Load = record l { begun = c.take.new.self } in b) c.hear.ensures.load) c.go_on.ensures.steps)
 
-pub returns-in-Ok-Some-clause-moves : goal.returns-in-Ok-Some-clause-moves
-returns-in-Ok-Some-clause-moves g c =
-    moves_behind c.move_next_of_user.result (state g.S.Store c.args.store.now) (state g.S.Store c.next_filed.new.self) (state g.S.Store c.move_next_of_user.new.store) c.next_filed.result c.next_filed.ensures.next.keeps c.move_next_of_user.ensures.clean c.move_next_of_user.ensures.moves
+pub returns-in-Some-clause-turns : goal.returns-in-Some-clause-turns
+returns-in-Some-clause-turns g c =
+    going_on c.args.now c.args.route.now c.go_on.result c.go_on.new.route (state g.S.Store c.args.store.now) (state g.S.Store c.go_on.new.store) c.in-Some.begun
+    (sym (ap (λ (l : Load). l.begun) c.hear.ensures.load) ∙ sym c.take.ensures.value ∙ c.in-Some.is) (c.go_on.ensures.order ∙ c.hear.ensures.order)
 
-pub returns-in-Ok-None-clause-moves : goal.returns-in-Ok-None-clause-moves
-returns-in-Ok-None-clause-moves g c =
-    still_then c.end_round.result (state g.S.Store c.args.store.now) (state g.S.Store c.next_filed.new.self) c.next_filed.result c.next_filed.ensures.next.keeps c.end_round.ensures.still
+pub returns-in-Some-clause-carries : goal.returns-in-Some-clause-carries
+returns-in-Some-clause-carries g c =
+    (follows_from g.T.MailSink.tells g.T.MailSink.kept g.T.MailSink.unsettled g.T.MailSink.is_at g.T.MailSink.has_put g.T.MailSink.keeps_at c.args.route.now.load (record c.hear.new.self.load { begun = Some c.in-Some.begun })
+    c.args.sink.now c.go_on.result c.go_on.new.route.load c.go_on.new.sink (with_begun c.hear.new.self.load c.in-Some.begun (sym c.take.ensures.value ∙ c.in-Some.is) ∙ c.hear.ensures.load) c.go_on.ensures.sinks).carries
 
-pub returns-clause-moves : goal.returns-clause-moves
-returns-clause-moves g c =
-    still_then (moving.Failed c.in-Err.refusal) (state g.S.Store c.args.store.now) (state g.S.Store c.next_filed.new.self) c.next_filed.result c.next_filed.ensures.next.keeps tt
+pub returns-in-Some-clause-only : goal.returns-in-Some-clause-only
+returns-in-Some-clause-only g c =
+    (follows_from g.T.MailSink.tells g.T.MailSink.kept g.T.MailSink.unsettled g.T.MailSink.is_at g.T.MailSink.has_put g.T.MailSink.keeps_at c.args.route.now.load (record c.hear.new.self.load { begun = Some c.in-Some.begun })
+    c.args.sink.now c.go_on.result c.go_on.new.route.load c.go_on.new.sink (with_begun c.hear.new.self.load c.in-Some.begun (sym c.take.ensures.value ∙ c.in-Some.is) ∙ c.hear.ensures.load) c.go_on.ensures.sinks).only
 
-pub returns-in-Ok-Some-clause-turns : goal.returns-in-Ok-Some-clause-turns
-returns-in-Ok-Some-clause-turns g c = λ clean tables held.
-    let mid = c.move_next_of_user.ensures.clean clean in
-    let heard = c.hear.new.self in
-    let found : IsNextFiled c.in-Ok.start c.in-Ok-Some.field-0 tables = c.in-Ok-Some.ensures.next.found mid tables held in
-    let next = subst (λ o. IsNextFiled (start_of heard.order.last) o tables) c.in-Ok-Some.field-0-is (subst (λ s. IsNextFiled s c.in-Ok-Some.field-0 tables) c.in-Ok.ensures found) in
-    let turns = c.move_next_of_user.ensures.turns clean tables
-    (held_behind (state g.S.Store c.args.store.now) (state g.S.Store c.next_filed.new.self) c.next_filed.result c.in-Ok-Some.field-0 c.in-Ok-Some.is c.next_filed.ensures.next.keeps mid tables held) in
-    let it = turn_is c.args.now tables c.in-Ok-Some.first heard.rests.entries.items heard.order next c.move_next_of_user.result c.move_next_of_user.new.route.order turns in
-    subst (λ rests. TurnsTo c.args.now tables rests c.args.route.now.order c.move_next_of_user.result c.move_next_of_user.new.route.order) (ap (λ (rests : Rests). rests.entries.items) c.hear.ensures.rests)
-    (subst (λ (order : MoveOrder). TurnsTo c.args.now tables heard.rests.entries.items order c.move_next_of_user.result c.move_next_of_user.new.route.order) c.hear.ensures.order it)
+pub returns-in-Some-clause-told : goal.returns-in-Some-clause-told
+returns-in-Some-clause-told g c = λ so yes.
+    let follows = follows_from g.T.MailSink.tells g.T.MailSink.kept g.T.MailSink.unsettled g.T.MailSink.is_at g.T.MailSink.has_put g.T.MailSink.keeps_at c.args.route.now.load (record c.hear.new.self.load { begun = Some c.in-Some.begun })
+    c.args.sink.now c.go_on.result c.go_on.new.route.load c.go_on.new.sink (with_begun c.hear.new.self.load c.in-Some.begun (sym c.take.ensures.value ∙ c.in-Some.is) ∙ c.hear.ensures.load) c.go_on.ensures.sinks in
+    left_among (g.T.MailSink.keeps_at c.go_on.new.sink) (g.T.MailSink.kept c.go_on.new.sink) (λ path mail keeps. g.met.T.MailSink.told c.go_on.new.sink path mail keeps yes) c.go_on.new.route.load c.go_on.result (follows.carries.relies so).1
 
-pub returns-in-Ok-None-clause-turns : goal.returns-in-Ok-None-clause-turns
-returns-in-Ok-None-clause-turns g c = λ clean tables held.
-    let heard = c.hear.new.self in
-    let found : IsNextFiled c.in-Ok.start c.in-Ok-None.field-0 tables = c.in-Ok-None.ensures.next.found clean tables held in
-    let none = subst (λ o. IsNextFiled (start_of heard.order.last) o tables) c.in-Ok-None.field-0-is (subst (λ s. IsNextFiled s c.in-Ok-None.field-0 tables) c.in-Ok.ensures found) in
-    let it = round_ends c.args.now tables heard.rests.entries.items heard.order c.end_round.result c.end_round.new.self.order none c.end_round.ensures.ends in
-    subst (λ rests. TurnsTo c.args.now tables rests c.args.route.now.order c.end_round.result c.end_round.new.self.order) (ap (λ (rests : Rests). rests.entries.items) c.hear.ensures.rests)
-    (subst (λ (order : MoveOrder). TurnsTo c.args.now tables heard.rests.entries.items order c.end_round.result c.end_round.new.self.order) c.hear.ensures.order it)
+-- nothing was on its way
+none_noted : (before hear : Load) (taken : Option BegunBatch) → hear ≡ before → taken ≡ hear.begun → record hear { begun = taken } ≡ before
+none_noted before hear taken is same = same_begun hear taken same ∙ is
+
+pub returns-in-None-clause-steps : goal.returns-in-None-clause-steps
+returns-in-None-clause-steps g c =
+    let mid : Route = record c.hear.new.self { load = record c.hear.new.self.load { begun = c.take.new.self } } in
+    steps_from c.args.now c.args.route.now mid c.take_or_choose.result c.take_or_choose.new.route (state g.S.Store c.args.store.now) (state g.S.Store c.take_or_choose.new.store)
+    (none_noted c.args.route.now.load c.hear.new.self.load c.take.new.self c.hear.ensures.load (c.take.ensures.after ∙ sym (sym c.take.ensures.value ∙ c.in-None.is))) c.hear.ensures.rests c.take_or_choose.ensures.steps
+
+pub returns-in-None-clause-turns : goal.returns-in-None-clause-turns
+returns-in-None-clause-turns g c =
+    let mid : Route = record c.hear.new.self { load = record c.hear.new.self.load { begun = c.take.new.self } } in
+    turns_from c.args.now c.args.route.now mid c.take_or_choose.result c.take_or_choose.new.route (state g.S.Store c.args.store.now) (state g.S.Store c.take_or_choose.new.store)
+    (none_noted c.args.route.now.load c.hear.new.self.load c.take.new.self c.hear.ensures.load (c.take.ensures.after ∙ sym (sym c.take.ensures.value ∙ c.in-None.is))) c.hear.ensures.rests c.hear.ensures.order c.take_or_choose.ensures.turns
+
+pub returns-in-None-clause-carries : goal.returns-in-None-clause-carries
+returns-in-None-clause-carries g c =
+    (follows_from g.T.MailSink.tells g.T.MailSink.kept g.T.MailSink.unsettled g.T.MailSink.is_at g.T.MailSink.has_put g.T.MailSink.keeps_at c.args.route.now.load (record c.hear.new.self.load { begun = c.take.new.self })
+    c.args.sink.now c.take_or_choose.result c.take_or_choose.new.route.load c.take_or_choose.new.sink
+    (none_noted c.args.route.now.load c.hear.new.self.load c.take.new.self c.hear.ensures.load (c.take.ensures.after ∙ sym (sym c.take.ensures.value ∙ c.in-None.is))) c.take_or_choose.ensures.sinks).carries
+
+pub returns-in-None-clause-only : goal.returns-in-None-clause-only
+returns-in-None-clause-only g c =
+    (follows_from g.T.MailSink.tells g.T.MailSink.kept g.T.MailSink.unsettled g.T.MailSink.is_at g.T.MailSink.has_put g.T.MailSink.keeps_at c.args.route.now.load (record c.hear.new.self.load { begun = c.take.new.self })
+    c.args.sink.now c.take_or_choose.result c.take_or_choose.new.route.load c.take_or_choose.new.sink
+    (none_noted c.args.route.now.load c.hear.new.self.load c.take.new.self c.hear.ensures.load (c.take.ensures.after ∙ sym (sym c.take.ensures.value ∙ c.in-None.is))) c.take_or_choose.ensures.sinks).only
+
+pub returns-in-None-clause-told : goal.returns-in-None-clause-told
+returns-in-None-clause-told g c = λ so yes.
+    let follows = follows_from g.T.MailSink.tells g.T.MailSink.kept g.T.MailSink.unsettled g.T.MailSink.is_at g.T.MailSink.has_put g.T.MailSink.keeps_at c.args.route.now.load (record c.hear.new.self.load { begun = c.take.new.self })
+    c.args.sink.now c.take_or_choose.result c.take_or_choose.new.route.load c.take_or_choose.new.sink
+    (none_noted c.args.route.now.load c.hear.new.self.load c.take.new.self c.hear.ensures.load (c.take.ensures.after ∙ sym (sym c.take.ensures.value ∙ c.in-None.is))) c.take_or_choose.ensures.sinks in
+    left_among (g.T.MailSink.keeps_at c.take_or_choose.new.sink) (g.T.MailSink.kept c.take_or_choose.new.sink) (λ path mail keeps. g.met.T.MailSink.told c.take_or_choose.new.sink path mail keeps yes) c.take_or_choose.new.route.load c.take_or_choose.result (follows.carries.relies so).1

@@ -4,6 +4,8 @@ use Rattle.store_engine.specs.Hosts.{SessionMap}
 use Rattle.store_engine.specs.Terms.{terms}
 use Rattle.daemon_core.specs.StoreAccess.{IsEventDone, access_state, delivery_of}
 use Rattle.daemon_core.proofs.StillLemmas.{still_then}
+use Rattle.mail_dates.specs.HostZones.{IsOffsetAt}
+use Rattle.daemon_host.specs.Moments.{GivesNext, MayShow}
 use Rattle.daemon_host.specs.Held.{host_view, HostBrings, IsClean}
 use Rattle.daemon_host.proofs.HeldLemmas.{done_behind, nothing_behind}
 use Rattle.daemon_host.proofs.RoomLemmas.{told_done}
@@ -16,6 +18,7 @@ returns-in-Some g c =
     let told = c.tell_delivery.result in
     let same : c.reach.new.self.settings ≡ c.args.self.now.settings = c.reach.ensures.settings ∙ c.may_ask.ensures.settings in (
       when,
+      (subst (GivesNext MayShow c.args.self.now.clock) (sym c.at.ensures.moment) (c.seconds.new.self, c.seconds.ensures), subst (λ m. IsOffsetAt c.args.self.now.settings.zone m when.zone) (sym c.at.ensures.moment) c.at.ensures.zone),
       subst (λ host. (kept : SessionMap) → HostBrings g.K.S.Store g.K.Keeper.tells g.K.Keeper.holds (delivery_of c.args.request.now (terms when host)) (Some told) (access_state c.args.self.now.held kept) (access_state c.tell_delivery.new.self.held kept)) same
           (λ kept clean.
           let here = c.is_kept-kept.ensures.kept (subst (IsClean g.K.S.Store g.K.Keeper.tells) c.tell_delivery.ensures.same clean) in
@@ -29,8 +32,16 @@ returns-in-Some g c =
 pub returns-in-None : goal.returns-in-None
 returns-in-None g c = (
   c.at.result.when,
+  (subst (GivesNext MayShow c.args.self.now.clock) (sym c.at.ensures.moment) (c.seconds.new.self, c.seconds.ensures), subst (λ m. IsOffsetAt c.args.self.now.settings.zone m c.at.result.when.zone) (sym c.at.ensures.moment) c.at.ensures.zone),
   λ kept.
       let view = host_view g.K.S.Store g.K.Keeper.tells g.K.Keeper.holds in
       nothing_behind view c.args.self.now.held c.reach.new.self.held c.deliver.new.self kept kept
       (still_then view c.args.self.now.held c.may_ask.new.self.held c.reach.new.self.held c.may_ask.ensures.shown c.reach.ensures.shown) (c.in-None.ensures kept),
+)
+
+pub returns-then-not-may_ask : goal.returns-then-not-may_ask
+returns-then-not-may_ask g c = (
+  c.at.result.when,
+  (subst (GivesNext MayShow c.args.self.now.clock) (sym c.at.ensures.moment) (c.seconds.new.self, c.seconds.ensures), subst (λ m. IsOffsetAt c.args.self.now.settings.zone m c.at.result.when.zone) (sym c.at.ensures.moment) c.at.ensures.zone),
+  λ kept. record { shown = c.may_ask.ensures.shown; kept = λ sessions has. has },
 )

@@ -20,4 +20,5 @@ returns-clause-brings g c =
       λ clean. done,
       λ tells. c.note_event.ensures.told tells
           ∙ ap (λ acts. acts.items ++ Noted c.args.id (Did others c.args.event c.apply_event-answer.result) ∷ []) (c.let_others-others.ensures.acts ∙ ap (λ f. f.acts) rest),
+      λ never. absurd never,
     )

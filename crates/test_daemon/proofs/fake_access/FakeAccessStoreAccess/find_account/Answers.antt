@@ -20,4 +20,5 @@ returns-clause-asks g c =
       λ clean. asked,
       λ tells. c.note_asked.ensures.told tells
           ∙ ap (λ acts. acts.items ++ Noted c.args.id (Asked others c.args.user.now c.find_account-lookup.result) ∷ []) (c.let_others-others.ensures.acts ∙ ap (λ f. f.acts) rest),
+      λ never. absurd never,
     )

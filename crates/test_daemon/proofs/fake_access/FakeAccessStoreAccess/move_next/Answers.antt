@@ -19,10 +19,11 @@ returns-clause-moves g c =
     lets c.move_next-moving.ensures.moves) in (
       others,
       moving,
-      c.span_behind-span.ensures,
+      c.pause_behind-pause.ensures,
       λ clean. moved,
-      kept_behind g.S.Shelf.has moving c.args.self.now.stage.fake.rest c.let_others-others.new.self.stage.fake.rest c.move_next-moving.new.self c.keep-2.new.self.fake.rest
+      kept_behind g.S.Shelf.has g.S.Shelf.there moving c.args.self.now.stage.fake.rest c.let_others-others.new.self.stage.fake.rest c.move_next-moving.new.self c.keep-2.new.self.fake.rest
           (subst (λ f. StillHas g.S.Shelf.has f.rest c.let_others-others.new.self.stage.fake.rest) rest c.let_others-others.ensures.still) c.keep-2.ensures.left c.move_next-moving.ensures.keeps,
       λ tells. c.keep-2.ensures.acts tells
           ∙ ap (λ acts. acts.items ++ Worked (Moved others moving) ∷ []) (c.let_others-others.ensures.acts ∙ ap (λ f. f.acts) rest),
+      λ never. absurd never,
     )

@@ -1,0 +1,14 @@
+pub mod Letters
+pub mod MediaTypes
+pub mod Encodings
+pub mod Entities
+pub mod Sections
+pub mod Cutting
+pub mod Parts
+pub mod PartReading
+pub mod Walks
+pub mod QuotedPrintable
+pub mod Base64Bodies
+pub mod Decoding
+pub mod Selection
+pub mod Multiparts

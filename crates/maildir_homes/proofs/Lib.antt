@@ -1,0 +1,2 @@
+mod HomeLemmas
+mod TemplateLemmas

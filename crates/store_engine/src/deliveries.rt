@@ -1,0 +1,239 @@
+//! The delivery of messages to several users together.
+ghost use Rattle.std.specs.Prelude.{◌≡◌, ◌≢◌, ◌≤◌, ◌↔◌, [], None, length, map, Any, IfOk, IfErr, IsTrue, option_copied, vec_capacity};
+ghost use Rattle.std.specs.List.{AllZip};
+ghost use Rattle.sqlite.specs.Held.{state};
+ghost use Rattle.sqlite.specs.State.{HasCleanDisk};
+ghost use Rattle.store_accounts.specs.Account.{delivers};
+ghost use Rattle.store_accounts.specs.Connection.{IsSettled};
+ghost use Rattle.store_accounts.specs.Deliveries.{plans_in, users_of, HasNoUserTwice, WritesDeliveries};
+ghost use Rattle.store_accounts.specs.Refusals.{IsTransient};
+ghost use Rattle.store_engine.specs.AccountEvents.{DeliversTo};
+ghost use Rattle.store_engine.specs.Deliveries.{IsLongestFront, ActsDeliveries, AreSpacedDeliveries, IsDelivered, HasHeader, IsFor, IsOpened, DecidesOne, DecidesEach, plans_made, answer_to};
+ghost use Rattle.store_engine.specs.Limits.{limit_refusal};
+ghost use Rattle.store_engine.specs.Lookups.{IsLookup, Recalls};
+ghost use Rattle.store_engine.specs.Terms.{terms_of};
+
+use crate::answer::Answer;
+use crate::delivery::{Lookup, absence, deciding, look_up, recall, report_of};
+use crate::parcel::{OpenedParcel, Parcel, open_parcels};
+use crate::terms::LentTerms;
+use sieve_exec::Mail;
+use sieve_plan::{KeptScripts, plan, plan_unread, settle};
+use sqlite::Alter;
+use std::alloc::{AllocError, Global};
+use store_accounts::{Plan, PlannedDelivery, Refusal, Store};
+
+/// What is to become of a parcel.
+#[derive(Drop)]
+enum Decision<'a> {
+    Refused(Refusal),
+    /// The plan for the user is to be written.
+    Planned {
+        /// The user's name.
+        user: &'a [u8],
+        plan: Plan<'a>,
+    },
+}
+
+/// Delivers the first of these messages together, in one transaction, which is the last act, and answers each of them as
+/// [`deliver`](crate::deliver) would: `told` has the machine's answers, in order. They are the longest front of the parcels in
+/// which no user stands twice, so at least one where there is a parcel. A limit that stands against one, and a user without an
+/// open account, is that one's own answer, and the others are delivered.
+///
+/// All of them are at one moment. The messages are borrowed and read once, and all plans are kept until they are written: memory
+/// is in proportion to the parcels. Each one's user is compared with those before it, so the caller hands in some dozens.
+///
+/// # Errors
+///
+/// [`Refusal::Memory`] and [`Refusal::Store`], which may come at any place. Nothing is delivered then, and nobody is answered: the
+/// store stays as it was, but a crash may leave the whole front delivered.
+pub fn deliver_all<S: Alter>(
+    alloc: Global,
+    store: &mut Store<S>,
+    kept: &mut KeptScripts,
+    parcels: &[Parcel<'_>],
+    terms: LentTerms<'_>,
+) -> Result<Vec<Answer>, Refusal>
+    ensures front { IfOk result (λ told. IsLongestFront parcels.now (length told.items)) }
+    ensures acts { ActsDeliveries (terms_of terms.entry) parcels.now (state S.Store store.old) (state S.Store store.new) result }
+    ensures settled { HasCleanDisk (state S.Store store.new) → IfOk result (λ told. Any IsDelivered told.items → IsSettled (state S.Store store.new)) }
+    ensures spaced { IfOk result (λ told. AreSpacedDeliveries (terms_of terms.entry) parcels.now told.items (state S.Store store.old) (state S.Store store.new)) }
+    ensures named { IfErr result IsTransient }
+{
+    let front = &parcels[..front_len(parcels)];
+    let opened = open_parcels(alloc, front, terms.when)?;
+    let told = Vec::with_capacity(alloc, front.len())?;
+    let decisions = decide_all(alloc, store, kept, front, opened.as_slice(), terms)?;
+    commit_decisions(alloc, store, decisions.as_slice())?;
+    Ok(answers(told, decisions))
+}
+
+/// Whether one of the parcels is for the user.
+fn is_among(user: &[u8], parcels: &[Parcel<'_>]) -> bool
+    ensures { IsTrue result ↔ Any (λ parcel. parcel.user.now ≡ user.now) parcels.now }
+{
+    parcels.iter().any(|parcel| parcel.user == user)
+}
+
+/// How many of the first parcels go together.
+fn front_len(parcels: &[Parcel<'_>]) -> usize
+    ensures { IsLongestFront parcels.now result }
+{
+    for (at, parcel) in parcels.iter().enumerate() {
+        if is_among(parcel.user, &parcels[..at]) {
+            return at;
+        }
+    }
+    parcels.len()
+}
+
+/// Decides on each of the parcels in order; nothing is written.
+fn decide_all<'a, S: Alter>(
+    alloc: Global,
+    store: &mut Store<S>,
+    kept: &mut KeptScripts,
+    parcels: &'a [Parcel<'_>],
+    opened: &'a [OpenedParcel<'_>],
+    terms: LentTerms<'_>,
+) -> Result<Vec<Decision<'a>>, Refusal>
+    requires { AllZip (IsOpened terms.when) parcels.now opened.now }
+    ensures decides { DecidesEach (terms_of terms.entry) parcels.now (state S.Store store.old) (state S.Store store.new) result }
+    ensures whose { IfOk result (λ all. AllZip IsFor parcels.now all.items) }
+{
+    let mut decisions = Vec::new(alloc);
+    for (i, parcel) in parcels.iter().enumerate() {
+        decisions.push(decide(alloc, store, kept, parcel, &opened[i], terms)?)?;
+    }
+    Ok(decisions)
+}
+
+/// Decides on a parcel, by the account as it stands.
+fn decide<'a, S: Alter>(
+    alloc: Global,
+    store: &mut Store<S>,
+    kept: &mut KeptScripts,
+    parcel: &'a Parcel<'_>,
+    opened: &'a OpenedParcel<'_>,
+    terms: LentTerms<'_>,
+) -> Result<Decision<'a>, Refusal>
+    requires { IsOpened terms.when parcel.now opened.now }
+    ensures decides { DecidesOne (terms_of terms.entry) parcel.now (state S.Store store.old) (state S.Store store.new) result }
+    ensures whose { IfOk result (IsFor parcel.now) }
+{
+    match opened {
+        OpenedParcel::Limited(refusal) => Ok(Decision::Refused(*refusal)),
+        OpenedParcel::Accepted(mail) => {
+            decide_accepted(alloc, store, kept, parcel, mail.as_ref(), terms)
+        }
+    }
+}
+
+/// The same of one that no limit stands against, with its mail if its header isn't too long.
+fn decide_accepted<'a, S: Alter>(
+    alloc: Global,
+    store: &mut Store<S>,
+    kept: &mut KeptScripts,
+    parcel: &'a Parcel<'_>,
+    mail: Option<&'a Mail<'_>>,
+    terms: LentTerms<'_>,
+) -> Result<Decision<'a>, Refusal>
+    requires free { limit_refusal parcel.now.envelope parcel.now.message.now terms.when.moment ≡ None }
+    requires header { HasHeader terms.when parcel.now (option_copied mail) }
+    ensures decides { DecidesOne (terms_of terms.entry) parcel.now (state S.Store store.old) (state S.Store store.new) result }
+    ensures whose { IfOk result (IsFor parcel.now) }
+{
+    let looked = look_up(alloc, store, parcel.user);
+    if let Err(Refusal::NoUser) = looked {
+        return Ok(Decision::Refused(absence(store, parcel.user)?));
+    }
+    let found = looked?;
+    let plan = plan_parcel(alloc, store, kept, parcel, mail, found, terms)?;
+    Ok(Decision::Planned {
+        user: parcel.user,
+        plan,
+    })
+}
+
+/// The plan for a parcel to the user's open account, of which this was found.
+fn plan_parcel<'a, S: Alter>(
+    alloc: Global,
+    store: &mut Store<S>,
+    kept: &mut KeptScripts,
+    parcel: &'a Parcel<'_>,
+    mail: Option<&'a Mail<'_>>,
+    found: Lookup,
+    terms: LentTerms<'_>,
+) -> Result<Plan<'a>, Refusal>
+    requires free { limit_refusal parcel.now.envelope parcel.now.message.now terms.when.moment ≡ None }
+    requires header { HasHeader terms.when parcel.now (option_copied mail) }
+    ensures { Recalls parcel.now.user.now (λ plan a. IsLookup found a → DeliversTo (terms_of terms.entry) parcel.now.envelope parcel.now.message.now a plan.report (delivers plan a)) (state S.Store store.old) (state S.Store store.new) result }
+{
+    let Some(mail) = mail else {
+        return Ok(plan_unread(alloc, parcel.message, &parcel.envelope, terms.when)?);
+    };
+    let own = deciding(&found.text, terms.host);
+    let settlement = settle(alloc, kept, &terms.host.scripts, own, mail)?;
+    let view = recall(
+        alloc,
+        store,
+        parcel.user,
+        found.address,
+        mail,
+        &settlement.deeds,
+    )?;
+    Ok(plan(alloc, view, mail, settlement)?)
+}
+
+/// The plans that were made, in order.
+fn planned<'a, 'm>(
+    alloc: Global,
+    decisions: &'a [Decision<'m>],
+) -> Result<Vec<PlannedDelivery<'a, 'm>>, AllocError>
+    ensures { IfOk result (λ planned. plans_in planned.items ≡ plans_made decisions.now) }
+{
+    let mut planned = Vec::new(alloc);
+    for decision in decisions {
+        if let Decision::Planned { user, plan } = decision {
+            planned.push(PlannedDelivery { user, plan })?;
+        }
+    }
+    Ok(planned)
+}
+
+/// Writes the plans that were made, if there are some. Accounts that were read a moment ago are there: a store that lacks one is
+/// refused as `Store`.
+fn commit_decisions<S: Alter>(
+    alloc: Global,
+    store: &mut Store<S>,
+    decisions: &[Decision<'_>],
+) -> Result<(), Refusal>
+    requires { HasNoUserTwice (users_of (plans_made decisions.now)) }
+    ensures writes { plans_made decisions.now ≢ [] → WritesDeliveries (plans_made decisions.now) (state S.Store store.old) (state S.Store store.new) result }
+    ensures idle { plans_made decisions.now ≡ [] → store.new ≡ store.old }
+    ensures named { IfErr result IsTransient }
+{
+    let planned = planned(alloc, decisions)?;
+    if planned.is_empty() {
+        return Ok(());
+    }
+    match store.commit_deliveries(planned.as_slice()) {
+        Err(Refusal::NoUser) => Err(Refusal::Store),
+        done => done,
+    }
+}
+
+/// The answers, in order. Their room is there, since after a commit nothing may be refused.
+fn answers(told: Vec<Answer>, decisions: Vec<Decision<'_>>) -> Vec<Answer>
+    requires none { told.items ≡ [] }
+    requires room { length decisions.items ≤ vec_capacity told }
+    ensures { result.items ≡ map answer_to decisions.entry.items }
+{
+    let mut told = told;
+    for decision in decisions {
+        told.push_reserved(match decision {
+            Decision::Refused(refusal) => Answer::Refused(refusal),
+            Decision::Planned { user: _, plan } => Answer::Delivered(report_of(plan)),
+        });
+    }
+    told
+}
