@@ -37,7 +37,7 @@ use Rattle.daemon_core.specs.Moves.{HasKept, IsMessageMoved}
 use Rattle.daemon_core.proofs.MoveLemmas.{let_none, moved_then}
 use Rattle.daemon_core.proofs.StillLemmas.{still_then}
 use Rattle.daemon_core.specs.StoreAccess.{View, ViewStillShows, IsEventDone, IsAccountAsked, IsFoundIn, NothingDone, delivery_of}
-use Rattle.daemon_host.specs.Held.{IsThereBy, MailIsThere, RouteRelies, SinkHasMail, ShowsBy, LeavesBy}
+use Rattle.daemon_host.specs.Held.{IsThereBy, MailIsThere, MailStays, RouteRelies, SinkHasMail, ShowsBy, LeavesBy}
 use Rattle.store_engine.specs.declared.terms.Terms.{Terms}
 use Rattle.daemon_host.specs.declared.host_store.HostStore.{HostStore}
 
@@ -197,15 +197,29 @@ has_kept false kept is_at has_put keeps_at r q m grows keeps told mails had =
     (leaving m, record { told = λ no. never_told no; relies = (keeps had.relies).0 }, left_behind mails m, (keeps had.relies).1)
 
 -- what the sink has and the route relies on stays where both are as they were
-pub mover_has : {K S T : Type 0} (tells : Bool) (kept : T → List KeptMail) (is_at : T → List ℕ → Type 0) (has_put keeps_at : T → List ℕ → KeptMail → Type 0) (r q : HostStore K T S) (mails : List KeptMail)
+mover_has : {K S T : Type 0} (tells : Bool) (kept : T → List KeptMail) (is_at : T → List ℕ → Type 0) (has_put keeps_at : T → List ℕ → KeptMail → Type 0) (r q : HostStore K T S) (mails : List KeptMail)
     → q.sink ≡ r.sink → q.route ≡ r.route → SinkHasMail tells kept is_at has_put keeps_at r mails → SinkHasMail tells kept is_at has_put keeps_at q mails
 mover_has tells kept is_at has_put keeps_at r q mails sink route has = record {
   told = λ tell. ap kept sink ∙ has.told tell;
   relies = subst (λ s. RouteRelies is_at has_put keeps_at q.route s) (sym sink) (subst (λ o. RouteRelies is_at has_put keeps_at o r.sink) (sym route) has.relies);
 }
 
-pub mover_there : {K S T : Type 0} (keeps_at : T → List ℕ → KeptMail → Type 0) (r q : HostStore K T S) (m : Moving) → q.sink ≡ r.sink → q.route ≡ r.route → MailIsThere keeps_at r m → MailIsThere keeps_at q m
+mover_there : {K S T : Type 0} (keeps_at : T → List ℕ → KeptMail → Type 0) (r q : HostStore K T S) (m : Moving) → q.sink ≡ r.sink → q.route ≡ r.route → MailIsThere keeps_at r m → MailIsThere keeps_at q m
 mover_there keeps_at r q m sink route there = subst (λ s. IsThereBy keeps_at q.route s m) (sym sink) (subst (λ o. IsThereBy keeps_at o r.sink m) (sym route) there)
+
+pub mail_stays : {K S T : Type 0} (tells : Bool) (kept : T → List KeptMail) (is_at : T → List ℕ → Type 0) (has_put keeps_at : T → List ℕ → KeptMail → Type 0) (r q : HostStore K T S)
+    → q.sink ≡ r.sink → q.route ≡ r.route → MailStays (SinkHasMail tells kept is_at has_put keeps_at) (MailIsThere keeps_at) r q
+mail_stays tells kept is_at has_put keeps_at r q sink route = record {
+  kept = λ mails. mover_has tells kept is_at has_put keeps_at r q mails sink route;
+  left = λ m. mover_there keeps_at r q m sink route;
+}
+
+-- two such calls, and one that did nothing
+pub stays_then : {R : Type 0} (has : R → List KeptMail → Type 0) (there : R → Moving → Type 0) (r a q : R) → MailStays has there r a → MailStays has there a q → MailStays has there r q
+stays_then has there r a q first second = record { kept = λ mails had. second.kept mails (first.kept mails had); left = λ m was. second.left m (first.left m was) }
+
+pub stays_same : {R : Type 0} (has : R → List KeptMail → Type 0) (there : R → Moving → Type 0) (r : R) → MailStays has there r r
+stays_same has there r = record { kept = λ mails had. had; left = λ m was. was }
 
 -- what a sink keeps, as the daemon sees it, behind calls that leave it and the route as they are
 pub kept_behind : {R : Type 0} (has : R → List KeptMail → Type 0) (there : R → Moving → Type 0) (r a b q : R) (m : Moving) → ((mails : List KeptMail) → has r mails → has a mails) → q ≡ b → HasKept has there m a b → HasKept has there m r q

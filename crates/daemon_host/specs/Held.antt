@@ -1,5 +1,5 @@
 -- What a store shows that is held now and then.
-use Rattle.std.specs.Prelude.{◌≡◌, ℕ, Bool, true, false, List, [], Option, Some, None, IsSome, IsTrue}
+use Rattle.std.specs.Prelude.{◌≡◌, ℕ, Bool, true, false, List, [], Option, Some, None, is_some, IsTrue}
 use Rattle.sqlite_trees.specs.Tree.{Trees}
 use Rattle.sqlite_trees.specs.declared.store.Store.{Ghosts}
 use Rattle.sqlite.specs.Effect.{Database}
@@ -22,13 +22,13 @@ use Rattle.store_engine.specs.declared.answer.Answer.{Answer}
 use Rattle.store_engine.specs.declared.answer.Answer.TheVariants.{Refused}
 use Rattle.store_accounts.specs.declared.refusal.Refusal.TheVariants.{Memory, Store}
 use Rattle.store_engine.specs.declared.event.Event.{Event}
-use Rattle.daemon_core.specs.StoreAccess.{View, AccessState, ViewStillShows, IsEventDone, NothingDone, IsFoundIn}
+use Rattle.daemon_core.specs.StoreAccess.{View, ViewStillShows, IsEventDone, NothingDone, IsFoundIn}
 use Rattle.daemon_host.specs.Events.{is_full}
 use Rattle.daemon_host.specs.declared.host_store.HostStore.{HostStore}
 
 -- it is held
-abbrev pub HoldsStore : {K S T : Type 0} → HostStore K T S → Type 0
-HoldsStore host = IsSome host.held.store
+abbrev pub is_held : {K S T : Type 0} → HostStore K T S → Bool
+is_held host = is_some host.held.store
 
 -- while it is held the store shows the accounts; otherwise they are those of its keeper's tables, and none can be claimed if it doesn't
 -- tell these
@@ -54,19 +54,10 @@ host_view g tells holds = record { shows = λ host accounts. ShowsBy g tells (ho
 abbrev pub IsClean : {K S T : Type 0} → Ghosts S → Bool → HostStore K T S → Type 0
 IsClean g tells host = IsCleanBy g tells host.held.store
 
--- whatever accounts were shown, they are shown
-abbrev pub StillShown : {K S T : Type 0} → Ghosts S → Bool → (K → Database) → HostStore K T S → HostStore K T S → Type 0
-StillShown g tells holds held later = ViewStillShows (host_view g tells holds) held later
-
--- the event was done, and no other process came between; or nothing was
-abbrev pub Changes : {R : Type 0} → View R → (R → Type 0) → Event → Option Answer → R → SessionMap → R → SessionMap → Type 0
-Changes view clean event (Some answer) r before q after = clean q → IsEventDone view [] event answer r before q after
-Changes view clean event None r before q after = NothingDone view r before q after
-
--- an event was done over the host's store, with this answer; or nothing was
-abbrev pub HostBrings : {K S T : Type 0} → Ghosts S → Bool → (K → Database) → Event → Option Answer → AccessState (HostStore K T S) → AccessState (HostStore K T S) → Type 0
-HostBrings g tells holds event answer before after =
-    Changes (host_view g tells holds) (IsClean g tells) event answer before.outside before.sessions after.outside after.sessions
+-- the event was done with this answer, and no other process came between; or nothing was
+abbrev pub HostBrings : {R : Type 0} → View R → (R → Type 0) → Event → Option Answer → R → SessionMap → R → SessionMap → Type 0
+HostBrings view clean event (Some answer) r before q after = clean q → IsEventDone view [] event answer r before q after
+HostBrings view clean event None r before q after = NothingDone view r before q after
 
 -- a store whose disk is full refuses as one that lacks memory
 abbrev pub lacking : Answer → Answer
@@ -88,20 +79,12 @@ HostFinds view clean user (Some lookup) r q =
     → IsFoundIn accounts user lookup × view.shows q accounts × MayLeave (view.leaves r) accounts (view.leaves q) accounts none_tried
 HostFinds view clean user None r q = ViewStillShows view r q
 
--- an account was looked for in the host's store; or nothing was asked
-abbrev pub Seeks : {K S T : Type 0} → Ghosts S → Bool → (K → Database) → List ℕ → Option Lookup → HostStore K T S → HostStore K T S → Type 0
-Seeks g tells holds user lookup held later = HostFinds (host_view g tells holds) (IsClean g tells) user lookup held later
-
 -- a message moved on so, whatever accounts were shown; or nothing was asked
-abbrev pub MovesBy : {R : Type 0} → View R → (R → Type 0) → Option Moving → R → R → Type 0
-MovesBy view clean (Some moving) r q =
+abbrev pub HostMovesNext : {R : Type 0} → View R → (R → Type 0) → Option Moving → R → R → Type 0
+HostMovesNext view clean (Some moving) r q =
     clean q → (w : World) → view.shows r w.accounts
     → (later : Accounts) × MovesMessage moving w.accounts later × view.shows q later × MayLeave (view.leaves r) w.accounts (view.leaves q) later (TriedMoving moving w)
-MovesBy view clean None r q = ViewStillShows view r q
-
--- a message moved on from the host's store; or nothing was asked
-abbrev pub HostMovesNext : {K S T : Type 0} → Ghosts S → Bool → (K → Database) → Option Moving → HostStore K T S → HostStore K T S → Type 0
-HostMovesNext g tells holds moving held later = MovesBy (host_view g tells holds) (IsClean g tells) moving held later
+HostMovesNext view clean None r q = ViewStillShows view r q
 
 -- on what a route relies that may not be there
 abbrev pub RouteRelies : {T : Type 0} → (T → List ℕ → Type 0) → (T → List ℕ → KeptMail → Type 0) → (T → List ℕ → KeptMail → Type 0) → Option Route → T → Type 0
@@ -121,3 +104,8 @@ IsThereBy keeps_at (Some route) sink m = LeftThere (keeps_at sink) route.load m
 
 abbrev pub MailIsThere : {K S T : Type 0} → (T → List ℕ → KeptMail → Type 0) → HostStore K T S → Moving → Type 0
 MailIsThere keeps_at held m = IsThereBy keeps_at held.route held.sink m
+
+-- which messages the sink has stays, and where it was as they were put
+pub record MailStays {R : Type 0} (has : R → List KeptMail → Type 0) (there : R → Moving → Type 0) (r q : R) : Type 0 where
+  pub kept : (mails : List KeptMail) → has r mails → has q mails
+  pub left : (m : Moving) → there r m → there q m

@@ -1,12 +1,8 @@
 -- The moment of a delivery.
-use Rattle.std.specs.Prelude.{⊤, ℕ}
+use Rattle.std.specs.Prelude.{ℕ}
 use Rattle.mail_dates.specs.HostZones.{IsOffsetAt}
 use Rattle.sieve_exec.specs.declared.when.When.{When}
 use Rattle.store_engine.specs.declared.terms.HostSettings.{HostSettings}
-
--- of the system's clock nothing is known: it may show any moment
-abbrev pub MayShow : {C : Type 0} → C → C → ℕ → Type 0
-MayShow earlier later moment = ⊤
 
 -- the clock gives that moment the next time that it is read
 abbrev pub GivesNext : {C : Type 0} → (C → C → ℕ → Type 0) → C → ℕ → Type 0

@@ -1,20 +1,21 @@
 //! The outside of the daemon, over the system.
-ghost use Rattle.std.specs.Prelude.{◌≡◌, ℕ, [], ◌∷◌, ◌++◌, true, false, None, IsTrue, IfSome};
+ghost use Rattle.std.specs.Prelude.{◌≡◌, ℕ, [], ◌∷◌, ◌++◌, true, false, IsTrue, IfSome};
 ghost use Rattle.lmtp_connections.specs.Connections.{IsFinding};
 ghost use Rattle.store_engine.specs.Hosts.{IsGivenUp, SessionMap};
 ghost use Rattle.store_engine.specs.Terms.{terms};
 ghost use Rattle.sieve_exec.specs.declared.when.When.{When};
-ghost use Rattle.daemon_core.specs.StoreAccess.{access_state, delivery_of};
+ghost use Rattle.daemon_core.specs.StoreAccess.{ViewStillShows, delivery_of};
 ghost use Rattle.net_loop.specs.Told.{IsLoopAct};
+ghost use Rattle.cli_run.specs.Faults.{status_of};
 ghost use Rattle.daemon_host.specs.Events as events;
 ghost use Rattle.daemon_host.specs.Held as held;
-ghost use Rattle.daemon_host.specs.Held.{HoldsStore, host_view, IsClean, StillShown, HostBrings, HostMovesNext, MailIsThere, SinkHasMail, IsToldAs, Seeks};
-ghost use Rattle.daemon_host.specs.Moments.{GivesNext, IsReadNext, MayShow};
+ghost use Rattle.daemon_host.specs.Held.{host_view, IsClean, StillShown, HostBrings, HostMovesNext, MailIsThere, SinkHasMail, IsToldAs, Seeks};
+ghost use Rattle.daemon_host.specs.Moments.{GivesNext, IsReadNext};
 ghost use Rattle.daemon_core.specs.Moves.{HasKept};
 
-use crate::delivery_clock::{DeliveryClock, SystemClock};
 use crate::host_log::HostLog;
-use crate::host_store::HostStore;
+use crate::host_system::HostSystem;
+use crate::mail_store::MailStore;
 use crate::store_turns::StoreTurns;
 use cli_run::fault_with_cause::FaultWithCause;
 use daemon_core::LMTP;
@@ -22,24 +23,20 @@ use daemon_core::note::Note;
 use daemon_core::store_access::StoreAccess;
 use lmtp_connections::DeliveryRequest;
 use lmtp_dialogue::Lookup;
-use maildir_files::MailSink;
-use maildir_moves::{MovePause, Moving, Route, pause_behind};
+use maildir_moves::{MovePause, Moving, pause_behind};
 use net_loop::act::Act;
 use net_loop::outcome::{self, Accepted, Input, Output, Wake};
 use net_loop::outside::{Clock, Outside, Sockets};
 use net_shares::{Grace, Scheduler, TimeAccount};
-use net_sockets::SystemSockets;
 use octets::Octets;
 use sqlite::ErrorCode;
 use std::alloc::{AllocError, Global};
 use std::collections::VecDeque;
 use std::io::Write;
 use std::mem::take;
-use std::net::Net;
-use std::time;
 use std::time::Instant;
 use store_engine::{Answer, Clients, Event, HostSettings, LentTerms, Refusal};
-use store_lock::{Keeper, StoreUnavailable};
+use store_lock::StoreUnavailable;
 
 /// After a step of more than this many microseconds another connection has its turn.
 const MAX_STEP: u64 = 5_000;
@@ -64,15 +61,13 @@ const TRY_LATER: &[u8] = b"NO (TRYLATER) \"Try later.\"\r\n";
 /// store is given back: the next act takes it anew, by its path. Of the connections that wait for it those come first whose account used
 /// little time recently.
 #[derive(Drop)]
-pub struct Host<'a, N: Net + time::Clock, E: Write + Drop, K: Keeper + Drop, T: MailSink + Drop> {
+pub struct Host<'a, S: HostSystem + Drop, E: Write + Drop, H: MailStore + Drop> {
     alloc: Global,
-    system: &'a N,
-    /// When messages are delivered.
-    clock: SystemClock<'a, N>,
-    sockets: SystemSockets<'a, N>,
+    /// The sockets and the clock.
+    system: S,
     /// A wait has failed.
     broken: bool,
-    held: HostStore<K, T>,
+    held: H,
     path: &'a str,
     /// What the host says of each delivery.
     settings: HostSettings,
@@ -99,34 +94,26 @@ pub struct Host<'a, N: Net + time::Clock, E: Write + Drop, K: Keeper + Drop, T: 
     news: HostLog<E>,
 }
 
-impl<'a, N: Net + time::Clock, E: Write + Drop, K: Keeper + Drop, T: MailSink + Drop> Host<
-    'a,
-    N,
-    E,
-    K,
-    T,
-> {
+impl<'a, S: HostSystem + Drop, E: Write + Drop, H: MailStore + Drop> Host<'a, S, E, H> {
     /// The store isn't held yet. Mail is delivered under the settings. What goes wrong with the store is told on the errors, and what
     /// becomes of messages; if `quiet`, nothing of those that were delivered.
     pub fn new(
         alloc: Global,
-        system: &'a N,
-        sockets: SystemSockets<'a, N>,
-        keeper: K,
-        sink: T,
-        route: Option<Route>,
+        system: S,
+        held: H,
         path: &'a str,
         settings: HostSettings,
         quiet: bool,
         errors: E,
-    ) -> Host<'a, N, E, K, T> {
+    ) -> Host<'a, S, E, H>
+        ensures held { result.held ≡ held }
+        ensures settings { result.settings ≡ settings }
+    {
         Host {
             alloc,
             system,
-            clock: SystemClock::new(system),
-            sockets,
             broken: false,
-            held: HostStore::new(alloc, keeper, sink, route),
+            held,
             path,
             settings,
             queue: StoreTurns::new(alloc),
@@ -149,7 +136,9 @@ impl<'a, N: Net + time::Clock, E: Write + Drop, K: Keeper + Drop, T: MailSink + 
     }
 
     /// Tells of the fault that ends the daemon, and gives its exit status.
-    pub fn refuse(&mut self, fault: FaultWithCause) -> u8 {
+    pub fn refuse(&mut self, fault: FaultWithCause) -> u8
+        ensures { result ≡ status_of fault.fault }
+    {
         self.news.refuse(fault)
     }
 
@@ -158,7 +147,7 @@ impl<'a, N: Net + time::Clock, E: Write + Drop, K: Keeper + Drop, T: MailSink + 
         ensures same { self.new.held ≡ self.old.held }
         ensures settings { self.new.settings ≡ self.old.settings }
     {
-        self.begun = start(self.system);
+        self.begun = self.system.instant();
     }
 
     /// Ends an act of a connection, of that kind and for that account; the next one begins.
@@ -166,7 +155,7 @@ impl<'a, N: Net + time::Clock, E: Write + Drop, K: Keeper + Drop, T: MailSink + 
         ensures same { self.new.held ≡ self.old.held }
         ensures settings { self.new.settings ≡ self.old.settings }
     {
-        let Some(micros) = micros_since(self.system, self.begun) else {
+        let Some(micros) = micros_since(&self.system, self.begun) else {
             return;
         };
         self.begin_act();
@@ -174,7 +163,7 @@ impl<'a, N: Net + time::Clock, E: Write + Drop, K: Keeper + Drop, T: MailSink + 
             self.long = true;
         }
         self.news.note_slow(what, &account, micros);
-        let now = self.sockets.now();
+        let now = self.system.now();
         self.charge(id, account, now, micros);
         self.note_act(id, now, micros);
     }
@@ -236,7 +225,7 @@ impl<'a, N: Net + time::Clock, E: Write + Drop, K: Keeper + Drop, T: MailSink + 
     fn enter_user(&mut self, id: u32, user: &[u8])
         ensures same { self.new.held ≡ self.old.held }
         ensures settings { self.new.settings ≡ self.old.settings }
-        ensures clock { self.new.clock ≡ self.old.clock }
+        ensures system { self.new.system ≡ self.old.system }
     {
         if let Ok(name) = Octets::from_slice(self.alloc, user) {
             let _ = self.turns.enter(id, TimeAccount::User(name));
@@ -296,7 +285,7 @@ impl<'a, N: Net + time::Clock, E: Write + Drop, K: Keeper + Drop, T: MailSink + 
         ensures settings { self.new.settings ≡ self.old.settings }
     {
         self.enter_user(id, user);
-        let now = self.sockets.now();
+        let now = self.system.now();
         if self.turns.is_late(id, now) {
             let _ = self.turns.enter(id, TimeAccount::Senders);
         }
@@ -304,10 +293,10 @@ impl<'a, N: Net + time::Clock, E: Write + Drop, K: Keeper + Drop, T: MailSink + 
 
     /// Whether the store may be asked now for a connection: it is its turn, the store didn't fail, and nobody waits for it.
     fn may_ask(&mut self, id: u32) -> bool
-        ensures shown { StillShown K.S.Store K.tells K.holds self.old.held self.new.held }
+        ensures shown { ViewStillShows H.view self.old.held self.new.held }
         ensures settings { self.new.settings ≡ self.old.settings }
     {
-        let now = self.sockets.now();
+        let now = self.system.now();
         if self.is_held_up(id, now) {
             return false;
         }
@@ -335,7 +324,7 @@ impl<'a, N: Net + time::Clock, E: Write + Drop, K: Keeper + Drop, T: MailSink + 
 
     /// Whether a user whose account used little time was served so lately that the next command may come, and others may be kept waiting.
     fn has_grace(&self) -> bool {
-        match micros_since(self.system, self.served) {
+        match micros_since(&self.system, self.served) {
             Some(passed) => self.grace.may_wait(passed),
             None => false,
         }
@@ -346,18 +335,17 @@ impl<'a, N: Net + time::Clock, E: Write + Drop, K: Keeper + Drop, T: MailSink + 
         ensures same { self.new.held ≡ self.old.held }
         ensures settings { self.new.settings ≡ self.old.settings }
     {
-        let now = self.sockets.now();
+        let now = self.system.now();
         self.queue.join(id, now);
     }
 
     /// Whether somebody waits for the store. A store that is held isn't looked after again within the millisecond in which nobody did.
     fn is_awaited(&mut self) -> bool
-        ensures shown { StillShown K.S.Store K.tells K.holds self.old.held self.new.held }
-        ensures sink { self.new.held.sink ≡ self.old.held.sink }
-        ensures route { self.new.held.route ≡ self.old.held.route }
+        ensures shown { ViewStillShows H.view self.old.held self.new.held }
+        ensures mail { MailStays H.has H.there self.old.held self.new.held }
         ensures settings { self.new.settings ≡ self.old.settings }
     {
-        let now = self.sockets.now();
+        let now = self.system.now();
         if self.held.has_store() && self.looked == Some(now) {
             return false;
         }
@@ -368,7 +356,7 @@ impl<'a, N: Net + time::Clock, E: Write + Drop, K: Keeper + Drop, T: MailSink + 
 
     /// Whether the store is to be given back: it failed, it isn't that of the file at its path any more, or somebody waits for it.
     fn is_wanted(&mut self) -> bool
-        ensures { StillShown K.S.Store K.tells K.holds self.old.held self.new.held }
+        ensures { ViewStillShows H.view self.old.held self.new.held }
     {
         self.news.has_failed() || self.is_lost() || self.is_awaited()
     }
@@ -385,9 +373,9 @@ impl<'a, N: Net + time::Clock, E: Write + Drop, K: Keeper + Drop, T: MailSink + 
             self.wait_for_more(ready);
         }
         if ready.iter().any(|wake| is_users(&self.turns, *wake)) {
-            self.served = start(self.system);
+            self.served = self.system.instant();
         }
-        let now = self.sockets.now();
+        let now = self.system.now();
         if !self.held_up || self.turns.has_lighter(now) {
             let _ = self.turns.let_one_go(now, ready);
         }
@@ -398,7 +386,7 @@ impl<'a, N: Net + time::Clock, E: Write + Drop, K: Keeper + Drop, T: MailSink + 
 
     /// Keeps of all those whose accounts used little time recently; the others wait.
     fn put_off_late(&mut self, ready: &mut VecDeque<Wake>) {
-        let now = self.sockets.now();
+        let now = self.system.now();
         let _ = self.turns.put_off_late(now, ready);
     }
 
@@ -418,9 +406,9 @@ impl<'a, N: Net + time::Clock, E: Write + Drop, K: Keeper + Drop, T: MailSink + 
     fn wait_for_more(&mut self, ready: &mut VecDeque<Wake>)
         requires { ready.old.items ≡ [] }
     {
-        let begun = start(self.system);
-        let _ = self.sockets.wait(1, ready);
-        if let Some(micros) = micros_since(self.system, begun) {
+        let begun = self.system.instant();
+        let _ = self.system.wait(1, ready);
+        if let Some(micros) = micros_since(&self.system, begun) {
             self.grace.pay(micros);
         }
         self.put_off_late(ready);
@@ -429,7 +417,7 @@ impl<'a, N: Net + time::Clock, E: Write + Drop, K: Keeper + Drop, T: MailSink + 
     /// Applies an event to the store, if that may be asked and is available.
     fn try_apply_event(&mut self, id: u32, clients: &mut Clients, event: &Event) -> Option<Answer>
         requires { ¬ IsGivenUp event.now }
-        ensures { HostBrings K.S.Store K.tells K.holds event.now result (access_state self.old.held clients.old.sessions) (access_state self.new.held clients.new.sessions) }
+        ensures { HostBrings H.view H.clean event.now result self.old.held clients.old.sessions self.new.held clients.new.sessions }
     {
         if !self.may_ask(id) {
             return None;
@@ -437,12 +425,12 @@ impl<'a, N: Net + time::Clock, E: Write + Drop, K: Keeper + Drop, T: MailSink + 
         let Ok(later) = Octets::from_slice(self.alloc, TRY_LATER) else {
             return None;
         };
-        let begun = start(self.system);
+        let begun = self.system.instant();
         self.reach();
         let is_unauthenticated = user_of(clients, id).is_none();
         let answer = self.held.apply_event(clients, event)?;
         self.news.note_answer(&answer, self.held.code());
-        note_time(&mut self.news, self.system, begun);
+        note_time(&mut self.news, &self.system, begun);
         note_login(&mut self.news, clients, id, is_unauthenticated);
         let kept = self.is_kept();
         Some(answer_if_kept(answer, kept, is_unauthenticated, later))
@@ -451,7 +439,7 @@ impl<'a, N: Net + time::Clock, E: Write + Drop, K: Keeper + Drop, T: MailSink + 
     /// Whether the store is held, and the file at the path is another one, or none. That is told.
     fn is_lost(&mut self) -> bool
         ensures same { self.new.held ≡ self.old.held }
-        ensures lost { result ≡ true → ¬ IsTrue K.tells }
+        ensures lost { result ≡ true → ¬ IsTrue H.tells }
     {
         if !self.held.has_store() || self.held.is_there(self.path) {
             return false;
@@ -462,9 +450,8 @@ impl<'a, N: Net + time::Clock, E: Write + Drop, K: Keeper + Drop, T: MailSink + 
 
     /// Whether the file at the path is still that of the store, after an act. If it isn't, the store is given back.
     fn is_kept(&mut self) -> bool
-        ensures kept { IsClean K.S.Store K.tells self.new.held → (result ≡ true) × (self.new.held ≡ self.old.held) }
-        ensures sink { self.new.held.sink ≡ self.old.held.sink }
-        ensures route { self.new.held.route ≡ self.old.held.route }
+        ensures kept { H.clean self.new.held → (result ≡ true) × (self.new.held ≡ self.old.held) }
+        ensures mail { MailStays H.has H.there self.old.held self.new.held }
     {
         if self.is_lost() {
             self.give_back();
@@ -476,7 +463,7 @@ impl<'a, N: Net + time::Clock, E: Write + Drop, K: Keeper + Drop, T: MailSink + 
     /// Looks for an account, if the store may be asked and is available.
     fn try_find_account(&mut self, id: u32, user: &[u8]) -> Option<Lookup>
         ensures found { IfSome result IsFinding }
-        ensures seeks { Seeks K.S.Store K.tells K.holds user.now result self.old.held self.new.held }
+        ensures seeks { HostFinds H.view H.clean user.now result self.old.held self.new.held }
     {
         if !self.may_ask(id) {
             return None;
@@ -490,13 +477,13 @@ impl<'a, N: Net + time::Clock, E: Write + Drop, K: Keeper + Drop, T: MailSink + 
 
     /// Delivers a message at the moment that the clock shows, if the store may be asked and is available.
     fn try_deliver(&mut self, id: u32, request: &DeliveryRequest) -> Option<Answer>
-        ensures { (when : When) × IsReadNext MayShow self.old.clock self.old.settings when × ((kept : SessionMap) → HostBrings K.S.Store K.tells K.holds (delivery_of request.now (terms when self.old.settings)) result (access_state self.old.held kept) (access_state self.new.held kept)) }
+        ensures { (when : When) × IsReadNext S.showed self.old.system self.old.settings when × ((kept : SessionMap) → HostBrings H.view H.clean (delivery_of request.now (terms when self.old.settings)) result self.old.held kept self.new.held kept) }
     {
-        let when = self.settings.at(self.clock.seconds()).when;
+        let when = self.settings.at(self.system.seconds()).when;
         if !self.may_ask(id) {
             return None;
         }
-        let begun = start(self.system);
+        let begun = self.system.instant();
         self.reach();
         let terms = LentTerms {
             when,
@@ -505,7 +492,7 @@ impl<'a, N: Net + time::Clock, E: Write + Drop, K: Keeper + Drop, T: MailSink + 
         match self.held.deliver(self.alloc, request, terms) {
             Some(answer) => {
                 let code = self.held.code();
-                note_time(&mut self.news, self.system, begun);
+                note_time(&mut self.news, &self.system, begun);
                 let kept = self.is_kept();
                 Some(self.tell_delivery(request, answer, code, kept))
             }
@@ -533,8 +520,8 @@ impl<'a, N: Net + time::Clock, E: Write + Drop, K: Keeper + Drop, T: MailSink + 
 
     /// Has messages move on by one step, if the store may be asked and is available.
     fn try_move_next(&mut self, now: u64, fresh: bool) -> Option<Moving>
-        ensures moves { HostMovesNext K.S.Store K.tells K.holds result self.old.held self.new.held }
-        ensures keeps { IfSome result (λ moving. HasKept (SinkHasMail T.tells T.kept T.is_at T.has_put T.keeps_at) (MailIsThere T.keeps_at) moving self.old.held self.new.held) }
+        ensures moves { HostMovesNext H.view H.clean result self.old.held self.new.held }
+        ensures keeps { IfSome result (λ moving. HasKept H.has H.there moving self.old.held self.new.held) }
     {
         if !self.may_move() {
             return None;
@@ -550,28 +537,26 @@ impl<'a, N: Net + time::Clock, E: Write + Drop, K: Keeper + Drop, T: MailSink + 
 
     /// Whether the store may be asked now for a message: it didn't fail, and nobody waits for it.
     fn may_move(&mut self) -> bool
-        ensures shown { StillShown K.S.Store K.tells K.holds self.old.held self.new.held }
-        ensures sink { self.new.held.sink ≡ self.old.held.sink }
-        ensures route { self.new.held.route ≡ self.old.held.route }
+        ensures shown { ViewStillShows H.view self.old.held self.new.held }
+        ensures mail { MailStays H.has H.there self.old.held self.new.held }
     {
         !self.news.has_failed() && !self.is_awaited()
     }
 
     /// Takes the store, if it isn't held and isn't left alone. The time for that is nobody's: a new act begins.
     fn reach(&mut self)
-        ensures shown { StillShown K.S.Store K.tells K.holds self.old.held self.new.held }
-        ensures sink { self.new.held.sink ≡ self.old.held.sink }
-        ensures route { self.new.held.route ≡ self.old.held.route }
+        ensures shown { ViewStillShows H.view self.old.held self.new.held }
+        ensures mail { MailStays H.has H.there self.old.held self.new.held }
         ensures settings { self.new.settings ≡ self.old.settings }
     {
-        if self.held.has_store() || self.news.lasts(self.sockets.now()) {
+        if self.held.has_store() || self.news.lasts(self.system.now()) {
             return;
         }
         match self.held.take(self.path) {
             Ok(()) => self.news.note_taken(),
             Err(StoreUnavailable::Busy) => {}
             Err(StoreUnavailable::Refused(refusal)) => {
-                let now = self.sockets.now();
+                let now = self.system.now();
                 self.news.leave_alone(refusal, self.held.cause(), now)
             }
         }
@@ -580,13 +565,13 @@ impl<'a, N: Net + time::Clock, E: Write + Drop, K: Keeper + Drop, T: MailSink + 
 
     /// Gives the store back. After a failure it is left alone for a while.
     fn give_back(&mut self)
-        ensures shown { IsClean K.S.Store K.tells self.new.held → StillShown K.S.Store K.tells K.holds self.old.held self.new.held }
-        ensures given { self.new.held.held.store ≡ None }
-        ensures sink { self.new.held.sink ≡ self.old.held.sink }
-        ensures route { self.new.held.route ≡ self.old.held.route }
+        ensures shown { H.clean self.new.held → ViewStillShows H.view self.old.held self.new.held }
+        ensures given { H.is_held self.new.held ≡ false }
+        ensures told { H.clean self.new.held → IsTrue H.tells }
+        ensures mail { MailStays H.has H.there self.old.held self.new.held }
     {
         let refusal = self.held.give_back();
-        let now = self.sockets.now();
+        let now = self.system.now();
         self.news.note_given(refusal, self.held.cause(), now);
     }
 }
@@ -685,18 +670,13 @@ fn lacking(answer: Answer) -> Answer
     }
 }
 
-/// Now, if the clock can be read.
-fn start<C: time::Clock>(clock: &C) -> Option<Instant> {
-    Instant::now(clock).ok()
-}
-
 /// Notes how long an event took that began then.
-fn note_time<C: time::Clock, E: Write + Drop>(
+fn note_time<S: HostSystem, E: Write + Drop>(
     news: &mut HostLog<E>,
-    clock: &C,
+    system: &S,
     begun: Option<Instant>,
 ) {
-    if let Some(micros) = micros_since(clock, begun) {
+    if let Some(micros) = micros_since(system, begun) {
         news.note_time(micros);
     }
 }
@@ -715,16 +695,17 @@ fn note_login<E: Write + Drop>(
 }
 
 /// How many microseconds have passed since then, if the clock can be read; an hour at most.
-fn micros_since<C: time::Clock>(clock: &C, begun: Option<Instant>) -> Option<u64> {
-    let passed = begun?.elapsed(clock).ok()?;
+fn micros_since<S: HostSystem>(system: &S, begun: Option<Instant>) -> Option<u64> {
+    let begun = begun?;
+    let passed = system.instant()?.duration_since(begun);
     Some(passed.as_secs().min(3600) * 1000000 + passed.subsec_micros() as u64)
 }
 
-impl<N: Net + time::Clock, E: Write + Drop, K: Keeper + Drop, T: MailSink + Drop> Outside
-    for Host<'_, N, E, K, T> {
+impl<S: HostSystem + Drop, E: Write + Drop, H: MailStore + Drop> Outside
+    for Host<'_, S, E, H> {
     type Note = Note;
 
-    type Rest = HostStore<K, T>;
+    type Rest = H;
 
     // It tells no acts, so `seen` may be any.
     ghost told = { record { tells = λ _. false; seen = λ _. []; rest = λ host. host.held } };
@@ -732,13 +713,13 @@ impl<N: Net + time::Clock, E: Write + Drop, K: Keeper + Drop, T: MailSink + Drop
     ghost broken = { λ host. host.broken };
 }
 
-impl<N: Net + time::Clock, E: Write + Drop, K: Keeper + Drop, T: MailSink + Drop> Sockets
-    for Host<'_, N, E, K, T> {
+impl<S: HostSystem + Drop, E: Write + Drop, H: MailStore + Drop> Sockets
+    for Host<'_, S, E, H> {
     fn wait(&mut self, within: u32, ready: &mut VecDeque<Wake>) -> Result<(), outcome::WaitError> {
-        let now = self.sockets.now();
+        let now = self.system.now();
         self.news.tell_status(now);
         let within = if self.has_late() { 0 } else { within };
-        match self.sockets.wait(within, ready) {
+        match self.system.wait(within, ready) {
             Ok(()) => {
                 self.choose(ready);
                 Ok(())
@@ -752,45 +733,45 @@ impl<N: Net + time::Clock, E: Write + Drop, K: Keeper + Drop, T: MailSink + Drop
 
     fn accept(&mut self, kind: u32, id: u32) -> Accepted {
         let _ = self.turns.enter(id, account_of(kind));
-        self.sockets.accept(kind, id)
+        self.system.accept(kind, id)
     }
 
     fn read(&mut self, id: u32, buffer: &mut [u8]) -> Input {
-        let input = self.sockets.read(id, buffer);
+        let input = self.system.read(id, buffer);
         self.begin_act();
         input
     }
 
     fn discard(&mut self, id: u32) -> Input {
-        self.sockets.discard(id)
+        self.system.discard(id)
     }
 
     fn write(&mut self, id: u32, octets: &[u8]) -> Output {
-        let output = self.sockets.write(id, octets);
+        let output = self.system.write(id, octets);
         self.begin_act();
         output
     }
 
     fn shut(&mut self, id: u32) {
-        self.sockets.shut(id)
+        self.system.shut(id)
     }
 
     fn close(&mut self, id: u32) {
         self.queue.leave(id);
         self.turns.leave(id);
-        self.sockets.close(id)
+        self.system.close(id)
     }
 
     fn again(&mut self, id: u32) {
-        self.sockets.again(id)
+        self.system.again(id)
     }
 
     fn listen(&mut self, kind: u32) {
-        self.sockets.listen(kind)
+        self.system.listen(kind)
     }
 
     fn defer(&mut self, kind: u32) {
-        self.sockets.defer(kind)
+        self.system.defer(kind)
     }
 
     fn note(&mut self, act: Act<Note>)
@@ -803,10 +784,10 @@ impl<N: Net + time::Clock, E: Write + Drop, K: Keeper + Drop, T: MailSink + Drop
     }
 }
 
-impl<N: Net + time::Clock, E: Write + Drop, K: Keeper + Drop, T: MailSink + Drop> Clock
-    for Host<'_, N, E, K, T> {
+impl<S: HostSystem + Drop, E: Write + Drop, H: MailStore + Drop> Clock
+    for Host<'_, S, E, H> {
     fn now(&mut self) -> u64 {
-        self.sockets.now()
+        self.system.now()
     }
 
     fn was_long(&mut self) -> bool {
@@ -814,18 +795,18 @@ impl<N: Net + time::Clock, E: Write + Drop, K: Keeper + Drop, T: MailSink + Drop
     }
 }
 
-impl<N: Net + time::Clock, E: Write + Drop, K: Keeper + Drop, T: MailSink + Drop> StoreAccess
-    for Host<'_, N, E, K, T> {
+impl<S: HostSystem + Drop, E: Write + Drop, H: MailStore + Drop> StoreAccess
+    for Host<'_, S, E, H> {
     ghost use Rattle.store_lock.specs.Laws.{never_told};
 
     ghost store = { record {
-      view = host_view K.S.Store K.tells K.holds;
-      clean = IsClean K.S.Store K.tells;
+      view = H.view;
+      clean = H.clean;
       host = λ host. host.settings;
-      has = SinkHasMail T.tells T.kept T.is_at T.has_put T.keeps_at;
-      there = MailIsThere T.keeps_at;
-      had = HoldsStore;
-      gave = λ host moment. GivesNext MayShow host.clock moment;
+      has = H.has;
+      there = H.there;
+      had = λ held. IsTrue (H.is_held held);
+      gave = λ host moment. GivesNext S.showed host.system moment;
     } };
 
     fn apply_event(&mut self, id: u32, clients: &mut Clients, event: &Event) -> Option<Answer> {

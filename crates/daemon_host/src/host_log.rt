@@ -1,5 +1,6 @@
 //! The log on standard error, the counts of its status line, and the pause after a failure of the store.
-ghost use Rattle.std.specs.Prelude.{◌≡◌, true};
+ghost use Rattle.std.specs.Prelude.{◌≡◌, true, false};
+ghost use Rattle.cli_run.specs.Faults.{status_of};
 ghost use Rattle.daemon_host.specs.Events as events;
 ghost use Rattle.daemon_host.specs.Log.{is_delivered_answer, moved_count as count_of, moving_failed_store};
 ghost use Rattle.daemon_host.specs.Pauses.{PauseIsOver};
@@ -48,7 +49,10 @@ pub struct HostLog<E: Write + Drop> {
 
 impl<E: Write + Drop> HostLog<E> {
     /// Nothing was told.
-    pub fn new(alloc: Global, errors: E, quiet: bool) -> HostLog<E> {
+    pub fn new(alloc: Global, errors: E, quiet: bool) -> HostLog<E>
+        ensures failed { result.failed ≡ false }
+        ensures quiet { result.quiet ≡ quiet }
+    {
         HostLog {
             alloc,
             errors,
@@ -138,7 +142,9 @@ impl<E: Write + Drop> HostLog<E> {
     }
 
     /// Tells of the fault that ends the daemon, and gives its exit status.
-    pub fn refuse(&mut self, fault: FaultWithCause) -> u8 {
+    pub fn refuse(&mut self, fault: FaultWithCause) -> u8
+        ensures { result ≡ status_of fault.fault }
+    {
         fault.tell(&mut self.errors);
         fault.fault.status()
     }

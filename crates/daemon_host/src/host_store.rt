@@ -1,13 +1,9 @@
 //! A store that is held now and then, and who keeps the mail that moves on from it.
-ghost use Rattle.std.specs.Prelude.{◌≡◌, None, false, IsTrue, IfErr, IfOk, IfSome, OnOk, is_some};
-ghost use Rattle.lmtp_connections.specs.Connections.{IsFinding};
-ghost use Rattle.store_engine.specs.Hosts.{IsGivenUp, SessionMap};
-ghost use Rattle.store_engine.specs.Terms.{terms_of};
+ghost use Rattle.std.specs.Prelude.{◌≡◌, false, IfOk};
 ghost use Rattle.store_lock.specs.Taken.{DeniesStore, GivesStore};
-ghost use Rattle.daemon_core.specs.StoreAccess.{access_state, delivery_of};
-ghost use Rattle.daemon_host.specs.Held.{IsClean, StillShown, HostBrings, HostMovesNext, MailIsThere, SinkHasMail, Seeks};
-ghost use Rattle.daemon_core.specs.Moves.{HasKept};
+ghost use Rattle.daemon_host.specs.Held.{host_view, is_held, IsClean, MailIsThere, SinkHasMail};
 
+use crate::mail_store::MailStore;
 use daemon_core::recipient_account::find_account;
 use lmtp_connections::DeliveryRequest;
 use lmtp_dialogue::Lookup;
@@ -43,76 +39,59 @@ impl<K: Keeper + Drop, T: MailSink + Drop> HostStore<K, T> {
             kept: KeptScripts::new(alloc),
         }
     }
+}
 
-    /// What the system said of the last failure of the sink.
-    pub fn sink_cause(&self) -> Option<ErrorKind> {
-        self.sink.cause()
-    }
+impl<K: Keeper + Drop, T: MailSink + Drop> MailStore for HostStore<K, T> {
+    ghost view = { host_view K.S.Store K.tells K.holds };
 
-    /// Whether the store is held.
-    pub fn has_store(&self) -> bool
-        ensures { result ≡ is_some self.now.held.store }
-    {
+    ghost clean = { IsClean K.S.Store K.tells };
+
+    ghost tells = { K.tells };
+
+    ghost is_held = { is_held };
+
+    ghost has = { SinkHasMail T.tells T.kept T.is_at T.has_put T.keeps_at };
+
+    ghost there = { MailIsThere T.keeps_at };
+
+    ghost gives = { λ path. GivesStore K.gives K.will_wait path false };
+
+    ghost denies = { λ path denial. DeniesStore K.refuses K.will_wait path false denial };
+
+    fn has_store(&self) -> bool {
         self.held.store.is_some()
     }
 
-    /// What the system or SQLite said of the last failure that the keeper answered as `Store`.
-    pub fn cause(&self) -> Option<&'static str> {
+    fn sink_cause(&self) -> Option<ErrorKind> {
+        self.sink.cause()
+    }
+
+    fn cause(&self) -> Option<&'static str> {
         self.held.keeper.cause()
     }
 
-    /// What SQLite said of the last change that the store refused.
-    pub fn code(&self) -> Option<ErrorCode> {
+    fn code(&self) -> Option<ErrorCode> {
         self.held.store.as_ref()?.cause()
     }
 
-    /// Whether the file at the path is still that of the store that is held: only then others find there what it answers.
-    pub fn is_there(&self, path: &str) -> bool
-        ensures { IsTrue K.tells → IsTrue result }
-    {
+    fn is_there(&self, path: &str) -> bool {
         self.held.keeper.is_there(path)
     }
 
-    /// Whether somebody waits for the store.
-    pub fn is_awaited(&mut self, path: &str) -> bool
-        ensures shown { StillShown K.S.Store K.tells K.holds self.old self.new }
-        ensures sink { self.new.sink ≡ self.old.sink }
-        ensures route { self.new.route ≡ self.old.route }
-    {
+    fn is_awaited(&mut self, path: &str) -> bool {
         self.held.keeper.is_awaited(path)
     }
 
-    /// Takes the store, if it isn't held. Nobody is waited for.
-    ///
-    /// # Errors
-    ///
-    /// Those of [`Keeper::take`].
-    pub fn take(&mut self, path: &str) -> Result<(), StoreUnavailable>
-        ensures denied { IfErr result (DeniesStore K.refuses K.will_wait path.now false) }
-        ensures given { OnOk result (self.old.held.store ≡ None → GivesStore K.gives K.will_wait path.now false) }
-        ensures sink { self.new.sink ≡ self.old.sink }
-        ensures route { self.new.route ≡ self.old.route }
-        ensures shown { StillShown K.S.Store K.tells K.holds self.old self.new }
-    {
+    fn take(&mut self, path: &str) -> Result<(), StoreUnavailable> {
         self.held.take(path, false)
     }
 
-    /// Gives the store back, if it is held. Returns why it couldn't be closed, if it couldn't: what was committed stays.
-    pub fn give_back(&mut self) -> Option<Refusal>
-        ensures shown { IsClean K.S.Store K.tells self.new → StillShown K.S.Store K.tells K.holds self.old self.new }
-        ensures given { self.new.held.store ≡ None }
-        ensures sink { self.new.sink ≡ self.old.sink }
-        ensures route { self.new.route ≡ self.old.route }
-    {
+    fn give_back(&mut self) -> Option<Refusal> {
         self.held.give_back();
         self.held.keeper.take_close_error()
     }
 
-    /// Applies an event to the store and the sessions, and answers it; none if the store isn't held.
-    pub fn apply_event(&mut self, clients: &mut Clients, event: &Event) -> Option<Answer>
-        requires { ¬ IsGivenUp event.now }
-        ensures { HostBrings K.S.Store K.tells K.holds event.now result (access_state self.old clients.old.sessions) (access_state self.new clients.new.sessions) }
-    {
+    fn apply_event(&mut self, clients: &mut Clients, event: &Event) -> Option<Answer> {
         let Some(store) = &mut self.held.store else {
             return None;
         };
@@ -122,26 +101,19 @@ impl<K: Keeper + Drop, T: MailSink + Drop> HostStore<K, T> {
         }
     }
 
-    /// Whether there is an account of that name; none if the store isn't held.
-    pub fn find_account(&mut self, user: &[u8]) -> Option<Lookup>
-        ensures found { IfSome result IsFinding }
-        ensures seeks { Seeks K.S.Store K.tells K.holds user.now result self.old self.new }
-    {
+    fn find_account(&mut self, user: &[u8]) -> Option<Lookup> {
         let Some(store) = &mut self.held.store else {
             return None;
         };
         Some(find_account(store, user))
     }
 
-    /// Delivers a message for one recipient under these terms, and answers that as an event; no copy is made of the message. None if the store isn't held, or memory is lacking for the envelope.
-    pub fn deliver(
+    fn deliver(
         &mut self,
         alloc: Global,
         request: &DeliveryRequest,
         terms: LentTerms<'_>,
-    ) -> Option<Answer>
-        ensures { (kept : SessionMap) → HostBrings K.S.Store K.tells K.holds (delivery_of request.now (terms_of terms.entry)) result (access_state self.old kept) (access_state self.new kept) }
-    {
+    ) -> Option<Answer> {
         let Ok(envelope) = envelope_of(alloc, request) else {
             return None;
         };
@@ -155,12 +127,8 @@ impl<K: Keeper + Drop, T: MailSink + Drop> HostStore<K, T> {
         }
     }
 
-    /// Has the first messages of a folder move on by one step, as [`maildir_moves::move_next`] does. None if mail doesn't move on, or the
-    /// store isn't held.
-    pub fn move_next(&mut self, now: u64, fresh: bool) -> Option<Moving>
-        ensures moves { HostMovesNext K.S.Store K.tells K.holds result self.old self.new }
-        ensures keeps { IfSome result (λ moving. HasKept (SinkHasMail T.tells T.kept T.is_at T.has_put T.keeps_at) (MailIsThere T.keeps_at) moving self.old self.new) }
-    {
+    /// As [`maildir_moves::move_next`] does.
+    fn move_next(&mut self, now: u64, fresh: bool) -> Option<Moving> {
         let Some(route) = &mut self.route else {
             return None;
         };

@@ -10,6 +10,9 @@ use cli_subcommands::HostFiles;
 use daemon_core::life;
 use daemon_core::mail::{MailDaemon, Places};
 use daemon_host::host::Host;
+use daemon_host::host_store::HostStore;
+use daemon_host::host_system::{HostSystem, SocketsAndClock};
+use daemon_host::mail_store::MailStore;
 use maildir_files::MailSink;
 use maildir_homes::{MailHomes, read_homes};
 use maildir_moves::Route;
@@ -79,11 +82,8 @@ pub fn serve_daemon<
         Ok(sockets) => {
             let mut host = Host::new(
                 alloc,
-                system,
-                sockets,
-                keeper,
-                sink,
-                route,
+                SocketsAndClock::new(sockets, system),
+                HostStore::new(alloc, keeper, sink, route),
                 words.path,
                 settings,
                 words.quiet,
@@ -203,10 +203,10 @@ fn watch<'n, N: Net + Clock, W: Write>(
 }
 
 /// Serves clients until the process ends.
-fn live<N: Net + Clock, E: Write + Drop, K: Keeper + Drop, T: MailSink + Drop>(
+fn live<S: HostSystem + Drop, E: Write + Drop, H: MailStore + Drop>(
     alloc: Global,
     asked: &DaemonOptions<'_>,
-    mut host: Host<'_, N, E, K, T>,
+    mut host: Host<'_, S, E, H>,
 ) -> u8 {
     let mut daemon = match daemon_of(alloc, asked) {
         Ok(daemon) => daemon,

@@ -3,7 +3,7 @@ use Rattle.std.proofs.Common.{subst, sym}
 use Rattle.maildir_moves.specs.Enduring.{MayLeave, none_tried, leaves_of}
 use Rattle.sqlite.specs.Held.{state}
 use Rattle.daemon_host.specs.Held.{ShowsBy, LeavesBy}
-use Rattle.daemon_host.proofs.host_store.HostStore.find_account.Goals as goal
+use Rattle.daemon_host.proofs.host_store.HostStoreMailStore.find_account.Goals as goal
 
 pub returns-clause-seeks : goal.returns-clause-seeks
 returns-clause-seeks g c = λ clean accounts shown.

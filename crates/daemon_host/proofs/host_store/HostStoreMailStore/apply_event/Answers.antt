@@ -2,7 +2,7 @@
 use Rattle.std.proofs.Common.{subst, sym}
 use Rattle.daemon_host.specs.Held.{host_view, ShowsBy, LeavesBy}
 use Rattle.daemon_host.proofs.HeldLemmas.{done_alone}
-use Rattle.daemon_host.proofs.host_store.HostStore.apply_event.Goals as goal
+use Rattle.daemon_host.proofs.host_store.HostStoreMailStore.apply_event.Goals as goal
 
 pub returns-in-Ok : goal.returns-in-Ok
 returns-in-Ok g c = λ clean.

@@ -6,7 +6,7 @@ use Rattle.daemon_core.specs.StoreAccess.{delivery_of}
 use Rattle.daemon_host.specs.Held.{host_view, ShowsBy, LeavesBy}
 use Rattle.daemon_host.proofs.HeldLemmas.{done_alone, delivered_as, delivered_crash}
 use Rattle.store_engine.specs.Terms.{terms_of}
-use Rattle.daemon_host.proofs.host_store.HostStore.deliver.Goals as goal
+use Rattle.daemon_host.proofs.host_store.HostStoreMailStore.deliver.Goals as goal
 
 pub returns-in-Ok-deliver : goal.returns-in-Ok-deliver
 returns-in-Ok-deliver g c = λ kept clean.

@@ -5,7 +5,7 @@ use Rattle.maildir_moves.specs.Moving.{TriedMoving}
 use Rattle.sqlite.specs.Held.{state}
 use Rattle.daemon_host.specs.Held.{RouteRelies, ShowsBy, LeavesBy}
 use Rattle.daemon_host.proofs.HeldLemmas.{has_kept}
-use Rattle.daemon_host.proofs.host_store.HostStore.move_next.Goals as goal
+use Rattle.daemon_host.proofs.host_store.HostStoreMailStore.move_next.Goals as goal
 
 pub returns-clause-moves : goal.returns-clause-moves
 returns-clause-moves g c = λ clean w shown.
