@@ -26,6 +26,7 @@ use std::net::Net;
 use std::os::fd::AsFd;
 use std::time::Clock;
 use std::{fs, io};
+use store_engine::HostSettings;
 use store_lock::Keeper;
 
 /// Serves many clients at once from a keeper's store. `descriptor` may hold a socket that another process left for LMTP. The
@@ -78,22 +79,21 @@ pub fn serve_daemon<
     };
     let lines = lines_of(alloc, files, &settings);
     let route = route_of(alloc, asked.mail, homes);
-    match watch(system, alloc, listening, output) {
-        Ok(sockets) => {
-            let mut host = Host::new(
-                alloc,
-                SocketsAndClock::new(sockets, system),
-                HostStore::new(alloc, keeper, sink, route),
-                words.path,
-                settings,
-                words.quiet,
-                errors,
-            );
-            host.begin(words::VERSION.as_bytes(), pid, lines);
-            live(alloc, &asked, host)
-        }
-        Err(error) => fault_of_socket(error).refuse(&mut errors),
-    }
+    let sockets = match watch(system, alloc, listening, output) {
+        Ok(sockets) => sockets,
+        Err(error) => return fault_of_socket(error).refuse(&mut errors),
+    };
+    live(
+        alloc,
+        words,
+        &asked,
+        settings,
+        pid,
+        lines,
+        SocketsAndClock::new(sockets, system),
+        HostStore::new(alloc, keeper, sink, route),
+        errors,
+    )
 }
 
 /// The listeners, opened once the lock for life is taken and the store has been checked; none if only that check is asked for.
@@ -202,12 +202,20 @@ fn watch<'n, N: Net + Clock, W: Write>(
     Ok(sockets)
 }
 
-/// Serves clients until the process ends.
+/// Serves clients until the process ends. The first line on the errors has the process number, and these are the next ones.
 fn live<S: HostSystem + Drop, E: Write + Drop, H: MailStore + Drop>(
     alloc: Global,
+    words: words::DaemonArgs<'_>,
     asked: &DaemonOptions<'_>,
-    mut host: Host<'_, S, E, H>,
+    settings: HostSettings,
+    pid: u32,
+    lines: Result<Octets, AllocError>,
+    system: S,
+    store: H,
+    errors: E,
 ) -> u8 {
+    let mut host = Host::new(alloc, system, store, words.path, settings, words.quiet, errors);
+    host.begin(words::VERSION.as_bytes(), pid, lines);
     let mut daemon = match daemon_of(alloc, asked) {
         Ok(daemon) => daemon,
         Err(refused) => return host.refuse(FaultWithCause::from(refused)),
