@@ -9,7 +9,7 @@ ghost use Rattle.net_loop.specs.Told.{IsLoopAct};
 ghost use Rattle.cli_run.specs.Faults.{status_of};
 ghost use Rattle.daemon_host.specs.Events as events;
 ghost use Rattle.daemon_host.specs.Held as held;
-ghost use Rattle.daemon_host.specs.Held.{host_view, IsClean, StillShown, HostBrings, HostMovesNext, MailIsThere, SinkHasMail, IsToldAs, Seeks};
+ghost use Rattle.daemon_host.specs.Held.{HostBrings, HostFinds, HostMovesNext, IsToldAs, MailStays};
 ghost use Rattle.daemon_host.specs.Moments.{GivesNext, IsReadNext};
 ghost use Rattle.daemon_core.specs.Moves.{HasKept};
 
