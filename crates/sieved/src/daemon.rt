@@ -13,7 +13,7 @@ use daemon_host::host::Host;
 use daemon_host::host_store::HostStore;
 use daemon_host::host_system::{HostSystem, SocketsAndClock};
 use daemon_host::mail_store::MailStore;
-use maildir_files::MailSink;
+use maildir_files::Maildir;
 use maildir_homes::{MailHomes, read_homes};
 use maildir_moves::Route;
 use net_loop::service::Service;
@@ -32,14 +32,7 @@ use store_lock::Keeper;
 /// Serves many clients at once from a keeper's store. `descriptor` may hold a socket that another process left for LMTP. The
 /// first line on the errors has the version and the process number, and the next ones name the files of the host's scripts. Returns
 /// the exit status if the daemon ends.
-pub fn serve_daemon<
-    N: Net + Files + Clock,
-    D: AsFd,
-    W: Write,
-    E: Write + Drop,
-    K: Keeper + Drop,
-    T: MailSink + Drop,
->(
+pub fn serve_daemon<N: Net + Files + Clock, D: AsFd, W: Write, E: Write + Drop, K: Keeper + Drop>(
     system: &N,
     alloc: Global,
     words: words::DaemonArgs<'_>,
@@ -49,7 +42,7 @@ pub fn serve_daemon<
     output: &mut W,
     mut errors: E,
     mut keeper: K,
-    sink: T,
+    sink: Maildir<'_>,
 ) -> u8 {
     let asked = match read_options(words) {
         Ok(asked) => asked,

@@ -24,7 +24,7 @@ use cli_subcommands::{
 use daemon::serve_daemon;
 use host_settings::read_texts;
 use listener::serve;
-use maildir_files::{MailSink, Maildir};
+use maildir_files::Maildir;
 use octets::Octets;
 use send::send;
 use std::alloc::{AllocError, Global};
@@ -93,7 +93,7 @@ struct Moment {
 }
 
 /// Serves clients, or runs what the subcommand says, and returns the exit status.
-fn answer<N, R: Read + AsFd, W: Write, E: Write + Drop, K: Keeper + Drop, T: MailSink + Drop>(
+fn answer<N, R: Read + AsFd, W: Write, E: Write + Drop, K: Keeper + Drop>(
     net: &N,
     alloc: Global,
     asked: Subcommand<'_>,
@@ -103,7 +103,7 @@ fn answer<N, R: Read + AsFd, W: Write, E: Write + Drop, K: Keeper + Drop, T: Mai
     output: &mut W,
     mut errors: E,
     mut keeper: K,
-    mut sink: T,
+    mut sink: Maildir<'_>,
 ) -> u8
 where
     N: Net<Listener = TcpListener, Stream = TcpStream> + Files + Clock,
