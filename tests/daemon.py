@@ -638,7 +638,9 @@ def fails():
     server.kill()
     first, *lines = server.stderr.read().decode().splitlines()
     end(server)
-    assert first.startswith("sieved: begins ") and lines and set(lines) == {"sieved: not a sieved database"}, lines
+    logins, lines = lines[:2], lines[2:]
+    assert first.startswith("sieved: begins ") and logins == [f"sieved: login user={user}" for user in ("alice", "bob")], (first, logins)
+    assert lines and set(lines) == {"sieved: not a sieved database"}, lines
     return f"while the store was gone TRYLATER, and {len(lines)} lines; then all is there"
 
 
