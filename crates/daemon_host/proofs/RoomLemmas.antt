@@ -12,13 +12,11 @@ use Rattle.store_engine.specs.Limits.{limit_refusal}
 use Rattle.store_engine.specs.World.{World, Next, MayRefuseEvent}
 use Rattle.store_engine.specs.declared.answer.Answer.{Answer}
 use Rattle.store_engine.specs.declared.answer.Answer.TheVariants.{Refused}
-use Rattle.store_engine.specs.declared.event.Event.{Event}
 use Rattle.store_engine.specs.declared.event.Event.TheVariants.{Deliver}
 use Rattle.lmtp_connections.specs.declared.demand.DeliveryRequest.{DeliveryRequest}
 use Rattle.daemon_core.specs.StoreAccess.{View, IsEventDone, delivery_of}
 use Rattle.daemon_host.specs.Events.{is_full}
 use Rattle.daemon_host.specs.Held.{lacking, answer_told, IsToldAs}
-use Rattle.sieve_exec.specs.declared.when.When.{When}
 use Rattle.store_engine.specs.declared.terms.Terms.{Terms}
 
 -- no cause that is seen is the store's

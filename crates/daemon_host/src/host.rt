@@ -701,8 +701,7 @@ fn micros_since<S: HostSystem>(system: &S, begun: Option<Instant>) -> Option<u64
     Some(passed.as_secs().min(3600) * 1000000 + passed.subsec_micros() as u64)
 }
 
-impl<S: HostSystem + Drop, E: Write + Drop, H: MailStore + Drop> Outside
-    for Host<'_, S, E, H> {
+impl<S: HostSystem + Drop, E: Write + Drop, H: MailStore + Drop> Outside for Host<'_, S, E, H> {
     type Note = Note;
 
     type Rest = H;
@@ -713,8 +712,7 @@ impl<S: HostSystem + Drop, E: Write + Drop, H: MailStore + Drop> Outside
     ghost broken = { λ host. host.broken };
 }
 
-impl<S: HostSystem + Drop, E: Write + Drop, H: MailStore + Drop> Sockets
-    for Host<'_, S, E, H> {
+impl<S: HostSystem + Drop, E: Write + Drop, H: MailStore + Drop> Sockets for Host<'_, S, E, H> {
     fn wait(&mut self, within: u32, ready: &mut VecDeque<Wake>) -> Result<(), outcome::WaitError> {
         let now = self.system.now();
         self.news.tell_status(now);
@@ -784,8 +782,7 @@ impl<S: HostSystem + Drop, E: Write + Drop, H: MailStore + Drop> Sockets
     }
 }
 
-impl<S: HostSystem + Drop, E: Write + Drop, H: MailStore + Drop> Clock
-    for Host<'_, S, E, H> {
+impl<S: HostSystem + Drop, E: Write + Drop, H: MailStore + Drop> Clock for Host<'_, S, E, H> {
     fn now(&mut self) -> u64 {
         self.system.now()
     }
@@ -795,8 +792,7 @@ impl<S: HostSystem + Drop, E: Write + Drop, H: MailStore + Drop> Clock
     }
 }
 
-impl<S: HostSystem + Drop, E: Write + Drop, H: MailStore + Drop> StoreAccess
-    for Host<'_, S, E, H> {
+impl<S: HostSystem + Drop, E: Write + Drop, H: MailStore + Drop> StoreAccess for Host<'_, S, E, H> {
     ghost use Rattle.store_lock.specs.Laws.{never_told};
 
     ghost store = { record {

@@ -207,7 +207,15 @@ fn live<S: HostSystem + Drop, E: Write + Drop, H: MailStore + Drop>(
     store: H,
     errors: E,
 ) -> u8 {
-    let mut host = Host::new(alloc, system, store, words.path, settings, words.quiet, errors);
+    let mut host = Host::new(
+        alloc,
+        system,
+        store,
+        words.path,
+        settings,
+        words.quiet,
+        errors,
+    );
     host.begin(words::VERSION.as_bytes(), pid, lines);
     let mut daemon = match daemon_of(alloc, asked) {
         Ok(daemon) => daemon,
