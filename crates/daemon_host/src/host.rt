@@ -131,7 +131,11 @@ impl<'a, S: HostSystem + Drop, E: Write + Drop, H: MailStore + Drop> Host<'a, S,
     }
 
     /// The first lines on the errors: the program's version with the number of its process, and these, if there was memory for them.
-    pub fn begin(&mut self, version: &[u8], pid: u32, lines: Result<Octets, AllocError>) {
+    pub fn begin(&mut self, version: &[u8], pid: u32, lines: Result<Octets, AllocError>)
+        ensures same { self.new.held ≡ self.old.held }
+        ensures settings { self.new.settings ≡ self.old.settings }
+        ensures system { self.new.system ≡ self.old.system }
+    {
         self.news.begin(version, pid, lines);
     }
 

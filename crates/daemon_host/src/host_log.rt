@@ -1,9 +1,13 @@
 //! The log on standard error, the counts of its status line, and the pause after a failure of the store.
-ghost use Rattle.std.specs.Prelude.{◌≡◌, true, false};
+ghost use Rattle.std.specs.Prelude.{◌≡◌, ◌-◌, ◌<◌, ◌⊎◌, true, false, None, nat_lt};
 ghost use Rattle.cli_run.specs.Faults.{status_of};
+ghost use Rattle.daemon_log.specs.Tallies.{is_no_count};
+ghost use Rattle.daemon_log.specs.Times.{CountsEvent};
 ghost use Rattle.daemon_host.specs.Events as events;
 ghost use Rattle.daemon_host.specs.Log.{is_delivered_answer, moved_count as count_of, moving_failed_store};
-ghost use Rattle.daemon_host.specs.Pauses.{PauseIsOver};
+ghost use Rattle.daemon_host.specs.Pauses.{PauseBegins, PauseIsOver};
+ghost use Rattle.store_accounts.specs.declared.refusal.Refusal.TheVariants.{Store};
+ghost use Rattle.store_engine.specs.declared.answer.Answer.TheVariants.{Refused};
 
 use crate::log::{
     has_failed, is_delivered, moved_count, of_beginning, of_delivery, of_login, of_moving, of_slow,
@@ -66,13 +70,20 @@ impl<E: Write + Drop> HostLog<E> {
     }
 
     /// Writes the first line, the program's version and the number of its process, and then these lines, if there was memory for them.
-    pub fn begin(&mut self, version: &[u8], pid: u32, lines: Result<Octets, AllocError>) {
+    pub fn begin(&mut self, version: &[u8], pid: u32, lines: Result<Octets, AllocError>)
+        ensures failed { self.new.failed ≡ self.old.failed }
+        ensures tally { self.new.tally ≡ self.old.tally }
+    {
         self.tell_line(of_beginning(self.alloc, version, pid));
         self.tell_line(lines);
     }
 
     /// Writes the line `status`, for each minute in which something happened.
-    pub fn tell_status(&mut self, now: u64) {
+    pub fn tell_status(&mut self, now: u64)
+        ensures failed { self.new.failed ≡ self.old.failed }
+        ensures soon { now - self.old.told < 60000 → self.new ≡ self.old }
+        ensures tally { (self.new.tally ≡ self.old.tally) ⊎ (is_no_count self.new.tally.counts ≡ true) }
+    {
         if now.saturating_sub(self.told) < STATUS_SPAN {
             return;
         }
@@ -92,7 +103,11 @@ impl<E: Write + Drop> HostLog<E> {
     }
 
     /// An event that asked the store took this many microseconds.
-    pub fn note_time(&mut self, micros: u64) {
+    pub fn note_time(&mut self, micros: u64)
+        ensures times { CountsEvent micros self.old.tally.times self.new.tally.times }
+        ensures counts { self.new.tally.counts ≡ self.old.tally.counts }
+        ensures failed { self.new.failed ≡ self.old.failed }
+    {
         self.tally.times.note(micros);
     }
 
@@ -109,7 +124,11 @@ impl<E: Write + Drop> HostLog<E> {
     }
 
     /// A user logged in.
-    pub fn tell_login(&mut self, user: &[u8]) {
+    pub fn tell_login(&mut self, user: &[u8])
+        ensures failed { self.new.failed ≡ self.old.failed }
+        ensures tally { self.new.tally ≡ self.old.tally }
+        ensures quiet { self.old.quiet ≡ true → self.new ≡ self.old }
+    {
         if !self.quiet {
             self.tell_line(of_login(self.alloc, user));
         }
@@ -137,7 +156,9 @@ impl<E: Write + Drop> HostLog<E> {
     }
 
     /// Whether the store is left alone at a moment.
-    pub fn lasts(&self, now: u64) -> bool {
+    pub fn lasts(&self, now: u64) -> bool
+        ensures { result ≡ nat_lt now self.now.pause.until }
+    {
         self.pause.lasts(now)
     }
 
@@ -150,18 +171,32 @@ impl<E: Write + Drop> HostLog<E> {
     }
 
     /// The store was taken.
-    pub fn note_taken(&mut self) {
+    pub fn note_taken(&mut self)
+        ensures first { self.new.first_fault.fault ≡ None }
+        ensures untold { self.new.first_fault.is_told ≡ false }
+        ensures failed { self.new.failed ≡ self.old.failed }
+        ensures tally { self.new.tally ≡ self.old.tally }
+    {
         self.first_fault = FirstFault::none();
     }
 
     /// The store can't be taken: that is told, and it is left alone for a while.
-    pub fn leave_alone(&mut self, refusal: Refusal, cause: Option<&'static str>, now: u64) {
+    pub fn leave_alone(&mut self, refusal: Refusal, cause: Option<&'static str>, now: u64)
+        ensures left { PauseBegins now self.old.pause self.new.pause }
+        ensures failed { self.new.failed ≡ self.old.failed }
+        ensures tally { self.new.tally ≡ self.old.tally }
+    {
         tell(&mut self.errors, refusal, cause);
         self.pause.begin(now);
     }
 
     /// The store was given back, and couldn't be closed if there is a refusal. After a failure it is left alone for a while.
-    pub fn note_given(&mut self, refusal: Option<Refusal>, cause: Option<&'static str>, now: u64) {
+    pub fn note_given(&mut self, refusal: Option<Refusal>, cause: Option<&'static str>, now: u64)
+        ensures failed { self.new.failed ≡ false }
+        ensures left { self.old.failed ≡ true → PauseBegins now self.old.pause self.new.pause }
+        ensures asked { self.old.failed ≡ false → self.new.pause ≡ self.old.pause }
+        ensures tally { self.new.tally ≡ self.old.tally }
+    {
         if let Some(refusal) = refusal {
             tell(&mut self.errors, refusal, cause);
         }
@@ -172,7 +207,10 @@ impl<E: Write + Drop> HostLog<E> {
     }
 
     /// The file at the path is no longer that of the store that is held.
-    pub fn note_lost(&mut self) {
+    pub fn note_lost(&mut self)
+        ensures failed { self.new.failed ≡ self.old.failed }
+        ensures tally { self.new.tally ≡ self.old.tally }
+    {
         tell(&mut self.errors, Refusal::Store, Some(FILE_IS_GONE));
     }
 
@@ -208,7 +246,11 @@ impl<E: Write + Drop> HostLog<E> {
     }
 
     /// Refuses a delivery, since the file at the path is no longer that of the store, and tells so.
-    pub fn refuse_delivery(&mut self, request: &DeliveryRequest) -> Answer {
+    pub fn refuse_delivery(&mut self, request: &DeliveryRequest) -> Answer
+        ensures answer { result ≡ Refused Store }
+        ensures counted { self.new.tally.counts ≡ events.with_delivery false self.old.tally.counts }
+        ensures failed { self.new.failed ≡ self.old.failed }
+    {
         let answer = Answer::Refused(Refusal::Store);
         self.count_delivery(&answer);
         self.tell_line(of_delivery(self.alloc, request, &answer));

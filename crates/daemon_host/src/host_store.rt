@@ -31,7 +31,12 @@ pub struct HostStore<K: Keeper + Drop, T: MailSink + Drop> {
 
 impl<K: Keeper + Drop, T: MailSink + Drop> HostStore<K, T> {
     /// The store isn't held yet.
-    pub fn new(alloc: Global, keeper: K, sink: T, route: Option<Route>) -> HostStore<K, T> {
+    pub fn new(alloc: Global, keeper: K, sink: T, route: Option<Route>) -> HostStore<K, T>
+        ensures held { is_held result ≡ false }
+        ensures keeper { result.held.keeper ≡ keeper }
+        ensures sink { result.sink ≡ sink }
+        ensures route { result.route ≡ route }
+    {
         HostStore {
             held: HeldStore::new(keeper),
             sink,

@@ -74,7 +74,9 @@ pub struct SocketsAndClock<'a, N: Net + Clock> {
 }
 
 impl<'a, N: Net + Clock> SocketsAndClock<'a, N> {
-    pub fn new(sockets: SystemSockets<'a, N>, clock: &'a N) -> SocketsAndClock<'a, N> {
+    pub fn new(sockets: SystemSockets<'a, N>, clock: &'a N) -> SocketsAndClock<'a, N>
+        ensures sockets { result.sockets ≡ sockets.entry }
+    {
         SocketsAndClock { sockets, clock }
     }
 }
