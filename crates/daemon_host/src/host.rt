@@ -95,8 +95,8 @@ pub struct Host<'a, S: HostSystem + Drop, E: Write + Drop, H: MailStore + Drop> 
 }
 
 impl<'a, S: HostSystem + Drop, E: Write + Drop, H: MailStore + Drop> Host<'a, S, E, H> {
-    /// The store isn't held yet. Mail is delivered under the settings. What goes wrong with the store is told on the errors, and what
-    /// becomes of messages; if `quiet`, nothing of those that were delivered.
+    /// No connection waits for the store, which is at the path. Mail is delivered under the settings. What goes wrong with the store is
+    /// told on the errors, and what becomes of messages; if `quiet`, nothing of those that were delivered.
     pub fn new(
         alloc: Global,
         system: S,
