@@ -156,8 +156,16 @@ class Sender:
             self.expect(code)
 
     def deliver(self, number):
+        self.begin(number)
+        self.end()
+
+    def begin(self, number):
+        """Sends all that precedes a message."""
         self.say(b"MAIL FROM:<bob@example.net>\r\nRCPT TO:<%s@example.org>\r\nDATA\r\n" % self.user.encode(), b"250", b"250", b"354")
-        self.say(HEAD % (number, number) + BODY + b".\r\n", b"250")
+        self.text = HEAD % (number, number) + BODY
+
+    def end(self):
+        self.say(self.text + b".\r\n", b"250")
 
 
 def deliveries(server, connections):

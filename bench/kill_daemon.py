@@ -1,10 +1,10 @@
 #!/usr/bin/env python3
 """Kills `sieved daemon` at random moments under load, and looks for what it had acknowledged.
 
-  bench/kill_daemon.py [--mail] [--senders N] [SIEVED [COUNT]]      500 times where no COUNT is named
+  bench/kill_daemon.py [--mail] [--senders N] [--users N] [SIEVED [COUNT]]      500 times where no COUNT is named
 
---mail: the daemon moves mail into Maildirs; --senders N: so many clients of LMTP in place of four. They deliver messages to two
-users, and two clients of ManageSieve put scripts; then the daemon is killed by SIGKILL and started again on the same store, two
+--mail: the daemon moves mail into Maildirs; --senders N: so many clients of LMTP in place of four; --users N: so many users in
+place of two. Each message is to three of them at most, and two clients of ManageSieve put scripts; then the daemon is killed by SIGKILL and started again on the same store, two
 times of three at a moment when an answer is awaited. After each kill every message that was answered 250 stands in its user's folder
 or Maildir, every script that was answered OK is there as it was put last (or as the one on its way), and a message stands there twice
 only where it was sent again, or in folder and Maildir where it was on its way: 64 of them at most. It prints how many kills came while
@@ -17,6 +17,8 @@ import managesieve
 from beside_dovecot import free_port, wait_for
 
 SENDERS, UPLOADERS, USERS = 4, 2, ["alice", "bob"]
+# To so many users a message is at most.
+RECIPIENTS = 3
 # So many messages of a folder move together at most.
 TOGETHER = 64
 
@@ -51,7 +53,7 @@ class Sender(threading.Thread):
 
     def deliver(self, sock, lines):
         token = f"{random.getrandbits(64):016x}"
-        users = random.sample(USERS, random.randint(1, len(USERS)))
+        users = random.sample(USERS, random.randint(1, min(len(USERS), RECIPIENTS)))
         for user in users:
             with self.load.lock:
                 self.load.sent[token, user] = self.load.sent.get((token, user), 0) + 1
@@ -158,13 +160,19 @@ def check(file, load, mail, seen):
     return both
 
 
+def number_of(option, number, words):
+    """The number behind an option, or else this one, and the other words."""
+    if option not in words:
+        return number, words
+    at = words.index(option)
+    return int(words[at + 1]), words[:at] + words[at + 2:]
+
+
 def main(words):
     moves, words = "--mail" in words, [word for word in words if word != "--mail"]
-    senders = SENDERS
-    if "--senders" in words:
-        at = words.index("--senders")
-        senders = int(words[at + 1])
-        del words[at:at + 2]
+    senders, words = number_of("--senders", SENDERS, words)
+    users, words = number_of("--users", len(USERS), words)
+    USERS.extend(f"user{at}" for at in range(len(USERS), users))
     program, words = program_of(words)
     count = int(words[0]) if words else 500
     store = managesieve.Store(USERS, sieved=program)

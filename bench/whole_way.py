@@ -68,7 +68,7 @@ class DovecotWay(Dovecot):
 class SievedWay:
     name = "sieved"
 
-    def __init__(self, room, millis, users, text, program):
+    def __init__(self, room, millis, users, text, program, moves=True):
         self.room, self.lmtp, self.sieve, self.users = f"{room}/sieved", free_port(), free_port(), users
         os.makedirs(f"{self.room}/mail")
         db = f"{self.room}/mail.db"
@@ -80,7 +80,7 @@ class SievedWay:
             subprocess.run(words, input=b"secret\n", check=True, stdout=subprocess.DEVNULL)
             with open(f"{self.room}/script", "rb") as file:
                 subprocess.run([program, "put", "--db", db, "--activate", user, "main"], stdin=file, check=True, stdout=subprocess.DEVNULL)
-        words = [program, "daemon", "--db", db, "--managesieve", str(self.sieve), "--lmtp", str(self.lmtp), "--mail", f"{self.room}/mail", "--quiet"]
+        words = [program, "daemon", "--db", db, "--managesieve", str(self.sieve), "--lmtp", str(self.lmtp), *(["--mail", f"{self.room}/mail"] if moves else []), "--quiet"]
         env = {**os.environ, **slow_disk.environment(millis)}
         self.process = subprocess.Popen(words, stdin=subprocess.DEVNULL, stdout=subprocess.DEVNULL, stderr=subprocess.DEVNULL, env=env)
         urgent(self.process.pid)

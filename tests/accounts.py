@@ -166,6 +166,54 @@ def scripts():
     return "each sees what the other stored, and which script is active"
 
 
+def edited():
+    """What words change of a user's scripts a session sees, and the other way round; each in words what is refused."""
+    with Host("alice", "bob") as host:
+        client = host.client("alice")
+        assert host.word("put", "alice", "m", data=b"discard;") == (0, "stored m\n")
+        assert host.word("put", "alice", "n", data=b"keep;") == (0, "stored n\n")
+        assert host.word("activate", "alice", "m") == (0, "activated m\n")
+        assert client.ask(b"LISTSCRIPTS") == [b'"m" ACTIVE\r\n', b'"n"\r\n', b"OK\r\n"]
+        assert host.deliver("alice", "bob@example.net", "alice@example.org") == (0, "discard\n")
+        assert host.word("delete", "alice", "m") == (65, "sieved: script is active\n")
+        assert client.ask(b'DELETESCRIPT "m"')[-1].startswith(b"NO (ACTIVE)"), "as the server says it"
+        assert host.word("rename", "alice", "m", "n") == (65, "sieved: script exists\n")
+        assert host.word("rename", "alice", "x", "y") == (65, "sieved: no such script\n")
+        assert host.word("rename", "alice", "m", "a\nb") == (65, "sieved: bad script name\n")
+        assert host.word("rename", "alice", "m", "o p") == (0, "renamed o p\n")
+        assert client.ask(b"LISTSCRIPTS") == [b'"n"\r\n', b'"o p" ACTIVE\r\n', b"OK\r\n"]
+        assert client.ask(b'SETACTIVE "n"')[-1].startswith(b"OK")
+        assert host.word("delete", "alice", "o p") == (0, "deleted o p\n")
+        assert host.word("delete", "alice", "o p") == (65, "sieved: no such script\n")
+        assert host.word("deactivate", "alice") == host.word("deactivate", "alice") == (0, "deactivated alice\n")
+        assert client.ask(b"LISTSCRIPTS") == [b'"n"\r\n', b"OK\r\n"]
+        assert host.word("activate", "bob", "n") == (65, "sieved: no such script\n"), "another user's"
+        assert host.word("activate", "carol", "n") == host.word("deactivate", "carol") == (67, "sieved: no such user\n")
+        assert host.word_on_a_full_disk("activate", "alice", "n") == (75, "sieved: input or output failed\n")
+        assert client.ask(b"LISTSCRIPTS") == [b'"n" ACTIVE\r\n', b"OK\r\n"], "it was done, and its line not written"
+    return "activate, deactivate, delete, rename: what the server shows"
+
+
+def of_all():
+    """The queue and the notices of all users: each line behind its name, in their order; closed accounts have none."""
+    with Host("bob", "Zoe", "alice") as host:
+        assert host.word("queue", "--all") == host.word("notices", "--all") == (0, "")
+        for user in "bob", "Zoe":
+            assert host.word("put", "--activate", user, "m", data=b'redirect "c@example.com";')[0] == 0
+            assert host.deliver(user, "d@example.net", f"{user}@example.org") == (0, "send c@example.com\n")
+        assert host.word("put", "--activate", "alice", "m", data=b'require "vacation"; vacation "a"; vacation "b";')[0] == 0
+        assert host.deliver("alice", "d@example.net", "alice@example.org")[0] == 0
+        rows, lines = host.word("queue", "--all")[1].splitlines(), host.word("notices", "--all")[1].splitlines()
+        assert [row.split(" ")[:3] for row in rows] == [["Zoe", "1", "redirect"], ["bob", "1", "redirect"]], rows
+        assert [row.split(" ", 1)[1] for row in rows] == [host.word("queue", user)[1].rstrip("\n") for user in ("Zoe", "bob")]
+        assert lines == ["alice " + host.word("notices", "alice")[1].rstrip("\n")] and lines[0].endswith(" vacation executed twice")
+        assert subprocess.run(host.store.words("export", "--and-close", "Zoe"), capture_output=True).returncode == 0
+        assert host.word("queue", "--all")[1].splitlines() == rows[1:]
+        assert host.word("queue", "--all", "bob")[0] == host.word("queue")[0] == host.word("notices", "--all", "bob")[0] == host.word("notices", "--all", "--until", "5")[0] == 64
+        assert host.word_on_a_full_disk("queue", "--all") == (75, "sieved: input or output failed\n")
+    return "a line for each row and notice, with its user's name in front"
+
+
 def users():
     """All users, beside a daemon: in order, with their scripts; closed and removed ones; an output that nobody reads keeps nobody out."""
     trials.need("flock")
@@ -440,21 +488,21 @@ def check():
                 file.write(text)
         os.mkdir(f"{folder}/folder")
         assert checked(data=b"keep;") == (0, "", "") and checked() == (0, "", "")
-        assert checked(data=b"keep;\nfrob;") == (65, "line 2: unknown command\n", "")
+        assert checked(data=b"keep;\nfrob;") == (65, "line 2, column 1: unknown command \"frob\"\n", "")
         assert checked(data=b"#" + b"x" * 262_144) == (65, "", "sieved: script too large\n")
         assert checked("good", "none", "fits", data=b"frob;") == (0, "", "")
-        assert checked("bad") == (65, "bad:2: unknown command\n", "")
-        assert checked("good", "bad", "large", "bad") == (65, "bad:2: unknown command\n" * 2, "large: script too large\n")
-        assert checked("absent", "bad", "good") == (75, "bad:2: unknown command\n", "absent: no such file\n")
+        assert checked("bad") == (65, "bad:2:1: unknown command \"frob\"\n", "")
+        assert checked("good", "bad", "large", "bad") == (65, "bad:2:1: unknown command \"frob\"\n" * 2, "large: script too large\n")
+        assert checked("absent", "bad", "good") == (75, "bad:2:1: unknown command \"frob\"\n", "absent: no such file\n")
         assert checked("folder") == (75, "", "folder: is a directory\n")
-        assert checked(*["bad"] * 300, "good") == (65, "bad:2: unknown command\n" * 300, "")
+        assert checked(*["bad"] * 300, "good") == (65, "bad:2:1: unknown command \"frob\"\n" * 300, "")
         with open("/dev/full", "wb") as full:
             assert checked("bad", out=full) == (75, "", "sieved: input or output failed\n")
         assert checked("--frob")[0] == 64
     return "lines for those that are wrong, and the worst status"
 
 
-TRIALS = {trial.__name__: trial for trial in (password, salts, address, closed, removal, users, scripts, by_environment, put_refused, notices, exported, largest, exported_daemon, exported_short, check)}
+TRIALS = {trial.__name__: trial for trial in (password, salts, address, closed, removal, users, scripts, edited, of_all, by_environment, put_refused, notices, exported, largest, exported_daemon, exported_short, check)}
 
 if __name__ == "__main__":
     trials.main(TRIALS, lambda program: PROGRAM.__setitem__(0, program))

@@ -65,7 +65,7 @@ def says():
         beside = [] if word == "--default" else [word, good]
         assert told_of(store, *db, *port, *beside, word, script) == (75, "", f"{script}: no such file\n"), word
         open(script, "w").write("keep;\nfrob;\n")
-        assert told_of(store, *db, *port, *beside, word, script) == (65, f"{script}:2: unknown command\n", ""), word
+        assert told_of(store, *db, *port, *beside, word, script) == (65, f"{script}:2:1: unknown command \"frob\"\n", ""), word
         open(script, "w").write(" " * 262140 + "keep;")
         assert told_of(store, *db, *port, *beside, word, script, "--check") == (65, "", f"{script}: script too large\n"), word
         open(script, "w").write(" " * 262139 + "keep;")

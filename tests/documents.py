@@ -18,7 +18,7 @@ SHORT_CELLS, WORDS = ["docs/CONTRIBUTING.md"], 25
 LINE, README_LINES = 130, 130
 # So many edits the gate may have: each costs some 38 seconds of a processor.
 EDITS = 75
-FAMILIES = {"cli", "daemon", "lmtp", "mail", "maildir", "managesieve", "net", "sasl", "sieve", "smtp", "store", "test"}
+FAMILIES = {"cli", "daemon", "dovecot", "lmtp", "mail", "maildir", "managesieve", "net", "sasl", "sieve", "smtp", "store", "tar", "test"}
 # These are the same thing in each crate that has them: a limit, a list or a question which crates side by side both need.
 SAME = {"after_span", "day_names", "is_visible", "month_names"}
 # A type, a definition and a function that other crates can name.
@@ -199,8 +199,8 @@ def completion():
     offered = completed([""]) - {"--help", "--version"}
     if offered != listed or "deliver" not in listed:
         raise Exception(f"words: {sorted(offered ^ listed)}")
-    if completed(["del"]) != {"deliver"}:
-        raise Exception(f"del: {completed(['del'])}")
+    if completed(["deli"]) != {"deliver"}:
+        raise Exception(f"deli: {completed(['deli'])}")
     for word in sorted(listed):
         options = set(re.findall(r"--[a-z][a-z0-9-]*", help_of(word)))
         if completed([word, "--"]) != options or "--help" not in options:

@@ -65,10 +65,13 @@ systemctl start dovecot sieved.service && until_it greets 4190 && until_it greet
     "systemctl enable --now stunnel@sieved": "until_it greets 4190; ip link set lo up; ip addr add 192.0.2.1/32 dev lo",
     "echo 'USERS=\"alice bob\"' >> /etc/default/sieved\nsystemctl disable --now sieved-send.timer": """gets() { (sleep 1; echo LOGOUT; sleep 1) | timeout 9 openssl s_client -quiet -connect 192.0.2.1:4191 | grep -q 'sieved 1'; }
 until_it gets""",
-    "runuser -u sieved -- sieved init --db /var/lib/sieved/two.db": "until_it sh -c 'journalctl -u sieved-queue | grep -q Finished'",
-    "printf 'carol sieved-two:": """echo human | runuser -u sieved -- sieved adduser --db /var/lib/sieved/two.db --salt "$(openssl rand -hex 16)" carol carol@example.org""",
-    "install -d -m 700 -o sieved -g sieved /srv/mail": """until_it greets 4192 && printf 'Subject: Hello\n\nHi\n' | sendmail -f bob@example.org carol@example.org
-until_it sh -c 'ls /var/lib/sieved/mail/carol/new/*'""",
+    "sieved init --db /var/lib/sieved/two.db": "until_it sh -c 'journalctl -u sieved-queue | grep -q Finished'",
+    "printf 'carol lmtp:unix:private/sieved-two": """echo human | sieved adduser --db /var/lib/sieved/two.db --wait --salt "$(openssl rand -hex 16)" carol carol@example.org""",
+    "runuser -u sieved -- sieved init --db /var/lib/sieved/three.db": """until_it greets 4192 && printf 'Subject: Hello\n\nHi\n' | sendmail -f bob@example.org carol@example.org
+until_it sh -c 'runuser -u sieved -- sieved folders --db /var/lib/sieved/two.db --wait carol | grep "^INBOX 1$"'""",
+    "printf 'dave sieved-three:": """echo human | runuser -u sieved -- sieved adduser --db /var/lib/sieved/three.db --salt "$(openssl rand -hex 16)" dave dave@example.org""",
+    "install -d -m 700 -o sieved -g sieved /srv/mail": """until_it greets 4193 && printf 'Subject: Hello\n\nHi\n' | sendmail -f bob@example.org dave@example.org
+until_it sh -c 'ls /var/lib/sieved/mail/dave/new/*'""",
 }, "OPERATING.md": {
     "sieved address": "echo human | runuser -u sieved -- sieved adduser --db /var/lib/sieved/mail.db --wait carol carol@example.org",
     "mkdir -p /etc/sieved": BOB,

@@ -11,7 +11,8 @@ state of two moments is opened once. Nothing is thought durable that wasn't sync
 
 The trials: init, adduser, deliver, done, imported, exported, drain, session; `drain_seen`, where two of three messages have a system flag, and
 `drain_made`, where the Maildir lacks `cur` besides; `drain_killed` and `drain_refused`, where a run before was broken off as it had made
-`cur`; `daemon`, which moves a message, where one before was killed as it had made the Maildir; `daemon_together`, which moves 64 at once; `upgrade_last`, `upgrade_fourth` and
+`cur`; `daemon`, which moves a message, where one before was killed as it had made the Maildir; `daemon_together`, which moves 64 at once;
+`gathered`, deliveries over many connections that share a commit; `upgrade_last`, `upgrade_fourth` and
 `upgrade_second`, the first word over a store that a program of version 1 or 2 wrote (crates/test_runs/data); `again`, where the power goes once more as what it left is opened;
 `unsynced`, a disk that loses a commit between its write and its sync, over which the next word reads the disk; and `planted`, in
 which a sync is left out of the log, an answer stands before one, or a commit before the last write, and a state has to be found
@@ -22,6 +23,7 @@ stands. It needs python3 and strace; `unsynced` is run as root, and needs losetu
 """
 import base64, contextlib, hashlib, itertools, os, re, shutil, signal, sqlite3, subprocess, tempfile, time
 import managesieve, trials
+from lmtp import Peer
 from collections import Counter, namedtuple
 from concurrent.futures import ThreadPoolExecutor
 
@@ -121,6 +123,12 @@ class Log:
             self.calls.append(Call("write", self.files[number][0], self.files[number][1], octets))
             self.files[number][1] += count
 
+    def sent(self, words, count):
+        """What a client of LMTP is answered behind a message."""
+        octets = octets_of(words[1])[:count]
+        if octets.startswith(b"250 2.1.5 ") and octets != b"250 2.1.5 Ok\r\n":
+            self.calls.append(Call("said", None, 0, octets))
+
     def write_at(self, words, count):
         if self.files.get(int(words[0])):
             self.calls.append(Call("write", self.files[int(words[0])][0], int(words[3]), octets_of(words[1])[:count]))
@@ -168,11 +176,12 @@ def octets_of(word):
 
 # Each call that may come: what it does to the log. None: nothing that a power cut could show.
 KNOWN = dict.fromkeys("""access faccessat2 newfstatat fstat stat lstat statx getcwd readlink readlinkat getdents64 flock fcntl
-    mmap fchmod chmod fchown poll ioctl epoll_create1 epoll_wait""".split())
+    mmap fchmod chmod fchown poll ioctl epoll_create1 epoll_wait epoll_ctl socket bind listen accept4 getsockname setsockopt getsockopt
+    recvfrom shutdown""".split())
 KNOWN |= {"execve": Log.begin, "open": lambda log, words, result: log.open([None, *words], result), "openat": Log.open, "close": Log.close,
           "fadvise64": Log.drop, "pread64": Log.read_at, "read": Log.moved, "write": Log.write, "pwrite64": Log.write_at, "ftruncate": Log.cut, "fsync": Log.sync, "fdatasync": Log.sync,
           "mkdir": Log.made, "mkdirat": Log.made, "rename": Log.rename, "renameat": Log.rename, "renameat2": Log.rename, "link": Log.link, "linkat": Log.link,
-          "unlink": Log.unlink, "unlinkat": Log.unlink}
+          "unlink": Log.unlink, "unlinkat": Log.unlink, "sendto": Log.sent}
 
 
 def files_of(folder):
@@ -371,7 +380,7 @@ class Room:
         """One run: its status, what it said, and its calls. inject: what strace does to some of them."""
         trials.need("strace")
         with tempfile.NamedTemporaryFile(prefix="sieved-trace-") as trace:
-            tracing = ["strace", "-f", "-e", "trace=%file,%desc", *(["-e", f"inject={inject}"] if inject else []), "-xx", "-s", "100000000", "-o", trace.name]
+            tracing = ["strace", "-f", "-e", "trace=%file,%desc,%network", *(["-e", f"inject={inject}"] if inject else []), "-xx", "-s", "100000000", "-o", trace.name]
             command = [*tracing, PROGRAM[0], word, "--db", f"{self.folder}/mail.db", *words]
             with subprocess.Popen(command, stdin=subprocess.PIPE, stdout=subprocess.PIPE, stderr=subprocess.PIPE) as process:
                 said = talk(process) if talk else process.communicate(data)[0]
@@ -668,6 +677,73 @@ def swept_batch(count, most):
     return told
 
 
+def gathered():
+    """Messages over many connections at once: of those that share a commit a power cut leaves all or none, and what was answered stays."""
+    return "; ".join(swept_commits(count, most) for count, most in ([(4, 1)] if trials.QUICK else [(20, 1), (3, 3)]))
+
+
+def swept_commits(count, most):
+    """Looks at all states of such deliveries; then at those of a log in which the last commit isn't synced."""
+    users, look = [f"user{at}" for at in range(count)], Messages([])
+    for _ in range(3):
+        log, said = recorded_at_once(users)
+        ends = [at for at, call in enumerate(log.calls) if call.kind == "sync"]
+        chain = list(dict.fromkeys(look.at(left_by(log, State(at + 1))) for at in ends))
+        assert [len(of) for of in (chain[0], chain[-1])] == [0, 2 * count] and said.count(b"250 2.1.5 file INBOX\r\n") == count, (chain, said)
+        # The first message of each connection goes by itself; where it took long beside other work, so does the second one.
+        if len(chain) <= 2 * count:
+            break
+    assert len(chain) <= 2 * count, f"{2 * count} messages in {len(chain) - 1} commits"
+    judge = lambda state, answers: f"with {len(state)}" if state in chain and len(state) >= max(answers) else None
+    told = f"{2 * count} messages in {len(chain) - 1} commits: {sweep(log, look, judge, most)}"
+    said_last = max(at for at, call in enumerate(log.calls) if call.kind == "said")
+    last = max(at for at in ends if at < said_last)
+    log.calls = log.calls[:last] + log.calls[last + 1:]
+    assert is_found(log, look, judge), "the sync of the last commit is left out, and not found"
+    return told
+
+
+def recorded_at_once(users):
+    """The log of a daemon to which two messages to each of these users come, the second ones at once, and what those were answered."""
+    room = Room(users=False)
+    room.run("init")
+    for user in users:
+        room.run("adduser", "--salt", SALT, user, f"{user}@example.org", data=managesieve.PASSWORD + b"\n")
+    log, said = room.recorded("daemon", "--lmtp", "0", talk=lambda process: answered_at_once(process, users), ends=-signal.SIGTERM)
+    log.calls = [call for call in log.calls if not call.octets.startswith(b"listening on ")]
+    return log, said
+
+
+class Messages(Look):
+    """Opens a state, and says which users have a message."""
+
+    def at(self, files):
+        with tempfile.TemporaryDirectory(dir=self.top.name) as folder:
+            lay(folder, files)
+            status, said = ask(folder, "users")
+            return tuple(sorted(row[0] for row in dict(rows(folder))["copy"])) if status == 0 else (status, said)
+
+
+def answered_at_once(process, users):
+    """What a second message to each of these users is answered by a daemon, over a connection for each; all dots are sent at once."""
+    port = int(process.stdout.readline().rsplit(b":", 1)[1])
+    begun = re.search(rb" pid=(\d+)", process.stderr.readline())
+    peers = [Peer(port) for _ in users]
+    for peer, user in zip(peers, users):
+        peer.say(b"LHLO c\r\n")
+        peer.deliver(b"Subject: first\r\n\r\nHi\r\n", user.encode())
+        peer.open(user.encode())
+        peer.say(b"DATA\r\n")
+        peer.sock.sendall(b"Subject: x\r\n\r\nHi\r\n")
+    # The texts are read by then, so that only dots are to come.
+    time.sleep(1)
+    for peer in peers:
+        peer.sock.sendall(b".\r\n")
+    said = b"".join(peer.reply() for peer in peers)
+    os.kill(int(begun[1]), signal.SIGTERM)
+    return said
+
+
 def of_batch(before, state):
     """Where a batch is: all of it in the store, some of it in the Maildir too; or all of it in the Maildir alone."""
     mails, moved = messages_of(before), Counter(state[1])
@@ -942,7 +1018,7 @@ def is_found(log, look, judge):
     return False
 
 
-TRIALS = {trial.__name__: trial for trial in (init, adduser, deliver, done, imported, exported, drain, drain_seen, drain_made, drain_killed, drain_refused, daemon, daemon_together, session, upgrade_last, upgrade_fourth, upgrade_second, again, unsynced, planted)}
+TRIALS = {trial.__name__: trial for trial in (init, adduser, deliver, done, imported, exported, drain, drain_seen, drain_made, drain_killed, drain_refused, daemon, daemon_together, gathered, session, upgrade_last, upgrade_fourth, upgrade_second, again, unsynced, planted)}
 
 
 if __name__ == "__main__":

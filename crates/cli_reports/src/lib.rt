@@ -8,5 +8,5 @@ mod line;
 pub mod listing;
 pub mod report;
 
-pub use listing::{list_queue, list_user_notices};
+pub use listing::{add_notice_line, add_queue_line, list_queue, list_user_notices};
 pub use report::{report_fault, report_settlement};

@@ -16,7 +16,7 @@ pub fn list_queue(alloc: Global, rows: &[QueuedEnvelope]) -> Result<Octets, Allo
 {
     let mut text = Octets::new(alloc);
     for row in rows {
-        add_row(&mut text, row)?;
+        add_queue_line(&mut text, row)?;
     }
     Ok(text)
 }
@@ -28,13 +28,13 @@ pub fn list_user_notices(alloc: Global, notices: &[Notice]) -> Result<Octets, Al
 {
     let mut text = Octets::new(alloc);
     for notice in notices {
-        add_notice(&mut text, notice)?;
+        add_notice_line(&mut text, notice)?;
     }
     Ok(text)
 }
 
-/// Appends the line of a message on its way out.
-fn add_row(text: &mut Octets, row: &QueuedEnvelope) -> Result<(), AllocError>
+/// Appends the line of a message on its way out. Lack of memory is the only error.
+pub fn add_queue_line(text: &mut Octets, row: &QueuedEnvelope) -> Result<(), AllocError>
     ensures { OnOk result (text.new ≡ text.old ++ ended_line (queue_line row.now)) }
 {
     write_decimal(text, row.id)?;
@@ -59,8 +59,8 @@ fn word_of(kind: QueuedKind) -> &'static [u8]
     }
 }
 
-/// Appends the line of a notice.
-fn add_notice(text: &mut Octets, notice: &Notice) -> Result<(), AllocError>
+/// Appends the line of a notice. Lack of memory is the only error.
+pub fn add_notice_line(text: &mut Octets, notice: &Notice) -> Result<(), AllocError>
     ensures { OnOk result (text.new ≡ text.old ++ ended_line (notice_line notice.now)) }
 {
     write_decimal(text, notice.moment)?;

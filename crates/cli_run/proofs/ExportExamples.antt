@@ -1,5 +1,5 @@
 -- What `export` and `import` do, by example: right cases, and near misses.
-use Rattle.std.proofs.Common.{◌≡◌, ℕ, List, [], ◌∷◌, ◌++◌, take, drop, codes, Bool, true, false, Option, Some, Ok, Err, refl, sym, ap, ◌∙◌, subst, inl, inr, append_assoc, append-nil}
+use Rattle.std.proofs.Common.{None, ◌≡◌, ℕ, List, [], ◌∷◌, ◌++◌, take, drop, codes, Bool, true, false, Option, Some, Ok, Err, refl, sym, ap, ◌∙◌, subst, inl, inr, append_assoc, append-nil}
 use Rattle.std.proofs.lemmas.List.{take-append-drop}
 use Rattle.std.specs.List.{flat_map}
 use Rattle.store_text.proofs.ReadLemmas.{texts_same}
@@ -49,16 +49,24 @@ text_refused text head parts is none = none.2 head parts (subst (λ t. IsAccount
 
 module _ (text : List ℕ) (file : AccountFile) (is : IsAccountText text file.head file.parts) where
   -- the account of what was read
-  brought : IsImportEvent (Some text) (Import file)
-  brought = record { text = text; read = refl; file = file; spelled = is; same = refl }
+  brought : IsImportEvent None (Some text) (Import file)
+  brought = record { text = text; read = refl; written = file.head; file = file; spelled = is; named = refl; same = refl }
 
   -- near miss: another user's
-  brought_other : (other : AccountFile) → (other.head.owner.name ≡ file.head.owner.name → ⊥) → IsImportEvent (Some text) (Import other) → ⊥
+  brought_other : (other : AccountFile) → (other.head.owner.name ≡ file.head.owner.name → ⊥) → IsImportEvent None (Some text) (Import other) → ⊥
   brought_other other differs h =
       let same : other ≡ h.file = let e = h.same in cc in
-      let read : IsAccountText text h.file.head h.file.parts = subst (λ t. IsAccountText t h.file.head h.file.parts) h.read h.spelled in
-      let one = (texts_same text [] file.head h.file.head file.parts h.file.parts is (subst (λ t. IsAccountText t h.file.head h.file.parts) (sym (append-nil text)) read)).1.0 in
-      differs (ap (λ (f : AccountFile). f.head.owner.name) same ∙ ap (λ (g : AccountHead). g.owner.name) (sym one))
+      let read : IsAccountText text h.written h.file.parts = subst (λ t. IsAccountText t h.written h.file.parts) h.read h.spelled in
+      let one = (texts_same text [] file.head h.written file.parts h.file.parts is (subst (λ t. IsAccountText t h.written h.file.parts) (sym (append-nil text)) read)).1.0 in
+      differs (ap (λ (f : AccountFile). f.head.owner.name) same ∙ ap (λ (g : AccountHead). g.owner.name) h.named ∙ ap (λ (g : AccountHead). g.owner.name) (sym one))
+
+  -- near miss: under another name, and without the moments of replies, or anything else that the text has
+  brought_without : (name : List ℕ) (other : AccountFile) → (other.parts ≡ file.parts → ⊥) → IsImportEvent (Some name) (Some text) (Import other) → ⊥
+  brought_without name other differs h =
+      let same : other ≡ h.file = let e = h.same in cc in
+      let read : IsAccountText text h.written h.file.parts = subst (λ t. IsAccountText t h.written h.file.parts) h.read h.spelled in
+      let one = (texts_same text [] file.head h.written file.parts h.file.parts is (subst (λ t. IsAccountText t h.written h.file.parts) (sym (append-nil text)) read)).1 in
+      differs (ap (λ (f : AccountFile). f.parts) same ∙ sym one.1)
 
   -- it is told by its own name
   imported_told : TellsEvent (Import file) answer.Imported (ended_line (codes "imported " ++ file.head.owner.name))

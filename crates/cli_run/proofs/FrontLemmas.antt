@@ -11,7 +11,7 @@ use Rattle.cli_run.specs.Streams.{InputFailed}
 use Rattle.cli_run.specs.TryScript.{HasNoAnswer, IsNoInput, LeavesOutput, OfInput}
 use Rattle.cli_run.specs.declared.answer.TryAnswer.{TryAnswer}
 use Rattle.cli_run.specs.declared.fault.RunFault.{RunFault}
-use Rattle.cli_run.specs.declared.fault.RunFault.TheVariants.{Refused, Busy, Stream, NoMessage, NoMaildir, NoScript, Invalid, BadInput, BadArgument}
+use Rattle.cli_run.specs.declared.fault.RunFault.TheVariants.{Refused, Busy, Stream, NoMessage, NoMaildir, NoScript, ScriptActive, ScriptExists, Invalid, BadInput, BadArgument}
 use Rattle.store_accounts.specs.declared.refusal.Refusal.TheVariants as refusal
 use Rattle.sieve_exec.specs.declared.envelope.Envelope.{Envelope}
 use Rattle.store_engine.specs.declared.terms.Terms.{Terms}
@@ -118,6 +118,8 @@ module _ (given : Option (List ℕ)) (kept : List ℕ) (count : Option SizeCount
   unanswered NoMessage so = absurd (nothing_of given (of_input given (λ came. KeepsInput came kept count) (λ came. ⊥) so here))
   unanswered NoMaildir so = absurd (nothing_of given (of_input given (λ came. KeepsInput came kept count) (λ came. ⊥) so here))
   unanswered NoScript so = absurd (nothing_of given (of_input given (λ came. KeepsInput came kept count) (λ came. ⊥) so here))
+  unanswered ScriptActive so = absurd (nothing_of given (of_input given (λ came. KeepsInput came kept count) (λ came. ⊥) so here))
+  unanswered ScriptExists so = absurd (nothing_of given (of_input given (λ came. KeepsInput came kept count) (λ came. ⊥) so here))
   unanswered Invalid so = absurd (nothing_of given (of_input given (λ came. KeepsInput came kept count) (λ came. ⊥) so here))
   unanswered BadArgument so = absurd (nothing_of given (of_input given (λ came. KeepsInput came kept count) (λ came. ⊥) so here))
 

@@ -52,15 +52,15 @@ module _ (Denied : RunFault → Type 0) (file : AccountFile) where
   pub import_refused : (refusal : Refusal) (accounts later : Accounts) → TurnsBy Row May (answer.Refused refusal) accounts later → Puts {X = Unit {0}} Denied (Import file) (λ x. answer.Imported) (Err (Refused refusal)) accounts later
   import_refused = refused_by (Import file) Row May (λ accounts later said row. (later, row, refl)) (λ accounts. importing_may file (world_of_accounts accounts)) (imports_kept file.head file.parts) {X = Unit {0}} Denied (λ x. answer.Imported)
 
-module _ (Denied : RunFault → Type 0) (given : Option (List ℕ)) where
+module _ (Denied : RunFault → Type 0) (name given : Option (List ℕ)) where
   -- the word ended as one that is an event does
-  pub import_as_event : (old out : Option (List ℕ)) (held new : Database) (r : Result (Unit {0}) RunFault) → DoesEvent InputFailed ⊥ Denied (IsImportEvent given) (from_to old out) r (from_to held new) → DoesImport Denied given (from_to old out) r (from_to held new)
+  pub import_as_event : (old out : Option (List ℕ)) (held new : Database) (r : Result (Unit {0}) RunFault) → DoesEvent InputFailed ⊥ Denied (IsImportEvent name given) (from_to old out) r (from_to held new) → DoesImport Denied name given (from_to old out) r (from_to held new)
   import_as_event old out held new r does = turned_wider _ _ held new (λ accounts later h. inl h) does
 
   -- no account was read
-  pub import_unread : (out : Option (List ℕ)) (held : Database) (fault : RunFault) (r : Result (Unit {0}) RunFault) → r ≡ Err fault → IsNotRead given fault → DoesImport Denied given (from_to out out) r (from_to held held)
-  import_unread out held fault r is (inl lacks) = import_as_event out out held held r (event_hindered InputFailed ⊥ Denied (IsImportEvent given) out held fault r is (inl lacks))
+  pub import_unread : (out : Option (List ℕ)) (held : Database) (fault : RunFault) (r : Result (Unit {0}) RunFault) → r ≡ Err fault → IsNotRead given fault → DoesImport Denied name given (from_to out out) r (from_to held held)
+  import_unread out held fault r is (inl lacks) = import_as_event out out held held r (event_hindered InputFailed ⊥ Denied (IsImportEvent name given) out held fault r is (inl lacks))
   import_unread out held fault r is (inr (inl failed)) =
-      import_as_event out out held held r (event_hindered InputFailed ⊥ Denied (IsImportEvent given) out held fault r is (broken InputFailed ⊥ Denied fault failed.0 failed.1))
+      import_as_event out out held held r (event_hindered InputFailed ⊥ Denied (IsImportEvent name given) out held fault r is (broken InputFailed ⊥ Denied fault failed.0 failed.1))
   import_unread out held fault r is (inr (inr none)) =
       stays_turned _ held held refl (λ accounts. inr (record { none = none.1; told = is ∙ ap Err none.0; stays = refl; silent = kept_same out }))

@@ -1,3 +1,4 @@
+mod AllUserLemmas
 mod CheckLemmas
 mod DrainExamples
 mod DrainLemmas
@@ -12,13 +13,14 @@ mod OwnLemmas
 mod PartLemmas
 mod PutLemmas
 mod ReportLemmas
+mod ScriptEditExamples
+mod ScriptEditLemmas
 mod WordExamples
 mod WordLemmas
 mod ServingLemmas
 mod StatusLemmas
 mod StreamExamples
 mod TakeLemmas
-mod UserLemmas
 mod RunLemmas
 pub mod StreamLemmas
 pub mod Examples

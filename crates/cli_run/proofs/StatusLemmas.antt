@@ -2,7 +2,7 @@
 use Rattle.std.proofs.Common.{◌≡◌, ◌<◌, lit<, Result, Ok, Err, OnOk, arith}
 use Rattle.store_accounts.specs.declared.refusal.Refusal.TheVariants as refusal
 use Rattle.cli_run.specs.declared.fault.RunFault.{RunFault}
-use Rattle.cli_run.specs.declared.fault.RunFault.TheVariants.{Refused, Busy, Stream, NoMessage, NoMaildir, NoScript, Invalid, BadInput, BadArgument}
+use Rattle.cli_run.specs.declared.fault.RunFault.TheVariants.{Refused, Busy, Stream, NoMessage, NoMaildir, NoScript, ScriptActive, ScriptExists, Invalid, BadInput, BadArgument}
 use Rattle.cli_run.specs.Faults.{status_of}
 use Rattle.cli_run.specs.Promise.{status_after}
 
@@ -30,6 +30,8 @@ status_some Stream = lit< tt
 status_some NoMessage = lit< tt
 status_some NoMaildir = lit< tt
 status_some NoScript = lit< tt
+status_some ScriptActive = lit< tt
+status_some ScriptExists = lit< tt
 status_some Invalid = lit< tt
 status_some BadInput = lit< tt
 status_some BadArgument = lit< tt

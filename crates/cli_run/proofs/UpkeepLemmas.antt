@@ -50,6 +50,7 @@ keeps_or (upkeep.SetPassword salt password) plain o said change (inr h) = inr (B
 keeps_or (upkeep.SetAddress address) plain o said change (inl h) = in_account answer.Changed (open_one o) (λ a. Alters answer.Changed (changes_address address a)) said change (λ a row. inl row.says) h.1
 keeps_or (upkeep.SetAddress address) plain o said change (inr h) = inr (BadUser, h.1.says, h.1.stays)
 keeps_or (upkeep.StoreScript name text activate) plain o said change h = absurd plain
+keeps_or (upkeep.EditScripts edit) plain o said change h = absurd plain
 keeps_or upkeep.CloseAccount plain o said change h = in_account answer.Closed (open_one o) (λ a. Alters answer.Closed (closes a)) said change (λ a row. inl row.says) h
 keeps_or upkeep.OpenAccount plain o said change h = in_account answer.Opened (known_one o) OpensClosed said change (λ a row. opens_or a said change row) h
 keeps_or (upkeep.RemoveAccount mail) plain o said change h = in_account answer.Removed (known_one o) (Removes mail) said change (λ a row. removes_or mail a said change row) h
@@ -71,6 +72,7 @@ module _ (Denied : RunFault → Type 0) (user : List ℕ) (act : Upkeep) (plain 
     where
       not_refused : (act : Upkeep) → IsPlainUpkeep act → (refusal : Refusal) → answer.Refused refusal ≡ upkeep_answer act → ⊥
       not_refused (upkeep.StoreScript name text activate) plain refusal is = absurd plain
+      not_refused (upkeep.EditScripts edit) plain refusal is = absurd plain
       not_refused act plain refusal is = let no = is in cc
 
   done_so : (accounts later : Accounts) (said : Answer) → ((refusal : Refusal) → said ≡ answer.Refused refusal → ⊥) → TurnsBy KeepRow KeepMay said accounts later → said ≡ upkeep_answer act

@@ -2,7 +2,10 @@
 use Rattle.std.specs.Prelude.{◌≡◌, ◌<◌, ◌≤◌, ◌⊎◌, ℕ, List, ◌++◌, codes, decimal, length, Option, Some, None, Result, Ok, Err}
 use Rattle.std.specs.Io.KnownBytes.{Keeps}
 use Rattle.sieve_lex.specs.Faults.{fault_line, fault_text}
+use Rattle.sieve_lex.specs.declared.fault.FaultKind.{FaultKind}
 use Rattle.sieve_lex.specs.declared.fault.ScriptFault.{ScriptFault}
+use Rattle.sieve_places.specs.Places.{IsFaultPlace, place_shown}
+use Rattle.sieve_places.specs.declared.find.FaultPlace.{FaultPlace}
 use Rattle.store_accounts.specs.declared.refusal.Refusal.TheVariants.{ScriptTooLarge}
 use Rattle.managesieve_sessions.specs.Limits.{script_limit}
 use Rattle.managesieve_sessions.specs.Scripts.{IsValidScript, IsVerdict}
@@ -18,6 +21,29 @@ abbrev pub fault_in_file : Option (List ℕ) → ScriptFault → List ℕ
 fault_in_file None fault = ended_line (fault_line fault.line fault.kind)
 fault_in_file (Some file) fault =
     ended_line (file ++ (codes ":" ++ (decimal fault.line ++ (codes ": " ++ fault_text fault.kind))))
+
+-- where a word is: `line N, column M`, or `FILE:N:M`
+abbrev pub position_words : Option (List ℕ) → FaultPlace → List ℕ
+position_words None place = codes "line " ++ (decimal place.line ++ (codes ", column " ++ decimal place.column))
+position_words (Some file) place = file ++ (codes ":" ++ (decimal place.line ++ (codes ":" ++ decimal place.column)))
+
+-- the line on a fault with the place of its word and the word: `line N, column M: TEXT "WORD"`, or `FILE:N:M: TEXT "WORD"`
+abbrev pub fault_placed : Option (List ℕ) → FaultPlace → FaultKind → List ℕ
+fault_placed file place kind =
+    position_words file place ++ (codes ": " ++ (fault_text kind ++ (place_shown place ++ codes "\n")))
+
+abbrev pub finding_by : Option (List ℕ) → ScriptFault → Option FaultPlace → List ℕ
+finding_by file fault None = fault_in_file file fault
+finding_by file fault (Some place) = fault_placed file place fault.kind
+
+-- the line on a fault of a text: with the word's place, if it has one
+abbrev pub IsFindingLine : Option (List ℕ) → List ℕ → ScriptFault → List ℕ → Type 0
+IsFindingLine file text fault line = (place : Option FaultPlace) × IsFaultPlace text fault.kind place × (line ≡ finding_by file fault place)
+
+-- such a line is printed
+abbrev pub PrintsFault : Result (Unit {0}) RunFault → Option (List ℕ) → List ℕ → ScriptFault → Option (List ℕ) → Option (List ℕ)
+    → Type 0
+PrintsFault result file text fault old new = (line : List ℕ) × IsFindingLine file text fault line × IsPrinted result old new line
 
 -- a text is longer than a script may be
 abbrev pub script_too_large : RunFault
@@ -46,11 +72,11 @@ Has text verdict = (length text ≤ script_limit) × IsVerdict text verdict
 -- is too large only if it is
 abbrev pub PrintsFinding : Option (List ℕ) → List ℕ → Option (List ℕ) → Option (List ℕ) → Finding → Type 0
 PrintsFinding file text old new (Ok None) = Has text None × Keeps old new
-PrintsFinding file text old new (Ok (Some fault)) = Has text (Some fault) × IsPrinted (Ok tt) old new (fault_in_file file fault)
+PrintsFinding file text old new (Ok (Some fault)) = Has text (Some fault) × PrintsFault (Ok tt) file text fault old new
 PrintsFinding file text old new (Err fault) =
     ((fault ≡ memory) × Keeps old new)
     ⊎ ((fault ≡ script_too_large) × (script_limit < length text) × Keeps old new)
-    ⊎ ((verdict : ScriptFault) × Has text (Some verdict) × IsPrinted (Err fault) old new (fault_in_file file verdict))
+    ⊎ ((verdict : ScriptFault) × Has text (Some verdict) × PrintsFault (Err fault) file text verdict old new)
 
 -- what is reported on the errors
 abbrev pub TellsFinding : Option (List ℕ) → Option (List ℕ) → Option (List ℕ) → Finding → Type 0

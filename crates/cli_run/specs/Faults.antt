@@ -13,7 +13,7 @@ use Rattle.maildir_files.specs.declared.sink.SinkError.{SinkError}
 use Rattle.maildir_files.specs.declared.sink.SinkError.TheVariants as sink
 use Rattle.cli_run.specs.Streams.{InputFailed, OutputFailed, IsWriteCut, IsWritten, WasFlushed}
 use Rattle.cli_run.specs.declared.fault.RunFault.{RunFault}
-use Rattle.cli_run.specs.declared.fault.RunFault.TheVariants.{Refused, Busy, Stream, NoMessage, NoMaildir, NoScript, Invalid, BadInput, BadArgument}
+use Rattle.cli_run.specs.declared.fault.RunFault.TheVariants.{Refused, Busy, Stream, NoMessage, NoMaildir, NoScript, ScriptActive, ScriptExists, Invalid, BadInput, BadArgument}
 
 -- the exit status of a fault (sysexits.h): wrong use, wrong data, no such user, try again
 abbrev pub status_of : RunFault → ℕ
@@ -39,6 +39,8 @@ status_of Stream = 75
 status_of NoMessage = 65
 status_of NoMaildir = 65
 status_of NoScript = 65
+status_of ScriptActive = 65
+status_of ScriptExists = 65
 status_of Invalid = 65
 status_of BadInput = 65
 status_of BadArgument = 64
@@ -67,6 +69,8 @@ run_fault_text Stream = codes "input or output failed"
 run_fault_text NoMessage = codes "no such message"
 run_fault_text NoMaildir = codes "no such Maildir"
 run_fault_text NoScript = codes "no such script"
+run_fault_text ScriptActive = codes "script is active"
+run_fault_text ScriptExists = codes "script exists"
 run_fault_text Invalid = codes "not valid"
 run_fault_text BadInput = codes "bad input"
 run_fault_text BadArgument = codes "bad argument"

@@ -1,5 +1,7 @@
+pub mod AllUsers
 pub mod Checks
 pub mod Draining
+pub mod EditReports
 pub mod Exports
 pub mod Faults
 pub mod Framing

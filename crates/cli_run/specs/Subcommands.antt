@@ -29,6 +29,9 @@ use Rattle.store_engine.specs.declared.answer.Answer.{Answer}
 use Rattle.store_engine.specs.declared.answer.Answer.TheVariants as answer
 use Rattle.store_engine.specs.declared.event.Event.{Event}
 use Rattle.store_engine.specs.declared.event.Event.TheVariants.{Deliver, AddUser, Import, TakeOut, DoUpkeep}
+use Rattle.store_engine.specs.declared.script_edit.ScriptEdit.{ScriptEdit}
+use Rattle.store_engine.specs.declared.script_edit.ScriptEdit.TheVariants as edit
+use Rattle.store_engine.specs.declared.script_edit.ScriptObjection.{ScriptObjection}
 use Rattle.store_engine.specs.declared.upkeep.Upkeep.{Upkeep}
 use Rattle.store_engine.specs.declared.upkeep.Upkeep.TheVariants as upkeep
 use Rattle.store_accounts.specs.declared.notice.Notice.{Notice}
@@ -49,7 +52,9 @@ use Rattle.cli_subcommands.specs.declared.reading.ArgsError.{ArgsError}
 use Rattle.cli_subcommands.specs.declared.reading.ArgsError.TheVariants.{Said, NotText, Unknown}
 use Rattle.cli_subcommands.specs.declared.subcommand.Subcommand.{Subcommand}
 use Rattle.cli_subcommands.specs.declared.subcommand.Subcommand.TheVariants as word
+use Rattle.cli_run.specs.AllUsers.{AccountListing, listing_of, named_notices, named_queue}
 use Rattle.cli_run.specs.Draining.{SinkMails, StaysAsItWas, TurnsTables, HasDrained}
+use Rattle.cli_run.specs.EditReports.{TellsEdit, objection_fault}
 use Rattle.cli_run.specs.Exports.{IsCutOff}
 use Rattle.cli_run.specs.Faults.{memory, no_user, status_of, run_fault_line, faults_told, AreTold, IsSudden, IsHindered, IsPrinted}
 use Rattle.cli_run.specs.Promise.{first_line, world_of_accounts, status_after}
@@ -110,9 +115,10 @@ pub record IsPasswdEvent (digits random : Option (List ℕ)) (user : List ℕ) (
 abbrev pub IsUpkeepEvent : List ℕ → Upkeep → Event → Type 0
 IsUpkeepEvent user upkeep event = event ≡ DoUpkeep user upkeep
 
--- no text is checked, so it is done or refused
+-- neither a text nor the names of the scripts are looked at, so it is done or refused
 abbrev pub IsPlainUpkeep : Upkeep → Type 0
 IsPlainUpkeep (upkeep.StoreScript name text activate) = ⊥
+IsPlainUpkeep (upkeep.EditScripts edit) = ⊥
 IsPlainUpkeep other = Unit {0}
 
 -- it was done, or the machine's refusal is the fault
@@ -125,6 +131,7 @@ abbrev pub upkeep_answer : Upkeep → Answer
 upkeep_answer (upkeep.SetPassword salt password) = answer.Changed
 upkeep_answer (upkeep.SetAddress address) = answer.Changed
 upkeep_answer (upkeep.StoreScript name text activate) = answer.Stored
+upkeep_answer (upkeep.EditScripts edit) = answer.Edited
 upkeep_answer upkeep.CloseAccount = answer.Closed
 upkeep_answer upkeep.OpenAccount = answer.Opened
 upkeep_answer (upkeep.RemoveAccount mail) = answer.Removed
@@ -163,12 +170,19 @@ pub record IsDoneEvent (user digits : List ℕ) (event : Event) : Type 0 where
   pub written : Writes digits id
   pub same : event ≡ TakeOut user id
 
--- `import`: all that was read is the text of this account
-pub record IsImportEvent (given : Option (List ℕ)) (event : Event) : Type 0 where
+-- the head of an account under another name, if there is one; all else is as it is
+abbrev pub renamed_head : Option (List ℕ) → AccountHead → AccountHead
+renamed_head None head = head
+renamed_head (Some name) head = record head { owner = record head.owner { name = name } }
+
+-- `import`: all that was read is the text of an account, and this is that account, under the name in the arguments if there is one
+pub record IsImportEvent (name given : Option (List ℕ)) (event : Event) : Type 0 where
   pub text : List ℕ
   pub read : ReadsAll given text
+  pub written : AccountHead
   pub file : AccountFile
-  pub spelled : IsAccountText text file.head file.parts
+  pub spelled : IsAccountText text written file.parts
+  pub named : file.head ≡ renamed_head name written
   pub same : event ≡ Import file
 
 -- what is printed of an event that was made, by its answer
@@ -179,6 +193,7 @@ TellsEvent (Import file) answer.Imported text = text ≡ ended_line (codes "impo
 TellsEvent (TakeOut user id) (answer.Taken row) text = text ≡ ended_line (codes "taken " ++ decimal id)
 TellsEvent (DoUpkeep user upkeep) answer.Changed text = text ≡ ended_line (codes "changed " ++ user)
 TellsEvent (DoUpkeep user upkeep) answer.Stored text = text ≡ ended_line (codes "stored " ++ script_of upkeep)
+TellsEvent (DoUpkeep user upkeep) answer.Edited text = TellsEdit user upkeep text
 TellsEvent (DoUpkeep user upkeep) answer.Opened text = text ≡ ended_line (codes "opened " ++ user)
 TellsEvent (DoUpkeep user upkeep) answer.Removed text = text ≡ ended_line (codes "removed " ++ user)
 TellsEvent event answer text = ⊥
@@ -265,6 +280,36 @@ DoesPut Denied Own output result tables =
     ⊎ RefusesScript Own output.old output.new result accounts later)
     tables.old tables.new
 
+-- ---- `activate`, `deactivate`, `delete`, `rename`, against which the scripts may stand
+
+-- the event
+abbrev pub editing : List ℕ → ScriptEdit → Event
+editing user edit = DoUpkeep user (upkeep.EditScripts edit)
+
+-- the machine answers to an event that this stands against it, no account changes, and this is the fault
+pub record ObjectsTo (event : Event) (fault : RunFault) (accounts : Accounts) : Type 0 where
+  pub objection : ScriptObjection
+  pub told : fault ≡ objection_fault objection
+  pub next : Next (world_of_accounts accounts) event (answer.Objected objection) (world_of_accounts accounts)
+
+-- a change of the scripts was given to the machine: it was made; or no account changed, since something stands against it, or it is
+-- refused, or the subcommand was hindered
+abbrev pub PutsEdit : (RunFault → Type 0) → List ℕ → ScriptEdit → Result (Unit {0}) RunFault → Accounts → Accounts → Type 0
+PutsEdit Denied user edit (Ok done) accounts later =
+    Next (world_of_accounts accounts) (editing user edit) answer.Edited (world_of_accounts later)
+PutsEdit Denied user edit (Err fault) accounts later =
+    (later ≡ accounts)
+    × (IsHindered ⊥ ⊥ Denied fault ⊎ RefusesEvent (λ e. e ≡ editing user edit) fault accounts
+    ⊎ ObjectsTo (editing user edit) fault accounts)
+
+-- the subcommand over tables: after Ok it was made, and all of its line is printed; after a fault it wasn't, or a write of its line failed
+abbrev pub DoesEdit : (RunFault → Type 0) → List ℕ → ScriptEdit → StreamMove → Result (Unit {0}) RunFault → TablesMove → Type 0
+DoesEdit Denied user edit output result tables =
+    TurnsTables (FinishesPrinted (MakesEvent (λ e. e ≡ editing user edit)) (λ fault accounts. IsHindered ⊥ ⊥ Denied fault
+    ⊎ RefusesEvent (λ e. e ≡ editing user edit) fault accounts ⊎ ObjectsTo (editing user edit) fault accounts)
+    output.old output.new result)
+    tables.old tables.new
+
 -- ---- `import`, whose text may not be that of an account
 
 -- all that was read isn't the text of an account
@@ -285,11 +330,12 @@ pub record RefusesText (given old new : Option (List ℕ)) (result : Result (Uni
   pub silent : Keeps old new
 
 -- the subcommand over tables
-abbrev pub DoesImport : (RunFault → Type 0) → Option (List ℕ) → StreamMove → Result (Unit {0}) RunFault → TablesMove → Type 0
-DoesImport Denied given output result tables =
+abbrev pub DoesImport : (RunFault → Type 0) → Option (List ℕ) → Option (List ℕ) → StreamMove → Result (Unit {0}) RunFault
+    → TablesMove → Type 0
+DoesImport Denied name given output result tables =
     TurnsTables (λ accounts later.
-    FinishesPrinted (MakesEvent (IsImportEvent given)) (λ fault all. IsHindered InputFailed ⊥ Denied fault
-    ⊎ RefusesEvent (IsImportEvent given) fault all) output.old output.new result accounts later
+    FinishesPrinted (MakesEvent (IsImportEvent name given)) (λ fault all. IsHindered InputFailed ⊥ Denied fault
+    ⊎ RefusesEvent (IsImportEvent name given) fault all) output.old output.new result accounts later
     ⊎ RefusesText given output.old output.new result accounts later)
     tables.old tables.new
 
@@ -419,35 +465,23 @@ abbrev pub found_line : List ℕ → Option Profile → List ℕ
 found_line name None = []
 found_line name (Some p) = profile_line name p
 
--- a line for each account, in the order of the octets of the names
-abbrev pub user_listing : List (List ℕ × Account) → List ℕ
-user_listing users = flat_map (λ user. user_line user.0 user.1) users
+-- ---- listings of all users
 
--- no account changes, and all are listed
-pub record ListsUsers (accounts later : Accounts) (text : List ℕ) : Type 0 where
+-- no account changes, and all are listed so
+pub record ListsAll (lines : AccountListing) (accounts later : Accounts) (text : List ℕ) : Type 0 where
   pub stays : later ≡ accounts
-  pub listed : text ≡ user_listing (entries accounts)
+  pub listed : text ≡ listing_of lines (entries accounts)
 
--- the subcommand over tables: the users are listed, or it was hindered
-abbrev pub DoesUsers : (RunFault → Type 0) → StreamMove → Result (Unit {0}) RunFault → TablesMove → Type 0
-DoesUsers Denied output result tables =
-    TurnsTables (FinishesPrinted ListsUsers (λ fault accounts. IsHindered ⊥ ⊥ Denied fault) output.old output.new result)
+-- the subcommand over tables: all accounts are listed so, or it was hindered
+abbrev pub DoesListing : (RunFault → Type 0) → AccountListing → StreamMove → Result (Unit {0}) RunFault → TablesMove → Type 0
+DoesListing Denied lines output result tables =
+    TurnsTables (FinishesPrinted (ListsAll lines) (λ fault accounts. IsHindered ⊥ ⊥ Denied fault) output.old output.new result)
     tables.old tables.new
 
--- what was read of all accounts: they are listed, or the subcommand was hindered
-abbrev pub FindsUsers : (RunFault → Type 0) → Result (List ℕ) RunFault → Accounts → Type 0
-FindsUsers Denied (Ok text) accounts = text ≡ user_listing (entries accounts)
-FindsUsers Denied (Err fault) accounts = IsHindered ⊥ ⊥ Denied fault
-
--- the line of the user with the name, if there is an account
-abbrev pub user_line_at : List ℕ → Option Account → List ℕ
-user_line_at name None = []
-user_line_at name (Some a) = user_line name a
-
--- the line of the user with the name is appended to the text, and the next user is this one
-pub record AddsUser (name old new : List ℕ) (next : Option (List ℕ)) (accounts : Accounts) : Type 0 where
-  pub added : new ≡ old ++ user_line_at name (get accounts name)
-  pub follows : IsNextUser name next accounts
+-- what was read of all accounts: they are listed so, or the subcommand was hindered
+abbrev pub FindsAllLines : (RunFault → Type 0) → AccountListing → Result (List ℕ) RunFault → Accounts → Type 0
+FindsAllLines Denied lines (Ok text) accounts = text ≡ listing_of lines (entries accounts)
+FindsAllLines Denied lines (Err fault) accounts = IsHindered ⊥ ⊥ Denied fault
 
 -- ---- `notices`, which may take what it prints
 
@@ -578,13 +612,18 @@ DoesFolders Denied user false None output result tables =
     DoesRead ⊥ Denied (account_part user (ListsFolders folder_line) LacksNothing) output result tables
 DoesFolders Denied user false (Some levels) output result tables = DoesNothing output result tables
 
--- `queue`: all that is on its way out, or one message of it
-abbrev pub DoesQueue : (RunFault → Type 0) → List ℕ → Option (List ℕ) → StreamMove → Result (Unit {0}) RunFault → TablesMove
-    → Type 0
-DoesQueue Denied user None output result tables =
+-- `queue`: all that is on its way out of a user's account, or one message of it; with `--all` that of all users. A user, or a message, and
+-- `--all` aren't asked for together
+abbrev pub DoesQueue : (RunFault → Type 0) → Bool → Option (List ℕ) → Option (List ℕ) → StreamMove → Result (Unit {0}) RunFault
+    → TablesMove → Type 0
+DoesQueue Denied false (Some user) None output result tables =
     DoesRead ⊥ Denied (account_part user ListsQueue LacksNothing) output result tables
-DoesQueue Denied user (Some digits) output result tables =
+DoesQueue Denied false (Some user) (Some digits) output result tables =
     DoesRead (IsNoNumber digits) Denied (account_part user (ShowsOutgoing digits) (LacksOutgoing digits)) output result tables
+DoesQueue Denied false None digits output result tables = DoesNothing output result tables
+DoesQueue Denied true None None output result tables = DoesListing Denied named_queue output result tables
+DoesQueue Denied true None (Some digits) output result tables = DoesNothing output result tables
+DoesQueue Denied true (Some user) digits output result tables = DoesNothing output result tables
 
 -- `scripts`: all, or one of them
 abbrev pub DoesScripts : (RunFault → Type 0) → List ℕ → Option (List ℕ) → StreamMove → Result (Unit {0}) RunFault → TablesMove
@@ -594,12 +633,17 @@ DoesScripts Denied user None output result tables =
 DoesScripts Denied user (Some name) output result tables =
     DoesRead ⊥ Denied (account_part user (ShowsScript name) (LacksScript name)) output result tables
 
--- `notices`: all are listed; or those up to a moment are, and taken
-abbrev pub DoesNotices : (RunFault → Type 0) → List ℕ → Option (List ℕ) → StreamMove → Result (Unit {0}) RunFault → TablesMove
-    → Type 0
-DoesNotices Denied user None output result tables =
+-- `notices`: all of a user are listed, or those up to a moment are, and taken; with `--all` those of all users. A user and `--all` aren't
+-- asked for together
+abbrev pub DoesNotices : (RunFault → Type 0) → Bool → Option (List ℕ) → Option (List ℕ) → StreamMove → Result (Unit {0}) RunFault
+    → TablesMove → Type 0
+DoesNotices Denied false (Some user) None output result tables =
     DoesRead ⊥ Denied (account_part user ListsNotices LacksNothing) output result tables
-DoesNotices Denied user (Some digits) output result tables = TakesNotices Denied user digits output result tables
+DoesNotices Denied false (Some user) (Some digits) output result tables = TakesNotices Denied user digits output result tables
+DoesNotices Denied false None digits output result tables = DoesNothing output result tables
+DoesNotices Denied true None None output result tables = DoesListing Denied named_notices output result tables
+DoesNotices Denied true None (Some digits) output result tables = DoesNothing output result tables
+DoesNotices Denied true (Some user) digits output result tables = DoesNothing output result tables
 
 -- what `deliver` reads broke: its input, or the clock, whose moment it takes if the arguments have none
 abbrev pub DeliverInputFailed : Option (List ℕ) → Option ℕ → Type 0
@@ -642,7 +686,7 @@ module _ (around : Surroundings) (input : StreamMove) (sink : SinkMails) (output
       × DoesEvent (SaltFailed (option_copied a.salt) around.random) (HasNoSalt (option_copied a.salt))
       (DeniedAtEnd (around.denied a.location) input.new)
       (IsAddUserEvent (option_copied a.salt) around.random a.name.now a.address.now input.old) output result tables
-  DoesSubcommand (word.Users a) result tables = Idle × DoesUsers (around.denied a.location) output result tables
+  DoesSubcommand (word.Users a) result tables = Idle × DoesListing (around.denied a.location) user_line output result tables
   DoesSubcommand (word.Passwd a) result tables =
       StaysAsItWas sink.tells sink.had sink.has
       × DoesEvent (SaltFailed (option_copied a.salt) around.random) (HasNoSalt (option_copied a.salt))
@@ -657,6 +701,14 @@ module _ (around : Surroundings) (input : StreamMove) (sink : SinkMails) (output
       StaysAsItWas sink.tells sink.had sink.has
       × DoesPut (DeniedAtEnd (around.denied a.location) input.new)
       (IsPutEvent a.user.now a.script.now a.activate input.old) output result tables
+  DoesSubcommand (word.Activate a) result tables =
+      Idle × DoesEdit (around.denied a.location) a.user.now (edit.Activate a.script.now) output result tables
+  DoesSubcommand (word.Deactivate a) result tables =
+      Idle × DoesEdit (around.denied a.location) a.user.now edit.Deactivate output result tables
+  DoesSubcommand (word.Delete a) result tables =
+      Idle × DoesEdit (around.denied a.location) a.user.now (edit.Delete a.script.now) output result tables
+  DoesSubcommand (word.Rename a) result tables =
+      Idle × DoesEdit (around.denied a.location) a.user.now (edit.Rename a.script.now a.new_name.now) output result tables
   DoesSubcommand (word.Open a) result tables =
       Idle × DoesEvent ⊥ ⊥ (around.denied a.location) (IsUpkeepEvent a.user.now upkeep.OpenAccount) output result tables
   DoesSubcommand (word.Remove a) result tables =
@@ -666,7 +718,7 @@ module _ (around : Surroundings) (input : StreamMove) (sink : SinkMails) (output
       Idle × DoesExport (around.denied a.location) a.and_close a.user.now output result tables
   DoesSubcommand (word.Import a) result tables =
       StaysAsItWas sink.tells sink.had sink.has
-      × DoesImport (DeniedAtEnd (around.denied a.location) input.new) input.old output result tables
+      × DoesImport (DeniedAtEnd (around.denied a.location) input.new) (option_copied a.name) input.old output result tables
   DoesSubcommand (word.Deliver a) result tables =
       StaysAsItWas sink.tells sink.had sink.has
       × DoesEvent (DeliverInputFailed (option_copied a.at) around.clock) (HasNoWhen (option_copied a.at) (option_copied a.zone))
@@ -684,9 +736,9 @@ module _ (around : Surroundings) (input : StreamMove) (sink : SinkMails) (output
       (account_part a.user.now (ShowsMessage a.folder.now a.number.now) (LacksMessage a.folder.now a.number.now)) output result
       tables
   DoesSubcommand (word.Queue a) result tables =
-      Idle × DoesQueue (around.denied a.location) a.user.now (option_copied a.id) output result tables
+      Idle × DoesQueue (around.denied a.location) a.all (option_copied a.user) (option_copied a.id) output result tables
   DoesSubcommand (word.Notices a) result tables =
-      Idle × DoesNotices (around.denied a.location) a.user.now (option_copied a.until) output result tables
+      Idle × DoesNotices (around.denied a.location) a.all (option_copied a.user) (option_copied a.until) output result tables
   DoesSubcommand (word.Try a) result tables = Idle × DoesNothing output result tables
   DoesSubcommand (word.Send a) result tables = Idle × DoesNothing output result tables
   DoesSubcommand (word.Serve a) result tables = Idle × DoesNothing output result tables
@@ -704,6 +756,10 @@ ReachesStore Given At (word.Passwd a) = Given a.location
 ReachesStore Given At (word.Address a) = Given a.location
 ReachesStore Given At (word.Scripts a) = Given a.location
 ReachesStore Given At (word.Put a) = Given a.location
+ReachesStore Given At (word.Activate a) = Given a.location
+ReachesStore Given At (word.Deactivate a) = Given a.location
+ReachesStore Given At (word.Delete a) = Given a.location
+ReachesStore Given At (word.Rename a) = Given a.location
 ReachesStore Given At (word.Open a) = Given a.location
 ReachesStore Given At (word.Remove a) = Given a.location
 ReachesStore Given At (word.Export a) = Given a.location

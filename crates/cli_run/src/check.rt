@@ -1,16 +1,15 @@
 //! Checks texts as scripts, without a store.
-ghost use Rattle.std.specs.Prelude.{◌≡◌, ◌≢◌, Some, false, IfOk, IsTrue, option_copied};
-ghost use Rattle.cli_run.specs.Checks.{ChecksInput, IsChecked, PrintsFinding, fault_in_file, script_too_large, check_fault_line};
+ghost use Rattle.std.specs.Prelude.{◌≡◌, ◌≢◌, false, IsTrue, option_copied};
+ghost use Rattle.cli_run.specs.Checks.{ChecksInput, IsChecked, PrintsFinding, script_too_large, check_fault_line};
 ghost use Rattle.cli_run.specs.Faults.{status_of};
 ghost use Rattle.cli_run.specs.Streams.{IsWritten, ReadsToEnd};
 
 use crate::fault::{RunFault, refuse};
+use crate::finding::finding_line;
 use crate::stream::{read_all, write_all, write_line};
-use cli_reports::report_fault;
 use managesieve_sessions::scripts::{MAX_SCRIPT, fault_in};
-use octets::{Octets, write_decimal};
 use sieve_lex::ScriptFault;
-use std::alloc::{AllocError, Global};
+use std::alloc::Global;
 use std::io::{Read, Write};
 use store_accounts::Refusal;
 
@@ -32,8 +31,8 @@ pub fn check_input<R: Read, W: Write, E: Write>(
     }
 }
 
-/// Checks a text as a script, and if it isn't valid prints the line that tells why: `line N: TEXT`, or `FILE:N: TEXT` for a
-/// file. A text that is longer than a script may be is no script. Returns the exit status: 0, 65, or 75 if memory or a write
+/// Checks a text as a script, and if it isn't valid prints the line that tells why: `line N, column M: TEXT "WORD"`, or
+/// `FILE:N:M: TEXT "WORD"` for a file; `line N: TEXT` or `FILE:N: TEXT` if the text isn't a list of tokens. A text that is longer than a script may be is no script. Returns the exit status: 0, 65, or 75 if memory or a write
 /// failed. Time and memory are those of `sieve_syntax::check`.
 pub fn check_text<W: Write, E: Write>(
     alloc: Global,
@@ -67,32 +66,19 @@ fn print_finding<W: Write>(
     let Some(fault) = fault_in(alloc, text)? else {
         return Ok(None);
     };
-    let line = line_in(alloc, file, fault)?;
+    let line = finding_line(alloc, name_of(file), text, fault)?;
     write_all(output, line.as_slice())?;
     Ok(Some(fault))
 }
 
-/// The line on a fault of a script.
-fn line_in(alloc: Global, file: Option<&str>, fault: ScriptFault) -> Result<Octets, AllocError>
-    ensures { IfOk result (λ text. text ≡ fault_in_file (option_copied file.entry) fault) }
+/// The octets of a file's name.
+fn name_of(file: Option<&str>) -> Option<&[u8]>
+    ensures { option_copied result ≡ option_copied file.entry }
 {
     match file {
-        None => report_fault(alloc, fault),
-        Some(file) => line_in_file(alloc, file, fault),
+        Some(file) => Some(file.as_bytes()),
+        None => None,
     }
-}
-
-/// The line on a fault of the script in a file.
-fn line_in_file(alloc: Global, file: &str, fault: ScriptFault) -> Result<Octets, AllocError>
-    ensures { IfOk result (λ text. text ≡ fault_in_file (Some file.now) fault) }
-{
-    let mut text = Octets::from_slice(alloc, file.as_bytes())?;
-    text.extend_from_slice(b":")?;
-    write_decimal(&mut text, fault.line)?;
-    text.extend_from_slice(b": ")?;
-    text.extend_from_slice(fault.kind.text().as_bytes())?;
-    text.push(b'\n')?;
-    Ok(text)
 }
 
 /// Reports a fault, after the file's name if the file is too large, and returns its exit status.

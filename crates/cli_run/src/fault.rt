@@ -35,6 +35,12 @@ pub enum RunFault {
     /// The user has no script of the name.
     #[error("no such script")]
     NoScript,
+    /// The script is the active one, which isn't deleted.
+    #[error("script is active")]
+    ScriptActive,
+    /// The user has a script of the new name.
+    #[error("script exists")]
+    ScriptExists,
     /// A script isn't valid. If a run ends with this, the line that tells why is on the output, and nothing else is reported.
     #[error("not valid")]
     Invalid,
@@ -80,6 +86,8 @@ impl RunFault {
             RunFault::NoMessage => b"sieved: no such message\n",
             RunFault::NoMaildir => b"sieved: no such Maildir\n",
             RunFault::NoScript => b"sieved: no such script\n",
+            RunFault::ScriptActive => b"sieved: script is active\n",
+            RunFault::ScriptExists => b"sieved: script exists\n",
             RunFault::Invalid => b"sieved: not valid\n",
             RunFault::BadInput => b"sieved: bad input\n",
             RunFault::BadArgument => b"sieved: bad argument\n",

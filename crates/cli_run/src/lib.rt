@@ -2,6 +2,8 @@
 #![tactic(auto)]
 
 mod account_read;
+mod all_queues;
+mod all_users;
 mod answer;
 pub mod check;
 mod commands;
@@ -9,6 +11,7 @@ mod drain;
 mod export;
 pub mod fault;
 pub mod fault_with_cause;
+mod finding;
 mod framing;
 pub mod host_texts;
 mod import;
@@ -18,6 +21,7 @@ mod notices;
 mod queue;
 pub mod report;
 pub mod run;
+mod script_edits;
 mod scripts;
 pub mod session;
 mod stream;

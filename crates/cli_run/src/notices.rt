@@ -1,5 +1,5 @@
-//! The subcommand on a user's notices, which may take them after they are printed.
-ghost use Rattle.std.specs.Prelude.{◌≡◌, ◌≢◌, false, IsTrue, IfOk, OnOk, option_copied};
+//! The subcommand on notices, of a user or of all, which may take a user's after they are printed.
+ghost use Rattle.std.specs.Prelude.{◌≡◌, ◌≢◌, false, true, None, Some, IsTrue, IfOk, OnOk, option_copied};
 ghost use Rattle.sqlite.specs.Held.{state};
 ghost use Rattle.cli_reports.specs.Listings.{notice_listing};
 ghost use Rattle.cli_run.specs.Promise.{status_after};
@@ -8,6 +8,8 @@ ghost use Rattle.cli_run.specs.Subcommands.{DoesNotices, TakesListed, TakesNotic
 ghost use Rattle.cli_run.specs.Transitions.{across};
 
 use crate::account_read::NoticesOf;
+use crate::all_queues::NoticeLines;
+use crate::all_users::run_for_all;
 use crate::commands::take_store;
 use crate::fault::RunFault;
 use crate::listing::{Listing, run_listing};
@@ -34,7 +36,8 @@ impl Listing for NoticesOf<'_> {
     }
 }
 
-/// `notices`: what went wrong in the user's deliveries. With a moment the notices up to it are printed, and then taken.
+/// `notices`: what went wrong in the user's deliveries; with `--all` in those of all users. With a moment the notices up to it are
+/// printed, and then taken.
 pub fn run_notices<W: Write, K: Keeper>(
     alloc: Global,
     asked: NoticesArgs<'_>,
@@ -42,20 +45,59 @@ pub fn run_notices<W: Write, K: Keeper>(
     keeper: &mut K,
 ) -> Result<(), RunFault>
     ensures back { K.is_out keeper.old ≡ false → K.is_out keeper.new ≡ false }
-    ensures does { IsTrue K.tells → DoesNotices (HasDenied K.refuses K.will_wait asked.entry.location) asked.entry.user.now
-        (option_copied asked.entry.until) (across W.contents output.old output.new) result
+    ensures does { IsTrue K.tells → DoesNotices (HasDenied K.refuses K.will_wait asked.entry.location) asked.entry.all
+        (option_copied asked.entry.user) (option_copied asked.entry.until) (across W.contents output.old output.new) result
         (across K.holds keeper.old keeper.new) }
     ensures given { OnOk result (HasGiven K.gives K.will_wait asked.entry.location) }
 {
-    match asked.until {
-        None => run_listing(
-            alloc,
-            asked.location,
-            &NoticesOf(asked.user),
-            output,
-            keeper,
-        ),
-        Some(until) => run_taking(alloc, asked.location, asked.user, until, output, keeper),
+    if asked.all {
+        return match asked.user {
+            None => run_all_notices(alloc, asked.location, asked.until, output, keeper),
+            Some(_) => Err(RunFault::BadArgument),
+        };
+    }
+    match asked.user {
+        Some(user) => run_notices_of(alloc, asked.location, user, asked.until, output, keeper),
+        None => Err(RunFault::BadArgument),
+    }
+}
+
+/// `notices --all`, with which no moment is asked for.
+fn run_all_notices<W: Write, K: Keeper>(
+    alloc: Global,
+    location: StoreLocation<'_>,
+    until: Option<&str>,
+    output: &mut W,
+    keeper: &mut K,
+) -> Result<(), RunFault>
+    ensures back { K.is_out keeper.old ≡ false → K.is_out keeper.new ≡ false }
+    ensures does { IsTrue K.tells → DoesNotices (HasDenied K.refuses K.will_wait location.entry) true None
+        (option_copied until.entry) (across W.contents output.old output.new) result (across K.holds keeper.old keeper.new) }
+    ensures given { OnOk result (HasGiven K.gives K.will_wait location.entry) }
+{
+    match until {
+        None => run_for_all(alloc, location, &NoticeLines, output, keeper),
+        Some(_) => Err(RunFault::BadArgument),
+    }
+}
+
+/// `notices` of one user: all of them, or those up to the moment, which are taken then.
+fn run_notices_of<W: Write, K: Keeper>(
+    alloc: Global,
+    location: StoreLocation<'_>,
+    user: &str,
+    until: Option<&str>,
+    output: &mut W,
+    keeper: &mut K,
+) -> Result<(), RunFault>
+    ensures back { K.is_out keeper.old ≡ false → K.is_out keeper.new ≡ false }
+    ensures does { IsTrue K.tells → DoesNotices (HasDenied K.refuses K.will_wait location.entry) false (Some user.now)
+        (option_copied until.entry) (across W.contents output.old output.new) result (across K.holds keeper.old keeper.new) }
+    ensures given { OnOk result (HasGiven K.gives K.will_wait location.entry) }
+{
+    match until {
+        None => run_listing(alloc, location, &NoticesOf(user), output, keeper),
+        Some(until) => run_taking(alloc, location, user, until, output, keeper),
     }
 }
 

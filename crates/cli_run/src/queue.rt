@@ -1,5 +1,5 @@
-//! The subcommands on a user's queue: the list, the octets of one message, and that one was sent.
-ghost use Rattle.std.specs.Prelude.{◌≡◌, ◌≢◌, false, IsTrue, OnOk, option_copied};
+//! The subcommands on queues: the list, of a user or of all; the octets of one message; and that one was sent.
+ghost use Rattle.std.specs.Prelude.{◌≡◌, ◌≢◌, false, true, None, Some, IsTrue, OnOk, option_copied};
 ghost use Rattle.store_engine.specs.declared.answer.Answer.TheVariants.{Taken};
 ghost use Rattle.store_engine.specs.declared.event.Event.TheVariants.{TakeOut};
 ghost use Rattle.cli_run.specs.Promise.{status_after};
@@ -9,6 +9,8 @@ ghost use Rattle.cli_run.specs.Subcommands.{IsDoneEvent, PutsInTables, DoesEvent
 ghost use Rattle.cli_run.specs.Transitions.{across};
 
 use crate::account_read::{OutgoingOf, QueueOf, read_once};
+use crate::all_queues::QueueLines;
+use crate::all_users::run_for_all;
 use crate::commands::take_store;
 use crate::fault::RunFault;
 use crate::listing::run_listing;
@@ -21,7 +23,7 @@ use store_accounts::{QueuedMessage, Refusal};
 use store_engine::take_out;
 use store_lock::Keeper;
 
-/// `queue`: the user's messages on their way out, or the octets of the one with the number.
+/// `queue`: the user's messages on their way out, or the octets of the one with the number; with `--all` those of all users.
 pub fn run_queue<W: Write, K: Keeper>(
     alloc: Global,
     asked: QueueArgs<'_>,
@@ -29,13 +31,59 @@ pub fn run_queue<W: Write, K: Keeper>(
     keeper: &mut K,
 ) -> Result<(), RunFault>
     ensures back { K.is_out keeper.old ≡ false → K.is_out keeper.new ≡ false }
-    ensures does { IsTrue K.tells → DoesQueue (HasDenied K.refuses K.will_wait asked.entry.location) asked.entry.user.now
-        (option_copied asked.entry.id) (across W.contents output.old output.new) result (across K.holds keeper.old keeper.new) }
+    ensures does { IsTrue K.tells → DoesQueue (HasDenied K.refuses K.will_wait asked.entry.location) asked.entry.all
+        (option_copied asked.entry.user) (option_copied asked.entry.id) (across W.contents output.old output.new) result
+        (across K.holds keeper.old keeper.new) }
     ensures given { OnOk result (HasGiven K.gives K.will_wait asked.entry.location) }
 {
-    match asked.id {
-        None => run_listing(alloc, asked.location, &QueueOf(asked.user), output, keeper),
-        Some(id) => run_queued(asked.location, asked.user, id, output, keeper),
+    if asked.all {
+        return match asked.user {
+            None => run_all_queues(alloc, asked.location, asked.id, output, keeper),
+            Some(_) => Err(RunFault::BadArgument),
+        };
+    }
+    match asked.user {
+        Some(user) => run_queue_of(alloc, asked.location, user, asked.id, output, keeper),
+        None => Err(RunFault::BadArgument),
+    }
+}
+
+/// `queue --all`, with which no number is asked for.
+fn run_all_queues<W: Write, K: Keeper>(
+    alloc: Global,
+    location: StoreLocation<'_>,
+    id: Option<&str>,
+    output: &mut W,
+    keeper: &mut K,
+) -> Result<(), RunFault>
+    ensures back { K.is_out keeper.old ≡ false → K.is_out keeper.new ≡ false }
+    ensures does { IsTrue K.tells → DoesQueue (HasDenied K.refuses K.will_wait location.entry) true None (option_copied id.entry)
+        (across W.contents output.old output.new) result (across K.holds keeper.old keeper.new) }
+    ensures given { OnOk result (HasGiven K.gives K.will_wait location.entry) }
+{
+    match id {
+        None => run_for_all(alloc, location, &QueueLines, output, keeper),
+        Some(_) => Err(RunFault::BadArgument),
+    }
+}
+
+/// `queue` of one user: all that is on its way out, or the octets of the message with the number.
+fn run_queue_of<W: Write, K: Keeper>(
+    alloc: Global,
+    location: StoreLocation<'_>,
+    user: &str,
+    id: Option<&str>,
+    output: &mut W,
+    keeper: &mut K,
+) -> Result<(), RunFault>
+    ensures back { K.is_out keeper.old ≡ false → K.is_out keeper.new ≡ false }
+    ensures does { IsTrue K.tells → DoesQueue (HasDenied K.refuses K.will_wait location.entry) false (Some user.now)
+        (option_copied id.entry) (across W.contents output.old output.new) result (across K.holds keeper.old keeper.new) }
+    ensures given { OnOk result (HasGiven K.gives K.will_wait location.entry) }
+{
+    match id {
+        None => run_listing(alloc, location, &QueueOf(user), output, keeper),
+        Some(id) => run_queued(location, user, id, output, keeper),
     }
 }
 

@@ -19,6 +19,7 @@ use crate::import::run_import;
 use crate::listing::run_folders;
 use crate::notices::run_notices;
 use crate::queue::{run_done, run_queue};
+use crate::script_edits::{run_activate, run_deactivate, run_delete, run_rename};
 use crate::scripts::{run_put, run_scripts};
 use crate::stream::write_all;
 use crate::try_script::try_run;
@@ -169,6 +170,10 @@ fn act<R: Read, W: Write, K: Keeper, T: MailSink>(
         Subcommand::Address(asked) => run_address(alloc, asked, output, keeper),
         Subcommand::Scripts(asked) => run_scripts(alloc, asked, output, keeper),
         Subcommand::Put(asked) => run_put(alloc, asked, input, output, keeper),
+        Subcommand::Activate(asked) => run_activate(alloc, asked, output, keeper),
+        Subcommand::Deactivate(asked) => run_deactivate(alloc, asked, output, keeper),
+        Subcommand::Delete(asked) => run_delete(alloc, asked, output, keeper),
+        Subcommand::Rename(asked) => run_rename(alloc, asked, output, keeper),
         Subcommand::Open(asked) => run_open(alloc, asked, output, keeper),
         Subcommand::Remove(asked) => run_remove(alloc, asked, output, keeper),
         Subcommand::Export(asked) => run_export(alloc, asked, output, keeper),

@@ -146,7 +146,7 @@ pub fn run_put<R: Read, W: Write, K: Keeper>(
 }
 
 /// Stores the script, in a store that is taken and handed back; or returns what is wrong with it.
-fn store_script<K: Keeper>(
+pub(crate) fn store_script<K: Keeper>(
     alloc: Global,
     location: StoreLocation<'_>,
     user: &[u8],

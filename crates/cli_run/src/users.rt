@@ -1,19 +1,13 @@
 //! The subcommand on all users: who has an account, and which script is active.
-ghost use Rattle.std.specs.Prelude.{◌≡◌, ◌≢◌, ◌++◌, false, IsTrue, IfErr, OnOk};
-ghost use Rattle.std.specs.FinMap.{entries};
-ghost use Rattle.sqlite.specs.Held.{state};
-ghost use Rattle.store_accounts.specs.Refusals.{IsTransient};
-ghost use Rattle.store_accounts.specs.Users.{FindsOver};
-ghost use Rattle.cli_run.specs.Draining.{TurnsTables};
+ghost use Rattle.std.specs.Prelude.{◌≡◌, ◌≢◌, ◌++◌, false, IsTrue, OnOk};
 ghost use Rattle.cli_run.specs.Promise.{status_after};
 ghost use Rattle.cli_run.specs.Serving.{HasDenied, HasGiven};
-ghost use Rattle.cli_run.specs.Subcommands.{AddsUser, DoesUsers, FindsUsers, found_line, open_line, profile_line, user_listing};
+ghost use Rattle.cli_run.specs.Subcommands.{DoesListing, found_line, open_line, profile_line, user_line};
 ghost use Rattle.cli_run.specs.Transitions.{across};
 
-use crate::commands::take_store;
+use crate::all_users::{AccountLines, run_for_all};
 use crate::fault::RunFault;
-use crate::stream::write_all;
-use cli_subcommands::{StoreLocation, UsersArgs};
+use cli_subcommands::UsersArgs;
 use managesieve_protocol::spell_string;
 use octets::Octets;
 use sqlite::Alter;
@@ -22,8 +16,28 @@ use std::io::Write;
 use store_accounts::{Profile, Refusal, Store};
 use store_lock::Keeper;
 
-/// `users`: a line for each account, in the order of the octets of the names. Memory is that of the lines and of one account:
-/// the store is handed back before they are written.
+/// The line that says who has an account, and how it stands.
+#[derive(Clone, Copy)]
+pub struct StandingLine;
+
+impl AccountLines for StandingLine {
+    ghost use Rattle.cli_run.specs.Subcommands.{user_line};
+
+    ghost lines = { λ listed name a. user_line name a };
+
+    fn add<S: Alter>(
+        &self,
+        store: &mut Store<S>,
+        name: &[u8],
+        text: &mut Octets,
+    ) -> Result<(), Refusal> {
+        let found = store.account(name)?;
+        add_found(name, &found, text)?;
+        Ok(())
+    }
+}
+
+/// `users`: a line for each account, in the order of the octets of the names.
 pub fn run_users<W: Write, K: Keeper>(
     alloc: Global,
     asked: UsersArgs<'_>,
@@ -32,63 +46,11 @@ pub fn run_users<W: Write, K: Keeper>(
 ) -> Result<(), RunFault>
     ensures late { status_after result ≢ 64 }
     ensures back { K.is_out keeper.old ≡ false → K.is_out keeper.new ≡ false }
-    ensures does { IsTrue K.tells → DoesUsers (HasDenied K.refuses K.will_wait asked.entry.location)
+    ensures does { IsTrue K.tells → DoesListing (HasDenied K.refuses K.will_wait asked.entry.location) user_line
         (across W.contents output.old output.new) result (across K.holds keeper.old keeper.new) }
     ensures given { OnOk result (HasGiven K.gives K.will_wait asked.entry.location) }
 {
-    let text = list_users(alloc, asked.location, keeper)?;
-    write_all(output, text.as_slice())
-}
-
-/// The lines, read from a store that is taken and handed back.
-fn list_users<K: Keeper>(
-    alloc: Global,
-    location: StoreLocation<'_>,
-    keeper: &mut K,
-) -> Result<Octets, RunFault>
-    ensures late { status_after result ≢ 64 }
-    ensures back { K.is_out keeper.old ≡ false → K.is_out keeper.new ≡ false }
-    ensures found { IsTrue K.tells → TurnsTables
-        (λ accounts later. (later ≡ accounts) × FindsUsers (HasDenied K.refuses K.will_wait location.entry) result accounts)
-        (K.holds keeper.old) (K.holds keeper.new) }
-    ensures given { OnOk result (HasGiven K.gives K.will_wait location.entry) }
-{
-    let mut store = take_store(location, false, keeper)?;
-    let listed = user_lines(alloc, &mut store);
-    keeper.hand_back(store);
-    Ok(listed?)
-}
-
-/// A line for each account, in the order of the octets of the names. One account is read at a time.
-fn user_lines<S: Alter>(alloc: Global, store: &mut Store<S>) -> Result<Octets, Refusal>
-    ensures lists { FindsOver (λ text accounts. text ≡ user_listing (entries accounts)) (state S.Store store.old)
-        (state S.Store store.new) result }
-    ensures named { IfErr result IsTransient }
-{
-    let mut text = Octets::new(alloc);
-    let mut next = add_user(store, b"", &mut text)?;
-    'users: for _ in 0..u64::MAX {
-        let Some(name) = next else {
-            return Ok(text);
-        };
-        next = add_user(store, name.as_slice(), &mut text)?;
-    }
-    // No store has that many accounts.
-    Err(Refusal::Store)
-}
-
-/// Appends the line of the user with this name, if there is an account, and returns the name of the next user.
-fn add_user<S: Alter>(
-    store: &mut Store<S>,
-    name: &[u8],
-    text: &mut Octets,
-) -> Result<Option<Octets>, Refusal>
-    ensures adds { FindsOver (AddsUser name.now text.old text.new) (state S.Store store.old) (state S.Store store.new) result }
-    ensures named { IfErr result IsTransient }
-{
-    let found = store.account(name)?;
-    add_found(name, &found, text)?;
-    store.next_user(name)
+    run_for_all(alloc, asked.location, &StandingLine, output, keeper)
 }
 
 /// Appends the line of the account that was found, if there is one.

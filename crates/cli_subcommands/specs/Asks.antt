@@ -22,6 +22,10 @@ use Rattle.cli_subcommands.specs.declared.subcommand.passwd.PasswdArgs.{PasswdAr
 use Rattle.cli_subcommands.specs.declared.subcommand.address.AddressArgs.{AddressArgs}
 use Rattle.cli_subcommands.specs.declared.subcommand.scripts.ScriptsArgs.{ScriptsArgs}
 use Rattle.cli_subcommands.specs.declared.subcommand.put.PutArgs.{PutArgs}
+use Rattle.cli_subcommands.specs.declared.subcommand.activate.ActivateArgs.{ActivateArgs}
+use Rattle.cli_subcommands.specs.declared.subcommand.deactivate.DeactivateArgs.{DeactivateArgs}
+use Rattle.cli_subcommands.specs.declared.subcommand.delete.DeleteArgs.{DeleteArgs}
+use Rattle.cli_subcommands.specs.declared.subcommand.rename.RenameArgs.{RenameArgs}
 use Rattle.cli_subcommands.specs.declared.subcommand.remove.RemoveArgs.{RemoveArgs}
 use Rattle.cli_subcommands.specs.declared.subcommand.open.OpenArgs.{OpenArgs}
 use Rattle.cli_subcommands.specs.declared.subcommand.export.ExportArgs.{ExportArgs}
@@ -122,6 +126,26 @@ pub record IsPutArgs (line : RawArgs) (m : ArgMatches) (a : PutArgs) : Type 0 wh
   pub user : a.user.now ≡ arg_text m (codes "user")
   pub script : a.script.now ≡ arg_text m (codes "script")
 
+pub record IsActivateArgs (line : RawArgs) (m : ArgMatches) (a : ActivateArgs) : Type 0 where
+  pub location : IsLocation line m a.location
+  pub user : a.user.now ≡ arg_text m (codes "user")
+  pub script : a.script.now ≡ arg_text m (codes "script")
+
+pub record IsDeactivateArgs (line : RawArgs) (m : ArgMatches) (a : DeactivateArgs) : Type 0 where
+  pub location : IsLocation line m a.location
+  pub user : a.user.now ≡ arg_text m (codes "user")
+
+pub record IsDeleteArgs (line : RawArgs) (m : ArgMatches) (a : DeleteArgs) : Type 0 where
+  pub location : IsLocation line m a.location
+  pub user : a.user.now ≡ arg_text m (codes "user")
+  pub script : a.script.now ≡ arg_text m (codes "script")
+
+pub record IsRenameArgs (line : RawArgs) (m : ArgMatches) (a : RenameArgs) : Type 0 where
+  pub location : IsLocation line m a.location
+  pub user : a.user.now ≡ arg_text m (codes "user")
+  pub script : a.script.now ≡ arg_text m (codes "script")
+  pub new_name : a.new_name.now ≡ arg_text m (codes "newname")
+
 pub record IsRemoveArgs (line : RawArgs) (m : ArgMatches) (a : RemoveArgs) : Type 0 where
   pub location : IsLocation line m a.location
   pub mail : IsFlag m (codes "mail") a.mail
@@ -138,6 +162,7 @@ pub record IsExportArgs (line : RawArgs) (m : ArgMatches) (a : ExportArgs) : Typ
 
 pub record IsImportArgs (line : RawArgs) (m : ArgMatches) (a : ImportArgs) : Type 0 where
   pub location : IsLocation line m a.location
+  pub name : option_copied a.name ≡ arg_value m (codes "as")
 
 pub record IsDeliverArgs (line : RawArgs) (m : ArgMatches) (a : DeliverArgs) : Type 0 where
   pub location : IsLocation line m a.location
@@ -161,7 +186,8 @@ pub record IsShowArgs (line : RawArgs) (m : ArgMatches) (a : ShowArgs) : Type 0 
 
 pub record IsQueueArgs (line : RawArgs) (m : ArgMatches) (a : QueueArgs) : Type 0 where
   pub location : IsLocation line m a.location
-  pub user : a.user.now ≡ arg_text m (codes "user")
+  pub all : IsFlag m (codes "all") a.all
+  pub user : option_copied a.user ≡ arg_value m (codes "user")
   pub id : option_copied a.id ≡ arg_value m (codes "id")
 
 pub record IsDoneArgs (line : RawArgs) (m : ArgMatches) (a : DoneArgs) : Type 0 where
@@ -172,7 +198,8 @@ pub record IsDoneArgs (line : RawArgs) (m : ArgMatches) (a : DoneArgs) : Type 0 
 pub record IsNoticesArgs (line : RawArgs) (m : ArgMatches) (a : NoticesArgs) : Type 0 where
   pub location : IsLocation line m a.location
   pub until : option_copied a.until ≡ arg_value m (codes "until")
-  pub user : a.user.now ≡ arg_text m (codes "user")
+  pub all : IsFlag m (codes "all") a.all
+  pub user : option_copied a.user ≡ arg_value m (codes "user")
 
 pub record IsDrainArgs (line : RawArgs) (m : ArgMatches) (a : DrainArgs) : Type 0 where
   pub location : IsLocation line m a.location
@@ -202,6 +229,7 @@ pub record IsDaemonArgs (line : RawArgs) (m : ArgMatches) (a : DaemonArgs) : Typ
   pub lmtp : option_copied a.lmtp ≡ arg_value m (codes "lmtp")
   pub names : option_copied a.names ≡ arg_value m (codes "names")
   pub mail : option_copied a.mail ≡ arg_value m (codes "mail")
+  pub domain : option_copied a.domain ≡ arg_value m (codes "domain")
   pub separator : option_copied a.separator ≡ arg_value m (codes "separator")
   pub zone : option_copied a.zone ≡ arg_value m (codes "zone")
   pub host : option_copied a.host ≡ arg_value m (codes "host")
@@ -224,6 +252,10 @@ IsSubcommandFor line m word.Passwd (asked.Passwd a) = IsPasswdArgs line m a
 IsSubcommandFor line m word.Address (asked.Address a) = IsAddressArgs line m a
 IsSubcommandFor line m word.Scripts (asked.Scripts a) = IsScriptsArgs line m a
 IsSubcommandFor line m word.Put (asked.Put a) = IsPutArgs line m a
+IsSubcommandFor line m word.Activate (asked.Activate a) = IsActivateArgs line m a
+IsSubcommandFor line m word.Deactivate (asked.Deactivate a) = IsDeactivateArgs line m a
+IsSubcommandFor line m word.Delete (asked.Delete a) = IsDeleteArgs line m a
+IsSubcommandFor line m word.Rename (asked.Rename a) = IsRenameArgs line m a
 IsSubcommandFor line m word.Remove (asked.Remove a) = IsRemoveArgs line m a
 IsSubcommandFor line m word.Open (asked.Open a) = IsOpenArgs line m a
 IsSubcommandFor line m word.Export (asked.Export a) = IsExportArgs line m a

@@ -1,9 +1,9 @@
 //! The arguments of subcommands.
-ghost use Rattle.std.specs.Prelude.{◌≡◌};
+ghost use Rattle.std.specs.Prelude.{◌≡◌, IfOk};
 ghost use Rattle.cli_subcommands.specs.Ids.{argument_id};
 
 use clap::{Arg, ArgAction};
-use std::alloc::Global;
+use std::alloc::{AllocError, Global};
 
 /// An argument of a subcommand. One that a subcommand requires and another one may have is two of these.
 #[derive(Clone, Copy)]
@@ -22,6 +22,8 @@ pub enum CliArgument {
     Name,
     Address,
     User,
+    AnyUser,
+    AllUsers,
     Folder,
     Number,
     Id,
@@ -36,6 +38,7 @@ pub enum CliArgument {
     Lmtp,
     Names,
     Mail,
+    Domain,
     Host,
     Quiet,
     Check,
@@ -46,8 +49,10 @@ pub enum CliArgument {
     WithMail,
     Script,
     AnyScript,
+    NewName,
     Activate,
     AndClose,
+    AsName,
     Until,
     Memory,
     Clients,
@@ -71,8 +76,21 @@ enum Form {
 }
 
 impl CliArgument {
-    /// The argument for `clap`: `has_store` says whether the environment names the store, and so no argument has to.
-    pub fn arg(self, alloc: Global, has_store: bool) -> Arg<'static>
+    /// The argument for `clap`: `has_store` says whether the environment names the store, and so no argument has to. Lack of memory
+    /// is the only error.
+    pub fn arg(self, alloc: Global, has_store: bool) -> Result<Arg<'static>, AllocError>
+        ensures { IfOk result (λ arg. arg.id.now ≡ argument_id self) }
+    {
+        let arg = self.plain_arg(alloc, has_store);
+        match self {
+            CliArgument::AnyUser => arg.required_unless_present("all"),
+            CliArgument::AllUsers => arg.conflicts_with("user"),
+            _ => Ok(arg),
+        }
+    }
+
+    /// The same, without what it has to do with other arguments.
+    fn plain_arg(self, alloc: Global, has_store: bool) -> Arg<'static>
         ensures { result.id.now ≡ argument_id self }
     {
         let arg = Arg::new(alloc, self.name())
@@ -106,7 +124,8 @@ impl CliArgument {
             | CliArgument::SendEightBit
             | CliArgument::WithMail
             | CliArgument::Activate
-            | CliArgument::AndClose => Form::Flag,
+            | CliArgument::AndClose
+            | CliArgument::AllUsers => Form::Flag,
             CliArgument::Db
             | CliArgument::From
             | CliArgument::To
@@ -123,10 +142,12 @@ impl CliArgument {
             | CliArgument::Lmtp
             | CliArgument::Names
             | CliArgument::Mail
+            | CliArgument::Domain
             | CliArgument::Host
             | CliArgument::Smtp
             | CliArgument::HostName
             | CliArgument::MostRows
+            | CliArgument::AsName
             | CliArgument::Until
             | CliArgument::Memory
             | CliArgument::Clients
@@ -135,13 +156,15 @@ impl CliArgument {
             CliArgument::Name
             | CliArgument::Address
             | CliArgument::User
+            | CliArgument::AnyUser
             | CliArgument::Folder
             | CliArgument::Number
             | CliArgument::Id
             | CliArgument::AnyId
             | CliArgument::Maildir
             | CliArgument::Script
-            | CliArgument::AnyScript => Form::Operand,
+            | CliArgument::AnyScript
+            | CliArgument::NewName => Form::Operand,
             CliArgument::Files => Form::Operands,
         }
     }
@@ -163,7 +186,8 @@ impl CliArgument {
             CliArgument::Salt => "salt",
             CliArgument::Name => "name",
             CliArgument::Address => "address",
-            CliArgument::User => "user",
+            CliArgument::User | CliArgument::AnyUser => "user",
+            CliArgument::AllUsers => "all",
             CliArgument::Folder => "folder",
             CliArgument::Number => "number",
             CliArgument::Id | CliArgument::AnyId => "id",
@@ -176,6 +200,7 @@ impl CliArgument {
             CliArgument::Lmtp => "lmtp",
             CliArgument::Names => "names",
             CliArgument::Mail => "mail",
+            CliArgument::Domain => "domain",
             CliArgument::Host | CliArgument::HostName => "host",
             CliArgument::Quiet => "quiet",
             CliArgument::Check => "check",
@@ -183,8 +208,10 @@ impl CliArgument {
             CliArgument::SendEightBit => "send-8bit",
             CliArgument::WithMail => "mail",
             CliArgument::Script | CliArgument::AnyScript => "script",
+            CliArgument::NewName => "newname",
             CliArgument::Activate => "activate",
             CliArgument::AndClose => "and-close",
+            CliArgument::AsName => "as",
             CliArgument::Until => "until",
             CliArgument::Memory => "memory",
             CliArgument::Clients => "clients",
@@ -203,7 +230,8 @@ impl CliArgument {
             | CliArgument::SendEightBit
             | CliArgument::WithMail
             | CliArgument::Activate
-            | CliArgument::AndClose => "",
+            | CliArgument::AndClose
+            | CliArgument::AllUsers => "",
             CliArgument::Separator => ".|/",
             CliArgument::From | CliArgument::To | CliArgument::AnyTo => "A",
             CliArgument::At
@@ -224,12 +252,16 @@ impl CliArgument {
             | CliArgument::After
             | CliArgument::Files => "FILE",
             CliArgument::Script | CliArgument::AnyScript => "SCRIPT",
-            CliArgument::Name | CliArgument::Host | CliArgument::HostName => "NAME",
+            CliArgument::NewName => "NEWNAME",
+            CliArgument::Name | CliArgument::AsName | CliArgument::Host | CliArgument::HostName => {
+                "NAME"
+            }
             CliArgument::Lmtp => "P|PATH|-",
             CliArgument::Names => "local|whole",
             CliArgument::Mail => "DIR",
+            CliArgument::Domain => "DOMAIN",
             CliArgument::Address => "ADDRESS",
-            CliArgument::User => "USER",
+            CliArgument::User | CliArgument::AnyUser => "USER",
             CliArgument::Folder => "FOLDER",
             CliArgument::Id | CliArgument::AnyId => "ID",
             CliArgument::Maildir => "MAILDIR",
@@ -256,6 +288,8 @@ impl CliArgument {
             CliArgument::Name => "1 to 64 of letters, digits and . _ - @",
             CliArgument::Address => "The mail address, without a display name",
             CliArgument::User => "The account's name",
+            CliArgument::AnyUser => "The account's name, unless --all is given",
+            CliArgument::AllUsers => "Lists those of all users, in the order of their names",
             CliArgument::Folder => "The folder's name, as `folders` prints it",
             CliArgument::Number => "The message's number in the folder, from 1",
             CliArgument::Id => "The message's number, as `queue` prints it",
@@ -270,6 +304,7 @@ impl CliArgument {
             CliArgument::Lmtp => "The port or the path of a socket for LMTP; - for descriptor 0",
             CliArgument::Names => "What of an address names its account [default: local]",
             CliArgument::Mail => "Moves mail on into the users' Maildirs in this directory",
+            CliArgument::Domain => "Moves that of this domain's users alone [default: of all]",
             CliArgument::Host =>
                 "The name that clients of LMTP are greeted with [default: localhost]",
             CliArgument::Quiet =>
@@ -282,8 +317,10 @@ impl CliArgument {
             CliArgument::WithMail => "Removes its messages too",
             CliArgument::Script => "The script's name",
             CliArgument::AnyScript => "The name of the script that is printed",
+            CliArgument::NewName => "The name that it gets, which no script of the user has",
             CliArgument::Activate => "Makes it the active script",
             CliArgument::AndClose => "Closes the account once the text is written",
+            CliArgument::AsName => "The name that it gets [default: that in the text]",
             CliArgument::Until =>
                 "Takes the notices up to this second since 1970, once they are printed",
             CliArgument::Memory => "How much all connections may hold, in MiB [default: 64]",
@@ -317,6 +354,7 @@ impl CliArgument {
                 | CliArgument::Lmtp
                 | CliArgument::Names
                 | CliArgument::Mail
+                | CliArgument::Domain
                 | CliArgument::Host
                 | CliArgument::Quiet
                 | CliArgument::Check
@@ -326,8 +364,11 @@ impl CliArgument {
                 | CliArgument::Salt
                 | CliArgument::WithMail
                 | CliArgument::AnyScript
+                | CliArgument::AnyUser
+                | CliArgument::AllUsers
                 | CliArgument::Activate
                 | CliArgument::AndClose
+                | CliArgument::AsName
                 | CliArgument::Until
                 | CliArgument::Memory
                 | CliArgument::Clients

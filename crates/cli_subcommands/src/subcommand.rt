@@ -3,10 +3,13 @@ ghost use Rattle.std.specs.Prelude.{◌≡◌, IfSome, None};
 ghost use Rattle.cli_subcommands.specs.Asks.{IsSubcommandFor};
 ghost use Rattle.cli_subcommands.specs.Ids.{IsNoSubcommand, subcommand_name};
 
+pub mod activate;
 pub mod address;
 pub mod adduser;
 pub mod check;
 pub mod daemon;
+pub mod deactivate;
+pub mod delete;
 pub mod deliver;
 pub mod done;
 pub mod drain;
@@ -20,6 +23,7 @@ pub mod passwd;
 pub mod put;
 pub mod queue;
 pub mod remove;
+pub mod rename;
 pub mod scripts;
 pub mod send;
 pub mod serve;
@@ -29,10 +33,13 @@ pub mod try_script;
 pub mod users;
 
 use crate::given::Given;
+use crate::subcommand::activate::{ACTIVATE, ActivateArgs};
 use crate::subcommand::address::{ADDRESS, AddressArgs};
 use crate::subcommand::adduser::{ADDUSER, AddUserArgs};
 use crate::subcommand::check::{CHECK, CheckArgs};
 use crate::subcommand::daemon::{DAEMON, DaemonArgs};
+use crate::subcommand::deactivate::{DEACTIVATE, DeactivateArgs};
+use crate::subcommand::delete::{DELETE, DeleteArgs};
 use crate::subcommand::deliver::{DELIVER, DeliverArgs};
 use crate::subcommand::done::{DONE, DoneArgs};
 use crate::subcommand::drain::{DRAIN, DrainArgs};
@@ -46,6 +53,7 @@ use crate::subcommand::passwd::{PASSWD, PasswdArgs};
 use crate::subcommand::put::{PUT, PutArgs};
 use crate::subcommand::queue::{QUEUE, QueueArgs};
 use crate::subcommand::remove::{REMOVE, RemoveArgs};
+use crate::subcommand::rename::{RENAME, RenameArgs};
 use crate::subcommand::scripts::{SCRIPTS, ScriptsArgs};
 use crate::subcommand::send::{SEND, SendArgs};
 use crate::subcommand::serve::{SERVE, ServeArgs};
@@ -66,6 +74,10 @@ pub enum Subcommand<'a> {
     Address(AddressArgs<'a>),
     Scripts(ScriptsArgs<'a>),
     Put(PutArgs<'a>),
+    Activate(ActivateArgs<'a>),
+    Deactivate(DeactivateArgs<'a>),
+    Delete(DeleteArgs<'a>),
+    Rename(RenameArgs<'a>),
     Remove(RemoveArgs<'a>),
     Open(OpenArgs<'a>),
     Export(ExportArgs<'a>),
@@ -95,6 +107,10 @@ pub enum SubcommandName {
     Address,
     Scripts,
     Put,
+    Activate,
+    Deactivate,
+    Delete,
+    Rename,
     Remove,
     Open,
     Export,
@@ -115,7 +131,7 @@ pub enum SubcommandName {
 
 impl SubcommandName {
     /// All subcommands, in the order of the help.
-    pub const ALL: [SubcommandName; 24] = [
+    pub const ALL: [SubcommandName; 28] = [
         SubcommandName::Try,
         SubcommandName::Init,
         SubcommandName::AddUser,
@@ -124,6 +140,10 @@ impl SubcommandName {
         SubcommandName::Address,
         SubcommandName::Scripts,
         SubcommandName::Put,
+        SubcommandName::Activate,
+        SubcommandName::Deactivate,
+        SubcommandName::Delete,
+        SubcommandName::Rename,
         SubcommandName::Remove,
         SubcommandName::Open,
         SubcommandName::Export,
@@ -174,6 +194,10 @@ impl SubcommandName {
             SubcommandName::Address => &ADDRESS,
             SubcommandName::Scripts => &SCRIPTS,
             SubcommandName::Put => &PUT,
+            SubcommandName::Activate => &ACTIVATE,
+            SubcommandName::Deactivate => &DEACTIVATE,
+            SubcommandName::Delete => &DELETE,
+            SubcommandName::Rename => &RENAME,
             SubcommandName::Remove => &REMOVE,
             SubcommandName::Open => &OPEN,
             SubcommandName::Export => &EXPORT,
@@ -206,6 +230,10 @@ impl SubcommandName {
             SubcommandName::Address => Subcommand::Address(AddressArgs::read(given)),
             SubcommandName::Scripts => Subcommand::Scripts(ScriptsArgs::read(given)),
             SubcommandName::Put => Subcommand::Put(PutArgs::read(given)),
+            SubcommandName::Activate => Subcommand::Activate(ActivateArgs::read(given)),
+            SubcommandName::Deactivate => Subcommand::Deactivate(DeactivateArgs::read(given)),
+            SubcommandName::Delete => Subcommand::Delete(DeleteArgs::read(given)),
+            SubcommandName::Rename => Subcommand::Rename(RenameArgs::read(given)),
             SubcommandName::Remove => Subcommand::Remove(RemoveArgs::read(given)),
             SubcommandName::Open => Subcommand::Open(OpenArgs::read(given)),
             SubcommandName::Export => Subcommand::Export(ExportArgs::read(given)),

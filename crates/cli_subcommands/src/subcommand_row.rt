@@ -25,7 +25,7 @@ impl SubcommandRow {
             .about(self.about)
             .after_help(self.more);
         for argument in self.arguments {
-            command = command.arg(argument.arg(alloc, has_store))?;
+            command = command.arg(argument.arg(alloc, has_store)?)?;
         }
         Ok(command)
     }

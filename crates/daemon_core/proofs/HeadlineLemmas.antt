@@ -26,6 +26,7 @@ use Rattle.net_loop.specs.Talk.{client_of}
 use Rattle.daemon_core.specs.Acts.{SessionLine, no_line, LeadsBy, LacksThen, LeadsIn, ActLeads, LeadsOn, opened_by, events_by, events_at, events_in, AnswersBy, AnswersAt, AnswersIn, moment_after, tell_line, line_after_acts, IsRight, AreRight}
 use Rattle.daemon_core.specs.DaemonRules.{lmtp, client_state_at}
 use Rattle.daemon_core.specs.StoreAccess.{View, IsWorld}
+use Rattle.daemon_core.specs.Together.{events_told, answers_told}
 use Rattle.daemon_core.specs.Headline.{world_of, HoldsAfter, Headline, IsNewDaemon}
 use Rattle.daemon_core.specs.Holding.{firm_client, firm_connection, firm_at, IsBounded}
 use Rattle.daemon_core.specs.MailActs.{MailLine, LmtpTells, TellsOn}
@@ -34,7 +35,7 @@ use Rattle.daemon_core.specs.ClientStates.{client_at}
 use Rattle.daemon_core.specs.Moves.{LetAt, MovedAt, takes_by, answers_by, takes_of, answers_of}
 use Rattle.daemon_core.specs.declared.mail.MailDaemon.{MailDaemon}
 use Rattle.daemon_core.specs.declared.note.Note.{Note}
-use Rattle.daemon_core.specs.declared.note.Note.TheVariants.{Did, Away, Freed, Spoke, Answered, Asked, Looked, Moved}
+use Rattle.daemon_core.specs.declared.note.Note.TheVariants.{Did, Away, Freed, Spoke, Answered, Asked, Looked, Moved, Gathered, Delivered, Parted, PutOff}
 use Rattle.daemon_core.proofs.EventLemmas.{runs_then, runs_one, none_open}
 use Rattle.daemon_core.proofs.HoldingLemmas.{grown, bounded_then}
 use Rattle.daemon_core.proofs.LeadLemmas.{Led, leads}
@@ -76,6 +77,11 @@ runs_by w v Answered led = ([], led, refl)
 runs_by w v (Asked others user lookup) led = (led.told, led.theirs, tt)
 runs_by w v (Looked wanted) led = ([], led, refl)
 runs_by w v (Moved others moving) led = runs_moved w v others moving led
+runs_by w v Gathered led = ([], led, refl)
+runs_by w v (Delivered others told) led =
+    (led.told ++ answers_told told, runs_then others (events_told told) led.told (answers_told told) w led.between v led.theirs led.ours, (led.told, refl))
+runs_by w v (Parted others events) led = (led.told, led.theirs, tt)
+runs_by w v (PutOff ids) led = ([], led, refl)
 
 runs_opened : (b : Bool) (w v : World) (id : ℕ) (more : List (Act Note)) → LeadsIn b w id more v → (told : List Answer) × Runs w (opened_by b id) told v
 runs_opened true w v id more led = ([], led)

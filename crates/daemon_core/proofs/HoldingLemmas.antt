@@ -34,22 +34,25 @@ use Rattle.net_loop.proofs.TalkLemmas.{one_number}
 use Rattle.daemon_core.specs.Acts.{LeadsBy, LeadsIn, ActLeads}
 use Rattle.daemon_core.specs.Bounds.{unread_of, held, bound, own}
 use Rattle.daemon_core.specs.DaemonRules.{lmtp, client_state_at}
-use Rattle.daemon_core.specs.LmtpSteps.{IsLmtpStep}
+use Rattle.daemon_core.specs.LmtpSteps.{IsLmtpStep, AreToldDeliveries, steps_of}
 use Rattle.daemon_core.specs.StoreAccess.{View, IsWorld}
+use Rattle.daemon_core.specs.Together.{events_told, answers_told}
 use Rattle.daemon_core.specs.Holding.{firm_by, firm_client, firm_connection, firm_at, IsBounded}
-use Rattle.daemon_core.specs.MailRules.{mail_rules, lmtp_connection_at, wants_by, HasOctetRoom, KeepsText, FitsAs, OpensBy, LmtpClientGives, SessionGives, GivesBy, LmtpClientGoes, SessionGoes, GoesBy, DaemonWorks, LacksBy}
+use Rattle.daemon_core.specs.MailRules.{mail_rules, lmtp_connection_at, is_gathered, wants_by, HasOctetRoom, KeepsText, FitsAs, OpensBy, LmtpClientGives, SessionGives, GivesBy, LmtpClientGoes, SessionGoes, GoesBy, DaemonWorks, StoresGathered, DeliversGathered, LacksBy}
 use Rattle.daemon_core.specs.Moves.{MovedAt}
 use Rattle.daemon_core.specs.ClientStates.{client_at, session_want_by, want_of, is_out, new_client_state, state_given, state_behind, fit_behind}
 use Rattle.daemon_core.specs.Waiting.{Allows, IsDue}
 use Rattle.daemon_core.specs.declared.daemon.Daemon.{Daemon}
 use Rattle.daemon_core.specs.declared.mail.MailDaemon.{MailDaemon}
 use Rattle.daemon_core.specs.declared.note.Note.{Note}
-use Rattle.daemon_core.specs.declared.note.Note.TheVariants.{Did, Away, Freed, Spoke, Answered, Asked, Looked, Moved}
+use Rattle.daemon_core.specs.declared.note.ToldDelivery.{ToldDelivery}
+use Rattle.daemon_core.specs.declared.note.Note.TheVariants.{Did, Away, Freed, Spoke, Answered, Asked, Looked, Moved, Gathered, Delivered, Parted, PutOff}
 use Rattle.daemon_core.specs.declared.client_state.Fit.{Fit}
 use Rattle.daemon_core.specs.declared.client_state.Fit.TheVariants as fit
 use Rattle.daemon_core.specs.declared.client_state.ClientState.{ClientState}
 use Rattle.daemon_core.specs.declared.client_state.SessionWait.{SessionWait as Waiting}
 use Rattle.daemon_core.specs.declared.client_state.SessionWait.TheVariants as waits
+use Rattle.daemon_core.proofs.EachLemmas.{less_stepped}
 use Rattle.daemon_core.proofs.LineLemmas.{Touches, touch_same, touch_connection, due_at}
 use Rattle.daemon_core.proofs.SumLemmas.{sums_less, sums_one, full_client, full_connection, full_at, full_sum}
 use Rattle.daemon_core.proofs.TurnLemmas.{wanted_at}
@@ -57,9 +60,19 @@ use Rattle.daemon_core.proofs.UnreadLemmas.{gained, Grows, none_grows, event_gro
 
 -- ---- what an act makes of the octets that are unread
 
+abbrev gained_all : List ToldDelivery → ℕ → ℕ
+gained_all [] k = 0
+gained_all (it ∷ more) k = gained it.event k + gained_all more k
+
+-- with deliveries none comes
+deliveries_gain : (told : List ToldDelivery) → AreToldDeliveries told → (k : ℕ) → gained_all told k ≡ 0
+deliveries_gain [] are k = refl
+deliveries_gain (it ∷ more) are k = omega (arith, ap (λ (x : Event). gained x k) are.0.2, deliveries_gain more are.1 k)
+
 abbrev pub gained_by : Note → ℕ → ℕ
 gained_by (Did others event answer) k = gained event k
 gained_by (Freed event answer) k = gained event k
+gained_by (Delivered others told) k = gained_all told k
 gained_by note k = 0
 
 abbrev gain_of : Act Note → ℕ → ℕ
@@ -89,6 +102,10 @@ moved_grows w v others moving.Passed led = none_grows w.sessions v.sessions (λ 
 moved_grows w v others (moving.Failed refusal) led = none_grows w.sessions v.sessions (λ k. 0) led.apart
 moved_grows w v others (moving.Stays stay) led = none_grows w.sessions v.sessions (λ k. 0) led.apart
 
+told_grow : (told : List ToldDelivery) (w v : World) → Runs w (events_told told) (answers_told told) v → Grows w.sessions v.sessions (gained_all told)
+told_grow [] w v run = still_grows w v (λ k. 0) run
+told_grow (it ∷ more) w v run = λ k. omega (arith, event_grows w run.0 it.event it.answer run.1 k, told_grow more run.0 v run.2 k)
+
 note_grows : (w v : World) (note : Note) → LeadsBy w note v → Grows w.sessions v.sessions (gained_by note)
 note_grows w v (Did others event answer) led = before_is w.sessions led.between.sessions v.sessions (gained event) led.apart (event_grows led.between v event answer led.ours)
 note_grows w v (Freed event answer) led = event_grows (record w { accounts = w.accounts }) (record v { accounts = w.accounts }) event answer (led.1 w.accounts)
@@ -98,6 +115,10 @@ note_grows w v Answered led = still_grows w v (λ k. 0) led
 note_grows w v (Asked others user lookup) led = none_grows w.sessions v.sessions (λ k. 0) led.apart
 note_grows w v (Looked wanted) led = still_grows w v (λ k. 0) led
 note_grows w v (Moved others moving) led = moved_grows w v others moving led
+note_grows w v Gathered led = still_grows w v (λ k. 0) led
+note_grows w v (Delivered others told) led = before_is w.sessions led.between.sessions v.sessions (gained_all told) led.apart (told_grow told led.between v led.ours)
+note_grows w v (Parted others events) led = none_grows w.sessions v.sessions (λ k. 0) led.apart
+note_grows w v (PutOff ids) led = still_grows w v (λ k. 0) led
 
 came_grows : (b : Bool) (w v : World) (id : ℕ) (more : List (Act Note)) → LeadsIn b w id more v → Grows w.sessions v.sessions (λ k. 0)
 came_grows true w v id more led = still_grows w v (λ k. 0) led
@@ -200,6 +221,10 @@ behind_less whether Answered a = told_less whether a
 behind_less whether (Asked others user lookup) a = omega arith
 behind_less whether (Looked wanted) a = omega arith
 behind_less whether (Moved others moving) a = omega arith
+behind_less whether Gathered a = omega arith
+behind_less whether (Delivered others told) a = omega arith
+behind_less whether (Parted others events) a = omega arith
+behind_less whether (PutOff ids) a = omega arith
 
 client_less : (o p : Option ClientState) (x y : Option Session) → p ≡ o → unread_of y ≤ unread_of x → firm_client p y ≤ firm_client o x
 client_less o p x y is less = subst (λ (t : Option ClientState). firm_client t y ≤ firm_client o x) (sym is) (by o)
@@ -284,6 +309,10 @@ step_gains (Freed event answer) lmtp_step is k = absurd is
 step_gains Spoke lmtp_step is k = absurd is
 step_gains (Looked wanted) lmtp_step is k = absurd is
 step_gains (Moved others moving) lmtp_step is k = absurd is
+step_gains Gathered lmtp_step is k = refl
+step_gains (Delivered others told) lmtp_step is k = absurd is
+step_gains (Parted others events) lmtp_step is k = absurd is
+step_gains (PutOff ids) lmtp_step is k = absurd is
 
 freed_gains : (now : ℕ) (w : Waiting) (id : ℕ) (event : Event) (answer : Answer) → Allows now w id (Freed event answer) → (k : ℕ) → gained event k ≡ 0
 freed_gains now w id (Open n) answer is k = refl
@@ -298,6 +327,13 @@ freed_gains now w id (TakeOut user row) answer is k = refl
 freed_gains now w id (TakeMail user folder) answer is k = refl
 freed_gains now w id (DoUpkeep user upkeep) answer is k = refl
 
+-- a client of ManageSieve delivers nothing
+never_delivered : (now : ℕ) (w : Waiting) (id : ℕ) (others : List Event) (told : List ToldDelivery) → Allows now w id (Delivered others told) → ⊥
+never_delivered now waits.Nothing id others told is = is
+never_delivered now (waits.Store since again) id others told is = is
+never_delivered now waits.Refused id others told is = is
+never_delivered now (waits.Reply until text) id others told is = is
+
 allowed_gains : (now : ℕ) (w : Waiting) (id : ℕ) (note : Note) → Allows now w id note → (k : ℕ) → gained_by note k ≡ 0
 allowed_gains now w id (Did others event answer) is k = ap (λ (x : Event). gained x k) is.1
 allowed_gains now w id (Freed event answer) is k = freed_gains now w id event answer is k
@@ -307,6 +343,10 @@ allowed_gains now w id Answered is k = refl
 allowed_gains now w id (Asked others user lookup) is k = refl
 allowed_gains now w id (Looked wanted) is k = refl
 allowed_gains now w id (Moved others moving) is k = refl
+allowed_gains now w id Gathered is k = refl
+allowed_gains now w id (Delivered others told) is k = absurd (never_delivered now w id others told is)
+allowed_gains now w id (Parted others events) is k = refl
+allowed_gains now w id (PutOff ids) is k = refl
 
 module _ {R : Type 0} (view : View R) (d e : MailDaemon) (r q : R) (s u : Service) where
   abbrev pub Kept_on : Type 0
@@ -408,14 +448,14 @@ module _ {R : Type 0} (view : View R) (d e : MailDaemon) (r q : R) (s u : Servic
   heard n count piece said (inr lacks) tasks short more = lost n lacks.0 (few n (length piece) more)
   heard n count piece said (inl went) tasks short more = by went.0
     where
-      wanted : wants_by (lmtp_connection_at d n) (want_of (client_state_at d.daemon n) (client_at d.daemon.clients.sessions n)) ≡ want.More
+      wanted : wants_by (is_gathered d n) (lmtp_connection_at d n) (want_of (client_state_at d.daemon n) (client_at d.daemon.clients.sessions n)) ≡ want.More
       wanted = hear_wanted (mail_rules view) d s.moment count n (client_of s n) tasks.task
 
       by : GivesBy d s.moment n piece said e → Kept_on
       by (inl g) = connection_given n piece said g g.fits.room
       by (inr g) =
           let its : want_of (client_state_at d.daemon n) (client_at d.daemon.clients.sessions n) ≡ want.More =
-          subst (λ o. wants_by o (want_of (client_state_at d.daemon n) (client_at d.daemon.clients.sessions n)) ≡ want.More) g.other wanted in
+          subst (λ o. wants_by (is_gathered d n) o (want_of (client_state_at d.daemon n) (client_at d.daemon.clients.sessions n)) ≡ want.More) g.other wanted in
           session_given n piece said g more short
           (state_wanted g.gives.before (client_at d.daemon.clients.sessions n) (subst (λ o. want_of o (client_at d.daemon.clients.sessions n) ≡ want.More) g.gives.was its)) g.whether refl g.fits
 
@@ -431,8 +471,8 @@ module _ {R : Type 0} (view : View R) (d e : MailDaemon) (r q : R) (s u : Servic
   session_goes : (n : ℕ) (note : Note) (said : List ℕ) → SessionGoes view d r s.moment n note said e q → StepsTurn (mail_rules view) d s n u.turn → Grown d e (gained_by note) → Kept_on
   session_goes n note said g on more =
       let wants : Want = want_of (client_state_at d.daemon n) (client_at d.daemon.clients.sessions n) in
-      let wanted : task_wanted s.moment (wants_by (lmtp_connection_at d n) wants) ≡ Step = wanted_at (mail_rules view) d s.moment on.count n (client_of s n) on.wanted.task in
-      let its : task_wanted s.moment wants ≡ Step = subst (λ o. task_wanted s.moment (wants_by o wants) ≡ Step) g.other wanted in
+      let wanted : task_wanted s.moment (wants_by (is_gathered d n) (lmtp_connection_at d n) wants) ≡ Step = wanted_at (mail_rules view) d s.moment on.count n (client_of s n) on.wanted.task in
+      let its : task_wanted s.moment wants ≡ Step = subst (λ o. task_wanted s.moment (wants_by (is_gathered d n) o wants) ≡ Step) g.other wanted in
       let due : IsDue s.moment g.goes.before.waits =
       due_at s.moment g.goes.before (client_at d.daemon.clients.sessions n) (subst (λ o. task_wanted s.moment (want_of o (client_at d.daemon.clients.sessions n)) ≡ Step) g.goes.was its) in
       let still : (k : ℕ) → unread_of (client_at e.daemon.clients.sessions k) ≤ unread_of (client_at d.daemon.clients.sessions k) =
@@ -462,9 +502,26 @@ module _ {R : Type 0} (view : View R) (d e : MailDaemon) (r q : R) (s u : Servic
   work_gains (Asked others user lookup) work k = refl
   work_gains (Looked wanted) work k = refl
   work_gains (Moved others moving) work k = refl
+  work_gains Gathered work k = refl
+  work_gains (Delivered others told) work k = absurd work.does.works
+  work_gains (Parted others events) work k = refl
+  work_gains (PutOff ids) work k = refl
 
-  rested : (note : Note) → DaemonWorks view d r s.moment note e q → Grown d e (gained_by note) → Kept_on
-  rested note work more =
+  -- messages of several clients were delivered
+  gathered_gain : (note : Note) → StoresGathered view r d.daemon.clients.sessions note q e.daemon.clients.sessions → (k : ℕ) → gained_by note k ≡ 0
+  gathered_gain (Delivered others told) stores k = deliveries_gain told stores.0 k
+  gathered_gain (Parted others events) stores k = refl
+  gathered_gain (PutOff ids) stores k = refl
+  gathered_gain _ stores k = absurd stores
+
+  rested : (note : Note) → DaemonWorks view d r s.moment note e q ⊎ DeliversGathered view d r s.moment note e q → Grown d e (gained_by note) → Kept_on
+  rested note (inr work) more =
+      bounded_same d e work.host.memory (λ k. omega (
+        arith,
+        client_less (client_state_at d.daemon k) (client_state_at e.daemon k) (client_at d.daemon.clients.sessions k) (client_at e.daemon.clients.sessions k) (ap (λ states. tree.get nat_cmp states k) work.states) (omega (arith, more k, gathered_gain note work.stores k)),
+        less_stepped s.moment (steps_of note) (lmtp_connection_at d) (lmtp_connection_at e) k work.each,
+      ))
+  rested note (inl work) more =
       bounded_same d e work.same.host.memory (λ k. omega (
         arith,
         client_less (client_state_at d.daemon k) (client_state_at e.daemon k) (client_at d.daemon.clients.sessions k) (client_at e.daemon.clients.sessions k) (ap (λ states. tree.get nat_cmp states k) work.does.states) (omega (arith, more k, work_gains note work k)),

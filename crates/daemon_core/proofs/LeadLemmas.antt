@@ -33,8 +33,8 @@ use Rattle.daemon_core.specs.Acts.{LeadsBy, LeadsIn, ActLeads, LacksThen, IsMade
 use Rattle.daemon_core.specs.DaemonRules.{lmtp, client_state_at, Happened, Made, NoteMakes, WorksBy}
 use Rattle.daemon_core.specs.LmtpSteps.{IsLmtpStep, StepStores}
 use Rattle.daemon_core.specs.StoreAccess.{View, DoneAt, IsWorld, ComesTo, IsEventDone, NothingDone, ViewStillShows}
-use Rattle.daemon_core.specs.MailRules.{mail_rules, lmtp_connection_at, OpensBy, GivesBy, GoesBy, LacksBy}
-use Rattle.daemon_core.specs.Moves.{MovedAt, TriedAt}
+use Rattle.daemon_core.specs.MailRules.{mail_rules, lmtp_connection_at, OpensBy, GivesBy, GoesBy, DaemonWorks, StoresGathered, DeliversGathered, LacksBy}
+use Rattle.daemon_core.specs.Moves.{LetAt, MovedAt, TriedAt}
 use Rattle.daemon_core.specs.ClientStates.{client_at, has_login}
 use Rattle.daemon_core.specs.Eviction.{is_flooded}
 use Rattle.daemon_core.specs.Tried.{AreRefusals, TriesBy, TriesAt}
@@ -42,7 +42,7 @@ use Rattle.daemon_core.proofs.RoomLemmas.{no_user_goes}
 use Rattle.daemon_core.specs.declared.daemon.Daemon.{Daemon}
 use Rattle.daemon_core.specs.declared.mail.MailDaemon.{MailDaemon}
 use Rattle.daemon_core.specs.declared.note.Note.{Note}
-use Rattle.daemon_core.specs.declared.note.Note.TheVariants.{Did, Away, Freed, Spoke, Answered, Asked, Looked, Moved}
+use Rattle.daemon_core.specs.declared.note.Note.TheVariants.{Did, Away, Freed, Spoke, Answered, Asked, Looked, Moved, Gathered, Delivered, Parted, PutOff}
 use Rattle.daemon_core.proofs.EventLemmas.{clients_one, open_refused, give_refused, give_unheard}
 
 unauthenticated_of : (o : Option Client) → has_login o ≡ false → IfSome o (λ c. c.user ≡ None)
@@ -159,6 +159,10 @@ module _ {R : Type 0} (view : View R) (d e : MailDaemon) (r q : R) where
   noted (Asked others user lookup) w is makes = absurd makes
   noted (Looked wanted) w is makes = absurd makes
   noted (Moved others moving) w is makes = absurd makes
+  noted Gathered w is makes = absurd makes
+  noted (Delivered others told) w is makes = absurd makes
+  noted (Parted others events) w is makes = absurd makes
+  noted (PutOff ids) w is makes = absurd makes
 
   -- what is done for a client of LMTP
   did : (note : Note) (lmtp_step : LmtpStep) (w : World) → IsWorld view r d.daemon.clients.sessions w → IsLmtpStep note lmtp_step → StepStores view r d.daemon.clients.sessions note q e.daemon.clients.sessions → LedBy w note
@@ -170,6 +174,10 @@ module _ {R : Type 0} (view : View R) (d e : MailDaemon) (r q : R) where
   did Spoke lmtp_step w is told stores = absurd told
   did (Looked wanted) lmtp_step w is told stores = absurd told
   did (Moved others moving) lmtp_step w is told stores = absurd told
+  did Gathered lmtp_step w is told stores = (w, refl, nothing w is stores)
+  did (Delivered others its) lmtp_step w is told stores = absurd told
+  did (Parted others events) lmtp_step w is told stores = absurd told
+  did (PutOff ids) lmtp_step w is told stores = absurd told
 
   goes : (now id : ℕ) (note : Note) (said : List ℕ) (w : World) → IsWorld view r d.daemon.clients.sessions w → GoesBy view d r now id note said e q → LedBy w note
   goes now id note said w is (inl g) = did note g.does.lmtp_step w is g.does.is g.does.stores
@@ -189,6 +197,26 @@ module _ {R : Type 0} (view : View R) (d e : MailDaemon) (r q : R) where
   worked now Spoke w is works = absurd works
   worked now Answered w is works = absurd works
   worked now (Asked others user lookup) w is works = absurd works
+  worked now Gathered w is works = absurd works
+  worked now (Delivered others told) w is works = absurd works
+  worked now (Parted others events) w is works = absurd works
+  worked now (PutOff ids) w is works = absurd works
+
+  -- messages of several clients were delivered, or all refused
+  parted_tried : (others events : List Event) (w v : World) → LetAt others w v → (trees : Trees) → ShowsMade events v trees → TriedBy w (Parted others events) v trees
+  parted_tried others events w v let_at trees made = (events, v, (refl, let_at, refl), made)
+
+  delivered : (note : Note) (w : World) → IsWorld view r d.daemon.clients.sessions w → StoresGathered view r d.daemon.clients.sessions note q e.daemon.clients.sessions → LedBy w note
+  delivered (Delivered others told) w is stores = let it = stores.1 w is in (it.0, it.1, record { is = it.2.is; left = untried _ w.accounts it.0.accounts it.2.left })
+  delivered (Parted others events) w is stores =
+      let it = stores w is in
+      (it.0, it.1, record { is = it.2.is; left = left_weaker (view.leaves r) (view.leaves q) w.accounts it.0.accounts (ShowsMade events it.0) (TriedBy w (Parted others events) it.0) (parted_tried others events w it.0 it.1) it.2.left })
+  delivered (PutOff ids) w is stores = (w, refl, nothing w is stores)
+  delivered _ w is stores = absurd stores
+
+  works : (now : ℕ) (note : Note) (w : World) → IsWorld view r d.daemon.clients.sessions w → DaemonWorks view d r now note e q ⊎ DeliversGathered view d r now note e q → LedBy w note
+  works now note w is (inl work) = worked now note w is work.does.works
+  works now note w is (inr work) = delivered note w is work.stores
 
   -- who makes room isn't logged in
   unauthenticated_goes : (s : Service) (kind id : ℕ) → makes_room (mail_rules view) d s kind ≡ Some id → (w : World) → IsWorld view r d.daemon.clients.sessions w → IsUnauthenticated w id
@@ -242,7 +270,7 @@ module _ {R : Type 0} (view : View R) (d e : MailDaemon) (r q : R) where
     leads (Heard id piece) said w turns left is = heard id piece said turns.count w is left turns.goes
     leads (Ended id) said w turns left is = happened (TriedHere w (Ended id)) (Close id) w is turns.0.closes.event left
     leads (Noted id note) said w turns left is = goes s.moment id note said w is turns.0
-    leads (Worked note) said w turns left is = worked s.moment note w is turns.0.does.works
+    leads (Worked note) said w turns left is = works s.moment note w is turns.0
     leads (Late id) said w turns left is = (w, refl, same w is (late id said turns.2) left)
     leads (Displaced id) said w turns left is = (w, (refl, unauthenticated_goes s turns.0.0 id turns.0.2 w is), same w is (late id said turns.1) left)
     leads (Listened kind) said w turns left is = (w, refl, same w is (kept turns.0.0) left)

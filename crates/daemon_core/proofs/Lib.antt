@@ -19,3 +19,8 @@ pub mod TriedLemmas
 pub mod TurnLemmas
 pub mod UnreadLemmas
 pub mod WordLemmas
+pub mod EachLemmas
+pub mod BatchLemmas
+pub mod DeliveriesLemmas
+pub mod ParcelLemmas
+mod TogetherExamples

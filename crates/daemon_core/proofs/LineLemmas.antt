@@ -17,7 +17,9 @@ use Rattle.net_loop.proofs.TalkLemmas.{one_number}
 use Rattle.daemon_core.specs.Acts.{SessionLine, new_line, line_came, moment_after, line_noted, idled, tell_line, IsRight}
 use Rattle.daemon_core.specs.StoreAccess.{View}
 use Rattle.daemon_core.specs.DaemonRules.{lmtp, client_state_at}
-use Rattle.daemon_core.specs.MailRules.{mail_rules, lmtp_connection_at, wants_by, OpensBy, GivesBy, GoesBy, SessionGoes, DaemonWorks, LacksBy}
+use Rattle.daemon_core.specs.LmtpSteps.{steps_of}
+use Rattle.daemon_core.proofs.EachLemmas.{none_stepped}
+use Rattle.daemon_core.specs.MailRules.{mail_rules, lmtp_connection_at, is_gathered, wants_by, OpensBy, GivesBy, GoesBy, SessionGoes, DaemonWorks, DeliversGathered, LacksBy}
 use Rattle.daemon_core.specs.ClientStates.{client_at, want_of, session_want_by, state_given, state_behind, new_client_state}
 use Rattle.daemon_core.specs.Waiting.{Allows, IsDue, waits_behind}
 use Rattle.daemon_core.specs.declared.daemon.Daemon.{Daemon}
@@ -199,8 +201,12 @@ module _ {R : Type 0} (view : View R) (d e : MailDaemon) (r q : R) (s u : Servic
     lacked n (inr (inl t)) = subst (λ k. Tied e id k) (same_line (is_same_id n id) l) (gone n t.0 l l tied)
     lacked n (inr (inr t)) = still t.0
 
-    rested : (note : Note) → DaemonWorks view d r s.moment note e q → Tied e id l
-    rested note work =
+    rested : (note : Note) → DaemonWorks view d r s.moment note e q ⊎ DeliversGathered view d r s.moment note e q → Tied e id l
+    rested note (inr delivers) = record {
+      none = none_stepped s.moment (steps_of note) (lmtp_connection_at d) (lmtp_connection_at e) id delivers.each tied.none;
+      waits = λ it at. tied.waits it (sym (ap (λ states. tree.get nat_cmp states id) delivers.states) ∙ at);
+    }
+    rested note (inl work) =
         let connection : lmtp_connection_at e id ≡ lmtp_connection_at d id = ap (λ lmtp_connections. lmtp_connection_at (record d { lmtp_connections = lmtp_connections }) id) work.same.lmtp_connections in
         let state : client_state_at e.daemon id ≡ client_state_at d.daemon id = ap (λ states. tree.get nat_cmp states id) work.does.states in
         record { none = connection ∙ tied.none; waits = λ it at. tied.waits it (sym state ∙ at) }
@@ -237,8 +243,8 @@ module _ {R : Type 0} (view : View R) (d e : MailDaemon) (r q : R) (s u : Servic
     session_allowed : (n : ℕ) (note : Note) (said : List ℕ) → is_same_id n id ≡ true → SessionGoes view d r s.moment n note said e q → StepsTurn (mail_rules view) d s n u.turn → Allows s.moment l.waits id note
     session_allowed n note said is g on =
         let wants : Want = want_of (client_state_at d.daemon n) (client_at d.daemon.clients.sessions n) in
-        let wanted : task_wanted s.moment (wants_by (lmtp_connection_at d n) wants) ≡ Step = wanted_at (mail_rules view) d s.moment on.count n (client_of s n) on.wanted.task in
-        let own : task_wanted s.moment wants ≡ Step = subst (λ o. task_wanted s.moment (wants_by o wants) ≡ Step) g.other wanted in
+        let wanted : task_wanted s.moment (wants_by (is_gathered d n) (lmtp_connection_at d n) wants) ≡ Step = wanted_at (mail_rules view) d s.moment on.count n (client_of s n) on.wanted.task in
+        let own : task_wanted s.moment wants ≡ Step = subst (λ o. task_wanted s.moment (wants_by (is_gathered d n) o wants) ≡ Step) g.other wanted in
         let due : IsDue s.moment g.goes.before.waits =
         due_at s.moment g.goes.before (client_at d.daemon.clients.sessions n) (subst (λ o. task_wanted s.moment (want_of o (client_at d.daemon.clients.sessions n)) ≡ Step) g.goes.was own) in
         subst (λ w. Allows s.moment w id note) (ours n g.goes.before g.goes.was is) (subst (λ k. Allows s.moment g.goes.before.waits k note) (one_number n id is) (g.goes.allows due))

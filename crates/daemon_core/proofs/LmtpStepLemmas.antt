@@ -1,11 +1,11 @@
 -- One step of a client of LMTP, put together from what is told and known.
-use Rattle.std.proofs.Common.{◌≡◌, ◌≤◌, ℕ, Bool, true, false, List, Some, None, IsTrue, inl, inr, refl, sym, ◌∙◌, ap, subst, arith}
+use Rattle.std.proofs.Common.{◌≡◌, ◌≤◌, ℕ, Bool, true, false, List, [], Some, None, IsTrue, inl, inr, refl, sym, ◌∙◌, ap, subst, arith}
 use Rattle.lmtp_dialogue.specs.Receivers.{held_by}
 use Rattle.lmtp_dialogue.specs.declared.receiver.Lookup.{Lookup}
 use Rattle.store_engine.specs.declared.answer.Answer.{Answer}
 use Rattle.store_engine.specs.declared.clients.Clients.{Clients}
-use Rattle.lmtp_connections.specs.Connections.{LmtpStep, Answered, Declined, Asked, Away, Brought}
-use Rattle.lmtp_connections.specs.Stands.{ConnectionKeeps, ConnectionDoes, Demands, AsksIt, ConnectionHoldsNoMore}
+use Rattle.lmtp_connections.specs.Connections.{LmtpStep, Answered, Declined, Asked, Away, Gathered, Brought}
+use Rattle.lmtp_connections.specs.Stands.{ConnectionKeeps, ConnectionDoes, Demands, AsksIt, IsRequested, ConnectionHoldsNoMore}
 use Rattle.lmtp_dialogue.specs.declared.recipient_reply.RecipientReply.{RecipientReply}
 use Rattle.lmtp_connections.specs.declared.demand.Demand.TheVariants as demand
 use Rattle.lmtp_connections.specs.declared.demand.DeliveryRequest.{DeliveryRequest}
@@ -38,8 +38,13 @@ less_then before mid after one two = omega (arith, one, two)
 pub asks_account : (now : ℕ) (c : LmtpConnection) (question : Question) → Demands now c (demand.Account question) → AsksIt now c
 asks_account now c question asked = λ p stands. let a = asked p stands in (a.0, inl (question.address, question.user, a.1.0, a.1.1))
 
-pub asks_delivery : (now : ℕ) (c : LmtpConnection) (request : DeliveryRequest) → Demands now c (demand.Delivery request) → AsksIt now c
-asks_delivery now c request asked = λ p stands. let a = asked p stands in (a.0, inr (a.1.0, a.1.1, a.1.2, a.1.3, request, a.1.4))
+pub asks_delivery : (now : ℕ) (c : LmtpConnection) (request : DeliveryRequest) → IsRequested now c request → AsksIt now c
+asks_delivery now c request asked = λ p stands.
+    let a = asked p stands in (a.0, inr (a.1.0, a.1.1, a.1.2, request.sender, a.1.3, record { is = a.1.4.is; new = a.1.4.new }))
+
+-- its message is gathered, and it stays as it is
+pub gathers : (now : ℕ) (c : LmtpConnection) → Demands now c demand.Delivery → ConnectionDoes now Gathered [] c c
+gathers now c asked = λ p stands. let a = asked p stands in (p, (a.0, a.1, refl, refl), stands)
 
 -- only a MAIL that is refused is so for lack of room
 abbrev is_declined : LmtpStep → Bool
@@ -80,6 +85,13 @@ module _ {O R : Type 0} (told : Telling O Note R) (store : StoreFacts O R) (sure
       states = refl;
       holding = refl;
     },
+  )
+
+  pub gathered : ConnectionDoes now Gathered said before after → TellsIf told o (Noted id note.Gathered) p → StillShowsIf told store.view o p → One d
+  gathered does noted still = λ tell. (
+    note.Gathered,
+    noted tell,
+    record { lmtp_step = Gathered; is = refl; does = does; spare = λ size. other_step room size Gathered refl; held = less; stores = record { shown = still tell; kept = λ clients has. has }; states = refl; holding = refl },
   )
 
   pub asked : (user : List ℕ) (lookup : Lookup) → FindsAccount told store id user (access_state o d.clients.sessions) (Some lookup) (access_state p c.sessions) → ConnectionDoes now (Asked user lookup) said before after

@@ -17,9 +17,14 @@ use Rattle.net_loop.specs.Talk.{is_same_id, client_of, client_kind, ClientTalks}
 use Rattle.net_loop.specs.Turns.{TurnAllows, HeardOrLacking as Went, Lacks, Parting, ServiceOpens as Enters}
 use Rattle.net_loop.proofs.TalkLemmas.{one_number}
 use Rattle.daemon_core.specs.StoreAccess.{View}
-use Rattle.daemon_core.specs.DaemonRules.{lmtp, client_state_at}
-use Rattle.daemon_core.specs.MailActs.{MailLine, new_mail, mail_came, says_more, sent_more, IsLmtpNoted, Its, TellsOf, LmtpTells}
-use Rattle.daemon_core.specs.MailRules.{mail_rules, lmtp_connection_at, OpensBy, GivesBy, GoesBy, SameHost, IsFarewell, SaysLast, DaemonWorks, LacksBy}
+use Rattle.store_engine.specs.Hosts.{SessionMap}
+use Rattle.daemon_core.specs.DaemonRules.{lmtp, client_state_at, WorksBy}
+use Rattle.daemon_core.specs.LmtpSteps.{steps_of}
+use Rattle.daemon_core.specs.declared.daemon.Holding.{Holding}
+use Rattle.daemon_core.specs.declared.note.Note.TheVariants.{Looked, Moved, Away}
+use Rattle.daemon_core.proofs.EachLemmas.{line_stepped}
+use Rattle.daemon_core.specs.MailActs.{MailLine, new_mail, mail_came, says_more, sent_more, IsLmtpNoted, Its, TellsEach, TellsOf, LmtpTells}
+use Rattle.daemon_core.specs.MailRules.{mail_rules, lmtp_connection_at, OpensBy, GivesBy, GoesBy, SameHost, IsFarewell, SaysLast, DaemonWorks, DeliversGathered, LacksBy}
 use Rattle.daemon_core.specs.declared.daemon.Daemon.{Daemon}
 use Rattle.daemon_core.specs.declared.mail.MailDaemon.{MailDaemon}
 use Rattle.daemon_core.specs.declared.note.Note.{Note}
@@ -77,12 +82,16 @@ module _ {R : Type 0} (view : View R) (names : Names) (host : List ℕ) (d e : M
   lacked_so n (inr (inl t)) = lacks_so n t.0
   lacked_so n (inr (inr t)) = left_so t.0
 
+  works_so : (note : Note) → DaemonWorks view d r s.moment note e q ⊎ DeliversGathered view d r s.moment note e q → IsSetUp names host e
+  works_so note (inl w) = set_up names host d e is w.same.host
+  works_so note (inr w) = set_up names host d e is w.host
+
   pub stays_set_up : (act : Act Note) (said : List ℕ) → TurnAllows (mail_rules view) d r s act said e q u → IsSetUp names host e
   stays_set_up (Came n kind) said t = came_so n kind said t.3
   stays_set_up (Heard n piece) said t = heard_so n t.count piece said t.goes
   stays_set_up (Ended n) said t = set_up names host d e is t.0.host
   stays_set_up (Noted n note) said t = goes_so n note said t.0
-  stays_set_up (Worked note) said t = set_up names host d e is t.0.same.host
+  stays_set_up (Worked note) said t = works_so note t.0
   stays_set_up (Late n) said t = parts_so n said t.2
   stays_set_up (Displaced n) said t = parts_so n said t.1
   stays_set_up (Full n) said t = lacked_so n t.1
@@ -149,6 +158,16 @@ idle_some is = cc
 
 abbrev pub words_of : MailLine → Words
 words_of l = record { spelled = l.spelled; sent = l.sent }
+
+same_words : (l k : MailLine) → k.spelled ≡ l.spelled → k.sent ≡ l.sent → words_of l ≡ words_of k
+same_words l k spelled sent = ap (λ x. record { spelled = x; sent = l.sent }) (sym spelled) ∙ ap (λ x. record { spelled = k.spelled; sent = x }) (sym sent)
+
+-- work for all clients steps none of them
+no_steps : {R : Type 0} (view : View R) (d : Daemon) (r q : R) (now : ℕ) (note : Note) (after : SessionMap) (h : Holding) → WorksBy view d r now note after h q → steps_of note ≡ []
+no_steps view d r q now (Looked wanted) after h works = refl
+no_steps view d r q now (Moved others moving) after h works = refl
+no_steps view d r q now Away after h works = refl
+no_steps view d r q now _ after h works = absurd works
 
 abbrev pub FitsBy : ℕ → Option MailLine → Option Client → Turn → Type 0
 FitsBy id None o turn = Unit {0}
@@ -258,6 +277,18 @@ module _ {R : Type 0} (view : View R) (names : Names) (host : List ℕ) (d e : M
         let state : client_state_at e.daemon id ≡ client_state_at d.daemon id = ap (λ states. tree.get nat_cmp states id) work.does.states in
         record { none = state ∙ bound.none; stands = λ c at. bound.stands c (sym connection ∙ at) }
 
+    -- the daemon's own work tells steps of some clients, in one act
+    worked_then : (note : Note) → DaemonWorks view d r s.moment note e q ⊎ DeliversGathered view d r s.moment note e q → Fits id (words_of l) (client_of u id) u.turn
+        → (k : MailLine) × TellsEach id s.moment l (steps_of note) k × Bound e id k.connection × Fits id (words_of k) (client_of u id) u.turn
+    worked_then note (inl work) fits = (l, subst (λ steps. TellsEach id s.moment l steps l) (sym (no_steps view d.daemon r q s.moment note e.daemon.clients.sessions e.daemon.holding work.does.works)) refl, rested note work, fits)
+    worked_then note (inr work) fits =
+        let line = line_stepped s.moment (steps_of note) (lmtp_connection_at d) (lmtp_connection_at e) id l work.each bound.stands in (
+          line.line,
+          line.tells,
+          record { none = ap (λ states. tree.get nat_cmp states id) work.states ∙ bound.none; stands = line.stands },
+          subst (λ (w : Words). Fits id w (client_of u id) u.turn) (same_words l line.line line.spelled line.sent) fits,
+        )
+
     ended : (n : ℕ) → Touches d n None None e → Bound e id l.connection
     ended n t = touched_still n None None t l.connection (λ is. none_kept l.connection) bound
 
@@ -300,7 +331,7 @@ module _ {R : Type 0} (view : View R) (names : Names) (host : List ℕ) (d e : M
     mail_then (Sent n octets) said other t fits = sent_then (is_same_id n id) octets (still t.0.0) fits
     mail_then (Ended n) said other t fits = (l, refl, ended n (record { lmtp_connections = t.0.lmtp_connections; states = t.0.closes.state.states }), fits)
     mail_then (Full n) said other t fits = (l, refl, lacked n t.1, fits)
-    mail_then (Worked note) said other t fits = (l, refl, rested note t.0, fits)
+    mail_then (Worked note) said other t fits = worked_then note t.0 fits
     mail_then (Listened kind) said other t fits = (l, refl, still t.0.0, fits)
     mail_then (Woke within wakes) said other t fits = (l, refl, still t.0.0, fits)
     mail_then (Timed moment) said other t fits = (l, refl, still t.0.0, fits)

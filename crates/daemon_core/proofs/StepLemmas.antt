@@ -5,7 +5,7 @@ use Rattle.store_engine.proofs.HostLemmas.{clients_are}
 use Rattle.store_engine.specs.World.{if_open}
 use Rattle.managesieve_sessions.specs.Steps.{may_fail}
 use Rattle.store_engine.specs.declared.answer.Answer.{Answer}
-use Rattle.store_engine.specs.declared.answer.Answer.TheVariants.{Out, Delivered, Added, Imported, Taken, MailTaken, Changed, Stored, Invalid, Closed, Opened, Removed, NoticesTaken, Ignored, Refused}
+use Rattle.store_engine.specs.declared.answer.Answer.TheVariants.{Out, Delivered, Added, Imported, Taken, MailTaken, Changed, Stored, Invalid, Edited, Objected, Closed, Opened, Removed, NoticesTaken, Ignored, Refused}
 use Rattle.store_engine.specs.declared.clients.Clients.{Clients as CodeClients}
 use Rattle.store_engine.specs.declared.event.Event.{Event}
 use Rattle.store_engine.specs.declared.event.Event.TheVariants.{Step, GiveUp}
@@ -20,7 +20,7 @@ use Rattle.daemon_core.specs.Waiting.{Allows, SessionMayAsk, MayGiveUp, said_at_
 use Rattle.daemon_core.specs.declared.daemon.Daemon.{Daemon}
 use Rattle.daemon_core.specs.declared.daemon.Holding.{Holding}
 use Rattle.daemon_core.specs.declared.note.Note.{Note}
-use Rattle.daemon_core.specs.declared.note.Note.TheVariants.{Did, Away, Freed, Spoke, Answered, Asked, Looked, Moved}
+use Rattle.daemon_core.specs.declared.note.Note.TheVariants.{Did, Away, Freed, Spoke, Answered, Asked, Looked, Moved, Gathered, Delivered, Parted, PutOff}
 use Rattle.daemon_core.specs.declared.client_state.Fit.TheVariants as fit
 use Rattle.daemon_core.specs.declared.client_state.ClientState.{ClientState}
 use Rattle.daemon_core.specs.declared.client_state.SessionWait.{SessionWait}
@@ -39,6 +39,8 @@ made_out MailTaken is = tt
 made_out Changed is = tt
 made_out Stored is = tt
 made_out (Invalid fault) is = tt
+made_out Edited is = tt
+made_out (Objected objection) is = tt
 made_out Closed is = tt
 made_out Opened is = tt
 made_out Removed is = tt
@@ -136,6 +138,10 @@ module _ {O R : Type 0} (told : Telling O Note R) (store : StoreFacts O R) (sure
   kept_makes (Asked others user lookup) keeps makes = makes
   kept_makes (Looked wanted) keeps makes = makes
   kept_makes (Moved others moving) keeps makes = makes
+  kept_makes Gathered keeps makes = makes
+  kept_makes (Delivered others told) keeps makes = makes
+  kept_makes (Parted others events) keeps makes = makes
+  kept_makes (PutOff ids) keeps makes = makes
 
   kept_asks : (note : Note) → KeepsClients d.clients.sessions c.sessions → NoteAsksFor id note c.sessions → NoteAsksFor id note d.clients.sessions
   kept_asks (Did others event answer) keeps asks = asks_before id d.clients.sessions c.sessions keeps asks
@@ -146,6 +152,10 @@ module _ {O R : Type 0} (told : Telling O Note R) (store : StoreFacts O R) (sure
   kept_asks (Asked others user lookup) keeps asks = tt
   kept_asks (Looked wanted) keeps asks = tt
   kept_asks (Moved others moving) keeps asks = tt
+  kept_asks Gathered keeps asks = tt
+  kept_asks (Delivered others told) keeps asks = tt
+  kept_asks (Parted others events) keeps asks = tt
+  kept_asks (PutOff ids) keeps asks = tt
 
   pub behind : KeepsClients d.clients.sessions c.sessions → StepsIf told (daemon_rules store.view) (machine_state o (mid_of d c d.holding)) (step_at now id said) (machine_state p e) → StepsIf told (daemon_rules store.view) (machine_state o d) (step_at now id said) (machine_state p e)
   behind keeps steps tell =

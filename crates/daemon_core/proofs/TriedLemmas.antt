@@ -16,7 +16,7 @@ use Rattle.daemon_core.specs.DaemonRules.{lmtp}
 use Rattle.daemon_core.specs.Moves.{answers_by, takes_by}
 use Rattle.daemon_core.specs.Tried.{AreRefusals, RefusedAt, AllRefusedAt, TriesBy, TriesAt, TriedIn, LeavesTried, IsLeftByCrash}
 use Rattle.daemon_core.specs.declared.note.Note.{Note}
-use Rattle.daemon_core.specs.declared.note.Note.TheVariants.{Did, Away, Freed, Spoke, Answered, Asked, Looked, Moved}
+use Rattle.daemon_core.specs.declared.note.Note.TheVariants.{Did, Away, Freed, Spoke, Answered, Asked, Looked, Moved, Gathered, Delivered, Parted, PutOff}
 use Rattle.daemon_core.proofs.LeadLemmas.{TriedHere}
 
 -- ---- an act leads as it does where fewer follow it
@@ -110,6 +110,10 @@ tries_stays w Spoke next tried met tries = absurd tries
 tries_stays w Answered next tried met tries = absurd tries
 tries_stays w (Asked others user lookup) next tried met tries = absurd tries
 tries_stays w (Looked wanted) next tried met tries = absurd tries
+tries_stays w Gathered next tried met tries = absurd tries
+tries_stays w (Delivered others told) next tried met tries = absurd tries
+tries_stays w (Parted others events) next tried met tries = ap (λ (x : World). x.accounts) (sym tries.2)
+tries_stays w (PutOff ids) next tried met tries = absurd tries
 
 act_stays : (w : World) (act : Act Note) (next : World) (events : List Event) (met : World) → TriesAt w act next events met → next.accounts ≡ met.accounts
 act_stays w (Noted id note) next events met tries = tries_stays w note next events met tries

@@ -11,12 +11,13 @@ use Rattle.net_loop.specs.Talk.{is_same_id}
 use Rattle.net_loop.specs.declared.act.Act.{Act}
 use Rattle.net_loop.specs.declared.act.Act.TheVariants.{Timed, Late, Displaced, Worked, Came, Heard, Sent, Noted, Full, Ended}
 use Rattle.daemon_core.specs.DaemonRules.{lmtp}
-use Rattle.daemon_core.specs.StoreAccess.{DoneAt, FindsAt}
-use Rattle.daemon_core.specs.Moves.{MovedAt, takes_of, answers_of}
+use Rattle.daemon_core.specs.StoreAccess.{DoneAt, AllDoneAt, FindsAt}
+use Rattle.daemon_core.specs.Moves.{LetAt, MovedAt, takes_of, answers_of}
+use Rattle.daemon_core.specs.Together.{events_told, answers_told}
 use Rattle.daemon_core.specs.ClientStates.{is_out}
 use Rattle.daemon_core.specs.Waiting.{Allows, waits_behind, said_with, session_greeting, idle}
 use Rattle.daemon_core.specs.declared.note.Note.{Note}
-use Rattle.daemon_core.specs.declared.note.Note.TheVariants.{Did, Freed, Asked, Moved}
+use Rattle.daemon_core.specs.declared.note.Note.TheVariants.{Did, Freed, Asked, Moved, Delivered, Parted}
 use Rattle.daemon_core.specs.declared.client_state.SessionWait.{SessionWait}
 use Rattle.daemon_core.specs.declared.client_state.SessionWait.TheVariants as waits
 
@@ -29,6 +30,8 @@ LeadsBy w (Freed event answer) v =
     (v.accounts ≡ w.accounts) × ((accounts : Accounts) → Next (record w { accounts = accounts }) event answer (record v { accounts = accounts }))
 LeadsBy w (Asked others user lookup) v = FindsAt others user lookup w v
 LeadsBy w (Moved others moving) v = MovedAt others moving w v
+LeadsBy w (Delivered others told) v = AllDoneAt others (events_told told) (answers_told told) w v
+LeadsBy w (Parted others events) v = LetAt others w v
 LeadsBy w _ v = v ≡ w
 
 -- nobody is logged in there
@@ -80,6 +83,8 @@ events_by (Did others event answer) = others ++ event ∷ []
 events_by (Freed event answer) = event ∷ []
 events_by (Asked others user lookup) = others
 events_by (Moved others moving) = others ++ takes_of moving
+events_by (Delivered others told) = others ++ events_told told
+events_by (Parted others events) = others
 events_by _ = []
 
 abbrev pub opened_by : Bool → ℕ → List Event
@@ -104,6 +109,8 @@ AnswersBy (Did others event answer) told = (before : List Answer) × (told ≡ b
 AnswersBy (Freed event answer) told = told ≡ answer ∷ []
 AnswersBy (Asked others user lookup) told = Unit {0}
 AnswersBy (Moved others moving) told = (before : List Answer) × (told ≡ before ++ answers_of moving)
+AnswersBy (Delivered others its) told = (before : List Answer) × (told ≡ before ++ answers_told its)
+AnswersBy (Parted others events) told = Unit {0}
 AnswersBy _ told = told ≡ []
 
 abbrev pub AnswersAt : Act Note → List Answer → Type 0

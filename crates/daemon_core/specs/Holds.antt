@@ -1,5 +1,5 @@
 -- Whether the store is held, when it is given back, and when a message moves on.
-use Rattle.std.specs.Prelude.{ℕ, ◌+◌, ◌==◌, ◌&&◌, ◌||◌, not, nat_le, nat_lt, Bool, true, false, Option, Some, None, if◌then◌else◌}
+use Rattle.std.specs.Prelude.{ℕ, ◌+◌, ◌==◌, ◌&&◌, ◌||◌, min, not, nat_le, nat_lt, Bool, true, false, Option, Some, None, if◌then◌else◌}
 use Rattle.net_loop.specs.Talk.{after_span}
 use Rattle.maildir_moves.specs.declared.moving.MovePause.{MovePause}
 use Rattle.daemon_core.specs.declared.daemon.Holding.{Holding}
@@ -13,6 +13,13 @@ counted_events events = if nat_lt events 10 then events + 1 else 10
 -- after an event that asked the store it is held, it is looked at once whether somebody waits for it, and it is looked for mail
 abbrev pub asked_at : ℕ → Holding → Holding
 asked_at now h = record { is_held = true; look = now; asked = now; moves = h.moves; next = now; soon = h.soon; events = counted_events h.events }
+
+-- the same after so many at once
+abbrev pub counted_by : ℕ → ℕ → ℕ
+counted_by count events = min (events + count) 10
+
+abbrev pub asked_by : ℕ → ℕ → Holding → Holding
+asked_by count now h = record (asked_at now h) { events = counted_by count h.events }
 
 abbrev pub holding_behind : ℕ → Note → Holding → Holding
 holding_behind now (Did others event answer) h = asked_at now h

@@ -14,3 +14,6 @@ pub mod ClientStates
 pub mod Eviction
 pub mod Tried
 pub mod Waiting
+pub mod Batches
+pub mod Deliveries
+pub mod Together

@@ -1,5 +1,5 @@
 -- What notes tell of a client of LMTP.
-use Rattle.std.specs.Prelude.{◌≡◌, ◌⊎◌, ℕ, ◌-◌, ◌==◌, if◌then◌else◌, List, [], ◌∷◌, ◌++◌, length, take, Bool, true, false, IsTrue}
+use Rattle.std.specs.Prelude.{◌≡◌, ◌⊎◌, ℕ, ◌-◌, ◌==◌, if◌then◌else◌, List, [], ◌∷◌, ◌++◌, length, map, take, Bool, true, false, cond, Option, Some, IsTrue}
 use Rattle.std.specs.List.{flat_map}
 use Rattle.lmtp_dialogue.specs.declared.reply.LmtpReply.{LmtpReply}
 use Rattle.lmtp_dialogue.specs.declared.reply.LmtpReply.TheVariants.{NoSuchUser, AccountClosed, MessageTooLarge, BadSender, BadRecipient, NoRoom, LocalFault}
@@ -9,20 +9,23 @@ use Rattle.store_engine.specs.Hosts.{SessionMap}
 use Rattle.store_engine.specs.Limits.{is_envelope_address}
 use Rattle.store_engine.specs.declared.answer.Answer.{Answer}
 use Rattle.store_engine.specs.declared.answer.Answer.TheVariants as answer
-use Rattle.lmtp_connections.specs.Connections.{LmtpStep, Answered, Declined, Asked, Away, Brought}
+use Rattle.store_engine.specs.declared.event.Event.{Event}
+use Rattle.lmtp_connections.specs.Connections.{LmtpStep, Answered, Declined, Asked, Away, Gathered, Brought}
 use Rattle.lmtp_dialogue.specs.declared.recipient_reply.RecipientReply.{RecipientReply}
 use Rattle.lmtp_dialogue.specs.declared.recipient_reply.RecipientReply.TheVariants.{Delivered, Refused}
 use Rattle.lmtp_connections.specs.declared.demand.DeliveryRequest.{DeliveryRequest}
-use Rattle.lmtp_connections.specs.Stands.{ConnectionDoes, ConnectionHoldsNoMore}
+use Rattle.lmtp_connections.specs.Stands.{ConnectionDoes, ConnectionHoldsNoMore, IsRequested}
 use Rattle.lmtp_connections.specs.declared.connection.LmtpConnection.{LmtpConnection}
 use Rattle.cli_reports.specs.Reports.{delivery_report}
 use Rattle.net_loop.specs.Rules.{OneStep}
+use Rattle.net_loop.specs.Talk.{is_same_id}
 use Rattle.net_loop.specs.Told.{Telling}
 use Rattle.net_loop.specs.declared.act.Act.TheVariants.{Noted}
 use Rattle.daemon_core.specs.Holds.{holding_behind}
 use Rattle.daemon_core.specs.StoreAccess.{View, IsEventDone, IsAccountAsked, NothingDone, delivery_of}
 use Rattle.daemon_core.specs.declared.daemon.Daemon.{Daemon}
 use Rattle.daemon_core.specs.declared.note.Note.{Note}
+use Rattle.daemon_core.specs.declared.note.ToldDelivery.{ToldDelivery}
 use Rattle.store_engine.specs.declared.terms.Terms.{Terms}
 use Rattle.daemon_core.specs.declared.note.Note.TheVariants as note
 
@@ -58,6 +61,7 @@ abbrev pub IsLmtpStep : Note → LmtpStep → Type 0
 IsLmtpStep note.Answered lmtp_step = (lmtp_step ≡ Answered) ⊎ ((size : ℕ) × (lmtp_step ≡ Declined size))
 IsLmtpStep (note.Asked others user lookup) lmtp_step = lmtp_step ≡ Asked user lookup
 IsLmtpStep note.Away lmtp_step = lmtp_step ≡ Away
+IsLmtpStep note.Gathered lmtp_step = lmtp_step ≡ Gathered
 IsLmtpStep (note.Did others event told) lmtp_step =
     (request : DeliveryRequest) × (terms : Terms) × (became : RecipientReply) × (event ≡ delivery_of request terms) × IsDeliveryReply request.sender told became × (lmtp_step ≡ Brought request became)
 IsLmtpStep other lmtp_step = ⊥
@@ -67,6 +71,61 @@ abbrev pub StepStores : {R : Type 0} → View R → R → SessionMap → Note �
 StepStores view r before (note.Did others event told) q after = IsEventDone view others event told r before q after
 StepStores view r before (note.Asked others user lookup) q after = IsAccountAsked view others user lookup r before q after
 StepStores view r before other q after = NothingDone view r before q after
+
+-- ---- steps of several clients in one act
+
+-- of which connection what is noted, if the note tells of several
+abbrev pub note_of : ToldDelivery → ℕ × Note
+note_of it = (it.id, note.Did [] it.event it.answer)
+
+abbrev pub steps_of : Note → List (ℕ × Note)
+steps_of (note.Delivered others told) = map note_of told
+steps_of (note.PutOff ids) = map (λ id. (id, note.Away)) ids
+steps_of other = []
+
+-- what is known of each connection of a client of LMTP, by its number
+abbrev pub Connections : Type 0
+Connections = ℕ → Option LmtpConnection
+
+-- a note tells a step for one of them, with which nothing is said; nothing of another one changes
+pub record StepsOne (now id : ℕ) (note : Note) (before after : Connections) : Type 0 where
+  pub connection : LmtpConnection
+  pub was : before id ≡ Some connection
+  pub later : LmtpConnection
+  pub lmtp_step : LmtpStep
+  pub is : IsLmtpStep note lmtp_step
+  pub does : ConnectionDoes now lmtp_step [] connection later
+  pub held : ConnectionHoldsNoMore connection later
+  pub changes : (other : ℕ) → after other ≡ cond (is_same_id id other) (Some later) (before other)
+
+-- one after the other
+abbrev pub StepsEach : ℕ → List (ℕ × Note) → Connections → Connections → Type 0
+StepsEach now [] before after = (other : ℕ) → after other ≡ before other
+StepsEach now (it ∷ more) before after = (mid : Connections) × StepsOne now it.0 it.1 before mid × StepsEach now more mid after
+
+-- each is the delivery of a message
+abbrev pub AreToldDeliveries : List ToldDelivery → Type 0
+AreToldDeliveries [] = Unit {0}
+AreToldDeliveries (it ∷ more) = ((request : DeliveryRequest) × (terms : Terms) × (it.event ≡ delivery_of request terms)) × AreToldDeliveries more
+
+-- it is the delivery of the message that the store is given next for one of the connections
+pub record IsMessageAsked (now : ℕ) (at : Connections) (event : Event) : Type 0 where
+  pub id : ℕ
+  pub connection : LmtpConnection
+  pub there : at id ≡ Some connection
+  pub request : DeliveryRequest
+  pub requested : IsRequested now connection request
+  pub terms : Terms
+  pub is : event ≡ delivery_of request terms
+
+abbrev pub AreMessagesAsked : ℕ → Connections → List Event → Type 0
+AreMessagesAsked now at [] = Unit {0}
+AreMessagesAsked now at (event ∷ more) = IsMessageAsked now at event × AreMessagesAsked now at more
+
+-- what is only tried is such, if the note tells of it
+abbrev pub TriesAsked : ℕ → Connections → Note → Type 0
+TriesAsked now at (note.Parted others events) = AreMessagesAsked now at events
+TriesAsked now at other = Unit {0}
 
 -- ---- one step of a client of LMTP, apart from others
 

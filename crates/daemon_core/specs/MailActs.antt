@@ -6,10 +6,10 @@ use Rattle.lmtp_dialogue.specs.declared.reply.LmtpReply.TheVariants.{Idle}
 use Rattle.lmtp_connections.specs.Connections.{LmtpState, new_lmtp_state, lmtp_state_heard, LmtpStep, LmtpGoes}
 use Rattle.net_loop.specs.Talk.{is_same_id}
 use Rattle.net_loop.specs.declared.act.Act.{Act}
-use Rattle.net_loop.specs.declared.act.Act.TheVariants.{Late, Displaced, Came, Heard, Sent, Noted}
+use Rattle.net_loop.specs.declared.act.Act.TheVariants.{Late, Displaced, Worked, Came, Heard, Sent, Noted}
 use Rattle.daemon_core.specs.Acts.{moment_after}
 use Rattle.daemon_core.specs.DaemonRules.{lmtp}
-use Rattle.daemon_core.specs.LmtpSteps.{IsLmtpStep}
+use Rattle.daemon_core.specs.LmtpSteps.{IsLmtpStep, steps_of}
 use Rattle.daemon_core.specs.declared.note.Note.{Note}
 
 -- its state, what its acts spell, and what was sent on it
@@ -46,6 +46,11 @@ abbrev pub Its : Bool → Type 0 → Type 0 → Type 0
 Its true is other = is
 Its false is other = other
 
+-- notes of several connections tell it those of its own, one after the other
+abbrev pub TellsEach : ℕ → ℕ → MailLine → List (ℕ × Note) → MailLine → Type 0
+TellsEach id now l [] k = k ≡ l
+TellsEach id now l (it ∷ more) k = (mid : MailLine) × Its (is_same_id it.0 id) (IsLmtpNoted now l it.1 mid) (mid ≡ l) × TellsEach id now mid more k
+
 -- what an act tells of it, at a moment; others' acts nothing
 abbrev pub TellsOf : ℕ → ℕ → MailLine → Act Note → MailLine → Type 0
 TellsOf id now l (Heard n piece) k = Its (is_same_id n id) (k ≡ record l { connection = lmtp_state_heard now piece l.connection }) (k ≡ l)
@@ -53,6 +58,7 @@ TellsOf id now l (Noted n note) k = Its (is_same_id n id) (IsLmtpNoted now l not
 TellsOf id now l (Late n) k = Its (is_same_id n id) (k ≡ says_more (lmtp_line_of Idle) l) (k ≡ l)
 TellsOf id now l (Displaced n) k = Its (is_same_id n id) (k ≡ says_more (lmtp_line_of Idle) l) (k ≡ l)
 TellsOf id now l (Sent n octets) k = Its (is_same_id n id) (k ≡ sent_more octets l) (k ≡ l)
+TellsOf id now l (Worked note) k = TellsEach id now l (steps_of note) k
 TellsOf id now l act k = k ≡ l
 
 abbrev pub TellsBy : ℕ → ℕ → Option MailLine → Act Note → Option MailLine → Type 0

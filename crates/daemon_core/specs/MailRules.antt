@@ -1,5 +1,5 @@
 -- What the daemon makes of what happens, with clients of LMTP beside those of ManageSieve.
-use Rattle.std.specs.Prelude.{◌≡◌, ◌⊎◌, ℕ, ◌+◌, ◌<◌, ◌≤◌, ◌==◌, length, Bool, true, false, cond, if◌then◌else◌, List, [], ◌∷◌, Option, Some, None}
+use Rattle.std.specs.Prelude.{◌≡◌, ◌⊎◌, ℕ, ◌+◌, ◌<◌, ◌≤◌, ◌==◌, ◌||◌, nat_lt, length, Bool, true, false, cond, if◌then◌else◌, List, [], ◌∷◌, Option, Some, None, is_some}
 use Rattle.std.specs.Ordering.{nat_cmp}
 use Rattle.std.specs.BTreeMap as tree
 use Rattle.lmtp_dialogue.specs.Receivers.{IsDropped, held_by}
@@ -11,21 +11,25 @@ use Rattle.lmtp_connections.specs.Progress.{wanted, due}
 use Rattle.lmtp_connections.specs.declared.connection.LmtpConnection.{LmtpConnection}
 use Rattle.lmtp_connections.specs.declared.progress.Wanted.{Wanted}
 use Rattle.lmtp_connections.specs.declared.progress.Wanted.TheVariants as wanted
+use Rattle.store_engine.specs.Hosts.{SessionMap}
 use Rattle.net_loop.specs.Rules.{Rules}
 use Rattle.net_loop.specs.Talk.{is_same_id}
 use Rattle.net_loop.specs.declared.machine.Want.{Want}
 use Rattle.net_loop.specs.declared.machine.Want.TheVariants as want
 use Rattle.daemon_core.specs.Bounds.{held, bound, own, octet_room, FitsClient, PassesBound}
 use Rattle.daemon_core.specs.DaemonRules.{lmtp, managesieve, client_state_at, least, patience_of, DaemonOpens, DaemonGives, DaemonGoes, DoesWork, LacksFor, DaemonCloses, Forgets}
-use Rattle.daemon_core.specs.LmtpSteps.{DoesOne}
-use Rattle.daemon_core.specs.StoreAccess.{View}
-use Rattle.daemon_core.specs.Holds.{has_work}
-use Rattle.daemon_core.specs.ClientStates.{client_at, want_of, due_of}
+use Rattle.daemon_core.specs.LmtpSteps.{DoesOne, AreToldDeliveries, StepsEach, TriesAsked, steps_of}
+use Rattle.daemon_core.specs.StoreAccess.{View, NothingDone}
+use Rattle.daemon_core.specs.Together.{AreEventsDone, AreEventsTried, events_told, answers_told}
+use Rattle.daemon_core.specs.Holds.{asked_by, has_work}
+use Rattle.daemon_core.specs.ClientStates.{client_at, want_of, due_of, never}
+use Rattle.daemon_core.specs.declared.daemon.Holding.{Holding}
 use Rattle.daemon_core.specs.Eviction.{is_flooded, claim_by_kind}
 use Rattle.daemon_core.specs.Waiting.{idle}
 use Rattle.daemon_core.specs.declared.mail.MailDaemon.{MailDaemon}
 use Rattle.daemon_core.specs.declared.mail.Places.{Places}
 use Rattle.daemon_core.specs.declared.note.Note.{Note}
+use Rattle.daemon_core.specs.declared.note.Note.TheVariants as note
 use Rattle.daemon_core.specs.declared.client_state.Fit.{Fit}
 use Rattle.daemon_core.specs.declared.client_state.Fit.TheVariants as fit
 use Rattle.daemon_core.specs.declared.client_state.ClientState.{ClientState}
@@ -61,9 +65,22 @@ want_for wanted.Step = want.Step
 want_for (wanted.Until moment) = want.Until moment
 want_for wanted.Done = want.Done
 
-abbrev pub wants_by : Option LmtpConnection → Want → Want
-wants_by None other = other
-wants_by (Some connection) other = want_for (wanted connection.comes connection.progress)
+-- its message is to be delivered with those of others
+abbrev pub is_gathered : MailDaemon → ℕ → Bool
+is_gathered d id = is_some (tree.get nat_cmp d.gathered.ids id)
+
+-- of one whose message is gathered nothing, until it is delivered
+abbrev pub want_by : Bool → LmtpConnection → Want
+want_by true connection = want.Until never
+want_by false connection = want_for (wanted connection.comes connection.progress)
+
+abbrev pub wants_by : Bool → Option LmtpConnection → Want → Want
+wants_by gathered None other = other
+wants_by gathered (Some connection) other = want_by gathered connection
+
+-- somebody's is
+abbrev pub has_gathered : MailDaemon → Bool
+has_gathered d = nat_lt 0 (length d.gathered.ids.entries)
 
 abbrev pub due_by_kind : Option LmtpConnection → ℕ → ℕ
 due_by_kind None other = other
@@ -222,6 +239,29 @@ pub record DaemonWorks {R : Type 0} (view : View R) (d : MailDaemon) (r : R) (no
   pub does : DoesWork view d.daemon r now note e.daemon q
   pub same : SameLmtpConnections d e
 
+-- which messages of several clients the store was given, as one act: they were delivered, or refused each by an answer of its own; all were
+-- refused, and nobody is told; or the store wasn't available for them
+abbrev pub StoresGathered : {R : Type 0} → View R → R → SessionMap → Note → R → SessionMap → Type 0
+StoresGathered view r before (note.Delivered others told) q after = AreToldDeliveries told × AreEventsDone view others (events_told told) (answers_told told) r before q after
+StoresGathered view r before (note.Parted others events) q after = AreEventsTried view others events r before q after
+StoresGathered view r before (note.PutOff ids) q after = NothingDone view r before q after
+StoresGathered view r before other q after = ⊥
+
+abbrev pub holding_gathered : ℕ → Note → Holding → Holding
+holding_gathered now (note.Delivered others told) h = asked_by (length told) now h
+holding_gathered now (note.Parted others events) h = asked_by (length events) now h
+holding_gathered now other h = h
+
+-- what became of the message of each is noted at its connection, and said by a later step of that; or the store is awaited for it. What is
+-- only tried are such messages too
+pub record DeliversGathered {R : Type 0} (view : View R) (d : MailDaemon) (r : R) (now : ℕ) (note : Note) (e : MailDaemon) (q : R) : Type 0 where
+  pub stores : StoresGathered view r d.daemon.clients.sessions note q e.daemon.clients.sessions
+  pub each : StepsEach now (steps_of note) (lmtp_connection_at d) (lmtp_connection_at e)
+  pub tried : TriesAsked now (lmtp_connection_at d) note
+  pub holding : e.daemon.holding ≡ holding_gathered now note d.daemon.holding
+  pub states : e.daemon.states ≡ d.daemon.states
+  pub host : SameHost d e
+
 -- if memory was lacking for one nothing more is known of it
 pub record LacksBy (d : MailDaemon) (id : ℕ) (e : MailDaemon) : Type 0 where
   pub lacks : LacksFor d.daemon id e.daemon
@@ -238,15 +278,15 @@ abbrev pub mail_rules : {R : Type 0} → View R → Rules MailDaemon Note R
 mail_rules view = record {
   limit = λ d kind. limit_for d.places kind;
   claim = λ d now id. claim_by_kind now (is_flooded d.places.senders d.lmtp_connections.entries) (lmtp_connection_at d id) (client_state_at d.daemon id) (client_at d.daemon.clients.sessions id);
-  wants = λ d id. wants_by (lmtp_connection_at d id) (want_of (client_state_at d.daemon id) (client_at d.daemon.clients.sessions id));
-  has_work = λ d now. has_work d.daemon.holding now;
+  wants = λ d id. wants_by (is_gathered d id) (lmtp_connection_at d id) (want_of (client_state_at d.daemon id) (client_at d.daemon.clients.sessions id));
+  has_work = λ d now. has_gathered d || has_work d.daemon.holding now;
   patience = patience_for;
   deadline = λ d id. due_by_kind (lmtp_connection_at d id) (due_of (client_state_at d.daemon id) (client_at d.daemon.clients.sessions id));
   opens = λ d now kind id said e. OpensBy (kind == lmtp) d now id said e;
   gives = λ d now id piece said e. GivesBy d now id piece said e;
   steps = λ d r now id note said e q. GoesBy view d r now id note said e q;
   lates = λ d now id said e. SaysLast d id said e;
-  works = λ d r now note e q. DaemonWorks view d r now note e q;
+  works = λ d r now note e q. DaemonWorks view d r now note e q ⊎ DeliversGathered view d r now note e q;
   lacks = λ d id e. LacksBy d id e;
   closes = λ d now id e. ClosesBy d id e;
 }

@@ -12,10 +12,10 @@ use Rattle.maildir_moves.specs.declared.moving.Moving.TheVariants as moving
 use Rattle.net_loop.specs.declared.act.Act.{Act}
 use Rattle.net_loop.specs.declared.act.Act.TheVariants.{Worked, Noted}
 use Rattle.daemon_core.specs.Acts.{LeadsOn, RestsOn}
-use Rattle.daemon_core.specs.Moves.{answers_by, takes_by}
+use Rattle.daemon_core.specs.Moves.{LetAt, answers_by, takes_by}
 use Rattle.daemon_core.specs.StoreAccess.{DoneAt, AllDoneAt}
 use Rattle.daemon_core.specs.declared.note.Note.{Note}
-use Rattle.daemon_core.specs.declared.note.Note.TheVariants.{Did, Moved}
+use Rattle.daemon_core.specs.declared.note.Note.TheVariants.{Did, Moved, Parted}
 
 abbrev pub IsRefusal : Answer → Type 0
 IsRefusal (Refused refusal) = Unit {0}
@@ -37,12 +37,13 @@ pub record AllRefusedAt (others events : List Event) (answers : List Answer) (w 
   pub met_is : met ≡ done.between
   pub refused : AreRefusals answers
 
--- a note tells that these events were tried as one act, and which world they met: an event that was applied, or those that take so many
--- messages out
+-- a note tells that these events were tried as one act, and which world they met: an event that was applied, those that take so many
+-- messages out, or deliveries that were refused together
 abbrev pub TriesBy : World → Note → World → List Event → World → Type 0
 TriesBy w (Did others event answer) next tried met = (tried ≡ event ∷ []) × RefusedAt others event answer w met next
 TriesBy w (Moved others (moving.Kept batch answer)) next tried met =
     (n : ℕ) × (n ≤ length batch.mails) × (tried ≡ takings_of batch n) × AllRefusedAt others (takes_by batch) (answers_by batch answer) w met next
+TriesBy w (Parted others events) next tried met = (tried ≡ events) × LetAt others w next × (met ≡ next)
 TriesBy w note next tried met = ⊥
 
 abbrev pub TriesAt : World → Act Note → World → List Event → World → Type 0

@@ -50,6 +50,21 @@ impl Holding {
             events: count_event(self.events),
         }
     }
+
+    /// The same after this many events at once.
+    pub fn asked_by(self, count: usize, now: u64) -> Holding
+        ensures { result ≡ rules.asked_by count now self }
+    {
+        Holding {
+            is_held: true,
+            look: now,
+            asked: now,
+            moves: self.moves,
+            next: now,
+            soon: self.soon,
+            events: self.events.saturating_add(count as u64).min(10),
+        }
+    }
 }
 
 /// One more, at most ten.

@@ -10,12 +10,12 @@ use std::alloc::Global;
 use store_engine::{Answer, Refusal};
 
 /// What a recipient is told of what the store answered.
-pub fn reply_for_delivery(alloc: Global, sender: &[u8], answer: Answer) -> RecipientReply
-    ensures { lmtp_steps.IsDeliveryReply sender.now answer result }
+pub fn reply_for_delivery(alloc: Global, sender: &[u8], answer: &Answer) -> RecipientReply
+    ensures { lmtp_steps.IsDeliveryReply sender.now answer.now result }
 {
     match answer {
-        Answer::Delivered(report) => RecipientReply::Delivered(line_of_report(alloc, &report)),
-        Answer::Refused(refusal) => RecipientReply::Refused(reply_to(sender, refusal)),
+        Answer::Delivered(report) => RecipientReply::Delivered(line_of_report(alloc, report)),
+        Answer::Refused(refusal) => RecipientReply::Refused(reply_to(sender, *refusal)),
         _ => RecipientReply::Refused(LmtpReply::LocalFault),
     }
 }

@@ -4,8 +4,10 @@
 
 pub mod client_state;
 pub mod daemon;
+mod deliveries;
 mod delivery_reply;
 mod eviction;
+pub mod gathered;
 pub mod life;
 mod look;
 mod machine;
@@ -20,6 +22,7 @@ mod report;
 mod session;
 mod step;
 pub mod store_access;
+pub mod store_deliveries;
 mod want;
 
 pub use machine::{LMTP, MANAGESIEVE};

@@ -44,7 +44,7 @@ fn is_look_due(holding: &Holding, now: u64) -> bool
 
 /// Whether a message is to move on: after ten events, after the last message if no event came since, and if nobody asked the
 /// store for a while.
-fn is_move_due(holding: &Holding, now: u64) -> bool
+pub fn is_move_due(holding: &Holding, now: u64) -> bool
     ensures { result ≡ rules.is_move_due holding.now now }
 {
     holding.moves && holding.next <= now && is_turn(holding, now)

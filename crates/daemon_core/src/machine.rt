@@ -2,8 +2,9 @@
 ghost use Rattle.std.specs.Prelude.{◌≡◌};
 ghost use Rattle.daemon_core.specs.MailRules as rules;
 
+use crate::deliveries::{deliver_gathered, delivers_next, has_gathered, work_for_all};
 use crate::eviction::{claim_of_sender, claim_of_unauthenticated, is_flooded};
-use crate::look::{has_work, work_by};
+use crate::look::has_work;
 use crate::mail::MailDaemon;
 use crate::mail_connections::{enter_client, enter_lmtp, hear_by, leave_by, say_last};
 use crate::mail_step::step_lmtp;
@@ -11,7 +12,7 @@ use crate::poll_wait::patience_for;
 use crate::step::step_once;
 use crate::store_access::StoreAccess;
 use crate::want::{due_of, want_of};
-use lmtp_connections::Wanted;
+use lmtp_connections::{LmtpConnection, Wanted};
 use net_loop::machine::{Claim, Machine, Want};
 use octets::Octets;
 use std::alloc::AllocError;
@@ -44,7 +45,7 @@ impl<O: StoreAccess> Machine<O> for MailDaemon {
 
     fn wants(&self, id: u32) -> Want {
         match self.lmtp_connections.get(&id) {
-            Some(connection) => want_for(connection.wanted()),
+            Some(connection) => want_by(self.gathered.ids.contains_key(&id), connection),
             None => want_of(&self.daemon, id),
         }
     }
@@ -57,7 +58,7 @@ impl<O: StoreAccess> Machine<O> for MailDaemon {
     }
 
     fn has_work(&self, now: u64) -> bool {
-        has_work(&self.daemon, now)
+        has_gathered(self) || has_work(&self.daemon, now)
     }
 
     fn patience(&self) -> u32 {
@@ -101,7 +102,11 @@ impl<O: StoreAccess> Machine<O> for MailDaemon {
     }
 
     fn work(&mut self, outside: &mut O, now: u64) {
-        work_by(&mut self.daemon, outside, now)
+        if delivers_next(self, now) {
+            deliver_gathered(self, outside, now)
+        } else {
+            work_for_all(self, outside, now)
+        }
     }
 
     fn close(&mut self, _now: u64, id: u32) {
@@ -109,6 +114,17 @@ impl<O: StoreAccess> Machine<O> for MailDaemon {
     }
 
     ghost keeps_limits = { mail_keeps_limits O.store.view };
+}
+
+/// What is wanted of a client of LMTP: nothing of one whose message is gathered, until it is delivered.
+fn want_by(gathered: bool, connection: &LmtpConnection) -> Want
+    ensures { result ≡ rules.want_by gathered connection.now }
+{
+    if gathered {
+        Want::Until(u64::MAX)
+    } else {
+        want_for(connection.wanted())
+    }
 }
 
 fn want_for(wanted: Wanted) -> Want

@@ -3,6 +3,7 @@ ghost use Rattle.std.specs.Prelude.{◌≡◌, []};
 ghost use Rattle.daemon_core.specs.MailRules as rules;
 
 use crate::daemon::Daemon;
+use crate::gathered::Gathered;
 use crate::machine::{LMTP, MANAGESIEVE};
 use lmtp_connections::LmtpConnection;
 use lmtp_dialogue::Names;
@@ -39,6 +40,8 @@ impl Places {
 pub struct MailDaemon {
     pub daemon: Daemon,
     pub lmtp_connections: BTreeMap<u32, LmtpConnection>,
+    /// Those of them whose messages are to be delivered together.
+    pub gathered: Gathered,
     /// What names the account of a recipient.
     pub names: Names,
     /// The name with which clients of LMTP are greeted.
@@ -74,6 +77,7 @@ impl MailDaemon {
         MailDaemon {
             daemon: Daemon::new(alloc, moves),
             lmtp_connections: BTreeMap::new(alloc),
+            gathered: Gathered::new(alloc),
             names,
             host,
             memory,

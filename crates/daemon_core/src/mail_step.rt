@@ -1,15 +1,19 @@
 //! One step of a client of LMTP.
-ghost use Rattle.std.specs.Prelude.{◌≡◌, ℕ, [], IsTrue, OnOk, OnErr};
+ghost use Rattle.std.specs.Prelude.{◌≡◌, ℕ, [], IsTrue, IfOk, OnOk, OnErr};
 ghost use Rattle.net_loop.specs.Rules.{StepsIf, IdlesIf, machine_state, step_at};
-ghost use Rattle.net_loop.specs.Told.{ToldBefore};
+ghost use Rattle.net_loop.specs.Told.{ToldBefore, TellsIf};
+ghost use Rattle.net_loop.specs.declared.act.Act.TheVariants.{Noted};
+ghost use Rattle.daemon_core.specs.StoreAccess.{StillShowsIf};
+ghost use Rattle.daemon_core.specs.declared.note.Note.TheVariants as notes;
 ghost use Rattle.daemon_core.specs.LmtpSteps as lmtp_steps;
 ghost use Rattle.daemon_core.specs.declared.daemon.Daemon.{Daemon as DaemonOf};
 ghost use Rattle.daemon_core.specs.MailRules.{mail_rules, LacksBy};
-ghost use Rattle.lmtp_connections.specs.Stands.{Demands, HasSlot};
+ghost use Rattle.lmtp_connections.specs.Stands.{Demands, HasSlot, IsRequested};
 ghost use Rattle.lmtp_connections.specs.declared.demand.Demand.TheVariants as demands;
 
 use crate::daemon::Daemon;
 use crate::delivery_reply::reply_for_delivery;
+use crate::gathered::Gathered;
 use crate::mail::MailDaemon;
 use crate::mail_connections::lack_by;
 use crate::memory_room::room;
@@ -18,6 +22,7 @@ use lmtp_connections::{DeliveryRequest, Demand, LmtpConnection, Question};
 use lmtp_dialogue::ReplyBuffer;
 use octets::Octets;
 use std::alloc::{AllocError, Global};
+use std::mem::take;
 
 /// One step of a client of LMTP.
 pub fn step_lmtp<O: StoreAccess>(
@@ -42,6 +47,7 @@ pub fn step_lmtp<O: StoreAccess>(
         alloc,
         spare,
         &mut mail.daemon,
+        &mut mail.gathered,
         connection,
         outside,
         now,
@@ -58,6 +64,7 @@ fn do_next<O: StoreAccess>(
     alloc: Global,
     spare: usize,
     daemon: &mut Daemon,
+    gathered: &mut Gathered,
     connection: &mut LmtpConnection,
     outside: &mut O,
     now: u64,
@@ -90,9 +97,12 @@ fn do_next<O: StoreAccess>(
             *out = find_account_for(alloc, daemon, connection, outside, now, id, question, room);
             Ok(())
         }
-        Demand::Delivery(request) => {
-            let room = ReplyBuffer::new(alloc)?;
-            *out = deliver(alloc, daemon, connection, outside, now, id, request, room);
+        Demand::Delivery => {
+            if goes_together(gathered, outside, now, id, connection.held()) {
+                return gather(gathered, outside, id);
+            }
+            let request = request_of(connection, now)?;
+            deliver(alloc, daemon, connection, outside, now, id, request);
             Ok(())
         }
     }
@@ -151,7 +161,47 @@ fn find_account_for<O: StoreAccess>(
     }
 }
 
-/// Has the store deliver a message. Returns what is said.
+/// Whether the message of a client, of that many octets, is to be delivered together with those of others.
+fn goes_together<O: StoreAccess>(
+    gathered: &mut Gathered,
+    outside: &O,
+    now: u64,
+    id: u32,
+    octets: usize,
+) -> bool {
+    !take(&mut gathered.lacks) && outside.gathers(now, id, octets)
+}
+
+/// Has the message be delivered together with those of others.
+fn gather<O: StoreAccess>(
+    gathered: &mut Gathered,
+    outside: &mut O,
+    id: u32,
+) -> Result<(), AllocError>
+    ensures kept { ToldBefore O.told outside.old outside.new }
+    ensures gathers { OnOk result (TellsIf O.told outside.old (Noted id notes.Gathered) outside.new × StillShowsIf O.told O.store.view outside.old outside.new) }
+    ensures err { OnErr result (IdlesIf O.told outside.old outside.new) }
+{
+    if gathered.ids.insert(id, ()).is_err() {
+        return Err(AllocError);
+    }
+    outside.tell_gathered(id);
+    Ok(())
+}
+
+/// The request that the store is given next for a client whose message is to be delivered.
+///
+/// Lack of memory is the only error.
+fn request_of(connection: &LmtpConnection, now: u64) -> Result<DeliveryRequest, AllocError>
+    ensures { IfOk result (IsRequested now connection.now) }
+{
+    match connection.delivery(now) {
+        Ok(Some(request)) => Ok(request),
+        _ => Err(AllocError),
+    }
+}
+
+/// Has the store deliver a message by itself. What became of it is said by the next step.
 fn deliver<O: StoreAccess>(
     alloc: Global,
     daemon: &mut Daemon,
@@ -160,21 +210,17 @@ fn deliver<O: StoreAccess>(
     now: u64,
     id: u32,
     request: DeliveryRequest,
-    room: ReplyBuffer,
-) -> Octets
-    requires { Demands now connection.old (demands.Delivery request) }
+)
+    requires { IsRequested now connection.old request }
     ensures kept { ToldBefore O.told outside.old outside.new }
-    ensures does { (spare : ℕ) → lmtp_steps.DoesOneIf O.told O.store.view spare (lmtp_steps.lmtp_moment outside.old daemon.old connection.old) (step_at now id result) (lmtp_steps.lmtp_moment outside.new daemon.new connection.new) }
+    ensures does { (spare : ℕ) → lmtp_steps.DoesOneIf O.told O.store.view spare (lmtp_steps.lmtp_moment outside.old daemon.old connection.old) (step_at now id []) (lmtp_steps.lmtp_moment outside.new daemon.new connection.new) }
 {
     match outside.deliver(id, &mut daemon.clients, &request) {
         Some(answer) => {
             daemon.holding = daemon.holding.asked_at(now);
-            let became = reply_for_delivery(alloc, request.sender.as_slice(), answer);
-            connection.answer_delivery(now, &request, became, room)
+            let became = reply_for_delivery(alloc, request.sender.as_slice(), &answer);
+            connection.answer_delivery(now, &request, became)
         }
-        None => {
-            connection.await_store(now);
-            Octets::new(alloc)
-        }
+        None => connection.await_store(now),
     }
 }

@@ -4,6 +4,15 @@ use maildir_moves::Moving;
 use octets::{List, Octets};
 use store_engine::{Answer, Event};
 
+/// The delivery of a message of one connection, and how it was answered.
+#[derive(Drop)]
+pub struct ToldDelivery {
+    /// The connection's number.
+    pub id: u32,
+    pub event: Event,
+    pub answer: Answer,
+}
+
 /// What the daemon did when it continued with a connection, or by itself. One that tells its acts makes the value; over the
 /// system none is made.
 #[derive(Drop)]
@@ -43,4 +52,22 @@ pub enum Note {
         others: List<Event>,
         moving: Moving,
     },
+    /// A message of a client of LMTP is to be delivered together with those of others.
+    Gathered,
+    /// Messages of several clients were delivered as one act, each with an answer of its own.
+    Delivered {
+        /// As of [`Note::Did`].
+        others: List<Event>,
+        /// In the order in which they were applied.
+        told: List<ToldDelivery>,
+    },
+    /// Memory or the store refused such messages as one act: none is answered, and each is to be delivered by itself.
+    Parted {
+        /// As of [`Note::Did`].
+        others: List<Event>,
+        /// The deliveries that were tried.
+        events: List<Event>,
+    },
+    /// The store wasn't available for the messages of these connections.
+    PutOff(List<u32>),
 }

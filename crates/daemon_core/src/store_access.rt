@@ -4,16 +4,19 @@ ghost use Rattle.lmtp_connections.specs.Connections.{IsFinding};
 ghost use Rattle.store_engine.specs.Hosts.{IsGivenUp};
 ghost use Rattle.net_loop.specs.declared.act.Act.TheVariants.{Noted};
 ghost use Rattle.net_loop.specs.Told.{ToldBefore, TellsIf};
-ghost use Rattle.daemon_core.specs.declared.note.Note.TheVariants.{Answered, Freed, Spoke};
+ghost use Rattle.daemon_core.specs.declared.note.Note.TheVariants.{Answered, Freed, Gathered, Spoke};
 ghost use Rattle.daemon_core.specs.Moves.{MovesNextMessage};
+ghost use Rattle.daemon_core.specs.Together.{DeliversMessages, MayGoTogether};
 ghost use Rattle.daemon_core.specs.StoreAccess.{StoreFacts, access_state, AppliesEvent, DeliversMessage, Looks, FindsAccount, StillShowsIf};
 
+use crate::gathered::GatheredRequest;
 use crate::note::Note;
 use lmtp_connections::DeliveryRequest;
 use lmtp_dialogue::Lookup;
 use maildir_moves::MovePause;
 use net_loop::outside::Outside;
-use store_engine::{Answer, Clients, Event};
+use octets::List;
+use store_engine::{Answer, Clients, Event, Refusal};
 
 /// Access to a store that other processes use too. Each call but those that only tell takes the store if it isn't held, and keeps it
 /// until it is given back.
@@ -51,6 +54,32 @@ pub trait StoreAccess: Outside<Note = Note> {
     ) -> Option<Answer>
         ensures kept { ToldBefore Self.told self.old self.new }
         ensures delivers { DeliversMessage Self.told store id request.now (access_state self.old clients.old.sessions) result (access_state self.new clients.new.sessions) };
+
+    /// Delivers these messages, each for another user, as one act at the moment that the clock shows now, under what the host says: 64 at
+    /// most, and 1 MiB of them unless it is one. Answers each of them, in order and once their changes are durable, by an answer of its
+    /// own. None if the store isn't available now.
+    ///
+    /// # Errors
+    ///
+    /// Memory or the store refused them together; nothing has changed.
+    fn deliver_all(
+        &mut self,
+        clients: &mut Clients,
+        requests: &[GatheredRequest],
+    ) -> Option<Result<List<Answer>, Refusal>>
+        requires { MayGoTogether requests.now }
+        ensures kept { ToldBefore Self.told self.old self.new }
+        ensures delivers { DeliversMessages Self.told store requests.now (access_state self.old clients.old.sessions) result (access_state self.new clients.new.sessions) };
+
+    /// Whether the message of a client of LMTP, of that many octets, may be delivered together with those of others: whose account used much
+    /// time of late, or whose message memory or the store refused together with others, has an act of its own.
+    fn gathers(&self, now: u64, id: u32, octets: usize) -> bool;
+
+    /// Tells that a message of a client of LMTP is to be delivered together with those of others. Nothing is done.
+    fn tell_gathered(&mut self, id: u32)
+        ensures kept { ToldBefore Self.told self.old self.new }
+        ensures told { TellsIf Self.told self.old (Noted id Gathered) self.new }
+        ensures shown { StillShowsIf Self.told store.view self.old self.new };
 
     /// Tells that a client of LMTP was answered without the store, or one of ManageSieve that there is no room. Nothing is done.
     fn tell_answered(&mut self, id: u32)

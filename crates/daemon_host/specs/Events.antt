@@ -1,12 +1,13 @@
 -- What is noted of what happened.
-use Rattle.std.specs.Prelude.{◌+◌, ◌||◌, ℕ, min, not, Bool, true, false, Option, Some}
+use Rattle.std.specs.Prelude.{◌+◌, ◌||◌, ℕ, min, not, Bool, true, false, List, [], ◌∷◌, Option, Some}
 use Rattle.lmtp_dialogue.specs.declared.receiver.Lookup.{Lookup}
 use Rattle.lmtp_dialogue.specs.declared.receiver.Lookup.TheVariants.{Fault}
 use Rattle.store_engine.specs.declared.answer.Answer.{Answer}
 use Rattle.store_engine.specs.declared.answer.Answer.TheVariants.{Refused}
 use Rattle.sqlite.specs.declared.error.ErrorCode.{ErrorCode}
 use Rattle.sqlite.specs.declared.error.ErrorCode.TheVariants.{DiskFull}
-use Rattle.daemon_host.specs.Log.{is_store_fault}
+use Rattle.daemon_core.specs.declared.gathered.GatheredRequest.{GatheredRequest}
+use Rattle.daemon_host.specs.Log.{is_delivered_answer, is_store_fault}
 use Rattle.daemon_log.specs.declared.tally.EventCounts.{EventCounts}
 
 -- once more, up to the greatest number of 64 bits
@@ -49,3 +50,15 @@ answers_fault _ = false
 abbrev pub is_fault : Lookup → Bool
 is_fault Fault = true
 is_fault _ = false
+
+-- ---- the same of messages that were delivered together, each by its answer
+
+abbrev pub with_deliveries : List GatheredRequest → List Answer → EventCounts → EventCounts
+with_deliveries [] answers c = c
+with_deliveries (it ∷ more) [] c = c
+with_deliveries (it ∷ more) (answer ∷ answers) c = with_deliveries more answers (with_delivery (is_delivered_answer answer) c)
+
+abbrev pub failed_by_each : List GatheredRequest → List Answer → Option ErrorCode → Bool → Bool
+failed_by_each [] answers code failed = failed
+failed_by_each (it ∷ more) [] code failed = failed
+failed_by_each (it ∷ more) (answer ∷ answers) code failed = failed_by_each more answers code (failed_by (answers_fault answer) code failed)

@@ -1,5 +1,5 @@
 -- What a store shows that is held now and then.
-use Rattle.std.specs.Prelude.{◌≡◌, ℕ, Bool, true, false, List, [], Option, Some, None, is_some, IsTrue}
+use Rattle.std.specs.Prelude.{◌≡◌, ℕ, Bool, true, false, List, [], length, Option, Some, None, is_some, Result, Ok, Err, IsTrue}
 use Rattle.sqlite_trees.specs.Tree.{Trees}
 use Rattle.sqlite_trees.specs.declared.store.Store.{Ghosts}
 use Rattle.sqlite.specs.Effect.{Database}
@@ -20,9 +20,13 @@ use Rattle.maildir_moves.specs.declared.moving.Moving.{Moving}
 use Rattle.maildir_files.specs.declared.kept.KeptMail.{KeptMail}
 use Rattle.store_engine.specs.declared.answer.Answer.{Answer}
 use Rattle.store_engine.specs.declared.answer.Answer.TheVariants.{Refused}
+use Rattle.store_accounts.specs.declared.refusal.Refusal.{Refusal}
 use Rattle.store_accounts.specs.declared.refusal.Refusal.TheVariants.{Memory, Store}
+use Rattle.store_engine.specs.declared.terms.Terms.{Terms}
 use Rattle.store_engine.specs.declared.event.Event.{Event}
 use Rattle.daemon_core.specs.StoreAccess.{View, ViewStillShows, IsEventDone, NothingDone, IsFoundIn}
+use Rattle.daemon_core.specs.Together.{AreEventsDone, AreEventsTried, deliveries_told, deliveries_of, events_told, answers_told}
+use Rattle.daemon_core.specs.declared.gathered.GatheredRequest.{GatheredRequest}
 use Rattle.daemon_host.specs.Events.{is_full}
 use Rattle.daemon_host.specs.declared.host_store.HostStore.{HostStore}
 
@@ -58,6 +62,18 @@ IsClean g tells host = IsCleanBy g tells host.held.store
 abbrev pub HostBrings : {R : Type 0} → View R → (R → Type 0) → Event → Option Answer → R → SessionMap → R → SessionMap → Type 0
 HostBrings view clean event (Some answer) r before q after = clean q → IsEventDone view [] event answer r before q after
 HostBrings view clean event None r before q after = NothingDone view r before q after
+
+-- each message was delivered, or refused by an answer of its own; or none was answered. No other process came between
+abbrev pub DeliversBy : {R : Type 0} → View R → (R → Type 0) → Terms → List GatheredRequest → Result (List Answer) Refusal → R → R → Type 0
+DeliversBy view clean terms requests (Ok answers) r q =
+    (length answers ≡ length requests)
+    × (clean q → (kept : SessionMap) → AreEventsDone view [] (events_told (deliveries_told terms requests answers)) (answers_told (deliveries_told terms requests answers)) r kept q kept)
+DeliversBy view clean terms requests (Err refusal) r q = clean q → (kept : SessionMap) → AreEventsTried view [] (deliveries_of terms requests) r kept q kept
+
+-- the same; or nothing was asked
+abbrev pub HostDelivers : {R : Type 0} → View R → (R → Type 0) → Terms → List GatheredRequest → Option (Result (List Answer) Refusal) → R → R → Type 0
+HostDelivers view clean terms requests (Some result) r q = DeliversBy view clean terms requests result r q
+HostDelivers view clean terms requests None r q = ViewStillShows view r q
 
 -- a store whose disk is full refuses as one that lacks memory
 abbrev pub lacking : Answer → Answer

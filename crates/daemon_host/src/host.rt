@@ -1,6 +1,7 @@
 //! The outside of the daemon, over the system.
 ghost use Rattle.std.specs.Prelude.{◌≡◌, ℕ, [], ◌∷◌, ◌++◌, true, false, IsTrue, IfSome};
 ghost use Rattle.lmtp_connections.specs.Connections.{IsFinding};
+ghost use Rattle.store_accounts.specs.declared.refusal.Refusal.TheVariants.{Store};
 ghost use Rattle.store_engine.specs.Hosts.{IsGivenUp, SessionMap};
 ghost use Rattle.store_engine.specs.Terms.{terms};
 ghost use Rattle.sieve_exec.specs.declared.when.When.{When};
@@ -9,9 +10,10 @@ ghost use Rattle.net_loop.specs.Told.{IsLoopAct};
 ghost use Rattle.cli_run.specs.Faults.{status_of};
 ghost use Rattle.daemon_host.specs.Events as events;
 ghost use Rattle.daemon_host.specs.Held as held;
-ghost use Rattle.daemon_host.specs.Held.{HostBrings, HostFinds, HostMovesNext, IsToldAs, MailStays};
+ghost use Rattle.daemon_host.specs.Held.{HostBrings, HostDelivers, HostFinds, HostMovesNext, IsToldAs, MailStays};
 ghost use Rattle.daemon_host.specs.Moments.{GivesNext, IsReadNext};
 ghost use Rattle.daemon_core.specs.Moves.{HasKept};
+ghost use Rattle.daemon_core.specs.Together.{MayGoTogether};
 
 use crate::host_log::HostLog;
 use crate::host_system::HostSystem;
@@ -19,6 +21,7 @@ use crate::mail_store::MailStore;
 use crate::store_turns::StoreTurns;
 use cli_run::fault_with_cause::FaultWithCause;
 use daemon_core::LMTP;
+use daemon_core::gathered::GatheredRequest;
 use daemon_core::note::Note;
 use daemon_core::store_access::StoreAccess;
 use lmtp_connections::DeliveryRequest;
@@ -28,10 +31,10 @@ use net_loop::act::Act;
 use net_loop::outcome::{self, Accepted, Input, Output, Wake};
 use net_loop::outside::{Clock, Outside, Sockets};
 use net_shares::{Grace, Scheduler, TimeAccount};
-use octets::Octets;
+use octets::{List, Octets};
 use sqlite::ErrorCode;
 use std::alloc::{AllocError, Global};
-use std::collections::VecDeque;
+use std::collections::{BTreeMap, VecDeque};
 use std::io::Write;
 use std::mem::take;
 use std::time::Instant;
@@ -46,6 +49,15 @@ const HOLD: u64 = 5_000;
 
 /// A message of more octets fills SQLite's log (1,000 pages of 4 KiB): the next change moves that into the file first.
 const MAX_LOGGED: usize = 4_000_000;
+
+/// Of an act that delivers messages together so many microseconds are nobody's: it waits once for the disk, for all of them.
+const SHARED: u64 = 10_000;
+
+/// A message that took no more microseconds, with its commit, took little time: further ones of its connection may go with others.
+const LIGHT: u64 = 20_000;
+
+/// Messages that were delivered together and took more microseconds: each connection's next one goes by itself again.
+const HEAVY: u64 = 60_000;
 
 /// At most this many times in a row it is waited for the next command of one that was served: each time those who are kept waiting may
 /// say something.
@@ -83,6 +95,10 @@ pub struct Host<'a, S: HostSystem + Drop, E: Write + Drop, H: MailStore + Drop> 
     served: Option<Instant>,
     /// Whose large message lies in SQLite's log: the next long act is in that account's time, since it moves the message into the file.
     logged: Option<TimeAccount>,
+    /// Whose messages memory or the store refused together with others: each is delivered by itself.
+    parted: BTreeMap<u32, ()>,
+    /// Whose last message took little time, so that it isn't known of any of these that others would wait for it.
+    light: BTreeMap<u32, ()>,
     /// How many microseconds acts have taken since the last wait.
     acted: u64,
     /// One that waits for the store was put off, since the sockets come first.
@@ -122,6 +138,8 @@ impl<'a, S: HostSystem + Drop, E: Write + Drop, H: MailStore + Drop> Host<'a, S,
             grace: Grace::none(),
             served: None,
             logged: None,
+            parted: BTreeMap::new(alloc),
+            light: BTreeMap::new(alloc),
             acted: 0,
             held_up: false,
             begun: None,
@@ -522,6 +540,88 @@ impl<'a, S: HostSystem + Drop, E: Write + Drop, H: MailStore + Drop> Host<'a, S,
         tell_answer(answer, code)
     }
 
+    /// Delivers messages as one act at the moment that the clock shows, if the store may be asked and is available.
+    fn try_deliver_all(
+        &mut self,
+        requests: &[GatheredRequest],
+    ) -> Option<Result<List<Answer>, Refusal>>
+        requires { MayGoTogether requests.now }
+        ensures { (when : When) × IsReadNext S.showed self.old.system self.old.settings when × HostDelivers H.view H.clean (terms when self.old.settings) requests.now result self.old.held self.new.held }
+    {
+        let seconds = self.system.seconds();
+        let when = self.settings.at(seconds).when;
+        if !self.may_move() {
+            return None;
+        }
+        let begun = self.system.instant();
+        self.reach();
+        let terms = LentTerms {
+            when,
+            host: &self.settings,
+        };
+        match self.held.deliver_all(self.alloc, requests, terms) {
+            Some(answers) => {
+                let code = self.held.code();
+                note_time(&mut self.news, &self.system, begun);
+                let kept = self.is_kept();
+                Some(self.tell_deliveries(requests, answers, code, kept))
+            }
+            None => None,
+        }
+    }
+
+    /// Tells of deliveries. If they are no longer in the file at the path they are refused together.
+    fn tell_deliveries(
+        &mut self,
+        requests: &[GatheredRequest],
+        answers: Result<List<Answer>, Refusal>,
+        code: Option<ErrorCode>,
+        kept: bool,
+    ) -> Result<List<Answer>, Refusal>
+        ensures same { self.new.held ≡ self.old.held }
+        ensures told { kept ≡ true → result ≡ answers }
+        ensures lost { kept ≡ false → result ≡ Err Store }
+    {
+        if !kept {
+            return Err(Refusal::Store);
+        }
+        match answers {
+            Ok(answers) => {
+                self.news
+                    .note_deliveries(requests, answers.as_slice(), code);
+                Ok(answers)
+            }
+            Err(refusal) => {
+                self.news.note_answer(&Answer::Refused(refusal), code);
+                Err(refusal)
+            }
+        }
+    }
+
+    /// Ends the delivery of messages as one act. Its time but for that of a commit is that of their users, in equal parts.
+    fn end_deliveries(&mut self, requests: &[GatheredRequest])
+        ensures same { self.new.held ≡ self.old.held }
+        ensures settings { self.new.settings ≡ self.old.settings }
+    {
+        leave_each(&mut self.queue, requests);
+        let Some(micros) = micros_since(&self.system, self.begun) else {
+            return;
+        };
+        self.served = self.begun;
+        self.begin_act();
+        if micros > MAX_STEP {
+            self.long = true;
+        }
+        self.news
+            .note_slow(b"deliveries", &TimeAccount::Senders, micros);
+        self.acted = self.acted.saturating_add(micros);
+        if micros > HEAVY {
+            forget_each(&mut self.light, requests);
+        }
+        let now = self.system.now();
+        charge_each(self.alloc, &mut self.turns, requests, now, micros);
+    }
+
     /// Has messages move on by one step, if the store may be asked and is available.
     fn try_move_next(&mut self, now: u64, fresh: bool) -> Option<Moving>
         ensures moves { HostMovesNext H.view H.clean result self.old.held self.new.held }
@@ -539,8 +639,9 @@ impl<'a, S: HostSystem + Drop, E: Write + Drop, H: MailStore + Drop> Host<'a, S,
         Some(moving)
     }
 
-    /// Whether the store may be asked now for a message: it didn't fail, and nobody waits for it.
+    /// Whether the store may be asked now for nobody alone: it didn't fail, and nobody waits for it.
     fn may_move(&mut self) -> bool
+        ensures settings { self.new.settings ≡ self.old.settings }
         ensures shown { ViewStillShows H.view self.old.held self.new.held }
         ensures mail { MailStays H.has H.there self.old.held self.new.held }
     {
@@ -618,6 +719,59 @@ fn is_known(lookup: Lookup) -> bool {
     match lookup {
         Lookup::Known => true,
         _ => false,
+    }
+}
+
+/// These don't wait for the store any more.
+fn leave_each(queue: &mut StoreTurns, requests: &[GatheredRequest]) {
+    for it in requests.iter() {
+        queue.leave(it.id);
+    }
+}
+
+/// These wait for the store.
+fn join_each(queue: &mut StoreTurns, requests: &[GatheredRequest], now: u64) {
+    for it in requests.iter() {
+        queue.join(it.id, now);
+    }
+}
+
+/// Each of these is delivered by itself from now on.
+fn part_each(parted: &mut BTreeMap<u32, ()>, requests: &[GatheredRequest]) {
+    for it in requests.iter() {
+        let _ = parted.insert(it.id, ());
+    }
+}
+
+/// The next message of each of these goes by itself.
+fn forget_each(light: &mut BTreeMap<u32, ()>, requests: &[GatheredRequest]) {
+    for it in requests.iter() {
+        let _ = light.remove(&it.id);
+    }
+}
+
+/// Notes whether a message that was delivered by itself took little time, if it is known how long it took.
+fn note_light(light: &mut BTreeMap<u32, ()>, id: u32, micros: Option<u64>) {
+    if micros.unwrap_or(u64::MAX) <= LIGHT {
+        let _ = light.insert(id, ());
+    } else {
+        let _ = light.remove(&id);
+    }
+}
+
+/// Charges its part of this many microseconds, but for those of a commit, to the account of each.
+fn charge_each(
+    alloc: Global,
+    turns: &mut Scheduler,
+    requests: &[GatheredRequest],
+    now: u64,
+    micros: u64,
+) {
+    let part = micros.saturating_sub(SHARED) / (requests.len() as u64).max(1);
+    for it in requests.iter() {
+        if let Ok(name) = it.request.user.try_clone(alloc) {
+            let _ = turns.charge(it.id, TimeAccount::User(name), now, part);
+        }
     }
 }
 
@@ -759,6 +913,8 @@ impl<S: HostSystem + Drop, E: Write + Drop, H: MailStore + Drop> Sockets for Hos
     }
 
     fn close(&mut self, id: u32) {
+        let _ = self.parted.remove(&id);
+        let _ = self.light.remove(&id);
         self.queue.leave(id);
         self.turns.leave(id);
         self.system.close(id)
@@ -854,6 +1010,9 @@ impl<S: HostSystem + Drop, E: Write + Drop, H: MailStore + Drop> StoreAccess for
         match self.try_deliver(id, request) {
             Some(answer) => {
                 self.queue.leave(id);
+                let _ = self.parted.remove(&id);
+                let micros = micros_since(&self.system, self.begun);
+                note_light(&mut self.light, id, micros);
                 self.end_delivery(id, request);
                 Some(answer)
             }
@@ -862,6 +1021,40 @@ impl<S: HostSystem + Drop, E: Write + Drop, H: MailStore + Drop> StoreAccess for
                 None
             }
         }
+    }
+
+    fn deliver_all(
+        &mut self,
+        _clients: &mut Clients,
+        requests: &[GatheredRequest],
+    ) -> Option<Result<List<Answer>, Refusal>> {
+        match self.try_deliver_all(requests) {
+            Some(Ok(answers)) => {
+                self.end_deliveries(requests);
+                Some(Ok(answers))
+            }
+            Some(Err(refusal)) => {
+                self.end_deliveries(requests);
+                part_each(&mut self.parted, requests);
+                Some(Err(refusal))
+            }
+            None => {
+                let now = self.system.now();
+                join_each(&mut self.queue, requests, now);
+                None
+            }
+        }
+    }
+
+    fn gathers(&self, now: u64, id: u32, octets: usize) -> bool {
+        octets <= MAX_LOGGED
+            && self.light.contains_key(&id)
+            && !self.parted.contains_key(&id)
+            && !self.turns.is_late(id, now)
+    }
+
+    fn tell_gathered(&mut self, id: u32) {
+        self.end_free_act(id);
     }
 
     fn move_next(&mut self, _clients: &mut Clients, now: u64, fresh: bool) -> Option<MovePause> {

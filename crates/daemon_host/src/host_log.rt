@@ -15,6 +15,7 @@ use crate::log::{
 use crate::pause::Pause;
 use cli_run::fault::RunFault;
 use cli_run::fault_with_cause::{FaultWithCause, FirstFault};
+use daemon_core::gathered::GatheredRequest;
 use daemon_log::tally::{StatusTally, status_line};
 use lmtp_connections::DeliveryRequest;
 use lmtp_dialogue::Lookup;
@@ -243,6 +244,26 @@ impl<E: Write + Drop> HostLog<E> {
             return;
         }
         self.tell_line(of_delivery(self.alloc, request, answer));
+    }
+
+    /// The same of each of these, by its answer, one after the other: they are 64 at most.
+    pub fn note_deliveries(
+        &mut self,
+        requests: &[GatheredRequest],
+        answers: &[Answer],
+        code: Option<ErrorCode>,
+    )
+        ensures failed { self.new.failed ≡ events.failed_by_each requests.now answers.now code self.old.failed }
+        ensures counted { self.new.tally.counts ≡ events.with_deliveries requests.now answers.now self.old.tally.counts }
+    {
+        let Some((it, more)) = requests.split_first() else {
+            return;
+        };
+        let Some((answer, rest)) = answers.split_first() else {
+            return;
+        };
+        self.note_delivery(&it.request, answer, code);
+        self.note_deliveries(more, rest, code)
     }
 
     /// Refuses a delivery, since the file at the path is no longer that of the store, and tells so.

@@ -4,11 +4,14 @@ ghost use Rattle.store_lock.specs.Taken.{DeniesStore, GivesStore};
 ghost use Rattle.daemon_host.specs.Held.{host_view, is_held, IsClean, MailIsThere, SinkHasMail};
 
 use crate::mail_store::MailStore;
+use daemon_core::gathered::GatheredRequest;
 use daemon_core::recipient_account::find_account;
+use daemon_core::store_deliveries::deliver_requests;
 use lmtp_connections::DeliveryRequest;
 use lmtp_dialogue::Lookup;
 use maildir_files::MailSink;
 use maildir_moves::{Moving, Route, move_next};
+use octets::List;
 use sqlite::ErrorCode;
 use std::alloc::{AllocError, Global};
 use std::io::ErrorKind;
@@ -130,6 +133,19 @@ impl<K: Keeper + Drop, T: MailSink + Drop> MailStore for HostStore<K, T> {
             Ok(report) => Some(Answer::Delivered(report)),
             Err(refusal) => Some(Answer::Refused(refusal)),
         }
+    }
+
+    fn deliver_all(
+        &mut self,
+        alloc: Global,
+        requests: &[GatheredRequest],
+        terms: LentTerms<'_>,
+    ) -> Option<Result<List<Answer>, Refusal>> {
+        let Some(store) = &mut self.held.store else {
+            return None;
+        };
+        let kept = &mut self.kept;
+        Some(deliver_requests(alloc, store, kept, requests, terms))
     }
 
     /// As [`maildir_moves::move_next`] does.

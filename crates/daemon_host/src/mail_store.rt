@@ -8,11 +8,14 @@ ghost use Rattle.store_engine.specs.Terms.{terms_of};
 ghost use Rattle.store_lock.specs.declared.keeper.StoreUnavailable.{StoreUnavailable};
 ghost use Rattle.daemon_core.specs.StoreAccess.{View, ViewStillShows, delivery_of};
 ghost use Rattle.daemon_core.specs.Moves.{HasKept};
-ghost use Rattle.daemon_host.specs.Held.{HostBrings, HostFinds, HostMovesNext, MailStays};
+ghost use Rattle.daemon_core.specs.Together.{MayGoTogether};
+ghost use Rattle.daemon_host.specs.Held.{HostBrings, HostDelivers, HostFinds, HostMovesNext, MailStays};
 
+use daemon_core::gathered::GatheredRequest;
 use lmtp_connections::DeliveryRequest;
 use lmtp_dialogue::Lookup;
 use maildir_moves::Moving;
+use octets::List;
 use sqlite::ErrorCode;
 use std::alloc::Global;
 use std::io::ErrorKind;
@@ -104,6 +107,21 @@ pub trait MailStore {
         terms: LentTerms<'_>,
     ) -> Option<Answer>
         ensures { (kept : SessionMap) → HostBrings view clean (delivery_of request.now (terms_of terms.entry)) result self.old kept self.new kept };
+
+    /// Delivers these messages, each for another user, in one transaction under these terms, and answers each of them, in order; no copy is
+    /// made of a message. None if the store isn't held.
+    ///
+    /// # Errors
+    ///
+    /// Memory or the store refused them together; nothing has changed.
+    fn deliver_all(
+        &mut self,
+        alloc: Global,
+        requests: &[GatheredRequest],
+        terms: LentTerms<'_>,
+    ) -> Option<Result<List<Answer>, Refusal>>
+        requires { MayGoTogether requests.now }
+        ensures { HostDelivers view clean (terms_of terms.entry) requests.now result self.old self.new };
 
     /// Has the first messages of a folder move on by one step. None if mail doesn't move on, or the store isn't held.
     fn move_next(&mut self, now: u64, fresh: bool) -> Option<Moving>

@@ -14,8 +14,8 @@ use Rattle.lmtp_dialogue.specs.declared.receiver.LmtpStage.{LmtpStage}
 use Rattle.lmtp_dialogue.specs.declared.receiver.LmtpStage.TheVariants as stage
 use Rattle.lmtp_dialogue.specs.declared.recipient_reply.RecipientReply.{RecipientReply}
 use Rattle.lmtp_dialogue.proofs.DialogueLemmas.{one_item}
-use Rattle.lmtp_connections.specs.Connections.{LmtpState, is_transaction_open, is_sending, has_some, lmtp_state_after, Answered, Declined, Asked, Away, Brought, IsFormAsked, taken_with, next_form, LookupFinds, IsFinding, Resolved, first_form, IsOwed, lmtp_state_told, next_recipient}
-use Rattle.lmtp_connections.specs.Stands.{wanted_for, ConnectionHolds, ConnectionStands, is_open_at, is_sending_at, Settles, ConnectionGoesOn, AsksRecipient, ResolvesIt, TellsIt, ConnectionKeeps, ConnectionHears, ConnectionDoes, IsNextForm, Demands, AsksIt}
+use Rattle.lmtp_connections.specs.Connections.{LmtpState, is_transaction_open, is_sending, has_some, lmtp_state_after, Answered, Declined, Asked, Away, Brought, IsFormAsked, taken_with, next_form, LookupFinds, IsFinding, Resolved, first_form, IsOwed, lmtp_state_told, lmtp_state_brought, next_recipient}
+use Rattle.lmtp_connections.specs.Stands.{wanted_for, ConnectionHolds, ConnectionStands, is_open_at, is_sending_at, Settles, ConnectionGoesOn, AsksRecipient, ResolvesIt, TellsIt, ConnectionKeeps, ConnectionHears, ConnectionDoes, IsNextForm, Demands, AsksIt, NotesBecame, IsRequested}
 use Rattle.lmtp_connections.specs.Progress.{progress_done, progress_settled, progress_heard, progress_away}
 use Rattle.lmtp_connections.specs.declared.addressee.Addressee.{Addressee}
 use Rattle.lmtp_dialogue.specs.declared.recipient_reply.RecipientReply.{RecipientReply}
@@ -313,11 +313,26 @@ replies now became said c e demands told = λ p stands.
       t.1,
     )
 
-pub answer_delivery : (now : ℕ) (request : DeliveryRequest) (became : RecipientReply) (said : List ℕ) (c e : Code) → Demands now c (demand.Delivery request) → TellsIt now became said c e → ConnectionDoes now (Brought request became) said c e
-answer_delivery now request became said c e demands told = λ p stands.
-    let d = demands p stands in
-    let t = told p stands d.1.0 d.1.1 d.1.2 request.sender d.1.3 d.1.4.is in (
-      lmtp_state_told now became p d.1.0 d.1.1 d.1.2 request.sender d.1.3 d.1.4.is,
-      (d.0, (record { before = d.1.0; it = d.1.1; after = d.1.2; sender = request.sender; text = d.1.3; is = d.1.4.is; says = t.0; leaves = refl }, d.1.4)),
-      t.1,
+-- ---- the store was given a message
+
+pub brings : (now : ℕ) (request : DeliveryRequest) (became : RecipientReply) (c m : Code) (t : LmtpProgress) → IsRequested now c request → NotesBecame became c m → m ≡ record c { addressees = m.addressees }
+    → t ≡ progress_settled now true true m.progress → ConnectionDoes now (Brought request became) [] c (record m { progress = t })
+brings now request became c m t requested noted rest is = λ p stands.
+    let d = requested p stands in
+    let holds = stands.holds in
+    let owed = d.1.4.is in
+    let same : m.progress ≡ p.progress = ap (λ (x : Code). x.progress) rest ∙ holds.progress in
+    let count : length d.1.0 ≡ c.progress.told = owed.count ∙ ap (λ (x : LmtpProgress). x.told) (sym holds.progress) in (
+      lmtp_state_brought now became p d.1.0 d.1.1 d.1.2,
+      (d.0, refl, record { before = d.1.0; it = d.1.1; after = d.1.2; text = d.1.3; is = d.1.4; leaves = refl }),
+      record {
+        holds = record {
+          names = ap (λ (x : Code). x.names) rest ∙ holds.names;
+          hello = ap (λ (x : Code). x.receiver.talk.hello) rest ∙ holds.hello;
+          dialogue = subst (λ r. StandsIn r p.dialogue) (sym (ap (λ (x : Code). x.receiver) rest)) holds.dialogue;
+          addressees = noted d.1.0 d.1.2 d.1.1 (holds.addressees ∙ owed.addressees) count;
+          progress = is ∙ ap (progress_settled now true true) same;
+        };
+        comes = (stands.comes.0, stands.comes.1, ap (λ (x : Code). x.comes) rest ∙ stands.comes.2);
+      },
     )

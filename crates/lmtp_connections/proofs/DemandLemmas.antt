@@ -1,5 +1,5 @@
 -- What is to be done next, put together from what was looked at.
-use Rattle.std.proofs.Common.{◌≡◌, ◌∙◌, ℕ, suc, zero, ◌+◌, ◌≤◌, true, false, List, [], ◌∷◌, ◌++◌, length, take, Option, Some, None, Ok, Err, refl, sym, ap, subst, arith, length-append}
+use Rattle.std.proofs.Common.{◌≡◌, ◌∙◌, inl, inr, ℕ, suc, zero, ◌+◌, ◌≤◌, true, false, List, [], ◌∷◌, ◌++◌, length, take, Option, Some, None, Ok, Err, refl, sym, ap, subst, arith, length-append}
 use Rattle.std.specs.Borrow.{Bor}
 use Rattle.std.specs.Prelude.{slice_get}
 use Rattle.lmtp_dialogue.specs.Copies.{IsCopy, was_delivered}
@@ -11,8 +11,8 @@ use Rattle.lmtp_dialogue.specs.declared.receiver.ReceivedMessage.{ReceivedMessag
 use Rattle.lmtp_dialogue.specs.declared.reply.LmtpReply.TheVariants.{HeaderTooLarge, MailLoop, StoreAway}
 use Rattle.lmtp_dialogue.specs.declared.message_text.TextFault.{TextFault}
 use Rattle.lmtp_dialogue.specs.declared.message_text.TextFault.TheVariants as fault
-use Rattle.lmtp_connections.specs.Connections.{LmtpState, IsOwed, earlier, IsNewDelivery, BecomesWithoutStore, TooLarge, Lacked, Again, LongHeader, Circles, PutOff, has_long_text_header}
-use Rattle.lmtp_connections.specs.Stands.{reply_for, ConnectionStands, Demands, IsNextForm, FormFollows, told_before, Owes}
+use Rattle.lmtp_connections.specs.Connections.{LmtpState, IsOwed, earlier, IsNewDelivery, IsReplyOwed, BecomesWithoutStore, TooLarge, Lacked, Again, LongHeader, Circles, PutOff, has_long_text_header}
+use Rattle.lmtp_connections.specs.Stands.{reply_for, ConnectionStands, Demands, IsNextForm, FormFollows, told_before, Owes, IsMessageDue, IsRequested}
 use Rattle.lmtp_connections.specs.Progress.{MayAskStore, HasWaited}
 use Rattle.lmtp_connections.specs.declared.addressee.Addressee.{Addressee}
 use Rattle.lmtp_dialogue.specs.declared.recipient_reply.RecipientReply.{RecipientReply}
@@ -28,6 +28,11 @@ split : {X : Type 0} (xs : List X) (i : ℕ) (x : X) → slice_get xs i ≡ Some
 split [] i x is = absurd (let never : None ≡ Some x = is in cc)
 split (y ∷ xs) zero x is = (xs, ap (λ z. z ∷ xs) (let same : y ≡ x = cc in same), refl)
 split (y ∷ xs) (suc i) x is = let more = split xs i x is in (more.0, ap (λ l. y ∷ l) more.1, ap suc more.2)
+
+pub within : {X : Type 0} (xs : List X) (i : ℕ) (x : X) → slice_get xs i ≡ Some x → i ≤ length xs
+within [] i x is = absurd (let never : None ≡ Some x = is in cc)
+within (y ∷ xs) zero x is = omega arith
+within (y ∷ xs) (suc i) x is = let more = within xs i x is in omega (arith, more)
 
 around : {X : Type 0} (xs before after : List X) (i : ℕ) (x : X) → xs ≡ before ++ x ∷ after → length before ≡ i → length xs ≡ suc i + length after
 around {X = X} xs before after i x is count = ap (λ (l : List X). length l) is ∙ seam before after x i count
@@ -110,55 +115,74 @@ module _ (now : ℕ) (c : Code) (it : Addressee) (received : ReceivedMessage) (d
       let kept : (text.now ≡ o.text) × (length o.text ≤ max_text) = subst (IsKept o.text) is o.kept in
       (o.after, subst (IsOwed p (told_before c) it o.after received.sender.now) (sym kept.0) o.is, subst (λ x. length x ≤ max_text) (sym kept.0) kept.1)
 
+  pub known : (became : RecipientReply) → it.became ≡ Some became → Demands now c (demand.Reply became)
+  known became is = λ p stands.
+      let o = owes_next c it received delivers there same p stands in
+      (told_before c, it, o.after, received.sender.now, o.text, o.is, inl is)
+
   becomes : (fault : TextFault) (p : LmtpState) (text : List ℕ) → IsKept text (Err fault) → BecomesWithoutStore now p (told_before c) it text (Refused (reply_for fault))
   becomes fault.TooLarge p text kept = TooLarge kept refl
   becomes fault.Memory p text kept = Lacked refl
 
-  pub unkept : (fault : TextFault) → received.text ≡ Err fault → Demands now c (demand.Reply (Refused (reply_for fault)))
-  unkept fault is = λ p stands.
+  pub unkept : it.became ≡ None → (fault : TextFault) → received.text ≡ Err fault → Demands now c (demand.Reply (Refused (reply_for fault)))
+  unkept fresh fault is = λ p stands.
       let o = owes_next c it received delivers there same p stands in
-      (told_before c, it, o.after, received.sender.now, o.text, o.is, becomes fault p o.text (subst (IsKept o.text) is o.kept))
+      (told_before c, it, o.after, received.sender.now, o.text, o.is, inr (fresh, becomes fault p o.text (subst (IsKept o.text) is o.kept)))
 
-module _ (now : ℕ) (c : Code) (it : Addressee) (sender text : List ℕ) (owes : Owes c it sender text) where
-  pub again : (became : RecipientReply) → earlier (told_before c) it ≡ Some became → Demands now c (demand.Reply became)
-  again became is = λ p stands.
+module _ (now : ℕ) (c : Code) (it : Addressee) (text : List ℕ) (fresh : it.became ≡ None) where
+  pub again : (became : RecipientReply) → earlier (told_before c) it ≡ Some became → (sender : List ℕ) → Owes c it sender text → Demands now c (demand.Reply became)
+  again became is = λ sender owes p stands.
       let o = owes p stands in
-      (told_before c, it, o.0, sender, text, o.1, Again is)
+      (told_before c, it, o.0, sender, text, o.1, inr (fresh, Again is))
 
-  pub too_long : has_long_text_header text ≡ true → Demands now c (demand.Reply (Refused HeaderTooLarge))
-  too_long is = λ p stands.
+  pub too_long : has_long_text_header text ≡ true → (sender : List ℕ) → Owes c it sender text → Demands now c (demand.Reply (Refused HeaderTooLarge))
+  too_long is = λ sender owes p stands.
       let o = owes p stands in
-      (told_before c, it, o.0, sender, text, o.1, LongHeader is refl)
+      (told_before c, it, o.0, sender, text, o.1, inr (fresh, LongHeader is refl))
 
-  pub goes_round : was_delivered it.address text ≡ true → Demands now c (demand.Reply (Refused MailLoop))
-  goes_round is = λ p stands.
+  pub goes_round : was_delivered it.address text ≡ true → (sender : List ℕ) → Owes c it sender text → Demands now c (demand.Reply (Refused MailLoop))
+  goes_round is = λ sender owes p stands.
       let o = owes p stands in
-      (told_before c, it, o.0, sender, text, o.1, Circles is refl)
+      (told_before c, it, o.0, sender, text, o.1, inr (fresh, Circles is refl))
 
-  new_one : earlier (told_before c) it ≡ None → has_long_text_header text ≡ false → was_delivered it.address text ≡ false → (p : LmtpState) → ConnectionStands c p → IsNewDelivery (told_before c) it text
-  new_one once headed straight p stands = record { small = (owes p stands).2; once = once; headed = headed; straight = straight }
+  new_one : earlier (told_before c) it ≡ None → has_long_text_header text ≡ false → was_delivered it.address text ≡ false → length text ≤ max_text → IsNewDelivery (told_before c) it text
+  new_one once headed straight small = record { fresh = fresh; small = small; once = once; headed = headed; straight = straight }
 
-  pub puts_off : earlier (told_before c) it ≡ None → has_long_text_header text ≡ false → was_delivered it.address text ≡ false → HasWaited now c.progress → Demands now c (demand.Reply (Refused StoreAway))
-  puts_off once headed straight waited = λ p stands.
+  pub puts_off : earlier (told_before c) it ≡ None → has_long_text_header text ≡ false → was_delivered it.address text ≡ false → HasWaited now c.progress
+      → (sender : List ℕ) → Owes c it sender text → Demands now c (demand.Reply (Refused StoreAway))
+  puts_off once headed straight waited = λ sender owes p stands.
       let o = owes p stands in
-      (told_before c, it, o.0, sender, text, o.1, PutOff (new_one once headed straight p stands) (subst (HasWaited now) stands.holds.progress waited) refl)
+      (told_before c, it, o.0, sender, text, o.1, inr (fresh, PutOff (new_one once headed straight o.2) (subst (HasWaited now) stands.holds.progress waited) refl))
 
-  pub delivery : earlier (told_before c) it ≡ None → has_long_text_header text ≡ false → was_delivered it.address text ≡ false → MayAskStore now c.progress → (request : DeliveryRequest) → request.user ≡ it.user → request.sender ≡ sender
-      → request.recipient ≡ it.address → IsCopy sender it.address text request.message → Demands now c (demand.Delivery request)
-  delivery once headed straight may request user from to copy = λ p stands.
-      let o = owes p stands in (
-        subst (MayAskStore now) stands.holds.progress may,
-        (
-          told_before c,
-          it,
-          o.0,
-          text,
-          record {
-            is = subst (λ x. IsOwed p (told_before c) it o.0 x text) (sym from) o.1;
-            user = user;
-            recipient = to;
-            copy = subst (λ x. IsCopy x request.recipient text request.message) (sym from) (subst (λ x. IsCopy sender x text request.message) (sym to) copy);
-            new = new_one once headed straight p stands;
-          },
-        ),
-      )
+  pub due : earlier (told_before c) it ≡ None → has_long_text_header text ≡ false → was_delivered it.address text ≡ false → MayAskStore now c.progress
+      → (sender : List ℕ) → Owes c it sender text → IsMessageDue now c it sender text
+  due once headed straight may = λ sender owes p stands.
+      let o = owes p stands in
+      (subst (MayAskStore now) stands.holds.progress may, (o.0, record { is = o.1; new = new_one once headed straight o.2 }))
+
+-- ---- the store is given it
+
+pub demanded : (now : ℕ) (c : Code) (it : Addressee) (sender text : List ℕ) → IsMessageDue now c it sender text → Demands now c demand.Delivery
+demanded now c it sender text due = λ p stands.
+    let d = due p stands in
+    (d.0, (told_before c, it, d.1.0, sender, text, d.1.1))
+
+pub requested : (now : ℕ) (c : Code) (it : Addressee) (sender text : List ℕ) → IsMessageDue now c it sender text → (request : DeliveryRequest) → request.user ≡ it.user → request.sender ≡ sender
+    → request.recipient ≡ it.address → IsCopy sender it.address text request.message → IsRequested now c request
+requested now c it sender text due request user from to copy = λ p stands.
+    let d = due p stands in (
+      d.0,
+      (
+        told_before c,
+        it,
+        d.1.0,
+        text,
+        record {
+          is = subst (λ x. IsOwed p (told_before c) it d.1.0 x text) (sym from) d.1.1.is;
+          user = user;
+          recipient = to;
+          copy = subst (λ x. IsCopy x request.recipient text request.message) (sym from) (subst (λ x. IsCopy sender x text request.message) (sym to) copy);
+          new = d.1.1.new;
+        },
+      ),
+    )

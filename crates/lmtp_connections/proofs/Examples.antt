@@ -1,12 +1,12 @@
 -- Right cases of the definitions, and near misses.
-use Rattle.std.proofs.Common.{◌≡◌, ◌∙◌, ℕ, ◌+◌, true, false, List, [], ◌∷◌, Option, Some, None, codes, refl, sym, arith}
+use Rattle.std.proofs.Common.{◌≡◌, ◌∙◌, inl, inr, ℕ, ◌+◌, true, false, List, [], ◌∷◌, Option, Some, None, codes, refl, sym, arith}
 use Rattle.mail_head.specs.Heads.{body_start}
 use Rattle.lmtp_dialogue.specs.Dialogues.{Asking}
 use Rattle.lmtp_dialogue.specs.Replies.{lmtp_line_of, first_octet}
 use Rattle.lmtp_dialogue.specs.declared.name.Names.TheVariants.{Local}
 use Rattle.lmtp_dialogue.specs.declared.receiver.Lookup.TheVariants.{Known, Unknown, Away}
 use Rattle.lmtp_dialogue.specs.declared.reply.LmtpReply.TheVariants.{NoSuchUser, NoRoom, StoreAway}
-use Rattle.lmtp_connections.specs.Connections.{LmtpState, LookupFinds, IsFinding, IsNewDelivery, BecomesWithoutStore, TooLarge, Lacked, Again, LongHeader, Circles, PutOff, IsDeliveryRequest, earlier, has_long_text_header, taken_with, next_form}
+use Rattle.lmtp_connections.specs.Connections.{LmtpState, LookupFinds, IsFinding, IsNewDelivery, IsDeliveryDue, IsReplyOwed, LmtpGoes, Gathered, BecomesWithoutStore, TooLarge, Lacked, Again, LongHeader, Circles, PutOff, IsDeliveryRequest, earlier, has_long_text_header, taken_with, next_form}
 use Rattle.lmtp_connections.specs.Progress.{new_progress, MayAskStore, HasWaited, progress_done}
 use Rattle.lmtp_connections.specs.declared.addressee.Addressee.{Addressee}
 use Rattle.lmtp_dialogue.specs.declared.recipient_reply.RecipientReply.{RecipientReply}
@@ -84,6 +84,18 @@ too_long_header text is = rw is refl
 not_twice : (p : LmtpState) (other it : Addressee) (after : List Addressee) (text : List ℕ) (request : DeliveryRequest) (became : RecipientReply) → earlier (other ∷ []) it ≡ Some became
     → IsDeliveryRequest p (other ∷ []) it after text request → ⊥
 not_twice p other it after text request became there is = let never : None ≡ Some became = sym is.new.once ∙ there in cc
+
+-- and once something became of it nothing is brought again, and that is what is told: no 452 for want of memory, though its text was dropped since
+not_brought_again : (p : LmtpState) (before after : List Addressee) (it : Addressee) (sender text : List ℕ) (became : RecipientReply) → it.became ≡ Some became → IsDeliveryDue p before it after sender text → ⊥
+not_brought_again p before after it sender text became there is = let never : None ≡ Some became = sym is.new.fresh ∙ there in cc
+
+told_what_became : (now : ℕ) (p : LmtpState) (before : List Addressee) (it : Addressee) (text : List ℕ) (became told : RecipientReply) → it.became ≡ Some became → IsReplyOwed now p before it text told → told ≡ became
+told_what_became now p before it text became told there (inl is) = let same : Some told ≡ Some became = sym is ∙ there in cc
+told_what_became now p before it text became told there (inr other) = absurd (let never : None ≡ Some became = sym other.0 ∙ there in cc)
+
+-- near miss: a reply in the step that gathers, so before the store was given the message
+not_answered_first : (now : ℕ) (p q : LmtpState) (said : List ℕ) → LmtpGoes now p Gathered said q → said ≡ []
+not_answered_first now p q said goes = goes.2
 
 abbrev ann : Option RecipientReply → Addressee
 ann became = record { user = codes "ann"; address = codes "ann@x"; became = became }

@@ -75,7 +75,9 @@ pub data LmtpStep : Type 0 where
   Asked : List ℕ → Lookup → LmtpStep
   -- the store was asked for, and wasn't available
   Away : LmtpStep
-  -- a message was to be delivered by the store, and this became of it
+  -- a message is to be delivered by the store, with those of others that are; nothing is said before it was
+  Gathered : LmtpStep
+  -- the store was to deliver a message, and this became of it; the reply follows
   Brought : DeliveryRequest → RecipientReply → LmtpStep
 
 -- ---- a line
@@ -161,9 +163,10 @@ max_text_header = 1046376
 abbrev pub has_long_text_header : List ℕ → Bool
 has_long_text_header text = nat_lt max_text_header (body_start text)
 
--- a message that the store may be given: it is kept, was delivered for no such recipient before, its header is no longer than one may be,
--- and it didn't come to that recipient before
+-- a message that the store may be given: nothing became of it yet; it is kept, was delivered for no such recipient before, its header is no
+-- longer than one may be, and it didn't come to that recipient before
 pub record IsNewDelivery (before : List Addressee) (it : Addressee) (text : List ℕ) : Type 0 where
+  pub fresh : it.became ≡ None
   pub small : length text ≤ max_text
   pub once : earlier before it ≡ None
   pub headed : has_long_text_header text ≡ false
@@ -178,6 +181,10 @@ pub data BecomesWithoutStore (now : ℕ) (p : LmtpState) (before : List Addresse
   LongHeader : has_long_text_header text ≡ true → became ≡ Refused HeaderTooLarge → BecomesWithoutStore now p before it text became
   Circles : was_delivered it.address text ≡ true → became ≡ Refused MailLoop → BecomesWithoutStore now p before it text became
   PutOff : IsNewDelivery before it text → HasWaited now p.progress → became ≡ Refused StoreAway → BecomesWithoutStore now p before it text became
+
+-- the reply that is owed: what became of the message, if something did; otherwise what becomes of it without the store
+abbrev pub IsReplyOwed : ℕ → LmtpState → List Addressee → Addressee → List ℕ → RecipientReply → Type 0
+IsReplyOwed now p before it text became = (it.became ≡ Some became) ⊎ ((it.became ≡ None) × BecomesWithoutStore now p before it text became)
 
 abbrev pub next_recipient : LmtpProgress → LmtpProgress
 next_recipient t = record t { told = t.told + 1 }
@@ -198,6 +205,11 @@ pub record Replied (now : ℕ) (p : LmtpState) (became : RecipientReply) (said :
   pub says : said ≡ recipient_lines became
   pub leaves : q ≡ lmtp_state_told now became p before it after sender text is
 
+-- the store may be given the message, for the recipient to whom a reply is owed next
+pub record IsDeliveryDue (p : LmtpState) (before : List Addressee) (it : Addressee) (after : List Addressee) (sender text : List ℕ) : Type 0 where
+  pub is : IsOwed p before it after sender text
+  pub new : IsNewDelivery before it text
+
 -- the message that is delivered: to the account of the recipient to whom a reply is owed next, from the sender, and its copy
 pub record IsDeliveryRequest (p : LmtpState) (before : List Addressee) (it : Addressee) (after : List Addressee) (text : List ℕ) (request : DeliveryRequest) : Type 0 where
   pub is : IsOwed p before it after request.sender text
@@ -206,19 +218,38 @@ pub record IsDeliveryRequest (p : LmtpState) (before : List Addressee) (it : Add
   pub copy : IsCopy request.sender request.recipient text request.message
   pub new : IsNewDelivery before it text
 
+-- what became of it is noted, and no reply is made yet
+abbrev pub lmtp_state_brought : ℕ → RecipientReply → LmtpState → List Addressee → Addressee → List Addressee → LmtpState
+lmtp_state_brought now became p before it after = record p {
+  addressees = before ++ record it { became = Some became } ∷ after;
+  progress = progress_settled now true true p.progress;
+}
+
+-- the store was given the request, and this became of it
+pub record BroughtFor (now : ℕ) (p : LmtpState) (request : DeliveryRequest) (became : RecipientReply) (q : LmtpState) : Type 0 where
+  pub before : List Addressee
+  pub it : Addressee
+  pub after : List Addressee
+  pub text : List ℕ
+  pub is : IsDeliveryRequest p before it after text request
+  pub leaves : q ≡ lmtp_state_brought now became p before it after
+
 -- ---- one step
+
+-- a message is to be delivered by the store
+abbrev pub AsksDelivery : LmtpState → Type 0
+AsksDelivery p = (before : List Addressee) × (it : Addressee) × (after : List Addressee) × (sender text : List ℕ) × IsDeliveryDue p before it after sender text
 
 -- the store is asked for: for an account, or for a delivery
 abbrev pub LmtpAsksStore : LmtpState → Type 0
-LmtpAsksStore p = ((address user : List ℕ) × (others : List (List ℕ)) × IsFormAsked p address user others)
-    ⊎ ((before : List Addressee) × (it : Addressee) × (after : List Addressee) × (text : List ℕ) × (request : DeliveryRequest) × IsDeliveryRequest p before it after text request)
+LmtpAsksStore p = ((address user : List ℕ) × (others : List (List ℕ)) × IsFormAsked p address user others) ⊎ AsksDelivery p
 
 -- a line is answered; a recipient is put off if the store was away for too long; or a reply is made after the text
 abbrev pub AnswersWithoutStore : ℕ → LmtpState → List ℕ → LmtpState → Type 0
 AnswersWithoutStore now p said q =
     AnswersLine now p said q
     ⊎ ((HasWaited now p.progress × Resolved now p Absent p.addressees said q)
-    ⊎ ((became : RecipientReply) × (replies : Replied now p became said q) × BecomesWithoutStore now p replies.before replies.it replies.text became))
+    ⊎ ((became : RecipientReply) × (replies : Replied now p became said q) × IsReplyOwed now p replies.before replies.it replies.text became))
 
 abbrev pub LmtpGoes : ℕ → LmtpState → LmtpStep → List ℕ → LmtpState → Type 0
 LmtpGoes now p Answered said q = AnswersWithoutStore now p said q
@@ -227,5 +258,5 @@ LmtpGoes now p (Asked user lookup) said q =
     MayAskStore now p.progress × IsFinding lookup
     × ((address : List ℕ) × (others : List (List ℕ)) × IsFormAsked p address user others × LookupFinds now p address user others lookup said q)
 LmtpGoes now p Away said q = MayAskStore now p.progress × LmtpAsksStore p × (said ≡ []) × (q ≡ record p { progress = progress_away now p.progress })
-LmtpGoes now p (Brought request became) said q =
-    MayAskStore now p.progress × ((replies : Replied now p became said q) × IsDeliveryRequest p replies.before replies.it replies.after replies.text request)
+LmtpGoes now p Gathered said q = MayAskStore now p.progress × AsksDelivery p × (said ≡ []) × (q ≡ p)
+LmtpGoes now p (Brought request became) said q = MayAskStore now p.progress × (said ≡ []) × BroughtFor now p request became q

@@ -1,5 +1,5 @@
 -- For which connection the code stands, and what its calls make of that.
-use Rattle.std.specs.Prelude.{◌≡◌, ◌⊎◌, ◌<◌, ℕ, ◌+◌, Bool, true, false, if◌then◌else◌, List, [], ◌∷◌, ◌++◌, length, take, ◌≤◌, Option, Some, None}
+use Rattle.std.specs.Prelude.{◌≡◌, ◌⊎◌, ◌<◌, ℕ, ◌+◌, Bool, true, false, if◌then◌else◌, List, [], ◌∷◌, ◌++◌, length, take, ◌≤◌, slice_get, Option, Some, None, option_map}
 use Rattle.std.specs.Vec.{vec_len, vec_capacity}
 use Rattle.lmtp_dialogue.specs.Dialogues.{Asking, Dialogue}
 use Rattle.lmtp_dialogue.specs.Receivers.{StandsIn, ComesNext, ReceiverHoldsNoMore as ReceiverHolds}
@@ -14,10 +14,11 @@ use Rattle.lmtp_dialogue.specs.declared.reply.LmtpReply.{LmtpReply}
 use Rattle.lmtp_dialogue.specs.declared.reply.LmtpReply.TheVariants.{MessageTooLarge, NoRoom}
 use Rattle.lmtp_dialogue.specs.declared.message_text.TextFault.{TextFault}
 use Rattle.lmtp_dialogue.specs.declared.message_text.TextFault.TheVariants.{TooLarge, Memory}
-use Rattle.lmtp_connections.specs.Connections.{LmtpState, has_some, lmtp_state_after, lmtp_state_heard, LmtpStep, Declined, LmtpGoes, LmtpAsksStore, IsFormAsked, first_form, IsOwed, BecomesWithoutStore, lmtp_state_told, IsDeliveryRequest}
+use Rattle.lmtp_connections.specs.Connections.{LmtpState, has_some, lmtp_state_after, lmtp_state_heard, LmtpStep, Declined, LmtpGoes, LmtpAsksStore, IsFormAsked, first_form, IsOwed, IsReplyOwed, AsksDelivery, IsDeliveryDue, lmtp_state_told, IsDeliveryRequest}
 use Rattle.lmtp_connections.specs.Progress.{MayAskStore, HasWaited, progress_settled, wanted}
 use Rattle.lmtp_connections.specs.declared.addressee.Addressee.{Addressee}
 use Rattle.lmtp_dialogue.specs.declared.recipient_reply.RecipientReply.{RecipientReply}
+use Rattle.lmtp_connections.specs.declared.demand.DeliveryRequest.{DeliveryRequest}
 use Rattle.lmtp_connections.specs.declared.demand.Demand.{Demand}
 use Rattle.lmtp_connections.specs.declared.demand.Demand.TheVariants as demand
 use Rattle.lmtp_connections.specs.declared.connection.LmtpConnection.{LmtpConnection as Code}
@@ -158,13 +159,18 @@ IsDemand now p (demand.Account question) =
     MayAskStore now p.progress × ((others : List (List ℕ)) × IsFormAsked p question.address question.user others × IsNextForm p.progress.tried question.next others)
 IsDemand now p (demand.Reply became) =
     (before : List Addressee) × (it : Addressee) × (after : List Addressee) × (sender text : List ℕ)
-    × IsOwed p before it after sender text × BecomesWithoutStore now p before it text became
-IsDemand now p (demand.Delivery request) =
-    MayAskStore now p.progress × ((before : List Addressee) × (it : Addressee) × (after : List Addressee) × (text : List ℕ) × IsDeliveryRequest p before it after text request)
+    × IsOwed p before it after sender text × IsReplyOwed now p before it text became
+IsDemand now p demand.Delivery = MayAskStore now p.progress × AsksDelivery p
 
 -- what is to be done next, whatever connection it stands for
 abbrev pub Demands : ℕ → Code → Demand → Type 0
 Demands now c demand = (p : LmtpState) → ConnectionStands c p → IsDemand now p demand
+
+-- the store may be asked, and this is the request that it is given next, whatever connection it stands for
+abbrev pub IsRequested : ℕ → Code → DeliveryRequest → Type 0
+IsRequested now c request =
+    (p : LmtpState) → ConnectionStands c p
+    → MayAskStore now p.progress × ((before : List Addressee) × (it : Addressee) × (after : List Addressee) × (text : List ℕ) × IsDeliveryRequest p before it after text request)
 
 -- those to whom a reply was made after the text
 abbrev pub told_before : Code → List Addressee
@@ -174,6 +180,20 @@ told_before c = take c.progress.told c.addressees.items
 abbrev pub Owes : Code → Addressee → List ℕ → List ℕ → Type 0
 Owes c it sender text =
     (p : LmtpState) → ConnectionStands c p → (after : List Addressee) × IsOwed p (told_before c) it after sender text × (length text ≤ max_text)
+
+-- the user of the recipient to whom a reply is owed next
+abbrev pub next_user : Code → Option (List ℕ)
+next_user c = option_map (λ (it : Addressee). it.user) (slice_get c.addressees.items c.progress.told)
+
+-- the store may be asked for it, and may be given the text for this recipient
+abbrev pub IsMessageDue : ℕ → Code → Addressee → List ℕ → List ℕ → Type 0
+IsMessageDue now c it sender text =
+    (p : LmtpState) → ConnectionStands c p → MayAskStore now p.progress × ((after : List Addressee) × IsDeliveryDue p (told_before c) it after sender text)
+
+-- what becomes of the text for the recipient to whom a reply is owed next: that without the store, or else it is due
+abbrev pub BecomesFor : ℕ → Code → Addressee → List ℕ → Option RecipientReply → Type 0
+BecomesFor now c it text (Some became) = (sender : List ℕ) → Owes c it sender text → Demands now c (demand.Reply became)
+BecomesFor now c it text None = (sender : List ℕ) → Owes c it sender text → IsMessageDue now c it sender text
 
 -- what is said if the text isn't kept
 abbrev pub reply_for : TextFault → LmtpReply

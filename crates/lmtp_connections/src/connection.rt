@@ -250,19 +250,14 @@ impl LmtpConnection {
         Ok(self.tell(now, became, room))
     }
 
-    /// The store was to deliver a message, and this became of it. Returns what is said. Takes no memory.
-    pub fn answer_delivery(
-        &mut self,
-        now: u64,
-        request: &DeliveryRequest,
-        became: RecipientReply,
-        room: ReplyBuffer,
-    ) -> Octets
-        requires { s.Demands now self.old (demands.Delivery request.now) }
-        ensures does { s.ConnectionDoes now (Brought request.now became) result self.old self.new }
+    /// The store was given the request, and this became of it. The reply is the next step's (`demand`). Takes no memory.
+    pub fn answer_delivery(&mut self, now: u64, request: &DeliveryRequest, became: RecipientReply)
+        requires { s.IsRequested now self.old request.now }
+        ensures does { s.ConnectionDoes now (Brought request.now became) [] self.old self.new }
         ensures held { s.ConnectionHoldsNoMore self.old self.new }
     {
-        self.tell(now, became, room)
+        self.set_became(became);
+        self.progress = self.progress.settled(now, true, true);
     }
 
     // Makes the reply to the next recipient.
@@ -277,7 +272,7 @@ impl LmtpConnection {
         lines
     }
 
-    // Notes what became of the message for the next recipient.
+    // Notes what became of the message for the next recipient, who is told so.
     fn note_became(&mut self, became: RecipientReply)
         ensures noted { s.NotesBecame became self.old self.new }
         ensures counted { self.old.progress.told < length self.old.addressees.items → self.new.progress ≡ connections.next_recipient self.old.progress }
@@ -285,9 +280,20 @@ impl LmtpConnection {
         ensures names { self.new.names ≡ self.old.names }
     {
         let told = self.progress.told;
+        if told < self.addressees.len() {
+            self.set_became(became);
+            self.progress.told = told + 1;
+        }
+    }
+
+    // Notes what became of the message for the recipient to whom a reply is owed next.
+    fn set_became(&mut self, became: RecipientReply)
+        ensures noted { s.NotesBecame became self.old self.new }
+        ensures rest { self.new ≡ record self.old { addressees = self.new.addressees } }
+    {
+        let told = self.progress.told;
         if let Some(addressee) = self.addressees.get_mut(told) {
             addressee.became = Some(became);
-            self.progress.told = told + 1;
         }
     }
 

@@ -39,6 +39,6 @@ pub enum Demand {
     Account(Question),
     /// A reply is to be made after the text, without the store.
     Reply(RecipientReply),
-    /// A message is to be delivered by the store.
-    Delivery(DeliveryRequest),
+    /// A message is to be delivered by the store (`LmtpConnection::delivery`).
+    Delivery,
 }

@@ -1,5 +1,5 @@
 //! What is to be done next for a connection.
-ghost use Rattle.std.specs.Prelude.{◌≡◌, ◌<◌, ◌≤◌, length, find, slice_get, None, IfOk, OnOk};
+ghost use Rattle.std.specs.Prelude.{◌≡◌, ◌<◌, ◌≤◌, length, find, slice_get, Some, None, IfOk, IfNone, IfSome, OnOk};
 ghost use Rattle.std.specs.Option.{option_copied};
 ghost use Rattle.lmtp_dialogue.specs.Dialogues.{Dialogue};
 ghost use Rattle.lmtp_dialogue.specs.Copies as copies;
@@ -81,14 +81,17 @@ impl LmtpConnection {
         if addressee.address.as_slice() != received.recipient {
             return Err(AllocError);
         }
+        if let Some(became) = &addressee.became {
+            return Ok(Demand::Reply(became.try_clone(self.alloc)?));
+        }
         match received.text {
-            Ok(text) => self.demand_delivery(now, addressee, received.sender, text),
+            Ok(text) => self.demand_by(now, addressee, received.sender, text),
             Err(fault) => Ok(Demand::Reply(RecipientReply::Refused(reply_for(fault)))),
         }
     }
 
-    // The text is there, and goes to this recipient.
-    fn demand_delivery(
+    // The text is there, and nothing became of it yet for this recipient.
+    fn demand_by(
         &self,
         now: u64,
         addressee: &Addressee,
@@ -97,37 +100,117 @@ impl LmtpConnection {
     ) -> Result<Demand, AllocError>
         requires some { self.now.progress.told ≤ length self.now.addressees.items }
         requires owes { s.Owes self.now addressee.now sender.now text.now }
+        requires fresh { addressee.now.became ≡ None }
         ensures { IfOk result (s.Demands now self.now) }
     {
-        match earlier(self.told_before(), addressee) {
-            Some(became) => Ok(Demand::Reply(became.try_clone(self.alloc)?)),
-            None => self.demand_new(now, addressee, sender, text),
+        match self.becomes(now, addressee, text)? {
+            Some(became) => Ok(Demand::Reply(became)),
+            None => Ok(Demand::Delivery),
         }
     }
 
-    // It wasn't delivered for the same recipient before.
-    fn demand_new(
+    /// The user of the recipient to whom a reply is owed next, if there is one.
+    pub fn next_user(&self) -> Option<&[u8]>
+        ensures found { IfSome result (λ user. s.next_user self.now ≡ Some user.now) }
+        ensures none { IfNone result (s.next_user self.now ≡ None) }
+    {
+        match addressee_at(self.addressees.as_slice(), self.progress.told) {
+            Some(addressee) => Some(addressee.user.as_slice()),
+            None => None,
+        }
+    }
+
+    /// The request that the store is given next; none if no message is to be delivered next. Time and memory are linear in the text.
+    ///
+    /// Lack of memory is the only error.
+    pub fn delivery(&self, now: u64) -> Result<Option<DeliveryRequest>, AllocError>
+        ensures { IfOk result (λ made. IfSome made (s.IsRequested now self.now)) }
+    {
+        match self.receiver.next() {
+            Next::Delivery(received) => self.request_by(now, received),
+            _ => Ok(None),
+        }
+    }
+
+    // The request for the recipient to whom a reply is owed next.
+    fn request_by(
+        &self,
+        now: u64,
+        received: ReceivedMessage<'_>,
+    ) -> Result<Option<DeliveryRequest>, AllocError>
+        requires { (d : Dialogue) → StandsIn self.now.receiver d → ComesNext d (Next.Delivery received) }
+        ensures { IfOk result (λ made. IfSome made (s.IsRequested now self.now)) }
+    {
+        let Some(addressee) = addressee_at(self.addressees.as_slice(), self.progress.told) else {
+            return Ok(None);
+        };
+        if addressee.address.as_slice() != received.recipient || addressee.became.is_some() {
+            return Ok(None);
+        }
+        match received.text {
+            Ok(text) => self.request_of(now, addressee, received.sender, text),
+            Err(_) => Ok(None),
+        }
+    }
+
+    // The request for this recipient, if the store is to deliver its message.
+    fn request_of(
         &self,
         now: u64,
         addressee: &Addressee,
         sender: &[u8],
         text: &[u8],
-    ) -> Result<Demand, AllocError>
+    ) -> Result<Option<DeliveryRequest>, AllocError>
+        requires some { self.now.progress.told ≤ length self.now.addressees.items }
         requires owes { s.Owes self.now addressee.now sender.now text.now }
+        requires fresh { addressee.now.became ≡ None }
+        ensures { IfOk result (λ made. IfSome made (s.IsRequested now self.now)) }
+    {
+        let None = self.becomes(now, addressee, text)? else {
+            return Ok(None);
+        };
+        let request = request_for(self.alloc, addressee, sender, text)?;
+        Ok(Some(request))
+    }
+
+    // What becomes of the text for this recipient without the store; none if the store is to deliver it.
+    fn becomes(
+        &self,
+        now: u64,
+        addressee: &Addressee,
+        text: &[u8],
+    ) -> Result<Option<RecipientReply>, AllocError>
+        requires some { self.now.progress.told ≤ length self.now.addressees.items }
+        requires fresh { addressee.now.became ≡ None }
+        ensures { IfOk result (s.BecomesFor now self.now addressee.now text.now) }
+    {
+        match earlier(self.told_before(), addressee) {
+            Some(became) => Ok(Some(became.try_clone(self.alloc)?)),
+            None => self.becomes_new(now, addressee, text),
+        }
+    }
+
+    // The same of a text that wasn't delivered for the same recipient before.
+    fn becomes_new(
+        &self,
+        now: u64,
+        addressee: &Addressee,
+        text: &[u8],
+    ) -> Result<Option<RecipientReply>, AllocError>
+        requires fresh { addressee.now.became ≡ None }
         requires once { connections.earlier (s.told_before self.now) addressee.now ≡ None }
-        ensures { IfOk result (s.Demands now self.now) }
+        ensures { IfOk result (s.BecomesFor now self.now addressee.now text.now) }
     {
         if has_long_header(text) {
-            return Ok(Demand::Reply(RecipientReply::Refused(LmtpReply::HeaderTooLarge)));
+            return Ok(Some(RecipientReply::Refused(LmtpReply::HeaderTooLarge)));
         }
         if circles(self.alloc, text, addressee.address.as_slice())? {
-            return Ok(Demand::Reply(RecipientReply::Refused(LmtpReply::MailLoop)));
+            return Ok(Some(RecipientReply::Refused(LmtpReply::MailLoop)));
         }
         if !self.progress.may_ask(now) {
-            return Ok(Demand::Reply(RecipientReply::Refused(LmtpReply::StoreAway)));
+            return Ok(Some(RecipientReply::Refused(LmtpReply::StoreAway)));
         }
-        let request = request_for(self.alloc, addressee, sender, text)?;
-        Ok(Demand::Delivery(request))
+        Ok(None)
     }
 
     // Those to whom a reply was made after the text.

@@ -1,6 +1,7 @@
 -- Why two users have no Maildir in common.
 use Rattle.std.proofs.Common.{◌≡◌, ℕ, Bool, true, false, inl, inr, List, [], ◌∷◌, ◌++◌, Some, None, refl, sym, ap, ◌∙◌, subst}
-use Rattle.std.specs.Prelude.{◌⊎◌, Contains, if◌then◌else◌}
+use Rattle.std.specs.Prelude.{◌⊎◌, ◌&&◌, Option, Contains, if◌then◌else◌}
+use Rattle.std.specs.Cmp.Lexicographic.{bytes_decides}
 use Rattle.std.specs.List.{list_all, All}
 use Rattle.std.proofs.lemmas.Bool.{and_parts}
 use Rattle.std.proofs.lemmas.List.{append_cancel_left}
@@ -8,7 +9,8 @@ use Rattle.std.proofs.lemmas.List.Elements.{All-contains, All-cons, All-nil}
 use Rattle.std.proofs.lemmas.List.Sums.{AllPass-from_list_all}
 use Rattle.sieve_exec.specs.Parts.{Cuts, local_of, domain_of}
 use Rattle.sieve_exec.proofs.PartLemmas.{cuts_of}
-use Rattle.maildir_homes.specs.Homes.{HomesDiffer, TellApart, front_path, has_home, has_no_mark, is_directory_name, part_fits, home_part_text, parts_path}
+use Rattle.maildir_homes.specs.Homes.{HomesDiffer, IsOneDomain, TellApart, is_of_domain, front_path, has_home, has_no_mark, is_directory_name, part_fits, home_part_text, parts_path}
+use Rattle.maildir_homes.specs.declared.homes.MailHomes.{MailHomes}
 use Rattle.maildir_homes.specs.declared.homes.HomePart.{HomePart}
 use Rattle.maildir_homes.specs.declared.homes.HomePart.TheVariants.{Named, User, Local, Domain}
 
@@ -81,14 +83,35 @@ halves user fits = by (cuts_of user)
     by (inl at) = at.cut
     by (inr alone) = absurd (let none : is_directory_name [] ≡ true = subst (λ (d : List ℕ). is_directory_name d ≡ true) alone.none fits in let no : false ≡ true = none in cc)
 
-told_apart : (parts : List HomePart) (one other : List ℕ) → TellApart parts → list_all (λ part. part_fits part one) parts ≡ true → list_all (λ part. part_fits part other) parts ≡ true
-    → All (AreSame one other) parts → one ≡ other
-told_apart parts one other (inl user) fits suits same = All-contains (AreSame one other) parts User same user
-told_apart parts one other (inr both) fits suits same =
-    let local : local_of one ≡ local_of other = All-contains (AreSame one other) parts Local same both.0 in
-    let domain : domain_of one ≡ domain_of other = All-contains (AreSame one other) parts Domain same both.1 in
-    halves one (fits_in parts Domain one fits both.1) ∙ ap (λ l. l ++ 64 ∷ domain_of one) local ∙ ap (λ d. local_of other ++ 64 ∷ d) domain
-    ∙ sym (halves other (fits_in parts Domain other suits both.1))
+-- and so is one of a domain that isn't empty
+halves_of : (user : List ℕ) → (domain_of user ≡ [] → ⊥) → user ≡ local_of user ++ 64 ∷ domain_of user
+halves_of user some = by (cuts_of user)
+  where
+    by : Cuts user (local_of user) (domain_of user) → user ≡ local_of user ++ 64 ∷ domain_of user
+    by (inl at) = at.cut
+    by (inr alone) = absurd (some alone.none)
+
+-- whoever has a Maildir is of the domain, if there is only one
+of_domain : (domain user : List ℕ) → is_of_domain (Some domain) user ≡ true → domain_of user ≡ domain
+of_domain domain user is = (bytes_decides (domain_of user) domain).0 is
+
+both_halves : (one other : List ℕ) → one ≡ local_of one ++ 64 ∷ domain_of one → other ≡ local_of other ++ 64 ∷ domain_of other → local_of one ≡ local_of other → domain_of one ≡ domain_of other → one ≡ other
+both_halves one other first second local domain = first ∙ ap (λ l. l ++ 64 ∷ domain_of one) local ∙ ap (λ d. local_of other ++ 64 ∷ d) domain ∙ sym second
+
+same_domain : (o : Option (List ℕ)) (one other : List ℕ) → IsOneDomain o → is_of_domain o one ≡ true → is_of_domain o other ≡ true → local_of one ≡ local_of other → one ≡ other
+same_domain None one other alone first second local = absurd alone
+same_domain (Some domain) one other some first second local =
+    let a = of_domain domain one first in
+    let b = of_domain domain other second in
+    both_halves one other (halves_of one (λ none. some (sym a ∙ none))) (halves_of other (λ none. some (sym b ∙ none))) local (a ∙ sym b)
+
+told_apart : (homes : MailHomes) (one other : List ℕ) → TellApart homes → is_of_domain homes.domain one ≡ true → is_of_domain homes.domain other ≡ true
+    → list_all (λ part. part_fits part one) homes.parts ≡ true → list_all (λ part. part_fits part other) homes.parts ≡ true → All (AreSame one other) homes.parts → one ≡ other
+told_apart homes one other (inl user) first second fits suits same = All-contains (AreSame one other) homes.parts User same user
+told_apart homes one other (inr (local, inl domain)) first second fits suits same =
+    both_halves one other (halves one (fits_in homes.parts Domain one fits domain)) (halves other (fits_in homes.parts Domain other suits domain)) (All-contains (AreSame one other) homes.parts Local same local)
+    (All-contains (AreSame one other) homes.parts Domain same domain)
+told_apart homes one other (inr (local, inr alone)) first second fits suits same = same_domain homes.domain one other alone first second (All-contains (AreSame one other) homes.parts Local same local)
 
 home_is : (has : Bool) (path found : List ℕ) → (if has then Some path else None) ≡ Some found → (has ≡ true) × (path ≡ found)
 home_is true path found is = (refl, let it : path ≡ found = cc in it)
@@ -96,9 +119,11 @@ home_is false path found is = absurd (let no : ⊥ = cc in no)
 
 pub homes_differ : HomesDiffer
 homes_differ homes one other path apart first second =
-    let a = home_is (has_home homes.parts one) (front_path homes.dir homes.parts one) path first in
-    let b = home_is (has_home homes.parts other) (front_path homes.dir homes.parts other) path second in
-    let fits = (and_parts _ _ a.0).1 in
-    let suits = (and_parts _ _ b.0).1 in
+    let a = home_is (is_of_domain homes.domain one && has_home homes.parts one) (front_path homes.dir homes.parts one) path first in
+    let b = home_is (is_of_domain homes.domain other && has_home homes.parts other) (front_path homes.dir homes.parts other) path second in
+    let here = and_parts (is_of_domain homes.domain one) (has_home homes.parts one) a.0 in
+    let there = and_parts (is_of_domain homes.domain other) (has_home homes.parts other) b.0 in
+    let fits = (and_parts _ _ here.1).1 in
+    let suits = (and_parts _ _ there.1).1 in
     let same : parts_path homes.parts one ≡ parts_path homes.parts other = append_cancel_left homes.dir (parts_path homes.parts one) (parts_path homes.parts other) (a.1 ∙ sym b.1) in
-    told_apart homes.parts one other apart fits suits (parts_same homes.parts one other fits suits same)
+    told_apart homes one other apart here.0 there.0 fits suits (parts_same homes.parts one other fits suits same)

@@ -1,2 +1,3 @@
+mod HomeExamples
 mod HomeLemmas
 mod TemplateLemmas

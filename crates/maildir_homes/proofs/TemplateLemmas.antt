@@ -26,22 +26,22 @@ none_at_all text nowhere = list_any_none is_percent text (λ j d below.
     false_from_ne_true _ (λ passes. nowhere j (omega arith) below (ap is_percent (sym (get_or_default text j d 0 below)) ∙ passes)))
 
 -- no `%`
-pub plain_path : (text : List ℕ) (homes : MailHomes) → IsFirstByte (is_byte 37) text None → IsDirectoryOfAll text (Some homes) → IsReadAs text (Some homes)
-plain_path text homes nowhere made = inl (none_at_all text nowhere, made)
+pub plain_path : (text : List ℕ) (domain : Option (List ℕ)) (homes : MailHomes) → IsFirstByte (is_byte 37) text None → IsDirectoryOfAll text domain (Some homes) → IsReadAs text domain (Some homes)
+plain_path text domain homes nowhere made = inl (none_at_all text nowhere, made)
 
 -- the first one at a place: what stands there begins with it
 behind : (text : List ℕ) (k : ℕ) → IsFirstByte (is_byte 37) text (Some k) → drop k text ≡ 37 ∷ drop (suc k) text
 behind text k first = drop-cons text k 0 first.0.high ∙ ap (λ o. o ∷ drop (suc k) text) (eqb-true _ 37 first.1)
 
-pub template_path : (text : List ℕ) (k : ℕ) (result : Option MailHomes) → IsFirstByte (is_byte 37) text (Some k) → IsReadBehind (take k text) (drop k text) result → IsReadAs text result
-template_path text k result first read =
-    inr (take k text, drop (suc k) text, sym (take-append-drop k text) ∙ ap (λ l. take k text ++ l) (behind text k first), none_before text k (omega (arith, first.0.high)) first.0.before, subst (λ t. IsReadBehind (take k text) t result) (behind text k first) read)
+pub template_path : (text : List ℕ) (domain : Option (List ℕ)) (k : ℕ) (result : Option MailHomes) → IsFirstByte (is_byte 37) text (Some k) → IsReadBehind (take k text) (drop k text) domain result → IsReadAs text domain result
+template_path text domain k result first read =
+    inr (take k text, drop (suc k) text, sym (take-append-drop k text) ∙ ap (λ l. take k text ++ l) (behind text k first), none_before text k (omega (arith, first.0.high)) first.0.before, subst (λ t. IsReadBehind (take k text) t domain result) (behind text k first) read)
 
-pub read_behind : (front tail dir : List ℕ) (result : Option MailHomes) → front ≡ dir ++ 47 ∷ [] → IsReadIn dir tail result → IsReadBehind front tail result
-read_behind front tail dir result is read = inl (dir, is, read)
+pub read_behind : (front tail dir : List ℕ) (domain : Option (List ℕ)) (result : Option MailHomes) → front ≡ dir ++ 47 ∷ [] → IsReadIn dir tail domain result → IsReadBehind front tail domain result
+read_behind front tail dir domain result is read = inl (dir, is, read)
 
-pub no_directory : (front tail : List ℕ) → ((dir : List ℕ) → front ≡ dir ++ 47 ∷ [] → ⊥) → IsReadBehind front tail None
-no_directory front tail none = inr (none, refl)
+pub no_directory : (front tail : List ℕ) (domain : Option (List ℕ)) → ((dir : List ℕ) → front ≡ dir ++ 47 ∷ [] → ⊥) → IsReadBehind front tail domain None
+no_directory front tail domain none = inr (none, refl)
 
 -- ---- parts
 
@@ -64,12 +64,12 @@ last_same (first ∷ one) [] x y is = absurd (not_nothing one x (let rest : [] �
 last_same (first ∷ one) (second ∷ other) x y is = last_same one other x y (let rest : one ++ x ∷ [] ≡ other ++ y ∷ [] = cc in rest)
 
 -- there is none
-pub nothing_before : (text : List ℕ) (k : ℕ) → IsFirstByte (is_byte 37) text (Some k) → take k text ≡ [] → IsReadAs text None
-nothing_before text k first empty = template_path text k None first (no_directory (take k text) (drop k text) (λ dir is. not_nothing dir 47 (sym empty ∙ is)))
+pub nothing_before : (text : List ℕ) (domain : Option (List ℕ)) (k : ℕ) → IsFirstByte (is_byte 37) text (Some k) → take k text ≡ [] → IsReadAs text domain None
+nothing_before text domain k first empty = template_path text domain k None first (no_directory (take k text) (drop k text) domain (λ dir is. not_nothing dir 47 (sym empty ∙ is)))
 
 -- what is there doesn't end with `/`
-pub no_slash_before : (text dir : List ℕ) (k last : ℕ) → IsFirstByte (is_byte 37) text (Some k) → take k text ≡ dir ++ last ∷ [] → (last ≡ 47 → ⊥) → IsReadAs text None
-no_slash_before text dir k last first before other = template_path text k None first (no_directory (take k text) (drop k text) (λ found is. other (last_same dir found last 47 (sym before ∙ is))))
+pub no_slash_before : (text dir : List ℕ) (domain : Option (List ℕ)) (k last : ℕ) → IsFirstByte (is_byte 37) text (Some k) → take k text ≡ dir ++ last ∷ [] → (last ≡ 47 → ⊥) → IsReadAs text domain None
+no_slash_before text dir domain k last first before other = template_path text domain k None first (no_directory (take k text) (drop k text) domain (λ found is. other (last_same dir found last 47 (sym before ∙ is))))
 
-pub slash_before : (text dir : List ℕ) (k last : ℕ) (result : Option MailHomes) → IsFirstByte (is_byte 37) text (Some k) → take k text ≡ dir ++ last ∷ [] → last ≡ 47 → IsReadIn dir (drop k text) result → IsReadAs text result
-slash_before text dir k last result first before is read = template_path text k result first (read_behind (take k text) (drop k text) dir result (before ∙ ap (λ o. dir ++ o ∷ []) is) read)
+pub slash_before : (text dir : List ℕ) (domain : Option (List ℕ)) (k last : ℕ) (result : Option MailHomes) → IsFirstByte (is_byte 37) text (Some k) → take k text ≡ dir ++ last ∷ [] → last ≡ 47 → IsReadIn dir (drop k text) domain result → IsReadAs text domain result
+slash_before text dir domain k last result first before is read = template_path text domain k result first (read_behind (take k text) (drop k text) dir domain result (before ∙ ap (λ o. dir ++ o ∷ []) is) read)

@@ -1,5 +1,6 @@
 -- Where the users' Maildirs are: within one directory, each by the same parts of a path, which differ from user to user.
-use Rattle.std.specs.Prelude.{◌≡◌, ◌⊎◌, ℕ, ◌==◌, ◌&&◌, not, Bool, true, false, List, [], ◌∷◌, ◌++◌, Option, Some, None, Contains, if◌then◌else◌}
+use Rattle.std.specs.Prelude.{◌≡◌, ◌⊎◌, ℕ, ◌==◌, ◌&&◌, not, Bool, true, false, List, [], ◌∷◌, ◌++◌, Option, Some, None, Contains, if◌then◌else◌, nat_eq}
+use Rattle.std.specs.Cmp.Lexicographic.{pointwise}
 use Rattle.std.specs.List.{list_all, flat_map}
 use Rattle.sieve_exec.specs.Parts.{local_of, domain_of}
 use Rattle.maildir_homes.specs.declared.homes.HomePart.{HomePart}
@@ -43,14 +44,26 @@ front_path dir parts user = dir ++ parts_path parts user
 abbrev pub has_home : List HomePart → List ℕ → Bool
 has_home parts user = is_directory_name user && list_all (λ part. part_fits part user) parts
 
+-- whether a user is of the domain, octet by octet, if only those of one have a Maildir: it follows the last `@` of the name
+abbrev pub is_of_domain : Option (List ℕ) → List ℕ → Bool
+is_of_domain None user = true
+is_of_domain (Some domain) user = pointwise nat_eq (domain_of user) domain
+
 -- a user's Maildir
 abbrev pub home : MailHomes → List ℕ → Option (List ℕ)
-home homes user = if has_home homes.parts user then Some (front_path homes.dir homes.parts user) else None
+home homes user =
+    if is_of_domain homes.domain user && has_home homes.parts user then Some (front_path homes.dir homes.parts user) else None
 
--- the parts tell apart any two users: by the whole name, or by both halves of it
-abbrev pub TellApart : List HomePart → Type 0
-TellApart parts = Contains parts User ⊎ (Contains parts Local × Contains parts Domain)
+-- only users of one domain have a Maildir; it isn't empty, as that of a name without `@` is
+abbrev pub IsOneDomain : Option (List ℕ) → Type 0
+IsOneDomain None = ⊥
+IsOneDomain (Some domain) = domain ≡ [] → ⊥
+
+-- any two users who have one are told apart: by the whole name, or by both halves of it, of which the domain may be the same for all
+abbrev pub TellApart : MailHomes → Type 0
+TellApart homes =
+    Contains homes.parts User ⊎ (Contains homes.parts Local × (Contains homes.parts Domain ⊎ IsOneDomain homes.domain))
 
 -- two users have no Maildir in common
 abbrev pub HomesDiffer : Type 0
-HomesDiffer = (homes : MailHomes) (one other path : List ℕ) → TellApart homes.parts → home homes one ≡ Some path → home homes other ≡ Some path → one ≡ other
+HomesDiffer = (homes : MailHomes) (one other path : List ℕ) → TellApart homes → home homes one ≡ Some path → home homes other ≡ Some path → one ≡ other

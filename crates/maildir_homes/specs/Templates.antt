@@ -54,24 +54,32 @@ is_domain_part User = false
 is_domain_part Local = false
 is_domain_part Domain = true
 
--- two users differ in one of the parts: the whole name, or one of its halves
-abbrev pub tell_apart : List HomePart → Bool
-tell_apart parts = list_any is_user_part parts || list_any is_local_part parts && list_any is_domain_part parts
+-- only users of one domain have a Maildir, and that isn't empty
+abbrev pub is_one_domain : Option (List ℕ) → Bool
+is_one_domain None = false
+is_one_domain (Some domain) = not (is_empty_name domain)
+
+-- two users who have one differ in one of the parts: the whole name, or one of its halves, where the domain isn't the same for all
+abbrev pub tell_apart : Option (List ℕ) → List HomePart → Bool
+tell_apart domain parts =
+    list_any is_user_part parts || list_any is_local_part parts && (list_any is_domain_part parts || is_one_domain domain)
 
 -- the parts of a path
 abbrev pub path_parts : List ℕ → List (List ℕ)
 path_parts = slice_split is_slash
 
--- what stands behind a directory is read as these homes; or it can't be
-abbrev pub IsReadIn : List ℕ → List ℕ → Option MailHomes → Type 0
-IsReadIn dir tail (Some homes) =
-    IsTrue (list_all is_home_part (path_parts tail)) × (homes.dir ≡ dir) × (homes.parts ≡ map home_part_named (path_parts tail)) × IsTrue (tell_apart homes.parts)
-IsReadIn dir tail None = IsTrue (list_all is_home_part (path_parts tail)) × IsTrue (tell_apart (map home_part_named (path_parts tail))) → ⊥
+-- what stands behind a directory is read as these homes, of the users of the domain alone, if one is given; or it can't be
+abbrev pub IsReadIn : List ℕ → List ℕ → Option (List ℕ) → Option MailHomes → Type 0
+IsReadIn dir tail domain (Some homes) =
+    IsTrue (list_all is_home_part (path_parts tail)) × (homes.dir ≡ dir) × (homes.parts ≡ map home_part_named (path_parts tail))
+    × (homes.domain ≡ domain) × IsTrue (tell_apart domain homes.parts)
+IsReadIn dir tail domain None =
+    IsTrue (list_all is_home_part (path_parts tail)) × IsTrue (tell_apart domain (map home_part_named (path_parts tail))) → ⊥
 
 -- the directory ends where the part with the first `%` begins
-abbrev pub IsReadBehind : List ℕ → List ℕ → Option MailHomes → Type 0
-IsReadBehind front tail result =
-    ((dir : List ℕ) × (front ≡ dir ++ 47 ∷ []) × IsReadIn dir tail result) ⊎ (((dir : List ℕ) → front ≡ dir ++ 47 ∷ [] → ⊥) × (result ≡ None))
+abbrev pub IsReadBehind : List ℕ → List ℕ → Option (List ℕ) → Option MailHomes → Type 0
+IsReadBehind front tail domain result =
+    ((dir : List ℕ) × (front ≡ dir ++ 47 ∷ []) × IsReadIn dir tail domain result) ⊎ (((dir : List ℕ) → front ≡ dir ++ 47 ∷ [] → ⊥) × (result ≡ None))
 
 abbrev pub is_percent : ℕ → Bool
 is_percent octet = octet == 37
@@ -80,12 +88,13 @@ abbrev pub has_percent : List ℕ → Bool
 has_percent text = list_any is_percent text
 
 -- each user has a Maildir of the user's own name in the directory
-abbrev pub IsDirectoryOfAll : List ℕ → Option MailHomes → Type 0
-IsDirectoryOfAll text (Some homes) = (homes.dir ≡ text) × (homes.parts ≡ User ∷ [])
-IsDirectoryOfAll text None = ⊥
+abbrev pub IsDirectoryOfAll : List ℕ → Option (List ℕ) → Option MailHomes → Type 0
+IsDirectoryOfAll text domain (Some homes) = (homes.dir ≡ text) × (homes.parts ≡ User ∷ []) × (homes.domain ≡ domain)
+IsDirectoryOfAll text domain None = ⊥
 
 -- a path without `%` is the directory of all; otherwise the parts from the first `%` on are read
-abbrev pub IsReadAs : List ℕ → Option MailHomes → Type 0
-IsReadAs text result =
-    ((has_percent text ≡ false) × IsDirectoryOfAll text result)
-    ⊎ ((front tail : List ℕ) × (text ≡ front ++ 37 ∷ tail) × (has_percent front ≡ false) × IsReadBehind front (37 ∷ tail) result)
+abbrev pub IsReadAs : List ℕ → Option (List ℕ) → Option MailHomes → Type 0
+IsReadAs text domain result =
+    ((has_percent text ≡ false) × IsDirectoryOfAll text domain result)
+    ⊎ ((front tail : List ℕ) × (text ≡ front ++ 37 ∷ tail) × (has_percent front ≡ false)
+    × IsReadBehind front (37 ∷ tail) domain result)

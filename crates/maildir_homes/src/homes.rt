@@ -1,5 +1,5 @@
 //! Where the users' Maildirs are.
-ghost use Rattle.std.specs.Prelude.{◌≡◌, ◌∷◌, [], take, IfOk};
+ghost use Rattle.std.specs.Prelude.{◌≡◌, ◌∷◌, ◌&&◌, [], take, IfOk};
 ghost use Rattle.std.specs.List.{list_all};
 ghost use Rattle.maildir_homes.specs.Homes as homes;
 ghost use Rattle.maildir_homes.specs.declared.homes.HomePart.TheVariants.{User};
@@ -54,20 +54,26 @@ pub struct MailHomes {
     pub dir: Octets,
     /// The parts of the path from there to a user's.
     pub parts: List<HomePart>,
+    /// The domain whose users alone have one: what follows the last `@` of their names. All users have one if it is left out.
+    pub domain: Option<Octets>,
 }
 
 impl MailHomes {
-    /// In a directory, each under the user's name. Lack of memory is the only error.
-    pub fn in_directory(alloc: Global, dir: Octets) -> Result<MailHomes, AllocError>
-        ensures { IfOk result (λ made. (made.dir ≡ dir) × (made.parts ≡ User ∷ [])) }
+    /// In a directory, each under the user's name, for the users of a domain alone, if one is given. Lack of memory is the only error.
+    pub fn in_directory(
+        alloc: Global,
+        dir: Octets,
+        domain: Option<Octets>,
+    ) -> Result<MailHomes, AllocError>
+        ensures { IfOk result (λ made. (made.dir ≡ dir) × (made.parts ≡ User ∷ []) × (made.domain ≡ domain)) }
     {
         let mut parts = List::new(alloc);
         parts.push(HomePart::User)?;
-        Ok(MailHomes { dir, parts })
+        Ok(MailHomes { dir, parts, domain })
     }
 
-    /// The path of a user's Maildir. None if a part of it can't be a directory's name for this user: an empty one, one that begins with
-    /// `.`, and one that has `/` or NUL.
+    /// The path of a user's Maildir. None for a user of another domain, if only those of one have a Maildir; and if a part of it can't
+    /// be a directory's name for this user: an empty one, one that begins with `.`, and one that has `/` or NUL.
     pub fn home_of(&self, alloc: Global, user: &[u8]) -> Result<Option<Octets>, AllocError>
         ensures { IfOk result (λ home. home ≡ homes.home self.now user.now) }
     {
@@ -86,11 +92,23 @@ impl MailHomes {
         path_in(alloc, self.dir.as_slice(), front, user)
     }
 
-    /// Whether each part can be a directory for a user.
+    /// Whether a user can have one: it is of the domain, and each part can be a directory.
     fn fits(&self, user: &[u8]) -> bool
-        ensures { result ≡ homes.has_home self.now.parts user.now }
+        ensures { result ≡ (homes.is_of_domain self.now.domain user.now && homes.has_home self.now.parts user.now) }
     {
-        is_directory_name(user) && do_fit(self.parts.as_slice(), user)
+        is_of_domain(&self.domain, user)
+            && is_directory_name(user)
+            && do_fit(self.parts.as_slice(), user)
+    }
+}
+
+/// Whether a user is of the domain, if one is given.
+fn is_of_domain(domain: &Option<Octets>, user: &[u8]) -> bool
+    ensures { result ≡ homes.is_of_domain domain.now user.now }
+{
+    match domain {
+        Some(domain) => domain_in(user) == domain.as_slice(),
+        None => true,
     }
 }
 

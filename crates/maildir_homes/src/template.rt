@@ -10,15 +10,20 @@ use std::alloc::{AllocError, Global};
 
 /// Reads where the users' Maildirs are: a path in which `%u`, `%n` and `%d`, each a whole part, stand for the user's name, what precedes
 /// the last `@` of it, and what follows that. A path without `%` is the directory in which each user has one under the user's name.
+/// With a domain only its users have one.
 ///
 /// None if there is a `%` elsewhere, if a part behind the first of these is empty, `.` or `..`, and if two users could have one Maildir:
-/// it needs `%u`, or both `%n` and `%d`. Lack of memory is the only error.
-pub fn read_homes(alloc: Global, text: &[u8]) -> Result<Option<MailHomes>, AllocError>
-    ensures { IfOk result (λ read. templates.IsReadAs text.now read) }
+/// it needs `%u`, or both `%n` and `%d`, or `%n` and a domain that isn't empty. Lack of memory is the only error.
+pub fn read_homes(
+    alloc: Global,
+    text: &[u8],
+    domain: Option<Octets>,
+) -> Result<Option<MailHomes>, AllocError>
+    ensures { IfOk result (λ read. templates.IsReadAs text.now domain read) }
 {
     let Some(at) = memchr(b'%', text) else {
         let dir = Octets::from_slice(alloc, text)?;
-        return Ok(Some(MailHomes::in_directory(alloc, dir)?));
+        return Ok(Some(MailHomes::in_directory(alloc, dir, domain)?));
     };
     let (front, tail) = text.split_at(at);
     let Some((last, dir)) = front.split_last() else {
@@ -27,22 +32,27 @@ pub fn read_homes(alloc: Global, text: &[u8]) -> Result<Option<MailHomes>, Alloc
     if *last != b'/' {
         return Ok(None);
     }
-    read_in(alloc, dir, tail)
+    read_in(alloc, dir, tail, domain)
 }
 
 /// Reads the parts behind a directory.
-fn read_in(alloc: Global, dir: &[u8], tail: &[u8]) -> Result<Option<MailHomes>, AllocError>
-    ensures { IfOk result (λ read. templates.IsReadIn dir.now tail.now read) }
+fn read_in(
+    alloc: Global,
+    dir: &[u8],
+    tail: &[u8],
+    domain: Option<Octets>,
+) -> Result<Option<MailHomes>, AllocError>
+    ensures { IfOk result (λ read. templates.IsReadIn dir.now tail.now domain read) }
 {
     if !are_parts(tail) {
         return Ok(None);
     }
     let parts = parts_of(alloc, tail)?;
-    if !tell_apart(parts.as_slice()) {
+    if !tell_apart(&domain, parts.as_slice()) {
         return Ok(None);
     }
     let dir = Octets::from_slice(alloc, dir)?;
-    Ok(Some(MailHomes { dir, parts }))
+    Ok(Some(MailHomes { dir, parts, domain }))
 }
 
 /// Whether each part may stand in a path.
@@ -104,10 +114,26 @@ fn home_part_named(alloc: Global, name: &[u8]) -> Result<HomePart, AllocError>
 }
 
 /// Whether no two users have one Maildir.
-fn tell_apart(parts: &[HomePart]) -> bool
-    ensures { result ≡ templates.tell_apart parts.now }
+fn tell_apart(domain: &Option<Octets>, parts: &[HomePart]) -> bool
+    ensures { result ≡ templates.tell_apart domain.now parts.now }
 {
-    has_user(parts) || has_local(parts) && has_domain(parts)
+    has_user(parts) || has_local(parts) && (has_domain(parts) || is_one_domain(domain))
+}
+
+/// Whether only users of one domain have a Maildir.
+fn is_one_domain(domain: &Option<Octets>) -> bool
+    ensures { result ≡ templates.is_one_domain domain.now }
+{
+    match domain {
+        Some(domain) => !is_empty_name(domain.as_slice()),
+        None => false,
+    }
+}
+
+fn is_empty_name(name: &[u8]) -> bool
+    ensures { result ≡ templates.is_empty_name name.now }
+{
+    name.is_empty()
 }
 
 fn has_user(parts: &[HomePart]) -> bool

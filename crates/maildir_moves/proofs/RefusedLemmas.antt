@@ -13,15 +13,18 @@ use Rattle.managesieve_sessions.specs.Scripts.{IfElse}
 use Rattle.store_engine.specs.AccountEvents.{DeliversIn, DeliversUnder, AddsOver, AddsUnder, ImportsOver, ImportsUnder, TakesFromQueue, TakesQueueRow, TakesMailIn, TakesFirst}
 use Rattle.store_engine.specs.Hosts.{IsMade}
 use Rattle.store_engine.specs.Limits.{limit_refusal}
-use Rattle.store_engine.specs.Upkeep.{Alters, OnlyAnswers, InAccount, Stores, DoesUpkeep, Keeping, put_instead}
+use Rattle.store_engine.specs.ScriptEdits.{objection_to}
+use Rattle.store_engine.specs.Upkeep.{Alters, OnlyAnswers, InAccount, Stores, Edits, EditsUnless, DoesUpkeep, Keeping, put_instead}
 use Rattle.store_engine.specs.World.{World, InSession, OpensSession, StepsSession, Ignores, WorldBecomes, EventHappens, Next}
 use Rattle.store_engine.specs.declared.answer.Answer.{Answer}
-use Rattle.store_engine.specs.declared.answer.Answer.TheVariants.{Delivered, Added, Imported, Taken, MailTaken, Changed, Stored, Closed, Opened, Removed, NoticesTaken, Out, Refused}
+use Rattle.store_engine.specs.declared.answer.Answer.TheVariants.{Delivered, Added, Imported, Taken, MailTaken, Changed, Stored, Edited, Closed, Opened, Removed, NoticesTaken, Out, Refused}
 use Rattle.store_engine.specs.declared.event.Event.{Event}
 use Rattle.store_engine.specs.declared.event.Event.TheVariants.{Open, Give, Step, GiveUp, Close, Deliver, AddUser, Import, TakeOut, TakeMail, DoUpkeep}
+use Rattle.store_engine.specs.declared.script_edit.ScriptEdit.{ScriptEdit}
+use Rattle.store_engine.specs.declared.script_edit.ScriptObjection.{ScriptObjection}
 use Rattle.store_engine.specs.declared.upkeep.Upkeep.{Upkeep}
 use Rattle.store_engine.specs.declared.terms.Terms.{Terms}
-use Rattle.store_engine.specs.declared.upkeep.Upkeep.TheVariants.{SetPassword, SetAddress, StoreScript, CloseAccount, OpenAccount, RemoveAccount, TakeNotices}
+use Rattle.store_engine.specs.declared.upkeep.Upkeep.TheVariants.{SetPassword, SetAddress, StoreScript, EditScripts, CloseAccount, OpenAccount, RemoveAccount, TakeNotices}
 
 either : {P A B C : Type 0} → (A → C) → (B → C) → IfElse P A B → C
 either a b (inl it) = a it.1
@@ -46,11 +49,16 @@ module _ (refusal : Refusal) (answer : Answer) (is : answer ≡ Refused refusal)
   in_account (Some a) row change rows it = rows a it
 
   module _ (change : Option Account) where
+    edits_none : (edit : ScriptEdit) (a : Account) (o : Option ScriptObjection) → EditsUnless o edit a answer change → change ≡ None
+    edits_none edit a None it = alters Edited _ change tt it
+    edits_none edit a (Some objection) it = it.stays
+
     keeps_none : (u : Upkeep) (o : Option Account) → DoesUpkeep u o answer change → change ≡ None
     keeps_none (SetPassword salt password) o = either (in_account (open_one o) _ change (λ a. alters Changed _ change tt)) (λ it. it.stays)
     keeps_none (SetAddress address) o = either (in_account (open_one o) _ change (λ a. alters Changed _ change tt)) (λ it. it.stays)
     keeps_none (StoreScript name text activate) o =
         either (either (in_account (open_one o) (Stores name text activate) change (λ a. either (either (alters Stored _ change tt) (λ it. it.2.stays)) (λ it. it.stays))) (λ it. it.stays)) (λ it. it.stays)
+    keeps_none (EditScripts edit) o = either (in_account (open_one o) (Edits edit) change (λ a. edits_none edit a (objection_to edit a))) (λ it. it.stays)
     keeps_none CloseAccount o = in_account (open_one o) _ change (λ a. alters Closed _ change tt)
     keeps_none OpenAccount o = in_account (known_one o) _ change (λ a. by_bool (is_closed_account a) (alters Opened _ change tt) (λ (it : OnlyAnswers (Refused UserIsOpen) answer change). it.stays))
     keeps_none (RemoveAccount mail) o = in_account (known_one o) _ change (λ a. by_bool (not mail && has_mail a) (λ (it : OnlyAnswers (Refused UserHasMail) answer change). it.stays) (alters Removed _ change tt))

@@ -151,7 +151,11 @@ fn homes_of(
     let Some(mail) = mail else {
         return Ok(None);
     };
-    match read_homes(alloc, mail.homes.as_bytes()) {
+    let domain = match mail.domain {
+        Some(domain) => Some(Octets::from_slice(alloc, domain.as_bytes())?),
+        None => None,
+    };
+    match read_homes(alloc, mail.homes.as_bytes(), domain) {
         Ok(Some(homes)) => Ok(Some(homes)),
         Ok(None) => Err(FaultWithCause::from(RunFault::BadArgument)),
         Err(refused) => Err(FaultWithCause::from(refused)),

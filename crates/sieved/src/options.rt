@@ -42,6 +42,8 @@ pub enum LmtpEndpoint<'a> {
 pub struct MailOptions<'a> {
     /// Where the users' Maildirs are, as `read_homes` reads it.
     pub homes: &'a str,
+    /// The domain whose users alone have one, if it is only one; it isn't empty.
+    pub domain: Option<&'a str>,
     /// The separator of the levels of a folder's name in a Maildir.
     pub separator: Separator,
 }
@@ -91,16 +93,22 @@ pub fn read_options(words: DaemonArgs<'_>) -> Result<DaemonOptions<'_>, RunFault
     })
 }
 
-/// Where mail moves to. A separator of levels may be given only with it.
+/// Where mail moves to. A separator of levels and a domain may be given only with it, and a domain isn't empty.
 fn mail_of(words: DaemonArgs<'_>) -> Result<Option<MailOptions<'_>>, RunFault> {
     let Some(homes) = words.mail else {
-        return match words.separator {
-            Some(_) => Err(RunFault::BadArgument),
-            None => Ok(None),
-        };
+        if words.separator.is_some() || words.domain.is_some() {
+            return Err(RunFault::BadArgument);
+        }
+        return Ok(None);
     };
-    let separator = separator_of(words.separator)?;
-    Ok(Some(MailOptions { homes, separator }))
+    if words.domain.is_some_and(str::is_empty) {
+        return Err(RunFault::BadArgument);
+    }
+    Ok(Some(MailOptions {
+        homes,
+        domain: words.domain,
+        separator: separator_of(words.separator)?,
+    }))
 }
 
 fn endpoint_of(text: &str) -> LmtpEndpoint<'_> {

@@ -18,20 +18,25 @@ use Rattle.managesieve_sessions.specs.Limits.{script_limit, IsScriptName}
 use Rattle.managesieve_sessions.specs.Scripts.{HasRoom, IsValidScript, IsVerdict}
 use Rattle.managesieve_sessions.proofs.ActLemmas.{no_glance, glanced, read_shows, acts_read, acts_made, acts_undone}
 use Rattle.store_engine.specs.declared.answer.Answer.{Answer}
-use Rattle.store_engine.specs.declared.answer.Answer.TheVariants.{Changed, Stored, Invalid, Closed, Opened, Removed, NoticesTaken, Refused}
+use Rattle.store_engine.specs.declared.answer.Answer.TheVariants.{Changed, Stored, Invalid, Edited, Objected, Closed, Opened, Removed, NoticesTaken, Refused}
+use Rattle.store_engine.specs.declared.script_edit.ScriptEdit.{ScriptEdit}
+use Rattle.store_engine.specs.declared.script_edit.ScriptObjection.{ScriptObjection}
 use Rattle.store_engine.specs.declared.standing.Standing.{Standing}
 use Rattle.store_engine.specs.declared.upkeep.Upkeep.{Upkeep}
-use Rattle.store_engine.specs.declared.upkeep.Upkeep.TheVariants.{SetPassword, SetAddress, StoreScript, CloseAccount, OpenAccount, RemoveAccount, TakeNotices}
+use Rattle.store_engine.specs.declared.upkeep.Upkeep.TheVariants.{SetPassword, SetAddress, StoreScript, EditScripts, CloseAccount, OpenAccount, RemoveAccount, TakeNotices}
 use Rattle.store_engine.specs.Hosts.{TurnsBy, MayTurnBy, MayRefuseKeeping, ActsKeeping}
 use Rattle.store_engine.specs.Limits.{is_password, IsOwnAddress}
 use Rattle.store_engine.specs.Lookups.{LooksUp, standing_of, ReadsStanding}
-use Rattle.store_engine.specs.Upkeep.{rounds, kept_password, Alters, OnlyAnswers, InAccount, stores, Stores, OpensClosed, Removes, DoesUpkeep, Keeping, IsFit, MayLackFor}
+use Rattle.store_engine.specs.Upkeep.{rounds, kept_password, Alters, OnlyAnswers, InAccount, stores, Stores, EditsUnless, Edits, OpensClosed, Removes, DoesUpkeep, Keeping, IsFit, MayLackFor}
+use Rattle.store_engine.specs.ScriptEdits.{GivesScriptName, WritesFound, edited, objection_to}
+use Rattle.store_engine.proofs.EditLemmas.{found_written}
 
 -- where nothing that was handed in stands against it, memory may lack
 lacks_fit : (upkeep : Upkeep) → IsFit upkeep → MayLackFor upkeep
 lacks_fit (SetPassword salt password) fit = fit
 lacks_fit (SetAddress address) fit = tt
 lacks_fit (StoreScript name text activate) fit = fit
+lacks_fit (EditScripts edit) fit = fit
 lacks_fit CloseAccount fit = fit
 lacks_fit OpenAccount fit = fit
 lacks_fit (RemoveAccount mail) fit = fit
@@ -81,22 +86,26 @@ module _ (user : List ℕ) (upkeep : Upkeep) where
 
         -- the account is changed
         module _ (change : Account → Account) (done : Answer) (makes : (o : Option Account) → Known o → (account : Account) × (o ≡ Some account) × DoesUpkeep upkeep o done (Some (change account)))
-            (c : State) (w : Result (Unit {0}) Refusal) (late : WritesUser user change b c w) where
+            (c : State) (w : Result (Unit {0}) Refusal) (late : WritesFound user change b c w) where
           fits : HasCleanDisk b → (accounts : Accounts) → Presents a.now accounts → HasUser user accounts × Row accounts done (with_user accounts user change)
           fits clean accounts p =
               let it = makes (get accounts user) (known clean accounts p) in
               (subst IsSome (sym it.1) refl, (Some (change it.0), it.2, ap (in_place accounts user change) it.1))
 
-          pub keeping_written : (q : Result Answer Refusal) → q ≡ result_and w (Ok done) → ActsKeeping user upkeep a c q
-          keeping_written q same = subst (λ o. ActsKeeping user upkeep a c o) (sym same) (go w refl late.named)
+          pub keeping_found : (q : Result Answer Refusal) → q ≡ result_and w (Ok done) → ActsKeeping user upkeep a c q
+          keeping_found q same = subst (λ o. ActsKeeping user upkeep a c o) (sym same) (go w refl late.named)
             where
               go : (o : Result (Unit {0}) Refusal) → w ≡ o → IfErr o IsTransient → ActsKeeping user upkeep a c (result_and o (Ok done))
               go (Ok y) is transient =
-                  acts_made a b c r x was k (HasUser user) (λ all. with_user all user change) w late.made late.settled (λ clean tables. late.same clean) late.crash (TurnsBy Row May done) (MayTurnBy Row) y done is
+                  acts_made a b c r x was k (HasUser user) (λ all. with_user all user change) w late.made late.settled late.same late.crash (TurnsBy Row May done) (MayTurnBy Row) y done is
                   (λ clean accounts p. let f = fits clean accounts p in (f.0, inl f.1, (done, f.1)))
               go (Err e) is transient =
-                  acts_undone a b c r x was k (HasUser user) (λ all. with_user all user change) w late.made late.settled (λ clean tables. late.same clean) late.crash (TurnsBy Row May (Refused e)) (MayTurnBy Row) e (Err e) is
+                  acts_undone a b c r x was k (HasUser user) (λ all. with_user all user change) w late.made late.settled late.same late.crash (TurnsBy Row May (Refused e)) (MayTurnBy Row) e (Err e) is
                   (λ told. told transient) (λ accounts. transient_turn e accounts transient) (λ clean accounts p. let f = fits clean accounts p in (f.0, (done, f.1)))
+
+        pub keeping_written : (change : Account → Account) (done : Answer) → ((o : Option Account) → Known o → (account : Account) × (o ≡ Some account) × DoesUpkeep upkeep o done (Some (change account)))
+            → (c : State) (w : Result (Unit {0}) Refusal) → WritesUser user change b c w → (q : Result Answer Refusal) → q ≡ result_and w (Ok done) → ActsKeeping user upkeep a c q
+        keeping_written change done makes c w late = keeping_found change done makes c w (found_written user change b c w late)
 
     -- ---- of an open account
 
@@ -133,6 +142,12 @@ module _ (user : List ℕ) (upkeep : Upkeep) where
             → (c : State) (w : Result (Unit {0}) Refusal) → WritesUser user change b c w → (q : Result Answer Refusal) → q ≡ result_and w (Ok done) → ActsKeeping user upkeep a c q
         opened_written change done makes =
             keeping_written a b r look.reads.keeps x was (IsOpenAnd (P x)) known change done (λ o it. (it.0, open_there o it.0 it.1, makes o it.0 it.1 it.2))
+
+        -- the same of a write that looks for the account again
+        pub opened_found : (change : Account → Account) (done : Answer) → ((o : Option Account) (account : Account) → open_one o ≡ Some account → P x account → DoesUpkeep upkeep o done (Some (change account)))
+            → (c : State) (w : Result (Unit {0}) Refusal) → WritesFound user change b c w → (q : Result Answer Refusal) → q ≡ result_and w (Ok done) → ActsKeeping user upkeep a c q
+        opened_found change done makes =
+            keeping_found a b r look.reads.keeps x was (IsOpenAnd (P x)) known change done (λ o it. (it.0, open_there o it.0 it.1, makes o it.0 it.1 it.2))
 
     -- ---- of one that is open or closed
 
@@ -206,6 +221,22 @@ module _ (name text : List ℕ) (activate : Bool) where
     pub script_makes : IsValidScript text → (o : Option Account) (account : Account) → open_one o ≡ Some account → HasRoom account name → DoesUpkeep (StoreScript name text activate) o Stored (Some (stores name text activate account))
     script_makes valid o account is room =
         inl (named, inl (short, in_found (Stores name text activate) (open_one o) account Stored (Some (stores name text activate account)) is (inl (room, inl (valid, record { says = refl; changed = refl })))))
+
+module _ (edit : ScriptEdit) where
+  pub edit_bad : (GivesScriptName edit → ⊥) → (o : Option Account) → DoesUpkeep (EditScripts edit) o (Refused BadScriptName) None
+  edit_bad bad o = inr (bad, record { says = refl; stays = refl })
+
+  module _ (named : GivesScriptName edit) where
+    pub edit_shut : (o : Option Account) → open_one o ≡ None → DoesUpkeep (EditScripts edit) o (Refused NoUser) None
+    edit_shut o none = inl (named, in_none (Edits edit) (open_one o) none)
+
+    pub edit_objected : (objection : ScriptObjection) (o : Option Account) (account : Account) → open_one o ≡ Some account → objection_to edit account ≡ Some objection → DoesUpkeep (EditScripts edit) o (Objected objection) None
+    edit_objected objection o account is against =
+        inl (named, in_found (Edits edit) (open_one o) account (Objected objection) None is (subst (λ t. EditsUnless t edit account (Objected objection) None) (sym against) (record { says = refl; stays = refl })))
+
+    pub edit_makes : (o : Option Account) (account : Account) → open_one o ≡ Some account → objection_to edit account ≡ None → DoesUpkeep (EditScripts edit) o Edited (Some (edited edit account))
+    edit_makes o account is free =
+        inl (named, in_found (Edits edit) (open_one o) account Edited (Some (edited edit account)) is (subst (λ t. EditsUnless t edit account Edited (Some (edited edit account))) (sym free) (record { says = refl; changed = refl })))
 
 pub close_shut : (o : Option Account) → open_one o ≡ None → DoesUpkeep CloseAccount o (Refused NoUser) None
 close_shut o none = in_none (λ a. Alters Closed (closes a)) (open_one o) none

@@ -5,6 +5,8 @@ pub mod CopyLemmas
 mod DeliveriesExamples
 pub mod DeliveriesLemmas
 pub mod DeliveryLemmas
+mod EditExamples
+pub mod EditLemmas
 mod EventExamples
 mod FlagLemmas
 pub mod HostLemmas

@@ -26,7 +26,8 @@ use Rattle.store_accounts.specs.declared.refusal.Refusal.{Refusal}
 use Rattle.store_accounts.proofs.AccountLemmas.{bytes_antisymmetric}
 use Rattle.managesieve_sessions.specs.Limits.{scripts_limit, IsScriptName}
 use Rattle.managesieve_sessions.specs.Replies.{is_ok}
-use Rattle.managesieve_sessions.specs.Scripts.{HasRoom, RepliesToPut, RepliesToSet, RepliesToDelete, RepliesToRename, RepliesTo, active_name, carried_out, obeyed}
+use Rattle.managesieve_sessions.proofs.ScriptLemmas.{active_not}
+use Rattle.managesieve_sessions.specs.Scripts.{is_active, HasRoom, RepliesToPut, RepliesToSet, RepliesToDelete, RepliesToRename, RepliesTo, active_name, carried_out, obeyed}
 use Rattle.sieve_plan.specs.Delivered.{Response, Silent, NoRoom, Quiet, Sent, acts, done_of, held_of, redirects, responds}
 use Rattle.sieve_plan.specs.Sequences.{Settled, CarriesOutSettled, notice_left, forgotten_unless}
 use Rattle.sieve_plan.specs.Sent.{kept_handles, redirect_key, over_keys}
@@ -34,7 +35,12 @@ use Rattle.store_engine.specs.declared.event.Event.{Event}
 use Rattle.store_engine.specs.declared.answer.Answer.{Answer}
 use Rattle.store_engine.specs.Limits.{limit_refusal, IsNewUser, IsOwnAddress}
 use Rattle.store_engine.specs.AccountEvents.{MachineRefuses}
+use Rattle.store_engine.specs.ScriptEdits.{GivesScriptName, edited, has_script, objection_to}
 use Rattle.store_engine.specs.Upkeep.{kept_password, stores, instead}
+use Rattle.store_engine.specs.declared.script_edit.ScriptEdit.{ScriptEdit}
+use Rattle.store_engine.specs.declared.script_edit.ScriptEdit.TheVariants as change
+use Rattle.store_engine.specs.declared.script_edit.ScriptObjection.TheVariants.{NoScript, IsActive, NameTaken}
+use Rattle.store_engine.proofs.EditLemmas.{passed, passed_by}
 use Rattle.store_engine.proofs.UpkeepLemmas.{LastsThrough, keeps_holds}
 use Rattle.store_accounts.specs.declared.refusal.Refusal.TheVariants.{UserExists, UserHasMail}
 use Rattle.store_accounts.proofs.StandingLemmas.{open_there}
@@ -334,11 +340,28 @@ sound_stored a own name text new room true =
     there = subst IsSome (sym (get-insert nat_list_cmp_total a.scripts name text name ∙ ap (λ b. cond b (Some text) (get a.scripts name)) (bytes_eq_refl name))) refl
 sound_stored a own name text new room false = sound_put a own name text new room
 
+sound_edited : (a : Account) → IsSoundAccount a → (edit : ScriptEdit) → GivesScriptName edit → objection_to edit a ≡ None → IsSoundAccount (edited edit a)
+sound_edited a own (change.Activate name) named free = record {
+  address = own.address;
+  scripts = own.scripts;
+  few = own.few;
+  active = (passed (has_script a name) None NoScript free).0;
+  filled = own.filled;
+}
+sound_edited a own change.Deactivate named free = record { address = own.address; scripts = own.scripts; few = own.few; active = tt; filled = own.filled }
+sound_edited a own (change.Delete name) named free =
+    let idle = passed_by (is_active a.active name) IsActive (passed (has_script a name) (cond (is_active a.active name) (Some IsActive) None) NoScript free).1 in
+    sound_deleted a own name (active_not a.active name idle)
+sound_edited a own (change.Rename name other) named free =
+    let tests = passed (has_script a name) (cond (has_script a other) (Some NameTaken) None) NoScript free in
+    sound_renamed a own name other named tests.0 (λ there. true≢false (sym there ∙ passed_by (has_script a other) NameTaken tests.1))
+
 sound_lasts : LastsThrough IsSoundAccount
 sound_lasts = record {
   guarded = λ a password own. record { address = own.address; scripts = own.scripts; few = own.few; active = own.active; filled = own.filled };
   addressed = λ a address new own. record { address = new; scripts = own.scripts; few = own.few; active = own.active; filled = own.filled };
   stored = λ a name text activate named short valid room own. sound_stored a own name text (record { named = named; short = short; valid = valid }) room activate;
+  edits = λ a edit named free own. sound_edited a own edit named free;
   counted = λ a rounds own. record { address = own.address; scripts = own.scripts; few = own.few; active = own.active; filled = own.filled };
   removed = λ a own. sound_removed a own;
   noticed = λ a until own. record { address = own.address; scripts = own.scripts; few = own.few; active = own.active; filled = own.filled };

@@ -50,7 +50,10 @@ use Rattle.store_engine.specs.declared.answer.Answer.{Answer}
 use Rattle.store_engine.specs.Limits.{limit_refusal}
 use Rattle.store_accounts.specs.Account.{row_with}
 use Rattle.store_engine.specs.AccountEvents.{MachineRefuses, DeliversIn, DeliversUnder}
+use Rattle.store_engine.specs.ScriptEdits.{edited}
 use Rattle.store_engine.specs.Upkeep.{stores, instead}
+use Rattle.store_engine.specs.declared.script_edit.ScriptEdit.{ScriptEdit}
+use Rattle.store_engine.specs.declared.script_edit.ScriptEdit.TheVariants as change
 use Rattle.store_engine.proofs.UpkeepLemmas.{LastsThrough, keeps_holds}
 use Rattle.store_accounts.specs.declared.refusal.Refusal.TheVariants.{UserExists, UserHasMail}
 use Rattle.store_engine.specs.OwnActs as own
@@ -344,6 +347,7 @@ replies_last r = record {
   guarded = λ a password is. is;
   addressed = λ a address own is. is;
   stored = λ a name text activate named short valid room is. go a name text activate is;
+  edits = λ a edit named free is. kept a edit is;
   counted = λ a rounds is. is;
   removed = λ a is. is;
   noticed = λ a until is. is;
@@ -352,6 +356,12 @@ replies_last r = record {
     go : (a : Account) (name text : List ℕ) (activate : Bool) → a.replies ≡ r → (stores name text activate a).replies ≡ r
     go a name text true is = is
     go a name text false is = is
+
+    kept : (a : Account) (edit : ScriptEdit) → a.replies ≡ r → (edited edit a).replies ≡ r
+    kept a (change.Activate name) is = is
+    kept a change.Deactivate is = is
+    kept a (change.Delete name) is = is
+    kept a (change.Rename name other) is = is
 
 kept_keeps : (account change : Option Account) (thread : Thread) → ((r : ReplyMoments) → IfSome account (λ a. a.replies ≡ r) → IfSome change (λ a. a.replies ≡ r)) → IsNoSooner (kept_in account thread) (kept_in (instead change account) thread)
 kept_keeps account None thread lasts = no_sooner_same (kept_in account thread)

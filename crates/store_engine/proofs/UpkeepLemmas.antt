@@ -5,12 +5,15 @@ use Rattle.store_accounts.specs.declared.refusal.Refusal.TheVariants.{NoUser, Us
 use Rattle.managesieve_sessions.specs.Limits.{script_limit, IsScriptName}
 use Rattle.managesieve_sessions.specs.Scripts.{HasRoom, IsValidScript}
 use Rattle.store_engine.specs.declared.answer.Answer.{Answer}
-use Rattle.store_engine.specs.declared.answer.Answer.TheVariants.{Changed, Stored, Closed, Opened, Removed, NoticesTaken, Refused}
+use Rattle.store_engine.specs.declared.answer.Answer.TheVariants.{Changed, Stored, Edited, Objected, Closed, Opened, Removed, NoticesTaken, Refused}
+use Rattle.store_engine.specs.declared.script_edit.ScriptEdit.{ScriptEdit}
+use Rattle.store_engine.specs.declared.script_edit.ScriptObjection.{ScriptObjection}
 use Rattle.store_engine.specs.declared.upkeep.Upkeep.{Upkeep}
-use Rattle.store_engine.specs.declared.upkeep.Upkeep.TheVariants.{SetPassword, SetAddress, StoreScript, CloseAccount, OpenAccount, RemoveAccount, TakeNotices}
+use Rattle.store_engine.specs.declared.upkeep.Upkeep.TheVariants.{SetPassword, SetAddress, StoreScript, EditScripts, CloseAccount, OpenAccount, RemoveAccount, TakeNotices}
 use Rattle.store_engine.specs.Limits.{IsOwnAddress}
 use Rattle.store_engine.specs.OwnActs.{is_lost}
-use Rattle.store_engine.specs.Upkeep.{rounds, kept_password, Alters, OnlyAnswers, InAccount, stores, Stores, OpensClosed, Removes, DoesUpkeep, instead}
+use Rattle.store_engine.specs.Upkeep.{rounds, kept_password, Alters, OnlyAnswers, InAccount, stores, Stores, EditsUnless, Edits, OpensClosed, Removes, DoesUpkeep, instead}
+use Rattle.store_engine.specs.ScriptEdits.{GivesScriptName, edited, objection_to}
 
 -- ---- an answer that is lost
 
@@ -42,6 +45,13 @@ module _ (answer : Answer) (change : Option Account) (lost : (said : Answer) →
   stores_lost name text activate a (inl (room, inr (wrong, is))) = is.2.stays
   stores_lost name text activate a (inr (full, is)) = is.stays
 
+  edits_lost : (edit : ScriptEdit) (a : Account) → Edits edit a answer change → change ≡ None
+  edits_lost edit a is = go (objection_to edit a) is
+    where
+      go : (o : Option ScriptObjection) → EditsUnless o edit a answer change → change ≡ None
+      go None told = altered_never Edited (edited edit a) refl told
+      go (Some objection) told = told.stays
+
   pub lost_stays : (upkeep : Upkeep) (account : Option Account) → DoesUpkeep upkeep account answer change → change ≡ None
   lost_stays (SetPassword salt password) account (inl (fit, is)) = in_account (open_one account) _ (λ a. altered_never Changed (changes_password (kept_password salt password) a) refl) is
   lost_stays (SetPassword salt password) account (inr (unfit, is)) = is.stays
@@ -50,6 +60,8 @@ module _ (answer : Answer) (change : Option Account) (lost : (said : Answer) →
   lost_stays (StoreScript name text activate) account (inl (named, inl (short, is))) = in_account (open_one account) _ (stores_lost name text activate) is
   lost_stays (StoreScript name text activate) account (inl (named, inr (long, is))) = is.stays
   lost_stays (StoreScript name text activate) account (inr (bad, is)) = is.stays
+  lost_stays (EditScripts edit) account (inl (named, is)) = in_account (open_one account) _ (edits_lost edit) is
+  lost_stays (EditScripts edit) account (inr (bad, is)) = is.stays
   lost_stays CloseAccount account is = in_account (open_one account) _ (λ a. altered_never Closed (closes a) refl) is
   lost_stays OpenAccount account is = in_account (known_one account) _ opens_lost is
   lost_stays (RemoveAccount mail) account is = in_account (known_one account) _ (removes_lost mail) is
@@ -94,6 +106,13 @@ module _ (answer : Answer) (one two : Option Account) where
   stores_one name text activate a (inl (room, is)) (inr (full, was)) = absurd (full room)
   stores_one name text activate a (inr (full, is)) (inl (room, was)) = absurd (full room)
 
+  edits_one : (edit : ScriptEdit) (a : Account) → Edits edit a answer one → Edits edit a answer two → one ≡ two
+  edits_one edit a is was = go (objection_to edit a) is was
+    where
+      go : (o : Option ScriptObjection) → EditsUnless o edit a answer one → EditsUnless o edit a answer two → one ≡ two
+      go None h k = h.changed ∙ sym k.changed
+      go (Some objection) h k = h.stays ∙ sym k.stays
+
   pub keeps_one : (upkeep : Upkeep) (account : Option Account) → DoesUpkeep upkeep account answer one → DoesUpkeep upkeep account answer two → one ≡ two
   keeps_one (SetPassword salt password) account (inl (fit, is)) (inl (too, was)) = in_one answer one two (open_one account) _ (λ a h k. h.changed ∙ sym k.changed) is was
   keeps_one (SetPassword salt password) account (inr (unfit, is)) (inr (too, was)) = is.stays ∙ sym was.stays
@@ -110,6 +129,10 @@ module _ (answer : Answer) (one two : Option Account) where
   keeps_one (StoreScript name text activate) account (inr (bad, is)) (inr (too, was)) = is.stays ∙ sym was.stays
   keeps_one (StoreScript name text activate) account (inl (named, is)) (inr (bad, was)) = absurd (bad named)
   keeps_one (StoreScript name text activate) account (inr (bad, is)) (inl (named, was)) = absurd (bad named)
+  keeps_one (EditScripts edit) account (inl (named, is)) (inl (again, was)) = in_one answer one two (open_one account) _ (edits_one edit) is was
+  keeps_one (EditScripts edit) account (inr (bad, is)) (inr (too, was)) = is.stays ∙ sym was.stays
+  keeps_one (EditScripts edit) account (inl (named, is)) (inr (bad, was)) = absurd (bad named)
+  keeps_one (EditScripts edit) account (inr (bad, is)) (inl (named, was)) = absurd (bad named)
   keeps_one CloseAccount account is was = in_one answer one two (open_one account) _ (λ a h k. h.changed ∙ sym k.changed) is was
   keeps_one OpenAccount account is was = in_one answer one two (known_one account) _ opens_one is was
   keeps_one (RemoveAccount mail) account is was = in_one answer one two (known_one account) _ (removes_one mail) is was
@@ -122,6 +145,7 @@ pub record LastsThrough (P : Account → Type 0) : Type 0 where
   pub guarded : (a : Account) (password : Password) → P a → P (changes_password password a)
   pub addressed : (a : Account) (address : List ℕ) → IsOwnAddress address → P a → P (changes_address address a)
   pub stored : (a : Account) (name text : List ℕ) (activate : Bool) → IsScriptName name → length text ≤ script_limit → IsValidScript text → HasRoom a name → P a → P (stores name text activate a)
+  pub edits : (a : Account) (edit : ScriptEdit) → GivesScriptName edit → objection_to edit a ≡ None → P a → P (edited edit a)
   pub counted : (a : Account) (rounds : ℕ) → P a → P (with_password_rounds rounds a)
   pub removed : (a : Account) → P a → P (removes a)
   pub noticed : (a : Account) (until : ℕ) → P a → P (takes_notices until a)
@@ -168,6 +192,13 @@ module _ (P : Account → Type 0) (lasts : LastsThrough P) (answer : Answer) (ch
   stores_holds name text activate named short a holds (inl (room, inr (wrong, is))) = told _ is.2
   stores_holds name text activate named short a holds (inr (full, is)) = told _ is
 
+  edits_holds : (edit : ScriptEdit) → GivesScriptName edit → (a : Account) → P a → Edits edit a answer change → IfSome change P
+  edits_holds edit named a holds is = go (objection_to edit a) refl is
+    where
+      go : (o : Option ScriptObjection) → objection_to edit a ≡ o → EditsUnless o edit a answer change → IfSome change P
+      go None free h = altered Edited (edited edit a) (lasts.edits a edit named free holds) h
+      go (Some objection) against h = told (Objected objection) h
+
   pub keeps_holds : (upkeep : Upkeep) (account : Option Account) → IfSome account P → DoesUpkeep upkeep account answer change → IfSome change P
   keeps_holds (SetPassword salt password) account holds (inl (fit, is)) =
       in_holds (open_one account) _ (open_holds account holds) (λ a h. altered Changed (changes_password (kept_password salt password) a) (lasts.guarded a (kept_password salt password) h)) is
@@ -177,6 +208,8 @@ module _ (P : Account → Type 0) (lasts : LastsThrough P) (answer : Answer) (ch
   keeps_holds (StoreScript name text activate) account holds (inl (named, inl (short, is))) = in_holds (open_one account) _ (open_holds account holds) (stores_holds name text activate named short) is
   keeps_holds (StoreScript name text activate) account holds (inl (named, inr (long, is))) = told _ is
   keeps_holds (StoreScript name text activate) account holds (inr (bad, is)) = told _ is
+  keeps_holds (EditScripts edit) account holds (inl (named, is)) = in_holds (open_one account) _ (open_holds account holds) (edits_holds edit named) is
+  keeps_holds (EditScripts edit) account holds (inr (bad, is)) = told _ is
   keeps_holds CloseAccount account holds is = in_holds (open_one account) _ (open_holds account holds) (λ a h. altered Closed (closes a) (lasts.counted a 0 h)) is
   keeps_holds OpenAccount account holds is = in_holds (known_one account) _ (known_holds account holds) opens_holds is
   keeps_holds (RemoveAccount mail) account holds is = in_holds (known_one account) _ (known_holds account holds) (removes_holds mail) is

@@ -6,6 +6,7 @@ pub mod Importable
 pub mod Limits
 pub mod Lookups
 pub mod OwnActs
+pub mod ScriptEdits
 pub mod Sound
 pub mod Spacing
 pub mod Takings

@@ -8,10 +8,13 @@ use Rattle.store_accounts.specs.declared.refusal.Refusal.TheVariants.{NoUser, Ba
 use Rattle.managesieve_sessions.specs.Limits.{script_limit, IsScriptName}
 use Rattle.managesieve_sessions.specs.Scripts.{IfElse, HasRoom, IsValidScript, IsVerdict}
 use Rattle.store_engine.specs.declared.answer.Answer.{Answer}
-use Rattle.store_engine.specs.declared.answer.Answer.TheVariants.{Changed, Stored, Invalid, Closed, Opened, Removed, NoticesTaken, Refused}
+use Rattle.store_engine.specs.declared.answer.Answer.TheVariants.{Changed, Stored, Invalid, Edited, Objected, Closed, Opened, Removed, NoticesTaken, Refused}
+use Rattle.store_engine.specs.declared.script_edit.ScriptEdit.{ScriptEdit}
+use Rattle.store_engine.specs.declared.script_edit.ScriptObjection.{ScriptObjection}
 use Rattle.store_engine.specs.declared.upkeep.Upkeep.{Upkeep}
-use Rattle.store_engine.specs.declared.upkeep.Upkeep.TheVariants.{SetPassword, SetAddress, StoreScript, CloseAccount, OpenAccount, RemoveAccount, TakeNotices}
+use Rattle.store_engine.specs.declared.upkeep.Upkeep.TheVariants.{SetPassword, SetAddress, StoreScript, EditScripts, CloseAccount, OpenAccount, RemoveAccount, TakeNotices}
 use Rattle.store_engine.specs.Limits.{is_password, IsOwnAddress}
+use Rattle.store_engine.specs.ScriptEdits.{GivesScriptName, edited, objection_to}
 
 -- ---- passwords
 
@@ -57,6 +60,15 @@ Stores name text activate a answer change =
     (IfElse (IsValidScript text) (Alters Stored (stores name text activate a) answer change) (AnswersFault text answer change))
     (OnlyAnswers (Refused TooManyScripts) answer change)
 
+-- a change of the scripts is made, or this stands against it, which is answered
+abbrev pub EditsUnless : Option ScriptObjection → ScriptEdit → Account → Answer → Option Account → Type 0
+EditsUnless None edit a answer change = Alters Edited (edited edit a) answer change
+EditsUnless (Some objection) edit a answer change = OnlyAnswers (Objected objection) answer change
+
+-- the same of what stands against it in the account
+abbrev pub Edits : ScriptEdit → Account → Answer → Option Account → Type 0
+Edits edit a answer change = EditsUnless (objection_to edit a) edit a answer change
+
 -- a closed account is opened
 abbrev pub OpensClosed : Account → Answer → Option Account → Type 0
 OpensClosed a answer change = MatchBool (is_closed_account a) (Alters Opened (opens rounds a) answer change) (OnlyAnswers (Refused UserIsOpen) answer change)
@@ -82,6 +94,9 @@ DoesUpkeep (StoreScript name text activate) account answer change =
     (IfElse (length text ≤ script_limit)
     (InAccount (open_one account) (Stores name text activate) answer change)
     (OnlyAnswers (Refused ScriptTooLarge) answer change))
+    (OnlyAnswers (Refused BadScriptName) answer change)
+DoesUpkeep (EditScripts edit) account answer change =
+    IfElse (GivesScriptName edit) (InAccount (open_one account) (Edits edit) answer change)
     (OnlyAnswers (Refused BadScriptName) answer change)
 DoesUpkeep CloseAccount account answer change = InAccount (open_one account) (λ a. Alters Closed (closes a)) answer change
 DoesUpkeep OpenAccount account answer change = InAccount (known_one account) OpensClosed answer change
@@ -116,6 +131,7 @@ abbrev pub IsFit : Upkeep → Type 0
 IsFit (SetPassword salt password) = is_password password ≡ true
 IsFit (SetAddress address) = IsOwnAddress address
 IsFit (StoreScript name text activate) = IsScriptName name × (length text ≤ script_limit)
+IsFit (EditScripts edit) = GivesScriptName edit
 IsFit CloseAccount = Unit {0}
 IsFit OpenAccount = Unit {0}
 IsFit (RemoveAccount mail) = Unit {0}

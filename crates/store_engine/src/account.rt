@@ -7,6 +7,7 @@ ghost use Rattle.store_accounts.specs.CopyRows.{IsFirstIn};
 ghost use Rattle.store_accounts.specs.Account.{row_with};
 ghost use Rattle.store_accounts.specs.Promises.{ReadsOwn};
 ghost use Rattle.store_accounts.specs.Shows.{IsFirstOf};
+ghost use Rattle.managesieve_sessions.specs.Decisions.{AreScripts};
 ghost use Rattle.store_engine.specs.Lookups.{LooksUp, IsActiveScript};
 
 use octets::{Octets, Texts};
@@ -19,6 +20,13 @@ pub(crate) struct ActiveScript {
     pub profile: Profile,
     /// The script's text, if a script is active.
     pub text: Option<Octets>,
+}
+
+/// The names of an account's scripts, in the order of their octets, and the active one.
+#[derive(Drop)]
+pub(crate) struct NamedScripts {
+    pub names: Texts,
+    pub active: Option<Octets>,
 }
 
 /// What the store has of the user's open account.
@@ -35,7 +43,22 @@ pub(crate) fn script_names<S: Alter>(store: &mut Store<S>, user: &[u8]) -> Resul
     store.scripts(user)
 }
 
-/// The same, with the text of the active script. It is read by its key.
+/// The names of the scripts of the user's open account, in the order of their octets, and the active one.
+pub(crate) fn named_scripts<S: Alter>(
+    store: &mut Store<S>,
+    user: &[u8],
+) -> Result<NamedScripts, Refusal>
+    ensures { LooksUp user.now (λ there a. AreScripts there.names there.active a) (state S.Store store.old) (state S.Store store.new) result }
+{
+    let profile = profile(store, user)?;
+    let names = store.scripts_of(user)?;
+    Ok(NamedScripts {
+        names,
+        active: profile.active,
+    })
+}
+
+/// What the store has of the user's open account, with the text of the active script. It is read by its key.
 pub(crate) fn active_script<S: Alter>(
     store: &mut Store<S>,
     user: &[u8],

@@ -1,4 +1,5 @@
 //! The answers to events.
+use crate::script_edit::ScriptObjection;
 use managesieve_sessions::Progress;
 use octets::Octets;
 use sieve_lex::ScriptFault;
@@ -25,6 +26,10 @@ pub enum Answer {
     Stored,
     /// The text is no script, and nothing was stored.
     Invalid(ScriptFault),
+    /// What scripts there are, or which one is active, was changed.
+    Edited,
+    /// This stands against such a change, and the scripts stay as they are.
+    Objected(ScriptObjection),
     /// The account was closed.
     Closed,
     /// The closed account was opened.

@@ -8,6 +8,7 @@ ghost use Rattle.store_engine.specs.Upkeep.{stores};
 
 use crate::account::{profile, script_names};
 use crate::answer::Answer;
+use crate::script_edit::{ScriptEdit, edit_scripts};
 use crate::standing::{Standing, read_standing};
 use crate::user::{is_own_address, is_password};
 use managesieve_sessions::script_name::is_script_name;
@@ -43,6 +44,8 @@ pub enum Upkeep {
         /// Whether the script becomes the active one.
         activate: bool,
     },
+    /// Changes what scripts there are, or which one is active.
+    EditScripts(ScriptEdit),
     /// Closes the account; nothing of it is removed.
     CloseAccount,
     /// Opens a closed account as it was.
@@ -73,7 +76,7 @@ pub enum Upkeep {
 /// removed, and for a closed one unless this is `OpenAccount` or `RemoveAccount`. Then [`Refusal::TooManyScripts`],
 /// [`Refusal::UserIsOpen`], [`Refusal::UserHasMail`]. [`Refusal::Memory`] and [`Refusal::Store`] may come at any point after
 /// the first ones, and lack of memory also when an address is checked. The store then stays as it was. A text that is no script
-/// is not an error: [`Answer::Invalid`].
+/// is not an error: [`Answer::Invalid`]; nor is what stands against another change of the scripts: [`Answer::Objected`].
 pub fn do_upkeep<S: Alter>(
     alloc: Global,
     store: &mut Store<S>,
@@ -99,6 +102,7 @@ pub fn do_upkeep<S: Alter>(
             text.as_slice(),
             *activate,
         ),
+        Upkeep::EditScripts(edit) => edit_scripts(store, user, edit),
         Upkeep::CloseAccount => close_account(store, user),
         Upkeep::OpenAccount => open_account(store, user),
         Upkeep::RemoveAccount { mail } => remove_account(store, user, *mail),

@@ -1,3 +1,4 @@
 mod Examples
 pub mod MemoryLemmas
 pub mod ShelfLemmas
+pub mod CopyLemmas

@@ -1,5 +1,5 @@
 -- What others' events make of a store in memory.
-use Rattle.std.proofs.Common.{◌≡◌, Bool, true, false, Result, Ok, Err, OnOk, OnErr, is_ok, refl, sym, ◌∙◌, ap, subst, inl, inr}
+use Rattle.std.proofs.Common.{◌≡◌, List, Bool, true, false, Result, Ok, Err, OnOk, OnErr, is_ok, refl, sym, ◌∙◌, ap, subst, inl, inr}
 use Rattle.sqlite_trees.specs.declared.memory.MemStore.{MemStore}
 use Rattle.sqlite.specs.Held.{Held, state}
 use Rattle.sqlite.specs.Steps.{over_memory}
@@ -13,8 +13,11 @@ use Rattle.store_engine.specs.Hosts.{Row, TurnsBy, ActsBy, answer_by}
 use Rattle.store_engine.specs.World.{World, EventHappens, Next, MayRefuseEvent}
 use Rattle.store_engine.specs.declared.answer.Answer.{Answer}
 use Rattle.store_engine.specs.declared.event.Event.{Event}
+use Rattle.store_engine.specs.declared.terms.Terms.{Terms}
+use Rattle.daemon_core.specs.Together.{StoreDelivers}
+use Rattle.daemon_core.specs.declared.gathered.GatheredRequest.{GatheredRequest}
 use Rattle.test_daemon.specs.Memory.{memory_view_of, shelf_view}
-use Rattle.test_daemon.specs.Shelves.{IsLet}
+use Rattle.test_daemon.specs.Shelves.{IsDeliveredTogether, IsLet}
 use Rattle.test_daemon.specs.declared.memory.MemShelf.{MemShelf}
 
 abbrev with : World → Accounts → World
@@ -52,3 +55,10 @@ module _ (event : Event) (By : Row) (May : Refusal → Type 0) (may : (w : World
 pub on_shelf : (event : Event) (b : Bool) (s t : MemShelf) → IsLet memory_view_of event b s.store t.store → IsLet shelf_view event b s t
 on_shelf event true s t lets = lets
 on_shelf event false s t lets = lets
+
+-- messages that are delivered together
+pub together_on_shelf : (terms : Terms) (requests : List GatheredRequest) (result : Result (List Answer) Refusal) (s t : MemShelf) → StoreDelivers terms requests result (state over_memory s.store) (state over_memory t.store)
+    → IsDeliveredTogether shelf_view terms requests result s t
+together_on_shelf terms requests (Ok answers) s t delivers =
+    (delivers.0, λ w shown. let it = delivers.1 (memory_is_clean t.store) w shown in record { later = it.later; run = it.run; shown = it.endures.shown; left = it.endures.left })
+together_on_shelf terms requests (Err refusal) s t delivers = λ w shown. let it = delivers (memory_is_clean t.store) w shown in (it.shown, it.left)

@@ -8,13 +8,16 @@ use Rattle.store_engine.specs.declared.event.Event.{Event}
 use Rattle.store_engine.specs.declared.event.Event.TheVariants.{Deliver, AddUser, Import, TakeOut, TakeMail, DoUpkeep}
 use Rattle.daemon_core.specs.StoreAccess.{View, ViewStillShows, IsOthers, AreOthers, IsEventDone, IsAccountAsked}
 use Rattle.daemon_core.proofs.EventLemmas.{runs_then, runs_one}
-use Rattle.maildir_moves.specs.Enduring.{ShowsTried, none_tried}
+use Rattle.maildir_moves.specs.Enduring.{MayLeave, ShowsMade, ShowsTried, none_tried}
 use Rattle.maildir_moves.proofs.EnduringLemmas.{left_alone, left_then}
 use Rattle.maildir_moves.specs.declared.moving.Moving.{Moving}
 use Rattle.maildir_files.specs.declared.kept.KeptMail.{KeptMail}
 use Rattle.daemon_core.specs.Moves.{HasKept, IsMessageMoved}
+use Rattle.daemon_core.specs.Together.{AreEventsDone, AreEventsTried, deliveries_told, deliveries_of, events_told, answers_told}
+use Rattle.daemon_core.specs.declared.gathered.GatheredRequest.{GatheredRequest}
+use Rattle.store_engine.specs.declared.terms.Terms.{Terms}
 use Rattle.daemon_core.proofs.MoveLemmas.{moved_then}
-use Rattle.test_daemon.specs.Shelves.{IsApplied, IsLet, IsSought, IsMovedOn, LetsOthers, StillHas, is_of_accounts}
+use Rattle.test_daemon.specs.Shelves.{IsApplied, IsLet, IsSought, DeliversThem, IsMovedOn, LetsOthers, StillHas, is_of_accounts}
 
 -- no event
 pub lets_none : {S : Type 0} (view : View S) (s : S) → LetsOthers view [] s s
@@ -98,3 +101,31 @@ pub kept_behind : {S : Type 0} (has : S → List KeptMail → Type 0) (there : S
 kept_behind has there m s mid t u still same kept = λ mails had.
     let it = kept mails (still mails had) in
     (it.0, subst (λ x. has x (mails ++ it.0)) (sym same) it.1, it.2, subst (λ x. there x m) (sym same) it.3)
+
+-- and then messages are delivered together, each with an answer of its own
+pub delivered_behind : {S : Type 0} (view : View S) (others : List Event) (terms : Terms) (requests : List GatheredRequest) (answers : List Answer) (s mid t : S) (kept : SessionMap) → LetsOthers view others s mid
+    → ((w : World) → view.shows mid w.accounts → DeliversThem view terms requests answers mid t w) → AreEventsDone view others (events_told (deliveries_told terms requests answers)) (answers_told (deliveries_told terms requests answers)) s kept t kept
+delivered_behind view others terms requests answers s mid t kept lets delivers = λ w is.
+    let let_them = lets w is.shown in
+    let it = delivers let_them.0 let_them.2 in (
+      record { accounts = it.later; sessions = let_them.0.sessions },
+      record { strangers = let_them.1.strangers; told = let_them.1.told; between = let_them.0; theirs = let_them.1.runs; apart = let_them.1.apart; ours = it.run },
+      record {
+        is = record { shown = it.shown; sessions = has_behind kept w let_them.0 let_them.1.apart is.sessions };
+        left = left_then (view.leaves s) (view.leaves mid) (view.leaves t) w.accounts let_them.0.accounts it.later none_tried let_them.3 it.left;
+      },
+    )
+
+-- or are refused together
+pub parted_behind : {S : Type 0} (view : View S) (others : List Event) (terms : Terms) (requests : List GatheredRequest) (s mid t : S) (kept : SessionMap) → LetsOthers view others s mid
+    → ((w : World) → view.shows mid w.accounts → view.shows t w.accounts × MayLeave (view.leaves mid) w.accounts (view.leaves t) w.accounts (ShowsMade (deliveries_of terms requests) w)) → AreEventsTried view others (deliveries_of terms requests) s kept t kept
+parted_behind view others terms requests s mid t kept lets tried = λ w is.
+    let let_them = lets w is.shown in
+    let it = tried let_them.0 let_them.2 in (
+      let_them.0,
+      record { strangers = let_them.1.strangers; told = let_them.1.told; theirs = let_them.1.runs; apart = let_them.1.apart },
+      record {
+        is = record { shown = it.0; sessions = has_behind kept w let_them.0 let_them.1.apart is.sessions };
+        left = left_then (view.leaves s) (view.leaves mid) (view.leaves t) w.accounts let_them.0.accounts let_them.0.accounts (ShowsMade (deliveries_of terms requests) let_them.0) let_them.3 it.1;
+      },
+    )

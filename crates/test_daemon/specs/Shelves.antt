@@ -1,22 +1,39 @@
 -- What an event makes of accounts that are kept in memory.
-use Rattle.std.specs.Prelude.{◌≡◌, ℕ, Bool, true, false, List, [], ◌∷◌}
+use Rattle.std.specs.Prelude.{◌≡◌, ℕ, Bool, true, false, List, [], ◌∷◌, length, Result, Ok, Err}
 use Rattle.lmtp_dialogue.specs.declared.receiver.Lookup.{Lookup}
 use Rattle.store_accounts.specs.Account.{Accounts}
 use Rattle.store_engine.specs.Hosts.{SessionMap}
 use Rattle.maildir_files.specs.declared.kept.KeptMail.{KeptMail}
-use Rattle.maildir_moves.specs.Enduring.{MayLeave, ShowsTried, none_tried}
+use Rattle.maildir_moves.specs.Enduring.{MayLeave, ShowsMade, ShowsTried, none_tried}
 use Rattle.maildir_moves.specs.Moving.{MovesMessage, TriedMoving}
 use Rattle.maildir_moves.specs.declared.moving.Moving.{Moving}
 use Rattle.store_engine.specs.World.{World, Next, Runs}
+use Rattle.store_accounts.specs.declared.refusal.Refusal.{Refusal}
+use Rattle.store_engine.specs.declared.terms.Terms.{Terms}
 use Rattle.store_engine.specs.declared.answer.Answer.{Answer}
 use Rattle.store_engine.specs.declared.event.Event.{Event}
 use Rattle.store_engine.specs.declared.event.Event.TheVariants.{Deliver, AddUser, Import, TakeOut, TakeMail, DoUpkeep}
+use Rattle.daemon_core.specs.Together.{deliveries_told, deliveries_of, events_told, answers_told}
+use Rattle.daemon_core.specs.declared.gathered.GatheredRequest.{GatheredRequest}
 use Rattle.daemon_core.specs.StoreAccess.{View, ViewStillShows, IsWorld, ComesTo, AreOthers, IsFoundIn}
 
 -- whatever accounts there were, the event with this answer leads from them to those that there are; if it was refused it was tried
 abbrev pub IsApplied : {S : Type 0} → View S → Event → Answer → S → SessionMap → S → SessionMap → Type 0
 IsApplied view event answer s before t after =
     (w : World) → IsWorld view s before w → (next : World) × Next w event answer next × ComesTo view s w (ShowsTried (event ∷ []) answer w) t after next
+
+-- whatever accounts there were, each message was delivered, or refused by an answer of its own; or none was answered, and they were tried
+pub record DeliversThem {S : Type 0} (view : View S) (terms : Terms) (requests : List GatheredRequest) (answers : List Answer) (s t : S) (w : World) : Type 0 where
+  pub later : Accounts
+  pub run : Runs w (events_told (deliveries_told terms requests answers)) (answers_told (deliveries_told terms requests answers)) (record { accounts = later; sessions = w.sessions })
+  pub shown : view.shows t later
+  pub left : MayLeave (view.leaves s) w.accounts (view.leaves t) later none_tried
+
+abbrev pub IsDeliveredTogether : {S : Type 0} → View S → Terms → List GatheredRequest → Result (List Answer) Refusal → S → S → Type 0
+IsDeliveredTogether view terms requests (Ok answers) s t =
+    (length answers ≡ length requests) × ((w : World) → view.shows s w.accounts → DeliversThem view terms requests answers s t w)
+IsDeliveredTogether view terms requests (Err refusal) s t =
+    (w : World) → view.shows s w.accounts → view.shows t w.accounts × MayLeave (view.leaves s) w.accounts (view.leaves t) w.accounts (ShowsMade (deliveries_of terms requests) w)
 
 -- an event of accounts happened, and nothing of it is left beside the accounts that there are then; or all is as it was
 abbrev pub IsLet : {S : Type 0} → View S → Event → Bool → S → S → Type 0

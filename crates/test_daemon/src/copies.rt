@@ -3,9 +3,12 @@ ghost use Rattle.std.specs.Prelude.{◌≡◌, IfOk, IfSome};
 ghost use Rattle.test_daemon.specs.Shelves as shelves;
 ghost use Rattle.store_engine.specs.Terms.{terms_of};
 ghost use Rattle.daemon_core.specs.StoreAccess.{delivery_of};
+ghost use Rattle.daemon_core.specs.Together.{deliveries_told, deliveries_of, ids_of};
 
+use daemon_core::gathered::GatheredRequest;
+use daemon_core::note::ToldDelivery;
 use lmtp_connections::DeliveryRequest;
-use octets::Octets;
+use octets::{List, Octets};
 use std::alloc::{AllocError, Global};
 use store_engine::{Answer, Envelope, Event, LentTerms, Report, Terms};
 
@@ -96,4 +99,79 @@ pub fn is_of_accounts(event: &Event) -> bool
         Event::DoUpkeep { .. } => true,
         _ => false,
     }
+}
+
+/// The deliveries of these messages under these terms, with their answers. Lack of memory is the only error.
+pub fn copy_told(
+    alloc: Global,
+    requests: &[GatheredRequest],
+    terms: &Terms,
+    answers: &[Answer],
+) -> Result<List<ToldDelivery>, AllocError>
+    ensures { IfOk result (λ told. told ≡ deliveries_told terms.now requests.now answers.now) }
+{
+    let mut told = Vec::new(alloc);
+    let mut rest = requests;
+    let mut left = answers;
+    while let Some((it, more)) = rest.split_first() {
+        let Some((answer, others)) = left.split_first() else {
+            break;
+        };
+        told.push(copy_one(alloc, it, terms, answer)?)?;
+        rest = more;
+        left = others;
+    }
+    Ok(List::from_vec(told))
+}
+
+fn copy_one(
+    alloc: Global,
+    it: &GatheredRequest,
+    terms: &Terms,
+    answer: &Answer,
+) -> Result<ToldDelivery, AllocError>
+    ensures { IfOk result (λ told. told ≡ record { id = it.now.id; event = delivery_of it.now.request terms.now; answer = answer.now }) }
+{
+    let event = copy_event_of(alloc, it, terms)?;
+    match copy_answer(alloc, answer) {
+        Some(answer) => Ok(ToldDelivery {
+            id: it.id,
+            event,
+            answer,
+        }),
+        None => Err(AllocError),
+    }
+}
+
+/// The delivery of a message under these terms. Lack of memory is the only error.
+fn copy_event_of(alloc: Global, it: &GatheredRequest, terms: &Terms) -> Result<Event, AllocError>
+    ensures { IfOk result (λ event. event ≡ delivery_of it.now.request terms.now) }
+{
+    copy_delivery(alloc, &it.request, terms.lend())
+}
+
+/// The deliveries of these messages under these terms. Lack of memory is the only error.
+pub fn copy_deliveries(
+    alloc: Global,
+    requests: &[GatheredRequest],
+    terms: &Terms,
+) -> Result<List<Event>, AllocError>
+    ensures { IfOk result (λ events. events ≡ deliveries_of terms.now requests.now) }
+{
+    let mut events = Vec::new(alloc);
+    for it in requests.iter() {
+        events.push(copy_event_of(alloc, it, terms)?)?;
+    }
+    Ok(List::from_vec(events))
+}
+
+/// The numbers of their connections. Lack of memory is the only error.
+pub fn copy_ids(alloc: Global, requests: &[GatheredRequest]) -> Result<List<u32>, AllocError>
+    ensures { IfOk result (λ ids. ids ≡ ids_of requests.now) }
+{
+    let mut ids = Vec::new(alloc);
+    for it in requests.iter() {
+        ids.push(it.id)?;
+    }
+    Ok(List::from_vec(ids))
 }

@@ -9,6 +9,8 @@ ghost use Rattle.test_daemon.specs.Shelves.{LetsMore, LetsOthers, StillHas, is_o
 
 use crate::copies::{copy_answer, copy_delivery, copy_event, is_of_accounts};
 use crate::shelf::Shelf;
+use crate::together::terms_at;
+use daemon_core::gathered::GatheredRequest;
 use daemon_core::note::Note;
 use daemon_core::store_access::StoreAccess;
 use lmtp_connections::DeliveryRequest;
@@ -19,8 +21,8 @@ use net_loop::outcome::{Accepted, Input, Output, WaitError, Wake};
 use net_loop::outside::{Clock, Outside, Sockets};
 use octets::{List, Octets};
 use std::alloc::Global;
-use std::collections::VecDeque;
-use store_engine::{Answer, Clients, Event, HostSettings};
+use std::collections::{BTreeMap, VecDeque};
+use store_engine::{Answer, Clients, Event, HostSettings, Refusal};
 use test_sockets::stage::{FakeNetwork, HasFakeNetwork};
 
 /// Sockets and a clock that follow a script, and a store that others use too: it is away when the script says so, and each
@@ -37,6 +39,12 @@ pub struct FakeAccess<S: Shelf + Drop> {
     pub others: VecDeque<Option<Event>>,
     /// Whether others wait for the store, each time that it is looked.
     pub waits: VecDeque<bool>,
+    /// Each message has an act of its own.
+    pub apart: bool,
+    /// For each act that is to deliver messages together, whether memory is lacking for it; once the list is used up it never is.
+    pub lacks: VecDeque<bool>,
+    /// The connections whose messages were refused together: each is delivered by itself.
+    pub parted: BTreeMap<u32, ()>,
 }
 
 impl<S: Shelf + Drop> FakeAccess<S> {
@@ -48,6 +56,9 @@ impl<S: Shelf + Drop> FakeAccess<S> {
             away: VecDeque::new(alloc),
             others: VecDeque::new(alloc),
             waits: VecDeque::new(alloc),
+            apart: false,
+            lacks: VecDeque::new(alloc),
+            parted: BTreeMap::new(alloc),
         }
     }
 
@@ -332,6 +343,42 @@ impl<S: Shelf + Drop> StoreAccess for FakeAccess<S> {
                 None
             }
         }
+    }
+
+    // If memory is lacking for the terms the store is as good as away.
+    fn deliver_all(
+        &mut self,
+        clients: &mut Clients,
+        requests: &[GatheredRequest],
+    ) -> Option<Result<List<Answer>, Refusal>> {
+        let alloc = self.stage.fake.alloc;
+        let Some(terms) = terms_at(&self.host, alloc, self.stage.fake.moment / 1000) else {
+            self.note_put_off(requests);
+            return None;
+        };
+        if self.is_away() {
+            self.note_put_off(requests);
+            return None;
+        }
+        let others = self.let_others();
+        match self.deliver_together(requests, &terms) {
+            Ok(answers) => {
+                self.note_delivered(others, requests, &terms, answers.as_slice());
+                Some(Ok(answers))
+            }
+            Err(refusal) => {
+                self.note_parted(others, requests, &terms);
+                Some(Err(refusal))
+            }
+        }
+    }
+
+    fn gathers(&self, _now: u64, id: u32, _octets: usize) -> bool {
+        !self.apart && !self.parted.contains_key(&id)
+    }
+
+    fn tell_gathered(&mut self, id: u32) {
+        self.stage.keep(Act::Noted(id, Note::Gathered));
     }
 
     fn move_next(&mut self, clients: &mut Clients, now: u64, fresh: bool) -> Option<MovePause> {

@@ -5,3 +5,4 @@ pub mod copies;
 pub mod fake_access;
 pub mod memory;
 pub mod shelf;
+mod together;

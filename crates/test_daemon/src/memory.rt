@@ -5,10 +5,13 @@ ghost use Rattle.test_daemon.specs.Shelves.{IsLet};
 ghost use Rattle.test_daemon.specs.Memory.{memory_view_of};
 
 use crate::shelf::Shelf;
+use daemon_core::gathered::GatheredRequest;
 use daemon_core::recipient_account::find_account;
+use daemon_core::store_deliveries::deliver_requests;
 use lmtp_dialogue::Lookup;
 use maildir_files::MemorySink;
 use maildir_moves::{Moving, Route, move_next};
+use octets::List;
 use sqlite::MemStore;
 use std::alloc::{AllocError, Global};
 use store_accounts::Store;
@@ -23,6 +26,8 @@ pub struct MemShelf {
     pub store: Store<MemStore>,
     pub sink: MemorySink,
     pub route: Route,
+    /// The scripts that were checked for a delivery.
+    pub kept: KeptScripts,
 }
 
 impl Shelf for MemShelf {
@@ -81,6 +86,21 @@ impl Shelf for MemShelf {
             }
             _ => false,
         }
+    }
+
+    fn deliver_all(
+        &mut self,
+        alloc: Global,
+        requests: &[GatheredRequest],
+        terms: &Terms,
+    ) -> Result<List<Answer>, Refusal> {
+        deliver_requests(
+            alloc,
+            &mut self.store,
+            &mut self.kept,
+            requests,
+            terms.lend(),
+        )
     }
 
     fn find_account(&mut self, user: &[u8]) -> Lookup {

@@ -1,17 +1,20 @@
 //! Where accounts are kept, in memory.
 ghost use Rattle.std.specs.Prelude.{◌≡◌, List, true};
+ghost use Rattle.daemon_core.specs.Together.{AreForOthers};
 ghost use Rattle.lmtp_connections.specs.Connections.{IsFinding};
 ghost use Rattle.store_engine.specs.Hosts.{IsGivenUp};
 ghost use Rattle.maildir_files.specs.declared.kept.KeptMail.{KeptMail};
 ghost use Rattle.maildir_moves.specs.declared.moving.Moving.{Moving as MovingOf};
 ghost use Rattle.daemon_core.specs.StoreAccess.{View};
 ghost use Rattle.daemon_core.specs.Moves.{HasKept};
-ghost use Rattle.test_daemon.specs.Shelves.{IsApplied, IsLet, IsSought, IsMovedOn, StillHas, is_of_accounts};
+ghost use Rattle.test_daemon.specs.Shelves.{IsApplied, IsDeliveredTogether, IsLet, IsSought, IsMovedOn, StillHas, is_of_accounts};
 
+use daemon_core::gathered::GatheredRequest;
 use lmtp_dialogue::Lookup;
 use maildir_moves::Moving;
+use octets::List;
 use std::alloc::Global;
-use store_engine::{Answer, Clients, Event};
+use store_engine::{Answer, Clients, Event, Refusal, Terms};
 
 /// Accounts that events change, with the sessions beside them.
 pub trait Shelf {
@@ -35,6 +38,17 @@ pub trait Shelf {
     fn let_other(&mut self, alloc: Global, event: &Event) -> bool
         requires { is_of_accounts event.now ≡ true }
         ensures lets { IsLet view event.now result self.old self.new }
+        ensures still { StillHas has self.old self.new };
+
+    /// Delivers these messages as one act, as [`store_engine::deliver_all`] does.
+    fn deliver_all(
+        &mut self,
+        alloc: Global,
+        requests: &[GatheredRequest],
+        terms: &Terms,
+    ) -> Result<List<Answer>, Refusal>
+        requires { AreForOthers requests.now }
+        ensures delivers { IsDeliveredTogether view terms.now requests.now result self.old self.new }
         ensures still { StillHas has self.old self.new };
 
     /// Whether there is an account of that name.

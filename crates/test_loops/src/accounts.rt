@@ -11,7 +11,7 @@ use sqlite::{Alter, Connection};
 use std::alloc::{AllocError, Global};
 use std::collections::VecDeque;
 use store_accounts::Store;
-use store_engine::add_user;
+use store_engine::{KeptScripts, add_user};
 use test_daemon::fake_access::FakeAccess;
 use test_daemon::memory::MemShelf;
 use test_sockets::play::{ScheduleCheck, ScheduleOwner};
@@ -31,6 +31,7 @@ pub fn new_shelf(alloc: Global) -> Result<MemShelf, AllocError> {
             store,
             sink: MemorySink::new(alloc),
             route: Route::new(alloc, new_homes(alloc)?, Separator::Dot),
+            kept: KeptScripts::new(alloc),
         }),
         Err(_) => Err(AllocError),
     }
@@ -38,7 +39,7 @@ pub fn new_shelf(alloc: Global) -> Result<MemShelf, AllocError> {
 
 /// Maildirs in one directory.
 fn new_homes(alloc: Global) -> Result<MailHomes, AllocError> {
-    MailHomes::in_directory(alloc, Octets::from_slice(alloc, b"mail")?)
+    MailHomes::in_directory(alloc, Octets::from_slice(alloc, b"mail")?, None)
 }
 
 impl ScheduleOwner<FakeAccess<MemShelf>> for Accounts {
@@ -54,6 +55,16 @@ impl ScheduleOwner<FakeAccess<MemShelf>> for Accounts {
             b"user" => begin_with(self.alloc, &mut outside.stage.fake.rest.store, rest),
             b"away" => add(&mut outside.away, true),
             b"there" => add(&mut outside.away, false),
+            b"lacks" => add(&mut outside.lacks, true),
+            b"suffices" => add(&mut outside.lacks, false),
+            b"apart" => {
+                outside.apart = true;
+                Ok(())
+            }
+            b"batches" => {
+                let acts = outside.stage.fake.acts.as_slice();
+                self.note(line, rest, batches_of(self.alloc, acts)?.as_slice(), checks)
+            }
             b"gap" => add(&mut outside.others, None),
             b"wanted" => add(&mut outside.waits, true),
             b"unkept" => {
@@ -196,4 +207,29 @@ fn count_wishes(acts: &[Act<Note>]) -> u64 {
         }
     }
     count
+}
+
+/// The acts that were to deliver messages together so far: how many messages each delivered, or `parted/N` and `away/N`.
+fn batches_of(alloc: Global, acts: &[Act<Note>]) -> Result<Octets, AllocError> {
+    let mut batches = Octets::new(alloc);
+    for act in acts {
+        if let Act::Worked(note) = act {
+            add_batch(&mut batches, note)?;
+        }
+    }
+    Ok(batches)
+}
+
+fn add_batch(batches: &mut Octets, note: &Note) -> Result<(), AllocError> {
+    let (word, count) = match note {
+        Note::Delivered { others: _, told } => (&b""[..], told.len()),
+        Note::Parted { others: _, events } => (&b"parted/"[..], events.len()),
+        Note::PutOff(ids) => (&b"away/"[..], ids.len()),
+        _ => return Ok(()),
+    };
+    if !batches.is_empty() {
+        batches.push(b' ')?;
+    }
+    batches.extend_from_slice(word)?;
+    write_decimal(batches, count as u64)
 }

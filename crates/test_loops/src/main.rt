@@ -61,6 +61,9 @@ const DAEMONS: [&str; 6] = [
     "mail-places.daemon",
 ];
 
+/// Those of a daemon with places for a hundred clients of LMTP.
+const CROWDS: [&str; 1] = ["mail-together.daemon"];
+
 /// Those of the daemon when mail moves on.
 const MOVERS: [&str; 1] = ["mail-moves.daemon"];
 
@@ -79,6 +82,12 @@ const PLACES: Places = Places {
     senders: 20,
 };
 
+/// And one of [`CROWDS`].
+const MANY_PLACES: Places = Places {
+    clients: 50,
+    senders: 100,
+};
+
 /// The dialogues of LMTP.
 const DIALOGUES: &str = "lmtp.cases";
 
@@ -87,6 +96,8 @@ const DIALOGUES: &str = "lmtp.cases";
 enum Server {
     Echo,
     Daemon,
+    /// The daemon, with places for a hundred clients of LMTP.
+    Crowd,
     /// The daemon, when mail moves on.
     Mover,
     /// The daemon, whose connections may hold 4 KiB.
@@ -102,6 +113,7 @@ fn main(rt: HostRuntime) -> io::Result<ExitCode> {
     };
     try_files(&rt, Server::Echo, &ECHOES, &mut counts)?;
     try_files(&rt, Server::Daemon, &DAEMONS, &mut counts)?;
+    try_files(&rt, Server::Crowd, &CROWDS, &mut counts)?;
     try_files(&rt, Server::Mover, &MOVERS, &mut counts)?;
     try_files(&rt, Server::Small, &SMALL, &mut counts)?;
     try_files(&rt, Server::Shared, &SHARED, &mut counts)?;
@@ -224,10 +236,11 @@ fn play(
 ) -> Result<List<ScheduleCheck>, AllocError> {
     match server {
         Server::Echo => play_echo(alloc, schedule),
-        Server::Daemon => play_daemon(alloc, schedule, false, MEMORY),
-        Server::Mover => play_daemon(alloc, schedule, true, MEMORY),
-        Server::Small => play_daemon(alloc, schedule, false, 4),
-        Server::Shared => play_daemon(alloc, schedule, false, 128),
+        Server::Daemon => play_daemon(alloc, schedule, false, MEMORY, PLACES),
+        Server::Crowd => play_daemon(alloc, schedule, false, MEMORY, MANY_PLACES),
+        Server::Mover => play_daemon(alloc, schedule, true, MEMORY, PLACES),
+        Server::Small => play_daemon(alloc, schedule, false, 4, PLACES),
+        Server::Shared => play_daemon(alloc, schedule, false, 128, PLACES),
     }
 }
 
@@ -249,13 +262,14 @@ fn play_daemon(
     schedule: &Schedule,
     moves: bool,
     memory: u32,
+    places: Places,
 ) -> Result<List<ScheduleCheck>, AllocError> {
     let shelf = new_shelf(alloc)?;
     let host = Octets::from_slice(alloc, b"localhost")?;
     let mut player = Player {
         alloc,
         outside: FakeAccess::new(alloc, shelf),
-        machine: MailDaemon::new(alloc, Names::Local, host, moves, memory, PLACES),
+        machine: MailDaemon::new(alloc, Names::Local, host, moves, memory, places),
         service: Service::new(alloc),
         owner: Accounts { alloc },
         checks: List::new(alloc),

@@ -3,7 +3,7 @@ use cli_run::report::print_report;
 use octets::Octets;
 use std::alloc::{AllocError, Global};
 use std::format;
-use store_engine::{Answer, Progress, QueuedMessage, Refusal, Report};
+use store_engine::{Answer, Progress, QueuedMessage, Refusal, Report, ScriptObjection};
 use test_files::LinePart::{Number, Text};
 use test_files::add_parts;
 
@@ -34,12 +34,23 @@ fn add_answer(alloc: Global, out: &mut Octets, answer: &Answer) -> Result<(), Al
         Answer::Changed => add_word_line(out, b"", b"changed"),
         Answer::Stored => add_word_line(out, b"", b"stored"),
         Answer::Invalid(_) => add_word_line(out, b"", b"invalid"),
+        Answer::Edited => add_word_line(out, b"", b"edited"),
+        Answer::Objected(objection) => add_word_line(out, b"", objection_word(*objection)),
         Answer::Closed => add_word_line(out, b"", b"closed"),
         Answer::Opened => add_word_line(out, b"", b"opened"),
         Answer::Removed => add_word_line(out, b"", b"removed"),
         Answer::NoticesTaken => add_word_line(out, b"", b"notices taken"),
         Answer::Ignored => add_word_line(out, b"", b"ignored"),
         Answer::Refused(refusal) => add_refusal(alloc, out, *refusal),
+    }
+}
+
+/// The word for what stands against a change of scripts.
+fn objection_word(objection: ScriptObjection) -> &'static [u8] {
+    match objection {
+        ScriptObjection::NoScript => b"no script",
+        ScriptObjection::IsActive => b"is active",
+        ScriptObjection::NameTaken => b"name taken",
     }
 }
 

@@ -1,7 +1,7 @@
 //! What the words of the command line ask for.
 use clap::{ArgMatches, Error};
 use cli_subcommands::{
-    ArgsError, DrainArgs, FoldersArgs, HostFiles, NoticesArgs, RawArgs, StoreDefaults,
+    ArgsError, DrainArgs, FoldersArgs, HostFiles, NoticesArgs, QueueArgs, RawArgs, StoreDefaults,
     StoreLocation, Subcommand, match_command_line, read_files, read_host_files, read_matches,
 };
 use octets::Octets;
@@ -137,6 +137,21 @@ fn add(out: &mut Octets, asked: Subcommand<'_>) -> Result<(), AllocError> {
                 &[activate, asked.user, asked.script],
             )
         }
+        Subcommand::Activate(asked) => {
+            add_at(out, "activate", asked.location, &[asked.user, asked.script])
+        }
+        Subcommand::Deactivate(asked) => {
+            add_at(out, "deactivate", asked.location, &[asked.user])
+        }
+        Subcommand::Delete(asked) => {
+            add_at(out, "delete", asked.location, &[asked.user, asked.script])
+        }
+        Subcommand::Rename(asked) => add_at(
+            out,
+            "rename",
+            asked.location,
+            &[asked.user, asked.script, asked.new_name],
+        ),
         Subcommand::Remove(asked) => {
             let mail = if asked.mail { "mail" } else { "" };
             add_at(out, "remove", asked.location, &[mail, asked.user])
@@ -146,7 +161,10 @@ fn add(out: &mut Octets, asked: Subcommand<'_>) -> Result<(), AllocError> {
             let and_close = if asked.and_close { "closes" } else { "" };
             add_at(out, "export", asked.location, &[and_close, asked.user])
         }
-        Subcommand::Import(asked) => add_at(out, "import", asked.location, &[]),
+        Subcommand::Import(asked) => {
+            add_at(out, "import", asked.location, &[])?;
+            add_given(out, "as", asked.name)
+        }
         Subcommand::Deliver(asked) => {
             add_location(out, "deliver", asked.location)?;
             add_envelope(out, asked.from, asked.to)?;
@@ -161,12 +179,7 @@ fn add(out: &mut Octets, asked: Subcommand<'_>) -> Result<(), AllocError> {
             asked.location,
             &[asked.user, asked.folder, asked.number],
         ),
-        Subcommand::Queue(asked) => add_at(
-            out,
-            "queue",
-            asked.location,
-            &[asked.user, asked.id.unwrap_or("no number")],
-        ),
+        Subcommand::Queue(asked) => add_queue(out, asked),
         Subcommand::Done(asked) => add_at(out, "done", asked.location, &[asked.user, asked.id]),
         Subcommand::Notices(asked) => add_notices(out, asked),
         Subcommand::Drain(asked) => add_drain(out, asked),
@@ -212,6 +225,7 @@ fn add(out: &mut Octets, asked: Subcommand<'_>) -> Result<(), AllocError> {
                     quiet,
                 ],
             )?;
+            add_given(out, "domain", asked.domain)?;
             add_given(out, "zone", asked.zone)?;
             add_given(out, "clients", asked.clients)?;
             add_given(out, "senders", asked.senders)
@@ -221,9 +235,25 @@ fn add(out: &mut Octets, asked: Subcommand<'_>) -> Result<(), AllocError> {
 }
 
 fn add_notices(out: &mut Octets, asked: NoticesArgs<'_>) -> Result<(), AllocError> {
+    let user = whose(asked.all, asked.user);
     match asked.until {
-        None => add_at(out, "notices", asked.location, &[asked.user]),
-        Some(until) => add_at(out, "notices", asked.location, &[until, asked.user]),
+        None => add_at(out, "notices", asked.location, &[user]),
+        Some(until) => add_at(out, "notices", asked.location, &[until, user]),
+    }
+}
+
+fn add_queue(out: &mut Octets, asked: QueueArgs<'_>) -> Result<(), AllocError> {
+    let user = whose(asked.all, asked.user);
+    let id = asked.id.unwrap_or("no number");
+    add_at(out, "queue", asked.location, &[user, id])
+}
+
+/// The user, or that all are asked for.
+fn whose<'a>(all: bool, user: Option<&'a str>) -> &'a str {
+    match user {
+        Some(user) => user,
+        None if all => "all users",
+        None => "no user",
     }
 }
 

@@ -23,7 +23,7 @@ pub const CLOCK: Option<u64> = Some(1_700_000_000);
 const RANDOM: Option<[u8; 16]> = Some(*b"0123456789abcdef");
 
 /// What a run may tell, including those that no case can bring about.
-const FAULTS: [RunFault; 25] = [
+const FAULTS: [RunFault; 27] = [
     RunFault::Refused(Refusal::Memory),
     RunFault::Refused(Refusal::Store),
     RunFault::Busy,
@@ -46,6 +46,8 @@ const FAULTS: [RunFault; 25] = [
     RunFault::NoMessage,
     RunFault::NoMaildir,
     RunFault::NoScript,
+    RunFault::ScriptActive,
+    RunFault::ScriptExists,
     RunFault::Invalid,
     RunFault::BadInput,
     RunFault::BadArgument,

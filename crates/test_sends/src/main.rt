@@ -9,12 +9,14 @@ mod letters;
 mod memory_journal;
 mod memory_peer;
 mod memory_queue;
+mod userdbs;
 
 use boxes::Boxes;
 use letters::{Changes, Holdings, Letters, Refusals};
 use std::process::ExitCode;
 use std::{fs, io};
 use test_files::{Answers, CaseTally, try_rows};
+use userdbs::Userdbs;
 
 fn main(rt: HostRuntime) -> io::Result<ExitCode> {
     let mut failed = try_file(&rt, "mailboxes.cases", &mut Boxes)?;
@@ -22,6 +24,7 @@ fn main(rt: HostRuntime) -> io::Result<ExitCode> {
     failed |= try_file(&rt, "refusals.cases", &mut Refusals)?;
     failed |= try_file(&rt, "holdings.cases", &mut Holdings)?;
     failed |= try_file(&rt, "changes.cases", &mut Changes)?;
+    failed |= try_file(&rt, "userdbs.cases", &mut Userdbs)?;
     println!(rt; "{}", if failed { "failed" } else { "all hold" })?;
     Ok(ExitCode::from(u8::from(failed)))
 }

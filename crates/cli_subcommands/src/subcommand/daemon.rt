@@ -10,7 +10,7 @@ pub static DAEMON: SubcommandRow = SubcommandRow {
     about: "Serves many clients of ManageSieve and of LMTP at once, and moves mail into Maildirs",
     more: "At least one of --managesieve, --lmtp and --mail. Ports are of the loopback address; a PATH of digits alone is a port.
 --mail: INBOX moves into DIR/USER, or where DIR names it by %u, %n and %d (USER, before and after its @); another folder into its
-directory there (folders --maildir --separator).
+directory there (folders --maildir --separator). --domain: mail of a user of another domain stays; DIR may then have %n alone.
 Prints `listening on 127.0.0.1:P`, `listening on PATH` or `listening on -` for each once all listen. Ends by a signal alone.
 --before, --after: at most 16 each, and run in their order; a delivery reads all of them.
 --memory: of what isn't answered and of mail that comes in; from 1 to 65536. A client without room is told BYE, mail 452.
@@ -22,6 +22,7 @@ Status 0: all is right (--check). 64: wrong words or numbers, or no socket at PA
         CliArgument::Lmtp,
         CliArgument::Names,
         CliArgument::Mail,
+        CliArgument::Domain,
         CliArgument::Separator,
         CliArgument::Zone,
         CliArgument::Before,
@@ -49,6 +50,8 @@ pub struct DaemonArgs<'a> {
     pub names: Option<&'a str>,
     /// The directory of the users' Maildirs into which mail moves, if it does.
     pub mail: Option<&'a str>,
+    /// The domain whose users' mail alone moves there, if it is only one.
+    pub domain: Option<&'a str>,
     /// The separator of the levels of a folder's name there: `.` or `/`.
     pub separator: Option<&'a str>,
     /// The host's zone; UTC if it is left out.
@@ -77,6 +80,7 @@ impl<'a> DaemonArgs<'a> {
             lmtp: given.value(CliArgument::Lmtp),
             names: given.value(CliArgument::Names),
             mail: given.value(CliArgument::Mail),
+            domain: given.value(CliArgument::Domain),
             separator: given.value(CliArgument::Separator),
             zone: given.value(CliArgument::Zone),
             host: given.value(CliArgument::Host),

@@ -1,4 +1,4 @@
-//! `notices`: what went wrong in a user's deliveries.
+//! `notices`: what went wrong in the deliveries of a user, or of all.
 ghost use Rattle.cli_subcommands.specs.Asks.{IsNoticesArgs};
 
 use crate::argument::CliArgument;
@@ -8,15 +8,17 @@ use crate::subcommand_row::SubcommandRow;
 
 pub static NOTICES: SubcommandRow = SubcommandRow {
     name: "notices",
-    about: "Lists what went wrong in a user's deliveries, and takes it where that is said",
+    about: "Lists what went wrong in a user's deliveries, or in all, and takes it where that is said",
     more: "Reads nothing. Prints `MOMENT TEXT` for each, the moment in seconds since 1970. They stay.
---until: prints those up to that second, and takes them once they are printed.
+--all: of all users, in the order of the octets of their names: `USER MOMENT TEXT` for each. A closed account isn't listed.
+--until: prints those up to that second, and takes them once they are printed; of one user, not with --all.
 Status 0: listed. 64: wrong words or number. 65: no such store. 67: no such user. 75: try again later; none is taken.",
     arguments: &[
         CliArgument::Db,
         CliArgument::Wait,
         CliArgument::Until,
-        CliArgument::User,
+        CliArgument::AllUsers,
+        CliArgument::AnyUser,
     ],
 };
 
@@ -27,8 +29,10 @@ pub struct NoticesArgs<'a> {
     /// The moment of the last notice that is printed and taken, in seconds since 1970, in decimal; if it is left out, all
     /// are printed, and none is taken.
     pub until: Option<&'a str>,
-    /// The account's name.
-    pub user: &'a str,
+    /// Whether those of all users are asked for.
+    pub all: bool,
+    /// The account's name, if it is given.
+    pub user: Option<&'a str>,
 }
 
 impl<'a> NoticesArgs<'a> {
@@ -38,7 +42,8 @@ impl<'a> NoticesArgs<'a> {
         NoticesArgs {
             location: given.location(),
             until: given.value(CliArgument::Until),
-            user: given.text(CliArgument::User),
+            all: given.flag(CliArgument::AllUsers),
+            user: given.value(CliArgument::AnyUser),
         }
     }
 }

@@ -81,6 +81,46 @@ pub returns-in-Put-clause-reaches : goal.returns-in-Put-clause-reaches
 returns-in-Put-clause-reaches g c =
     subst (λ asked. OnOk c.run_put.result (ReachesStore (HasGiven g.K.Keeper.gives g.K.Keeper.will_wait) (g.T.MailSink.is_at c.args.sink.now) asked)) (sym c.in-Put.is) (c.run_put.ensures.given)
 
+pub returns-in-Activate-clause-does : goal.returns-in-Activate-clause-does
+returns-in-Activate-clause-does g c tells =
+    let kept = g.T.MailSink.kept c.args.sink.now in
+    let around = surroundings (HasDenied g.K.Keeper.refuses g.K.Keeper.will_wait) (HasRefused g.T.MailSink.refuses) c.args.clock c.args.random c.args.host in
+    subst (λ asked. DoesSubcommand around (from_to (g.R.Read.remaining c.args.input.now) (g.R.Read.remaining c.args.input.now)) (sink_mails g.T.MailSink.tells kept kept) (from_to (g.W.Write.contents c.args.output.now) (g.W.Write.contents c.run_activate.new.output)) asked c.run_activate.result (from_to (g.K.Keeper.holds c.args.keeper.now) (g.K.Keeper.holds c.run_activate.new.keeper))) (sym c.in-Activate.is) (((λ told. refl), refl), c.run_activate.ensures.does tells)
+
+pub returns-in-Activate-clause-reaches : goal.returns-in-Activate-clause-reaches
+returns-in-Activate-clause-reaches g c =
+    subst (λ asked. OnOk c.run_activate.result (ReachesStore (HasGiven g.K.Keeper.gives g.K.Keeper.will_wait) (g.T.MailSink.is_at c.args.sink.now) asked)) (sym c.in-Activate.is) (c.run_activate.ensures.given)
+
+pub returns-in-Deactivate-clause-does : goal.returns-in-Deactivate-clause-does
+returns-in-Deactivate-clause-does g c tells =
+    let kept = g.T.MailSink.kept c.args.sink.now in
+    let around = surroundings (HasDenied g.K.Keeper.refuses g.K.Keeper.will_wait) (HasRefused g.T.MailSink.refuses) c.args.clock c.args.random c.args.host in
+    subst (λ asked. DoesSubcommand around (from_to (g.R.Read.remaining c.args.input.now) (g.R.Read.remaining c.args.input.now)) (sink_mails g.T.MailSink.tells kept kept) (from_to (g.W.Write.contents c.args.output.now) (g.W.Write.contents c.run_deactivate.new.output)) asked c.run_deactivate.result (from_to (g.K.Keeper.holds c.args.keeper.now) (g.K.Keeper.holds c.run_deactivate.new.keeper))) (sym c.in-Deactivate.is) (((λ told. refl), refl), c.run_deactivate.ensures.does tells)
+
+pub returns-in-Deactivate-clause-reaches : goal.returns-in-Deactivate-clause-reaches
+returns-in-Deactivate-clause-reaches g c =
+    subst (λ asked. OnOk c.run_deactivate.result (ReachesStore (HasGiven g.K.Keeper.gives g.K.Keeper.will_wait) (g.T.MailSink.is_at c.args.sink.now) asked)) (sym c.in-Deactivate.is) (c.run_deactivate.ensures.given)
+
+pub returns-in-Delete-clause-does : goal.returns-in-Delete-clause-does
+returns-in-Delete-clause-does g c tells =
+    let kept = g.T.MailSink.kept c.args.sink.now in
+    let around = surroundings (HasDenied g.K.Keeper.refuses g.K.Keeper.will_wait) (HasRefused g.T.MailSink.refuses) c.args.clock c.args.random c.args.host in
+    subst (λ asked. DoesSubcommand around (from_to (g.R.Read.remaining c.args.input.now) (g.R.Read.remaining c.args.input.now)) (sink_mails g.T.MailSink.tells kept kept) (from_to (g.W.Write.contents c.args.output.now) (g.W.Write.contents c.run_delete.new.output)) asked c.run_delete.result (from_to (g.K.Keeper.holds c.args.keeper.now) (g.K.Keeper.holds c.run_delete.new.keeper))) (sym c.in-Delete.is) (((λ told. refl), refl), c.run_delete.ensures.does tells)
+
+pub returns-in-Delete-clause-reaches : goal.returns-in-Delete-clause-reaches
+returns-in-Delete-clause-reaches g c =
+    subst (λ asked. OnOk c.run_delete.result (ReachesStore (HasGiven g.K.Keeper.gives g.K.Keeper.will_wait) (g.T.MailSink.is_at c.args.sink.now) asked)) (sym c.in-Delete.is) (c.run_delete.ensures.given)
+
+pub returns-in-Rename-clause-does : goal.returns-in-Rename-clause-does
+returns-in-Rename-clause-does g c tells =
+    let kept = g.T.MailSink.kept c.args.sink.now in
+    let around = surroundings (HasDenied g.K.Keeper.refuses g.K.Keeper.will_wait) (HasRefused g.T.MailSink.refuses) c.args.clock c.args.random c.args.host in
+    subst (λ asked. DoesSubcommand around (from_to (g.R.Read.remaining c.args.input.now) (g.R.Read.remaining c.args.input.now)) (sink_mails g.T.MailSink.tells kept kept) (from_to (g.W.Write.contents c.args.output.now) (g.W.Write.contents c.run_rename.new.output)) asked c.run_rename.result (from_to (g.K.Keeper.holds c.args.keeper.now) (g.K.Keeper.holds c.run_rename.new.keeper))) (sym c.in-Rename.is) (((λ told. refl), refl), c.run_rename.ensures.does tells)
+
+pub returns-in-Rename-clause-reaches : goal.returns-in-Rename-clause-reaches
+returns-in-Rename-clause-reaches g c =
+    subst (λ asked. OnOk c.run_rename.result (ReachesStore (HasGiven g.K.Keeper.gives g.K.Keeper.will_wait) (g.T.MailSink.is_at c.args.sink.now) asked)) (sym c.in-Rename.is) (c.run_rename.ensures.given)
+
 pub returns-in-Open-clause-does : goal.returns-in-Open-clause-does
 returns-in-Open-clause-does g c tells =
     let kept = g.T.MailSink.kept c.args.sink.now in

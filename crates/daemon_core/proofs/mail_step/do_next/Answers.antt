@@ -1,7 +1,10 @@
-use Rattle.std.proofs.Common.{subst}
+use Rattle.std.proofs.Common.{[], subst, sym, arith}
 use Rattle.lmtp_connections.specs.Connections.{Answered}
 use Rattle.lmtp_connections.specs.Stands.{Demands}
-use Rattle.daemon_core.proofs.LmtpStepLemmas.{behind, answered, less_behind, one_behind}
+use Rattle.lmtp_connections.specs.declared.demand.Demand.TheVariants as demand
+use Rattle.net_loop.specs.Rules.{step_at}
+use Rattle.daemon_core.specs.LmtpSteps.{DoesOneIf, lmtp_moment}
+use Rattle.daemon_core.proofs.LmtpStepLemmas.{behind, answered, gathered, gathers, less_behind, one_behind}
 use Rattle.daemon_core.proofs.EventLemmas.{ok_then}
 use Rattle.daemon_core.proofs.mail_step.do_next.Goals as goal
 
@@ -16,9 +19,6 @@ reply-requires g c = subst (Demands c.args.now c.demand.new.self) c.in-Reply.is 
 
 pub find_account_for-requires-clause-asked : goal.find_account_for-requires-clause-asked
 find_account_for-requires-clause-asked g c = subst (Demands c.args.now c.demand.new.self) c.in-Account.is c.in_ok-demand.ensures.demands
-
-pub deliver-requires : goal.deliver-requires
-deliver-requires g c = subst (Demands c.args.now c.demand.new.self) c.in-Delivery.is c.in_ok-demand.ensures.demands
 
 pub returns-in-Line-clause-ok : goal.returns-in-Line-clause-ok
 returns-in-Line-clause-ok g c = ok_then c.answer_line.result c.answer_line.ensures.ok (λ ok.
@@ -44,7 +44,16 @@ returns-in_ok-room-in-Account-clause-ok g c =
     one_behind g.O.Outside.told g.O.StoreAccess.store.view c.args.outside.now c.find_account_for.new.outside c.args.daemon.now c.find_account_for.new.daemon c.args.connection.now c.demand.new.self c.find_account_for.new.connection c.args.now c.args.id
     c.find_account_for.result c.args.spare c.demand.ensures.keeps c.demand.ensures.receiver (c.find_account_for.ensures.does c.args.spare)
 
-pub returns-in_ok-room-in-Delivery-clause-ok : goal.returns-in_ok-room-in-Delivery-clause-ok
-returns-in_ok-room-in-Delivery-clause-ok g c =
-    one_behind g.O.Outside.told g.O.StoreAccess.store.view c.args.outside.now c.deliver.new.outside c.args.daemon.now c.deliver.new.daemon c.args.connection.now c.demand.new.self c.deliver.new.connection c.args.now c.args.id
-    c.deliver.result c.args.spare c.demand.ensures.keeps c.demand.ensures.receiver (c.deliver.ensures.does c.args.spare)
+pub returns-then-goes_together-clause-ok : goal.returns-then-goes_together-clause-ok
+returns-then-goes_together-clause-ok g c = ok_then c.gather.result c.gather.ensures.gathers (λ both.
+    let mid = c.demand.new.self in
+    let asked : Demands c.args.now mid demand.Delivery = subst (Demands c.args.now mid) c.in-Delivery.is c.in_ok-demand.ensures.demands in
+    subst (λ said. DoesOneIf g.O.Outside.told g.O.StoreAccess.store.view c.args.spare (lmtp_moment c.args.outside.now c.args.daemon.now c.args.connection.now) (step_at c.args.now c.args.id said) (lmtp_moment c.gather.new.outside c.args.daemon.now mid)) (sym c.requires)
+    (one_behind g.O.Outside.told g.O.StoreAccess.store.view c.args.outside.now c.gather.new.outside c.args.daemon.now c.args.daemon.now c.args.connection.now mid mid c.args.now c.args.id [] c.args.spare c.demand.ensures.keeps c.demand.ensures.receiver
+    (gathered g.O.Outside.told g.O.StoreAccess.store g.met.O.StoreAccess.sure c.args.outside.now c.gather.new.outside c.args.daemon.now c.args.daemon.now.clients c.args.now c.args.id [] mid mid c.args.spare (omega arith) (gathers c.args.now mid asked) both.0 both.1)))
+
+pub returns-in_ok-request-in-Delivery-clause-ok : goal.returns-in_ok-request-in-Delivery-clause-ok
+returns-in_ok-request-in-Delivery-clause-ok g c =
+    subst (λ said. DoesOneIf g.O.Outside.told g.O.StoreAccess.store.view c.args.spare (lmtp_moment c.args.outside.now c.args.daemon.now c.args.connection.now) (step_at c.args.now c.args.id said) (lmtp_moment c.deliver.new.outside c.deliver.new.daemon c.deliver.new.connection)) (sym c.requires)
+    (one_behind g.O.Outside.told g.O.StoreAccess.store.view c.args.outside.now c.deliver.new.outside c.args.daemon.now c.deliver.new.daemon c.args.connection.now c.demand.new.self c.deliver.new.connection c.args.now c.args.id
+    [] c.args.spare c.demand.ensures.keeps c.demand.ensures.receiver (c.deliver.ensures.does c.args.spare))

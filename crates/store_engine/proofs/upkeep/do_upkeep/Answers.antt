@@ -1,7 +1,7 @@
 use Rattle.std.proofs.Common.{◌≡◌, sym, subst}
 use Rattle.sqlite.specs.Held.{state}
 use Rattle.store_engine.specs.declared.upkeep.Upkeep.{Upkeep}
-use Rattle.store_engine.specs.declared.upkeep.Upkeep.TheVariants.{SetPassword, SetAddress, StoreScript, CloseAccount, OpenAccount, RemoveAccount, TakeNotices}
+use Rattle.store_engine.specs.declared.upkeep.Upkeep.TheVariants.{SetPassword, SetAddress, StoreScript, EditScripts, CloseAccount, OpenAccount, RemoveAccount, TakeNotices}
 use Rattle.store_engine.specs.Hosts.{ActsKeeping}
 use Rattle.store_engine.proofs.upkeep.do_upkeep.Goals as goal
 
@@ -19,6 +19,11 @@ pub returns-in-StoreScript : goal.returns-in-StoreScript
 returns-in-StoreScript g c =
     let is : c.args.upkeep.now ≡ StoreScript c.as_slice-in-StoreScript.result.now c.as_slice-in-StoreScript-2.result.now c.in-StoreScript.activate = cc in
     subst (λ (u : Upkeep). ActsKeeping c.args.user.now u (state g.S.Store c.args.store.now) (state g.S.Store c.store_script.new.store) c.store_script.result) (sym is) c.store_script.ensures
+
+pub returns-in-EditScripts : goal.returns-in-EditScripts
+returns-in-EditScripts g c =
+    let is : c.args.upkeep.now ≡ EditScripts c.in-EditScripts.edit = cc in
+    subst (λ (u : Upkeep). ActsKeeping c.args.user.now u (state g.S.Store c.args.store.now) (state g.S.Store c.edit_scripts.new.store) c.edit_scripts.result) (sym is) c.edit_scripts.ensures
 
 pub returns-in-CloseAccount : goal.returns-in-CloseAccount
 returns-in-CloseAccount g c =

@@ -1,13 +1,26 @@
-use Rattle.std.proofs.Common.{◌≡◌, ◌∙◌, Some, ap, sym, subst, rules}
+use Rattle.std.proofs.Common.{◌≡◌, ◌∙◌, ◌≤◌, Option, Some, None, length, ap, sym, subst, rules}
 use Rattle.std.specs.Prelude.{slice_get}
 use Rattle.lmtp_connections.specs.Stands.{Demands}
 use Rattle.lmtp_dialogue.specs.declared.recipient_reply.RecipientReply.TheVariants.{Refused}
 use Rattle.lmtp_connections.specs.declared.demand.Demand.TheVariants.{Reply}
-use Rattle.lmtp_connections.proofs.DemandLemmas.{owes, unkept}
+use Rattle.lmtp_connections.proofs.DemandLemmas.{known, owes, unkept, within}
 use Rattle.lmtp_connections.proofs.connection.LmtpConnection.demand_reply.Goals as goal
 
-pub demand_delivery-requires-clause-owes : goal.demand_delivery-requires-clause-owes
-demand_delivery-requires-clause-owes c =
+pub returns-in-Some-became : goal.returns-in-Some-became
+returns-in-Some-became c =
+    let s = c.args.self.now in
+    let there : slice_get s.addressees.items s.progress.told ≡ Some c.in-Some.addressee.now = ap (λ xs. slice_get xs s.progress.told) (sym c.as_slice.ensures.value) ∙ sym c.in-Some.ensures in
+    let same : c.in-Some.addressee.now.address ≡ c.args.received.recipient.now = search rules in
+    let is : c.in-Some.addressee.now.became ≡ Some c.in_ok-try_clone.field-0 = search rules in
+    known c.args.now s c.in-Some.addressee.now c.args.received c.requires there same c.in_ok-try_clone.field-0 is
+
+pub demand_by-requires-clause-some : goal.demand_by-requires-clause-some
+demand_by-requires-clause-some c =
+    let s = c.args.self.now in
+    within s.addressees.items s.progress.told c.in-Some.addressee.now (ap (λ xs. slice_get xs s.progress.told) (sym c.as_slice.ensures.value) ∙ sym c.in-Some.ensures)
+
+pub demand_by-requires-clause-owes : goal.demand_by-requires-clause-owes
+demand_by-requires-clause-owes c =
     let s = c.args.self.now in
     let there : slice_get s.addressees.items s.progress.told ≡ Some c.in-Some.addressee.now = ap (λ xs. slice_get xs s.progress.told) (sym c.as_slice.ensures.value) ∙ sym c.in-Some.ensures in
     let same : c.in-Some.addressee.now.address ≡ c.args.received.recipient.now = search rules in
@@ -18,4 +31,5 @@ returns-in-Err c =
     let s = c.args.self.now in
     let there : slice_get s.addressees.items s.progress.told ≡ Some c.in-Some.addressee.now = ap (λ xs. slice_get xs s.progress.told) (sym c.as_slice.ensures.value) ∙ sym c.in-Some.ensures in
     let same : c.in-Some.addressee.now.address ≡ c.args.received.recipient.now = search rules in
-    subst (λ r. Demands c.args.now s (Reply (Refused r))) (sym c.reply_for.ensures) (unkept c.args.now s c.in-Some.addressee.now c.args.received c.requires there same c.in-Err.fault c.in-Err.is)
+    let fresh : c.in-Some.addressee.now.became ≡ None = search rules in
+    subst (λ r. Demands c.args.now s (Reply (Refused r))) (sym c.reply_for.ensures) (unkept c.args.now s c.in-Some.addressee.now c.args.received c.requires there same fresh c.in-Err.fault c.in-Err.is)

@@ -1,0 +1,9 @@
+pub mod Answers
+pub mod Connections
+pub mod Cuts
+pub mod Escapes
+pub mod Lines
+pub mod Lives
+pub mod Probes
+pub mod Requests
+pub mod Talks

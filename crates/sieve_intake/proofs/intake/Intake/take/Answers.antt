@@ -1,0 +1,23 @@
+-- The members of the piece come after those that came before.
+use Rattle.std.proofs.Common.{◌++◌, sym, ap, ◌∙◌, subst}
+use Rattle.std.specs.List.{fold}
+use Rattle.std.proofs.lemmas.List.Sums.{fold-append}
+use Rattle.tar_entries.specs.Archives.{TakesBlocks}
+use Rattle.tar_entries.proofs.ArchiveLemmas.{read_on}
+use Rattle.sieve_intake.specs.Intakes.{most_octets}
+use Rattle.sieve_intake.specs.Sorting.{no_files, sorted_with}
+use Rattle.sieve_intake.proofs.intake.Intake.take.Goals as goal
+
+pub returns : goal.returns
+returns c = λ came taken.
+    let reader = c.args.self.reader in
+    let later = c.in_ok-reader.reader in
+    let more = c.in_ok-reader.entries in
+    let blocks = subst (λ most. TakesBlocks most reader.stage (reader.pending ++ c.args.piece.now) later more) taken.most c.in_ok-reader.ensures.reads in
+    let sorted = c.in_ok-files.ensures ∙ ap (λ files. fold sorted_with files more) taken.sorted ∙ sym (fold-append sorted_with no_files taken.entries more) in
+    record {
+      most = c.in_ok-reader.ensures.most ∙ taken.most;
+      entries = taken.entries ++ more;
+      read = read_on most_octets came c.args.piece.now reader later taken.entries more taken.read blocks;
+      sorted = sorted;
+    }

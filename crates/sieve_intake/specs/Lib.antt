@@ -1,0 +1,3 @@
+pub mod Intakes
+pub mod Names
+pub mod Sorting
