@@ -27,6 +27,9 @@ use Rattle.daemon_core.specs.declared.note.Note.TheVariants as note
 pub behind : (now : ℕ) (lmtp_step : LmtpStep) (said : List ℕ) (before mid after : LmtpConnection) → ConnectionKeeps before mid → ConnectionDoes now lmtp_step said mid after → ConnectionDoes now lmtp_step said before after
 behind now lmtp_step said before mid after keeps does = λ p stands. does p (keeps p stands)
 
+pub keeps_then : (before mid after : LmtpConnection) → ConnectionKeeps before mid → ConnectionKeeps mid after → ConnectionKeeps before after
+keeps_then before mid after one two = λ p stands. two p (one p stands)
+
 -- no more is held behind it
 pub less_behind : (before mid after : LmtpConnection) → mid.receiver ≡ before.receiver → ConnectionHoldsNoMore mid after → ConnectionHoldsNoMore before after
 less_behind before mid after same less = subst (λ r. held_by after.receiver ≤ held_by r) same less

@@ -92,12 +92,19 @@ fn do_next<O: StoreAccess>(
             outside.tell_answered(id);
             Ok(())
         }
+        Demand::Noted => {
+            let line = connection.reply_noted(now)?;
+            *out = line;
+            outside.tell_answered(id);
+            Ok(())
+        }
         Demand::Account(question) => {
             let room = ReplyBuffer::new(alloc)?;
             *out = find_account_for(alloc, daemon, connection, outside, now, id, question, room);
             Ok(())
         }
         Demand::Delivery => {
+            connection.reserve_reply()?;
             if goes_together(gathered, outside, now, id, connection.held()) {
                 return gather(gathered, outside, id);
             }

@@ -1,5 +1,6 @@
 -- What the calls of a connection make of it, put together from their parts.
-use Rattle.std.proofs.Common.{◌≡◌, ◌∙◌, inl, inr, ℕ, true, ◌+◌, ◌<◌, if◌then◌else◌, List, [], ◌∷◌, ◌++◌, length, Some, None, refl, sym, ap, subst, arith, length-append}
+use Rattle.std.proofs.Common.{◌≡◌, ◌∙◌, inl, inr, ℕ, suc, zero, true, ◌+◌, ◌<◌, if◌then◌else◌, List, [], ◌∷◌, ◌++◌, length, Option, Some, None, refl, sym, ap, subst, arith, length-append}
+use Rattle.std.specs.Prelude.{slice_get}
 use Rattle.lmtp_dialogue.specs.Dialogues.{DialoguePhase, Sending, Dialogue, dialogue_given, Message}
 use Rattle.lmtp_dialogue.specs.Receivers.{StandsIn, ComesNext, ReceiverGoes as GoesIn, GoesFrom, SaysNext, ReceiverHears as HearsIn, ReceiverRefuses as RefusesIn}
 use Rattle.lmtp_dialogue.specs.RecipientReplies.{recipient_lines}
@@ -13,9 +14,10 @@ use Rattle.lmtp_dialogue.specs.declared.receiver.Receiver.{Receiver}
 use Rattle.lmtp_dialogue.specs.declared.receiver.LmtpStage.{LmtpStage}
 use Rattle.lmtp_dialogue.specs.declared.receiver.LmtpStage.TheVariants as stage
 use Rattle.lmtp_dialogue.specs.declared.recipient_reply.RecipientReply.{RecipientReply}
+use Rattle.lmtp_dialogue.specs.declared.recipient_reply.ReplyBuffer.{ReplyBuffer}
 use Rattle.lmtp_dialogue.proofs.DialogueLemmas.{one_item}
-use Rattle.lmtp_connections.specs.Connections.{LmtpState, is_transaction_open, is_sending, has_some, lmtp_state_after, Answered, Declined, Asked, Away, Brought, IsFormAsked, taken_with, next_form, LookupFinds, IsFinding, Resolved, first_form, IsOwed, lmtp_state_told, lmtp_state_brought, next_recipient}
-use Rattle.lmtp_connections.specs.Stands.{wanted_for, ConnectionHolds, ConnectionStands, is_open_at, is_sending_at, Settles, ConnectionGoesOn, AsksRecipient, ResolvesIt, TellsIt, ConnectionKeeps, ConnectionHears, ConnectionDoes, IsNextForm, Demands, AsksIt, NotesBecame, IsRequested}
+use Rattle.lmtp_connections.specs.Connections.{LmtpState, is_transaction_open, is_sending, has_some, lmtp_state_after, Answered, Declined, Asked, Away, Brought, IsFormAsked, taken_with, next_form, LookupFinds, IsFinding, Resolved, first_form, IsOwed, became_of, lmtp_state_told, lmtp_state_brought, next_recipient}
+use Rattle.lmtp_connections.specs.Stands.{wanted_for, ConnectionHolds, ConnectionStands, is_open_at, is_sending_at, Settles, ConnectionGoesOn, AsksRecipient, ResolvesIt, TellsIt, ConnectionKeeps, ConnectionHears, ConnectionDoes, IsNextForm, Demands, AsksIt, NotesBecame, IsRequested, TellsNoted, noted}
 use Rattle.lmtp_connections.specs.Progress.{progress_done, progress_settled, progress_heard, progress_away}
 use Rattle.lmtp_connections.specs.declared.addressee.Addressee.{Addressee}
 use Rattle.lmtp_dialogue.specs.declared.recipient_reply.RecipientReply.{RecipientReply}
@@ -312,6 +314,57 @@ replies now became said c e demands told = λ p stands.
       inr (inr (became, record { before = d.0; it = d.1; after = d.2; sender = d.3; text = d.4; is = d.5; says = t.0; leaves = refl }, d.6)),
       t.1,
     )
+
+-- ---- what was noted is told
+
+-- the item of a list at its seam
+at_seam : {X : Type 0} (before after : List X) (x : X) (i : ℕ) → length before ≡ i → slice_get (before ++ x ∷ after) i ≡ Some x
+at_seam [] after x zero is = refl
+at_seam [] after x (suc i) is = absurd (omega (arith, is))
+at_seam (y ∷ before) after x zero is = absurd (omega (arith, is))
+at_seam (y ∷ before) after x (suc i) is = at_seam before after x i (omega (arith, is))
+
+module _ (c : Code) (before after : List Addressee) (it : Addressee) (items : c.addressees.items ≡ before ++ it ∷ after) (count : length before ≡ c.progress.told) where
+  -- what was noted is what became of the message for the one who comes next
+  noted_there : noted c ≡ it.became
+  noted_there = ap (λ (xs : List Addressee). became_of (slice_get xs c.progress.told)) items ∙ ap became_of (at_seam before after it c.progress.told count)
+
+  -- to note it once more changes nothing
+  pub noted_again : (became : RecipientReply) → noted c ≡ Some became → c.addressees.items ≡ before ++ record it { became = Some became } ∷ after
+  noted_again became is =
+      let same : it.became ≡ Some became = sym noted_there ∙ is in
+      items ∙ ap (λ b. before ++ record it { became = b } ∷ after) same
+
+replies_noted : (now : ℕ) (said : List ℕ) (c e : Code) → Demands now c demand.Noted → TellsNoted now said c e → ConnectionDoes now Answered said c e
+replies_noted now said c e demands told = λ p stands.
+    let d = demands p stands in
+    let before = d.0 in
+    let it = d.1 in
+    let owed = d.6 in
+    let holds = stands.holds in
+    let count : length before ≡ c.progress.told = owed.count ∙ ap (λ (t : LmtpProgress). t.told) (sym holds.progress) in
+    let is : noted c ≡ Some d.5 = noted_there c before d.2 it (holds.addressees ∙ owed.addressees) count ∙ d.7 in
+    let t = told d.5 is p stands before it d.2 d.3 d.4 owed in (
+      lmtp_state_told now d.5 p before it d.2 d.3 d.4 owed,
+      inr (inr (d.5, record { before = before; it = it; after = d.2; sender = d.3; text = d.4; is = owed; says = t.0; leaves = refl }, inl d.7)),
+      t.1,
+    )
+
+-- the same connection with memory reserved, or without
+with_room : (c : Code) (room : Option ReplyBuffer) (p : LmtpState) → ConnectionStands c p → ConnectionStands (record c { room = room }) p
+with_room c room p stands = record {
+  holds = record {
+    names = stands.holds.names;
+    hello = stands.holds.hello;
+    dialogue = stands.holds.dialogue;
+    addressees = stands.holds.addressees;
+    progress = stands.holds.progress;
+  };
+  comes = stands.comes;
+}
+
+pub replies_with : (now : ℕ) (said : List ℕ) (c e : Code) (room : Option ReplyBuffer) → Demands now c demand.Noted → TellsNoted now said (record c { room = room }) e → ConnectionDoes now Answered said c e
+replies_with now said c e room demands told = replies_noted now said c e demands (λ became is p stands. told became is p (with_room c room p stands))
 
 -- ---- the store was given a message
 

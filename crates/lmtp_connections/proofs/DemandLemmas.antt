@@ -1,5 +1,5 @@
 -- What is to be done next, put together from what was looked at.
-use Rattle.std.proofs.Common.{◌≡◌, ◌∙◌, inl, inr, ℕ, suc, zero, ◌+◌, ◌≤◌, true, false, List, [], ◌∷◌, ◌++◌, length, take, Option, Some, None, Ok, Err, refl, sym, ap, subst, arith, length-append}
+use Rattle.std.proofs.Common.{◌≡◌, ◌∙◌, inr, ℕ, suc, zero, ◌+◌, ◌≤◌, is_some, true, false, List, [], ◌∷◌, ◌++◌, length, take, Option, Some, None, Ok, Err, refl, sym, ap, subst, arith, length-append}
 use Rattle.std.specs.Borrow.{Bor}
 use Rattle.std.specs.Prelude.{slice_get}
 use Rattle.lmtp_dialogue.specs.Copies.{IsCopy, was_delivered}
@@ -11,7 +11,7 @@ use Rattle.lmtp_dialogue.specs.declared.receiver.ReceivedMessage.{ReceivedMessag
 use Rattle.lmtp_dialogue.specs.declared.reply.LmtpReply.TheVariants.{HeaderTooLarge, MailLoop, StoreAway}
 use Rattle.lmtp_dialogue.specs.declared.message_text.TextFault.{TextFault}
 use Rattle.lmtp_dialogue.specs.declared.message_text.TextFault.TheVariants as fault
-use Rattle.lmtp_connections.specs.Connections.{LmtpState, IsOwed, earlier, IsNewDelivery, IsReplyOwed, BecomesWithoutStore, TooLarge, Lacked, Again, LongHeader, Circles, PutOff, has_long_text_header}
+use Rattle.lmtp_connections.specs.Connections.{LmtpState, IsOwed, earlier, IsNewDelivery, BecomesWithoutStore, TooLarge, Lacked, Again, LongHeader, Circles, PutOff, has_long_text_header}
 use Rattle.lmtp_connections.specs.Stands.{reply_for, ConnectionStands, Demands, IsNextForm, FormFollows, told_before, Owes, IsMessageDue, IsRequested}
 use Rattle.lmtp_connections.specs.Progress.{MayAskStore, HasWaited}
 use Rattle.lmtp_connections.specs.declared.addressee.Addressee.{Addressee}
@@ -79,6 +79,10 @@ account now c question forms asks are there follows may = λ p stands.
 
 -- ---- a reply is owed
 
+some_of : {X : Type 0} (o : Option X) → is_some o ≡ true → (x : X) × (o ≡ Some x)
+some_of None is = absurd (let never : false ≡ true = is in cc)
+some_of (Some x) is = (x, refl)
+
 abbrev pub Delivers : Code → ReceivedMessage → Type 0
 Delivers c received = (d : Dialogue) → StandsIn c.receiver d → IsDelivery d received
 
@@ -115,10 +119,11 @@ module _ (now : ℕ) (c : Code) (it : Addressee) (received : ReceivedMessage) (d
       let kept : (text.now ≡ o.text) × (length o.text ≤ max_text) = subst (IsKept o.text) is o.kept in
       (o.after, subst (IsOwed p (told_before c) it o.after received.sender.now) (sym kept.0) o.is, subst (λ x. length x ≤ max_text) (sym kept.0) kept.1)
 
-  pub known : (became : RecipientReply) → it.became ≡ Some became → Demands now c (demand.Reply became)
-  known became is = λ p stands.
+  pub known : is_some it.became ≡ true → Demands now c demand.Noted
+  known some = λ p stands.
       let o = owes_next c it received delivers there same p stands in
-      (told_before c, it, o.after, received.sender.now, o.text, o.is, inl is)
+      let b = some_of it.became some in
+      (told_before c, it, o.after, received.sender.now, o.text, b.0, o.is, b.1)
 
   becomes : (fault : TextFault) (p : LmtpState) (text : List ℕ) → IsKept text (Err fault) → BecomesWithoutStore now p (told_before c) it text (Refused (reply_for fault))
   becomes fault.TooLarge p text kept = TooLarge kept refl

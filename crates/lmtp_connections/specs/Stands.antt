@@ -14,7 +14,7 @@ use Rattle.lmtp_dialogue.specs.declared.reply.LmtpReply.{LmtpReply}
 use Rattle.lmtp_dialogue.specs.declared.reply.LmtpReply.TheVariants.{MessageTooLarge, NoRoom}
 use Rattle.lmtp_dialogue.specs.declared.message_text.TextFault.{TextFault}
 use Rattle.lmtp_dialogue.specs.declared.message_text.TextFault.TheVariants.{TooLarge, Memory}
-use Rattle.lmtp_connections.specs.Connections.{LmtpState, has_some, lmtp_state_after, lmtp_state_heard, LmtpStep, Declined, LmtpGoes, LmtpAsksStore, IsFormAsked, first_form, IsOwed, IsReplyOwed, AsksDelivery, IsDeliveryDue, lmtp_state_told, IsDeliveryRequest}
+use Rattle.lmtp_connections.specs.Connections.{LmtpState, became_of, has_some, lmtp_state_after, lmtp_state_heard, LmtpStep, Declined, LmtpGoes, LmtpAsksStore, IsFormAsked, first_form, IsOwed, IsReplyOwed, AsksDelivery, IsDeliveryDue, lmtp_state_told, IsDeliveryRequest}
 use Rattle.lmtp_connections.specs.Progress.{MayAskStore, HasWaited, progress_settled, wanted}
 use Rattle.lmtp_connections.specs.declared.addressee.Addressee.{Addressee}
 use Rattle.lmtp_dialogue.specs.declared.recipient_reply.RecipientReply.{RecipientReply}
@@ -118,9 +118,21 @@ abbrev pub NotesBecame : RecipientReply → Code → Code → Type 0
 NotesBecame became c e =
     (before after : List Addressee) (it : Addressee) → c.addressees.items ≡ before ++ it ∷ after → length before ≡ c.progress.told → e.addressees.items ≡ before ++ record it { became = Some became } ∷ after
 
+-- what became of the message for the recipient to whom a reply is owed next, if that was noted
+abbrev pub noted : Code → Option RecipientReply
+noted c = became_of (slice_get c.addressees.items c.progress.told)
+
+-- the next recipient gets its reply by what was noted
+abbrev pub TellsNoted : ℕ → List ℕ → Code → Code → Type 0
+TellsNoted now said c e = (became : RecipientReply) → noted c ≡ Some became → TellsIt now became said c e
+
 -- it stands for the same connection
 abbrev pub ConnectionKeeps : Code → Code → Type 0
 ConnectionKeeps c e = (p : LmtpState) → ConnectionStands c p → ConnectionStands e p
+
+-- they stand for the same connections
+abbrev pub StandsAlike : Code → Code → Type 0
+StandsAlike c e = ConnectionKeeps c e × ConnectionKeeps e c
 
 -- it stands for the connection that heard these octets
 abbrev pub ConnectionHears : ℕ → List ℕ → Code → Code → Type 0
@@ -160,6 +172,9 @@ IsDemand now p (demand.Account question) =
 IsDemand now p (demand.Reply became) =
     (before : List Addressee) × (it : Addressee) × (after : List Addressee) × (sender text : List ℕ)
     × IsOwed p before it after sender text × IsReplyOwed now p before it text became
+IsDemand now p demand.Noted =
+    (before : List Addressee) × (it : Addressee) × (after : List Addressee) × (sender text : List ℕ) × (became : RecipientReply)
+    × IsOwed p before it after sender text × (it.became ≡ Some became)
 IsDemand now p demand.Delivery = MayAskStore now p.progress × AsksDelivery p
 
 -- what is to be done next, whatever connection it stands for

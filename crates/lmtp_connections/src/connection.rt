@@ -1,5 +1,6 @@
 //! The state of one connection.
-ghost use Rattle.std.specs.Prelude.{◌≡◌, ◌≢◌, ◌+◌, ◌<◌, ◌≤◌, List, [], ◌∷◌, ◌++◌, length, Some, IfOk, OnOk, OnErr};
+ghost use Rattle.std.specs.Prelude.{◌≡◌, ◌≢◌, ◌+◌, ◌<◌, ◌≤◌, List, [], ◌∷◌, ◌++◌, length, Some, None, IfOk, IfSome, IsOk, OnOk, OnErr};
+ghost use Rattle.lmtp_dialogue.specs.RecipientReplies.{recipient_lines};
 ghost use Rattle.lmtp_connections.specs.declared.addressee.Addressee.{Addressee};
 ghost use Rattle.lmtp_dialogue.specs.Receivers as receivers;
 ghost use Rattle.lmtp_dialogue.specs.Replies as replies;
@@ -30,6 +31,8 @@ pub struct LmtpConnection {
     /// The recipients that were taken, with their accounts.
     pub(crate) addressees: Vec<Addressee>,
     pub(crate) progress: LmtpProgress,
+    /// Memory for the reply to a message that the store is given.
+    pub(crate) room: Option<ReplyBuffer>,
 }
 
 impl LmtpConnection {
@@ -58,6 +61,7 @@ impl LmtpConnection {
             comes,
             addressees: Vec::new(alloc),
             progress: LmtpProgress::fresh(now),
+            room: None,
         })
     }
 
@@ -250,6 +254,22 @@ impl LmtpConnection {
         Ok(self.tell(now, became, room))
     }
 
+    /// Reserves memory for the reply to a message before the store is given it. Then neither `answer_delivery` takes memory, nor
+    /// `demand` behind it, nor `reply_noted`: what the store did is told.
+    ///
+    /// Lack of memory is the only error; nothing changes then.
+    pub fn reserve_reply(&mut self) -> Result<(), AllocError>
+        ensures alike { s.StandsAlike self.old self.new }
+        ensures receiver { self.new.receiver ≡ self.old.receiver }
+        ensures reserved { OnOk result (self.new.room ≢ None) }
+        ensures err { OnErr result (self.new ≡ self.old) }
+    {
+        if self.room.is_none() {
+            self.room = Some(ReplyBuffer::new(self.alloc)?);
+        }
+        Ok(())
+    }
+
     /// The store was given the request, and this became of it. The reply is the next step's (`demand`). Takes no memory.
     pub fn answer_delivery(&mut self, now: u64, request: &DeliveryRequest, became: RecipientReply)
         requires { s.IsRequested now self.old request.now }
@@ -258,6 +278,57 @@ impl LmtpConnection {
     {
         self.set_became(became);
         self.progress = self.progress.settled(now, true, true);
+    }
+
+    /// Tells what became of the message, as it was noted (`answer_delivery`). Returns what is said. Takes no memory if that was reserved
+    /// (`reserve_reply`).
+    ///
+    /// Lack of memory is the only error.
+    pub fn reply_noted(&mut self, now: u64) -> Result<Octets, AllocError>
+        requires { s.Demands now self.old demands.Noted }
+        ensures does { IfOk result (λ said. s.ConnectionDoes now Answered said self.old self.new) }
+        ensures held { s.ConnectionHoldsNoMore self.old self.new }
+        ensures reserved { self.old.room ≢ None → IsOk result }
+    {
+        let room = match self.room.take() {
+            Some(room) => room,
+            None => ReplyBuffer::new(self.alloc)?,
+        };
+        Ok(self.tell_noted(now, room))
+    }
+
+    // Makes the reply to the next recipient by what was noted.
+    fn tell_noted(&mut self, now: u64, room: ReplyBuffer) -> Octets
+        ensures tells { s.TellsNoted now result self.old self.new }
+        ensures held { s.ConnectionHoldsNoMore self.old self.new }
+    {
+        let lines = self.say_noted(room);
+        self.receiver.pass();
+        self.pass_recipient();
+        self.go_on(now);
+        lines
+    }
+
+    // The lines that tell what was noted for the next recipient.
+    fn say_noted(&self, room: ReplyBuffer) -> Octets
+        ensures { IfSome (s.noted self.now) (λ became. result ≡ recipient_lines became) }
+    {
+        let addressee = self.addressees.get(self.progress.told);
+        match addressee.and_then(|it| it.became.as_ref()) {
+            Some(became) => room.say(became),
+            None => Octets::new(self.alloc),
+        }
+    }
+
+    // Passes on to the recipient behind the next one.
+    fn pass_recipient(&mut self)
+        ensures counted { self.old.progress.told < length self.old.addressees.items → self.new.progress ≡ connections.next_recipient self.old.progress }
+        ensures rest { self.new ≡ record self.old { progress = self.new.progress } }
+    {
+        let told = self.progress.told;
+        if told < self.addressees.len() {
+            self.progress.told = told + 1;
+        }
     }
 
     // Makes the reply to the next recipient.

@@ -39,6 +39,8 @@ pub enum Demand {
     Account(Question),
     /// A reply is to be made after the text, without the store.
     Reply(RecipientReply),
+    /// What became of the message, as it was noted, is to be told (`LmtpConnection::reply_noted`).
+    Noted,
     /// A message is to be delivered by the store (`LmtpConnection::delivery`).
     Delivery,
 }

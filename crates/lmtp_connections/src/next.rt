@@ -81,8 +81,8 @@ impl LmtpConnection {
         if addressee.address.as_slice() != received.recipient {
             return Err(AllocError);
         }
-        if let Some(became) = &addressee.became {
-            return Ok(Demand::Reply(became.try_clone(self.alloc)?));
+        if addressee.became.is_some() {
+            return Ok(Demand::Noted);
         }
         match received.text {
             Ok(text) => self.demand_by(now, addressee, received.sender, text),
