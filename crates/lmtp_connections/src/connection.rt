@@ -350,16 +350,14 @@ impl LmtpConnection {
         ensures receiver { self.new.receiver ≡ self.old.receiver }
         ensures names { self.new.names ≡ self.old.names }
     {
-        let told = self.progress.told;
-        if told < self.addressees.len() {
-            self.set_became(became);
-            self.progress.told = told + 1;
-        }
+        self.set_became(became);
+        self.pass_recipient();
     }
 
     // Notes what became of the message for the recipient to whom a reply is owed next.
     fn set_became(&mut self, became: RecipientReply)
         ensures noted { s.NotesBecame became self.old self.new }
+        ensures count { length self.new.addressees.items ≡ length self.old.addressees.items }
         ensures rest { self.new ≡ record self.old { addressees = self.new.addressees } }
     {
         let told = self.progress.told;
