@@ -1,5 +1,6 @@
 //! Messages of several connections, delivered by a store.
-ghost use Rattle.std.specs.Prelude.{IfOk};
+ghost use Rattle.std.specs.Prelude.{IfOk, IfErr};
+ghost use Rattle.store_accounts.specs.Refusals.{IsTransient};
 ghost use Rattle.sqlite.specs.Held.{state};
 ghost use Rattle.store_engine.specs.Terms.{terms_of};
 ghost use Rattle.daemon_core.specs.Together.{AreForOthers, StoreDelivers};
@@ -26,7 +27,8 @@ pub fn deliver_requests<S: Alter>(
     terms: LentTerms<'_>,
 ) -> Result<List<Answer>, Refusal>
     requires { AreForOthers requests.now }
-    ensures { StoreDelivers (terms_of terms.entry) requests.now result (state S.Store store.old) (state S.Store store.new) }
+    ensures cause { IfErr result IsTransient }
+    ensures delivers { StoreDelivers (terms_of terms.entry) requests.now result (state S.Store store.old) (state S.Store store.new) }
 {
     let parcels = parcels_of(alloc, requests)?;
     let answers = deliver_all(alloc, store, kept, parcels.as_slice(), terms)?;

@@ -10,4 +10,4 @@ returns-clause-delivers c =
     let old = state over_memory c.args.self.now.store in
     let new = state over_memory c.deliver_requests.new.store in
     together_on_shelf c.args.terms.now c.args.requests.now c.deliver_requests.result c.args.self.now _
-    (subst (λ t. StoreDelivers t c.args.requests.now c.deliver_requests.result old new) c.lend.ensures.lent c.deliver_requests.ensures)
+    (subst (λ t. StoreDelivers t c.args.requests.now c.deliver_requests.result old new) c.lend.ensures.lent c.deliver_requests.ensures.delivers)
