@@ -28,4 +28,4 @@ returns-in-Some-Err-clause-delivers g c =
     rw c.end_deliveries-in-Some-Err.ensures.same (it.0, it.1, record { others = []; done = λ clean. it.2 clean c.args._clients.now.sessions; telling = λ told. never_told told; had = λ had. refl })
 
 pub returns-in-None-clause-delivers : goal.returns-in-None-clause-delivers
-returns-in-None-clause-delivers g c = (λ clean. record { shown = c.in-None.ensures.2; kept = λ sessions has. has }, λ told. never_told told)
+returns-in-None-clause-delivers g c = (λ clean. record { shown = c.in-None.ensures.delivers.2; kept = λ sessions has. has }, λ told. never_told told)
