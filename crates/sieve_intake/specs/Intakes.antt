@@ -1,6 +1,6 @@
 -- An archive of a user's files, as it comes.
 use Rattle.std.specs.Prelude.{◌≡◌, ◌⊎◌, ℕ, List, false, true}
-use Rattle.tar_entries.specs.Archives.{FailsAt, HasReadArchive, StopsAt}
+use Rattle.tar_entries.specs.Archives.{FailsAt, HasReadArchive, StopsReading}
 use Rattle.tar_entries.specs.Steps.{ends_archive, first_stage}
 use Rattle.tar_entries.specs.declared.entry.TarEntry.{TarEntry}
 use Rattle.tar_entries.specs.declared.error.TarError.{TarError}
@@ -28,7 +28,7 @@ pub record IsSortedArchive (came : List ℕ) (files : SortedFiles) : Type 0 wher
 
 -- memory was refused; or these octets begin with blocks of an archive, of which the last one can't be read
 abbrev pub StopsArchive : List ℕ → TarError → Type 0
-StopsArchive came error = StopsAt most_octets first_stage came error
+StopsArchive came error = StopsReading most_octets first_stage came error
 
 -- these octets are the beginning of an archive
 pub record IsCutArchive (came : List ℕ) : Type 0 where

@@ -2,7 +2,7 @@
 use Rattle.std.proofs.Common.{◌≡◌, ◌++◌, ℕ, List, Err, IfErr, rules, sym, ap, ◌∙◌, subst}
 use Rattle.std.specs.List.{fold}
 use Rattle.std.proofs.lemmas.List.Sums.{fold-append}
-use Rattle.tar_entries.specs.Archives.{StopsAt, TakesBlocks}
+use Rattle.tar_entries.specs.Archives.{StopsReading, TakesBlocks}
 use Rattle.tar_entries.specs.declared.error.TarError.{TarError}
 use Rattle.tar_entries.proofs.ArchiveLemmas.{read_on, stopped_on}
 use Rattle.sieve_intake.specs.Intakes.{HasTaken, StopsArchive, most_octets}
@@ -30,4 +30,4 @@ returns-in_err-reader-clause-stops c =
     let Stops : TarError → Type 0 = λ error. (came : List ℕ) → HasTaken came c.args.self → StopsArchive (came ++ c.args.piece.now) error in
     let is : c.from_residual.result ≡ Err e = search rules in
     subst (λ r. IfErr r Stops) (sym is)
-    (λ came taken. stopped_on most_octets came c.args.piece.now reader taken.entries e taken.read (subst (λ most. StopsAt most reader.stage (reader.pending ++ c.args.piece.now) e) taken.most c.in_err-reader.ensures.stops))
+    (λ came taken. stopped_on most_octets came c.args.piece.now reader taken.entries e taken.read (subst (λ most. StopsReading most reader.stage (reader.pending ++ c.args.piece.now) e) taken.most c.in_err-reader.ensures.stops))
