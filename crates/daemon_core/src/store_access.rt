@@ -1,6 +1,5 @@
 //! The store, as the daemon sees it.
-ghost use Rattle.std.specs.Prelude.{IsTrue, IfErr, IfSome};
-ghost use Rattle.store_accounts.specs.Refusals.{IsTransient};
+ghost use Rattle.std.specs.Prelude.{IsTrue, IfSome};
 ghost use Rattle.lmtp_connections.specs.Connections.{IsFinding};
 ghost use Rattle.store_engine.specs.Hosts.{IsGivenUp};
 ghost use Rattle.net_loop.specs.declared.act.Act.TheVariants.{Noted};
@@ -70,8 +69,7 @@ pub trait StoreAccess: Outside<Note = Note> {
     ) -> Option<Result<List<Answer>, Refusal>>
         requires { MayGoTogether requests.now }
         ensures kept { ToldBefore Self.told self.old self.new }
-        ensures delivers { DeliversMessages Self.told store requests.now (access_state self.old clients.old.sessions) result (access_state self.new clients.new.sessions) }
-        ensures cause { IfSome result (λ answers. IfErr answers IsTransient) };
+        ensures delivers { DeliversMessages Self.told store requests.now (access_state self.old clients.old.sessions) result (access_state self.new clients.new.sessions) };
 
     /// Whether the message of a client of LMTP, of that many octets, may be delivered together with those of others: whose account used much
     /// time of late, or whose message memory or the store refused together with others, has an act of its own.

@@ -1,6 +1,5 @@
 //! The outside of the daemon, over the system.
-ghost use Rattle.std.specs.Prelude.{◌≡◌, ℕ, [], ◌∷◌, ◌++◌, true, false, IsTrue, IfErr, IfSome};
-ghost use Rattle.store_accounts.specs.Refusals.{IsTransient};
+ghost use Rattle.std.specs.Prelude.{◌≡◌, ℕ, [], ◌∷◌, ◌++◌, true, false, IsTrue, IfSome};
 ghost use Rattle.lmtp_connections.specs.Connections.{IsFinding};
 ghost use Rattle.store_accounts.specs.declared.refusal.Refusal.TheVariants.{Store};
 ghost use Rattle.store_engine.specs.Hosts.{IsGivenUp, SessionMap};
@@ -547,8 +546,7 @@ impl<'a, S: HostSystem + Drop, E: Write + Drop, H: MailStore + Drop> Host<'a, S,
         requests: &[GatheredRequest],
     ) -> Option<Result<List<Answer>, Refusal>>
         requires { MayGoTogether requests.now }
-        ensures delivers { (when : When) × IsReadNext S.showed self.old.system self.old.settings when × HostDelivers H.view H.clean (terms when self.old.settings) requests.now result self.old.held self.new.held }
-        ensures cause { IfSome result (λ answers. IfErr answers IsTransient) }
+        ensures { (when : When) × IsReadNext S.showed self.old.system self.old.settings when × HostDelivers H.view H.clean (terms when self.old.settings) requests.now result self.old.held self.new.held }
     {
         let seconds = self.system.seconds();
         let when = self.settings.at(seconds).when;

@@ -9,7 +9,6 @@ ghost use Rattle.store_lock.specs.declared.keeper.StoreUnavailable.{StoreUnavail
 ghost use Rattle.daemon_core.specs.StoreAccess.{View, ViewStillShows, delivery_of};
 ghost use Rattle.daemon_core.specs.Moves.{HasKept};
 ghost use Rattle.daemon_core.specs.Together.{MayGoTogether};
-ghost use Rattle.store_accounts.specs.Refusals.{IsTransient};
 ghost use Rattle.daemon_host.specs.Held.{HostBrings, HostDelivers, HostFinds, HostMovesNext, MailStays};
 
 use daemon_core::gathered::GatheredRequest;
@@ -122,8 +121,7 @@ pub trait MailStore {
         terms: LentTerms<'_>,
     ) -> Option<Result<List<Answer>, Refusal>>
         requires { MayGoTogether requests.now }
-        ensures delivers { HostDelivers view clean (terms_of terms.entry) requests.now result self.old self.new }
-        ensures cause { IfSome result (λ answers. IfErr answers IsTransient) };
+        ensures { HostDelivers view clean (terms_of terms.entry) requests.now result self.old self.new };
 
     /// Has the first messages of a folder move on by one step. None if mail doesn't move on, or the store isn't held.
     fn move_next(&mut self, now: u64, fresh: bool) -> Option<Moving>

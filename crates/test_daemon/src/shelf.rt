@@ -1,6 +1,5 @@
 //! Where accounts are kept, in memory.
-ghost use Rattle.std.specs.Prelude.{◌≡◌, List, true, IfErr};
-ghost use Rattle.store_accounts.specs.Refusals.{IsTransient};
+ghost use Rattle.std.specs.Prelude.{◌≡◌, List, true};
 ghost use Rattle.daemon_core.specs.Together.{AreForOthers};
 ghost use Rattle.lmtp_connections.specs.Connections.{IsFinding};
 ghost use Rattle.store_engine.specs.Hosts.{IsGivenUp};
@@ -50,7 +49,6 @@ pub trait Shelf {
     ) -> Result<List<Answer>, Refusal>
         requires { AreForOthers requests.now }
         ensures delivers { IsDeliveredTogether view terms.now requests.now result self.old self.new }
-        ensures cause { IfErr result IsTransient }
         ensures still { StillHas has self.old self.new };
 
     /// Whether there is an account of that name.

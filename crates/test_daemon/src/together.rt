@@ -1,6 +1,5 @@
 //! Messages of several clients that are delivered together, in memory.
-ghost use Rattle.std.specs.Prelude.{◌≡◌, IsTrue, IfErr, IfSome};
-ghost use Rattle.store_accounts.specs.Refusals.{IsTransient};
+ghost use Rattle.std.specs.Prelude.{◌≡◌, IsTrue, IfSome};
 ghost use Rattle.mail_dates.specs.HostZones.{IsOffsetAt};
 ghost use Rattle.net_loop.specs.Told.{TellsIf};
 ghost use Rattle.net_loop.specs.declared.act.Act.TheVariants.{Worked};
@@ -88,7 +87,6 @@ impl<S: Shelf + Drop> FakeAccess<S> {
     ) -> Result<List<Answer>, Refusal>
         requires { AreForOthers requests.now }
         ensures delivers { IsDeliveredTogether S.view terms.now requests.now result (shelf_of self.old) (shelf_of self.new) }
-        ensures cause { IfErr result IsTransient }
         ensures still { StillHas S.has (shelf_of self.old) (shelf_of self.new) }
         ensures acts { self.new.stage.fake.acts ≡ self.old.stage.fake.acts }
         ensures lost { self.new.stage.fake.lost ≡ self.old.stage.fake.lost }
