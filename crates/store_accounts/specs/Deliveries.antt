@@ -1,6 +1,5 @@
--- Deliveries to several users, which are written together.
-use Rattle.std.specs.Prelude.{◌≡◌, ◌≢◌, ◌⊎◌, ◌++◌, ℕ, List, [], ◌∷◌, map, fold, All, AllPairs, Any, Result, IfOk, IfErr, OnOk, OnErr}
-use Rattle.std.specs.List.{AllZip}
+-- Deliveries to users, which are written together: several may be to one user.
+use Rattle.std.specs.Prelude.{◌≡◌, ◌⊎◌, ◌++◌, ℕ, List, [], ◌∷◌, map, fold, All, Any, Option, Some, None, Result, IfOk, IfErr, OnOk, OnErr}
 use Rattle.sqlite_value.specs.Order.{Row}
 use Rattle.sqlite.specs.Effect.{Database}
 use Rattle.sqlite.specs.State.{State, HasCleanDisk, Survives}
@@ -17,7 +16,7 @@ use Rattle.store_accounts.specs.declared.refusal.Refusal.{Refusal}
 use Rattle.store_accounts.specs.declared.refusal.Refusal.TheVariants.{NoUser}
 use Rattle.store_accounts.specs.Account.{Accounts, delivers, with_user}
 use Rattle.store_accounts.specs.AccountRows.{HasCounters}
-use Rattle.store_accounts.specs.Delivery.{AreDelivery}
+use Rattle.store_accounts.specs.Delivery.{AreDelivery, delivered_rows}
 use Rattle.store_accounts.specs.MessageRows.{GainsOnce}
 use Rattle.store_accounts.specs.Promises.{ChangesAccounts, CrashLeavesAccounts, HasNoOpen, HasOurTables, HasUser, KeepsSeen, OverAccounts, OverTables}
 use Rattle.store_accounts.specs.Refusals.{IsTransient}
@@ -40,21 +39,47 @@ plans_in deliveries = map plan_in deliveries
 abbrev pub users_of : List UserPlan → List (List ℕ)
 users_of plans = map (λ d. d.user) plans
 
--- no user stands twice among these
-abbrev pub HasNoUserTwice : List (List ℕ) → Type 0
-HasNoUserTwice users = AllPairs (λ one later. one ≢ later) users
-
 -- each plan is carried out in the account of its user, one after the other
 abbrev pub delivers_each : List UserPlan → Accounts → Accounts
 delivers_each plans accounts = fold (λ all d. with_user all d.user (delivers d.plan)) accounts plans
 
 -- ---- the counters
 
--- by these rows each of the users has these counters
-abbrev pub AreCountersOfEach : List UserPlan → Tables → List Counters → Type 0
-AreCountersOfEach plans tables = AllZip (λ d c. HasCounters (rows_of d.user tables account_tree) c) plans
+-- the rows as the delivery to a user with these counters leaves them
+abbrev pub delivery_rows : UserPlan → Counters → Tables → Tables
+delivery_rows d c tables = delivered_rows d.user c d.plan tables
 
--- the reads of the counters in the row of each user's account, in order, maybe none
+-- each of the users has these counters, by the rows as the deliveries before leave them
+abbrev pub AreCountersOfEach : List UserPlan → Tables → List Counters → Type 0
+AreCountersOfEach [] tables [] = Unit {0}
+AreCountersOfEach (d ∷ plans) tables (c ∷ counters) = HasCounters (rows_of d.user tables account_tree) c × AreCountersOfEach plans (delivery_rows d c tables) counters
+AreCountersOfEach [] tables (c ∷ counters) = ⊥
+AreCountersOfEach (d ∷ plans) tables [] = ⊥
+
+-- the rows as all of the deliveries leave them, one after the other
+abbrev pub rows_after : List UserPlan → List Counters → Tables → Tables
+rows_after [] counters tables = tables
+rows_after (d ∷ plans) [] tables = tables
+rows_after (d ∷ plans) (c ∷ counters) tables = rows_after plans counters (delivery_rows d c tables)
+
+-- the user's counters by other rows: these, or those of the first rows
+abbrev pub IsCountedBy : List ℕ → Tables → Tables → Option Counters → Type 0
+IsCountedBy user first tables None = rows_of user tables account_tree ≡ rows_of user first account_tree
+IsCountedBy user first tables (Some c) = HasCounters (rows_of user tables account_tree) c
+
+-- whatever rows there were, behind these deliveries the user has these counters; or those that it had, where none of them is to the user
+abbrev pub IsCountedBehind : List ℕ → List UserPlan → List Counters → Option Counters → Type 0
+IsCountedBehind user plans counters found =
+    (tables : Tables) → AreCountersOfEach plans tables counters → IsCountedBy user tables (rows_after plans counters tables) found
+
+-- the read of the user's counters behind these deliveries, in the row of its account where none of them is to the user
+pub record ReadsCountersBehind (user : List ℕ) (plans : List UserPlan) (counters : List Counters) (old new : State) (result : Result Counters Refusal) : Type 0 where
+  pub found : HasCleanDisk new → OverTables old (λ tables. AreCountersOfEach plans tables counters → IfOk result (HasCounters (rows_of user (rows_after plans counters tables) account_tree)))
+  pub absent : HasCleanDisk new → OverTables old (λ tables. IfErr result (λ e. e ≡ NoUser → rows_of user tables account_tree ≡ []))
+  pub keeps : KeepsSeen old new result
+  pub named : IfErr result (λ e. (e ≡ NoUser) ⊎ IsTransient e)
+
+-- the counters of each delivery, in order: the row of each user's account is read once, maybe none is
 pub record CountsEach (plans : List UserPlan) (old new : State) (result : Result (List Counters) Refusal) : Type 0 where
   pub found : HasCleanDisk new → OverTables old (λ tables. IfOk result (AreCountersOfEach plans tables))
   pub absent : HasCleanDisk new → OverTables old (λ tables. IfErr result (λ e. e ≡ NoUser → Any (λ user. rows_of user tables account_tree ≡ []) (users_of plans)))

@@ -82,11 +82,17 @@ abbrev pub count_of : {X : Type 0} → Option X → ℕ
 count_of None = 0
 count_of (Some x) = 1
 
+-- the counters past all that joins
+abbrev pub raised : Counters → Plan → Counters
+raised c plan = record {
+  copy = c.copy + length plan.filed;
+  out = c.out + (length plan.report.sent + count_of plan.reply);
+  notice = c.notice + count_of plan.report.notice;
+}
+
 -- the counters go up past all that joins
 abbrev pub counters_raised : List ℕ → Counters → Plan → Tables → Tables
-counters_raised user c plan =
-    counters_set user (pos (c.copy + length plan.filed)) (pos (c.out + (length plan.report.sent + count_of plan.reply)))
-    (pos (c.notice + count_of plan.report.notice))
+counters_raised user c plan = counters_set user (pos (raised c plan).copy) (pos (raised c plan).out) (pos (raised c plan).notice)
 
 -- what a delivery makes of the user's rows, whose counters were these
 abbrev pub delivered_rows : List ℕ → Counters → Plan → Tables → Tables

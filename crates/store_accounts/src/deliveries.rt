@@ -1,12 +1,12 @@
-//! Deliveries to several users, which are written together.
+//! Deliveries to users, which are written together.
 ghost use Rattle.std.specs.Prelude.{◌≡◌, length, map, IfOk, IfErr};
 ghost use Rattle.sqlite.specs.Held.{state};
 ghost use Rattle.octets.specs.Ascii.{lowered};
-ghost use Rattle.store_accounts.specs.Deliveries.{plans_in, users_of, HasNoUserTwice, CountsEach, AreDeliveries, WritesDeliveries, StoresEachOnce};
+ghost use Rattle.store_accounts.specs.Deliveries.{plan_in, plans_in, CountsEach, IsCountedBehind, ReadsCountersBehind, AreDeliveries, WritesDeliveries, StoresEachOnce};
 ghost use Rattle.store_accounts.specs.Refusals.{IsTransient};
 
 use crate::account::Counters;
-use crate::delivery::delivery_changes;
+use crate::delivery::{delivery_changes, raised};
 use crate::refusal::Refusal;
 use crate::report::Plan;
 use crate::store::Store;
@@ -64,8 +64,43 @@ fn all_changes<'a>(
     Ok(all)
 }
 
+/// The user's counters behind the deliveries, whose users had these counters before them in turn; `None` if none of them is to the user.
+fn counters_behind(
+    user: &[u8],
+    deliveries: &[PlannedDelivery<'_, '_>],
+    counters: &[Counters],
+) -> Result<Option<Counters>, Refusal>
+    requires { length counters.now ≡ length deliveries.now }
+    ensures counted { IfOk result (IsCountedBehind user.now (plans_in deliveries.now) counters.now) }
+    ensures named { IfErr result IsTransient }
+{
+    let mut behind = None;
+    for (i, delivery) in deliveries.iter().enumerate() {
+        if delivery.user == user {
+            behind = Some(raised(counters[i], delivery.plan)?);
+        }
+    }
+    Ok(behind)
+}
+
 impl<S: Alter> Store<S> {
-    /// The counters of each delivery's user, in order.
+    /// The counters of the user behind the deliveries before: those that they leave, or those of the row of the user's account.
+    fn counters_then(
+        &mut self,
+        user: &[u8],
+        before: &[PlannedDelivery<'_, '_>],
+        counters: &[Counters],
+    ) -> Result<Counters, Refusal>
+        requires { length counters.now ≡ length before.now }
+        ensures { ReadsCountersBehind user.now (plans_in before.now) counters.now (state S.Store self.old) (state S.Store self.new) result }
+    {
+        match counters_behind(user, before, counters)? {
+            Some(behind) => Ok(behind),
+            None => self.counters(user),
+        }
+    }
+
+    /// The counters of each delivery's user, in order, as the deliveries before it leave them. The row of each user is read once.
     fn counters_of_each(
         &mut self,
         deliveries: &[PlannedDelivery<'_, '_>],
@@ -74,15 +109,16 @@ impl<S: Alter> Store<S> {
         ensures counted { IfOk result (λ counters. length counters ≡ length deliveries.now) }
     {
         let mut all = List::new(self.alloc);
-        for delivery in deliveries {
-            let counters = self.counters(delivery.user)?;
+        for (i, delivery) in deliveries.iter().enumerate() {
+            let counters = self.counters_then(delivery.user, &deliveries[..i], all.as_slice())?;
             all.push(counters)?;
         }
         Ok(all)
     }
 
-    /// Writes the deliveries, no two of them to one user, in order and in one transaction: each as
-    /// [`commit_delivery`](Store::commit_delivery) does, and all or none. Without any it still commits.
+    /// Writes the deliveries in order and in one transaction: each as [`commit_delivery`](Store::commit_delivery) does, and all or
+    /// none. Those to one user are numbered one after the other. Each one's user is compared with those before it, so the caller
+    /// hands in some dozens. Without any it still commits.
     ///
     /// # Errors
     ///
@@ -91,7 +127,6 @@ impl<S: Alter> Store<S> {
         &mut self,
         deliveries: &[PlannedDelivery<'_, '_>],
     ) -> Result<(), Refusal>
-        requires { HasNoUserTwice (users_of (plans_in deliveries.now)) }
         ensures writes { WritesDeliveries (plans_in deliveries.now) (state S.Store self.old) (state S.Store self.new) result }
         ensures once { StoresEachOnce (plans_in deliveries.now) (state S.Store self.old) (state S.Store self.new) result }
     {

@@ -3,6 +3,7 @@ ghost use Rattle.std.specs.Prelude.{◌≡◌, pos, IfOk, IfErr, ◌+◌, option
 ghost use Rattle.sqlite.specs.Held.{state};
 ghost use Rattle.store_accounts.specs.Promises.{WritesAccount, StoresOnce};
 ghost use Rattle.store_accounts.specs.Delivery.{AreDelivery, Pushes, message_kept, copies_added, redirect_added, sent_on, reply_queued, reply_put, noticed, forgotten, moment_put, moments_kept, counters_raised, count_of};
+ghost use Rattle.store_accounts.specs.Delivery.{raised as past};
 ghost use Rattle.store_tables.specs.Changes.{MakesOwn, reply_removed};
 ghost use Rattle.octets.specs.Ascii.{lowered};
 ghost use Rattle.store_accounts.specs.Account.{delivers};
@@ -21,15 +22,34 @@ use sqlite::Alter;
 use std::alloc::Global;
 use store_tables::{Change, QueuedKind};
 
-/// The number that comes `i` after the first one, as the database keeps it; past 2^63 - 1 it is refused.
+/// The number that comes `i` after the first one; past 2^64 - 1 it is refused.
+fn count_after(first: u64, i: usize) -> Result<u64, Refusal>
+    ensures same { IfOk result (λ n. n ≡ first + i) }
+    ensures named { IfErr result IsTransient }
+{
+    first.checked_add(i as u64).ok_or(Refusal::Store)
+}
+
+/// The same as the database keeps it; past 2^63 - 1 it is refused.
 fn number_after(first: u64, i: usize) -> Result<i64, Refusal>
     ensures same { IfOk result (λ n. n ≡ pos (first + i)) }
     ensures named { IfErr result IsTransient }
 {
-    let Some(n) = first.checked_add(i as u64) else {
-        return Err(Refusal::Store);
-    };
-    number(n)
+    number(count_after(first, i)?)
+}
+
+/// The counters past all that joins by the plan.
+pub(crate) fn raised(counters: Counters, plan: &Plan<'_>) -> Result<Counters, Refusal>
+    ensures raised { IfOk result (λ next. next ≡ past counters plan.now) }
+    ensures named { IfErr result IsTransient }
+{
+    let report = &plan.report;
+    let sent = report.sent.as_slice().len() + count(plan.reply.as_ref());
+    Ok(Counters {
+        copy: count_after(counters.copy, plan.filed.as_slice().len())?,
+        out: count_after(counters.out, sent)?,
+        notice: count_after(counters.notice, count(report.notice.as_ref()))?,
+    })
 }
 
 /// The counters go up past all that joins.
@@ -42,13 +62,12 @@ fn push_counters<'a>(
     ensures raised { Pushes user.now (counters_raised user.now counters plan.now) changes.old.items changes.new.items result }
     ensures named { IfErr result IsTransient }
 {
-    let report = &plan.report;
-    let sent = report.sent.as_slice().len() + count(plan.reply.as_ref());
+    let next = raised(counters, plan)?;
     changes.push(Change::SetCounters {
         name: user,
-        copy: number_after(counters.copy, plan.filed.as_slice().len())?,
-        out: number_after(counters.out, sent)?,
-        notice: number_after(counters.notice, count(report.notice.as_ref()))?,
+        copy: number(next.copy)?,
+        out: number(next.out)?,
+        notice: number(next.notice)?,
     })?;
     Ok(())
 }

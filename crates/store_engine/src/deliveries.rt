@@ -1,14 +1,12 @@
-//! The delivery of messages to several users together.
+//! The delivery of messages together.
 ghost use Rattle.std.specs.Prelude.{◌≡◌, ◌≢◌, ◌≤◌, ◌↔◌, [], None, length, map, Any, IfOk, IfErr, IsTrue, option_copied, vec_capacity};
 ghost use Rattle.std.specs.List.{AllZip};
 ghost use Rattle.sqlite.specs.Held.{state};
 ghost use Rattle.sqlite.specs.State.{HasCleanDisk};
-ghost use Rattle.store_accounts.specs.Account.{delivers};
 ghost use Rattle.store_accounts.specs.Connection.{IsSettled};
-ghost use Rattle.store_accounts.specs.Deliveries.{plans_in, users_of, HasNoUserTwice, WritesDeliveries};
+ghost use Rattle.store_accounts.specs.Deliveries.{plans_in, WritesDeliveries};
 ghost use Rattle.store_accounts.specs.Refusals.{IsTransient};
-ghost use Rattle.store_engine.specs.AccountEvents.{DeliversTo};
-ghost use Rattle.store_engine.specs.Deliveries.{IsLongestFront, ActsDeliveries, AreSpacedDeliveries, IsDelivered, HasHeader, IsFor, IsOpened, DecidesOne, DecidesEach, plans_made, answer_to};
+ghost use Rattle.store_engine.specs.Deliveries.{IsFront, SendsMail, ActsDeliveries, AreSpacedDeliveries, IsDelivered, HasHeader, IsFor, IsLastFor, IsLastIfSent, IsOpened, IsPlanOf, AreOfFront, DecidesOne, DecidesFront, plans_made, answer_to};
 ghost use Rattle.store_engine.specs.Limits.{limit_refusal};
 ghost use Rattle.store_engine.specs.Lookups.{IsLookup, Recalls};
 ghost use Rattle.store_engine.specs.Terms.{terms_of};
@@ -21,7 +19,15 @@ use sieve_exec::Mail;
 use sieve_plan::{KeptScripts, plan, plan_unread, settle};
 use sqlite::Alter;
 use std::alloc::{AllocError, Global};
-use store_accounts::{Plan, PlannedDelivery, Refusal, Store};
+use store_accounts::{Plan, PlannedDelivery, Refusal, Report, Store, VacationReport};
+
+/// What was made of a parcel for a user with an open account.
+#[derive(Drop)]
+struct ParcelPlan<'a> {
+    plan: Plan<'a>,
+    /// Whether a later message for the user can't be planned before this is written: mail is sent by it, or what is over is forgotten.
+    is_last: bool,
+}
 
 /// What is to become of a parcel.
 #[derive(Drop)]
@@ -31,22 +37,25 @@ enum Decision<'a> {
     Planned {
         /// The user's name.
         user: &'a [u8],
-        plan: Plan<'a>,
+        made: ParcelPlan<'a>,
     },
 }
 
 /// Delivers the first of these messages together, in one transaction, which is the last act, and answers each of them as
-/// [`deliver`](crate::deliver) would: `told` has the machine's answers, in order. They are the longest front of the parcels in
-/// which no user stands twice, so at least one where there is a parcel. A limit that stands against one, and a user without an
-/// open account, is that one's own answer, and the others are delivered.
+/// [`deliver`](crate::deliver) would, one after the other: `told` has the machine's answers, in order, at least one where there is a
+/// parcel. Several may be for one user. They end before one for a user to whom one of them is delivered in such a way that a later
+/// one looks at another account: mail is sent on, the sender is answered, or moments that are over are forgotten. So a reply is
+/// written before the next message of its sender is looked at. A limit that stands against one, and a user without an open account,
+/// is that one's own answer, and the others are delivered.
 ///
-/// All of them are at one moment. The messages are borrowed and read once, and all plans are kept until they are written: memory
-/// is in proportion to the parcels. Each one's user is compared with those before it, so the caller hands in some dozens.
+/// All of them are at one moment. The messages are borrowed, and the header of each parcel is read once, also of those behind the
+/// front; all plans are kept until they are written: memory is in proportion to the parcels. Each one's user is compared with those
+/// before it, so the caller hands in some dozens.
 ///
 /// # Errors
 ///
 /// [`Refusal::Memory`] and [`Refusal::Store`], which may come at any place. Nothing is delivered then, and nobody is answered: the
-/// store stays as it was, but a crash may leave the whole front delivered.
+/// store stays as it was, but a crash may leave a front delivered.
 pub fn deliver_all<S: Alter>(
     alloc: Global,
     store: &mut Store<S>,
@@ -54,41 +63,43 @@ pub fn deliver_all<S: Alter>(
     parcels: &[Parcel<'_>],
     terms: LentTerms<'_>,
 ) -> Result<Vec<Answer>, Refusal>
-    ensures front { IfOk result (λ told. IsLongestFront parcels.now (length told.items)) }
+    ensures front { IfOk result (λ told. IsFront parcels.now told.items) }
     ensures acts { ActsDeliveries (terms_of terms.entry) parcels.now (state S.Store store.old) (state S.Store store.new) result }
     ensures settled { HasCleanDisk (state S.Store store.new) → IfOk result (λ told. Any IsDelivered told.items → IsSettled (state S.Store store.new)) }
     ensures spaced { IfOk result (λ told. AreSpacedDeliveries (terms_of terms.entry) parcels.now told.items (state S.Store store.old) (state S.Store store.new)) }
     ensures named { IfErr result IsTransient }
 {
-    let front = &parcels[..front_len(parcels)];
-    let opened = open_parcels(alloc, front, terms.when)?;
-    let told = Vec::with_capacity(alloc, front.len())?;
-    let decisions = decide_all(alloc, store, kept, front, opened.as_slice(), terms)?;
+    let opened = open_parcels(alloc, parcels, terms.when)?;
+    let told = Vec::with_capacity(alloc, parcels.len())?;
+    let decisions = decide_front(alloc, store, kept, parcels, opened.as_slice(), terms)?;
     commit_decisions(alloc, store, decisions.as_slice())?;
     Ok(answers(told, decisions))
 }
 
-/// Whether one of the parcels is for the user.
-fn is_among(user: &[u8], parcels: &[Parcel<'_>]) -> bool
-    ensures { IsTrue result ↔ Any (λ parcel. parcel.user.now ≡ user.now) parcels.now }
+/// Whether it is the last one for the user.
+fn is_last_for(user: &[u8], decision: &Decision<'_>) -> bool
+    ensures { IsTrue result ↔ IsLastFor user.now decision.now }
 {
-    parcels.iter().any(|parcel| parcel.user == user)
+    match decision {
+        Decision::Refused(_) => false,
+        Decision::Planned { user: own, made } => made.is_last && *own == user,
+    }
 }
 
-/// How many of the first parcels go together.
-fn front_len(parcels: &[Parcel<'_>]) -> usize
-    ensures { IsLongestFront parcels.now result }
+/// Whether the last one for the user is among the decisions.
+fn has_last_for(user: &[u8], decisions: &[Decision<'_>]) -> bool
+    ensures { IsTrue result ↔ Any (IsLastFor user.now) decisions.now }
 {
-    for (at, parcel) in parcels.iter().enumerate() {
-        if is_among(parcel.user, &parcels[..at]) {
-            return at;
+    for decision in decisions {
+        if is_last_for(user, decision) {
+            return true;
         }
     }
-    parcels.len()
+    false
 }
 
-/// Decides on each of the parcels in order; nothing is written.
-fn decide_all<'a, S: Alter>(
+/// Decides on the first of the parcels in order, up to one that has to wait; nothing is written.
+fn decide_front<'a, S: Alter>(
     alloc: Global,
     store: &mut Store<S>,
     kept: &mut KeptScripts,
@@ -97,11 +108,14 @@ fn decide_all<'a, S: Alter>(
     terms: LentTerms<'_>,
 ) -> Result<Vec<Decision<'a>>, Refusal>
     requires { AllZip (IsOpened terms.when) parcels.now opened.now }
-    ensures decides { DecidesEach (terms_of terms.entry) parcels.now (state S.Store store.old) (state S.Store store.new) result }
-    ensures whose { IfOk result (λ all. AllZip IsFor parcels.now all.items) }
+    ensures decides { DecidesFront (terms_of terms.entry) parcels.now (state S.Store store.old) (state S.Store store.new) result }
+    ensures front { IfOk result (λ all. AreOfFront parcels.now all.items) }
 {
     let mut decisions = Vec::new(alloc);
     for (i, parcel) in parcels.iter().enumerate() {
+        if has_last_for(parcel.user, decisions.as_slice()) {
+            return Ok(decisions);
+        }
         decisions.push(decide(alloc, store, kept, parcel, &opened[i], terms)?)?;
     }
     Ok(decisions)
@@ -147,11 +161,18 @@ fn decide_accepted<'a, S: Alter>(
         return Ok(Decision::Refused(absence(store, parcel.user)?));
     }
     let found = looked?;
-    let plan = plan_parcel(alloc, store, kept, parcel, mail, found, terms)?;
+    let made = plan_parcel(alloc, store, kept, parcel, mail, found, terms)?;
     Ok(Decision::Planned {
         user: parcel.user,
-        plan,
+        made,
     })
+}
+
+/// Whether mail is sent by a delivery that reports this.
+fn sends_mail(report: &Report) -> bool
+    ensures { IsTrue result ↔ SendsMail (Answer.Delivered report.now) }
+{
+    !report.sent.is_empty() || report.vacation == VacationReport::Sent
 }
 
 /// The plan for a parcel to the user's open account, of which this was found.
@@ -163,13 +184,16 @@ fn plan_parcel<'a, S: Alter>(
     mail: Option<&'a Mail<'_>>,
     found: Lookup,
     terms: LentTerms<'_>,
-) -> Result<Plan<'a>, Refusal>
+) -> Result<ParcelPlan<'a>, Refusal>
     requires free { limit_refusal parcel.now.envelope parcel.now.message.now terms.when.moment ≡ None }
     requires header { HasHeader terms.when parcel.now (option_copied mail) }
-    ensures { Recalls parcel.now.user.now (λ plan a. IsLookup found a → DeliversTo (terms_of terms.entry) parcel.now.envelope parcel.now.message.now a plan.report (delivers plan a)) (state S.Store store.old) (state S.Store store.new) result }
+    ensures plans { Recalls parcel.now.user.now (λ made a. IsLookup found a → IsPlanOf (terms_of terms.entry) parcel.now made a) (state S.Store store.old) (state S.Store store.new) result }
+    ensures sent { IfOk result IsLastIfSent }
 {
     let Some(mail) = mail else {
-        return Ok(plan_unread(alloc, parcel.message, &parcel.envelope, terms.when)?);
+        let plan = plan_unread(alloc, parcel.message, &parcel.envelope, terms.when)?;
+        let is_last = sends_mail(&plan.report);
+        return Ok(ParcelPlan { plan, is_last });
     };
     let own = deciding(&found.text, terms.host);
     let settlement = settle(alloc, kept, &terms.host.scripts, own, mail)?;
@@ -181,7 +205,10 @@ fn plan_parcel<'a, S: Alter>(
         mail,
         &settlement.deeds,
     )?;
-    Ok(plan(alloc, view, mail, settlement)?)
+    let has_over = !view.over.is_empty();
+    let plan = plan(alloc, view, mail, settlement)?;
+    let is_last = has_over || sends_mail(&plan.report);
+    Ok(ParcelPlan { plan, is_last })
 }
 
 /// The plans that were made, in order.
@@ -193,7 +220,8 @@ fn planned<'a, 'm>(
 {
     let mut planned = Vec::new(alloc);
     for decision in decisions {
-        if let Decision::Planned { user, plan } = decision {
+        if let Decision::Planned { user, made } = decision {
+            let plan = &made.plan;
             planned.push(PlannedDelivery { user, plan })?;
         }
     }
@@ -207,7 +235,6 @@ fn commit_decisions<S: Alter>(
     store: &mut Store<S>,
     decisions: &[Decision<'_>],
 ) -> Result<(), Refusal>
-    requires { HasNoUserTwice (users_of (plans_made decisions.now)) }
     ensures writes { plans_made decisions.now ≢ [] → WritesDeliveries (plans_made decisions.now) (state S.Store store.old) (state S.Store store.new) result }
     ensures idle { plans_made decisions.now ≡ [] → store.new ≡ store.old }
     ensures named { IfErr result IsTransient }
@@ -232,7 +259,7 @@ fn answers(told: Vec<Answer>, decisions: Vec<Decision<'_>>) -> Vec<Answer>
     for decision in decisions {
         told.push_reserved(match decision {
             Decision::Refused(refusal) => Answer::Refused(refusal),
-            Decision::Planned { user: _, plan } => Answer::Delivered(report_of(plan)),
+            Decision::Planned { user: _, made } => Answer::Delivered(report_of(made.plan)),
         });
     }
     told
