@@ -1,7 +1,8 @@
 -- A batch as it grows.
-use Rattle.std.proofs.Common.{◌≡◌, ◌≢◌, ◌≤◌, ◌<◌, ◌+◌, ◌⊎◌, ℕ, suc, Bool, true, false, not, List, [], ◌∷◌, ◌++◌, length, refl, sym, ◌∙◌, ap, subst, inl, inr, arith, length-append}
+use Rattle.std.proofs.Common.{◌≡◌, ◌≤◌, ◌<◌, ◌+◌, ◌⊎◌, ℕ, suc, Bool, true, false, not, List, [], ◌∷◌, ◌++◌, length, refl, sym, ◌∙◌, ap, subst, inl, inr, arith, length-append}
 use Rattle.std.specs.Prelude.{MatchBool}
 use Rattle.std.specs.List.{AllWithin, HoldsAt}
+use Rattle.lmtp_connections.specs.declared.demand.DeliveryRequest.{DeliveryRequest}
 use Rattle.net_loop.specs.Talk.{is_same_id}
 use Rattle.daemon_core.specs.Batches.{HasRoomFor, HoldsSameMessages, IsAnother, KeepsBatch}
 use Rattle.daemon_core.specs.Together.{batch_octets, IsWithinBatch}
@@ -35,14 +36,12 @@ keeps_more old new it keeps room more octets =
 
 -- ---- whether it is another one than those
 
-another_by : (it : GatheredRequest) (requests : List GatheredRequest) → AllWithin (λ other. (is_same_id other.id it.id ≡ false) × (other.request.user ≢ it.request.user)) requests 0 (length requests) → IsAnother it requests
-another_by it [] all = tt
-another_by it (other ∷ more) all =
-    let first = all 0 other (omega arith) (omega arith) in
-    (first.0, first.1, another_by it more (λ k d low less. all (suc k) d (omega arith) (omega (arith, less))))
+another_by : (id : ℕ) (request : DeliveryRequest) (requests : List GatheredRequest) → AllWithin (λ other. is_same_id other.id id ≡ false) requests 0 (length requests) → IsAnother (record { id = id; request = request }) requests
+another_by id request [] all = tt
+another_by id request (other ∷ more) all = (all 0 other (omega arith) (omega arith), another_by id request more (λ k d low less. all (suc k) d (omega arith) (omega (arith, less))))
 
-pub another_answer : (it : GatheredRequest) (requests : List GatheredRequest) (Yes : GatheredRequest → Type 0) (r : Bool)
-    → MatchBool r ((k : ℕ) × (k < length requests) × HoldsAt Yes requests k) (AllWithin (λ other. (is_same_id other.id it.id ≡ false) × (other.request.user ≢ it.request.user)) requests 0 (length requests))
-    → not r ≡ true → IsAnother it requests
-another_answer it requests Yes true found is = absurd (let never : false ≡ true = is in cc)
-another_answer it requests Yes false none is = another_by it requests none
+pub another_answer : (id : ℕ) (requests : List GatheredRequest) (Yes : GatheredRequest → Type 0) (r : Bool)
+    → MatchBool r ((k : ℕ) × (k < length requests) × HoldsAt Yes requests k) (AllWithin (λ other. is_same_id other.id id ≡ false) requests 0 (length requests))
+    → not r ≡ true → (request : DeliveryRequest) → IsAnother (record { id = id; request = request }) requests
+another_answer id requests Yes true found is = absurd (let never : false ≡ true = is in cc)
+another_answer id requests Yes false none is = λ request. another_by id request requests none

@@ -1,5 +1,5 @@
 -- Messages of several clients that one act delivers.
-use Rattle.std.proofs.Common.{◌≡◌, ◌≢◌, ◌⊎◌, inl, inr, ℕ, suc, Bool, true, false, cond, List, [], ◌∷◌, ◌++◌, length, map, Option, Some, None, Result, Ok, Err, IsTrue, IfSome, refl, sym, ◌∙◌, ap, subst}
+use Rattle.std.proofs.Common.{◌≡◌, ◌⊎◌, ◌≤◌, inl, inr, ℕ, suc, Bool, true, false, cond, List, [], ◌∷◌, ◌++◌, length, map, Option, Some, None, Result, Ok, Err, IsTrue, IfSome, refl, sym, ◌∙◌, ap, subst, arith}
 use Rattle.store_accounts.specs.declared.refusal.Refusal.{Refusal}
 use Rattle.store_engine.specs.Terms.{terms}
 use Rattle.store_engine.specs.declared.terms.Terms.{Terms}
@@ -20,7 +20,7 @@ use Rattle.daemon_core.specs.Holds.{asked_by}
 use Rattle.daemon_core.specs.LmtpSteps.{Connections, AreToldDeliveries, AreMessagesAsked, IsDeliveryReply}
 use Rattle.daemon_core.specs.MailRules.{mail_rules, lmtp_connection_at, ChangesLmtpConnection, SameHost, DaemonWorks, DeliversGathered}
 use Rattle.daemon_core.specs.StoreAccess.{View, StoreFacts, NothingDone, access_state}
-use Rattle.daemon_core.specs.Together.{IsForAnother, AreForOthers, deliveries_told, deliveries_of, events_told, answers_told, AreEventsDone, AreEventsTried, DeliversMessages, IsWithinBatch, MayGoTogether}
+use Rattle.daemon_core.specs.Together.{deliveries_told, deliveries_of, events_told, answers_told, AreEventsDone, AreEventsTried, DeliversMessages}
 use Rattle.daemon_core.specs.declared.daemon.Daemon.{Daemon}
 use Rattle.daemon_core.specs.declared.daemon.Holding.{Holding}
 use Rattle.daemon_core.specs.declared.gathered.Gathered.{Gathered}
@@ -31,13 +31,13 @@ use Rattle.daemon_core.specs.declared.note.Note.TheVariants as note
 
 -- ---- which go together
 
-apart_append : (x it : GatheredRequest) (xs : List GatheredRequest) → IsApart x xs → is_same_id x.id it.id ≡ false → (x.request.user ≢ it.request.user) → IsApart x (xs ++ it ∷ [])
-apart_append x it [] apart id user = (id, user, tt)
-apart_append x it (other ∷ xs) apart id user = (apart.0, apart.1, apart_append x it xs apart.2 id user)
+apart_append : (x it : GatheredRequest) (xs : List GatheredRequest) → IsApart x xs → is_same_id x.id it.id ≡ false → IsApart x (xs ++ it ∷ [])
+apart_append x it [] apart id = (id, tt)
+apart_append x it (other ∷ xs) apart id = (apart.0, apart_append x it xs apart.1 id)
 
 ready_append : (now : ℕ) (at : Connections) (it : GatheredRequest) (old : List GatheredRequest) → AreMessagesReady now at old → IsAnother it old → IsMessageReady now at it → AreMessagesReady now at (old ++ it ∷ [])
 ready_append now at it [] ready another is = (is, tt, tt)
-ready_append now at it (x ∷ xs) ready another is = (ready.0, apart_append x it xs ready.1 another.0 another.1, ready_append now at it xs ready.2 another.2 is)
+ready_append now at it (x ∷ xs) ready another is = (ready.0, apart_append x it xs ready.1 another.0, ready_append now at it xs ready.2 another.1 is)
 
 pub ready_added : (now : ℕ) (at : Connections) (it : GatheredRequest) (old new : List GatheredRequest) → AddsMessage it old new → AreMessagesReady now at old → IsMessageReady now at it → AreMessagesReady now at new
 ready_added now at it old new (inl same) ready is = subst (AreMessagesReady now at) (sym same) ready
@@ -50,18 +50,7 @@ ready_rest now before after it later [] changes apart ready = tt
 ready_rest now before after it later (other ∷ more) changes apart ready =
     let r = ready.0 in
     let same : after other.id ≡ before other.id = changes other.id ∙ ap (λ b. cond b later (before other.id)) apart.0 in
-    (record { connection = r.connection; there = same ∙ r.there; requested = r.requested }, ready.1, ready_rest now before after it later more changes apart.2 ready.2)
-
-for_another : (it : GatheredRequest) (more : List GatheredRequest) → IsApart it more → IsForAnother it.request.user more
-for_another it [] apart = tt
-for_another it (other ∷ more) apart = (λ same. apart.1 (sym same), for_another it more apart.2)
-
-for_others : (now : ℕ) (at : Connections) (requests : List GatheredRequest) → AreMessagesReady now at requests → AreForOthers requests
-for_others now at [] ready = tt
-for_others now at (it ∷ more) ready = (for_another it more ready.1, for_others now at more ready.2)
-
-pub together : (now : ℕ) (at : Connections) (requests : List GatheredRequest) → AreMessagesReady now at requests → IsWithinBatch requests → MayGoTogether requests
-together now at requests ready within = record { others = for_others now at requests ready; within = within }
+    (record { connection = r.connection; there = same ∙ r.there; requested = r.requested }, ready.1, ready_rest now before after it later more changes apart.1 ready.2)
 
 -- ---- what is told
 
@@ -76,11 +65,11 @@ told_deliveries t [] answers = tt
 told_deliveries t (it ∷ more) [] = tt
 told_deliveries t (it ∷ more) (answer ∷ answers) = ((it.request, t, refl), told_deliveries t more answers)
 
-told_length : (t : Terms) (requests : List GatheredRequest) (answers : List Answer) → length answers ≡ length requests → length (deliveries_told t requests answers) ≡ length answers
-told_length t [] [] is = refl
-told_length t [] (answer ∷ answers) is = sym is
-told_length t (it ∷ more) [] is = refl
-told_length t (it ∷ more) (answer ∷ answers) is = ap suc (told_length t more answers (let same : length answers ≡ length more = cc in same))
+told_length : (t : Terms) (requests : List GatheredRequest) (answers : List Answer) → length answers ≤ length requests → length (deliveries_told t requests answers) ≡ length answers
+told_length t [] [] within = refl
+told_length t [] (answer ∷ answers) within = absurd (omega (arith, within))
+told_length t (it ∷ more) [] within = refl
+told_length t (it ∷ more) (answer ∷ answers) within = ap suc (told_length t more answers (omega (arith, within)))
 
 deliveries_length : (t : Terms) (requests : List GatheredRequest) → length (deliveries_of t requests) ≡ length requests
 deliveries_length t [] = refl
@@ -184,7 +173,7 @@ module _ {O R : Type 0} (told : Telling O Note R) (store : StoreFacts O R) (sure
             );
             each = notes t;
             tried = tt;
-            holding = ap (λ (k : Daemon). k.holding) daemon ∙ (had ∙ ap (λ n. asked_by n now d.daemon.holding) (sym (told_length t requests answers its.each)));
+            holding = ap (λ (k : Daemon). k.holding) daemon ∙ (had ∙ ap (λ n. asked_by n now d.daemon.holding) (sym (told_length t requests answers its.first.within)));
             states = ap (λ (k : Daemon). k.states) daemon;
             host = host;
           });

@@ -1,21 +1,33 @@
 -- Right cases of what goes together, and near misses.
-use Rattle.std.proofs.Common.{◌≡◌, ℕ, List, [], ◌∷◌, length, refl, sym, inl, inr, arith}
+use Rattle.std.proofs.Common.{◌≡◌, ℕ, zero, suc, List, [], ◌∷◌, length, refl, inl, inr, arith}
+use Rattle.std.specs.Prelude.{Contains}
 use Rattle.store_engine.specs.declared.answer.Answer.{Answer}
 use Rattle.store_engine.specs.declared.event.Event.{Event}
 use Rattle.store_engine.specs.declared.event.Event.TheVariants.{TakeMail}
 use Rattle.store_engine.specs.declared.terms.Terms.{Terms}
 use Rattle.daemon_core.specs.LmtpSteps.{Connections, AreMessagesAsked, steps_of}
-use Rattle.daemon_core.specs.Together.{AreForOthers, IsWithinBatch, MayGoTogether, answers_told, deliveries_told, ids_of}
+use Rattle.daemon_core.specs.Together.{AreFirstTold, IsWithinBatch, answers_told, deliveries_told, ids_of}
 use Rattle.daemon_core.specs.declared.gathered.GatheredRequest.{GatheredRequest}
 use Rattle.daemon_core.specs.declared.note.Note.TheVariants.{Parted, PutOff, Away}
 
 -- one message goes alone, however large it is
-alone : (it : GatheredRequest) → MayGoTogether (it ∷ [])
-alone it = record { others = (tt, tt); within = record { few = omega arith; small = inr (omega arith) } }
+alone : (it : GatheredRequest) → IsWithinBatch (it ∷ [])
+alone it = record { few = omega arith; small = inr (omega arith) }
 
--- near miss: a user's second message isn't of the same act
-not_twice : (a b : GatheredRequest) → a.request.user ≡ b.request.user → AreForOthers (a ∷ b ∷ []) → ⊥
-not_twice a b same others = others.0.0 (sym same)
+-- of two for one user the first alone may be told, and the second one waits
+one_of_two : (a b : GatheredRequest) (x : Answer) → a.request.user ≡ b.request.user → AreFirstTold (a ∷ b ∷ []) (x ∷ [])
+one_of_two a b x same = record { within = omega arith; waits = (0, omega arith, same) }
+
+-- near misses: one for another user doesn't wait, and the first one never does
+not_another : (a b : GatheredRequest) (x : Answer) → (a.request.user ≡ b.request.user → ⊥) → AreFirstTold (a ∷ b ∷ []) (x ∷ []) → ⊥
+not_another a b x other told = by told.waits
+  where
+    by : Contains (a.request.user ∷ []) b.request.user → ⊥
+    by (zero, less, same) = other same
+    by (suc k, less, same) = omega (arith, less)
+
+not_none : (a : GatheredRequest) → AreFirstTold (a ∷ []) [] → ⊥
+not_none a told = let it = told.waits in omega (arith, it.1)
 
 -- two of half a MiB go together, two of 600,000 octets don't
 both : (a b : GatheredRequest) → length a.request.message ≡ 524288 → length b.request.message ≡ 524288 → IsWithinBatch (a ∷ b ∷ [])

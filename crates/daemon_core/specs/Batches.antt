@@ -1,5 +1,5 @@
 -- The messages that one act delivers.
-use Rattle.std.specs.Prelude.{◌≡◌, ◌≢◌, ◌⊎◌, ◌<◌, ◌≤◌, ◌+◌, ℕ, Bool, false, List, [], ◌∷◌, ◌++◌, length, Option, Some}
+use Rattle.std.specs.Prelude.{◌≡◌, ◌⊎◌, ◌<◌, ◌≤◌, ◌+◌, ℕ, Bool, false, List, [], ◌∷◌, ◌++◌, length, Option, Some}
 use Rattle.lmtp_connections.specs.Stands.{IsRequested}
 use Rattle.lmtp_connections.specs.declared.connection.LmtpConnection.{LmtpConnection}
 use Rattle.net_loop.specs.Talk.{is_same_id}
@@ -8,12 +8,12 @@ use Rattle.daemon_core.specs.Together.{batch_octets, max_batch, max_batch_octets
 use Rattle.daemon_core.specs.declared.gathered.Batch.{Batch}
 use Rattle.daemon_core.specs.declared.gathered.GatheredRequest.{GatheredRequest}
 
--- none of these is of that connection, or for that user
+-- none of these is of that connection
 abbrev pub IsAnother : GatheredRequest → List GatheredRequest → Type 0
 IsAnother it [] = Unit {0}
-IsAnother it (other ∷ more) = (is_same_id other.id it.id ≡ false) × (other.request.user ≢ it.request.user) × IsAnother it more
+IsAnother it (other ∷ more) = (is_same_id other.id it.id ≡ false) × IsAnother it more
 
--- it is added, if it is of another connection than those, and for another user; or none is
+-- it is added, if it is of another connection than those; or none is
 abbrev pub AddsMessage : GatheredRequest → List GatheredRequest → List GatheredRequest → Type 0
 AddsMessage it old new = (new ≡ old) ⊎ (IsAnother it old × (new ≡ old ++ it ∷ []))
 
@@ -38,12 +38,12 @@ pub record IsMessageReady (now : ℕ) (at : Connections) (it : GatheredRequest) 
   pub there : at it.id ≡ Some connection
   pub requested : IsRequested now connection it.request
 
--- it is of another connection than those after it, and for another user
+-- it is of another connection than those after it
 abbrev pub IsApart : GatheredRequest → List GatheredRequest → Type 0
 IsApart it [] = Unit {0}
-IsApart it (other ∷ more) = (is_same_id it.id other.id ≡ false) × (it.request.user ≢ other.request.user) × IsApart it more
+IsApart it (other ∷ more) = (is_same_id it.id other.id ≡ false) × IsApart it more
 
--- the same of each, and no two are of one connection, or for one user
+-- the same of each, and no two are of one connection
 abbrev pub AreMessagesReady : ℕ → Connections → List GatheredRequest → Type 0
 AreMessagesReady now at [] = Unit {0}
 AreMessagesReady now at (it ∷ more) = IsMessageReady now at it × IsApart it more × AreMessagesReady now at more

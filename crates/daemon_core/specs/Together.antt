@@ -1,5 +1,5 @@
 -- Messages of several connections that the store is given as one act.
-use Rattle.std.specs.Prelude.{◌≡◌, ◌≢◌, ◌⊎◌, ◌≤◌, ◌+◌, ℕ, List, [], ◌∷◌, length, map, Option, Some, None, Result, Ok, Err}
+use Rattle.std.specs.Prelude.{◌≡◌, ◌⊎◌, ◌≤◌, ◌+◌, ℕ, List, [], ◌∷◌, length, map, take, slice_get, Contains, Option, Some, None, Result, Ok, Err, IfSome}
 use Rattle.std.specs.List.{AllZip}
 use Rattle.sqlite.specs.State.{State, HasCleanDisk}
 use Rattle.sieve_exec.specs.declared.when.When.{When}
@@ -23,16 +23,6 @@ use Rattle.daemon_core.specs.declared.note.Note.{Note}
 use Rattle.daemon_core.specs.declared.note.Note.TheVariants.{Delivered, Parted, PutOff}
 use Rattle.daemon_core.specs.declared.note.ToldDelivery.{ToldDelivery}
 
--- none of these is for that user
-abbrev pub IsForAnother : List ℕ → List GatheredRequest → Type 0
-IsForAnother user [] = Unit {0}
-IsForAnother user (it ∷ more) = (it.request.user ≢ user) × IsForAnother user more
-
--- each is for another user
-abbrev pub AreForOthers : List GatheredRequest → Type 0
-AreForOthers [] = Unit {0}
-AreForOthers (it ∷ more) = IsForAnother it.request.user more × AreForOthers more
-
 -- how many messages one act delivers at most, and how many octets of them unless it delivers one alone
 abbrev pub max_batch : ℕ
 max_batch = 64
@@ -49,10 +39,15 @@ pub record IsWithinBatch (requests : List GatheredRequest) : Type 0 where
   pub few : length requests ≤ max_batch
   pub small : (batch_octets requests ≤ max_batch_octets) ⊎ (length requests ≤ 1)
 
--- one act may deliver them
-pub record MayGoTogether (requests : List GatheredRequest) : Type 0 where
-  pub others : AreForOthers requests
-  pub within : IsWithinBatch requests
+-- whose they are, in order
+abbrev pub users_of : List GatheredRequest → List (List ℕ)
+users_of requests = map (λ it. it.request.user) requests
+
+-- the first of these are told an answer each; they are all, or one of them is for the user of the next one, which waits for the next act. So at least one
+-- is told, where there is one
+pub record AreFirstTold (requests : List GatheredRequest) (answers : List Answer) : Type 0 where
+  pub within : length answers ≤ length requests
+  pub waits : IfSome (slice_get requests (length answers)) (λ it. Contains (users_of (take (length answers) requests)) it.request.user)
 
 -- their deliveries, on these terms
 abbrev pub deliveries_of : Terms → List GatheredRequest → List Event
@@ -87,9 +82,9 @@ AreEventsTried view others events r before q after =
     (w : World) → IsWorld view r before w
     → (next : World) × LetAt others w next × ComesTo view r w (ShowsMade events next) q after next
 
--- each was delivered, or refused by an answer of its own
+-- the first of them were delivered, each with an answer of its own
 pub record DeliversEach {O R : Type 0} (told : Telling O Note R) (store : StoreFacts O R) (terms : Terms) (requests : List GatheredRequest) (before : AccessState O) (answers : List Answer) (after : AccessState O) : Type 0 where
-  pub each : length answers ≡ length requests
+  pub first : AreFirstTold requests answers
   pub others : List Event
   pub done : store.clean (told.rest after.outside)
       → AreEventsDone store.view others (events_told (deliveries_told terms requests answers)) (answers_told (deliveries_told terms requests answers)) (told.rest before.outside) before.sessions (told.rest after.outside) after.sessions
@@ -118,16 +113,16 @@ DeliversMessages told store requests before None after =
 
 -- ---- what they are to a store
 
--- in the accounts that it showed each was delivered, or refused by an answer of its own, in order
+-- in the accounts that it showed those that are told were delivered, or refused by an answer of their own, in order
 pub record StoreDeliversEach (terms : Terms) (requests : List GatheredRequest) (answers : List Answer) (old new : State) (w : World) : Type 0 where
   pub later : Accounts
   pub run : Runs w (events_told (deliveries_told terms requests answers)) (answers_told (deliveries_told terms requests answers)) (record { accounts = later; sessions = w.sessions })
   pub endures : Endures old w.accounts new later none_tried
 
--- each was answered, and after the call it shows what they made of the accounts that it showed; or none was answered, and they were tried
+-- the first of them were answered, and after the call it shows what those made of the accounts that it showed; or none was answered, and they were tried
 abbrev pub StoreDelivers : Terms → List GatheredRequest → Result (List Answer) Refusal → State → State → Type 0
 StoreDelivers terms requests (Ok answers) old new =
-    (length answers ≡ length requests) × (HasCleanDisk new → (w : World) → HasAccounts old w.accounts → StoreDeliversEach terms requests answers old new w)
+    AreFirstTold requests answers × (HasCleanDisk new → (w : World) → HasAccounts old w.accounts → StoreDeliversEach terms requests answers old new w)
 StoreDelivers terms requests (Err refusal) old new = HasCleanDisk new → (w : World) → HasAccounts old w.accounts → Endures old w.accounts new w.accounts (ShowsMade (deliveries_of terms requests) w)
 
 -- ---- as the store takes them

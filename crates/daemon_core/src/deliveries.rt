@@ -92,33 +92,8 @@ fn look_after(mail: &MailDaemon, now: u64, last: u32, batch: &mut Batch)
     }
 }
 
-/// Adds the message of a gathered client, if it has one to deliver. No copy is made of one for a user who has one in it.
-fn look_at(mail: &MailDaemon, now: u64, id: u32, batch: &mut Batch)
-    requires { batches.IsCollected now (lmtp_connection_at mail.now) batch.old }
-    ensures { batches.IsCollected now (lmtp_connection_at mail.now) batch.new }
-{
-    if has_user_of(batch, mail, id) {
-        batch.skip(id)
-    } else {
-        add_at(mail, now, id, batch)
-    }
-}
-
-/// Whether a message of the batch is for the user to whom the next one of a client is.
-fn has_user_of(batch: &Batch, mail: &MailDaemon, id: u32) -> bool {
-    match next_user_at(mail, id) {
-        Some(user) => batch.has_user(user),
-        None => false,
-    }
-}
-
-/// The user of the recipient to whom a client is owed a reply next, if it is owed one.
-fn next_user_at(mail: &MailDaemon, id: u32) -> Option<&[u8]> {
-    mail.lmtp_connections.get(&id)?.next_user()
-}
-
 /// Adds the message of a gathered client, or notes that it has none to deliver.
-fn add_at(mail: &MailDaemon, now: u64, id: u32, batch: &mut Batch)
+fn look_at(mail: &MailDaemon, now: u64, id: u32, batch: &mut Batch)
     requires { batches.IsCollected now (lmtp_connection_at mail.now) batch.old }
     ensures { batches.IsCollected now (lmtp_connection_at mail.now) batch.new }
 {
@@ -162,6 +137,7 @@ fn deliver_batch<O: StoreAccess>(
         Some(Ok(answers)) => {
             mail.daemon.holding = mail.daemon.holding.asked_by(answers.len(), now);
             mail.gathered.yields = true;
+            begin_behind(&mut mail.gathered, requests, answers.len());
             note_answers(mail, now, requests, answers.as_slice())
         }
         Some(Err(_)) => {
@@ -169,6 +145,15 @@ fn deliver_batch<O: StoreAccess>(
             release(&mut mail.gathered, requests)
         }
         None => await_each(mail, now, requests),
+    }
+}
+
+/// The next act begins with the first of these that wasn't told, if one wasn't: so many were.
+fn begin_behind(gathered: &mut Gathered, requests: &[GatheredRequest], told: usize)
+    ensures { gathered.new ≡ record gathered.old { last = gathered.new.last } }
+{
+    if let Some(it) = requests.get(told) {
+        gathered.last = it.id.saturating_sub(1);
     }
 }
 

@@ -1,5 +1,6 @@
 //! Messages that are to be delivered together.
-ghost use Rattle.std.specs.Prelude.{◌≡◌, ◌↔◌, [], true, Any, IfOk, IsTrue};
+ghost use Rattle.std.specs.Prelude.{◌≡◌, [], true, IfOk};
+ghost use Rattle.lmtp_connections.specs.declared.demand.DeliveryRequest.{DeliveryRequest as RequestOf};
 ghost use Rattle.daemon_core.specs.Batches as batches;
 
 use lmtp_connections::DeliveryRequest;
@@ -46,7 +47,7 @@ pub struct GatheredRequest {
     pub request: DeliveryRequest,
 }
 
-/// The messages that one act delivers: each of another connection and for another user, 64 at most, and 1 MiB of them unless it is one.
+/// The messages that one act delivers: each of another connection, 64 at most, and 1 MiB of them unless it is one.
 #[derive(Drop)]
 pub struct Batch {
     pub requests: Vec<GatheredRequest>,
@@ -80,16 +81,7 @@ impl Batch {
         self.ended || self.requests.len() >= MAX_BATCH || self.octets >= MAX_OCTETS
     }
 
-    /// Whether one of its messages is for that user.
-    pub fn has_user(&self, user: &[u8]) -> bool
-        ensures { IsTrue result ↔ Any (λ it. it.request.user ≡ user.now) self.now.requests.items }
-    {
-        self.requests
-            .iter()
-            .any(|it| it.request.user.as_slice() == user)
-    }
-
-    /// Adds a message, if it is of another connection, for another user, and there is room for it; else it is left for the next act.
+    /// Adds a message, if it is of another connection, and there is room for it; else it is left for the next act.
     pub fn add(&mut self, id: u32, request: DeliveryRequest)
         requires { batches.KeepsBatch self.old }
         ensures adds { batches.AddsMessage (record { id = id; request = request }) self.old.requests.items self.new.requests.items }
@@ -101,8 +93,7 @@ impl Batch {
             self.skip(id);
             return;
         }
-        if !is_new(self.requests.as_slice(), id, &request) {
-            self.skip(id);
+        if !is_new(self.requests.as_slice(), id) {
             return;
         }
         if self.requests.push(GatheredRequest { id, request }).is_ok() {
@@ -148,9 +139,9 @@ impl Batch {
     }
 }
 
-/// Whether none of these is of that connection, or for that user.
-fn is_new(requests: &[GatheredRequest], id: u32, request: &DeliveryRequest) -> bool
-    ensures { result ≡ true → batches.IsAnother (record { id = id; request = request.now }) requests.now }
+/// Whether none of these is of that connection.
+fn is_new(requests: &[GatheredRequest], id: u32) -> bool
+    ensures { result ≡ true → (request : RequestOf) → batches.IsAnother (record { id = id; request = request }) requests.now }
 {
-    !requests.iter().any(|other| other.id == id || other.request.user == request.user)
+    !requests.iter().any(|other| other.id == id)
 }

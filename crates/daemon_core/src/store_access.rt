@@ -7,7 +7,7 @@ ghost use Rattle.net_loop.specs.declared.act.Act.TheVariants.{Noted};
 ghost use Rattle.net_loop.specs.Told.{ToldBefore, TellsIf};
 ghost use Rattle.daemon_core.specs.declared.note.Note.TheVariants.{Answered, Freed, Gathered, Spoke};
 ghost use Rattle.daemon_core.specs.Moves.{MovesNextMessage};
-ghost use Rattle.daemon_core.specs.Together.{DeliversMessages, MayGoTogether};
+ghost use Rattle.daemon_core.specs.Together.{DeliversMessages, IsWithinBatch};
 ghost use Rattle.daemon_core.specs.StoreAccess.{StoreFacts, access_state, AppliesEvent, DeliversMessage, Looks, FindsAccount, StillShowsIf};
 
 use crate::gathered::GatheredRequest;
@@ -56,9 +56,9 @@ pub trait StoreAccess: Outside<Note = Note> {
         ensures kept { ToldBefore Self.told self.old self.new }
         ensures delivers { DeliversMessage Self.told store id request.now (access_state self.old clients.old.sessions) result (access_state self.new clients.new.sessions) };
 
-    /// Delivers these messages, each for another user, as one act at the moment that the clock shows now, under what the host says: 64 at
-    /// most, and 1 MiB of them unless it is one. Answers each of them, in order and once their changes are durable, by an answer of its
-    /// own. None if the store isn't available now.
+    /// Delivers the first of these messages as one act at the moment that the clock shows now, under what the host says: 64 at most, and
+    /// 1 MiB of them unless it is one. Answers each of those, in order and once their changes are durable, by an answer of its own; all
+    /// are, or one of those is for the user of the next one. None if the store isn't available now.
     ///
     /// # Errors
     ///
@@ -68,7 +68,7 @@ pub trait StoreAccess: Outside<Note = Note> {
         clients: &mut Clients,
         requests: &[GatheredRequest],
     ) -> Option<Result<List<Answer>, Refusal>>
-        requires { MayGoTogether requests.now }
+        requires { IsWithinBatch requests.now }
         ensures kept { ToldBefore Self.told self.old self.new }
         ensures delivers { DeliversMessages Self.told store requests.now (access_state self.old clients.old.sessions) result (access_state self.new clients.new.sessions) }
         ensures cause { IfSome result (λ answers. IfErr answers IsTransient) };

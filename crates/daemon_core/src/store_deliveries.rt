@@ -3,7 +3,7 @@ ghost use Rattle.std.specs.Prelude.{IfOk, IfErr};
 ghost use Rattle.store_accounts.specs.Refusals.{IsTransient};
 ghost use Rattle.sqlite.specs.Held.{state};
 ghost use Rattle.store_engine.specs.Terms.{terms_of};
-ghost use Rattle.daemon_core.specs.Together.{AreForOthers, StoreDelivers};
+ghost use Rattle.daemon_core.specs.Together.{StoreDelivers};
 ghost use Rattle.daemon_core.specs.Together as together;
 
 use crate::gathered::GatheredRequest;
@@ -13,8 +13,8 @@ use std::alloc::{AllocError, Global};
 use store_accounts::{Refusal, Store};
 use store_engine::{Answer, Envelope, KeptScripts, LentTerms, Parcel, deliver_all};
 
-/// Has the store deliver these messages, each for another user, in one transaction on these terms. Each is answered, in order, by an
-/// answer of its own. No copy is made of a message.
+/// Has the store deliver the first of these messages in one transaction on these terms, and answers each of those, in order, by an answer
+/// of its own. All are, or one of those is for the user of the next one. No copy is made of a message.
 ///
 /// # Errors
 ///
@@ -26,7 +26,6 @@ pub fn deliver_requests<S: Alter>(
     requests: &[GatheredRequest],
     terms: LentTerms<'_>,
 ) -> Result<List<Answer>, Refusal>
-    requires { AreForOthers requests.now }
     ensures cause { IfErr result IsTransient }
     ensures delivers { StoreDelivers (terms_of terms.entry) requests.now result (state S.Store store.old) (state S.Store store.new) }
 {

@@ -1,5 +1,5 @@
 -- What a store shows that is held now and then.
-use Rattle.std.specs.Prelude.{◌≡◌, ℕ, Bool, true, false, List, [], length, Option, Some, None, is_some, Result, Ok, Err, IsTrue}
+use Rattle.std.specs.Prelude.{◌≡◌, ℕ, Bool, true, false, List, [], Option, Some, None, is_some, Result, Ok, Err, IsTrue}
 use Rattle.sqlite_trees.specs.Tree.{Trees}
 use Rattle.sqlite_trees.specs.declared.store.Store.{Ghosts}
 use Rattle.sqlite.specs.Effect.{Database}
@@ -25,7 +25,7 @@ use Rattle.store_accounts.specs.declared.refusal.Refusal.TheVariants.{Memory, St
 use Rattle.store_engine.specs.declared.terms.Terms.{Terms}
 use Rattle.store_engine.specs.declared.event.Event.{Event}
 use Rattle.daemon_core.specs.StoreAccess.{View, ViewStillShows, IsEventDone, NothingDone, IsFoundIn}
-use Rattle.daemon_core.specs.Together.{AreEventsDone, AreEventsTried, deliveries_told, deliveries_of, events_told, answers_told}
+use Rattle.daemon_core.specs.Together.{AreEventsDone, AreFirstTold, AreEventsTried, deliveries_told, deliveries_of, events_told, answers_told}
 use Rattle.daemon_core.specs.declared.gathered.GatheredRequest.{GatheredRequest}
 use Rattle.daemon_host.specs.Events.{is_full}
 use Rattle.daemon_host.specs.declared.host_store.HostStore.{HostStore}
@@ -63,10 +63,10 @@ abbrev pub HostBrings : {R : Type 0} → View R → (R → Type 0) → Event →
 HostBrings view clean event (Some answer) r before q after = clean q → IsEventDone view [] event answer r before q after
 HostBrings view clean event None r before q after = NothingDone view r before q after
 
--- each message was delivered, or refused by an answer of its own; or none was answered. No other process came between
+-- the first of the messages were delivered, each with an answer of its own; or none was answered. No other process came between
 abbrev pub DeliversBy : {R : Type 0} → View R → (R → Type 0) → Terms → List GatheredRequest → Result (List Answer) Refusal → R → R → Type 0
 DeliversBy view clean terms requests (Ok answers) r q =
-    (length answers ≡ length requests)
+    AreFirstTold requests answers
     × (clean q → (kept : SessionMap) → AreEventsDone view [] (events_told (deliveries_told terms requests answers)) (answers_told (deliveries_told terms requests answers)) r kept q kept)
 DeliversBy view clean terms requests (Err refusal) r q = clean q → (kept : SessionMap) → AreEventsTried view [] (deliveries_of terms requests) r kept q kept
 

@@ -14,7 +14,7 @@ ghost use Rattle.daemon_host.specs.Held as held;
 ghost use Rattle.daemon_host.specs.Held.{HostBrings, HostDelivers, HostFinds, HostMovesNext, IsToldAs, MailStays};
 ghost use Rattle.daemon_host.specs.Moments.{GivesNext, IsReadNext};
 ghost use Rattle.daemon_core.specs.Moves.{HasKept};
-ghost use Rattle.daemon_core.specs.Together.{MayGoTogether};
+ghost use Rattle.daemon_core.specs.Together.{IsWithinBatch};
 
 use crate::host_log::HostLog;
 use crate::host_system::HostSystem;
@@ -546,7 +546,7 @@ impl<'a, S: HostSystem + Drop, E: Write + Drop, H: MailStore + Drop> Host<'a, S,
         &mut self,
         requests: &[GatheredRequest],
     ) -> Option<Result<List<Answer>, Refusal>>
-        requires { MayGoTogether requests.now }
+        requires { IsWithinBatch requests.now }
         ensures delivers { (when : When) × IsReadNext S.showed self.old.system self.old.settings when × HostDelivers H.view H.clean (terms when self.old.settings) requests.now result self.old.held self.new.held }
         ensures cause { IfSome result (λ answers. IfErr answers IsTransient) }
     {
@@ -721,6 +721,14 @@ fn is_known(lookup: Lookup) -> bool {
     match lookup {
         Lookup::Known => true,
         _ => false,
+    }
+}
+
+/// So many of them, from the first one on.
+fn first_of(requests: &[GatheredRequest], count: usize) -> &[GatheredRequest] {
+    match requests.split_at_checked(count) {
+        Some((first, _)) => first,
+        None => requests,
     }
 }
 
@@ -1032,7 +1040,7 @@ impl<S: HostSystem + Drop, E: Write + Drop, H: MailStore + Drop> StoreAccess for
     ) -> Option<Result<List<Answer>, Refusal>> {
         match self.try_deliver_all(requests) {
             Some(Ok(answers)) => {
-                self.end_deliveries(requests);
+                self.end_deliveries(first_of(requests, answers.len()));
                 Some(Ok(answers))
             }
             Some(Err(refusal)) => {

@@ -8,7 +8,7 @@ ghost use Rattle.store_engine.specs.Terms.{terms_of};
 ghost use Rattle.store_lock.specs.declared.keeper.StoreUnavailable.{StoreUnavailable};
 ghost use Rattle.daemon_core.specs.StoreAccess.{View, ViewStillShows, delivery_of};
 ghost use Rattle.daemon_core.specs.Moves.{HasKept};
-ghost use Rattle.daemon_core.specs.Together.{MayGoTogether};
+ghost use Rattle.daemon_core.specs.Together.{IsWithinBatch};
 ghost use Rattle.store_accounts.specs.Refusals.{IsTransient};
 ghost use Rattle.daemon_host.specs.Held.{HostBrings, HostDelivers, HostFinds, HostMovesNext, MailStays};
 
@@ -109,8 +109,8 @@ pub trait MailStore {
     ) -> Option<Answer>
         ensures { (kept : SessionMap) → HostBrings view clean (delivery_of request.now (terms_of terms.entry)) result self.old kept self.new kept };
 
-    /// Delivers these messages, each for another user, in one transaction under these terms, and answers each of them, in order; no copy is
-    /// made of a message. None if the store isn't held.
+    /// Delivers the first of these messages in one transaction under these terms, and answers each of those, in order; no copy is made of a
+    /// message. None if the store isn't held.
     ///
     /// # Errors
     ///
@@ -121,7 +121,7 @@ pub trait MailStore {
         requests: &[GatheredRequest],
         terms: LentTerms<'_>,
     ) -> Option<Result<List<Answer>, Refusal>>
-        requires { MayGoTogether requests.now }
+        requires { IsWithinBatch requests.now }
         ensures delivers { HostDelivers view clean (terms_of terms.entry) requests.now result self.old self.new }
         ensures cause { IfSome result (λ answers. IfErr answers IsTransient) };
 

@@ -1,5 +1,5 @@
 -- What an event makes of accounts that are kept in memory.
-use Rattle.std.specs.Prelude.{◌≡◌, ℕ, Bool, true, false, List, [], ◌∷◌, length, Result, Ok, Err}
+use Rattle.std.specs.Prelude.{◌≡◌, ℕ, Bool, true, false, List, [], ◌∷◌, Result, Ok, Err}
 use Rattle.lmtp_dialogue.specs.declared.receiver.Lookup.{Lookup}
 use Rattle.store_accounts.specs.Account.{Accounts}
 use Rattle.store_engine.specs.Hosts.{SessionMap}
@@ -13,7 +13,7 @@ use Rattle.store_engine.specs.declared.terms.Terms.{Terms}
 use Rattle.store_engine.specs.declared.answer.Answer.{Answer}
 use Rattle.store_engine.specs.declared.event.Event.{Event}
 use Rattle.store_engine.specs.declared.event.Event.TheVariants.{Deliver, AddUser, Import, TakeOut, TakeMail, DoUpkeep}
-use Rattle.daemon_core.specs.Together.{deliveries_told, deliveries_of, events_told, answers_told}
+use Rattle.daemon_core.specs.Together.{AreFirstTold, deliveries_told, deliveries_of, events_told, answers_told}
 use Rattle.daemon_core.specs.declared.gathered.GatheredRequest.{GatheredRequest}
 use Rattle.daemon_core.specs.StoreAccess.{View, ViewStillShows, IsWorld, ComesTo, AreOthers, IsFoundIn}
 
@@ -31,7 +31,7 @@ pub record DeliversThem {S : Type 0} (view : View S) (terms : Terms) (requests :
 
 abbrev pub IsDeliveredTogether : {S : Type 0} → View S → Terms → List GatheredRequest → Result (List Answer) Refusal → S → S → Type 0
 IsDeliveredTogether view terms requests (Ok answers) s t =
-    (length answers ≡ length requests) × ((w : World) → view.shows s w.accounts → DeliversThem view terms requests answers s t w)
+    AreFirstTold requests answers × ((w : World) → view.shows s w.accounts → DeliversThem view terms requests answers s t w)
 IsDeliveredTogether view terms requests (Err refusal) s t =
     (w : World) → view.shows s w.accounts → view.shows t w.accounts × MayLeave (view.leaves s) w.accounts (view.leaves t) w.accounts (ShowsMade (deliveries_of terms requests) w)
 

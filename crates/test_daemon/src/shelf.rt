@@ -1,7 +1,6 @@
 //! Where accounts are kept, in memory.
 ghost use Rattle.std.specs.Prelude.{◌≡◌, List, true, IfErr};
 ghost use Rattle.store_accounts.specs.Refusals.{IsTransient};
-ghost use Rattle.daemon_core.specs.Together.{AreForOthers};
 ghost use Rattle.lmtp_connections.specs.Connections.{IsFinding};
 ghost use Rattle.store_engine.specs.Hosts.{IsGivenUp};
 ghost use Rattle.maildir_files.specs.declared.kept.KeptMail.{KeptMail};
@@ -41,14 +40,13 @@ pub trait Shelf {
         ensures lets { IsLet view event.now result self.old self.new }
         ensures still { StillHas has self.old self.new };
 
-    /// Delivers these messages as one act, as [`store_engine::deliver_all`] does.
+    /// Delivers the first of these messages as one act, as [`store_engine::deliver_all`] does.
     fn deliver_all(
         &mut self,
         alloc: Global,
         requests: &[GatheredRequest],
         terms: &Terms,
     ) -> Result<List<Answer>, Refusal>
-        requires { AreForOthers requests.now }
         ensures delivers { IsDeliveredTogether view terms.now requests.now result self.old self.new }
         ensures cause { IfErr result IsTransient }
         ensures still { StillHas has self.old self.new };

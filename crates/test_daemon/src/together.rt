@@ -6,7 +6,7 @@ ghost use Rattle.net_loop.specs.Told.{TellsIf};
 ghost use Rattle.net_loop.specs.declared.act.Act.TheVariants.{Worked};
 ghost use Rattle.sieve_exec.specs.declared.when.When.{When};
 ghost use Rattle.store_engine.specs.Terms.{terms as terms_by};
-ghost use Rattle.daemon_core.specs.Together.{AreForOthers, deliveries_told, deliveries_of, ids_of};
+ghost use Rattle.daemon_core.specs.Together.{deliveries_told, deliveries_of, ids_of};
 ghost use Rattle.test_daemon.specs.FakeAccess.{is_told, fake_telling, shelf_of};
 ghost use Rattle.test_daemon.specs.Shelves.{IsDeliveredTogether, StillHas};
 
@@ -86,7 +86,6 @@ impl<S: Shelf + Drop> FakeAccess<S> {
         requests: &[GatheredRequest],
         terms: &Terms,
     ) -> Result<List<Answer>, Refusal>
-        requires { AreForOthers requests.now }
         ensures delivers { IsDeliveredTogether S.view terms.now requests.now result (shelf_of self.old) (shelf_of self.new) }
         ensures cause { IfErr result IsTransient }
         ensures still { StillHas S.has (shelf_of self.old) (shelf_of self.new) }

@@ -5,13 +5,10 @@ use Rattle.daemon_core.specs.Together.{DeliversMessages}
 use Rattle.store_engine.specs.declared.answer.Answer.{Answer}
 use Rattle.daemon_core.specs.Deliveries.{NotesEach}
 use Rattle.daemon_core.specs.Holds.{asked_by}
-use Rattle.daemon_core.specs.MailRules.{lmtp_connection_at, SameHost}
+use Rattle.daemon_core.specs.MailRules.{SameHost}
 use Rattle.daemon_core.specs.declared.daemon.Holding.{Holding}
-use Rattle.daemon_core.proofs.DeliveriesLemmas.{together, works_delivered, works_parted}
+use Rattle.daemon_core.proofs.DeliveriesLemmas.{works_delivered, works_parted}
 use Rattle.daemon_core.proofs.deliveries.deliver_batch.Goals as goal
-
-pub deliver_all-requires : goal.deliver_all-requires
-deliver_all-requires g c = together c.args.now (lmtp_connection_at c.args.mail.now) c.args.requests.now c.requires.ready c.requires.within
 
 pub returns-in-Some-Ok-clause-works : goal.returns-in-Some-Ok-clause-works
 returns-in-Some-Ok-clause-works g c =

@@ -1,4 +1,4 @@
-use Rattle.std.proofs.Common.{◌≡◌, ◌≢◌, false, rules, tests}
+use Rattle.std.proofs.Common.{◌≡◌, false, rules, tests}
 use Rattle.std.specs.Prelude.{⊤}
 use Rattle.std.proofs.lemmas.Iterator.{cases_from_any, YieldsList-from_slice}
 use Rattle.net_loop.specs.Talk.{is_same_id}
@@ -8,7 +8,6 @@ use Rattle.daemon_core.proofs.gathered.is_new.Goals as goal
 
 pub returns : goal.returns
 returns c =
-    let it : GatheredRequest = record { id = c.args.id; request = c.args.request.now } in
-    another_answer it c.args.requests.now (λ other. ⊤) c.any.result
-    (cases_from_any _ _ c.any.result (λ (other : GatheredRequest). ⊤) (λ (other : GatheredRequest). (is_same_id other.id it.id ≡ false) × (other.request.user ≢ it.request.user)) c.any.ensures.ran
+    another_answer c.args.id c.args.requests.now (λ other. ⊤) c.any.result
+    (cases_from_any _ _ c.any.result (λ (other : GatheredRequest). ⊤) (λ (other : GatheredRequest). is_same_id other.id c.args.id ≡ false) c.any.ensures.ran
     (YieldsList-from_slice c.args.requests.now (cc)) (λ x q k. tt) (λ x q k. search (rules, tests)))

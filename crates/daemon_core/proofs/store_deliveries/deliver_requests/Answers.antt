@@ -1,6 +1,6 @@
 use Rattle.std.proofs.Common.{◌≡◌, Ok, OnOk, ap, subst, sym, rules}
 use Rattle.sqlite.specs.Held.{state}
-use Rattle.store_engine.specs.Deliveries.{ActsDeliveries, IsLongestFront}
+use Rattle.store_engine.specs.Deliveries.{ActsDeliveries}
 use Rattle.store_engine.specs.Terms.{terms_of}
 use Rattle.daemon_core.specs.Together.{AreParcels, StoreDelivers}
 use Rattle.daemon_core.proofs.ParcelLemmas.{delivered_together, refused_together, unasked_together}
@@ -16,7 +16,7 @@ returns-in_err-answers-clause-delivers g c =
     let none : OnOk c.deliver_all.result ⊥ = search rules in
     let never : OnOk c.from_residual-in_err-answers.result ⊥ = search rules in
     let are : AreParcels c.args.requests.now c.as_slice.result.now = subst (AreParcels c.args.requests.now) (sym c.as_slice.ensures.value) c.in_ok-parcels.ensures in
-    refused_together (terms_of c.args.terms) c.args.requests.now c.as_slice.result.now are c.requires (state g.S.Store c.args.store.now) (state g.S.Store c.deliver_all.new.store) c.deliver_all.result c.from_residual-in_err-answers.result none never c.deliver_all.ensures.acts
+    refused_together (terms_of c.args.terms) c.args.requests.now c.as_slice.result.now are (state g.S.Store c.args.store.now) (state g.S.Store c.deliver_all.new.store) c.deliver_all.result c.from_residual-in_err-answers.result none never c.deliver_all.ensures.acts
 
 pub returns-clause-delivers : goal.returns-clause-delivers
 returns-clause-delivers g c =
@@ -27,4 +27,4 @@ returns-clause-delivers g c =
     let are : AreParcels c.args.requests.now parcels = subst (AreParcels c.args.requests.now) (sym c.as_slice.ensures.value) c.in_ok-parcels.ensures in
     let acts : ActsDeliveries (terms_of c.args.terms) parcels old new (Ok v) = subst (ActsDeliveries (terms_of c.args.terms) parcels old new) c.in_ok-answers.was c.deliver_all.ensures.acts in
     subst (λ l. StoreDelivers (terms_of c.args.terms) c.args.requests.now (Ok l) old new) (sym c.from_vec.ensures)
-    (delivered_together (terms_of c.args.terms) c.args.requests.now parcels are c.requires old new v acts c.in_ok-answers.ensures.front)
+    (delivered_together (terms_of c.args.terms) c.args.requests.now parcels are old new v acts c.in_ok-answers.ensures.front)

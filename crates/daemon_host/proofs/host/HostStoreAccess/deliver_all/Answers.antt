@@ -16,7 +16,7 @@ returns-in-Some-Ok-clause-delivers g c =
     let it =
     subst (λ (r : Option (Result (List Answer) Refusal)). (when : When) × IsReadNext g.S.HostSystem.showed old.system old.settings when
     × HostDelivers g.H.MailStore.view g.H.MailStore.clean (terms when old.settings) c.args.requests.now r old.held c.try_deliver_all.new.self.held) is c.try_deliver_all.ensures.delivers in
-    rw c.end_deliveries.ensures.same (it.0, it.1, record { each = it.2.0; others = []; done = λ clean. it.2.1 clean c.args._clients.now.sessions; telling = λ told. never_told told; had = λ had. refl })
+    rw c.end_deliveries.ensures.same (it.0, it.1, record { first = it.2.0; others = []; done = λ clean. it.2.1 clean c.args._clients.now.sessions; telling = λ told. never_told told; had = λ had. refl })
 
 pub returns-in-Some-Err-clause-delivers : goal.returns-in-Some-Err-clause-delivers
 returns-in-Some-Err-clause-delivers g c =

@@ -14,6 +14,3 @@ returns-clause-delivers g c =
     (λ trees left. left)
     (λ clean. clean)
     c.deliver_requests.ensures.delivers
-
-pub deliver_requests-requires : goal.deliver_requests-requires
-deliver_requests-requires g c = c.requires.others

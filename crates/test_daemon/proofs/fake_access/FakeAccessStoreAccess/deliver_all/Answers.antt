@@ -30,7 +30,7 @@ returns-in-Ok-clause-delivers g c =
       subst (λ t. DeliversEach (fake_telling {S = g.row.S.Denot}) (fake_store {S = g.row.S.Denot} g.S.Shelf.view g.S.Shelf.has g.S.Shelf.there) t requests (access_state c.args.self.now kept) answers (access_state c.note_delivered.new.self kept))
           c.in-Some.ensures.2
           (record {
-            each = c.in-Ok.ensures.delivers.0;
+            first = c.in-Ok.ensures.delivers.0;
             others = others;
             done = λ clean. done;
             telling = λ tells. subst (λ (l : List Answer). c.note_delivered.new.self.stage.fake.acts.items ≡ c.deliver_together.new.self.stage.fake.acts.items ++ Worked (Delivered others (deliveries_told its requests l)) ∷ []) c.as_slice.ensures

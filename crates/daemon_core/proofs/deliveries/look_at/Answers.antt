@@ -1,7 +1,7 @@
 use Rattle.daemon_core.specs.MailRules.{lmtp_connection_at}
 use Rattle.daemon_core.specs.declared.gathered.GatheredRequest.{GatheredRequest}
 use Rattle.daemon_core.proofs.DeliveriesLemmas.{ready_added}
-use Rattle.daemon_core.proofs.deliveries.add_at.Goals as goal
+use Rattle.daemon_core.proofs.deliveries.look_at.Goals as goal
 
 pub returns-in-Some : goal.returns-in-Some
 returns-in-Some c =
