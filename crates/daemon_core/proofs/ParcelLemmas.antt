@@ -25,7 +25,7 @@ use Rattle.sieve_exec.specs.declared.envelope.Envelope.{Envelope}
 use Rattle.maildir_moves.specs.Enduring.{ShowsMade, leaves_of}
 use Rattle.maildir_moves.proofs.EnduringLemmas.{left_alone}
 use Rattle.daemon_core.specs.StoreAccess.{delivery_of}
-use Rattle.daemon_core.specs.Together.{AreFirstTold, users_of, deliveries_of, deliveries_told, events_told, answers_told, StoreDeliversEach, StoreDelivers, IsParcel, AreParcels}
+use Rattle.daemon_core.specs.Together.{AreFirstTold, gathered_users, deliveries_of, deliveries_told, events_told, answers_told, StoreDeliversEach, StoreDelivers, IsParcel, AreParcels}
 use Rattle.daemon_core.specs.declared.gathered.GatheredRequest.{GatheredRequest}
 
 -- ---- which are told
@@ -43,7 +43,7 @@ first_parcels (suc n) [] (p ∷ parcels) are = absurd are
 first_parcels (suc n) (it ∷ more) [] are = absurd are
 first_parcels (suc n) (it ∷ more) (p ∷ parcels) are = (are.0, first_parcels n more parcels are.1)
 
-same_users : (requests : List GatheredRequest) (parcels : List Parcel) → AreParcels requests parcels → parcel_users parcels ≡ users_of requests
+same_users : (requests : List GatheredRequest) (parcels : List Parcel) → AreParcels requests parcels → parcel_users parcels ≡ gathered_users requests
 same_users [] [] are = refl
 same_users [] (p ∷ parcels) are = absurd are
 same_users (it ∷ more) [] are = absurd are
@@ -66,7 +66,7 @@ first_told requests parcels told are front = record {
     n : ℕ
     n = length told
 
-    waits : (o : Option GatheredRequest) → slice_get requests n ≡ o → IfSome o (λ it. Contains (users_of (take n requests)) it.request.user)
+    waits : (o : Option GatheredRequest) → slice_get requests n ≡ o → IfSome o (λ it. Contains (gathered_users (take n requests)) it.request.user)
     waits None is = tt
     waits (Some it) is = elim front.ends [
       | inl all ↦ absurd (let none : None ≡ Some it = sym (slice_get_past requests n (omega (arith, all, same_length requests parcels are))) ∙ is in cc)

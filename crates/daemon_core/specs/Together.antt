@@ -40,14 +40,14 @@ pub record IsWithinBatch (requests : List GatheredRequest) : Type 0 where
   pub small : (batch_octets requests ≤ max_batch_octets) ⊎ (length requests ≤ 1)
 
 -- whose they are, in order
-abbrev pub users_of : List GatheredRequest → List (List ℕ)
-users_of requests = map (λ it. it.request.user) requests
+abbrev pub gathered_users : List GatheredRequest → List (List ℕ)
+gathered_users requests = map (λ it. it.request.user) requests
 
 -- the first of these are told an answer each; they are all, or one of them is for the user of the next one, which waits for the next act. So at least one
 -- is told, where there is one
 pub record AreFirstTold (requests : List GatheredRequest) (answers : List Answer) : Type 0 where
   pub within : length answers ≤ length requests
-  pub waits : IfSome (slice_get requests (length answers)) (λ it. Contains (users_of (take (length answers) requests)) it.request.user)
+  pub waits : IfSome (slice_get requests (length answers)) (λ it. Contains (gathered_users (take (length answers) requests)) it.request.user)
 
 -- their deliveries, on these terms
 abbrev pub deliveries_of : Terms → List GatheredRequest → List Event
