@@ -60,7 +60,7 @@ pub fn deliver_gathered<O: StoreAccess>(mail: &mut MailDaemon, outside: &mut O, 
     }
 }
 
-/// The messages of the next act: those of gathered clients after the last one that was looked at, or if there is none, of the first.
+/// The messages of the next act: those of gathered clients after the last one that was looked at, and then of the others.
 fn collect(mail: &MailDaemon, now: u64) -> Result<Batch, AllocError>
     ensures { IfOk result (batches.IsCollected now (lmtp_connection_at mail.now)) }
 {
@@ -69,14 +69,24 @@ fn collect(mail: &MailDaemon, now: u64) -> Result<Batch, AllocError>
     Ok(batch)
 }
 
-/// Looks at those after the last one that was looked at, and at all if none of them has a message to deliver.
+/// Looks at those after the last one that was looked at, and then at the others.
 fn look_around(mail: &MailDaemon, now: u64, batch: &mut Batch)
     requires { batches.IsCollected now (lmtp_connection_at mail.now) batch.old }
     ensures { batches.IsCollected now (lmtp_connection_at mail.now) batch.new }
 {
     look_after(mail, now, mail.gathered.last, batch);
-    if batch.requests.is_empty() {
-        look_after(mail, now, 0, batch);
+    look_until(mail, now, mail.gathered.last, batch);
+}
+
+/// Looks at the gathered clients up to that number.
+fn look_until(mail: &MailDaemon, now: u64, last: u32, batch: &mut Batch)
+    requires { batches.IsCollected now (lmtp_connection_at mail.now) batch.old }
+    ensures { batches.IsCollected now (lmtp_connection_at mail.now) batch.new }
+{
+    for (id, _) in mail.gathered.ids.iter() {
+        if *id <= last && !batch.is_full() {
+            look_at(mail, now, *id, batch);
+        }
     }
 }
 
