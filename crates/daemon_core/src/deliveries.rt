@@ -1,5 +1,5 @@
 //! Messages of several clients are delivered as one act.
-ghost use Rattle.std.specs.Prelude.{◌≡◌, IfOk, IfSome};
+ghost use Rattle.std.specs.Prelude.{◌≡◌, true, IfOk, IfSome};
 ghost use Rattle.net_loop.specs.Rules.{WorksIf, machine_state};
 ghost use Rattle.net_loop.specs.Told.{ToldBefore};
 ghost use Rattle.daemon_core.specs.Batches as batches;
@@ -26,7 +26,9 @@ pub fn has_gathered(mail: &MailDaemon) -> bool
 }
 
 /// Whether gathered messages are delivered next: mail that moves comes before them once after each act that delivered some.
-pub fn delivers_next(mail: &MailDaemon, now: u64) -> bool {
+pub fn delivers_next(mail: &MailDaemon, now: u64) -> bool
+    ensures { result ≡ true → rules.has_gathered mail.now ≡ true }
+{
     has_gathered(mail) && !(mail.gathered.yields && is_move_due(&mail.daemon.holding, now))
 }
 

@@ -1,7 +1,8 @@
 //! Messages that are to be delivered together.
-ghost use Rattle.std.specs.Prelude.{◌≡◌, [], true, IfOk};
+ghost use Rattle.std.specs.Prelude.{◌≡◌, [], true, IfOk, ◌<◌, false, length};
 ghost use Rattle.lmtp_connections.specs.declared.demand.DeliveryRequest.{DeliveryRequest as RequestOf};
 ghost use Rattle.daemon_core.specs.Batches as batches;
+ghost use Rattle.daemon_core.specs.Together.{max_batch};
 
 use lmtp_connections::DeliveryRequest;
 use std::alloc::{AllocError, Global};
@@ -77,7 +78,9 @@ impl Batch {
     }
 
     /// Whether no further message is looked at.
-    pub fn is_full(&self) -> bool {
+    pub fn is_full(&self) -> bool
+        ensures { result ≡ false → length self.now.requests.items < max_batch }
+    {
         self.ended || self.requests.len() >= MAX_BATCH || self.octets >= MAX_OCTETS
     }
 
