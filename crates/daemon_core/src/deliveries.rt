@@ -18,6 +18,10 @@ use std::alloc::AllocError;
 use std::collections::BTreeMap;
 use store_engine::Answer;
 
+/// How many acts deliver messages, one behind the other, while mail waits to move. Those who were answered by one send again during the next,
+/// so two have all of them; and on a slow disk a step of a move takes as long as an act.
+const MAX_ACTS: u32 = 2;
+
 /// Whether a message is to be delivered with those of others.
 pub fn has_gathered(mail: &MailDaemon) -> bool
     ensures { result ≡ rules.has_gathered mail.now }
@@ -25,11 +29,11 @@ pub fn has_gathered(mail: &MailDaemon) -> bool
     !mail.gathered.ids.is_empty()
 }
 
-/// Whether gathered messages are delivered next: mail that moves comes before them once after each act that delivered some.
+/// Whether gathered messages are delivered next: mail that moves comes before them once behind two acts that delivered some.
 pub fn delivers_next(mail: &MailDaemon, now: u64) -> bool
     ensures { result ≡ true → rules.has_gathered mail.now ≡ true }
 {
-    has_gathered(mail) && !(mail.gathered.yields && is_move_due(&mail.daemon.holding, now))
+    has_gathered(mail) && (mail.gathered.acts < MAX_ACTS || !is_move_due(&mail.daemon.holding, now))
 }
 
 /// Does something by itself for all clients: mail moves on, or it is looked whether somebody waits for the store.
@@ -37,7 +41,7 @@ pub fn work_for_all<O: StoreAccess>(mail: &mut MailDaemon, outside: &mut O, now:
     ensures kept { ToldBefore O.told outside.old outside.new }
     ensures works { WorksIf O.told (mail_rules O.store.view) (machine_state outside.old mail.old) now (machine_state outside.new mail.new) }
 {
-    mail.gathered.yields = false;
+    mail.gathered.acts = 0;
     work_by(&mut mail.daemon, outside, now)
 }
 
@@ -148,7 +152,7 @@ fn deliver_batch<O: StoreAccess>(
     match outside.deliver_all(&mut mail.daemon.clients, requests) {
         Some(Ok(answers)) => {
             mail.daemon.holding = mail.daemon.holding.asked_by(answers.len(), now);
-            mail.gathered.yields = true;
+            mail.gathered.acts = mail.gathered.acts.saturating_add(1);
             begin_behind(&mut mail.gathered, requests, answers.len());
             note_answers(mail, now, requests, answers.as_slice())
         }

@@ -20,8 +20,8 @@ pub struct Gathered {
     pub ids: BTreeMap<u32, ()>,
     /// The last one that was looked at: those with larger numbers come next, and then the others.
     pub last: u32,
-    /// Mail that moves comes before them once, since some were delivered.
-    pub yields: bool,
+    /// How many acts delivered some since mail moved on last.
+    pub acts: u32,
     /// Memory was lacking for an act: the next message goes by itself, and its connection ends if memory is lacking still.
     pub lacks: bool,
 }
@@ -34,7 +34,7 @@ impl Gathered {
         Gathered {
             ids: BTreeMap::new(alloc),
             last: 0,
-            yields: false,
+            acts: 0,
             lacks: false,
         }
     }
