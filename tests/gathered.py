@@ -4,8 +4,8 @@
   tests/gathered.py [--quick] [--sieved SIEVED] [TRIAL ..]     SIEVED: the program, crates/sieved/out/sieved where none is named
 
 Prints a line for each trial, a last one that counts them, and ends with 1 where one failed. `tests/run` runs it, with --quick, which
-does a tenth of what is done many times. It needs python3; `shared`, `rows` and `refused` need cc, and `full` the right to mount a
-tmpfs. What a power cut leaves of such a commit is tried by `stops.py gathered`.
+does a tenth of what is done many times. It needs python3; `shared`, `one_user`, `rows` and `refused` need cc, and `full` the right to
+mount a tmpfs. What a power cut leaves of such a commit is tried by `stops.py gathered`.
 """
 import contextlib, os, shutil, struct, subprocess, sys, tempfile, time
 from concurrent.futures import ThreadPoolExecutor
@@ -96,6 +96,20 @@ def shared():
         said, took = dots(ready(port, each), each)
     assert all(lines[0].startswith(b"250 2.1.5 file INBOX") for lines in said), said
     assert counts(store, users) == [2] + [1] * (CONNECTIONS - 1), counts(store, users)
+    assert took < 8 * alone, f"{CONNECTIONS} messages took {took * 1000:.0f} ms, one {alone * 1000:.0f}"
+    return f"one message in {alone * 1000:.0f} ms, {CONNECTIONS} in {took * 1000:.0f}"
+
+
+def one_user():
+    """The same where all of them are to one user."""
+    need_cc()
+    store = new_store("user0")
+    with running(store, **slow_disk.environment(SLOW)) as port:
+        one = [["user0"]]
+        _, alone = dots(ready(port, one), one)
+        said, took = dots(ready(port, one * CONNECTIONS), one * CONNECTIONS)
+    assert all(lines[0].startswith(b"250 2.1.5 file INBOX") for lines in said), said
+    assert counts(store, ["user0"]) == [CONNECTIONS + 1], counts(store, ["user0"])
     assert took < 8 * alone, f"{CONNECTIONS} messages took {took * 1000:.0f} ms, one {alone * 1000:.0f}"
     return f"one message in {alone * 1000:.0f} ms, {CONNECTIONS} in {took * 1000:.0f}"
 
@@ -221,7 +235,7 @@ def killed():
     return done.stdout.strip()
 
 
-TRIALS = {trial.__name__: trial for trial in (shared, rows, twice, full, refused, killed)}
+TRIALS = {trial.__name__: trial for trial in (shared, one_user, rows, twice, full, refused, killed)}
 
 
 def program(path):
