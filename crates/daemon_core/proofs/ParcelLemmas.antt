@@ -7,7 +7,7 @@ use Rattle.sqlite.specs.State.{State, HasCleanDisk}
 use Rattle.store_accounts.specs.Account.{Accounts}
 use Rattle.store_accounts.specs.declared.refusal.Refusal.{Refusal}
 use Rattle.managesieve_sessions.specs.Acts.{HasAccounts}
-use Rattle.store_engine.specs.Deliveries.{parcel_users, IsLongestFront, Deliveries, DeliversFront, ActsDeliveries, delivery_events}
+use Rattle.store_engine.specs.Deliveries.{parcel_users, IsFront, Deliveries, DeliversFront, ActsDeliveries, delivery_events}
 use Rattle.store_engine.specs.World.{World, Runs}
 use Rattle.store_engine.specs.declared.answer.Answer.{Answer}
 use Rattle.store_engine.specs.declared.event.Event.{Event}
@@ -41,9 +41,9 @@ none_twice (it ∷ more) (q ∷ parcels) zero p are others is (k, less, same) = 
 none_twice (it ∷ more) (q ∷ parcels) (suc n) p are others is (zero, less, same) = another_user it.request.user more parcels n p are.1 others.0 is (sym same ∙ are.0.user)
 none_twice (it ∷ more) (q ∷ parcels) (suc n) p are others is (suc k, less, same) = none_twice more parcels n p are.1 others.1 is (k, omega (arith, less), same)
 
-pub whole_front : (requests : List GatheredRequest) (parcels : List Parcel) (n : ℕ) → AreParcels requests parcels → AreForOthers requests → IsLongestFront parcels n → n ≡ length parcels
-whole_front requests parcels n are others front =
-    elim front.ends [ inl all ↦ all | inr twice ↦ absurd (none_twice requests parcels n twice.0 are others twice.1 twice.2) ]
+pub whole_front : (requests : List GatheredRequest) (parcels : List Parcel) (told : List Answer) → AreParcels requests parcels → AreForOthers requests → IsFront parcels told → length told ≡ length parcels
+whole_front requests parcels told are others front =
+    elim front.ends [ inl all ↦ all | inr twice ↦ absurd (none_twice requests parcels (length told) twice.0 are others twice.1 twice.2) ]
 
 pub same_length : (requests : List GatheredRequest) (parcels : List Parcel) → AreParcels requests parcels → length parcels ≡ length requests
 same_length [] [] are = refl
@@ -87,7 +87,7 @@ unasked_together terms requests s (Err refusal) none = λ clean w shown. record 
 module _ (terms : Terms) (requests : List GatheredRequest) (parcels : List Parcel) (are : AreParcels requests parcels) (others : AreForOthers requests) (old new : State) where
   run_of : (told : List Answer) (w : World) (later : Accounts) → DeliversFront terms parcels told w.accounts later → Runs w (deliveries_of terms requests) told (record { accounts = later; sessions = w.sessions })
   run_of told w later front =
-      let whole : take (length told) parcels ≡ parcels = take_all (length told) parcels (omega (arith, whole_front requests parcels (length told) are others front.front)) in
+      let whole : take (length told) parcels ≡ parcels = take_all (length told) parcels (omega (arith, whole_front requests parcels told are others front.front)) in
       let all : Deliveries terms parcels told w.accounts later = subst (λ ps. Deliveries terms ps told w.accounts later) whole front.delivered in
       subst (λ es. Runs w es told (record { accounts = later; sessions = w.sessions })) (events_same terms requests parcels are) (deliveries_run terms parcels told w later all)
 
@@ -96,11 +96,11 @@ module _ (terms : Terms) (requests : List GatheredRequest) (parcels : List Parce
       subst (λ es. Runs w es (answers_told (deliveries_told terms requests told)) end) (sym (told_events terms requests told each))
       (subst (λ l. Runs w (deliveries_of terms requests) l end) (sym (told_answers terms requests told each)) run)
 
-  pub delivered_together : (v : Vec Answer Global) → ActsDeliveries terms parcels old new (Ok v) → IsLongestFront parcels (length v.items) → StoreDelivers terms requests (Ok v.items) old new
+  pub delivered_together : (v : Vec Answer Global) → ActsDeliveries terms parcels old new (Ok v) → IsFront parcels v.items → StoreDelivers terms requests (Ok v.items) old new
   delivered_together v acts front = (each, λ clean w shown. by old.is_open refl clean w shown)
     where
       each : length v.items ≡ length requests
-      each = whole_front requests parcels (length v.items) are others front ∙ same_length requests parcels are
+      each = whole_front requests parcels v.items are others front ∙ same_length requests parcels are
 
       by : (b : Bool) → old.is_open ≡ b → HasCleanDisk new → (w : World) → HasAccounts old w.accounts → StoreDeliversEach terms requests v.items old new w
       by true is clean w shown =

@@ -1,6 +1,6 @@
 use Rattle.std.proofs.Common.{◌≡◌, Ok, OnOk, ap, subst, sym, rules}
 use Rattle.sqlite.specs.Held.{state}
-use Rattle.store_engine.specs.Deliveries.{ActsDeliveries, IsLongestFront}
+use Rattle.store_engine.specs.Deliveries.{ActsDeliveries, IsFront}
 use Rattle.store_engine.specs.Terms.{terms_of}
 use Rattle.daemon_core.specs.Together.{AreParcels, StoreDelivers}
 use Rattle.daemon_core.proofs.ParcelLemmas.{delivered_together, refused_together, unasked_together}
