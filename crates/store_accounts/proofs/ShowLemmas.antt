@@ -182,7 +182,7 @@ pub others_all : (user other : List ℕ) (ds : List Change) (tables : Tables) �
 others_all user other [] tables are differ = refl
 others_all user other (d ∷ ds) tables are differ = others_all user other ds (made_one d tables) are.1 differ ∙ others_one d other tables (λ same. differ (same ∙ are.0))
 
-own_all : (user : List ℕ) (ds : List Change) (tables : Tables) → AreOf user ds → rows_of user (made tables ds) ≡ made (rows_of user tables) ds
+pub own_all : (user : List ℕ) (ds : List Change) (tables : Tables) → AreOf user ds → rows_of user (made tables ds) ≡ made (rows_of user tables) ds
 own_all user [] tables are = refl
 own_all user (d ∷ ds) tables are =
     own_all user ds (made_one d tables) are.1

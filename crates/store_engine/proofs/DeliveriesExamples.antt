@@ -1,18 +1,16 @@
--- Deliveries to several users together on small cases: what is right, and beside it what nearly is.
+-- Deliveries together on small cases: what is right, and beside it what nearly is.
 use Rattle.std.proofs.Common.{◌≡◌, ◌≢◌, ◌<◌, ℕ, zero, suc, List, [], ◌∷◌, codes, length, None, Some, option_map, slice_get, get_or, refl, sym, ap, ◌∙◌, subst, inl, inr, arith}
 use Rattle.std.specs.Borrow.{Bor}
 use Rattle.std.specs.FinMap.{get-empty}
-use Rattle.std.proofs.lemmas.List.Elements.{All-cons, All-nil}
 use Rattle.store_accounts.specs.Account.{bytes_cmp, Accounts, no_accounts, open_one}
-use Rattle.store_accounts.specs.Deliveries.{HasNoUserTwice}
-use Rattle.store_accounts.proofs.DeliveriesLemmas.{apart_cons}
+use Rattle.store_accounts.specs.declared.report.VacationReport.TheVariants as V
 use Rattle.store_accounts.specs.declared.refusal.Refusal.TheVariants.{NoUser, BadEnvelope}
 use Rattle.store_engine.specs.declared.answer.Answer.{Answer}
-use Rattle.store_engine.specs.declared.answer.Answer.TheVariants.{Refused}
+use Rattle.store_engine.specs.declared.answer.Answer.TheVariants.{Delivered, Refused}
 use Rattle.store_engine.specs.declared.event.Event.TheVariants.{Deliver}
 use Rattle.store_engine.specs.declared.parcel.Parcel.{Parcel}
 use Rattle.store_engine.specs.AccountEvents.{absence, DeliversIn, Delivery}
-use Rattle.store_engine.specs.Deliveries.{IsLongestFront, Deliveries, delivery_events}
+use Rattle.store_engine.specs.Deliveries.{AreApart, IsFront, SendsMail, HasOver, Deliveries, DeliversFront, delivery_events}
 use Rattle.store_engine.proofs.EventExamples.{alice, bob, envelope, message, at_five}
 
 abbrev lent : List ℕ → Bor (List ℕ)
@@ -30,27 +28,70 @@ forged = record { user = lent bob; envelope = record { from = 10 ∷ []; to = co
 
 -- ---- which go together
 
+-- it joined INBOX, and nothing was sent
+abbrev filed : Answer
+filed = Delivered (record { filed = codes "INBOX" ∷ []; sent = []; vacation = V.None; notice = None })
+
+-- its sender was answered
+abbrev replied : Answer
+replied = Delivered (record { filed = codes "INBOX" ∷ []; sent = []; vacation = V.Sent; notice = None })
+
+-- and it goes on
+abbrev sent_on : Answer
+sent_on = Delivered (record { filed = []; sent = codes "carol@example.org" ∷ []; vacation = V.None; notice = None })
+
+filed_quiet : SendsMail filed → ⊥
+filed_quiet (inl some) = some refl
+filed_quiet (inr sent) = let never = sent in cc
+
 alice_differs : alice ≢ bob
 alice_differs same = let no : 5 ≡ 3 = ap (λ (l : List ℕ). length l) same in omega (arith, no)
 
-each_once : HasNoUserTwice (alice ∷ bob ∷ [])
-each_once = apart_cons alice (bob ∷ []) (All-cons (λ later. alice ≢ later) bob [] alice_differs (All-nil (λ later. alice ≢ later)))
-    (apart_cons bob [] (All-nil (λ later. bob ≢ later)) (λ i j d before less. absurd (omega arith)))
+-- three messages, two of them for alice, are filed together
+filed_together : IsFront (for_alice ∷ for_alice ∷ for_bob ∷ []) (filed ∷ filed ∷ filed ∷ [])
+filed_together = record { within = omega arith; apart = quiet; ends = inl refl }
+  where
+    quiet : AreApart (for_alice ∷ for_alice ∷ for_bob ∷ []) (filed ∷ filed ∷ filed ∷ [])
+    quiet zero j d before less sends = absurd (filed_quiet sends)
+    quiet (suc zero) j d before less sends = absurd (filed_quiet sends)
+    quiet (suc (suc i)) j d before less sends = absurd (omega (arith, before, less))
 
--- before a second one for alice the front ends
-before_the_second : IsLongestFront (for_alice ∷ for_bob ∷ for_alice ∷ []) 2
-before_the_second = record { within = omega arith; once = each_once; ends = inr (for_alice, refl, (0, omega arith, refl)) }
+-- a reply to the first of two for alice: the front ends before the second one
+before_the_second : IsFront (for_alice ∷ for_alice ∷ []) (replied ∷ [])
+before_the_second = record { within = omega arith; apart = λ i j d before less. absurd (omega (arith, before, less)); ends = inr (for_alice, refl, (0, omega arith, refl)) }
 
--- and else with the last one
-with_the_last : IsLongestFront (for_alice ∷ for_bob ∷ []) 2
-with_the_last = record { within = omega arith; once = each_once; ends = inl refl }
+-- near miss: two messages of one sender, and the second goes with the first, to which there was a reply
+second_goes_too : (answer : Answer) → IsFront (for_alice ∷ for_alice ∷ []) (replied ∷ answer ∷ []) → ⊥
+second_goes_too answer is = is.apart 0 1 (for_alice, replied) (omega arith) (omega arith) (inr refl) refl
 
--- near miss: the second one for alice goes with the first
-second_goes_too : IsLongestFront (for_alice ∷ for_bob ∷ for_alice ∷ []) 3 → ⊥
-second_goes_too is = is.once 0 2 [] (omega arith) (omega arith) refl
+-- the same of a message that goes on
+second_behind_a_redirect : (answer : Answer) → IsFront (for_alice ∷ for_alice ∷ []) (sent_on ∷ answer ∷ []) → ⊥
+second_behind_a_redirect answer is = is.apart 0 1 (for_alice, sent_on) (omega arith) (omega arith) (inl (λ none. let never = none in cc)) refl
 
--- near miss: one that might go is left
-one_is_left : IsLongestFront (for_alice ∷ for_bob ∷ []) 1 → ⊥
+-- bob's goes with a reply to alice's
+bobs_goes_too : IsFront (for_alice ∷ for_bob ∷ []) (replied ∷ filed ∷ [])
+bobs_goes_too = record { within = omega arith; apart = others; ends = inl refl }
+  where
+    others : AreApart (for_alice ∷ for_bob ∷ []) (replied ∷ filed ∷ [])
+    others zero zero d before less sends = absurd (omega (arith, before))
+    others zero (suc zero) d before less sends = λ same. alice_differs (sym same)
+    others zero (suc (suc j)) d before less sends = absurd (omega (arith, less))
+    others (suc i) j d before less sends = absurd (omega (arith, before, less))
+
+-- the first is filed, there is a reply to the second: the front has these two
+before_the_third : IsFront (for_alice ∷ for_alice ∷ for_alice ∷ []) (filed ∷ replied ∷ [])
+before_the_third = record { within = omega arith; apart = quiet; ends = inr (for_alice, refl, (0, omega arith, refl)) }
+  where
+    quiet : AreApart (for_alice ∷ for_alice ∷ for_alice ∷ []) (filed ∷ replied ∷ [])
+    quiet zero j d before less sends = absurd (filed_quiet sends)
+    quiet (suc i) j d before less sends = absurd (omega (arith, before, less))
+
+-- near miss: the third goes too
+third_goes_too : (answer : Answer) → IsFront (for_alice ∷ for_alice ∷ for_alice ∷ []) (filed ∷ replied ∷ answer ∷ []) → ⊥
+third_goes_too answer is = is.apart 1 2 (for_alice, replied) (omega arith) (omega arith) (inr refl) refl
+
+-- near miss: one for another user is left
+one_is_left : IsFront (for_alice ∷ for_bob ∷ []) (filed ∷ []) → ⊥
 one_is_left is = elim is.ends [ inl all ↦ omega (arith, all) | inr more ↦ go more.0 more.1 more.2.0 more.2.1 more.2.2 ]
   where
     go : (p : Parcel) → slice_get (for_alice ∷ for_bob ∷ []) 1 ≡ Some p → (k : ℕ) → k < 1 → get_or (alice ∷ []) k p.user.now ≡ p.user.now → ⊥
@@ -59,6 +100,14 @@ one_is_left is = elim is.ends [ inl all ↦ omega (arith, all) | inr more ↦ go
         let bobs : bob ≡ p.user.now = cc in
         alice_differs (same ∙ sym bobs)
     go p has (suc k) less same = omega (arith, less)
+
+-- near miss: the second one for alice is left, though the first is filed and nothing is over in her account
+left_without_cause : (accounts later : Accounts) → (HasOver at_five.when.moment alice accounts → ⊥) → DeliversFront at_five (for_alice ∷ for_alice ∷ []) (filed ∷ []) accounts later → ⊥
+left_without_cause accounts later none is = elim is.waits [ inl sent ↦ go sent.0 sent.1 sent.2 sent.3 sent.4.1 | inr over ↦ none over ]
+  where
+    go : (k : ℕ) (x : Parcel × Answer) → k < 1 → get_or ((for_alice, filed) ∷ []) k x ≡ x → SendsMail x.1 → ⊥
+    go zero x less is sends = filed_quiet (subst (λ (y : Parcel × Answer). SendsMail y.1) (sym is) sends)
+    go (suc k) x less is sends = omega (arith, less)
 
 -- ---- what they are to the accounts
 

@@ -19,6 +19,7 @@ pub mod LookupLemmas
 mod MailTakingExamples
 pub mod MailTakingLemmas
 pub mod MoveLemmas
+pub mod QuietLemmas
 pub mod RecallLemmas
 pub mod RunLemmas
 pub mod SequenceFrontLemmas

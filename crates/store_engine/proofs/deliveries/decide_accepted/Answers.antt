@@ -1,11 +1,11 @@
 use Rattle.std.proofs.Common.{◌≡◌, Ok, Err, OnOk, IfErr, sym, subst, rules}
 use Rattle.sqlite.specs.Held.{state}
-use Rattle.store_accounts.specs.Account.{Account, delivers}
+use Rattle.store_accounts.specs.Account.{Account}
 use Rattle.store_accounts.specs.Refusals.{IsTransient}
 use Rattle.store_accounts.specs.declared.refusal.Refusal.TheVariants.{NoUser}
-use Rattle.store_accounts.specs.declared.report.Plan.{Plan}
 use Rattle.managesieve_sessions.proofs.ActLemmas.{glanced}
-use Rattle.store_engine.specs.AccountEvents.{DeliversTo}
+use Rattle.store_engine.specs.declared.deliveries.ParcelPlan.{ParcelPlan}
+use Rattle.store_engine.specs.Deliveries.{IsPlanOf}
 use Rattle.store_engine.specs.Lookups.{LooksUp, IsLookup}
 use Rattle.store_engine.specs.Terms.{terms_of}
 use Rattle.store_engine.proofs.DeliveriesLemmas.{asked, one_absent, one_planned, one_undecided, other_refusal}
@@ -41,19 +41,19 @@ returns-in_err-found-clause-decides g c =
     let s1 = state g.S.Store c.look_up-looked.new.store in
     one_undecided (terms_of c.args.terms) c.args.parcel.now s0 s1 c.from_residual-in_err-found.result none transient (glanced s0 s1 c.look_up-looked.result c.look_up-looked.ensures.reads.keeps)
 
-pub returns-in_err-plan-clause-decides : goal.returns-in_err-plan-clause-decides
-returns-in_err-plan-clause-decides g c =
-    let none : OnOk c.from_residual-in_err-plan.result ⊥ = search rules in
-    let transient : IfErr c.from_residual-in_err-plan.result IsTransient = search rules in
+pub returns-in_err-made-clause-decides : goal.returns-in_err-made-clause-decides
+returns-in_err-made-clause-decides g c =
+    let none : OnOk c.from_residual-in_err-made.result ⊥ = search rules in
+    let transient : IfErr c.from_residual-in_err-made.result IsTransient = search rules in
     let terms = terms_of c.args.terms in
     let p = c.args.parcel.now in
     let s0 = state g.S.Store c.args.store.now in
     let s1 = state g.S.Store c.look_up-looked.new.store in
     let s2 = state g.S.Store c.plan_parcel.new.store in
     let found = c.in_ok-found.found in
-    let Known = λ (plan : Plan) (a : Account). IsLookup found a → DeliversTo terms p.envelope p.message.now a plan.report (delivers plan a) in
-    one_undecided terms p s0 s2 c.from_residual-in_err-plan.result none transient
-    (glanced s0 s2 c.plan_parcel.result (recalled_keeps p.user.now IsLookup Known s0 s1 s2 c.look_up-looked.result found c.in_ok-found.was c.look_up-looked.ensures c.plan_parcel.result c.plan_parcel.ensures))
+    let Known = λ (made : ParcelPlan) (a : Account). IsLookup found a → IsPlanOf terms p made a in
+    one_undecided terms p s0 s2 c.from_residual-in_err-made.result none transient
+    (glanced s0 s2 c.plan_parcel.result (recalled_keeps p.user.now IsLookup Known s0 s1 s2 c.look_up-looked.result found c.in_ok-found.was c.look_up-looked.ensures c.plan_parcel.result c.plan_parcel.ensures.plans))
 
 pub returns-clause-decides : goal.returns-clause-decides
 returns-clause-decides g c =
@@ -63,9 +63,9 @@ returns-clause-decides g c =
     let s1 = state g.S.Store c.look_up-looked.new.store in
     let s2 = state g.S.Store c.plan_parcel.new.store in
     let found = c.in_ok-found.found in
-    let plan = c.in_ok-plan.plan in
-    let Known = λ (plan : Plan) (a : Account). IsLookup found a → DeliversTo terms p.envelope p.message.now a plan.report (delivers plan a) in
-    let Told = λ (plan : Plan) (a : Account). DeliversTo terms p.envelope p.message.now a plan.report (delivers plan a) in
-    let look : LooksUp p.user.now Told s0 s2 (Ok plan) =
-    looks_recalled p.user.now IsLookup Known s0 s1 s2 c.look_up-looked.result found c.in_ok-found.was c.look_up-looked.ensures c.plan_parcel.result c.plan_parcel.ensures plan c.in_ok-plan.was Told plan (λ account one two. two one) in
-    one_planned terms p c.requires.free Told s0 s2 plan look plan (λ account told. told)
+    let made = c.in_ok-made.made in
+    let Known = λ (made : ParcelPlan) (a : Account). IsLookup found a → IsPlanOf terms p made a in
+    let Told = λ (made : ParcelPlan) (a : Account). IsPlanOf terms p made a in
+    let look : LooksUp p.user.now Told s0 s2 (Ok made) =
+    looks_recalled p.user.now IsLookup Known s0 s1 s2 c.look_up-looked.result found c.in_ok-found.was c.look_up-looked.ensures c.plan_parcel.result c.plan_parcel.ensures.plans made c.in_ok-made.was Told made (λ account one two. two one) in
+    one_planned terms p c.requires.free Told s0 s2 made look made (λ account told. told)
