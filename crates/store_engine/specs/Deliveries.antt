@@ -53,7 +53,7 @@ abbrev pub AreApart : List Parcel → List Answer → Type 0
 AreApart parcels told = AllPairs (λ one later. SendsMail one.1 → later.0.user.now ≢ one.0.user.now) (zip parcels told)
 
 -- the first of the parcels are told these answers together
-pub record IsFrontTold (parcels : List Parcel) (told : List Answer) : Type 0 where
+pub record IsFront (parcels : List Parcel) (told : List Answer) : Type 0 where
   pub within : length told ≤ length parcels
   pub apart : AreApart parcels told
   pub ends : EndsFront parcels (length told)
@@ -80,7 +80,7 @@ Deliveries terms (p ∷ parcels) [] accounts later = ⊥
 
 -- a front of the parcels is delivered, each with its own answer; it ends before one that has to wait, or with the last parcel
 pub record DeliversFront (terms : Terms) (parcels : List Parcel) (told : List Answer) (accounts later : Accounts) : Type 0 where
-  pub front : IsFrontTold parcels told
+  pub front : IsFront parcels told
   pub waits : IfSome (slice_get parcels (length told)) (λ p. HasToWait terms.when.moment p.user.now parcels told accounts)
   pub delivered : Deliveries terms (take (length told) parcels) told accounts later
 
