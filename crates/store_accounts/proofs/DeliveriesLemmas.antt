@@ -1,72 +1,56 @@
--- Deliveries to several users: their counters, their row changes one after the other, and what these make of the tables.
-use Rattle.std.proofs.Common.{◌≡◌, ◌≢◌, ◌≤◌, ◌<◌, ◌⊎◌, ℕ, zero, suc, ◌+◌, Bool, true, false, cond, List, [], ◌∷◌, ◌++◌, map, fold, length, take, get_or, Option, Some, None, IsSome, IsTrue, Ok, Err, Result, OnOk, OnErr, IfOk, IfErr, append-nil, refl, sym, ap, ◌∙◌, subst, inl, inr, arith}
+-- Deliveries to users: their counters, their row changes one after the other, and what these make of the tables.
+use Rattle.std.proofs.Common.{◌≡◌, ◌≢◌, ◌≤◌, ◌<◌, ◌⊎◌, ℕ, zero, suc, ◌+◌, ℤ, pos, Bool, true, false, cond, List, [], ◌∷◌, ◌++◌, if◌then◌else◌, map, filter, fold, length, take, get_or, slice_get, option_map, Option, Some, None, IsSome, IsTrue, Ok, Err, Result, OnOk, OnErr, IfOk, IfErr, append-nil, refl, sym, ap, ◌∙◌, subst, inl, inr, arith}
 use Rattle.std.specs.Prelude.{All, Any}
 use Rattle.std.specs.List.{AllZip}
+use Rattle.std.specs.Borrow.{Bor}
 use Rattle.std.specs.Ordering.{is_eq}
 use Rattle.std.specs.FinMap.{get, get-insert}
 use Rattle.std.proofs.lemmas.Cmp.{nat_list_cmp_total}
-use Rattle.std.proofs.lemmas.List.{append_assoc, get_or-map, length-map, take_more}
+use Rattle.std.proofs.lemmas.List.{append_assoc, get_or-map, length-map, length-take, take_more}
 use Rattle.std.proofs.lemmas.List.Elements.{All-head, All-tail, All-weaker}
 use Rattle.sqlite_value.specs.Order.{Row}
+use Rattle.sqlite_value.specs.declared.value.Value.TheVariants.{Blob, Int}
+use Rattle.sqlite_keyed.specs.Lists.{update_where}
 use Rattle.sqlite_trees.specs.Tree.{Trees}
 use Rattle.sqlite.specs.State.{State, HasCleanDisk, Survives}
 use Rattle.sqlite.proofs.StateLemmas.{survives_then, survives_weaker}
-use Rattle.store_tables.specs.Rows.{Tables, HoldsTables}
+use Rattle.store_tables.specs.Rows.{Tables, HoldsTables, has_key}
 use Rattle.store_tables.specs.Schema.{mail_schema}
 use Rattle.store_tables.specs.Connection.{IsSettled, StaysSame}
 use Rattle.store_tables.specs.Changes.{AreOf, CrashLeavesTables, MakesAll, made, made_one}
-use Rattle.store_tables.specs.AccountTable.{account_tree}
+use Rattle.store_tables.specs.AccountTable.{account_tree, with_counters}
 use Rattle.store_tables.specs.MessageTable.{message_tree}
 use Rattle.store_tables.specs.declared.change.Change.{Change}
+use Rattle.store_tables.specs.declared.change.Change.TheVariants.{SetCounters}
 use Rattle.store_tables.proofs.ResultLemmas.{on_any, on_ok}
 use Rattle.store_tables.proofs.WriteLemmas.{clean_before}
 use Rattle.store_accounts.specs.declared.account.Counters.{Counters}
 use Rattle.store_accounts.specs.declared.refusal.Refusal.{Refusal}
 use Rattle.store_accounts.specs.declared.refusal.Refusal.TheVariants.{NoUser}
 use Rattle.store_accounts.specs.Account.{bytes_cmp, Account, Accounts, delivers, in_place, with_user}
-use Rattle.store_accounts.specs.AccountRows.{HasCounters}
-use Rattle.store_accounts.specs.Delivery.{AreDelivery}
-use Rattle.store_accounts.specs.Deliveries.{UserPlan, users_of, HasNoUserTwice, delivers_each, AreCountersOfEach, CountsEach, AreDeliveries, HaveAccounts, HaveOneShut, WritesAccounts, GainsEachOnce, HasEachStoredOnce, StoresEachOnce}
+use Rattle.store_accounts.specs.AccountRows.{HasCounters, shown_counters}
+use Rattle.store_accounts.specs.Delivery.{AreDelivery, raised}
+use Rattle.store_accounts.specs.Deliveries.{UserPlan, users_of, delivers_each, delivery_rows, AreCountersOfEach, rows_after, IsCountedBy, IsCountedBehind, CountsEach, ReadsCountersBehind, AreDeliveries, HaveAccounts, HaveOneShut, WritesAccounts, GainsEachOnce, HasEachStoredOnce, StoresEachOnce}
 use Rattle.store_accounts.specs.Promises.{ChangesAccounts, CrashLeavesAccounts, HasNoOpen, HasOurTables, HasUser, KeepsSeen, ReadsCounters}
 use Rattle.store_accounts.specs.Refusals.{IsTransient}
 use Rattle.store_accounts.specs.Shows.{rows_of, Presents, ShowsAccounts}
 use Rattle.store_accounts.proofs.AfterLemmas.{seen_before, seen_failed, seen_none, seen_ok, seen_read, seen_then}
-use Rattle.store_accounts.proofs.DeliveryLemmas.{delivered_once, delivery_shows}
+use Rattle.store_accounts.proofs.DeliveryLemmas.{delivered_counters, delivered_once, delivery_shows}
 use Rattle.store_accounts.proofs.KeepLemmas.{account_absent, none_if, transient_named, transient_other}
 use Rattle.store_accounts.proofs.ShowLemmas.{others_all}
 use Rattle.store_accounts.proofs.StandingLemmas.{free_shut}
 
 -- ---- lists
 
--- the first stands apart from all later ones
-pub apart_first : (user : List ℕ) (users : List (List ℕ)) → HasNoUserTwice (user ∷ users) → All (λ later. user ≢ later) users
-apart_first user users apart k d less = apart 0 (suc k) d (omega arith) (omega arith)
-
-pub apart_rest : (user : List ℕ) (users : List (List ℕ)) → HasNoUserTwice (user ∷ users) → HasNoUserTwice users
-apart_rest user users apart i j d before less = apart (suc i) (suc j) d (omega arith) (omega arith)
-
-pub apart_cons : (user : List ℕ) (users : List (List ℕ)) → All (λ later. user ≢ later) users → HasNoUserTwice users → HasNoUserTwice (user ∷ users)
-apart_cons user users first rest zero zero d before less = absurd (omega arith)
-apart_cons user users first rest zero (suc j) d before less = first j d (omega arith)
-apart_cons user users first rest (suc i) zero d before less = absurd (omega arith)
-apart_cons user users first rest (suc i) (suc j) d before less = rest i j d (omega arith) (omega arith)
-
--- pairs, and one more
-zip_push : {A B : Type 0} (R : A → B → Type 0) (xs : List A) (ys : List B) (x : A) (y : B) → AllZip R xs ys → R x y → AllZip R (xs ++ x ∷ []) (ys ++ y ∷ [])
-zip_push R [] [] x y zip one = (one, tt)
-zip_push R (a ∷ xs) (b ∷ ys) x y zip one = (zip.0, zip_push R xs ys x y zip.1 one)
-zip_push R [] (b ∷ ys) x y zip one = absurd zip
-zip_push R (a ∷ xs) [] x y zip one = absurd zip
-
-pub zip_more : {A B : Type 0} (R : A → B → Type 0) (xs : List A) (ys : List B) (i : ℕ) (x : A) (y : B) → i < length xs → x ≡ get_or xs i x → AllZip R (take i xs) ys → R x y → AllZip R (take (i + 1) xs) (ys ++ y ∷ [])
-zip_more R xs ys i x y within is zip one =
-    subst (λ l. AllZip R l (ys ++ y ∷ [])) (sym (take_more xs i x within ∙ ap (λ e. take i xs ++ e ∷ []) (sym is))) (zip_push R (take i xs) ys x y zip one)
-
 pub zip_length : {A B : Type 0} (R : A → B → Type 0) (xs : List A) (ys : List B) → AllZip R xs ys → length ys ≡ length xs
 zip_length R [] [] zip = refl
 zip_length R (x ∷ xs) (y ∷ ys) zip = ap suc (zip_length R xs ys zip.1)
 zip_length R [] (y ∷ ys) zip = absurd zip
 zip_length R (x ∷ xs) [] zip = absurd zip
+
+-- one more of a list
+pub one_more : {A : Type 0} (xs : List A) (i : ℕ) (x : A) → i < length xs → x ≡ get_or xs i x → take (i + 1) xs ≡ take i xs ++ x ∷ []
+one_more xs i x within is = take_more xs i x within ∙ ap (λ e. take i xs ++ e ∷ []) (sym is)
 
 -- ---- accounts
 
@@ -105,34 +89,22 @@ deliveries_more plans counters i d c changes own all within counted is joined ar
     (subst (λ l. AreDeliveries (take i plans ++ d ∷ []) l all) (sym (take_more counters i c counted))
     (subst (λ l. AreDeliveries (take i plans ++ d ∷ []) (take i counters ++ n ∷ []) l) (sym joined) (deliveries_push (take i plans) (take i counters) changes d n own are one)))
 
--- another user's changes leave the counters
-still_counted : (user : List ℕ) (first : List Change) (tables : Tables) → AreOf user first → (plans : List UserPlan) (counters : List Counters) → All (λ later. user ≢ later) (users_of plans)
-    → AreCountersOfEach plans tables counters → AreCountersOfEach plans (made tables first) counters
-still_counted user first tables owned [] [] apart are = tt
-still_counted user first tables owned (d ∷ plans) (c ∷ counters) apart are =
-    let differ : d.user ≢ user = λ same. All-head (λ later. user ≢ later) d.user (users_of plans) apart (sym same) in (
-      subst (λ own. HasCounters (own account_tree) c) (sym (others_all user d.user first tables owned differ)) are.0,
-      still_counted user first tables owned plans counters (All-tail (λ later. user ≢ later) d.user (users_of plans) apart) are.1,
-    )
-still_counted user first tables owned [] (c ∷ counters) apart are = absurd are
-still_counted user first tables owned (d ∷ plans) [] apart are = absurd are
-
 -- once the changes of all are made, the tables show the accounts after each of the plans in order
-pub deliveries_show : (plans : List UserPlan) (counters : List Counters) (changes : List Change) → AreDeliveries plans counters changes → HasNoUserTwice (users_of plans) → (tables : Tables) (accounts : Accounts)
+pub deliveries_show : (plans : List UserPlan) (counters : List Counters) (changes : List Change) → AreDeliveries plans counters changes → (tables : Tables) (accounts : Accounts)
     → ShowsAccounts tables accounts → HaveAccounts (users_of plans) accounts → AreCountersOfEach plans tables counters → ShowsAccounts (made tables changes) (delivers_each plans accounts)
-deliveries_show [] [] changes are apart tables accounts shows have counted = subst (λ ds. ShowsAccounts (made tables ds) accounts) (sym are) shows
-deliveries_show (d ∷ plans) (c ∷ counters) changes are apart tables accounts shows have counted =
+deliveries_show [] [] changes are tables accounts shows have counted = subst (λ ds. ShowsAccounts (made tables ds) accounts) (sym are) shows
+deliveries_show (d ∷ plans) (c ∷ counters) changes are tables accounts shows have counted =
     let user = d.user in
     let users = users_of plans in
     let change = delivers d.plan in
     let next = with_user accounts user change in
     let one = delivery_shows user c d.plan are.0 are.3 tables accounts shows (All-head (λ name. HasUser name accounts) user users have) counted.0 in
     let there : HaveAccounts users next = All-weaker (λ name. HasUser name accounts) (λ name. HasUser name next) (λ name has. still_has accounts user name change has) users (All-tail (λ name. HasUser name accounts) user users have) in
-    let known = still_counted user are.0 tables are.3.owned plans counters (apart_first user users apart) counted.1 in
+    let known : AreCountersOfEach plans (made tables are.0) counters = subst (λ t. AreCountersOfEach plans t counters) (sym (are.3.makes tables)) counted.1 in
     subst (λ t. ShowsAccounts t (delivers_each plans next)) (sym (ap (made tables) are.2 ∙ made_append tables are.0 are.1))
-    (deliveries_show plans counters are.1 are.4 (apart_rest user users apart) (made tables are.0) next one there known)
-deliveries_show [] (c ∷ counters) changes are apart tables accounts shows have counted = absurd are
-deliveries_show (d ∷ plans) [] changes are apart tables accounts shows have counted = absurd are
+    (deliveries_show plans counters are.1 are.4 (made tables are.0) next one there known)
+deliveries_show [] (c ∷ counters) changes are tables accounts shows have counted = absurd are
+deliveries_show (d ∷ plans) [] changes are tables accounts shows have counted = absurd are
 
 -- and the table of messages has each one's message once more
 pub each_once : (plans : List UserPlan) (counters : List Counters) (changes : List Change) → AreDeliveries plans counters changes → (tables : Tables) → GainsEachOnce plans (tables message_tree) (made tables changes message_tree)
@@ -146,6 +118,105 @@ each_once (d ∷ plans) (c ∷ counters) changes are tables =
 each_once [] (c ∷ counters) changes are tables = absurd are
 each_once (d ∷ plans) [] changes are tables = absurd are
 
+-- ---- the counters behind a delivery
+
+-- those that are set are the row's
+counters_put : (mine : Row → Bool) (copy out notice : ℤ) (c : Counters) → ((r : Row) → mine (with_counters copy out notice r) ≡ mine r) → (rows : List Row) → HasCounters (filter mine rows) c
+    → option_map shown_counters (slice_get (filter mine (update_where mine (with_counters copy out notice) rows)) 0) ≡ Some (Int copy ∷ Int out ∷ Int notice ∷ [])
+counters_put mine copy out notice c keeps [] has = absurd (let no = has in cc)
+counters_put mine copy out notice c keeps (r ∷ rows) has = go (mine r) refl has (λ counted. counters_put mine copy out notice c keeps rows counted)
+  where
+    go : (b : Bool) → mine r ≡ b → HasCounters (cond b (r ∷ filter mine rows) (filter mine rows)) c
+        → (HasCounters (filter mine rows) c → option_map shown_counters (slice_get (filter mine (update_where mine (with_counters copy out notice) rows)) 0) ≡ Some (Int copy ∷ Int out ∷ Int notice ∷ []))
+        → option_map shown_counters (slice_get (filter mine ((if mine r then with_counters copy out notice r else r) ∷ update_where mine (with_counters copy out notice) rows)) 0) ≡ Some (Int copy ∷ Int out ∷ Int notice ∷ [])
+    go true is counted rest = simp (is, keeps r) refl
+    go false is counted rest = simp is (rest counted)
+
+module _ (d : UserPlan) (c : Counters) (tables : Tables) where
+  abbrev name : Bor (List ℕ)
+  name = record { ref_ptr = (0, 0); now = d.user }
+
+  abbrev setting : List Change
+  setting = SetCounters name (pos (raised c d.plan).copy) (pos (raised c d.plan).out) (pos (raised c d.plan).notice) ∷ []
+
+  -- the user's are raised
+  counters_next : HasCounters (rows_of d.user tables account_tree) c → HasCounters (rows_of d.user (delivery_rows d c tables) account_tree) (raised c d.plan)
+  counters_next has =
+      subst (λ rows. HasCounters (filter (has_key (Blob d.user ∷ [])) rows) (raised c d.plan)) (sym (delivered_counters d.user c d.plan tables))
+      (counters_put (has_key (Blob d.user ∷ [])) (pos (raised c d.plan).copy) (pos (raised c d.plan).out) (pos (raised c d.plan).notice) c (λ r. refl) (tables account_tree) has)
+
+  -- and another user's row stays
+  counters_beside : (user : List ℕ) → user ≢ d.user → rows_of user (delivery_rows d c tables) account_tree ≡ rows_of user tables account_tree
+  counters_beside user differ =
+      ap (filter (has_key (Blob user ∷ []))) (delivered_counters d.user c d.plan tables) ∙ ap (λ (t : Tables). t account_tree) (others_all d.user user setting tables (refl, tt) differ)
+
+-- ---- and behind several
+
+rows_push : (plans : List UserPlan) (counters : List Counters) (d : UserPlan) (c : Counters) (tables : Tables) → length counters ≡ length plans
+    → rows_after (plans ++ d ∷ []) (counters ++ c ∷ []) tables ≡ delivery_rows d c (rows_after plans counters tables)
+rows_push [] [] d c tables same = refl
+rows_push (e ∷ plans) (n ∷ counters) d c tables same = rows_push plans counters d c (delivery_rows e n tables) (let less : length counters ≡ length plans = cc in less)
+rows_push [] (n ∷ counters) d c tables same = absurd (omega (arith, same))
+rows_push (e ∷ plans) [] d c tables same = absurd (omega (arith, same))
+
+counters_push : (plans : List UserPlan) (counters : List Counters) (d : UserPlan) (c : Counters) (tables : Tables) → AreCountersOfEach plans tables counters → HasCounters (rows_of d.user (rows_after plans counters tables) account_tree) c
+    → AreCountersOfEach (plans ++ d ∷ []) tables (counters ++ c ∷ [])
+counters_push [] [] d c tables are has = (has, tt)
+counters_push (e ∷ plans) (n ∷ counters) d c tables are has = (are.0, counters_push plans counters d c (delivery_rows e n tables) are.1 has)
+counters_push [] (n ∷ counters) d c tables are has = absurd are
+counters_push (e ∷ plans) [] d c tables are has = absurd are
+
+counters_before : (plans : List UserPlan) (counters : List Counters) (d : UserPlan) (c : Counters) (tables : Tables) → length counters ≡ length plans → AreCountersOfEach (plans ++ d ∷ []) tables (counters ++ c ∷ [])
+    → AreCountersOfEach plans tables counters × HasCounters (rows_of d.user (rows_after plans counters tables) account_tree) c
+counters_before [] [] d c tables same are = (tt, are.0)
+counters_before (e ∷ plans) (n ∷ counters) d c tables same are =
+    let rest = counters_before plans counters d c (delivery_rows e n tables) (let less : length counters ≡ length plans = cc in less) are.1 in
+    ((are.0, rest.0), rest.1)
+counters_before [] (n ∷ counters) d c tables same are = absurd (omega (arith, same))
+counters_before (e ∷ plans) [] d c tables same are = absurd (omega (arith, same))
+
+pub counted_none : (user : List ℕ) → IsCountedBehind user [] [] None
+counted_none user tables are = refl
+
+module _ (user : List ℕ) (plans : List UserPlan) (counters : List Counters) (i : ℕ) (d : UserPlan) (any : Counters) (within : i < length plans) (counted : length counters ≡ length plans) (is : d ≡ get_or plans i d)
+    (so_far : Option Counters) (behind : IsCountedBehind user (take i plans) (take i counters) so_far) where
+  abbrev c : Counters
+  c = get_or counters i any
+
+  these : take (i + 1) plans ≡ take i plans ++ d ∷ []
+  these = one_more plans i d within is
+
+  those : take (i + 1) counters ≡ take i counters ++ c ∷ []
+  those = take_more counters i any (omega (arith, within, counted))
+
+  as_long : length (take i counters) ≡ length (take i plans)
+  as_long = omega (arith, length-take i counters, length-take i plans, within, counted)
+
+  more : (o : Option Counters)
+      → ((tables : Tables) → AreCountersOfEach (take i plans) tables (take i counters) → HasCounters (rows_of d.user (rows_after (take i plans) (take i counters) tables) account_tree) c
+      → IsCountedBy user tables (delivery_rows d c (rows_after (take i plans) (take i counters) tables)) o)
+      → IsCountedBehind user (take (i + 1) plans) (take (i + 1) counters) o
+  more o step = subst (λ l. IsCountedBehind user l (take (i + 1) counters) o) (sym these) (subst (λ l. IsCountedBehind user (take i plans ++ d ∷ []) l o) (sym those) all)
+    where
+      all : IsCountedBehind user (take i plans ++ d ∷ []) (take i counters ++ c ∷ []) o
+      all tables are =
+          let early = counters_before (take i plans) (take i counters) d c tables as_long are in
+          subst (λ t. IsCountedBy user tables t o) (sym (rows_push (take i plans) (take i counters) d c tables as_long)) (step tables early.0 early.1)
+
+  -- one to the user
+  pub counted_own : d.user ≡ user → (next : Counters) → next ≡ raised c d.plan → IsCountedBehind user (take (i + 1) plans) (take (i + 1) counters) (Some next)
+  counted_own own next told = more (Some next) (λ tables are one.
+      subst (λ n. HasCounters (rows_of user (delivery_rows d c (rows_after (take i plans) (take i counters) tables)) account_tree) n) (sym told)
+      (subst (λ u. HasCounters (rows_of u (delivery_rows d c (rows_after (take i plans) (take i counters) tables)) account_tree) (raised c d.plan)) own (counters_next d c (rows_after (take i plans) (take i counters) tables) one)))
+
+  -- one to another
+  pub counted_other : d.user ≢ user → IsCountedBehind user (take (i + 1) plans) (take (i + 1) counters) so_far
+  counted_other differ = more so_far (λ tables are one. still tables so_far (behind tables are))
+    where
+      still : (tables : Tables) (o : Option Counters) → IsCountedBy user tables (rows_after (take i plans) (take i counters) tables) o → IsCountedBy user tables (delivery_rows d c (rows_after (take i plans) (take i counters) tables)) o
+      still tables None same = counters_beside d c (rows_after (take i plans) (take i counters) tables) user (λ same. differ (sym same)) ∙ same
+      still tables (Some n) was = subst (λ rows. HasCounters rows n) (sym (counters_beside d c (rows_after (take i plans) (take i counters) tables) user (λ same. differ (sym same)))) was
+
 -- ---- the counters are read
 
 -- of nobody
@@ -153,23 +224,24 @@ pub counts_none : (s : State) (none : List Counters) → none ≡ [] → CountsE
 counts_none s none is = record { found = λ clean tables h. subst (AreCountersOfEach [] tables) (sym is) tt; absent = λ clean tables h. tt; keeps = seen_none s (Ok none); named = tt }
 
 module _ (plans : List UserPlan) (i : ℕ) (d : UserPlan) (within : i < length plans) (is : d ≡ get_or plans i d) (so_far : List Counters) (a b c : State) (early : CountsEach (take i plans) a b (Ok so_far))
-    (q : Result Counters Refusal) (late : ReadsCounters d.user b c q) where
+    (q : Result Counters Refusal) (late : ReadsCountersBehind d.user (take i plans) so_far b c q) where
   clean_mid : HasCleanDisk c → HasCleanDisk b
-  clean_mid = seen_before a b c (Ok so_far) so_far refl early.keeps q (seen_read b c q late.keeps)
+  clean_mid = seen_before a b c (Ok so_far) so_far refl early.keeps q late.keeps
 
   held : HasCleanDisk c → (tables : Tables) → HoldsTables mail_schema a.now tables → HoldsTables mail_schema b.now tables
   held clean tables h = subst (λ db. HoldsTables mail_schema db tables) (sym (early.keeps.seen (clean_mid clean) (tables, h)).0) h
 
   both : KeepsSeen a c q
-  both = seen_then a b c (Ok so_far) so_far refl early.keeps q (seen_read b c q late.keeps)
+  both = seen_then a b c (Ok so_far) so_far refl early.keeps q late.keeps
 
   -- of one more
   pub counts_more : (x : Counters) → q ≡ Ok x → (all : List Counters) → all ≡ so_far ++ x ∷ [] → CountsEach (take (i + 1) plans) a c (Ok all)
   counts_more x was all joined = record {
     found = λ clean tables h.
-        let one = subst (λ o. IfOk o (HasCounters (rows_of d.user tables account_tree))) was (late.found clean tables (held clean tables h)) in
+        let known = early.found (clean_mid clean) tables h in
+        let one = subst (λ o. IfOk o (HasCounters (rows_of d.user (rows_after (take i plans) so_far tables) account_tree))) was (late.found clean tables (held clean tables h) known) in
         subst (AreCountersOfEach (take (i + 1) plans) tables) (sym joined)
-        (zip_more (λ (e : UserPlan) n. HasCounters (rows_of e.user tables account_tree) n) plans so_far i d x within is (early.found (clean_mid clean) tables h) one);
+        (subst (λ l. AreCountersOfEach l tables (so_far ++ x ∷ [])) (sym (one_more plans i d within is)) (counters_push (take i plans) so_far d x tables known one));
     absent = λ clean tables h. tt;
     keeps = seen_ok a c q x (Ok all) was both;
     named = tt;
@@ -203,7 +275,7 @@ shut_among accounts tables shows users one = (one.0, one.1, one.2, one.3, free_s
 
 -- ---- and then the changes are made
 
-module _ (plans : List UserPlan) (apart : HasNoUserTwice (users_of plans)) (a b : State) (r : Result (List Counters) Refusal) (early : CountsEach plans a b r) where
+module _ (plans : List UserPlan) (a b : State) (r : Result (List Counters) Refusal) (early : CountsEach plans a b r) where
   abbrev users : List (List ℕ)
   users = users_of plans
 
@@ -244,7 +316,7 @@ module _ (plans : List UserPlan) (apart : HasNoUserTwice (users_of plans)) (a b 
     holds clean tables h = subst (λ d. HoldsTables mail_schema d tables) (sym (mid clean (tables, h)).0) h
 
     shown : HasCleanDisk c → (accounts : Accounts) (p : Presents a.now accounts) → HaveAccounts users accounts → ShowsAccounts (made p.0 changes) (change accounts)
-    shown clean accounts p have = deliveries_show plans counters changes are apart p.0 accounts p.2 have (subst (λ o. IfOk o (AreCountersOfEach plans p.0)) was (early.found (clean_then clean) p.0 p.1))
+    shown clean accounts p have = deliveries_show plans counters changes are p.0 accounts p.2 have (subst (λ o. IfOk o (AreCountersOfEach plans p.0)) was (early.found (clean_then clean) p.0 p.1))
 
     made_then : HasCleanDisk c → (o : Result Y Refusal) → MakesAll changes b c o → OnOk o (ChangesAccounts (HaveAccounts users) change a.now c.now)
     made_then clean (Err e) all = tt

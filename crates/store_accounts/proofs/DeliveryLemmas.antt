@@ -426,13 +426,13 @@ delivery_shows user c plan ds delivery tables accounts shows has counts = go (ge
 
 -- ---- the table of messages
 
-turn_beside : {X : Type 0} (f : ℕ → X → Tables → Tables) → ((n : ℕ) (x : X) (own : Tables) → f n x own message_tree ≡ own message_tree) → (xs : List X) (n : ℕ) (own : Tables) → numbered_changes f n xs own message_tree ≡ own message_tree
-turn_beside f beside [] n own = refl
-turn_beside f beside (x ∷ xs) n own = turn_beside f beside xs (suc n) (f n x own) ∙ beside n x own
+turn_beside : {X : Type 0} (tree : ℕ) (f : ℕ → X → Tables → Tables) → ((n : ℕ) (x : X) (own : Tables) → f n x own tree ≡ own tree) → (xs : List X) (n : ℕ) (own : Tables) → numbered_changes f n xs own tree ≡ own tree
+turn_beside tree f beside [] n own = refl
+turn_beside tree f beside (x ∷ xs) n own = turn_beside tree f beside xs (suc n) (f n x own) ∙ beside n x own
 
-fold_beside : {X : Type 0} (f : Tables → X → Tables) → ((own : Tables) (x : X) → f own x message_tree ≡ own message_tree) → (xs : List X) (own : Tables) → fold f own xs message_tree ≡ own message_tree
-fold_beside f beside [] own = refl
-fold_beside f beside (x ∷ xs) own = fold_beside f beside xs (f own x) ∙ beside own x
+fold_beside : {X : Type 0} (tree : ℕ) (f : Tables → X → Tables) → ((own : Tables) (x : X) → f own x tree ≡ own tree) → (xs : List X) (own : Tables) → fold f own xs tree ≡ own tree
+fold_beside tree f beside [] own = refl
+fold_beside tree f beside (x ∷ xs) own = fold_beside tree f beside xs (f own x) ∙ beside own x
 
 queued_beside : (user sender : List ℕ) (n : ℕ) (reply : Option VacationReply) (own : Tables) → reply_queued user sender n reply own message_tree ≡ own message_tree
 queued_beside user sender n None own = refl
@@ -462,10 +462,46 @@ delivered_once user c plan own =
     let queued = reply_queued user plan.sender.now after plan.reply remembered in
     let replied = reply_put user (lowered plan.sender.now) plan.reply queued in
     notice_beside user c.notice plan.moment plan.report.notice replied ∙ reply_beside user (lowered plan.sender.now) plan.reply queued ∙ queued_beside user plan.sender.now after plan.reply remembered
-    ∙ fold_beside (λ rows handle. moment_put user handle plan.memory.message plan.moment rows) (λ rows handle. refl) plan.memory.handles forgot
-    ∙ fold_beside (λ rows key. reply_removed user key.handle key.sender rows) (λ rows key. refl) plan.memory.forgotten sent
-    ∙ turn_beside (λ n target. redirect_added user plan.sender.now plan.message.now (pos n) target) (λ n target own. refl) plan.report.sent c.out filed
-    ∙ turn_beside (λ n copy. copy_added user copy.mailbox (pos n) (pos c.copy) copy.flags) (λ n copy own. refl) plan.filed c.copy kept ∙ message_gained user plan.message.now plan.filed c.copy up
+    ∙ fold_beside message_tree (λ rows handle. moment_put user handle plan.memory.message plan.moment rows) (λ rows handle. refl) plan.memory.handles forgot
+    ∙ fold_beside message_tree (λ rows key. reply_removed user key.handle key.sender rows) (λ rows key. refl) plan.memory.forgotten sent
+    ∙ turn_beside message_tree (λ n target. redirect_added user plan.sender.now plan.message.now (pos n) target) (λ n target own. refl) plan.report.sent c.out filed
+    ∙ turn_beside message_tree (λ n copy. copy_added user copy.mailbox (pos n) (pos c.copy) copy.flags) (λ n copy own. refl) plan.filed c.copy kept ∙ message_gained user plan.message.now plan.filed c.copy up
+
+-- ---- the table of accounts
+
+queued_apart : (user sender : List ℕ) (n : ℕ) (reply : Option VacationReply) (own : Tables) → reply_queued user sender n reply own account_tree ≡ own account_tree
+queued_apart user sender n None own = refl
+queued_apart user sender n (Some reply) own = refl
+
+reply_apart : (user sender : List ℕ) (reply : Option VacationReply) (own : Tables) → reply_put user sender reply own account_tree ≡ own account_tree
+reply_apart user sender None own = refl
+reply_apart user sender (Some reply) own = refl
+
+notice_apart : (user : List ℕ) (n moment : ℕ) (text : Option (List ℕ)) (own : Tables) → noticed user n moment text own account_tree ≡ own account_tree
+notice_apart user n moment None own = refl
+notice_apart user n moment (Some text) own = refl
+
+message_apart : (user message : List ℕ) (places : List Placement) (n : ℕ) (own : Tables) → message_kept user message n places own account_tree ≡ own account_tree
+message_apart user message [] n own = refl
+message_apart user message (p ∷ places) n own = refl
+
+-- a delivery sets the counters there, and nothing else
+pub delivered_counters : (user : List ℕ) (c : Counters) (plan : Plan) (own : Tables) → delivered_rows user c plan own account_tree ≡ counters_raised user c plan own account_tree
+delivered_counters user c plan own =
+    let up = counters_raised user c plan own in
+    let kept = message_kept user plan.message.now c.copy plan.filed up in
+    let filed = copies_added user c.copy c.copy plan.filed kept in
+    let sent = sent_on user plan.sender.now plan.message.now c.out plan.report.sent filed in
+    let after = c.out + length plan.report.sent in
+    let forgot = forgotten user plan.memory.forgotten sent in
+    let remembered = sent_remembered user plan.memory plan.moment sent in
+    let queued = reply_queued user plan.sender.now after plan.reply remembered in
+    let replied = reply_put user (lowered plan.sender.now) plan.reply queued in
+    notice_apart user c.notice plan.moment plan.report.notice replied ∙ reply_apart user (lowered plan.sender.now) plan.reply queued ∙ queued_apart user plan.sender.now after plan.reply remembered
+    ∙ fold_beside account_tree (λ rows handle. moment_put user handle plan.memory.message plan.moment rows) (λ rows handle. refl) plan.memory.handles forgot
+    ∙ fold_beside account_tree (λ rows key. reply_removed user key.handle key.sender rows) (λ rows key. refl) plan.memory.forgotten sent
+    ∙ turn_beside account_tree (λ n target. redirect_added user plan.sender.now plan.message.now (pos n) target) (λ n target own. refl) plan.report.sent c.out filed
+    ∙ turn_beside account_tree (λ n copy. copy_added user copy.mailbox (pos n) (pos c.copy) copy.flags) (λ n copy own. refl) plan.filed c.copy kept ∙ message_apart user plan.message.now plan.filed c.copy up
 
 -- after a read that kept the tables, the changes of a delivery store its message once
 pub stores_once : {X E Y : Type 0} (a b d : State) (r : Result X E) (x : X) → r ≡ Ok x → KeepsTables a b r → (user : List ℕ) (c : Counters) (plan : Plan) (ds : List Change) → AreDelivery user c plan ds → Survives b d (CrashLeavesTables ds b)
