@@ -48,10 +48,14 @@ abbrev pub EndsFront : List Parcel → ℕ → Type 0
 EndsFront parcels n =
     (n ≡ length parcels) ⊎ ((p : Parcel) × (slice_get parcels n ≡ Some p) × Contains (parcel_users (take n parcels)) p.user.now)
 
--- the first of the parcels are told these answers together: none comes behind one for the same user at which mail was sent
+-- none of these comes behind one for the same user at which mail was sent
+abbrev pub AreApart : List Parcel → List Answer → Type 0
+AreApart parcels told = AllPairs (λ one later. SendsMail one.1 → later.0.user.now ≢ one.0.user.now) (zip parcels told)
+
+-- the first of the parcels are told these answers together
 pub record IsFront (parcels : List Parcel) (told : List Answer) : Type 0 where
   pub within : length told ≤ length parcels
-  pub apart : AllPairs (λ one later. SendsMail one.1 → later.0.user.now ≢ one.0.user.now) (zip parcels told)
+  pub apart : AreApart parcels told
   pub ends : EndsFront parcels (length told)
 
 -- what a delivery at this moment forgets, of the moments that the user's account keeps: some are over
@@ -196,11 +200,11 @@ AreDecided terms (p ∷ parcels) (d ∷ decisions) accounts = IsDecided terms p 
 AreDecided terms [] (d ∷ decisions) accounts = ⊥
 AreDecided terms (p ∷ parcels) [] accounts = ⊥
 
--- the first of the parcels were decided: none behind the last one for its user, and all up to one for whose user there was the last one
+-- the first of the parcels were decided, up to one for whose user there was the last one
 pub record AreOfFront (parcels : List Parcel) (decisions : List Decision) : Type 0 where
   pub within : length decisions ≤ length parcels
   pub whose : AllZip IsFor (take (length decisions) parcels) decisions
-  pub apart : AllPairs (λ one later. IsLastFor later.0.user.now one.1 → ⊥) (zip parcels decisions)
+  pub apart : AreApart parcels (map answer_to decisions)
   pub ends : (length decisions ≡ length parcels) ⊎ ((p : Parcel) × (slice_get parcels (length decisions) ≡ Some p) × Any (IsLastFor p.user.now) decisions)
 
 -- what is decided by reads in order, maybe none: this holds of it and of whatever accounts the store showed; a plan is made only over a connection that

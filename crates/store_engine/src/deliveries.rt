@@ -1,5 +1,5 @@
 //! The delivery of messages together.
-ghost use Rattle.std.specs.Prelude.{◌≡◌, ◌≢◌, ◌≤◌, ◌↔◌, [], None, length, map, Any, IfOk, IfErr, IsTrue, option_copied, vec_capacity};
+ghost use Rattle.std.specs.Prelude.{◌≡◌, ◌≢◌, ◌≤◌, ◌⊎◌, ◌↔◌, [], None, length, map, Any, IfOk, IfErr, IsTrue, option_copied, vec_capacity};
 ghost use Rattle.std.specs.List.{AllZip};
 ghost use Rattle.sqlite.specs.Held.{state};
 ghost use Rattle.sqlite.specs.State.{HasCleanDisk};
@@ -175,6 +175,15 @@ fn sends_mail(report: &Report) -> bool
     !report.sent.is_empty() || report.vacation == VacationReport::Sent
 }
 
+/// A plan, the last one for its user if mail is sent by it, or if something is over in the account.
+fn made_with(plan: Plan<'_>, has_over: bool) -> ParcelPlan<'_>
+    ensures plan { result.plan ≡ plan.entry }
+    ensures last { IsTrue result.is_last ↔ SendsMail (Answer.Delivered plan.entry.report) ⊎ IsTrue has_over }
+{
+    let is_last = has_over || sends_mail(&plan.report);
+    ParcelPlan { plan, is_last }
+}
+
 /// The plan for a parcel to the user's open account, of which this was found.
 fn plan_parcel<'a, S: Alter>(
     alloc: Global,
@@ -191,9 +200,8 @@ fn plan_parcel<'a, S: Alter>(
     ensures sent { IfOk result IsLastIfSent }
 {
     let Some(mail) = mail else {
-        let plan = plan_unread(alloc, parcel.message, &parcel.envelope, terms.when)?;
-        let is_last = sends_mail(&plan.report);
-        return Ok(ParcelPlan { plan, is_last });
+        let unread = plan_unread(alloc, parcel.message, &parcel.envelope, terms.when)?;
+        return Ok(made_with(unread, false));
     };
     let own = deciding(&found.text, terms.host);
     let settlement = settle(alloc, kept, &terms.host.scripts, own, mail)?;
@@ -207,8 +215,7 @@ fn plan_parcel<'a, S: Alter>(
     )?;
     let has_over = !view.over.is_empty();
     let plan = plan(alloc, view, mail, settlement)?;
-    let is_last = has_over || sends_mail(&plan.report);
-    Ok(ParcelPlan { plan, is_last })
+    Ok(made_with(plan, has_over))
 }
 
 /// The plans that were made, in order.
