@@ -10,7 +10,7 @@ use Rattle.sqlite.specs.State.{State, HasCleanDisk}
 use Rattle.store_accounts.specs.Account.{Accounts}
 use Rattle.store_accounts.specs.declared.refusal.Refusal.{Refusal}
 use Rattle.managesieve_sessions.specs.Acts.{HasAccounts}
-use Rattle.store_engine.specs.Deliveries.{parcel_users, IsFront, Deliveries, DeliversFront, ActsDeliveries, delivery_events}
+use Rattle.store_engine.specs.Deliveries.{parcel_users, IsFrontTold, Deliveries, DeliversFront, ActsDeliveries, delivery_events}
 use Rattle.store_engine.specs.World.{World, Next, Runs}
 use Rattle.store_engine.specs.Limits.{limit_refusal}
 use Rattle.store_engine.specs.declared.answer.Answer.{Answer}
@@ -57,7 +57,7 @@ parcel_there (other ∷ more) (p ∷ parcels) zero it are is = (p, refl, subst (
 parcel_there (other ∷ more) (p ∷ parcels) (suc n) it are is = parcel_there more parcels n it are.1 is
 
 -- the first of them, as the store tells them
-pub first_told : (requests : List GatheredRequest) (parcels : List Parcel) (told : List Answer) → AreParcels requests parcels → IsFront parcels told → AreFirstTold requests told
+pub first_told : (requests : List GatheredRequest) (parcels : List Parcel) (told : List Answer) → AreParcels requests parcels → IsFrontTold parcels told → AreFirstTold requests told
 first_told requests parcels told are front = record {
   within = omega (arith, same_length requests parcels are, front.within);
   waits = waits (slice_get requests n) refl;
@@ -154,7 +154,7 @@ module _ (terms : Terms) (requests : List GatheredRequest) (parcels : List Parce
       sym (map-append (λ (it : GatheredRequest). delivery_of it.request terms) (take n requests) (drop n requests)) ∙ ap (deliveries_of terms) (take-append-drop n requests) in
       (told ++ rest.0, subst (λ es. Runs w es (told ++ rest.0) end) whole (runs_then (deliveries_of terms (take n requests)) (deliveries_of terms (drop n requests)) told rest.0 w end end run rest.1))
 
-  pub delivered_together : (v : Vec Answer Global) → ActsDeliveries terms parcels old new (Ok v) → IsFront parcels v.items → StoreDelivers terms requests (Ok v.items) old new
+  pub delivered_together : (v : Vec Answer Global) → ActsDeliveries terms parcels old new (Ok v) → IsFrontTold parcels v.items → StoreDelivers terms requests (Ok v.items) old new
   delivered_together v acts front = (first, λ clean w shown. by old.is_open refl clean w shown)
     where
       first : AreFirstTold requests v.items

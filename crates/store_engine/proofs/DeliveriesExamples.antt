@@ -10,7 +10,7 @@ use Rattle.store_engine.specs.declared.answer.Answer.TheVariants.{Delivered, Ref
 use Rattle.store_engine.specs.declared.event.Event.TheVariants.{Deliver}
 use Rattle.store_engine.specs.declared.parcel.Parcel.{Parcel}
 use Rattle.store_engine.specs.AccountEvents.{absence, DeliversIn, Delivery}
-use Rattle.store_engine.specs.Deliveries.{AreApart, IsFront, SendsMail, HasOver, Deliveries, DeliversFront, delivery_events}
+use Rattle.store_engine.specs.Deliveries.{AreToldApart, IsFrontTold, SendsMail, HasOver, Deliveries, DeliversFront, delivery_events}
 use Rattle.store_engine.proofs.EventExamples.{alice, bob, envelope, message, at_five}
 
 abbrev lent : List ℕ → Bor (List ℕ)
@@ -48,50 +48,50 @@ alice_differs : alice ≢ bob
 alice_differs same = let no : 5 ≡ 3 = ap (λ (l : List ℕ). length l) same in omega (arith, no)
 
 -- three messages, two of them for alice, are filed together
-filed_together : IsFront (for_alice ∷ for_alice ∷ for_bob ∷ []) (filed ∷ filed ∷ filed ∷ [])
+filed_together : IsFrontTold (for_alice ∷ for_alice ∷ for_bob ∷ []) (filed ∷ filed ∷ filed ∷ [])
 filed_together = record { within = omega arith; apart = quiet; ends = inl refl }
   where
-    quiet : AreApart (for_alice ∷ for_alice ∷ for_bob ∷ []) (filed ∷ filed ∷ filed ∷ [])
+    quiet : AreToldApart (for_alice ∷ for_alice ∷ for_bob ∷ []) (filed ∷ filed ∷ filed ∷ [])
     quiet zero j d before less sends = absurd (filed_quiet sends)
     quiet (suc zero) j d before less sends = absurd (filed_quiet sends)
     quiet (suc (suc i)) j d before less sends = absurd (omega (arith, before, less))
 
 -- a reply to the first of two for alice: the front ends before the second one
-before_the_second : IsFront (for_alice ∷ for_alice ∷ []) (replied ∷ [])
+before_the_second : IsFrontTold (for_alice ∷ for_alice ∷ []) (replied ∷ [])
 before_the_second = record { within = omega arith; apart = λ i j d before less. absurd (omega (arith, before, less)); ends = inr (for_alice, refl, (0, omega arith, refl)) }
 
 -- near miss: two messages of one sender, and the second goes with the first, to which there was a reply
-second_goes_too : (answer : Answer) → IsFront (for_alice ∷ for_alice ∷ []) (replied ∷ answer ∷ []) → ⊥
+second_goes_too : (answer : Answer) → IsFrontTold (for_alice ∷ for_alice ∷ []) (replied ∷ answer ∷ []) → ⊥
 second_goes_too answer is = is.apart 0 1 (for_alice, replied) (omega arith) (omega arith) (inr refl) refl
 
 -- the same of a message that goes on
-second_behind_a_redirect : (answer : Answer) → IsFront (for_alice ∷ for_alice ∷ []) (sent_on ∷ answer ∷ []) → ⊥
+second_behind_a_redirect : (answer : Answer) → IsFrontTold (for_alice ∷ for_alice ∷ []) (sent_on ∷ answer ∷ []) → ⊥
 second_behind_a_redirect answer is = is.apart 0 1 (for_alice, sent_on) (omega arith) (omega arith) (inl (λ none. let never = none in cc)) refl
 
 -- bob's goes with a reply to alice's
-bobs_goes_too : IsFront (for_alice ∷ for_bob ∷ []) (replied ∷ filed ∷ [])
+bobs_goes_too : IsFrontTold (for_alice ∷ for_bob ∷ []) (replied ∷ filed ∷ [])
 bobs_goes_too = record { within = omega arith; apart = others; ends = inl refl }
   where
-    others : AreApart (for_alice ∷ for_bob ∷ []) (replied ∷ filed ∷ [])
+    others : AreToldApart (for_alice ∷ for_bob ∷ []) (replied ∷ filed ∷ [])
     others zero zero d before less sends = absurd (omega (arith, before))
     others zero (suc zero) d before less sends = λ same. alice_differs (sym same)
     others zero (suc (suc j)) d before less sends = absurd (omega (arith, less))
     others (suc i) j d before less sends = absurd (omega (arith, before, less))
 
 -- the first is filed, there is a reply to the second: the front has these two
-before_the_third : IsFront (for_alice ∷ for_alice ∷ for_alice ∷ []) (filed ∷ replied ∷ [])
+before_the_third : IsFrontTold (for_alice ∷ for_alice ∷ for_alice ∷ []) (filed ∷ replied ∷ [])
 before_the_third = record { within = omega arith; apart = quiet; ends = inr (for_alice, refl, (0, omega arith, refl)) }
   where
-    quiet : AreApart (for_alice ∷ for_alice ∷ for_alice ∷ []) (filed ∷ replied ∷ [])
+    quiet : AreToldApart (for_alice ∷ for_alice ∷ for_alice ∷ []) (filed ∷ replied ∷ [])
     quiet zero j d before less sends = absurd (filed_quiet sends)
     quiet (suc i) j d before less sends = absurd (omega (arith, before, less))
 
 -- near miss: the third goes too
-third_goes_too : (answer : Answer) → IsFront (for_alice ∷ for_alice ∷ for_alice ∷ []) (filed ∷ replied ∷ answer ∷ []) → ⊥
+third_goes_too : (answer : Answer) → IsFrontTold (for_alice ∷ for_alice ∷ for_alice ∷ []) (filed ∷ replied ∷ answer ∷ []) → ⊥
 third_goes_too answer is = is.apart 1 2 (for_alice, replied) (omega arith) (omega arith) (inr refl) refl
 
 -- near miss: one for another user is left
-one_is_left : IsFront (for_alice ∷ for_bob ∷ []) (filed ∷ []) → ⊥
+one_is_left : IsFrontTold (for_alice ∷ for_bob ∷ []) (filed ∷ []) → ⊥
 one_is_left is = elim is.ends [ inl all ↦ omega (arith, all) | inr more ↦ go more.0 more.1 more.2.0 more.2.1 more.2.2 ]
   where
     go : (p : Parcel) → slice_get (for_alice ∷ for_bob ∷ []) 1 ≡ Some p → (k : ℕ) → k < 1 → get_or (alice ∷ []) k p.user.now ≡ p.user.now → ⊥

@@ -39,7 +39,7 @@ use Rattle.store_engine.specs.declared.deliveries.ParcelPlan.{ParcelPlan}
 use Rattle.store_engine.specs.declared.parcel.Parcel.{Parcel}
 use Rattle.store_engine.specs.declared.terms.Terms.{Terms}
 use Rattle.store_engine.specs.AccountEvents.{absence, DeliversIn, DeliversTo, DeliversUnder, Delivery}
-use Rattle.store_engine.specs.Deliveries.{parcel_users, AreApart, IsFront, EndsFront, SendsMail, HasOver, HasToWait, Deliveries, DeliversFront, TurnsDeliveries, MayTurnDeliveries, ActsDeliveries, AreSpacedDeliveries, IsDelivered, answers_in, delivery_events, IsRefusedFor, DiffersInMail, IsPlanOf, IsPlannedFor, IsDecided, IsFor, IsLastFor, AreDecided, AreOfFront, DecidesByReads, DecidesOne, DecidesFront, done, plan_made, plans_made, answer_to}
+use Rattle.store_engine.specs.Deliveries.{parcel_users, AreToldApart, IsFrontTold, EndsFront, SendsMail, HasOver, HasToWait, Deliveries, DeliversFront, TurnsDeliveries, MayTurnDeliveries, ActsDeliveries, AreSpacedDeliveries, IsDelivered, answers_in, delivery_events, IsRefusedFor, DiffersInMail, IsPlanOf, IsPlannedFor, IsDecided, IsFor, IsLastFor, AreDecided, AreOfFront, DecidesByReads, DecidesOne, DecidesFront, done, plan_made, plans_made, answer_to}
 use Rattle.store_engine.specs.Limits.{limit_refusal}
 use Rattle.store_engine.specs.Lookups.{LooksUp, IsLookup}
 use Rattle.store_engine.specs.OwnActs.{is_user}
@@ -99,7 +99,7 @@ any_more P (y ∷ xs) (suc i) x within is none new (suc k, z, less, same, holds)
 pub any_at : {X : Type 0} (P : X → Type 0) (xs : List X) (i : ℕ) (x : X) → i < length xs → x ≡ get_or xs i x → P x → Any P xs
 any_at P xs i x within is holds = (i, x, within, sym is, holds)
 
-pub apart_none : (parcels : List Parcel) → AreApart parcels []
+pub apart_none : (parcels : List Parcel) → AreToldApart parcels []
 apart_none [] i j d before less = absurd (omega (arith, less))
 apart_none (p ∷ parcels) i j d before less = absurd (omega (arith, less))
 
@@ -111,7 +111,7 @@ whose_more (q ∷ parcels) (e ∷ decisions) p d within is whose one = (whose.0,
 
 -- one more decision stands apart from those before
 pub apart_more : (parcels : List Parcel) (decisions : List Decision) (p : Parcel) (d : Decision) → length decisions < length parcels → p ≡ get_or parcels (length decisions) p → AllZip IsFor (take (length decisions) parcels) decisions
-    → (Any (IsLastFor p.user.now) decisions → ⊥) → AreApart parcels (map answer_to decisions) → AreApart parcels (map answer_to (decisions ++ d ∷ []))
+    → (Any (IsLastFor p.user.now) decisions → ⊥) → AreToldApart parcels (map answer_to decisions) → AreToldApart parcels (map answer_to (decisions ++ d ∷ []))
 apart_more parcels decisions p d less is whose none apart =
     let told = map answer_to decisions in
     let long : length told ≡ length decisions = length-map decisions answer_to in
@@ -120,7 +120,7 @@ apart_more parcels decisions p d less is whose none apart =
     subst (AllPairs (λ one later. SendsMail one.1 → later.0.user.now ≢ one.0.user.now)) (sym next)
     (all_pairs_push (λ one later. SendsMail one.1 → later.0.user.now ≢ one.0.user.now) (zip parcels told) (p, answer_to d) apart (λ k x within sends. none_sent p.user.now parcels decisions whose none k x within sends))
 
-pub told_front : (parcels : List Parcel) (decisions : List Decision) → AreOfFront parcels decisions → IsFront parcels (map answer_to decisions)
+pub told_front : (parcels : List Parcel) (decisions : List Decision) → AreOfFront parcels decisions → IsFrontTold parcels (map answer_to decisions)
 told_front parcels decisions front =
     let long : length (map answer_to decisions) ≡ length decisions = length-map decisions answer_to in
     record {
@@ -130,7 +130,7 @@ told_front parcels decisions front =
     }
 
 -- where no user stands twice all of them are in the front
-pub front_is_all : (parcels : List Parcel) (told : List Answer) → AllPairs (λ one later. one ≢ later) (parcel_users parcels) → IsFront parcels told → length told ≡ length parcels
+pub front_is_all : (parcels : List Parcel) (told : List Answer) → AllPairs (λ one later. one ≢ later) (parcel_users parcels) → IsFrontTold parcels told → length told ≡ length parcels
 front_is_all parcels told once front =
     elim front.ends [ inl all ↦ all | inr more ↦ absurd (twice parcels (length told) more.0 once more.1 more.2) ]
   where
@@ -158,7 +158,7 @@ front_is_all parcels told once front =
         once k n p.user.now one.0 two.0 (sym one.1 ∙ same ∙ sym (two.1 p.user.now))
 
 -- at least one is told where there is a parcel
-pub front_some : (parcels : List Parcel) → IsFront parcels [] → parcels ≡ []
+pub front_some : (parcels : List Parcel) → IsFrontTold parcels [] → parcels ≡ []
 front_some [] front = refl
 front_some (p ∷ parcels) front = elim front.ends [ inl all ↦ absurd (omega (arith, all)) | inr more ↦ absurd (omega (arith, more.2.1)) ]
 
@@ -677,8 +677,8 @@ module _ (terms : Terms) (parcels : List Parcel) where
       pub together_settled : (y : Unit {0}) → w ≡ Ok y → (v : Vec Answer Global) → v.items ≡ map answer_to decided.items → HasCleanDisk c → Any IsDelivered v.items → IsSettled c
       together_settled y was v is clean made = on_ok w y was (IsSettled c) ((writes (delivered_planned decided.items (subst (Any IsDelivered) is made))).settled clean)
 
-    pub together_front : (v : Vec Answer Global) → v.items ≡ map answer_to decided.items → IsFront parcels v.items
-    together_front v is = subst (IsFront parcels) (sym is) (told_front parcels decided.items front)
+    pub together_front : (v : Vec Answer Global) → v.items ≡ map answer_to decided.items → IsFrontTold parcels v.items
+    together_front v is = subst (IsFrontTold parcels) (sym is) (told_front parcels decided.items front)
 
 -- ---- as a run of the machine
 

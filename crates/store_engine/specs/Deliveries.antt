@@ -49,13 +49,13 @@ EndsFront parcels n =
     (n ≡ length parcels) ⊎ ((p : Parcel) × (slice_get parcels n ≡ Some p) × Contains (parcel_users (take n parcels)) p.user.now)
 
 -- none of these comes behind one for the same user at which mail was sent
-abbrev pub AreApart : List Parcel → List Answer → Type 0
-AreApart parcels told = AllPairs (λ one later. SendsMail one.1 → later.0.user.now ≢ one.0.user.now) (zip parcels told)
+abbrev pub AreToldApart : List Parcel → List Answer → Type 0
+AreToldApart parcels told = AllPairs (λ one later. SendsMail one.1 → later.0.user.now ≢ one.0.user.now) (zip parcels told)
 
 -- the first of the parcels are told these answers together
-pub record IsFront (parcels : List Parcel) (told : List Answer) : Type 0 where
+pub record IsFrontTold (parcels : List Parcel) (told : List Answer) : Type 0 where
   pub within : length told ≤ length parcels
-  pub apart : AreApart parcels told
+  pub apart : AreToldApart parcels told
   pub ends : EndsFront parcels (length told)
 
 -- what a delivery at this moment forgets, of the moments that the user's account keeps: some are over
@@ -80,7 +80,7 @@ Deliveries terms (p ∷ parcels) [] accounts later = ⊥
 
 -- a front of the parcels is delivered, each with its own answer; it ends before one that has to wait, or with the last parcel
 pub record DeliversFront (terms : Terms) (parcels : List Parcel) (told : List Answer) (accounts later : Accounts) : Type 0 where
-  pub front : IsFront parcels told
+  pub front : IsFrontTold parcels told
   pub waits : IfSome (slice_get parcels (length told)) (λ p. HasToWait terms.when.moment p.user.now parcels told accounts)
   pub delivered : Deliveries terms (take (length told) parcels) told accounts later
 
@@ -204,7 +204,7 @@ AreDecided terms (p ∷ parcels) [] accounts = ⊥
 pub record AreOfFront (parcels : List Parcel) (decisions : List Decision) : Type 0 where
   pub within : length decisions ≤ length parcels
   pub whose : AllZip IsFor (take (length decisions) parcels) decisions
-  pub apart : AreApart parcels (map answer_to decisions)
+  pub apart : AreToldApart parcels (map answer_to decisions)
   pub ends : (length decisions ≡ length parcels) ⊎ ((p : Parcel) × (slice_get parcels (length decisions) ≡ Some p) × Any (IsLastFor p.user.now) decisions)
 
 -- what is decided by reads in order, maybe none: this holds of it and of whatever accounts the store showed; a plan is made only over a connection that

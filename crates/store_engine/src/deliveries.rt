@@ -6,7 +6,7 @@ ghost use Rattle.sqlite.specs.State.{HasCleanDisk};
 ghost use Rattle.store_accounts.specs.Connection.{IsSettled};
 ghost use Rattle.store_accounts.specs.Deliveries.{plans_in, WritesDeliveries};
 ghost use Rattle.store_accounts.specs.Refusals.{IsTransient};
-ghost use Rattle.store_engine.specs.Deliveries.{IsFront, SendsMail, ActsDeliveries, AreSpacedDeliveries, IsDelivered, HasHeader, IsFor, IsLastFor, IsLastIfSent, IsOpened, IsPlanOf, AreOfFront, DecidesOne, DecidesFront, plans_made, answer_to};
+ghost use Rattle.store_engine.specs.Deliveries.{IsFrontTold, SendsMail, ActsDeliveries, AreSpacedDeliveries, IsDelivered, HasHeader, IsFor, IsLastFor, IsLastIfSent, IsOpened, IsPlanOf, AreOfFront, DecidesOne, DecidesFront, plans_made, answer_to};
 ghost use Rattle.store_engine.specs.Limits.{limit_refusal};
 ghost use Rattle.store_engine.specs.Lookups.{IsLookup, Recalls};
 ghost use Rattle.store_engine.specs.Terms.{terms_of};
@@ -63,7 +63,7 @@ pub fn deliver_all<S: Alter>(
     parcels: &[Parcel<'_>],
     terms: LentTerms<'_>,
 ) -> Result<Vec<Answer>, Refusal>
-    ensures front { IfOk result (λ told. IsFront parcels.now told.items) }
+    ensures front { IfOk result (λ told. IsFrontTold parcels.now told.items) }
     ensures acts { ActsDeliveries (terms_of terms.entry) parcels.now (state S.Store store.old) (state S.Store store.new) result }
     ensures settled { HasCleanDisk (state S.Store store.new) → IfOk result (λ told. Any IsDelivered told.items → IsSettled (state S.Store store.new)) }
     ensures spaced { IfOk result (λ told. AreSpacedDeliveries (terms_of terms.entry) parcels.now told.items (state S.Store store.old) (state S.Store store.new)) }
@@ -200,8 +200,13 @@ fn plan_parcel<'a, S: Alter>(
     ensures sent { IfOk result IsLastIfSent }
 {
     let Some(mail) = mail else {
+<<<<<<< HEAD
         let plan = plan_unread(alloc, parcel.message, &parcel.envelope, terms.when)?;
         return Ok(made_with(plan, false));
+=======
+        let unread = plan_unread(alloc, parcel.message, &parcel.envelope, terms.when)?;
+        return Ok(made_with(unread, false));
+>>>>>>> 4e570c744498f31d263d9cf4c99a3b3983696dd3
     };
     let own = deciding(&found.text, terms.host);
     let settlement = settle(alloc, kept, &terms.host.scripts, own, mail)?;

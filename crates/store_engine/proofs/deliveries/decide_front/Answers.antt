@@ -8,7 +8,7 @@ use Rattle.sqlite.specs.Held.{state}
 use Rattle.store_accounts.specs.Refusals.{IsTransient}
 use Rattle.store_accounts.proofs.DeliveriesLemmas.{zip_length}
 use Rattle.store_engine.specs.declared.deliveries.Decision.{Decision}
-use Rattle.store_engine.specs.Deliveries.{AreApart, IsFor, IsLastFor, IsOpened, answer_to}
+use Rattle.store_engine.specs.Deliveries.{AreToldApart, IsFor, IsLastFor, IsOpened, answer_to}
 use Rattle.store_engine.specs.Terms.{terms_of}
 use Rattle.store_engine.proofs.DeliveriesLemmas.{apart_more, apart_none, front_none, front_more, front_undecided, whose_more, zip_at}
 use Rattle.store_engine.proofs.deliveries.decide_front.Goals as goal
@@ -18,7 +18,7 @@ loop-i-init g c = record {
   decided = front_none (terms_of c.args.terms) c.args.parcels.now (state g.S.Store c.args.store.now) c.new-decisions.result c.new-decisions.ensures.items;
   count = ap length c.new-decisions.ensures.items;
   whose = subst (λ (l : List Decision). AllZip IsFor (take (length l) c.args.parcels.now) l) (sym c.new-decisions.ensures.items) tt;
-  apart = subst (λ (l : List Decision). AreApart c.args.parcels.now (map answer_to l)) (sym c.new-decisions.ensures.items) (apart_none c.args.parcels.now);
+  apart = subst (λ (l : List Decision). AreToldApart c.args.parcels.now (map answer_to l)) (sym c.new-decisions.ensures.items) (apart_none c.args.parcels.now);
 }
 
 pub bounds-opened-i : goal.bounds-opened-i
@@ -78,7 +78,7 @@ loop-i-preserved g c =
           c.loop-i.decisions c.loop-i.invariant.decided c.decide.result c.decide.ensures.decides within is c.loop-i.invariant.whose none d c.in_ok-decide.was c.push.new.self joined;
       count = ap length joined ∙ length_push decisions d ∙ ap (λ n. n + 1) there;
       whose = subst (λ (l : List Decision). AllZip IsFor (take (length l) parcels) l) (sym joined) (whose_more parcels decisions p d within is c.loop-i.invariant.whose c.in_ok-decide.ensures.whose);
-      apart = subst (λ (l : List Decision). AreApart parcels (map answer_to l)) (sym joined) (apart_more parcels decisions p d within is c.loop-i.invariant.whose none c.loop-i.invariant.apart);
+      apart = subst (λ (l : List Decision). AreToldApart parcels (map answer_to l)) (sym joined) (apart_more parcels decisions p d within is c.loop-i.invariant.whose none c.loop-i.invariant.apart);
     }
 
 pub returns-clause-front : goal.returns-clause-front
