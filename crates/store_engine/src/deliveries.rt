@@ -200,13 +200,8 @@ fn plan_parcel<'a, S: Alter>(
     ensures sent { IfOk result IsLastIfSent }
 {
     let Some(mail) = mail else {
-<<<<<<< HEAD
-        let plan = plan_unread(alloc, parcel.message, &parcel.envelope, terms.when)?;
-        return Ok(made_with(plan, false));
-=======
         let unread = plan_unread(alloc, parcel.message, &parcel.envelope, terms.when)?;
         return Ok(made_with(unread, false));
->>>>>>> 4e570c744498f31d263d9cf4c99a3b3983696dd3
     };
     let own = deciding(&found.text, terms.host);
     let settlement = settle(alloc, kept, &terms.host.scripts, own, mail)?;
