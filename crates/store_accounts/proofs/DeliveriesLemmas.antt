@@ -1,5 +1,5 @@
 -- Deliveries to users: their counters, their row changes one after the other, and what these make of the tables.
-use Rattle.std.proofs.Common.{◌≡◌, ◌≢◌, ◌≤◌, ◌<◌, ◌⊎◌, ℕ, zero, suc, ◌+◌, ℤ, pos, Bool, true, false, cond, List, [], ◌∷◌, ◌++◌, if◌then◌else◌, map, filter, fold, length, take, get_or, slice_get, option_map, Option, Some, None, IsSome, IsTrue, Ok, Err, Result, OnOk, OnErr, IfOk, IfErr, append-nil, refl, sym, ap, ◌∙◌, subst, inl, inr, arith}
+use Rattle.std.proofs.Common.{◌≡◌, ◌≢◌, ◌≤◌, ◌<◌, ◌⊎◌, ℕ, zero, suc, ◌+◌, ℤ, pos, Bool, true, false, cond, List, [], ◌∷◌, ◌++◌, map, filter, fold, length, take, get_or, slice_get, option_map, Option, Some, None, IsSome, IsTrue, Ok, Err, Result, OnOk, OnErr, IfOk, IfErr, append-nil, refl, sym, ap, ◌∙◌, subst, inl, inr, arith}
 use Rattle.std.specs.Prelude.{All, Any}
 use Rattle.std.specs.List.{AllZip}
 use Rattle.std.specs.Borrow.{Bor}
@@ -37,7 +37,7 @@ use Rattle.store_accounts.specs.Shows.{rows_of, Presents, ShowsAccounts}
 use Rattle.store_accounts.proofs.AfterLemmas.{seen_before, seen_failed, seen_none, seen_ok, seen_read, seen_then}
 use Rattle.store_accounts.proofs.DeliveryLemmas.{delivered_counters, delivered_once, delivery_shows}
 use Rattle.store_accounts.proofs.KeepLemmas.{account_absent, none_if, transient_named, transient_other}
-use Rattle.store_accounts.proofs.ShowLemmas.{others_all}
+use Rattle.store_accounts.proofs.ShowLemmas.{others_all, own_all}
 use Rattle.store_accounts.proofs.StandingLemmas.{free_shut}
 
 -- ---- lists
@@ -121,16 +121,16 @@ each_once (d ∷ plans) [] changes are tables = absurd are
 -- ---- the counters behind a delivery
 
 -- those that are set are the row's
-counters_put : (mine : Row → Bool) (copy out notice : ℤ) (c : Counters) → ((r : Row) → mine (with_counters copy out notice r) ≡ mine r) → (rows : List Row) → HasCounters (filter mine rows) c
-    → option_map shown_counters (slice_get (filter mine (update_where mine (with_counters copy out notice) rows)) 0) ≡ Some (Int copy ∷ Int out ∷ Int notice ∷ [])
-counters_put mine copy out notice c keeps [] has = absurd (let no = has in cc)
-counters_put mine copy out notice c keeps (r ∷ rows) has = go (mine r) refl has (λ counted. counters_put mine copy out notice c keeps rows counted)
+counters_put : (mine : Row → Bool) (copy out notice : ℤ) (c : Counters) (rows : List Row) → HasCounters (filter mine rows) c
+    → option_map shown_counters (slice_get (update_where mine (with_counters copy out notice) (filter mine rows)) 0) ≡ Some (Int copy ∷ Int out ∷ Int notice ∷ [])
+counters_put mine copy out notice c [] has = absurd (let no = has in cc)
+counters_put mine copy out notice c (r ∷ rows) has = go (mine r) refl has (λ counted. counters_put mine copy out notice c rows counted)
   where
     go : (b : Bool) → mine r ≡ b → HasCounters (cond b (r ∷ filter mine rows) (filter mine rows)) c
-        → (HasCounters (filter mine rows) c → option_map shown_counters (slice_get (filter mine (update_where mine (with_counters copy out notice) rows)) 0) ≡ Some (Int copy ∷ Int out ∷ Int notice ∷ []))
-        → option_map shown_counters (slice_get (filter mine ((if mine r then with_counters copy out notice r else r) ∷ update_where mine (with_counters copy out notice) rows)) 0) ≡ Some (Int copy ∷ Int out ∷ Int notice ∷ [])
-    go true is counted rest = simp (is, keeps r) refl
-    go false is counted rest = simp is (rest counted)
+        → (HasCounters (filter mine rows) c → option_map shown_counters (slice_get (update_where mine (with_counters copy out notice) (filter mine rows)) 0) ≡ Some (Int copy ∷ Int out ∷ Int notice ∷ []))
+        → option_map shown_counters (slice_get (update_where mine (with_counters copy out notice) (cond b (r ∷ filter mine rows) (filter mine rows))) 0) ≡ Some (Int copy ∷ Int out ∷ Int notice ∷ [])
+    go true is counted rest = ap (λ b. Some (shown_counters (cond b (with_counters copy out notice r) r))) is
+    go false is counted rest = rest counted
 
 module _ (d : UserPlan) (c : Counters) (tables : Tables) where
   abbrev name : Bor (List ℕ)
@@ -142,8 +142,10 @@ module _ (d : UserPlan) (c : Counters) (tables : Tables) where
   -- the user's are raised
   counters_next : HasCounters (rows_of d.user tables account_tree) c → HasCounters (rows_of d.user (delivery_rows d c tables) account_tree) (raised c d.plan)
   counters_next has =
-      subst (λ rows. HasCounters (filter (has_key (Blob d.user ∷ [])) rows) (raised c d.plan)) (sym (delivered_counters d.user c d.plan tables))
-      (counters_put (has_key (Blob d.user ∷ [])) (pos (raised c d.plan).copy) (pos (raised c d.plan).out) (pos (raised c d.plan).notice) c (λ r. refl) (tables account_tree) has)
+      let set : rows_of d.user (delivery_rows d c tables) account_tree ≡ made (rows_of d.user tables) setting account_tree =
+      ap (filter (has_key (Blob d.user ∷ []))) (delivered_counters d.user c d.plan tables) ∙ ap (λ (t : Tables). t account_tree) (own_all d.user setting tables (refl, tt)) in
+      subst (λ rows. HasCounters rows (raised c d.plan)) (sym set)
+      (counters_put (has_key (Blob d.user ∷ [])) (pos (raised c d.plan).copy) (pos (raised c d.plan).out) (pos (raised c d.plan).notice) c (tables account_tree) has)
 
   -- and another user's row stays
   counters_beside : (user : List ℕ) → user ≢ d.user → rows_of user (delivery_rows d c tables) account_tree ≡ rows_of user tables account_tree
