@@ -10,6 +10,7 @@ use Rattle.std.proofs.lemmas.List.{get_or-map, length-map, length_push, map-appe
 use Rattle.std.proofs.lemmas.List.Elements.{All-cons, All-nil, All-weaker, filter_map-append}
 use Rattle.std.proofs.lemmas.List.Quantifiers.{all_pairs_push}
 use Rattle.std.proofs.lemmas.Option.{slice_get_past, slice_get_within}
+use Rattle.std.proofs.lemmas.Slice.Zip.{all_zipped_more}
 use Rattle.sqlite.specs.State.{State, HasCleanDisk}
 use Rattle.sqlite_typed.proofs.TestLemmas.{bytes_eq_refl}
 use Rattle.sieve_plan.specs.Sent.{over_keys}
@@ -88,13 +89,18 @@ none_sent name (p ∷ parcels) (d ∷ decisions) whose none (suc k) x less sends
     none_sent name parcels decisions whose.1 (λ any. none (suc any.0, any.1, omega (arith, any.2), any.3, any.4)) k x (omega (arith, less)) sends
 
 -- one of those so far, or the next
+any_next : {X : Type 0} (P : X → Type 0) (xs : List X) (i : ℕ) (x : X) → i < length xs → x ≡ get_or xs i x → (Any P (take i xs) → ⊥) → (P x → ⊥) → Any P (take (suc i) xs) → ⊥
+any_next P [] i x within is none new any = absurd (omega (arith, within))
+any_next P (y ∷ xs) zero x within is none new (zero, z, less, same, holds) = new (subst P (sym same ∙ sym is) holds)
+any_next P (y ∷ xs) zero x within is none new (suc k, z, less, same, holds) = absurd (omega (arith, less))
+any_next P (y ∷ xs) (suc i) x within is none new (zero, z, less, same, holds) = none (0, z, omega arith, same, holds)
+any_next P (y ∷ xs) (suc i) x within is none new (suc k, z, less, same, holds) =
+    any_next P xs i x (omega (arith, within)) is (λ any. none (suc any.0, any.1, omega (arith, any.2), any.3, any.4)) new (k, z, omega (arith, less), same, holds)
+
 pub any_more : {X : Type 0} (P : X → Type 0) (xs : List X) (i : ℕ) (x : X) → i < length xs → x ≡ get_or xs i x → (Any P (take i xs) → ⊥) → (P x → ⊥) → Any P (take (i + 1) xs) → ⊥
-any_more P [] i x within is none new any = absurd (omega (arith, within))
-any_more P (y ∷ xs) zero x within is none new (zero, z, less, same, holds) = new (subst P (sym same ∙ sym is) holds)
-any_more P (y ∷ xs) zero x within is none new (suc k, z, less, same, holds) = absurd (omega (arith, less))
-any_more P (y ∷ xs) (suc i) x within is none new (zero, z, less, same, holds) = none (0, z, omega arith, same, holds)
-any_more P (y ∷ xs) (suc i) x within is none new (suc k, z, less, same, holds) =
-    any_more P xs i x (omega (arith, within)) is (λ any. none (suc any.0, any.1, omega (arith, any.2), any.3, any.4)) new (k, z, omega (arith, less), same, holds)
+any_more P xs i x within is none new any =
+    let next : i + 1 ≡ suc i = omega arith in
+    any_next P xs i x within is none new (subst (λ n. Any P (take n xs)) next any)
 
 pub any_at : {X : Type 0} (P : X → Type 0) (xs : List X) (i : ℕ) (x : X) → i < length xs → x ≡ get_or xs i x → P x → Any P xs
 any_at P xs i x within is holds = (i, x, within, sym is, holds)
@@ -161,6 +167,10 @@ front_is_all parcels told once front =
 pub front_some : (parcels : List Parcel) → IsFrontTold parcels [] → parcels ≡ []
 front_some [] front = refl
 front_some (p ∷ parcels) front = elim front.ends [ inl all ↦ absurd (omega (arith, all)) | inr more ↦ absurd (omega (arith, more.2.1)) ]
+
+-- pairs, and one more
+pub zip_more : {A B : Type 0} (R : A → B → Type 0) (xs : List A) (ys : List B) (i : ℕ) (x : A) (y : B) → i < length xs → x ≡ get_or xs i x → AllZip R (take i xs) ys → R x y → AllZip R (take (i + 1) xs) (ys ++ y ∷ [])
+zip_more R xs ys i x y within is zip one = subst (λ l. AllZip R l (ys ++ y ∷ [])) (sym (one_more xs i x within is)) (all_zipped_more R (take i xs) ys x y zip one)
 
 -- two of one place
 pub zip_at : {A B : Type 0} (R : A → B → Type 0) (xs : List A) (ys : List B) (i : ℕ) (x : A) (y : B) → AllZip R xs ys → i < length xs → x ≡ get_or xs i x → y ≡ get_or ys i y → R x y
@@ -241,9 +251,6 @@ other_refusal e there (inr transient) = transient
 -- ---- on one parcel
 
 module _ (terms : Terms) (p : Parcel) where
-  abbrev user : List ℕ
-  user = p.user.now
-
   abbrev Part : Decision → Accounts → Type 0
   Part d accounts = IsDecided terms p (get accounts p.user.now) d
 
@@ -404,7 +411,7 @@ module _ (terms : Terms) where
 
       quiet : (b : Bool) → made.is_last ≡ b → name.now ≡ p.user.now → made.is_last ≡ false
       quiet true last own = absurd (none (own, last))
-      quiet false no own = no
+      quiet false more own = more
 
       by : (b : Bool) → is_user p.user.now name.now ≡ b → IsDecided terms p (get later p.user.now) d
       by false other = subst (λ o. IsDecided terms p o d) (sym (changed_other accounts p.user.now name.now (delivers made.plan) other)) is

@@ -45,25 +45,25 @@ over_alike a b moment one = ap (λ (x : Account). over_keys x moment) one
 -- no mail is sent, nothing is remembered, and nothing is forgotten
 quiet_change : (moment : ℕ) (notice : Option (List ℕ)) (mail : MailSpec) (response : Response) (filed : List Placement) (b : Account) → (vacation_report response ≡ V.Sent → ⊥)
     → DiffersInMail b (adds_notice_if_any moment notice (responds mail response (remembers_going mail [] [] (redirects mail [] (files_copies filed mail.octets b)))))
-quiet_change moment None mail Silent filed b no = refl
-quiet_change moment None mail NoRoom filed b no = refl
-quiet_change moment None mail (Quiet reason) filed b no = refl
-quiet_change moment (Some text) mail Silent filed b no = refl
-quiet_change moment (Some text) mail NoRoom filed b no = refl
-quiet_change moment (Some text) mail (Quiet reason) filed b no = refl
-quiet_change moment notice mail (Sent key octets last) filed b no = absurd (no refl)
+quiet_change moment None mail Silent filed b unsent = refl
+quiet_change moment None mail NoRoom filed b unsent = refl
+quiet_change moment None mail (Quiet reason) filed b unsent = refl
+quiet_change moment (Some text) mail Silent filed b unsent = refl
+quiet_change moment (Some text) mail NoRoom filed b unsent = refl
+quiet_change moment (Some text) mail (Quiet reason) filed b unsent = refl
+quiet_change moment notice mail (Sent key octets last) filed b unsent = absurd (unsent refl)
 
 none_left : (targets : List Addr) → (map address_spelling targets ≢ [] → ⊥) → targets ≡ []
-none_left [] no = refl
-none_left (target ∷ targets) no = absurd (no (λ same. let never = same in cc))
+none_left [] none = refl
+none_left (target ∷ targets) none = absurd (none (λ same. let never = same in cc))
 
 quiet_settled : (own : Addr) (moment : ℕ) (mail : MailSpec) (settled : Settled) (b : Account) (report : Report) (b2 : Account) → CarriesOutSettled own moment mail settled b report b2 → (SendsMail (Delivered report) → ⊥)
     → forgotten_unless settled.notice (over_keys b moment) ≡ [] → DiffersInMail b b2
-quiet_settled own moment mail settled b report b2 is no gone =
+quiet_settled own moment mail settled b report b2 is unsent gone =
     let targets = going b mail settled.deeds.sent in
     let done = done_of b mail settled.deeds in
-    let none : targets ≡ [] = none_left targets (λ some. no (inl (subst (λ (r : Report). r.sent ≢ []) (sym is.reported) some))) in
-    let silent : vacation_report is.response ≡ V.Sent → ⊥ = λ sent. no (inr (ap (λ (r : Report). r.vacation) is.reported ∙ sent)) in
+    let none : targets ≡ [] = none_left targets (λ some. unsent (inl (subst (λ (r : Report). r.sent ≢ []) (sym is.reported) some))) in
+    let silent : vacation_report is.response ≡ V.Sent → ⊥ = λ sent. unsent (inr (ap (λ (r : Report). r.vacation) is.reported ∙ sent)) in
     let After = λ (sent : List Addr) (over : List ReplyKey). adds_notice_if_any moment (notice_left settled.notice (held_of b mail settled.deeds)) (responds mail is.response (remembers_going mail sent over (redirects mail sent (files_copies done.filed mail.octets b)))) in
     subst (DiffersInMail b) (sym is.changed)
     (subst (λ (sent : List Addr). DiffersInMail b (After sent (forgotten_unless settled.notice (over_keys b moment)))) (sym none)
@@ -75,15 +75,15 @@ none_forgotten (Some text) keys is = refl
 
 -- of a message with a long header nothing is forgotten
 pub long_forgets : (host : HostScripts) (text : Option (List ℕ)) (mail : MailSpec) (settled : Settled) (keys : List ReplyKey) → has_long_header mail.octets ≡ true → SettlesUnder host text mail settled → forgotten_unless settled.notice keys ≡ []
-long_forgets host text mail settled keys long settles = go (has_long_header mail.octets) long settles
+long_forgets host text mail settled keys long settles = go _ (has_long_header mail.octets) long settles
   where
-    go : {Q : Type 0} (b : Bool) → b ≡ true → MatchBool b (settled ≡ settled_unrun long_text) Q → forgotten_unless settled.notice keys ≡ []
-    go true is told = ap (λ (s : Settled). forgotten_unless s.notice keys) told
-    go false is told = absurd (false≢true is)
+    go : (Q : Type 0) (b : Bool) → b ≡ true → MatchBool b (settled ≡ settled_unrun long_text) Q → forgotten_unless settled.notice keys ≡ []
+    go Q true is told = ap (λ (s : Settled). forgotten_unless s.notice keys) told
+    go Q false is told = absurd (false≢true is)
 
 pub not_both : (b : Bool) → IsTrue (not b) → IsTrue b → ⊥
-not_both true no is = false≢true no
-not_both false no is = false≢true is
+not_both true other is = false≢true other
+not_both false other is = false≢true is
 
 pub was_empty : (b : Bool) → not b ≡ false → IsTrue b
 was_empty true is = refl
@@ -99,15 +99,15 @@ module _ (terms : Terms) (p : Parcel) (made : ParcelPlan) (plan : Plan) (same : 
       → IsPlanOf terms p made a
   made_plan has gone = record {
     delivers_it = λ b one. subst (λ (q : Plan). DeliversTo terms p.envelope p.message.now b q.report (delivers q b)) (sym same) (told b one);
-    keeps = λ no b one. subst (λ (q : Plan). DiffersInMail b (delivers q b)) (sym same)
+    keeps = λ more b one. subst (λ (q : Plan). DiffersInMail b (delivers q b)) (sym same)
         (let is = told b one in
-        quiet_settled is.own terms.when.moment _ is.delivers.settled b plan.report (delivers plan b) is.delivers.delivers (λ sends. false≢true (sym no ∙ last.1 (inl sends))) (gone (not_over no over refl) b one));
+        quiet_settled is.own terms.when.moment _ is.delivers.settled b plan.report (delivers plan b) is.delivers.delivers (λ sends. false≢true (sym more ∙ last.1 (inl sends))) (gone (not_over more over refl) b one));
     lasts = λ yes. elim (last.0 yes) [ inl sends ↦ inl (subst (λ (q : Plan). SendsMail (Delivered q.report)) (sym same) sends) | inr is ↦ inr (has is) ];
   }
     where
       not_over : made.is_last ≡ false → (o : Bool) → over ≡ o → over ≡ false
-      not_over no true is = absurd (false≢true (sym no ∙ last.1 (inr is)))
-      not_over no false is = is
+      not_over more true is = absurd (false≢true (sym more ∙ last.1 (inr is)))
+      not_over more false is = is
 
   pub made_last : SendsMail (Delivered made.plan.report) → made.is_last ≡ true
   made_last sends = last.1 (inl (subst (λ (q : Plan). SendsMail (Delivered q.report)) same sends))

@@ -1,5 +1,5 @@
 use Rattle.std.proofs.Common.{◌≡◌, ◌+◌, [], ◌∷◌, ◌++◌, take, sym, subst, rules}
-use Rattle.store_accounts.proofs.DeliveriesLemmas.{zip_more}
+use Rattle.store_engine.proofs.DeliveriesLemmas.{zip_more}
 use Rattle.daemon_core.specs.Together.{IsParcel, AreParcels}
 use Rattle.daemon_core.proofs.store_deliveries.parcels_of.Goals as goal
 

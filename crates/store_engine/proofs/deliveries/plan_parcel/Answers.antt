@@ -28,8 +28,8 @@ use Rattle.store_engine.proofs.deliveries.plan_parcel.Goals as goal
 pub plan_unread-requires : goal.plan_unread-requires
 plan_unread-requires g c = subst (λ o. HasHeader c.args.terms.when c.args.parcel.now (option_copied o)) c.in_default.is c.requires.header
 
-pub returns-in_err-plan_unread-clause-plans : goal.returns-in_err-plan_unread-clause-plans
-returns-in_err-plan_unread-clause-plans g c =
+pub returns-in_err-unread-clause-plans : goal.returns-in_err-unread-clause-plans
+returns-in_err-unread-clause-plans g c =
     let p = c.args.parcel.now in
     let none : OnOk c.from_residual.result ⊥ = search rules in
     let transient : IfErr c.from_residual.result IsTransient = search rules in
@@ -41,9 +41,9 @@ returns-in_default-clause-plans g c =
     let found = c.args.found in
     let terms = terms_of c.args.terms in
     let host = c.args.terms.host.now in
-    let plan = c.in_ok-plan_unread.plan in
+    let plan = c.in_ok-unread.unread in
     let mail = mail_spec_of p.message.now p.envelope c.args.terms.when in
-    let long : has_long_header p.message.now ≡ true = plan_unread-requires g c in
+    let long : has_long_header p.message.now ≡ true = subst (λ o. HasHeader c.args.terms.when p (option_copied o)) c.in_default.is c.requires.header in
     recalls_none p.user.now (λ (made : ParcelPlan) (a : Account). IsLookup found a → IsPlanOf terms p made a) (state g.S.Store c.args.store.now) (Ok c.made_with.result) tt
     (λ a is.
     let told : (b : Account) → DiffersInMail a b → DeliversTo terms p.envelope p.message.now b plan.report (delivers plan b) = λ b one.
@@ -52,7 +52,7 @@ returns-in_default-clause-plans g c =
       own = found.address;
       address = alike.address;
       delivers = subst (λ text. DeliversInSequence found.address host.scripts mail (script_or_default text host.default) b plan.report (delivers plan b)) alike.text
-          (c.in_ok-plan_unread.ensures found.address host.scripts (script_or_default found.text host.default) b);
+          (c.in_ok-unread.ensures found.address host.scripts (script_or_default found.text host.default) b);
     } in
     made_plan terms p c.made_with.result plan c.made_with.ensures.plan a told false c.made_with.ensures.last (λ never. absurd (false≢true never))
     (λ no b one. long_forgets host.scripts (deciding_text host.default b) mail (told b one).delivers.settled (over_keys b terms.when.moment) long (told b one).delivers.settles))
@@ -118,7 +118,7 @@ returns-clause-plans g c =
     let plan = c.in_ok-plan.plan in
     let made = c.made_with-2.result in
     let settled = settled_of c.in_ok-settlement.settlement in
-    let over = not c.is_empty.result in
+    let over = not c.is_empty-has_over.result in
     let read : HasHeader when p (Some mail) = subst (λ o. HasHeader when p (option_copied o)) c.in-Some.is c.requires.header in
     recalls_other p.user.now (λ (v : AccountView) (a : Account). IsRecalled v found.address mail (deeds_in c.in_ok-settlement.settlement.deeds) a)
     (λ (made : ParcelPlan) (a : Account). IsLookup found a → IsPlanOf terms p made a) (state g.S.Store c.args.store.now) (state g.S.Store c.recall.new.store) c.recall.result c.recall.ensures (Ok made)
@@ -136,8 +136,8 @@ returns-clause-plans g c =
           (c.in_ok-plan.ensures b (view_alike view mail (deeds_in c.in_ok-settlement.settlement.deeds) account b one of));
     } in
     made_plan terms p made plan c.made_with-2.ensures.plan account told over c.made_with-2.ensures.last
-    (λ has none. not_both c.is_empty.result has (c.is_empty.ensures.1 (over_now ∙ none)))
-    (λ no b one. none_forgotten (told b one).delivers.settled.notice (over_keys b when.moment) (over_alike account b when.moment one ∙ sym over_now ∙ c.is_empty.ensures.0 (was_empty c.is_empty.result no))))
+    (λ has none. not_both c.is_empty-has_over.result has (c.is_empty-has_over.ensures.1 (over_now ∙ none)))
+    (λ no b one. none_forgotten (told b one).delivers.settled.notice (over_keys b when.moment) (over_alike account b when.moment one ∙ sym over_now ∙ c.is_empty-has_over.ensures.0 (was_empty c.is_empty-has_over.result no))))
 
 pub returns-clause-sent : goal.returns-clause-sent
 returns-clause-sent g c = λ sends. c.made_with-2.ensures.last.1 (inl (subst (λ (q : Plan). SendsMail (Delivered q.report)) c.made_with-2.ensures.plan sends))

@@ -1,7 +1,7 @@
 use Rattle.std.proofs.Common.{◌≡◌, ◌+◌, [], ◌∷◌, ◌++◌, take, sym, subst, rules}
 use Rattle.std.specs.List.{AllZip}
-use Rattle.store_accounts.proofs.DeliveriesLemmas.{zip_more}
 use Rattle.store_engine.specs.Deliveries.{IsOpened}
+use Rattle.store_engine.proofs.DeliveriesLemmas.{zip_more}
 use Rattle.store_engine.proofs.parcel.open_parcels.Goals as goal
 
 pub loop-parcel-preserved : goal.loop-parcel-preserved
