@@ -4,6 +4,8 @@ use Rattle.std.specs.Io.KnownBytes.{Appends}
 use Rattle.std_io.specs.declared.io.kind.ErrorKind.{ErrorKind}
 use Rattle.store_text.specs.declared.account_file.AccountReadError.{AccountReadError}
 use Rattle.store_text.specs.declared.account_file.AccountReadError.TheVariants as unread
+use Rattle.tar_entries.specs.declared.error.TarError.{TarError}
+use Rattle.tar_entries.specs.declared.error.TarError.TheVariants as tar
 use Rattle.store_lock.specs.Causes.{file_text}
 use Rattle.store_accounts.specs.declared.refusal.Refusal.{Refusal}
 use Rattle.store_accounts.specs.declared.refusal.Refusal.TheVariants as refusal
@@ -106,6 +108,11 @@ sink_fault sink.Failed = Stream
 abbrev pub read_fault : AccountReadError → RunFault
 read_fault unread.Memory = memory
 read_fault unread.NotAnAccount = BadInput
+
+-- the fault if what was read isn't a tar archive
+abbrev pub archive_fault : TarError → RunFault
+archive_fault tar.Memory = memory
+archive_fault other = BadInput
 
 -- how a failure to read or to write, or lack of memory, is reported
 abbrev pub IsFailure : RunFault → Type 0

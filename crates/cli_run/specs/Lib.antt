@@ -9,6 +9,7 @@ pub mod KeptInputs
 pub mod Promise
 pub mod Serving
 pub mod Streams
+pub mod TakingOver
 pub mod Transitions
 pub mod TryScript
 pub mod Values

@@ -15,7 +15,7 @@ use Rattle.sqlite.specs.State.{State, HasCleanDisk}
 use Rattle.maildir_files.specs.declared.sink.SinkError.{SinkError}
 use Rattle.store_accounts.specs.Account.{Account, Accounts, is_closed_account, is_removed, no_accounts, messages_in, row_with}
 use Rattle.store_accounts.specs.HeadRows.{queued_envelope}
-use Rattle.store_accounts.specs.Promises.{HasNoOpen, OfOpen, OverAccounts}
+use Rattle.store_accounts.specs.Promises.{HasNoOpen, HasOpen, OfOpen, OverAccounts}
 use Rattle.store_accounts.specs.Promises.{KeepsTables as KeepsStore}
 use Rattle.store_accounts.specs.Schema.{no_schema}
 use Rattle.store_accounts.specs.Shows.{Presents}
@@ -38,6 +38,7 @@ use Rattle.store_accounts.specs.declared.notice.Notice.{Notice}
 use Rattle.store_accounts.specs.declared.profile.Profile.{Profile}
 use Rattle.managesieve_protocol.specs.Replies.{lines_spelled, string_spelled}
 use Rattle.managesieve_sessions.specs.Scripts.{script_lines}
+use Rattle.sieve_intake.specs.declared.sorting.SortedFiles.{SortedFiles}
 use Rattle.sieve_lex.specs.Faults.{fault_line}
 use Rattle.sieve_lex.specs.declared.fault.ScriptFault.{ScriptFault}
 use Rattle.cli_reports.specs.Listings.{queue_listing, notice_listing}
@@ -59,6 +60,7 @@ use Rattle.cli_run.specs.Exports.{IsCutOff}
 use Rattle.cli_run.specs.Faults.{memory, no_user, status_of, run_fault_line, faults_told, AreTold, IsSudden, IsHindered, IsPrinted}
 use Rattle.cli_run.specs.Promise.{first_line, world_of_accounts, status_after}
 use Rattle.cli_run.specs.Streams.{ReadsAll, AppendsSome, InputFailed, IsWritten}
+use Rattle.cli_run.specs.TakingOver.{HasArchive, Putting, TakesFiles}
 use Rattle.cli_run.specs.Transitions.{StreamMove, TablesMove}
 use Rattle.cli_run.specs.TryScript.{Tries}
 use Rattle.cli_run.specs.Values.{IsNoNumber, IsNoUntil, IsSalt, HasNoSalt, AreTerms, HasNoWhen, IsSeparator, HasNoSeparator, envelope_with}
@@ -308,6 +310,39 @@ DoesEdit Denied user edit output result tables =
     TurnsTables (FinishesPrinted (MakesEvent (λ e. e ≡ editing user edit)) (λ fault accounts. IsHindered ⊥ ⊥ Denied fault
     ⊎ RefusesEvent (λ e. e ≡ editing user edit) fault accounts ⊎ ObjectsTo (editing user edit) fault accounts)
     output.old output.new result)
+    tables.old tables.new
+
+-- ---- `take-over`, which puts one script after the other
+
+-- how its scripts are put: each is an event of the machine
+abbrev pub puts_for : (RunFault → Type 0) → List ℕ → Putting
+puts_for Denied user script activate verdict accounts later =
+    PutsScript Denied user (upkeep.StoreScript script.name script.text activate) verdict accounts later
+
+-- nothing was begun: no account changed, and nothing is printed. It was hindered, there is no open account of the name, or the
+-- input isn't an archive
+abbrev pub TakesNothing : Type 0 → (RunFault → Type 0) → List ℕ → Option (List ℕ) → Option (List ℕ) → Result (Unit {0}) RunFault
+    → Accounts → Accounts → Type 0
+TakesNothing Wrong Denied user old new (Ok done) accounts later = ⊥
+TakesNothing Wrong Denied user old new (Err fault) accounts later =
+    (later ≡ accounts) × Keeps old new
+    × (IsHindered InputFailed Wrong Denied fault ⊎ ((fault ≡ no_user) × HasNoOpen user accounts) ⊎ (fault ≡ BadInput))
+
+-- the user has an account, and the files of the archive that was read are taken over
+pub record TakesArchive (Denied : RunFault → Type 0) (user : List ℕ) (given old new : Option (List ℕ))
+    (result : Result (Unit {0}) RunFault) (accounts later : Accounts) : Type 0 where
+  pub files : SortedFiles
+  pub archive : HasArchive given files
+  pub there : HasOpen user accounts
+  pub takes : TakesFiles (puts_for Denied user) files old new result accounts later
+
+-- the subcommand over tables: the archive is the input, and no other place of it is known
+abbrev pub DoesTakeOver : (RunFault → Type 0) → List ℕ → List ℕ → Option (List ℕ) → StreamMove → Result (Unit {0}) RunFault
+    → TablesMove → Type 0
+DoesTakeOver Denied place user given output result tables =
+    TurnsTables (λ accounts later.
+    TakesNothing (place ≢ codes "-") Denied user output.old output.new result accounts later
+    ⊎ TakesArchive Denied user given output.old output.new result accounts later)
     tables.old tables.new
 
 -- ---- `import`, whose text may not be that of an account
@@ -678,7 +713,7 @@ module _ (around : Surroundings) (input : StreamMove) (sink : SinkMails) (output
   Idle = StaysAsItWas sink.tells sink.had sink.has × (input.new ≡ input.old)
 
   -- each subcommand does its own work; only `init` makes a store, only `drain` moves messages into the sink, and only `adduser`,
-  -- `passwd`, `put`, `import` and `deliver` read
+  -- `passwd`, `put`, `take-over`, `import` and `deliver` read
   abbrev pub DoesSubcommand : Subcommand → Result (Unit {0}) RunFault → TablesMove → Type 0
   DoesSubcommand (word.Init a) result tables = Idle × DoesInit (around.denied a.location) output result tables
   DoesSubcommand (word.AddUser a) result tables =
@@ -709,6 +744,9 @@ module _ (around : Surroundings) (input : StreamMove) (sink : SinkMails) (output
       Idle × DoesEdit (around.denied a.location) a.user.now (edit.Delete a.script.now) output result tables
   DoesSubcommand (word.Rename a) result tables =
       Idle × DoesEdit (around.denied a.location) a.user.now (edit.Rename a.script.now a.new_name.now) output result tables
+  DoesSubcommand (word.TakeOver a) result tables =
+      StaysAsItWas sink.tells sink.had sink.has
+      × DoesTakeOver (DeniedAtEnd (around.denied a.location) input.new) a.archive.now a.user.now input.old output result tables
   DoesSubcommand (word.Open a) result tables =
       Idle × DoesEvent ⊥ ⊥ (around.denied a.location) (IsUpkeepEvent a.user.now upkeep.OpenAccount) output result tables
   DoesSubcommand (word.Remove a) result tables =
@@ -760,6 +798,7 @@ ReachesStore Given At (word.Activate a) = Given a.location
 ReachesStore Given At (word.Deactivate a) = Given a.location
 ReachesStore Given At (word.Delete a) = Given a.location
 ReachesStore Given At (word.Rename a) = Given a.location
+ReachesStore Given At (word.TakeOver a) = Given a.location
 ReachesStore Given At (word.Open a) = Given a.location
 ReachesStore Given At (word.Remove a) = Given a.location
 ReachesStore Given At (word.Export a) = Given a.location

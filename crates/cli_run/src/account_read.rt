@@ -1,10 +1,11 @@
 //! Reads of one user's account, each over a store that is taken and handed back.
-ghost use Rattle.std.specs.Prelude.{◌≡◌, ℕ, None, List, false, IsTrue, OnOk};
+ghost use Rattle.std.specs.Prelude.{◌≡◌, ◌≢◌, ℕ, None, List, false, IsTrue, OnOk};
 ghost use Rattle.sqlite.specs.Held.{state};
 ghost use Rattle.store_accounts.specs.Account.{Account};
 ghost use Rattle.store_accounts.specs.Promises.{ReadsOpenAccount};
 ghost use Rattle.managesieve_sessions.specs.Decisions.{AreScripts};
 ghost use Rattle.cli_run.specs.Draining.{TurnsTables};
+ghost use Rattle.cli_run.specs.Promise.{status_after};
 ghost use Rattle.cli_run.specs.Serving.{HasDenied, HasGiven};
 ghost use Rattle.cli_run.specs.Subcommands.{FindsIn};
 
@@ -218,6 +219,7 @@ pub fn read_once<Q: AccountRead, K: Keeper>(
     wanted: &Q,
     keeper: &mut K,
 ) -> Result<Q::Found, RunFault>
+    ensures late { status_after result ≢ 64 }
     ensures back { K.is_out keeper.old ≡ false → K.is_out keeper.new ≡ false }
     ensures found { IsTrue K.tells → TurnsTables (λ accounts later. (later ≡ accounts)
         × FindsIn (HasDenied K.refuses K.will_wait location.entry) (Q.user wanted.now) (Q.finds wanted.now) result accounts)

@@ -11,6 +11,7 @@ use std::io::Write;
 use store_accounts::Refusal;
 use store_lock::StoreUnavailable;
 use store_text::AccountReadError;
+use tar_entries::TarError;
 use thiserror::Error;
 
 /// Why a run gives no answer.
@@ -44,7 +45,7 @@ pub enum RunFault {
     /// A script isn't valid. If a run ends with this, the line that tells why is on the output, and nothing else is reported.
     #[error("not valid")]
     Invalid,
-    /// The input has no length, script and message, or is the text of no account.
+    /// The input has no length, script and message, is the text of no account, or no tar archive.
     #[error("bad input")]
     BadInput,
     /// A value that is no number or salt, or an argument that is not UTF-8.
@@ -181,6 +182,20 @@ impl From<AccountReadError> for RunFault {
         match error {
             AccountReadError::Memory => RunFault::Refused(Refusal::Memory),
             AccountReadError::NotAnAccount => RunFault::BadInput,
+        }
+    }
+}
+
+impl From<TarError> for RunFault {
+    ghost use Rattle.std.specs.Prelude.{◌≡◌};
+    ghost use Rattle.cli_run.specs.Faults.{archive_fault};
+
+    ghost from_gives = { λ error fault. fault ≡ archive_fault error };
+
+    fn from(error: TarError) -> RunFault {
+        match error {
+            TarError::Memory => RunFault::Refused(Refusal::Memory),
+            _ => RunFault::BadInput,
         }
     }
 }

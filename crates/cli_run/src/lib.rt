@@ -25,6 +25,7 @@ mod script_edits;
 mod scripts;
 pub mod session;
 mod stream;
+mod take_over;
 pub mod try_script;
 mod upkeep;
 mod users;

@@ -22,6 +22,7 @@ use crate::queue::{run_done, run_queue};
 use crate::script_edits::{run_activate, run_deactivate, run_delete, run_rename};
 use crate::scripts::{run_put, run_scripts};
 use crate::stream::write_all;
+use crate::take_over::run_take_over;
 use crate::try_script::try_run;
 use crate::upkeep::{run_address, run_open, run_passwd, run_remove};
 use crate::users::run_users;
@@ -174,6 +175,7 @@ fn act<R: Read, W: Write, K: Keeper, T: MailSink>(
         Subcommand::Deactivate(asked) => run_deactivate(alloc, asked, output, keeper),
         Subcommand::Delete(asked) => run_delete(alloc, asked, output, keeper),
         Subcommand::Rename(asked) => run_rename(alloc, asked, output, keeper),
+        Subcommand::TakeOver(asked) => run_take_over(alloc, asked, input, output, keeper),
         Subcommand::Open(asked) => run_open(alloc, asked, output, keeper),
         Subcommand::Remove(asked) => run_remove(alloc, asked, output, keeper),
         Subcommand::Export(asked) => run_export(alloc, asked, output, keeper),

@@ -26,6 +26,7 @@ use Rattle.cli_subcommands.specs.declared.subcommand.activate.ActivateArgs.{Acti
 use Rattle.cli_subcommands.specs.declared.subcommand.deactivate.DeactivateArgs.{DeactivateArgs}
 use Rattle.cli_subcommands.specs.declared.subcommand.delete.DeleteArgs.{DeleteArgs}
 use Rattle.cli_subcommands.specs.declared.subcommand.rename.RenameArgs.{RenameArgs}
+use Rattle.cli_subcommands.specs.declared.subcommand.take_over.TakeOverArgs.{TakeOverArgs}
 use Rattle.cli_subcommands.specs.declared.subcommand.remove.RemoveArgs.{RemoveArgs}
 use Rattle.cli_subcommands.specs.declared.subcommand.open.OpenArgs.{OpenArgs}
 use Rattle.cli_subcommands.specs.declared.subcommand.export.ExportArgs.{ExportArgs}
@@ -146,6 +147,11 @@ pub record IsRenameArgs (line : RawArgs) (m : ArgMatches) (a : RenameArgs) : Typ
   pub script : a.script.now ≡ arg_text m (codes "script")
   pub new_name : a.new_name.now ≡ arg_text m (codes "newname")
 
+pub record IsTakeOverArgs (line : RawArgs) (m : ArgMatches) (a : TakeOverArgs) : Type 0 where
+  pub location : IsLocation line m a.location
+  pub archive : a.archive.now ≡ arg_text m (codes "archive")
+  pub user : a.user.now ≡ arg_text m (codes "user")
+
 pub record IsRemoveArgs (line : RawArgs) (m : ArgMatches) (a : RemoveArgs) : Type 0 where
   pub location : IsLocation line m a.location
   pub mail : IsFlag m (codes "mail") a.mail
@@ -256,6 +262,7 @@ IsSubcommandFor line m word.Activate (asked.Activate a) = IsActivateArgs line m 
 IsSubcommandFor line m word.Deactivate (asked.Deactivate a) = IsDeactivateArgs line m a
 IsSubcommandFor line m word.Delete (asked.Delete a) = IsDeleteArgs line m a
 IsSubcommandFor line m word.Rename (asked.Rename a) = IsRenameArgs line m a
+IsSubcommandFor line m word.TakeOver (asked.TakeOver a) = IsTakeOverArgs line m a
 IsSubcommandFor line m word.Remove (asked.Remove a) = IsRemoveArgs line m a
 IsSubcommandFor line m word.Open (asked.Open a) = IsOpenArgs line m a
 IsSubcommandFor line m word.Export (asked.Export a) = IsExportArgs line m a

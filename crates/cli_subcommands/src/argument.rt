@@ -50,6 +50,7 @@ pub enum CliArgument {
     Script,
     AnyScript,
     NewName,
+    Archive,
     Activate,
     AndClose,
     AsName,
@@ -164,7 +165,8 @@ impl CliArgument {
             | CliArgument::Maildir
             | CliArgument::Script
             | CliArgument::AnyScript
-            | CliArgument::NewName => Form::Operand,
+            | CliArgument::NewName
+            | CliArgument::Archive => Form::Operand,
             CliArgument::Files => Form::Operands,
         }
     }
@@ -209,6 +211,7 @@ impl CliArgument {
             CliArgument::WithMail => "mail",
             CliArgument::Script | CliArgument::AnyScript => "script",
             CliArgument::NewName => "newname",
+            CliArgument::Archive => "archive",
             CliArgument::Activate => "activate",
             CliArgument::AndClose => "and-close",
             CliArgument::AsName => "as",
@@ -253,6 +256,7 @@ impl CliArgument {
             | CliArgument::Files => "FILE",
             CliArgument::Script | CliArgument::AnyScript => "SCRIPT",
             CliArgument::NewName => "NEWNAME",
+            CliArgument::Archive => "-",
             CliArgument::Name | CliArgument::AsName | CliArgument::Host | CliArgument::HostName => {
                 "NAME"
             }
@@ -318,6 +322,7 @@ impl CliArgument {
             CliArgument::Script => "The script's name",
             CliArgument::AnyScript => "The name of the script that is printed",
             CliArgument::NewName => "The name that it gets, which no script of the user has",
+            CliArgument::Archive => "The archive: a hyphen, for standard input",
             CliArgument::Activate => "Makes it the active script",
             CliArgument::AndClose => "Closes the account once the text is written",
             CliArgument::AsName => "The name that it gets [default: that in the text]",

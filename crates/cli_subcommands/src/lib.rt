@@ -45,5 +45,6 @@ pub use subcommand::send::SendArgs;
 pub use subcommand::serve::ServeArgs;
 pub use subcommand::session::SessionArgs;
 pub use subcommand::show::ShowArgs;
+pub use subcommand::take_over::TakeOverArgs;
 pub use subcommand::try_script::TryArgs;
 pub use subcommand::users::UsersArgs;

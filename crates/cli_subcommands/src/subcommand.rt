@@ -29,6 +29,7 @@ pub mod send;
 pub mod serve;
 pub mod session;
 pub mod show;
+pub mod take_over;
 pub mod try_script;
 pub mod users;
 
@@ -59,6 +60,7 @@ use crate::subcommand::send::{SEND, SendArgs};
 use crate::subcommand::serve::{SERVE, ServeArgs};
 use crate::subcommand::session::{SESSION, SessionArgs};
 use crate::subcommand::show::{SHOW, ShowArgs};
+use crate::subcommand::take_over::{TAKE_OVER, TakeOverArgs};
 use crate::subcommand::try_script::{TRY, TryArgs};
 use crate::subcommand::users::{USERS, UsersArgs};
 use crate::subcommand_row::SubcommandRow;
@@ -78,6 +80,7 @@ pub enum Subcommand<'a> {
     Deactivate(DeactivateArgs<'a>),
     Delete(DeleteArgs<'a>),
     Rename(RenameArgs<'a>),
+    TakeOver(TakeOverArgs<'a>),
     Remove(RemoveArgs<'a>),
     Open(OpenArgs<'a>),
     Export(ExportArgs<'a>),
@@ -111,6 +114,7 @@ pub enum SubcommandName {
     Deactivate,
     Delete,
     Rename,
+    TakeOver,
     Remove,
     Open,
     Export,
@@ -131,7 +135,7 @@ pub enum SubcommandName {
 
 impl SubcommandName {
     /// All subcommands, in the order of the help.
-    pub const ALL: [SubcommandName; 28] = [
+    pub const ALL: [SubcommandName; 29] = [
         SubcommandName::Try,
         SubcommandName::Init,
         SubcommandName::AddUser,
@@ -144,6 +148,7 @@ impl SubcommandName {
         SubcommandName::Deactivate,
         SubcommandName::Delete,
         SubcommandName::Rename,
+        SubcommandName::TakeOver,
         SubcommandName::Remove,
         SubcommandName::Open,
         SubcommandName::Export,
@@ -198,6 +203,7 @@ impl SubcommandName {
             SubcommandName::Deactivate => &DEACTIVATE,
             SubcommandName::Delete => &DELETE,
             SubcommandName::Rename => &RENAME,
+            SubcommandName::TakeOver => &TAKE_OVER,
             SubcommandName::Remove => &REMOVE,
             SubcommandName::Open => &OPEN,
             SubcommandName::Export => &EXPORT,
@@ -234,6 +240,7 @@ impl SubcommandName {
             SubcommandName::Deactivate => Subcommand::Deactivate(DeactivateArgs::read(given)),
             SubcommandName::Delete => Subcommand::Delete(DeleteArgs::read(given)),
             SubcommandName::Rename => Subcommand::Rename(RenameArgs::read(given)),
+            SubcommandName::TakeOver => Subcommand::TakeOver(TakeOverArgs::read(given)),
             SubcommandName::Remove => Subcommand::Remove(RemoveArgs::read(given)),
             SubcommandName::Open => Subcommand::Open(OpenArgs::read(given)),
             SubcommandName::Export => Subcommand::Export(ExportArgs::read(given)),
