@@ -314,6 +314,10 @@ DoesEdit Denied user edit output result tables =
 
 -- ---- `take-over`, which puts one script after the other
 
+-- the store was denied after all of the input was read
+abbrev pub DeniedAtEnd : (RunFault → Type 0) → Option (List ℕ) → RunFault → Type 0
+DeniedAtEnd Denied left fault = Denied fault × IsAtEnd left
+
 -- how its scripts are put: each is an event of the machine
 abbrev pub puts_for : (RunFault → Type 0) → List ℕ → Putting
 puts_for Denied user script activate verdict accounts later =
@@ -328,21 +332,22 @@ TakesNothing Wrong Denied user old new (Err fault) accounts later =
     (later ≡ accounts) × Keeps old new
     × (IsHindered InputFailed Wrong Denied fault ⊎ ((fault ≡ no_user) × HasNoOpen user accounts) ⊎ (fault ≡ BadInput))
 
--- the user has an account, and the files of the archive that was read are taken over
-pub record TakesArchive (Denied : RunFault → Type 0) (user : List ℕ) (given old new : Option (List ℕ))
-    (result : Result (Unit {0}) RunFault) (accounts later : Accounts) : Type 0 where
+-- all of the input was read, the user has an account, and the files of the archive are taken over
+pub record TakesArchive (Denied : RunFault → Type 0) (user : List ℕ) (input output : StreamMove) (result : Result (Unit {0}) RunFault)
+    (accounts later : Accounts) : Type 0 where
   pub files : SortedFiles
-  pub archive : HasArchive given files
+  pub archive : HasArchive input.old files
+  pub end : IsAtEnd input.new
   pub there : HasOpen user accounts
-  pub takes : TakesFiles (puts_for Denied user) files old new result accounts later
+  pub takes : TakesFiles (puts_for Denied user) files output.old output.new result accounts later
 
 -- the subcommand over tables: the archive is the input, and no other place of it is known
-abbrev pub DoesTakeOver : (RunFault → Type 0) → List ℕ → List ℕ → Option (List ℕ) → StreamMove → Result (Unit {0}) RunFault
-    → TablesMove → Type 0
-DoesTakeOver Denied place user given output result tables =
+abbrev pub DoesTakeOver : (RunFault → Type 0) → List ℕ → List ℕ → StreamMove → StreamMove → Result (Unit {0}) RunFault → TablesMove
+    → Type 0
+DoesTakeOver Denied place user input output result tables =
     TurnsTables (λ accounts later.
-    TakesNothing (place ≢ codes "-") Denied user output.old output.new result accounts later
-    ⊎ TakesArchive Denied user given output.old output.new result accounts later)
+    TakesNothing (place ≢ codes "-") (DeniedAtEnd Denied input.new) user output.old output.new result accounts later
+    ⊎ TakesArchive Denied user input output result accounts later)
     tables.old tables.new
 
 -- ---- `import`, whose text may not be that of an account
@@ -689,10 +694,6 @@ DeliverInputFailed at clock = InputFailed ⊎ ((at ≡ None) × (clock ≡ None)
 abbrev pub SaltFailed : Option (List ℕ) → Option (List ℕ) → Type 0
 SaltFailed digits random = InputFailed ⊎ ((digits ≡ None) × (random ≡ None))
 
--- the store was denied after all of the input was read
-abbrev pub DeniedAtEnd : (RunFault → Type 0) → Option (List ℕ) → RunFault → Type 0
-DeniedAtEnd Denied left fault = Denied fault × IsAtEnd left
-
 -- what surrounds a run: why the store at a place is denied, why a sink refuses, the clock, the system's random octets, and the
 -- host's scripts
 pub record Surroundings : Type 1 where
@@ -746,7 +747,7 @@ module _ (around : Surroundings) (input : StreamMove) (sink : SinkMails) (output
       Idle × DoesEdit (around.denied a.location) a.user.now (edit.Rename a.script.now a.new_name.now) output result tables
   DoesSubcommand (word.TakeOver a) result tables =
       StaysAsItWas sink.tells sink.had sink.has
-      × DoesTakeOver (DeniedAtEnd (around.denied a.location) input.new) a.archive.now a.user.now input.old output result tables
+      × DoesTakeOver (around.denied a.location) a.archive.now a.user.now input output result tables
   DoesSubcommand (word.Open a) result tables =
       Idle × DoesEvent ⊥ ⊥ (around.denied a.location) (IsUpkeepEvent a.user.now upkeep.OpenAccount) output result tables
   DoesSubcommand (word.Remove a) result tables =

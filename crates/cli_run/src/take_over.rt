@@ -11,7 +11,7 @@ ghost use Rattle.cli_run.specs.Faults.{IsPrinted};
 ghost use Rattle.cli_run.specs.Promise.{status_after};
 ghost use Rattle.cli_run.specs.Serving.{HasDenied, HasGiven};
 ghost use Rattle.cli_run.specs.Streams.{InputFailed, ReadsToEnd};
-ghost use Rattle.cli_run.specs.Subcommands.{DeniedAtEnd, DoesTakeOver, puts_for};
+ghost use Rattle.cli_run.specs.Subcommands.{DoesTakeOver, puts_for};
 ghost use Rattle.cli_run.specs.TakingOver.{HasArchive, IsNoArchive, TakesScript, TakesScripts, TellsRest, TellsVerdictOn, WordsOn, file_of, has_script as has_script_of, left_out_line, left_out_words, line_on_file, missing_line, more_line, rest_text, stored_lines};
 ghost use Rattle.cli_run.specs.Transitions.{across};
 
@@ -50,10 +50,9 @@ pub fn run_take_over<R: Read, W: Write, K: Keeper>(
     ensures unread { status_after result ≡ 64 → input.new ≡ input.old }
     ensures reads { OnOk result (ReadsToEnd R.remaining input.old input.new) }
     ensures back { K.is_out keeper.old ≡ false → K.is_out keeper.new ≡ false }
-    ensures does { IsTrue K.tells → DoesTakeOver
-        (DeniedAtEnd (HasDenied K.refuses K.will_wait asked.entry.location) (R.remaining input.new)) asked.entry.archive.now
-        asked.entry.user.now (R.remaining input.old) (across W.contents output.old output.new) result
-        (across K.holds keeper.old keeper.new) }
+    ensures does { IsTrue K.tells → DoesTakeOver (HasDenied K.refuses K.will_wait asked.entry.location)
+        asked.entry.archive.now asked.entry.user.now (across R.remaining input.old input.new)
+        (across W.contents output.old output.new) result (across K.holds keeper.old keeper.new) }
     ensures given { OnOk result (HasGiven K.gives K.will_wait asked.entry.location) }
 {
     if asked.archive != "-" {

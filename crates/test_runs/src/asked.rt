@@ -152,6 +152,12 @@ fn add(out: &mut Octets, asked: Subcommand<'_>) -> Result<(), AllocError> {
             asked.location,
             &[asked.user, asked.script, asked.new_name],
         ),
+        Subcommand::TakeOver(asked) => add_at(
+            out,
+            "take-over",
+            asked.location,
+            &[asked.archive, asked.user],
+        ),
         Subcommand::Remove(asked) => {
             let mail = if asked.mail { "mail" } else { "" };
             add_at(out, "remove", asked.location, &[mail, asked.user])

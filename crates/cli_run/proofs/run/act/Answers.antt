@@ -121,6 +121,16 @@ pub returns-in-Rename-clause-reaches : goal.returns-in-Rename-clause-reaches
 returns-in-Rename-clause-reaches g c =
     subst (λ asked. OnOk c.run_rename.result (ReachesStore (HasGiven g.K.Keeper.gives g.K.Keeper.will_wait) (g.T.MailSink.is_at c.args.sink.now) asked)) (sym c.in-Rename.is) (c.run_rename.ensures.given)
 
+pub returns-in-TakeOver-clause-does : goal.returns-in-TakeOver-clause-does
+returns-in-TakeOver-clause-does g c tells =
+    let kept = g.T.MailSink.kept c.args.sink.now in
+    let around = surroundings (HasDenied g.K.Keeper.refuses g.K.Keeper.will_wait) (HasRefused g.T.MailSink.refuses) c.args.clock c.args.random c.args.host in
+    subst (λ asked. DoesSubcommand around (from_to (g.R.Read.remaining c.args.input.now) (g.R.Read.remaining c.run_take_over.new.input)) (sink_mails g.T.MailSink.tells kept kept) (from_to (g.W.Write.contents c.args.output.now) (g.W.Write.contents c.run_take_over.new.output)) asked c.run_take_over.result (from_to (g.K.Keeper.holds c.args.keeper.now) (g.K.Keeper.holds c.run_take_over.new.keeper))) (sym c.in-TakeOver.is) ((λ told. refl), c.run_take_over.ensures.does tells)
+
+pub returns-in-TakeOver-clause-reaches : goal.returns-in-TakeOver-clause-reaches
+returns-in-TakeOver-clause-reaches g c =
+    subst (λ asked. OnOk c.run_take_over.result (ReachesStore (HasGiven g.K.Keeper.gives g.K.Keeper.will_wait) (g.T.MailSink.is_at c.args.sink.now) asked)) (sym c.in-TakeOver.is) (c.run_take_over.ensures.given)
+
 pub returns-in-Open-clause-does : goal.returns-in-Open-clause-does
 returns-in-Open-clause-does g c tells =
     let kept = g.T.MailSink.kept c.args.sink.now in
