@@ -1,8 +1,9 @@
 -- An archive of a user's files, as it comes.
-use Rattle.std.specs.Prelude.{◌≡◌, ℕ, List, true}
-use Rattle.tar_entries.specs.Archives.{HasReadArchive}
-use Rattle.tar_entries.specs.Steps.{ends_archive}
+use Rattle.std.specs.Prelude.{◌≡◌, ◌⊎◌, ℕ, List, false, true}
+use Rattle.tar_entries.specs.Archives.{FailsAt, HasReadArchive, StopsAt}
+use Rattle.tar_entries.specs.Steps.{ends_archive, first_stage}
 use Rattle.tar_entries.specs.declared.entry.TarEntry.{TarEntry}
+use Rattle.tar_entries.specs.declared.error.TarError.{TarError}
 use Rattle.sieve_intake.specs.declared.intake.Intake.{Intake}
 use Rattle.sieve_intake.specs.declared.sorting.SortedFiles.{SortedFiles}
 use Rattle.sieve_intake.specs.Sorting.{sorted_by}
@@ -24,3 +25,17 @@ pub record IsSortedArchive (came : List ℕ) (files : SortedFiles) : Type 0 wher
   pub taken : HasTaken came intake
   pub whole : ends_archive intake.reader.stage ≡ true
   pub has : files ≡ intake.files
+
+-- memory was refused; or these octets begin with blocks of an archive, of which the last one can't be read
+abbrev pub StopsArchive : List ℕ → TarError → Type 0
+StopsArchive came error = StopsAt most_octets first_stage came error
+
+-- these octets are the beginning of an archive
+pub record IsCutArchive (came : List ℕ) : Type 0 where
+  pub intake : Intake
+  pub taken : HasTaken came intake
+  pub cut : ends_archive intake.reader.stage ≡ false
+
+-- these octets aren't an archive: a block of them can't be read, or their end is missing
+abbrev pub IsNoArchive : List ℕ → Type 0
+IsNoArchive came = ((error : TarError) × FailsAt most_octets first_stage came error) ⊎ IsCutArchive came

@@ -1,7 +1,7 @@
 //! An archive of a user's files, as it comes.
-ghost use Rattle.std.specs.Prelude.{◌≡◌, ◌++◌, [], ℕ, List, IfOk, IsTrue, fold};
+ghost use Rattle.std.specs.Prelude.{◌≡◌, ◌++◌, [], ℕ, List, IfErr, IfOk, IsTrue, fold};
 ghost use Rattle.tar_entries.specs.Steps.{ends_archive};
-ghost use Rattle.sieve_intake.specs.Intakes.{HasTaken};
+ghost use Rattle.sieve_intake.specs.Intakes.{HasTaken, StopsArchive};
 ghost use Rattle.sieve_intake.specs.Sorting.{sorted_with};
 
 use crate::sorting::SortedFiles;
@@ -38,7 +38,8 @@ impl Intake {
     ///
     /// Those of the reader. The archive can't be read on then.
     pub fn take(self, alloc: Global, piece: &[u8]) -> Result<Intake, TarError>
-        ensures { IfOk result (λ later. (came : List ℕ) → HasTaken came self → HasTaken (came ++ piece.now) later) }
+        ensures takes { IfOk result (λ later. (came : List ℕ) → HasTaken came self → HasTaken (came ++ piece.now) later) }
+        ensures stops { IfErr result (λ error. (came : List ℕ) → HasTaken came self → StopsArchive (came ++ piece.now) error) }
     {
         let Intake { reader, files } = self;
         let (reader, entries) = reader.take(alloc, piece)?;

@@ -1,15 +1,15 @@
 -- The members of the piece come after those that came before.
-use Rattle.std.proofs.Common.{◌++◌, sym, ap, ◌∙◌, subst}
+use Rattle.std.proofs.Common.{◌++◌, inl, rules, sym, ap, ◌∙◌, subst}
 use Rattle.std.specs.List.{fold}
 use Rattle.std.proofs.lemmas.List.Sums.{fold-append}
-use Rattle.tar_entries.specs.Archives.{TakesBlocks}
-use Rattle.tar_entries.proofs.ArchiveLemmas.{read_on}
+use Rattle.tar_entries.specs.Archives.{StopsAt, TakesBlocks}
+use Rattle.tar_entries.proofs.ArchiveLemmas.{read_on, stopped_on}
 use Rattle.sieve_intake.specs.Intakes.{most_octets}
 use Rattle.sieve_intake.specs.Sorting.{no_files, sorted_with}
 use Rattle.sieve_intake.proofs.intake.Intake.take.Goals as goal
 
-pub returns : goal.returns
-returns c = λ came taken.
+pub returns-clause-takes : goal.returns-clause-takes
+returns-clause-takes c = λ came taken.
     let reader = c.args.self.reader in
     let later = c.in_ok-reader.reader in
     let more = c.in_ok-reader.entries in
@@ -21,3 +21,9 @@ returns c = λ came taken.
       read = read_on most_octets came c.args.piece.now reader later taken.entries more taken.read blocks;
       sorted = sorted;
     }
+
+pub returns-in_err-reader-clause-stops : goal.returns-in_err-reader-clause-stops
+returns-in_err-reader-clause-stops c = λ came taken.
+    let reader = c.args.self.reader in
+    let e = c.in_err-reader.field-0 in
+    stopped_on most_octets came c.args.piece.now reader taken.entries e taken.read (subst (λ most. StopsAt most reader.stage (reader.pending ++ c.args.piece.now) e) taken.most c.in_err-reader.ensures.stops)
