@@ -25,5 +25,5 @@ returns-clause-takes c = λ came taken.
 pub returns-in_err-reader-clause-stops : goal.returns-in_err-reader-clause-stops
 returns-in_err-reader-clause-stops c = λ came taken.
     let reader = c.args.self.reader in
-    let e = c.in_err-reader.field-0 in
+    let e = c.in_err-reader.field-0.0 in
     stopped_on most_octets came c.args.piece.now reader taken.entries e taken.read (subst (λ most. StopsAt most reader.stage (reader.pending ++ c.args.piece.now) e) taken.most c.in_err-reader.ensures.stops)
