@@ -21,6 +21,7 @@ mod ServingLemmas
 mod StatusLemmas
 mod StreamExamples
 mod TakeLemmas
+mod TakeOverExamples
 mod TakeOverLemmas
 mod RunLemmas
 pub mod StreamLemmas

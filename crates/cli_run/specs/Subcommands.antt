@@ -38,6 +38,7 @@ use Rattle.store_accounts.specs.declared.notice.Notice.{Notice}
 use Rattle.store_accounts.specs.declared.profile.Profile.{Profile}
 use Rattle.managesieve_protocol.specs.Replies.{lines_spelled, string_spelled}
 use Rattle.managesieve_sessions.specs.Scripts.{script_lines}
+use Rattle.sieve_intake.specs.Intakes.{IsNoArchive}
 use Rattle.sieve_intake.specs.declared.sorting.SortedFiles.{SortedFiles}
 use Rattle.sieve_lex.specs.Faults.{fault_line}
 use Rattle.sieve_lex.specs.declared.fault.ScriptFault.{ScriptFault}
@@ -62,7 +63,7 @@ use Rattle.cli_run.specs.Promise.{first_line, world_of_accounts, status_after}
 use Rattle.cli_run.specs.Streams.{ReadsAll, AppendsSome, InputFailed, IsWritten}
 use Rattle.cli_run.specs.TakingOver.{HasArchive, Putting, TakesFiles}
 use Rattle.cli_run.specs.Transitions.{StreamMove, TablesMove}
-use Rattle.cli_run.specs.TryScript.{Tries}
+use Rattle.cli_run.specs.TryScript.{OfInput, Tries}
 use Rattle.cli_run.specs.Values.{IsNoNumber, IsNoUntil, IsSalt, HasNoSalt, AreTerms, HasNoWhen, IsSeparator, HasNoSeparator, envelope_with}
 use Rattle.cli_run.specs.declared.fault.RunFault.{RunFault}
 use Rattle.cli_run.specs.declared.host_texts.HostTexts.{HostTexts}
@@ -325,12 +326,13 @@ puts_for Denied user script activate verdict accounts later =
 
 -- nothing was begun: no account changed, and nothing is printed. It was hindered, there is no open account of the name, or the
 -- input isn't an archive
-abbrev pub TakesNothing : Type 0 → (RunFault → Type 0) → List ℕ → Option (List ℕ) → Option (List ℕ) → Result (Unit {0}) RunFault
-    → Accounts → Accounts → Type 0
-TakesNothing Wrong Denied user old new (Ok done) accounts later = ⊥
-TakesNothing Wrong Denied user old new (Err fault) accounts later =
+abbrev pub TakesNothing : Type 0 → (RunFault → Type 0) → List ℕ → Option (List ℕ) → Option (List ℕ) → Option (List ℕ)
+    → Result (Unit {0}) RunFault → Accounts → Accounts → Type 0
+TakesNothing Wrong Denied user given old new (Ok done) accounts later = ⊥
+TakesNothing Wrong Denied user given old new (Err fault) accounts later =
     (later ≡ accounts) × Keeps old new
-    × (IsHindered InputFailed Wrong Denied fault ⊎ ((fault ≡ no_user) × HasNoOpen user accounts) ⊎ (fault ≡ BadInput))
+    × (IsHindered InputFailed Wrong Denied fault ⊎ ((fault ≡ no_user) × HasNoOpen user accounts)
+    ⊎ ((fault ≡ BadInput) × OfInput given IsNoArchive))
 
 -- all of the input was read, the user has an account, and the files of the archive are taken over
 pub record TakesArchive (Denied : RunFault → Type 0) (user : List ℕ) (input output : StreamMove) (result : Result (Unit {0}) RunFault)
@@ -346,7 +348,7 @@ abbrev pub DoesTakeOver : (RunFault → Type 0) → List ℕ → List ℕ → St
     → Type 0
 DoesTakeOver Denied place user input output result tables =
     TurnsTables (λ accounts later.
-    TakesNothing (place ≢ codes "-") (DeniedAtEnd Denied input.new) user output.old output.new result accounts later
+    TakesNothing (place ≢ codes "-") (DeniedAtEnd Denied input.new) user input.old output.old output.new result accounts later
     ⊎ TakesArchive Denied user input output result accounts later)
     tables.old tables.new
 

@@ -1,9 +1,10 @@
 -- What is taken over of the scripts that Pigeonhole kept for a user, and what is printed of that.
 use Rattle.std.specs.Prelude.{◌≡◌, ◌≢◌, ◌⊎◌, ℕ, Bool, true, false, ◌&&◌, nat_eq, List, [], ◌∷◌, ◌++◌, codes, cond, Option, Some, None, Result, Ok, Err}
 use Rattle.std.specs.Cmp.Lexicographic.{pointwise}
-use Rattle.std.specs.Io.KnownBytes.{Keeps}
+use Rattle.std.specs.Io.KnownBytes.{Consumes, Keeps}
 use Rattle.std.specs.List.{flat_map, list_any}
-use Rattle.sieve_intake.specs.Intakes.{IsSortedArchive}
+use Rattle.sieve_intake.specs.Intakes.{HasTaken, IsNoArchive, IsSortedArchive}
+use Rattle.sieve_intake.specs.declared.intake.Intake.{Intake}
 use Rattle.sieve_intake.specs.declared.sorting.LeftOut.{LeftOut}
 use Rattle.sieve_intake.specs.declared.sorting.LeftOut.TheVariants.{TooLarge, TooMany, NoFile}
 use Rattle.sieve_intake.specs.declared.sorting.LeftOutFile.{LeftOutFile}
@@ -19,6 +20,7 @@ use Rattle.cli_reports.specs.Reports.{ended_line}
 use Rattle.cli_run.specs.Checks.{IsFindingLine}
 use Rattle.cli_run.specs.Faults.{memory, IsPrinted}
 use Rattle.cli_run.specs.Streams.{InputFailed, ReadsAll}
+use Rattle.cli_run.specs.TryScript.{OfInput}
 use Rattle.cli_run.specs.declared.fault.RunFault.{RunFault}
 use Rattle.cli_run.specs.declared.fault.RunFault.TheVariants.{Refused, Stream, Invalid, BadInput}
 
@@ -29,8 +31,19 @@ pub record HasArchive (given : Option (List ℕ)) (files : SortedFiles) : Type 0
   pub sorted : IsSortedArchive octets files
 
 -- it couldn't be read: memory was refused, a read failed, or it is no archive
-abbrev pub IsNoArchive : RunFault → Type 0
-IsNoArchive fault = (fault ≡ memory) ⊎ ((fault ≡ Stream) × InputFailed) ⊎ (fault ≡ BadInput)
+abbrev pub IsUnreadArchive : Option (List ℕ) → RunFault → Type 0
+IsUnreadArchive given fault =
+    (fault ≡ memory) ⊎ ((fault ≡ Stream) × InputFailed) ⊎ ((fault ≡ BadInput) × OfInput given IsNoArchive)
+
+-- one piece more of an archive was read
+abbrev pub TakesPiece : Option (List ℕ) → Option (List ℕ) → Intake → Intake → Type 0
+TakesPiece old new before after =
+    (piece : List ℕ) × Consumes old new piece × ((came : List ℕ) → HasTaken came before → HasTaken (came ++ piece) after)
+
+-- whatever came before, what is left of the input can't be read on as an archive
+abbrev pub StopsInput : Option (List ℕ) → Intake → RunFault → Type 0
+StopsInput left intake fault =
+    (given : Option (List ℕ)) (came : List ℕ) → Consumes given left came → HasTaken came intake → IsUnreadArchive given fault
 
 -- ---- what is printed
 

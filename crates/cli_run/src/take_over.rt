@@ -1,8 +1,7 @@
 //! The subcommand that takes over the scripts that Pigeonhole kept for a user.
-ghost use Rattle.std.specs.Prelude.{◌≡◌, ◌≢◌, ◌++◌, ◌&&◌, ◌<◌, [], false, codes, length, Some, IsTrue, IfErr, IfOk, OnOk, option_copied};
+ghost use Rattle.std.specs.Prelude.{◌≡◌, ◌≢◌, ◌++◌, ◌&&◌, ◌<◌, [], false, codes, length, Some, IsTrue, IfErr, IfOk, OnErr, OnOk, option_copied};
 ghost use Rattle.std.specs.Io.KnownBytes.{IsAtEnd};
 ghost use Rattle.std.specs.List.{flat_map};
-ghost use Rattle.store_accounts.specs.Promises.{HasNoOpen, HasOpen};
 ghost use Rattle.managesieve_sessions.specs.Scripts.{is_active as is_active_name};
 ghost use Rattle.tar_entries.specs.Steps.{ends_archive};
 ghost use Rattle.cli_run.specs.Checks.{IsFindingLine};
@@ -10,9 +9,9 @@ ghost use Rattle.cli_run.specs.Draining.{TurnsTables};
 ghost use Rattle.cli_run.specs.Faults.{IsPrinted};
 ghost use Rattle.cli_run.specs.Promise.{status_after};
 ghost use Rattle.cli_run.specs.Serving.{HasDenied, HasGiven};
-ghost use Rattle.cli_run.specs.Streams.{InputFailed, ReadsToEnd};
+ghost use Rattle.cli_run.specs.Streams.{ReadGoesOn, ReadsToEnd, TellsEnd};
 ghost use Rattle.cli_run.specs.Subcommands.{DoesTakeOver, puts_for};
-ghost use Rattle.cli_run.specs.TakingOver.{HasArchive, IsNoArchive, TakesScript, TakesScripts, TellsRest, TellsVerdictOn, WordsOn, file_of, has_script as has_script_of, left_out_line, left_out_words, line_on_file, missing_line, more_line, rest_text, stored_lines};
+ghost use Rattle.cli_run.specs.TakingOver.{HasArchive, IsUnreadArchive, StopsInput, TakesPiece, TakesScript, TakesScripts, TellsRest, TellsVerdictOn, WordsOn, file_of, has_script as has_script_of, left_out_line, left_out_words, line_on_file, missing_line, more_line, rest_text, stored_lines};
 ghost use Rattle.cli_run.specs.Transitions.{across};
 
 use crate::account_read::{ScriptsOf, read_once};
@@ -78,24 +77,48 @@ fn read_archive<R: Read>(alloc: Global, input: &mut R) -> Result<SortedFiles, Ru
     ensures has { IfOk result (HasArchive (R.remaining input.old)) }
     ensures end { OnOk result (IsAtEnd (R.remaining input.new)) }
     ensures reads { OnOk result (ReadsToEnd R.remaining input.old input.new) }
-    ensures fault { IfErr result IsNoArchive }
+    ensures fault { IfErr result (IsUnreadArchive (R.remaining input.old)) }
 {
     let mut room = Vec::new(alloc);
     make_room(&mut room, 0)?;
     let mut intake = Intake::new(alloc);
     for _ in 0..MAX_READS {
-        match read_at(input, room.as_mut_slice(), 0)? {
-            Some(more) => intake = intake.take(alloc, &room.as_slice()[..more])?,
-            None => return files_of(intake),
+        let (after, is_last) = read_piece(alloc, input, room.as_mut_slice(), intake)?;
+        if is_last {
+            return files_of(after);
         }
+        intake = after;
     }
     Err(RunFault::Stream)
+}
+
+/// Makes one read, and takes what came as the next piece of the archive. Returns whether it was the last one: nothing is left.
+fn read_piece<R: Read>(
+    alloc: Global,
+    input: &mut R,
+    room: &mut [u8],
+    intake: Intake,
+) -> Result<(Intake, bool), RunFault>
+    requires { 0 < length room.old }
+    ensures late { status_after result ≢ 64 }
+    ensures takes { IfOk result (λ found. TakesPiece (R.remaining input.old) (R.remaining input.new) intake found.0) }
+    ensures goes { IfOk result (λ found. found.1 ≡ false → ReadGoesOn R.remaining input.old input.new) }
+    ensures tells { IfOk result (λ found. IsTrue found.1 → TellsEnd input.old input.new) }
+    ensures end { IfOk result (λ found. IsTrue found.1 → IsAtEnd (R.remaining input.new)) }
+    ensures fault { IfErr result (StopsInput (R.remaining input.old) intake) }
+{
+    let Some(more) = read_at(input, room, 0)? else {
+        return Ok((intake, true));
+    };
+    let after = intake.take(alloc, &room[..more])?;
+    Ok((after, false))
 }
 
 /// The files of an archive, if all of it came.
 fn files_of(intake: Intake) -> Result<SortedFiles, RunFault>
     ensures whole { OnOk result (IsTrue (ends_archive intake.reader.stage)) }
     ensures files { IfOk result (λ files. files ≡ intake.files) }
+    ensures cut { OnErr result (ends_archive intake.reader.stage ≡ false) }
     ensures fault { IfErr result (λ fault. fault ≡ RunFault.BadInput) }
 {
     if !intake.is_whole() {
