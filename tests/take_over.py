@@ -65,9 +65,11 @@ def formats(folder):
     host.write("sieve/t\u00e4glich.sieve", "stop;\n")
     host.write(f"sieve/{'n' * 120}.sieve", "keep;\n")
     os.symlink("sieve/main.sieve", f"{host.home}/.dovecot.sieve")
-    wanted = sorted(["stored main", "activated main", "stored away", "stored t\u00e4glich", f"stored {'n' * 120}"])
-    for form in ("gnu", "pax", "ustar", "posix", "oldgnu"):
-        assert host.take_over(host.tar(f"--format={form}")) == (0, wanted, ""), form
+    wanted = ["stored main", "activated main", "stored away", "stored t\u00e4glich"]
+    # The format ustar has no room for the long name.
+    assert host.take_over(host.tar("--format=ustar", "--exclude", "nnn*")) == (0, sorted(wanted), "")
+    for form in ("gnu", "pax", "posix", "oldgnu"):
+        assert host.take_over(host.tar(f"--format={form}")) == (0, sorted([*wanted, f"stored {'n' * 120}"]), ""), form
     assert host.scripts() == f'"away" "main" ACTIVE "{"n" * 120}" "t\u00e4glich"'
     assert host.word("scripts", "alice", "away") == (0, AWAY, "")
     return "gnu, pax, ustar, posix, oldgnu: four scripts"
@@ -123,17 +125,20 @@ def python(folder):
 @in_a_folder
 def large(folder):
     """A home with mail of 200 MB beside the scripts is read in pieces: the program takes no such memory."""
-    trials.need("tar", "sh")
+    trials.need("tar")
     host = Host(folder)
     host.write("sieve/main.sieve", "keep;\n")
     for number in range(20):
         with open(f"{host.home}/Maildir/cur/{number}", "wb") as file:
             file.truncate(10_000_000)
-    with subprocess.Popen(["tar", "-C", host.home, "-c", "."], stdout=subprocess.PIPE) as tar:
-        words = ["sh", "-c", 'ulimit -v 120000 && exec "$@"', "sh", *host.store.words("take-over"), "-", "alice"]
-        done = subprocess.run(words, stdin=tar.stdout, capture_output=True)
-    assert (done.returncode, done.stdout, done.stderr) == (0, b"stored main\n", b""), done
-    return "200 MB of other files, within 120 MB"
+    with subprocess.Popen(["tar", "-C", host.home, "-c", "."], stdout=subprocess.PIPE) as tar, tempfile.TemporaryFile() as said:
+        program = subprocess.Popen([*host.store.words("take-over"), "-", "alice"], stdin=tar.stdout, stdout=said)
+        _, status, used = os.wait4(program.pid, 0)
+        program.returncode = os.waitstatus_to_exitcode(status)
+        said.seek(0)
+        assert (program.returncode, said.read()) == (0, b"stored main\n")
+    assert used.ru_maxrss < 60_000, used.ru_maxrss
+    return f"200 MB of other files, in {used.ru_maxrss // 1_000} MB"
 
 
 TRIALS = {trial.__name__: trial for trial in (formats, unfit, python, large)}
