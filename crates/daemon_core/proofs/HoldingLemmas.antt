@@ -17,7 +17,7 @@ use Rattle.lmtp_connections.specs.Connections.{LmtpStep}
 use Rattle.lmtp_connections.specs.declared.connection.LmtpConnection.{LmtpConnection}
 use Rattle.managesieve_sessions.specs.Clients.{Client as Session, new_client}
 use Rattle.net_loop.specs.declared.act.Act.{Act}
-use Rattle.net_loop.specs.declared.act.Act.TheVariants.{Woke, Began, Timed, Late, Waits, Resumed, Worked, Came, NoneCame, Crowded, Displaced, Listened, InUse, Heard, ReadBlocked, Over, Sent, WriteBlocked, Lost, Noted, Full, Again, Shut, Dropped, Ended}
+use Rattle.net_loop.specs.declared.act.Act.TheVariants.{Woke, Began, Timed, Late, Waits, Resumed, Worked, Came, Called, NoneCame, Crowded, Displaced, Listened, InUse, Heard, ReadBlocked, Over, Sent, WriteBlocked, Lost, Noted, Full, Again, Shut, Dropped, Ended}
 use Rattle.net_loop.specs.declared.machine.Want.{Want}
 use Rattle.net_loop.specs.declared.machine.Want.TheVariants as want
 use Rattle.net_loop.specs.declared.service.Client.{Client}
@@ -57,6 +57,7 @@ use Rattle.daemon_core.proofs.LineLemmas.{Touches, touch_same, touch_connection,
 use Rattle.daemon_core.proofs.SumLemmas.{sums_less, sums_one, full_client, full_connection, full_at, full_sum}
 use Rattle.daemon_core.proofs.TurnLemmas.{wanted_at}
 use Rattle.daemon_core.proofs.UnreadLemmas.{gained, Grows, none_grows, event_grows}
+use Rattle.daemon_core.proofs.CallLemmas.{never_calls}
 
 -- ---- what an act makes of the octets that are unread
 
@@ -554,6 +555,7 @@ module _ {R : Type 0} (view : View R) (d e : MailDaemon) (r q : R) (s u : Servic
   bounded_then (Timed moment) said t more w is = stays t.0.0
   bounded_then (Began wake) said t more w is = stays t.0.0
   bounded_then (Resumed n) said t more w is = stays t.0.0
+  bounded_then (Called n kind) said t more w is = absurd (never_calls view d e s u n kind said t)
   bounded_then (NoneCame kind) said t more w is = stays t.0.0
   bounded_then (Crowded kind) said t more w is = stays t.0.0
   bounded_then (InUse n) said t more w is = stays t.0.0

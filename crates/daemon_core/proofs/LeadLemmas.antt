@@ -15,7 +15,7 @@ use Rattle.store_accounts.specs.declared.refusal.Refusal.{Refusal}
 use Rattle.store_engine.specs.Takings.{times}
 use Rattle.lmtp_connections.specs.Connections.{LmtpStep}
 use Rattle.net_loop.specs.declared.act.Act.{Act}
-use Rattle.net_loop.specs.declared.act.Act.TheVariants.{Woke, Began, Timed, Late, Waits, Resumed, Worked, Came, NoneCame, Crowded, Displaced, Listened, InUse, Heard, ReadBlocked, Over, Sent, WriteBlocked, Lost, Noted, Full, Again, Shut, Dropped, Ended}
+use Rattle.net_loop.specs.declared.act.Act.TheVariants.{Woke, Began, Timed, Late, Waits, Resumed, Worked, Came, Called, NoneCame, Crowded, Displaced, Listened, InUse, Heard, ReadBlocked, Over, Sent, WriteBlocked, Lost, Noted, Full, Again, Shut, Dropped, Ended}
 use Rattle.net_loop.specs.declared.service.Service.{Service}
 use Rattle.net_loop.specs.declared.turn.Turn.TheVariants.{OutOfMemory}
 use Rattle.net_loop.specs.Moves.{LeavesRest}
@@ -44,6 +44,7 @@ use Rattle.daemon_core.specs.declared.mail.MailDaemon.{MailDaemon}
 use Rattle.daemon_core.specs.declared.note.Note.{Note}
 use Rattle.daemon_core.specs.declared.note.Note.TheVariants.{Did, Away, Freed, Spoke, Answered, Asked, Looked, Moved, Gathered, Delivered, Parted, PutOff}
 use Rattle.daemon_core.proofs.EventLemmas.{clients_one, open_refused, give_refused, give_unheard}
+use Rattle.daemon_core.proofs.CallLemmas.{never_calls}
 
 unauthenticated_of : (o : Option Client) → has_login o ≡ false → IfSome o (λ c. c.user ≡ None)
 unauthenticated_of None is = tt
@@ -279,6 +280,7 @@ module _ {R : Type 0} (view : View R) (d e : MailDaemon) (r q : R) where
     leads (Timed moment) said w turns left is = (w, refl, same w is (kept turns.0.0) left)
     leads (Began wake) said w turns left is = (w, refl, same w is (kept turns.0.0) left)
     leads (Resumed id) said w turns left is = (w, refl, same w is (kept turns.0.0) left)
+    leads (Called id kind) said w turns left is = absurd (never_calls view d e s u id kind said turns)
     leads (NoneCame kind) said w turns left is = (w, refl, same w is (kept turns.0.0) left)
     leads (Crowded kind) said w turns left is = (w, refl, same w is (kept turns.0.0) left)
     leads (InUse id) said w turns left is = (w, refl, same w is (kept turns.0.0) left)

@@ -1,4 +1,5 @@
 pub mod BoundLemmas
+pub mod CallLemmas
 pub mod LmtpStepLemmas
 pub mod EventLemmas
 pub mod Examples

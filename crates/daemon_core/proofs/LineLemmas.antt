@@ -6,7 +6,7 @@ use Rattle.std.specs.BTreeMap as tree
 use Rattle.lmtp_connections.specs.declared.connection.LmtpConnection.{LmtpConnection}
 use Rattle.managesieve_sessions.specs.Clients.{Client as SessionClient}
 use Rattle.net_loop.specs.declared.act.Act.{Act}
-use Rattle.net_loop.specs.declared.act.Act.TheVariants.{Woke, Began, Timed, Late, Waits, Resumed, Worked, Came, NoneCame, Crowded, Displaced, Listened, InUse, Heard, ReadBlocked, Over, Sent, WriteBlocked, Lost, Noted, Full, Again, Shut, Dropped, Ended}
+use Rattle.net_loop.specs.declared.act.Act.TheVariants.{Woke, Began, Timed, Late, Waits, Resumed, Worked, Came, Called, NoneCame, Crowded, Displaced, Listened, InUse, Heard, ReadBlocked, Over, Sent, WriteBlocked, Lost, Noted, Full, Again, Shut, Dropped, Ended}
 use Rattle.net_loop.specs.declared.machine.Want.{Want}
 use Rattle.net_loop.specs.declared.service.Service.{Service}
 use Rattle.net_loop.specs.declared.turn.Task.TheVariants.{Step, Rest}
@@ -30,6 +30,7 @@ use Rattle.daemon_core.specs.declared.client_state.ClientState.{ClientState}
 use Rattle.daemon_core.specs.declared.client_state.SessionWait.{SessionWait as Waiting}
 use Rattle.daemon_core.specs.declared.client_state.SessionWait.TheVariants as waits
 use Rattle.daemon_core.proofs.TurnLemmas.{wanted_at}
+use Rattle.daemon_core.proofs.CallLemmas.{never_calls}
 
 -- ---- the moment
 
@@ -227,6 +228,7 @@ module _ {R : Type 0} (view : View R) (d e : MailDaemon) (r q : R) (s u : Servic
     tied_then (Timed moment) said t = still t.0.0
     tied_then (Began wake) said t = still t.0.0
     tied_then (Resumed n) said t = still t.0.0
+    tied_then (Called n kind) said t = absurd (never_calls view d e s u n kind said t)
     tied_then (NoneCame kind) said t = still t.0.0
     tied_then (Crowded kind) said t = still t.0.0
     tied_then (InUse n) said t = still t.0.0

@@ -9,7 +9,7 @@ use Rattle.lmtp_connections.specs.Connections.{LmtpState, new_lmtp_state, lmtp_s
 use Rattle.lmtp_connections.specs.Stands.{ConnectionStands}
 use Rattle.lmtp_connections.specs.declared.connection.LmtpConnection.{LmtpConnection as Code}
 use Rattle.net_loop.specs.declared.act.Act.{Act}
-use Rattle.net_loop.specs.declared.act.Act.TheVariants.{Woke, Began, Timed, Late, Waits, Resumed, Worked, Came, NoneCame, Crowded, Displaced, Listened, InUse, Heard, ReadBlocked, Over, Sent, WriteBlocked, Lost, Noted, Full, Again, Shut, Dropped, Ended}
+use Rattle.net_loop.specs.declared.act.Act.TheVariants.{Woke, Began, Timed, Late, Waits, Resumed, Worked, Came, Called, NoneCame, Crowded, Displaced, Listened, InUse, Heard, ReadBlocked, Over, Sent, WriteBlocked, Lost, Noted, Full, Again, Shut, Dropped, Ended}
 use Rattle.net_loop.specs.declared.service.Client.{Client}
 use Rattle.net_loop.specs.declared.service.Service.{Service}
 use Rattle.net_loop.specs.declared.turn.Turn.{Turn}
@@ -31,6 +31,7 @@ use Rattle.daemon_core.specs.declared.note.Note.{Note}
 use Rattle.daemon_core.specs.declared.client_state.ClientState.{ClientState}
 use Rattle.daemon_core.proofs.LineLemmas.{Touches, touch_same, touch_connection}
 use Rattle.daemon_core.proofs.SentLemmas.{Words, spells, Fits, words_after, fits_new, fits_after}
+use Rattle.daemon_core.proofs.CallLemmas.{never_calls}
 
 -- ---- how the daemon is set up stays
 
@@ -101,6 +102,7 @@ module _ {R : Type 0} (view : View R) (names : Names) (host : List ℕ) (d e : M
   stays_set_up (Timed moment) said t = left_so t.0.0
   stays_set_up (Began wake) said t = left_so t.0.0
   stays_set_up (Resumed n) said t = left_so t.0.0
+  stays_set_up (Called n kind) said t = absurd (never_calls view d e s u n kind said t)
   stays_set_up (NoneCame kind) said t = left_so t.0.0
   stays_set_up (Crowded kind) said t = left_so t.0.0
   stays_set_up (InUse n) said t = left_so t.0.0
@@ -316,6 +318,7 @@ module _ {R : Type 0} (view : View R) (names : Names) (host : List ℕ) (d e : M
 
     abbrev IsOther : Act Note → Type 0
     IsOther (Came n kind) = is_same_id n id ≡ false
+    IsOther (Called n kind) = is_same_id n id ≡ false
     IsOther act = Unit {0}
 
     fit : (act : Act Note) (said : List ℕ) → IsOther act → Fits id (words_of l) (client_of s id) s.turn → TurnAllows (mail_rules view) d r s act said e q u → ClientTalks s.moment id (client_of s id) act said (client_of u id)
@@ -337,6 +340,7 @@ module _ {R : Type 0} (view : View R) (names : Names) (host : List ℕ) (d e : M
     mail_then (Timed moment) said other t fits = (l, refl, still t.0.0, fits)
     mail_then (Began wake) said other t fits = (l, refl, still t.0.0, fits)
     mail_then (Resumed n) said other t fits = (l, refl, still t.0.0, fits)
+    mail_then (Called n kind) said other t fits = absurd (never_calls view d e s u n kind said t)
     mail_then (NoneCame kind) said other t fits = (l, refl, still t.0.0, fits)
     mail_then (Crowded kind) said other t fits = (l, refl, still t.0.0, fits)
     mail_then (InUse n) said other t fits = (l, refl, still t.0.0, fits)
@@ -424,6 +428,7 @@ module _ {R : Type 0} (view : View R) (names : Names) (host : List ℕ) (d e : M
   mail_some l bound fits (Timed moment) said t talks = let it = of_one l bound fits (Timed moment) said tt t talks in (Some it.0, (it.0, it.1, refl), it.2, it.3)
   mail_some l bound fits (Began wake) said t talks = let it = of_one l bound fits (Began wake) said tt t talks in (Some it.0, (it.0, it.1, refl), it.2, it.3)
   mail_some l bound fits (Resumed n) said t talks = let it = of_one l bound fits (Resumed n) said tt t talks in (Some it.0, (it.0, it.1, refl), it.2, it.3)
+  mail_some l bound fits (Called n kind) said t talks = absurd (never_calls view d e s u n kind said t)
   mail_some l bound fits (NoneCame kind) said t talks = let it = of_one l bound fits (NoneCame kind) said tt t talks in (Some it.0, (it.0, it.1, refl), it.2, it.3)
   mail_some l bound fits (Crowded kind) said t talks = let it = of_one l bound fits (Crowded kind) said tt t talks in (Some it.0, (it.0, it.1, refl), it.2, it.3)
   mail_some l bound fits (InUse n) said t talks = let it = of_one l bound fits (InUse n) said tt t talks in (Some it.0, (it.0, it.1, refl), it.2, it.3)

@@ -2,7 +2,7 @@
 use Rattle.std.proofs.Common.{◌≡◌, ◌⊎◌, inl, inr, ℕ, Bool, true, false, cond, List, [], ◌++◌, Option, Some, None, refl, sym, ◌∙◌, ap, subst, append_assoc, append-nil}
 use Rattle.std.specs.Cmp.{eq_by_cmp_equiv, nat_cmp_total}
 use Rattle.net_loop.specs.declared.act.Act.{Act}
-use Rattle.net_loop.specs.declared.act.Act.TheVariants.{Woke, Began, Timed, Late, Waits, Resumed, Worked, Came, NoneCame, Crowded, Displaced, Listened, InUse, Heard, ReadBlocked, Over, Sent, WriteBlocked, Lost, Noted, Full, Again, Shut, Dropped, Ended}
+use Rattle.net_loop.specs.declared.act.Act.TheVariants.{Woke, Began, Timed, Late, Waits, Resumed, Worked, Came, Called, NoneCame, Crowded, Displaced, Listened, InUse, Heard, ReadBlocked, Over, Sent, WriteBlocked, Lost, Noted, Full, Again, Shut, Dropped, Ended}
 use Rattle.net_loop.specs.declared.service.Client.{Client}
 use Rattle.net_loop.specs.declared.service.Phase.{Phase}
 use Rattle.net_loop.specs.declared.service.Phase.TheVariants as phase
@@ -196,6 +196,7 @@ module _ {M N R : Type 0} (rules : Rules M N R) (m n : M) (r q : R) (s u : Servi
     -- the connection itself didn't come
     abbrev IsOther : Act N → Type 0
     IsOther (Came k kind) = is_same_id k id ≡ false
+    IsOther (Called k kind) = is_same_id k id ≡ false
     IsOther act = Unit {0}
 
     whole_after : (act : Act N) (said : List ℕ) → IsOther act → Whole l (client_of s id) → TurnAllows rules m r s act said n q u → ClientTalks s.moment id (client_of s id) act said (client_of u id) → After said act
@@ -216,6 +217,7 @@ module _ {M N R : Type 0} (rules : Rules M N R) (m n : M) (r q : R) (s u : Servi
     whole_after (Began wake) said other whole t talks = stays whole talks
     whole_after (Resumed k) said other whole t talks = stays whole talks
     whole_after (Worked note) said other whole t talks = stays whole talks
+    whole_after (Called k kind) said other whole t talks = came_other (is_same_id k id) k kind said other whole talks
     whole_after (NoneCame kind) said other whole t talks = stays whole talks
     whole_after (Crowded kind) said other whole t talks = stays whole talks
     whole_after (InUse k) said other whole t talks = stays whole talks

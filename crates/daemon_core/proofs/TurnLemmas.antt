@@ -1,7 +1,7 @@
 -- Whose turn it is, and what a step is made for.
-use Rattle.std.proofs.Common.{◌≡◌, inl, inr, ℕ, ◌==◌, Bool, true, false, cond, List, [], ◌∷◌, Option, Some, None, refl, sym, ◌∙◌, subst}
+use Rattle.std.proofs.Common.{◌≡◌, ◌⊎◌, inl, inr, ℕ, ◌==◌, Bool, true, false, cond, List, [], ◌∷◌, Option, Some, None, refl, sym, ◌∙◌, subst}
 use Rattle.net_loop.specs.declared.act.Act.{Act}
-use Rattle.net_loop.specs.declared.act.Act.TheVariants.{Woke, Began, Timed, Late, Waits, Resumed, Worked, Came, NoneCame, Crowded, Displaced, Listened, InUse, Heard, ReadBlocked, Over, Sent, WriteBlocked, Lost, Noted, Full, Again, Shut, Dropped, Ended}
+use Rattle.net_loop.specs.declared.act.Act.TheVariants.{Woke, Began, Timed, Late, Waits, Resumed, Worked, Came, Called, NoneCame, Crowded, Displaced, Listened, InUse, Heard, ReadBlocked, Over, Sent, WriteBlocked, Lost, Noted, Full, Again, Shut, Dropped, Ended}
 use Rattle.net_loop.specs.declared.machine.Want.{Want}
 use Rattle.net_loop.specs.declared.service.Client.{Client}
 use Rattle.net_loop.specs.declared.service.Service.{Service}
@@ -13,7 +13,7 @@ use Rattle.net_loop.specs.declared.turn.Task.{Task}
 use Rattle.net_loop.specs.declared.turn.Task.TheVariants.{Send, Hear, Step, Rest, HangUp, Drain, End, Nothing}
 use Rattle.net_loop.specs.Rules.{Rules}
 use Rattle.net_loop.specs.Talk.{client_of, waits, gathers, task, task_by, task_sent, task_unsent, task_wanted, client_kind}
-use Rattle.net_loop.specs.Turns.{TurnAllows, Tasks, Calm, RestsOrCalm, MayWait, ReadEnds, Fails, Lacks, Yields, MayEnd}
+use Rattle.net_loop.specs.Turns.{TurnAllows, Tasks, Passed, PassedCall, Calm, RestsOrCalm, MayWait, ReadEnds, Fails, Lacks, Yields, MayEnd}
 
 -- a turn behind which one act alone may come
 abbrev IsBound : Turn → Type 0
@@ -39,6 +39,10 @@ module _ {M N R : Type 0} (rules : Rules M N R) (m n : M) (r q : R) (s u : Servi
   may_wait : MayWait rules m s → ⊥
   may_wait (inl is) = subst IsBound is bound
   may_wait (inr is) = calm is.0
+
+  passes_over : (k : ℕ) → Passed rules m s k u ⊎ PassedCall rules m s k u → ⊥
+  passes_over k (inl t) = subst IsBound t.door bound
+  passes_over k (inr t) = calm t.may.calm
 
   tasks : (k count : ℕ) (wanted : Task) → Tasks rules m s k count wanted → ⊥
   tasks k count wanted t = subst IsBound t.busy bound
@@ -72,11 +76,12 @@ module _ {M N R : Type 0} (rules : Rules M N R) (m n : M) (r q : R) (s u : Servi
   follows (Resumed k) said t = rests t.1
   follows (Worked note) said t = calm t.2.calm
   follows (Came k door) said t = subst IsBound t.0.door bound
+  follows (Called k door) said t = calm t.may.calm
   follows (NoneCame door) said t = subst IsBound t.1.door bound
   follows (Crowded door) said t = subst IsBound t.1.none.door bound
   follows (Displaced k) said t = subst IsBound t.0.1.door bound
   follows (Listened door) said t = subst IsBound t.1.door bound
-  follows (InUse k) said t = subst IsBound t.1.door bound
+  follows (InUse k) said t = passes_over k t.1
   follows (Heard k piece) said t = tasks k t.count Hear t.wanted
   follows (ReadBlocked k) said t = reads k Free u.turn t.1
   follows (Over k) said t = reads k (Leaving k (client_kind (client_of s k))) u.turn t.1

@@ -2,7 +2,7 @@
 use Rattle.std.proofs.Common.{◌≡◌, inl, inr, ℕ, ◌==◌, Bool, true, false, cond, List, [], ◌++◌, Option, Some, None, refl, sym, ◌∙◌, ap, subst}
 use Rattle.lmtp_connections.specs.declared.connection.LmtpConnection.{LmtpConnection as Code}
 use Rattle.net_loop.specs.declared.act.Act.{Act}
-use Rattle.net_loop.specs.declared.act.Act.TheVariants.{Woke, Began, Timed, Late, Waits, Resumed, Worked, Came, NoneCame, Crowded, Displaced, Listened, InUse, Heard, ReadBlocked, Over, Sent, WriteBlocked, Lost, Noted, Full, Again, Shut, Dropped, Ended}
+use Rattle.net_loop.specs.declared.act.Act.TheVariants.{Woke, Began, Timed, Late, Waits, Resumed, Worked, Came, Called, NoneCame, Crowded, Displaced, Listened, InUse, Heard, ReadBlocked, Over, Sent, WriteBlocked, Lost, Noted, Full, Again, Shut, Dropped, Ended}
 use Rattle.net_loop.specs.declared.service.Client.{Client}
 use Rattle.net_loop.specs.declared.service.Service.{Service}
 use Rattle.net_loop.specs.declared.turn.Turn.{Turn}
@@ -19,6 +19,7 @@ use Rattle.daemon_core.specs.declared.note.Note.{Note}
 use Rattle.daemon_core.specs.declared.client_state.ClientState.{ClientState}
 use Rattle.daemon_core.proofs.LineLemmas.{Tied, TiedBy}
 use Rattle.daemon_core.proofs.SentLemmas.{Words, spells, Fits, words_after, fits_new, fits_after}
+use Rattle.daemon_core.proofs.CallLemmas.{never_calls}
 
 abbrev pub words_of : SessionLine → Words
 words_of l = record { spelled = l.spelled; sent = l.sent }
@@ -55,6 +56,7 @@ module _ {R : Type 0} (view : View R) (d e : MailDaemon) (r q : R) (s u : Servic
 
     abbrev IsOther : Act Note → Type 0
     IsOther (Came n kind) = is_same_id n id ≡ false
+    IsOther (Called n kind) = is_same_id n id ≡ false
     IsOther act = Unit {0}
 
     fit : (act : Act Note) (said : List ℕ) → IsOther act → Fits id (words_of l) (client_of s id) s.turn → TurnAllows (mail_rules view) d r s act said e q u → ClientTalks s.moment id (client_of s id) act said (client_of u id)
@@ -93,6 +95,7 @@ module _ {R : Type 0} (view : View R) (d e : MailDaemon) (r q : R) (s u : Servic
     line_then (Timed moment) said t fits = fits
     line_then (Began wake) said t fits = fits
     line_then (Resumed n) said t fits = fits
+    line_then (Called n kind) said t fits = fits
     line_then (NoneCame kind) said t fits = fits
     line_then (Crowded kind) said t fits = fits
     line_then (InUse n) said t fits = fits
@@ -138,6 +141,7 @@ module _ {R : Type 0} (view : View R) (d e : MailDaemon) (r q : R) (s u : Servic
   line_some l tied fits (Timed moment) said t talks = one_after l tied (Timed moment) said tt fits t talks
   line_some l tied fits (Began wake) said t talks = one_after l tied (Began wake) said tt fits t talks
   line_some l tied fits (Resumed n) said t talks = one_after l tied (Resumed n) said tt fits t talks
+  line_some l tied fits (Called n kind) said t talks = absurd (never_calls view d e s u n kind said t)
   line_some l tied fits (NoneCame kind) said t talks = one_after l tied (NoneCame kind) said tt fits t talks
   line_some l tied fits (Crowded kind) said t talks = one_after l tied (Crowded kind) said tt fits t talks
   line_some l tied fits (InUse n) said t talks = one_after l tied (InUse n) said tt fits t talks

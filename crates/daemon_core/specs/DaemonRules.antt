@@ -184,6 +184,7 @@ daemon_rules view = record {
   claim = λ d now id. unauthenticated_claim now (client_state_at d id) (client_at d.clients.sessions id);
   wants = λ d id. want_of (client_state_at d id) (client_at d.clients.sessions id);
   has_work = λ d now. has_work d.holding now;
+  calls = λ d now. None;
   patience = patience_of;
   deadline = λ d id. due_of (client_state_at d id) (client_at d.clients.sessions id);
   opens = λ d now kind id said e. DaemonOpens d now id said e;

@@ -280,6 +280,7 @@ mail_rules view = record {
   claim = λ d now id. claim_by_kind now (is_flooded d.places.senders d.lmtp_connections.entries) (lmtp_connection_at d id) (client_state_at d.daemon id) (client_at d.daemon.clients.sessions id);
   wants = λ d id. wants_by (is_gathered d id) (lmtp_connection_at d id) (want_of (client_state_at d.daemon id) (client_at d.daemon.clients.sessions id));
   has_work = λ d now. has_gathered d || has_work d.daemon.holding now;
+  calls = λ d now. None;
   patience = patience_for;
   deadline = λ d id. due_by_kind (lmtp_connection_at d id) (due_of (client_state_at d.daemon id) (client_at d.daemon.clients.sessions id));
   opens = λ d now kind id said e. OpensBy (kind == lmtp) d now id said e;

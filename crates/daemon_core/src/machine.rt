@@ -61,6 +61,10 @@ impl<O: StoreAccess> Machine<O> for MailDaemon {
         has_gathered(self) || has_work(&self.daemon, now)
     }
 
+    fn calls(&self, _now: u64) -> Option<u32> {
+        None
+    }
+
     fn patience(&self) -> u32 {
         patience_for(self)
     }

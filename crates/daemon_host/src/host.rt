@@ -892,6 +892,11 @@ impl<S: HostSystem + Drop, E: Write + Drop, H: MailStore + Drop> Sockets for Hos
         self.system.accept(kind, id)
     }
 
+    fn connect(&mut self, kind: u32, id: u32) {
+        let _ = self.turns.enter(id, account_of(kind));
+        self.system.connect(kind, id)
+    }
+
     fn read(&mut self, id: u32, buffer: &mut [u8]) -> Input {
         let input = self.system.read(id, buffer);
         self.begin_act();

@@ -26,6 +26,9 @@ pub trait HostSystem {
     /// Accepts a waiting connection of that kind, under this number.
     fn accept(&mut self, kind: u32, id: u32) -> Accepted;
 
+    /// Begins to open a connection of that kind, under this number.
+    fn connect(&mut self, kind: u32, id: u32);
+
     /// Reads what there is of a connection, at most as many octets as the buffer has.
     fn read(&mut self, id: u32, buffer: &mut [u8]) -> Input
         requires { 0 < length buffer.old }
@@ -88,6 +91,10 @@ impl<N: Net + Clock> HostSystem for SocketsAndClock<'_, N> {
 
     fn accept(&mut self, kind: u32, id: u32) -> Accepted {
         self.sockets.accept(kind, id)
+    }
+
+    fn connect(&mut self, kind: u32, id: u32) {
+        self.sockets.connect(kind, id)
     }
 
     fn read(&mut self, id: u32, buffer: &mut [u8]) -> Input {

@@ -1,13 +1,14 @@
 -- How many connections are open.
-use Rattle.std.proofs.Common.{◌≡◌, ◌⊎◌, inl, inr, ℕ, suc, ◌≤◌, ◌<◌, ◌+◌, ◌==◌, Bool, true, false, cond, ◌||◌, List, [], ◌∷◌, length, filter, Option, Some, None, refl, sym, ◌∙◌, ap, subst, arith}
+use Rattle.std.proofs.Common.{◌≡◌, ◌⊎◌, inl, inr, ℕ, suc, ◌≤◌, ◌<◌, ◌+◌, ◌==◌, Bool, true, false, cond, nat_lt, ◌||◌, List, [], ◌∷◌, length, filter, Option, Some, None, refl, sym, ◌∙◌, ap, subst, arith}
 use Rattle.std.specs.BTreeMap.{is_at}
 use Rattle.std.specs.Cmp.{nat_cmp_is, unsigned_tied}
 use Rattle.std.specs.declared.cmp.Ordering.TheVariants.{Equal}
+use Rattle.std.proofs.lemmas.Bool.Decides.{nat_tests}
 use Rattle.std.specs.List.{list_any}
 use Rattle.std.specs.Map.{lookup, values_of}
 use Rattle.std.specs.Ordering.{nat_cmp, is_eq}
 use Rattle.net_loop.specs.declared.act.Act.{Act}
-use Rattle.net_loop.specs.declared.act.Act.TheVariants.{Woke, Timed, Late, Began, Resumed, Worked, Came, NoneCame, Crowded, Displaced, Listened, InUse, Heard, ReadBlocked, Over, Sent, WriteBlocked, Lost, Noted, Waits, Full, Again, Shut, Dropped, Ended}
+use Rattle.net_loop.specs.declared.act.Act.TheVariants.{Woke, Timed, Late, Began, Resumed, Worked, Came, Called, NoneCame, Crowded, Displaced, Listened, InUse, Heard, ReadBlocked, Over, Sent, WriteBlocked, Lost, Noted, Waits, Full, Again, Shut, Dropped, Ended}
 use Rattle.net_loop.specs.declared.service.Client.{Client}
 use Rattle.net_loop.specs.declared.service.Phase.{Phase}
 use Rattle.net_loop.specs.declared.service.Phase.TheVariants as phase
@@ -18,7 +19,7 @@ use Rattle.net_loop.specs.Life.{Move, PassesMoves, kind_by, kind_on, Distinct, B
 use Rattle.net_loop.specs.Moves.{Moment}
 use Rattle.net_loop.specs.Rules.{Rules, SameLimits, KeepsLimits}
 use Rattle.net_loop.specs.Talk.{is_same_id, client_of, client_kind, Comes, ClientStays, ClientAnswers, ClientSends, ClientParts, OrNothing, Shuts, DropsOctets, At, ClientTalks}
-use Rattle.net_loop.specs.Turns.{TurnAllows, open_count, Yields, MayAccept, ServiceOpens, HeardOrLacking, Silent, Parting, ReadEnds, Fails, Lacks, MayEnd, RestsOrCalm, Calm, MayWait}
+use Rattle.net_loop.specs.Turns.{TurnAllows, open_count, if_place, kind_to_call, Yields, Passed, PassedCall, OpensTo, HeardOrLacking, Silent, Parting, ReadEnds, Fails, Lacks, MayEnd, RestsOrCalm, Calm, MayWait}
 use Rattle.net_loop.proofs.LifeLemmas.{cut, talks_of, turns_of}
 use Rattle.net_loop.proofs.TalkLemmas.{one_number}
 
@@ -176,6 +177,10 @@ yields : {M N R : Type 0} (rules : Rules M N R) (m : M) (s : Service) (id n : �
 yields rules m s id n (inl w) h = not_stuck id s.turn (Busy n w.0) w.1 refl h
 yields rules m s id n (inr w) h = not_stuck id s.turn (Busy n w.0) w.1.busy refl h
 
+passes_over : {M N R : Type 0} (rules : Rules M N R) (m : M) (s u : Service) (id n : ℕ) → Passed rules m s n u ⊎ PassedCall rules m s n u → stuck s.turn ≡ Some id → ⊥
+passes_over rules m s u id n (inl w) h = not_stuck id s.turn (Accepting w.kind w.knocked) w.door refl h
+passes_over rules m s u id n (inr w) h = calm rules m s id w.may.calm h
+
 over : {M N R : Type 0} (rules : Rules M N R) (m k : M) (r q : R) (s u : Service) (id : ℕ) (act : Act N) (said : List ℕ) → TurnAllows rules m r s act said k q u → stuck s.turn ≡ Some id → IsOver id act u.turn
 over rules m k r q s u id (Full n) said t h = full rules m k s u id n t.1 h
 over rules m k r q s u id (Ended n) said t h = ended rules m s id n t.2.0 t.2.1 h
@@ -186,11 +191,12 @@ over rules m k r q s u id (Began wake) said t h = rests rules m s id t.1 h
 over rules m k r q s u id (Resumed n) said t h = rests rules m s id t.1 h
 over rules m k r q s u id (Worked note) said t h = calm rules m s id t.2.calm h
 over rules m k r q s u id (Came n door) said t h = not_stuck id s.turn (Accepting door t.0.knocked) t.0.door refl h
+over rules m k r q s u id (Called n door) said t h = calm rules m s id t.may.calm h
 over rules m k r q s u id (NoneCame door) said t h = not_stuck id s.turn (Accepting door t.1.knocked) t.1.door refl h
 over rules m k r q s u id (Crowded door) said t h = not_stuck id s.turn (Accepting door t.1.knocked) t.1.none.door refl h
 over rules m k r q s u id (Displaced n) said t h = not_stuck id s.turn (Accepting t.0.0 true) t.0.1.door refl h
 over rules m k r q s u id (Listened door) said t h = not_stuck id s.turn (Accepting door false) t.1.door refl h
-over rules m k r q s u id (InUse n) said t h = not_stuck id s.turn (Accepting t.1.kind t.1.knocked) t.1.door refl h
+over rules m k r q s u id (InUse n) said t h = passes_over rules m s u id n t.1 h
 over rules m k r q s u id (Heard n piece) said t h = not_stuck id s.turn (Busy n t.count) t.wanted.busy refl h
 over rules m k r q s u id (ReadBlocked n) said t h = reads rules m s id n Free u.turn t.1 h
 over rules m k r q s u id (Over n) said t h = reads rules m s id n (Leaving n (client_kind (client_of s n))) u.turn t.1 h
@@ -247,18 +253,23 @@ keeps_or id kind o p from to right still (inr is) = inr (still is)
 some_is : (a b : ℕ) → Some a ≡ Some b → a ≡ b
 some_is a b is = cc
 
-opened : {M N R : Type 0} (rules : Rules M N R) (m k : M) (now n id door kind : ℕ) (said : List ℕ) (u : Service) → ServiceOpens rules m now n door said k u → n ≡ id → door ≡ kind → IsKept id kind (client_of u id) u.turn
-opened rules m k now n id door kind said u (inl h) is of =
+opened : {M N R : Type 0} (to : Turn) (rules : Rules M N R) (m k : M) (now n id door kind : ℕ) (said : List ℕ) (u : Service) → OpensTo to rules m now n door said k u → n ≡ id → door ≡ kind → IsKept id kind (client_of u id) u.turn
+opened to rules m k now n id door kind said u (inl h) is of =
     inl (subst (λ i. is_of kind (client_of u i) ≡ true) is (subst (λ w. is_of kind w ≡ true) (sym h.1) (is_itself door kind of)))
-opened rules m k now n id door kind said u (inr h) is of = inr (subst (λ t. stuck t ≡ Some id) (sym h.1) (ap (λ i. Some i) is))
+opened to rules m k now n id door kind said u (inr h) is of = inr (subst (λ t. stuck t ≡ Some id) (sym h.1) (ap (λ i. Some i) is))
 
 kept_act : {M N R : Type 0} (rules : Rules M N R) (m k : M) (r q : R) (s u : Service) (id kind : ℕ) (o : Option ℕ) (act : Act N) (said : List ℕ) → TurnAllows rules m r s act said k q u
     → ClientTalks s.moment id (client_of s id) act said (client_of u id) → (o ≡ Some kind → IsKept id kind (client_of s id) s.turn) → kind_by id o act ≡ Some kind → IsKept id kind (client_of u id) u.turn
 kept_act rules m k r q s u id kind o (Came n door) said t talks kept is = go (is_same_id n id) refl talks is
   where
     go : (b : Bool) → is_same_id n id ≡ b → At b (Comes s.moment n door said (client_of s id) (client_of u id)) (client_of u id ≡ client_of s id) → cond b (Some door) o ≡ Some kind → IsKept id kind (client_of u id) u.turn
-    go true at comes of = opened rules m k s.moment n id door kind said u t.3 (one_number n id at) (some_is door kind of)
+    go true at comes of = opened (Accepting door false) rules m k s.moment n id door kind said u t.3 (one_number n id at) (some_is door kind of)
     go false at stays of = keeps_or id kind (client_of s id) (client_of u id) s.turn u.turn (same_keeps kind (client_of s id) (client_of u id) stays) (λ h. absurd (over rules m k r q s u id (Came n door) said t h)) (kept of)
+kept_act rules m k r q s u id kind o (Called n door) said t talks kept is = go (is_same_id n id) refl talks is
+  where
+    go : (b : Bool) → is_same_id n id ≡ b → At b (Comes s.moment n door said (client_of s id) (client_of u id)) (client_of u id ≡ client_of s id) → cond b (Some door) o ≡ Some kind → IsKept id kind (client_of u id) u.turn
+    go true at comes of = opened Rested rules m k s.moment n id door kind said u t.opens (one_number n id at) (some_is door kind of)
+    go false at stays of = keeps_or id kind (client_of s id) (client_of u id) s.turn u.turn (same_keeps kind (client_of s id) (client_of u id) stays) (λ h. absurd (over rules m k r q s u id (Called n door) said t h)) (kept of)
 kept_act rules m k r q s u id kind o (Ended n) said t talks kept is = go (is_same_id n id) refl talks is
   where
     go : (b : Bool) → is_same_id n id ≡ b → At b (client_of u id ≡ None) (client_of u id ≡ client_of s id) → cond b None o ≡ Some kind → IsKept id kind (client_of u id) u.turn
@@ -306,9 +317,9 @@ kept_act rules m k r q s u id kind o act said t talks kept is =
 silent_keeps : {M N R : Type 0} (rules : Rules M N R) (m k : M) (said : List ℕ) → Silent m said k → SameLimits rules m k
 silent_keeps rules m k said t kind = ap (λ x. rules.limit x kind) t.0
 
-opening_keeps : {M N R : Type 0} (rules : Rules M N R) (m k : M) (now n door : ℕ) (said : List ℕ) (u : Service) → KeepsLimits rules → ServiceOpens rules m now n door said k u → SameLimits rules m k
-opening_keeps rules m k now n door said u keeps (inl h) = keeps.opens m now door n said k h.0
-opening_keeps rules m k now n door said u keeps (inr h) = elim h.2 [ inl opens ↦ keeps.opens m now door n said k opens | inr lacks ↦ keeps.lacks m n k lacks ]
+opening_keeps : {M N R : Type 0} (to : Turn) (rules : Rules M N R) (m k : M) (now n door : ℕ) (said : List ℕ) (u : Service) → KeepsLimits rules → OpensTo to rules m now n door said k u → SameLimits rules m k
+opening_keeps to rules m k now n door said u keeps (inl h) = keeps.opens m now door n said k h.0
+opening_keeps to rules m k now n door said u keeps (inr h) = elim h.2 [ inl opens ↦ keeps.opens m now door n said k opens | inr lacks ↦ keeps.lacks m n k lacks ]
 
 hearing_keeps : {M N R : Type 0} (rules : Rules M N R) (m k : M) (now id kind count : ℕ) (piece said : List ℕ) (turn : Turn) → KeepsLimits rules
     → HeardOrLacking (rules.gives m now id piece said k) (rules.lacks m id k) id kind count said turn → SameLimits rules m k
@@ -329,7 +340,8 @@ same_limits : {M N R : Type 0} (rules : Rules M N R) (m k : M) (r q : R) (s u : 
 same_limits rules m k r q s u (Late n) said keeps t = parting_keeps rules m k s u n said keeps t.2
 same_limits rules m k r q s u (Displaced n) said keeps t = parting_keeps rules m k s u n said keeps t.1
 same_limits rules m k r q s u (Worked note) said keeps t = keeps.works m r s.moment note k q t.0
-same_limits rules m k r q s u (Came n door) said keeps t = opening_keeps rules m k s.moment n door said u keeps t.3
+same_limits rules m k r q s u (Came n door) said keeps t = opening_keeps (Accepting door false) rules m k s.moment n door said u keeps t.3
+same_limits rules m k r q s u (Called n door) said keeps t = opening_keeps Rested rules m k s.moment n door said u keeps t.opens
 same_limits rules m k r q s u (Heard n piece) said keeps t = hearing_keeps rules m k s.moment n (client_kind (client_of s n)) t.count piece said u.turn keeps t.goes
 same_limits rules m k r q s u (Noted n note) said keeps t = keeps.steps m r s.moment n note said k q t.0
 same_limits rules m k r q s u (Full n) said keeps t = lacking_keeps rules m k s u n keeps t.1
@@ -365,9 +377,9 @@ differ-flips a b is = go (is_same_id b a) refl
     go true at = let one : is_same_id a b ≡ true = same-flips b a at in let never : ⊥ = cc in absurd never
     go false at = refl
 
-at_door : (id kind : ℕ) (o : Option Client) (turn to : Turn) → turn ≡ to → stuck to ≡ None → IsKept id kind o turn → is_of kind o ≡ true
-at_door id kind o turn to is none (inl h) = h
-at_door id kind o turn to is none (inr h) = absurd (not_stuck id turn to is none h)
+is_there : (id kind : ℕ) (o : Option Client) (turn : Turn) → (stuck turn ≡ Some id → ⊥) → IsKept id kind o turn → is_of kind o ≡ true
+is_there id kind o turn apart (inl h) = h
+is_there id kind o turn apart (inr h) = absurd (apart h)
 
 open_before : (b : Bool) (door kind : ℕ) (o : Option ℕ) → b ≡ false → cond b (Some door) o ≡ Some kind → o ≡ Some kind
 open_before true door kind o is h = let never : ⊥ = cc in absurd never
@@ -381,27 +393,57 @@ still_open : (b : Bool) (kind : ℕ) (o : Option ℕ) → cond b None o ≡ Some
 still_open true kind o h = let never : ⊥ = cc in absurd never
 still_open false kind o h = h
 
+-- there was a place for one that this side opened
+less : (a b : ℕ) → nat_lt a b ≡ true → a < b
+less a b is = grind (arith, nat_tests)
+
+called_place : {M N R : Type 0} (rules : Rules M N R) (m : M) (s : Service) (kind : ℕ) → kind_to_call rules m s ≡ Some kind → open_count kind s < rules.limit m kind
+called_place rules m s kind is = go (rules.calls m s.moment) is
+  where
+    by : (of : ℕ) (b : Bool) → nat_lt (open_count of s) (rules.limit m of) ≡ b → cond b (Some of) None ≡ Some kind → open_count kind s < rules.limit m kind
+    by of true at is = subst (λ k. open_count k s < rules.limit m k) (some_is of kind is) (less (open_count of s) (rules.limit m of) at)
+    by of false at is = let never : ⊥ = cc in absurd never
+
+    go : (o : Option ℕ) → if_place rules m s o ≡ Some kind → open_count kind s < rules.limit m kind
+    go None is = let never : ⊥ = cc in absurd never
+    go (Some of) is = by of (nat_lt (open_count of s) (rules.limit m of)) refl is
+
+called_kind : {M N R : Type 0} (rules : Rules M N R) (m : M) (s : Service) (kind : ℕ) → kind_to_call rules m s ≡ Some kind → rules.calls m s.moment ≡ Some kind
+called_kind rules m s kind is = go (rules.calls m s.moment) is
+  where
+    by : (of : ℕ) (b : Bool) → cond b (Some of) None ≡ Some kind → Some of ≡ Some kind
+    by of true is = is
+    by of false is = let never : ⊥ = cc in absurd never
+
+    go : (o : Option ℕ) → if_place rules m s o ≡ Some kind → o ≡ Some kind
+    go None is = is
+    go (Some of) is = by of (nat_lt (open_count of s) (rules.limit m of)) is
+
+-- a new one of a kind for which there is a place, at a turn that is nobody's or a listener's
 few_came : {M N R : Type 0} (rules : Rules M N R) (m : M) (limit : ℕ → ℕ) (open_kind : ℕ → Option ℕ) (s : Service) (n door kind : ℕ) (ids : List ℕ)
-    → ((of : ℕ) → rules.limit m of ≡ limit of) → Held limit open_kind s → MayAccept rules m s door
-    → Distinct (λ id. kind_by {N = N} id (open_kind id) (Came n door) ≡ Some kind) ids → length ids ≤ limit kind
-few_came {N = N} rules m limit open_kind s n door kind ids same held admits d = go (door == kind) refl
+    → ((of : ℕ) → rules.limit m of ≡ limit of) → Held limit open_kind s → ((id : ℕ) → stuck s.turn ≡ Some id → ⊥) → open_count door s < rules.limit m door
+    → Distinct (λ id. cond (is_same_id n id) (Some door) (open_kind id) ≡ Some kind) ids → length ids ≤ limit kind
+few_came rules m limit open_kind s n door kind ids same held apart has d = go (door == kind) refl
   where
     go : (b : Bool) → (door == kind) ≡ b → length ids ≤ limit kind
     go true is =
         let others : Distinct (λ id. is_of kind (client_of s id) ≡ true) (without n ids) =
-        weaker (λ id. (kind_by {N = N} id (open_kind id) (Came n door) ≡ Some kind) × (is_same_id id n ≡ false)) (λ id. is_of kind (client_of s id) ≡ true) (without n ids)
-        (λ id h. at_door id kind (client_of s id) s.turn (Accepting door admits.knocked) admits.door refl (held.kept id kind (open_before (is_same_id n id) door kind (open_kind id) (differ-flips id n h.1) h.0)))
-        (others_differ (λ id. kind_by {N = N} id (open_kind id) (Came n door) ≡ Some kind) n ids d) in
+        weaker (λ id. (cond (is_same_id n id) (Some door) (open_kind id) ≡ Some kind) × (is_same_id id n ≡ false)) (λ id. is_of kind (client_of s id) ≡ true) (without n ids)
+        (λ id h. is_there id kind (client_of s id) s.turn (apart id) (held.kept id kind (open_before (is_same_id n id) door kind (open_kind id) (differ-flips id n h.1) h.0)))
+        (others_differ (λ id. cond (is_same_id n id) (Some door) (open_kind id) ≡ Some kind) n ids d) in
         let some : length (without n ids) ≤ open_count kind s = no_more kind s.clients.entries (without n ids) others in
-        let one : length ids ≤ length (without n ids) + 1 = one_taken_out (λ id. kind_by {N = N} id (open_kind id) (Came n door) ≡ Some kind) n ids d in
-        let place : open_count kind s < rules.limit m kind = subst (λ k. open_count k s < rules.limit m k) (one_number door kind (unsigned_tied door kind ∙ is)) admits.place in
+        let one : length ids ≤ length (without n ids) + 1 = one_taken_out (λ id. cond (is_same_id n id) (Some door) (open_kind id) ≡ Some kind) n ids d in
+        let place : open_count kind s < rules.limit m kind = subst (λ k. open_count k s < rules.limit m k) (one_number door kind (unsigned_tied door kind ∙ is)) has in
         omega (arith, some, one, place, same kind)
-    go false is = held.few kind ids (weaker (λ id. kind_by {N = N} id (open_kind id) (Came n door) ≡ Some kind) (λ id. open_kind id ≡ Some kind) ids (λ id h. other_kind (is_same_id n id) door kind (open_kind id) is h) d)
+    go false is = held.few kind ids (weaker (λ id. cond (is_same_id n id) (Some door) (open_kind id) ≡ Some kind) (λ id. open_kind id ≡ Some kind) ids (λ id h. other_kind (is_same_id n id) door kind (open_kind id) is h) d)
 
 few_act : {M N R : Type 0} (rules : Rules M N R) (m k : M) (r q : R) (s u : Service) (limit : ℕ → ℕ) (open_kind : ℕ → Option ℕ) (act : Act N) (said : List ℕ) (kind : ℕ) (ids : List ℕ)
     → ((of : ℕ) → rules.limit m of ≡ limit of) → Held limit open_kind s → TurnAllows rules m r s act said k q u
     → Distinct (λ id. kind_by id (open_kind id) act ≡ Some kind) ids → length ids ≤ limit kind
-few_act rules m k r q s u limit open_kind (Came n door) said kind ids same held t d = few_came rules m limit open_kind s n door kind ids same held t.0 d
+few_act rules m k r q s u limit open_kind (Came n door) said kind ids same held t d =
+    few_came rules m limit open_kind s n door kind ids same held (λ id h. not_stuck id s.turn (Accepting door t.0.knocked) t.0.door refl h) t.0.place d
+few_act rules m k r q s u limit open_kind (Called n door) said kind ids same held t d =
+    few_came rules m limit open_kind s n door kind ids same held (λ id h. calm rules m s id t.may.calm h) (called_place rules m s door t.may.asked) d
 few_act {N = N} rules m k r q s u limit open_kind (Ended n) said kind ids same held t d =
     held.few kind ids (weaker (λ id. kind_by {N = N} id (open_kind id) (Ended n) ≡ Some kind) (λ id. open_kind id ≡ Some kind) ids (λ id h. still_open (is_same_id n id) kind (open_kind id) h) d)
 few_act rules m k r q s u limit open_kind _ said kind ids same held t d = held.few kind ids d
@@ -423,11 +465,15 @@ none_yet : (limit kind : ℕ) (ids : List ℕ) → Distinct (λ id. None ≡ Som
 none_yet limit kind [] d = omega arith
 none_yet limit kind (id ∷ ids) d = let is = d.0 in let never : ⊥ = cc in absurd never
 
+-- from no connection on
+held_fresh : {M N R : Type 0} (rules : Rules M N R) → KeepsLimits rules → (m : Moment M N R) (moves : List (Move N)) (n : Moment M N R) → PassesMoves rules m moves n
+    → Held (rules.limit m.machine) (λ id. kind_on id None moves) n.service
+held_fresh rules keeps m moves n passes = held_on rules m moves n (rules.limit m.machine) (λ id. None) keeps passes (λ of. refl) (record {
+  kept = λ id of is. let never : ⊥ = cc in absurd never;
+  few = λ of others differ. none_yet (rules.limit m.machine of) of others differ;
+})
+
 pub bounded : {M N R : Type 0} (rules : Rules M N R) → KeepsLimits rules → Bounded rules
 bounded rules keeps = λ m n some rest fresh passes kind ids d.
     let first = cut rules m some rest n passes in
-    let held = held_on rules m some first.0 (rules.limit m.machine) (λ id. None) keeps first.1 (λ of. refl) (record {
-      kept = λ id of is. let never : ⊥ = cc in absurd never;
-      few = λ of others differ. none_yet (rules.limit m.machine of) of others differ;
-    }) in
-    held.few kind ids d
+    (held_fresh rules keeps m some first.0 first.1).few kind ids d

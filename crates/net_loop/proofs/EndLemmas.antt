@@ -1,16 +1,16 @@
 -- Why connections end: whose turn it is tells the last act.
-use Rattle.std.proofs.Common.{◌≡◌, inl, inr, ℕ, List, Option, Some, None}
+use Rattle.std.proofs.Common.{◌≡◌, ◌⊎◌, inl, inr, ℕ, false, List, Option, Some, None, sym, ◌∙◌}
 use Rattle.net_loop.specs.declared.act.Act.{Act}
-use Rattle.net_loop.specs.declared.act.Act.TheVariants.{Woke, Timed, Late, Began, Resumed, Worked, Came, NoneCame, Crowded, Displaced, Listened, InUse, Heard, ReadBlocked, Over, Sent, WriteBlocked, Lost, Noted, Waits, Full, Again, Shut, Dropped, Ended}
+use Rattle.net_loop.specs.declared.act.Act.TheVariants.{Woke, Timed, Late, Began, Resumed, Worked, Came, Called, NoneCame, Crowded, Displaced, Listened, InUse, Heard, ReadBlocked, Over, Sent, WriteBlocked, Lost, Noted, Waits, Full, Again, Shut, Dropped, Ended}
 use Rattle.net_loop.specs.declared.outcome.Wake.{Wake}
 use Rattle.net_loop.specs.declared.outcome.Wake.TheVariants.{Knock, Ready}
 use Rattle.net_loop.specs.declared.service.Client.{Client}
 use Rattle.net_loop.specs.declared.service.Service.{Service}
 use Rattle.net_loop.specs.declared.turn.Turn.{Turn}
-use Rattle.net_loop.specs.declared.turn.Turn.TheVariants.{Free, Leaving}
+use Rattle.net_loop.specs.declared.turn.Turn.TheVariants.{Free, Rested, Sweep, Accepting, Leaving}
 use Rattle.net_loop.specs.Rules.{Rules}
 use Rattle.net_loop.specs.Talk.{client_of, client_kind}
-use Rattle.net_loop.specs.Turns.{TurnAllows, turn_at, turn_for_wake, ServiceOpens, HeardOrLacking, ReadEnds, Fails, Lacks, Parting}
+use Rattle.net_loop.specs.Turns.{TurnAllows, turn_at, turn_for_wake, Calm, Passed, PassedCall, OpensTo, HeardOrLacking, ReadEnds, Fails, Lacks, Parting}
 use Rattle.net_loop.specs.Life.{IsCause}
 
 by_ready : (id n kind : ℕ) (o : Option Client) (turn : Turn) → turn ≡ turn_at n o → turn ≡ Leaving id kind → ⊥
@@ -21,9 +21,17 @@ by_wake : (id kind : ℕ) (wake : Wake) (s : Service) (turn : Turn) → turn ≡
 by_wake id kind (Knock k) s turn is leaving = cc
 by_wake id kind (Ready n) s turn is leaving = by_ready id n kind (client_of s n) turn is leaving
 
-opens : {M N R : Type 0} (rules : Rules M N R) (m k : M) (now id n kind door : ℕ) (said : List ℕ) (u : Service) → ServiceOpens rules m now n door said k u → u.turn ≡ Leaving id kind → ⊥
-opens rules m k now id n kind door said u (inl o) leaving = let is = o.2 in cc
-opens rules m k now id n kind door said u (inr o) leaving = let is = o.1 in cc
+opens : {M N R : Type 0} (to : Turn) (rules : Rules M N R) (m k : M) (now id n kind door : ℕ) (said : List ℕ) (u : Service) → (to ≡ Leaving id kind → ⊥) → OpensTo to rules m now n door said k u → u.turn ≡ Leaving id kind → ⊥
+opens to rules m k now id n kind door said u other (inl o) leaving = other (sym o.2 ∙ leaving)
+opens to rules m k now id n kind door said u other (inr o) leaving = let is = o.1 in cc
+
+not_calm : {M N R : Type 0} (rules : Rules M N R) (m : M) (s : Service) (id kind : ℕ) → Calm rules m s → s.turn ≡ Leaving id kind → ⊥
+not_calm rules m s id kind (inl is) leaving = cc
+not_calm rules m s id kind (inr w) leaving = let is = w.0 in cc
+
+passes_over : {M N R : Type 0} (rules : Rules M N R) (m : M) (s u : Service) (id n kind : ℕ) → Passed rules m s n u ⊎ PassedCall rules m s n u → u.turn ≡ Leaving id kind → ⊥
+passes_over rules m s u id n kind (inl w) leaving = let is = w.stays in cc
+passes_over rules m s u id n kind (inr w) leaving = not_calm rules m s id kind w.may.calm (sym w.stays ∙ leaving)
 
 goes : (done lacks : Type 0) (id n kind k count : ℕ) (said : List ℕ) (turn : Turn) → HeardOrLacking done lacks n k count said turn → turn ≡ Leaving id kind → ⊥
 goes done lacks id n kind k count said turn (inl g) leaving = let is = g.1 in cc
@@ -65,12 +73,13 @@ cause_of rules m k r q s u id kind (Timed moment) said t leaving = let is = t.2 
 cause_of rules m k r q s u id kind (Began wake) said t leaving = absurd (by_wake id kind wake s u.turn t.2 leaving)
 cause_of rules m k r q s u id kind (Resumed n) said t leaving = absurd (by_ready id n kind (client_of s n) u.turn t.3 leaving)
 cause_of rules m k r q s u id kind (Worked note) said t leaving = let is = t.3 in cc
-cause_of rules m k r q s u id kind (Came n door) said t leaving = absurd (opens rules m k s.moment id n kind door said u t.3 leaving)
+cause_of rules m k r q s u id kind (Came n door) said t leaving = absurd (opens (Accepting door false) rules m k s.moment id n kind door said u (λ is. cc) t.3 leaving)
+cause_of rules m k r q s u id kind (Called n door) said t leaving = absurd (opens Rested rules m k s.moment id n kind door said u (λ is. cc) t.opens leaving)
 cause_of rules m k r q s u id kind (NoneCame door) said t leaving = let is = t.2 in cc
 cause_of rules m k r q s u id kind (Crowded door) said t leaving = let is = t.2 in cc
 cause_of rules m k r q s u id kind (Displaced n) said t leaving = parting rules m k s u id n kind said t.1 leaving
 cause_of rules m k r q s u id kind (Listened door) said t leaving = let is = t.3 in cc
-cause_of rules m k r q s u id kind (InUse n) said t leaving = let is = t.1.stays in cc
+cause_of rules m k r q s u id kind (InUse n) said t leaving = absurd (passes_over rules m s u id n kind t.1 leaving)
 cause_of rules m k r q s u id kind (Heard n piece) said t leaving = absurd (goes (rules.gives m s.moment n piece said k) (rules.lacks m n k) id n kind (client_kind (client_of s n)) t.count said u.turn t.goes leaving)
 cause_of rules m k r q s u id kind (ReadBlocked n) said t leaving = absurd (blocked rules m s id n kind u.turn t.1 leaving)
 cause_of rules m k r q s u id kind (Sent n octets) said t leaving = let is = t.1.2 in cc

@@ -1,6 +1,7 @@
 -- Right cases of the definitions, and near misses.
-use Rattle.std.proofs.Common.{◌≡◌, ℕ, ◌+◌, ◌-◌, ◌^◌, true, false, if◌then◌else◌, List, [], ◌∷◌, Option, Some, None, refl, arith}
-use Rattle.net_loop.specs.declared.act.Act.TheVariants.{Woke, Began, Timed, Waits, Resumed, Came, Sent, Noted, Ended}
+use Rattle.std.proofs.Common.{◌≡◌, inl, ℕ, ◌+◌, ◌-◌, ◌^◌, true, false, if◌then◌else◌, List, [], ◌∷◌, length, filter, nat_lt, ◌==◌, Option, Some, None, refl, ◌∙◌, ap, arith}
+use Rattle.std.specs.Map.{values_of}
+use Rattle.net_loop.specs.declared.act.Act.TheVariants.{Woke, Began, Timed, Waits, Resumed, Came, Called, Sent, Noted, Ended}
 use Rattle.net_loop.specs.declared.machine.Claim.{Claim}
 use Rattle.net_loop.specs.declared.machine.Want.TheVariants as want
 use Rattle.net_loop.specs.declared.outcome.Wake.{Wake}
@@ -9,13 +10,14 @@ use Rattle.net_loop.specs.declared.service.Client.{Client}
 use Rattle.net_loop.specs.declared.service.Service.{Service}
 use Rattle.net_loop.specs.declared.service.Phase.TheVariants as phase
 use Rattle.net_loop.specs.declared.turn.Task.TheVariants.{Send, Hear, Step, Rest, HangUp, Drain, End}
-use Rattle.net_loop.specs.Moves.{ReadyAfter, WaitingAfter, MomentAfter, SinceAfter, LeavesRest}
+use Rattle.net_loop.specs.Calls.{BeginsAs}
+use Rattle.net_loop.specs.Moves.{ReadyAfter, WaitingAfter, MomentAfter, NextAfter, SinceAfter, LeavesRest}
 use Rattle.net_loop.specs.Life.{Move, AreOpen}
 use Rattle.net_loop.specs.Rules.{Rules, KeepsLimits}
 use Rattle.net_loop.specs.Talk.{shut_from, ClientSends, ClientTalks, is_late_at, newcomer, gathers, task, task_by}
 use Rattle.net_loop.proofs.TalkLemmas.{hear_quiet}
 use Rattle.net_loop.specs.Room.{goes_before, best_from, best_number, may_go}
-use Rattle.net_loop.specs.Turns.{numbers_between, came_among}
+use Rattle.net_loop.specs.Turns.{numbers_between, came_among, kind_to_call}
 
 -- ---- what is to be done
 
@@ -208,6 +210,16 @@ gone id = record { act = Ended id; said = [] }
 two_are_open : AreOpen 7 (came 1 7 ∷ came 2 7 ∷ []) (1 ∷ 2 ∷ [])
 two_are_open = (refl, refl, (refl, refl, tt))
 
+-- one that this side opened counts as one that came
+abbrev called : ℕ → ℕ → Move ℕ
+called id kind = record { act = Called id kind; said = [] }
+
+called_is_open : AreOpen 7 (came 1 7 ∷ called 2 7 ∷ []) (1 ∷ 2 ∷ [])
+called_is_open = (refl, refl, (refl, refl, tt))
+
+not_called_behind_its_end : AreOpen 7 (called 1 7 ∷ gone 1 ∷ []) (1 ∷ []) → ⊥
+not_called_behind_its_end told = let is = told.0 in cc
+
 -- near misses: one counts once; not behind its end; not as another kind
 not_twice : AreOpen 7 (came 1 7 ∷ []) (1 ∷ 1 ∷ []) → ⊥
 not_twice told = let is = told.1 in cc
@@ -227,6 +239,7 @@ counted limit = record {
   claim = λ m now id. None;
   wants = λ m id. want.More;
   has_work = λ m now. false;
+  calls = λ m now. None;
   patience = λ m. 0;
   deadline = λ m id. 0;
   opens = λ m now kind id said n. n ≡ m + 1;
@@ -253,6 +266,49 @@ two_may_be = record {
 -- a near miss: who comes takes one away
 not_one_less_for_each : KeepsLimits (counted (λ m kind. 9 - m)) → ⊥
 not_one_less_for_each keeps = let is : 8 ≡ 9 = keeps.opens 0 0 7 1 [] 1 refl 7 in omega (arith, is)
+
+-- ---- connections that this side opens
+
+-- a machine that asks for one of a kind, of which one may be
+abbrev calling : Option ℕ → Rules ℕ ℕ ℕ
+calling asked = record (counted (λ m kind. 1)) { calls = λ m now. asked }
+
+abbrev opens_by : List (ℕ × Client) → Option ℕ
+opens_by entries = if nat_lt (length (filter (λ (c : Client). c.kind == 7) (values_of entries))) 1 then Some 7 else None
+
+opened_where_it_is_asked_for : (s : Service) → s.clients.entries ≡ [] → kind_to_call (calling (Some 7)) 0 s ≡ Some 7
+opened_where_it_is_asked_for s none = ap opens_by none
+
+-- near misses: nobody asks; one of that kind is there already
+not_unasked : (s : Service) → kind_to_call (calling None) 0 s ≡ None
+not_unasked s = refl
+
+not_without_a_place : (s : Service) → s.clients.entries ≡ (1, newcomer 0 1 7 []) ∷ [] → kind_to_call (calling (Some 7)) 0 s ≡ None
+not_without_a_place s one = ap opens_by one
+
+-- one of another kind takes no place
+opened_beside_another_kind : (s : Service) → s.clients.entries ≡ (1, newcomer 0 1 8 []) ∷ [] → kind_to_call (calling (Some 7)) 0 s ≡ Some 7
+opened_beside_another_kind s one = ap opens_by one
+
+opened_one_is_there : (N : Type 0) → ClientTalks {N = N} 0 1 None (Called 1 7) [] (Some (newcomer 0 1 7 []))
+opened_one_is_there N = record { new = refl; here = inl refl }
+
+-- a near miss: two in one place
+not_two_in_one_place : (N : Type 0) → ClientTalks {N = N} 0 1 (Some (newcomer 0 1 7 [])) (Called 1 7) [] (Some (newcomer 0 1 7 [])) → ⊥
+not_two_in_one_place N is = let none = is.new in cc
+
+its_number_is_used_up : (N : Type 0) → NextAfter {N = N} 5 (Called 5 7) 6
+its_number_is_used_up N = refl
+
+-- near misses: it is given to another one; one begins under another number
+not_given_again : (N : Type 0) → NextAfter {N = N} 5 (Called 5 7) 5 → ⊥
+not_given_again N is = omega (arith, is)
+
+begins_by_a_call : (N : Type 0) → BeginsAs {N = N} 5 (Called 5 7)
+begins_by_a_call N = refl
+
+not_by_another_number : (N : Type 0) → BeginsAs {N = N} 5 (Called 4 7) → ⊥
+not_by_another_number N is = omega (arith, is)
 
 -- ---- one connection
 

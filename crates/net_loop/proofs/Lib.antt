@@ -1,4 +1,5 @@
 pub mod BoundLemmas
+pub mod CallLemmas
 pub mod EndLemmas
 pub mod Examples
 pub mod LifeLemmas

@@ -5,7 +5,7 @@ use Rattle.std.specs.declared.cmp.Ordering.TheVariants.{Less, Equal, Greater}
 use Rattle.std.specs.Ordering.{nat_cmp, is_eq}
 use Rattle.std.specs.FinMap.{nat_cmp-IsAntisymmetric}
 use Rattle.net_loop.specs.declared.act.Act.{Act}
-use Rattle.net_loop.specs.declared.act.Act.TheVariants.{Late, Came, Displaced, Heard, Sent, Noted, Shut, Dropped, Ended}
+use Rattle.net_loop.specs.declared.act.Act.TheVariants.{Late, Came, Called, Displaced, Heard, Sent, Noted, Shut, Dropped, Ended}
 use Rattle.net_loop.specs.declared.machine.Want.{Want}
 use Rattle.net_loop.specs.declared.machine.Want.TheVariants as want
 use Rattle.net_loop.specs.declared.service.Client.{Client}
@@ -233,6 +233,8 @@ pub agrees_act : {M N R : Type 0} (rules : Rules M N R) (m k : M) (r q : R) (s u
     → ClientTalks s.moment id (client_of s id) act said (client_of u id) → TurnAllows rules m r s act said k q u → Agrees (told_by_act id t act said) (client_of u id)
 agrees_act rules m k r q s u id t (Came n kind) said agrees talks turns =
     at_act (is_same_id n id) t (record { said = said; sent = []; shut = false }) (client_of s id) (client_of u id) (Comes s.moment n kind said (client_of s id) (client_of u id)) (λ b h. comes s.moment n kind said (client_of s id) (client_of u id) h) agrees talks
+agrees_act rules m k r q s u id t (Called n kind) said agrees talks turns =
+    at_act (is_same_id n id) t (record { said = said; sent = []; shut = false }) (client_of s id) (client_of u id) (Comes s.moment n kind said (client_of s id) (client_of u id)) (λ b h. comes s.moment n kind said (client_of s id) (client_of u id) h) agrees talks
 agrees_act rules m k r q s u id t (Heard n piece) said agrees talks turns =
     at_act (is_same_id n id) t (record t { said = t.said ++ said }) (client_of s id) (client_of u id) (OrNothing (ClientAnswers s.moment said (client_of s id) (client_of u id)) said (client_of s id) (client_of u id))
     (λ b h. hears t s.moment said (client_of s id) (client_of u id) agrees h) agrees talks
@@ -283,6 +285,7 @@ farewell rules m now count id t (Some c) agrees is = record {
 
 pub untouched : {N : Type 0} (now id : ℕ) (o p : Option Client) (act : Act N) (said : List ℕ) → ClientTalks now id o act said p → concerns id act ≡ false → p ≡ o
 untouched now id o p (Came n kind) said talks is = subst (λ b. At b (Comes now n kind said o p) (p ≡ o)) is talks
+untouched now id o p (Called n kind) said talks is = subst (λ b. At b (Comes now n kind said o p) (p ≡ o)) is talks
 untouched now id o p (Heard n piece) said talks is = subst (λ b. At b (OrNothing (ClientAnswers now said o p) said o p) (p ≡ o)) is talks
 untouched now id o p (Noted n note) said talks is = subst (λ b. At b (ClientAnswers now said o p) (p ≡ o)) is talks
 untouched now id o p (Late n) said talks is = subst (λ b. At b (OrNothing (ClientParts phase.Closing now said o p) said o p) (p ≡ o)) is talks

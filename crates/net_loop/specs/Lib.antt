@@ -1,3 +1,4 @@
+pub mod Calls
 pub mod Life
 pub mod Moves
 pub mod Room

@@ -2,7 +2,7 @@
 use Rattle.std.specs.Prelude.{◌≡◌, ◌⊎◌, ℕ, ◌+◌, Bool, true, false, cond, List, [], ◌∷◌, ◌++◌, length, ◌≤◌, Option, Some, None, IsTrue}
 use Rattle.std.specs.List.{list_any}
 use Rattle.net_loop.specs.declared.act.Act.{Act}
-use Rattle.net_loop.specs.declared.act.Act.TheVariants.{Woke, Began, Late, Came, Displaced, Heard, Over, Sent, Lost, Noted, Full, Shut, Dropped, Ended}
+use Rattle.net_loop.specs.declared.act.Act.TheVariants.{Woke, Began, Late, Came, Called, Displaced, Heard, Over, Sent, Lost, Noted, Full, Shut, Dropped, Ended}
 use Rattle.net_loop.specs.declared.outcome.Wake.{Wake}
 use Rattle.net_loop.specs.declared.service.Service.{Service}
 use Rattle.net_loop.specs.declared.turn.Turn.TheVariants.{Free}
@@ -59,6 +59,7 @@ nothing_told = record { said = []; sent = []; shut = false }
 -- what one act tells of it
 abbrev pub told_by_act : {N : Type 0} → ℕ → Told → Act N → List ℕ → Told
 told_by_act id t (Came n kind) said = cond (is_same_id n id) (record { said = said; sent = []; shut = false }) t
+told_by_act id t (Called n kind) said = cond (is_same_id n id) (record { said = said; sent = []; shut = false }) t
 told_by_act id t (Heard n piece) said = cond (is_same_id n id) (record t { said = t.said ++ said }) t
 told_by_act id t (Noted n note) said = cond (is_same_id n id) (record t { said = t.said ++ said }) t
 told_by_act id t (Late n) said = cond (is_same_id n id) (record t { said = t.said ++ said }) t
@@ -88,6 +89,7 @@ OneConnection {M = M} {N = N} {R = R} rules =
 -- whether an act changes a connection
 abbrev pub concerns : {N : Type 0} → ℕ → Act N → Bool
 concerns id (Came n kind) = is_same_id n id
+concerns id (Called n kind) = is_same_id n id
 concerns id (Heard n piece) = is_same_id n id
 concerns id (Noted n note) = is_same_id n id
 concerns id (Late n) = is_same_id n id
@@ -137,9 +139,10 @@ EndsRight {M = M} {N = N} {R = R} rules =
 
 -- ---- how many are open
 
--- the kind of a connection if it is open: it came, and hasn't ended since
+-- the kind of a connection if it is open: it came or this side opened it, and it hasn't ended since
 abbrev pub kind_by : {N : Type 0} → ℕ → Option ℕ → Act N → Option ℕ
 kind_by id o (Came n kind) = cond (is_same_id n id) (Some kind) o
+kind_by id o (Called n kind) = cond (is_same_id n id) (Some kind) o
 kind_by id o (Ended n) = cond (is_same_id n id) None o
 kind_by id o _ = o
 

@@ -2,7 +2,7 @@
 use Rattle.std.specs.Prelude.{◌≡◌, ℕ, Bool, ◌==◌, nat_lt, not, filter, if◌then◌else◌, List, [], ◌∷◌, ◌++◌, Result, Ok, Err, IsTrue, OnErr}
 use Rattle.std.specs.List.{list_any}
 use Rattle.net_loop.specs.declared.act.Act.{Act}
-use Rattle.net_loop.specs.declared.act.Act.TheVariants.{Woke, Began, Timed, Waits, Resumed, Worked, Came, InUse, Noted, Ended}
+use Rattle.net_loop.specs.declared.act.Act.TheVariants.{Woke, Began, Timed, Waits, Resumed, Worked, Came, Called, InUse, Noted, Ended}
 use Rattle.net_loop.specs.declared.outcome.Wake.{Wake}
 use Rattle.net_loop.specs.declared.service.Service.{Service}
 use Rattle.net_loop.specs.Rules.{Rules}
@@ -38,9 +38,10 @@ abbrev pub MomentAfter : {N : Type 0} → ℕ → Act N → ℕ → Type 0
 MomentAfter now (Timed moment) later = later ≡ (if nat_lt now moment then moment else now)
 MomentAfter now _ later = later ≡ now
 
--- a number is given once, to one that comes, or passed over if a connection has it; no other act changes which is next
+-- a number is given once, to one that comes or that this side opens, or passed over if a connection has it; no other act changes which is next
 abbrev pub NextAfter : {N : Type 0} → ℕ → Act N → ℕ → Type 0
 NextAfter next (Came id kind) later = later ≡ after_number id
+NextAfter next (Called id kind) later = later ≡ after_number id
 NextAfter next (InUse id) later = later ≡ after_number id
 NextAfter next _ later = later ≡ next
 

@@ -8,7 +8,8 @@ use Rattle.net_loop.specs.Told.{Telling}
 
 -- of a machine M that notes N and acts on R, all of the outside that is neither sockets nor clock: how many connections of a
 -- kind may be open, which no happening changes (`KeepsLimits`); of a connection by its number whether it may make room at a moment, when that many are, what it wants,
--- and the moment by which it is late; whether it has work of its own at a moment, and for how long it may rest. Then, for each
+-- and the moment by which it is late; whether it has work of its own at a moment, of which kind it wants this side to open a connection
+-- then, and for how long it may rest. Then, for each
 -- happening (at a moment, if one comes first), what it says to that connection and the machine after it; a step and work of its own
 -- may change R. A rule may allow more than one. `lates`: it was late or made room, and ends. `lacks`: memory was lacking for it
 pub record Rules (M N R : Type 0) : Type 1 where
@@ -16,6 +17,7 @@ pub record Rules (M N R : Type 0) : Type 1 where
   pub claim : M → ℕ → ℕ → Option Claim
   pub wants : M → ℕ → Want
   pub has_work : M → ℕ → Bool
+  pub calls : M → ℕ → Option ℕ
   pub patience : M → ℕ
   pub deadline : M → ℕ → ℕ
   pub opens : M → ℕ → ℕ → ℕ → List ℕ → M → Type 0

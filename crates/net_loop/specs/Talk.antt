@@ -4,7 +4,7 @@ use Rattle.std.specs.Prelude.{◌∷◌, ◌++◌, length, Option, Some, None}
 use Rattle.std.specs.BTreeMap as tree
 use Rattle.std.specs.Ordering.{nat_cmp, is_eq}
 use Rattle.net_loop.specs.declared.act.Act.{Act}
-use Rattle.net_loop.specs.declared.act.Act.TheVariants.{Late, Came, Displaced, Heard, Sent, Noted, Shut, Dropped, Ended}
+use Rattle.net_loop.specs.declared.act.Act.TheVariants.{Late, Came, Called, Displaced, Heard, Sent, Noted, Shut, Dropped, Ended}
 use Rattle.net_loop.specs.declared.machine.Want.{Want}
 use Rattle.net_loop.specs.declared.machine.Want.TheVariants as want
 use Rattle.net_loop.specs.declared.service.Client.{Client}
@@ -256,6 +256,7 @@ At false changes stays = stays
 -- what an act makes of the connection `id` at a moment; `said` is what the machine says at it
 abbrev pub ClientTalks : {N : Type 0} → ℕ → ℕ → Option Client → Act N → List ℕ → Option Client → Type 0
 ClientTalks now id o (Came n kind) said p = At (is_same_id n id) (Comes now n kind said o p) (p ≡ o)
+ClientTalks now id o (Called n kind) said p = At (is_same_id n id) (Comes now n kind said o p) (p ≡ o)
 ClientTalks now id o (Heard n piece) said p = At (is_same_id n id) (ClientMayAnswer now said o p) (p ≡ o)
 ClientTalks now id o (Noted n note) said p = At (is_same_id n id) (ClientAnswers now said o p) (p ≡ o)
 ClientTalks now id o (Sent n octets) said p = At (is_same_id n id) (ClientSends now octets o p) (p ≡ o)

@@ -4,7 +4,7 @@ use Rattle.std.specs.Prelude.{nat_lt, not, option_map, ◌&&◌, Option, Some, N
 use Rattle.std.specs.BTreeMap as tree
 use Rattle.std.specs.List.{list_any}
 use Rattle.net_loop.specs.declared.act.Act.{Act}
-use Rattle.net_loop.specs.declared.act.Act.TheVariants.{Woke, Timed, Late, Began, Resumed, Worked, Came, NoneCame, Crowded, Displaced}
+use Rattle.net_loop.specs.declared.act.Act.TheVariants.{Woke, Timed, Late, Began, Resumed, Worked, Came, Called, NoneCame, Crowded, Displaced}
 use Rattle.net_loop.specs.declared.act.Act.TheVariants.{Listened, InUse, Heard, ReadBlocked, Over, Sent, WriteBlocked, Lost, Noted}
 use Rattle.net_loop.specs.declared.act.Act.TheVariants.{Waits, Full, Again, Shut, Dropped, Ended}
 use Rattle.net_loop.specs.declared.outcome.Wake.{Wake}
@@ -82,9 +82,17 @@ pub record Quiet {M N R : Type 0} (rules : Rules M N R) (m : M) (s : Service) : 
   pub none : s.ready.items ≡ []
   pub nobody : first_resumable rules m s ≡ None
 
--- a wait follows if the machine has no work, or has just done some
+-- of which kind this side opens a connection: that for which the machine asks, if one more of it may be
+abbrev pub if_place : {M N R : Type 0} → Rules M N R → M → Service → Option ℕ → Option ℕ
+if_place rules m s None = None
+if_place rules m s (Some kind) = if nat_lt (open_count kind s) (rules.limit m kind) then Some kind else None
+
+abbrev pub kind_to_call : {M N R : Type 0} → Rules M N R → M → Service → Option ℕ
+kind_to_call rules m s = if_place rules m s (rules.calls m s.moment)
+
+-- a wait follows if the machine has no work and this side opens no connection, or either has just been done
 abbrev pub MayWait : {M N R : Type 0} → Rules M N R → M → Service → Type 0
-MayWait rules m s = (s.turn ≡ Rested) ⊎ (Calm rules m s × (rules.has_work m s.moment ≡ false))
+MayWait rules m s = (s.turn ≡ Rested) ⊎ (Calm rules m s × (rules.has_work m s.moment ≡ false) × (kind_to_call rules m s ≡ None))
 
 -- at the listener: one may come, under a number that is free
 pub record MayAccept {M N R : Type 0} (rules : Rules M N R) (m : M) (s : Service) (kind : ℕ) : Type 0 where
@@ -102,11 +110,15 @@ pub record NoPlace {M N R : Type 0} (rules : Rules M N R) (m : M) (s : Service) 
 abbrev pub after_number : ℕ → ℕ
 after_number id = (id + 1) % 2 ^ 32
 
+-- a new one is there and a turn follows, or memory was lacking for it
+abbrev pub OpensTo : {M N R : Type 0} → Turn → Rules M N R → M → ℕ → ℕ → ℕ → List ℕ → M → Service → Type 0
+OpensTo to rules m now id kind said n t =
+    (rules.opens m now kind id said n × (client_of t id ≡ Some (newcomer now id kind said)) × (t.turn ≡ to))
+    ⊎ ((client_of t id ≡ None) × (t.turn ≡ OutOfMemory id kind) × (rules.opens m now kind id said n ⊎ rules.lacks m id n))
+
 -- one that came is there and the listener's turn goes on, or memory was lacking for it
 abbrev pub ServiceOpens : {M N R : Type 0} → Rules M N R → M → ℕ → ℕ → ℕ → List ℕ → M → Service → Type 0
-ServiceOpens rules m now id kind said n t =
-    (rules.opens m now kind id said n × (client_of t id ≡ Some (newcomer now id kind said)) × (t.turn ≡ Accepting kind false))
-    ⊎ ((client_of t id ≡ None) × (t.turn ≡ OutOfMemory id kind) × (rules.opens m now kind id said n ⊎ rules.lacks m id n))
+ServiceOpens rules m now id kind said n t = OpensTo (Accepting kind false) rules m now id kind said n t
 
 -- a machine, and the connections that it serves
 pub record ServiceState (M : Type 0) : Type 0 where
@@ -116,10 +128,10 @@ pub record ServiceState (M : Type 0) : Type 0 where
 abbrev pub service_state : {M : Type 0} → M → Service → ServiceState M
 service_state machine service = record { machine = machine; service = service }
 
--- one that came, and what is said to it
-pub record ServiceAccepts {M N R : Type 0} (rules : Rules M N R) (before : ServiceState M) (id kind : ℕ) (after : ServiceState M) : Type 0 where
+-- one that came or that this side opened, what is said to it, and the turn that follows
+pub record ServiceAccepts {M N R : Type 0} (rules : Rules M N R) (before : ServiceState M) (id kind : ℕ) (to : Turn) (after : ServiceState M) : Type 0 where
   pub said : List ℕ
-  pub opens : ServiceOpens rules before.machine before.service.moment id kind said after.machine after.service
+  pub opens : OpensTo to rules before.machine before.service.moment id kind said after.machine after.service
   pub others : (other : ℕ) → is_same_id id other ≡ false → client_of after.service other ≡ client_of before.service other
   pub next : after.service.next ≡ after_number id
   pub since : after.service.since ≡ before.service.since
@@ -234,6 +246,30 @@ pub record MayWork {M N R : Type 0} (rules : Rules M N R) (m : M) (s : Service) 
   pub calm : Calm rules m s
   pub quiet : Quiet rules m s
   pub work : rules.has_work m s.moment ≡ true
+  pub none : kind_to_call rules m s ≡ None
+
+-- this side opens a connection when nobody else has something to do, if the machine asks for one of that kind and one more may be
+pub record MayCall {M N R : Type 0} (rules : Rules M N R) (m : M) (s : Service) (kind : ℕ) : Type 0 where
+  pub calm : Calm rules m s
+  pub quiet : Quiet rules m s
+  pub asked : kind_to_call rules m s ≡ Some kind
+
+-- it does so under a number that is free, and a wait follows
+pub record ServiceCalls {M N R : Type 0} (rules : Rules M N R) (m : M) (s : Service) (id kind : ℕ) (said : List ℕ) (n : M) (t : Service) : Type 0 where
+  pub may : MayCall rules m s kind
+  pub number : id ≡ s.next
+  pub free : client_of s id ≡ None
+  pub next : t.next ≡ after_number id
+  pub opens : OpensTo Rested rules m s.moment id kind said n t
+
+-- the next number is that of a connection, and is passed over: no connection is opened under it
+pub record PassedCall {M N R : Type 0} (rules : Rules M N R) (m : M) (s : Service) (id : ℕ) (t : Service) : Type 0 where
+  pub kind : ℕ
+  pub may : MayCall rules m s kind
+  pub number : id ≡ s.next
+  pub taken : IsSome (client_of s id)
+  pub next : t.next ≡ after_number id
+  pub stays : t.turn ≡ s.turn
 
 -- the next number is that of a connection, and is passed over
 pub record Passed {M N R : Type 0} (rules : Rules M N R) (m : M) (s : Service) (id : ℕ) (t : Service) : Type 0 where
@@ -261,11 +297,12 @@ TurnAllows rules m r s (Began wake) said n q t = Silent m said n × RestsOrCalm 
 TurnAllows rules m r s (Resumed id) said n q t = Silent m said n × RestsOrCalm rules m s × ResumesFirst rules m s id × (t.turn ≡ turn_at id (client_of s id))
 TurnAllows rules m r s (Worked note) said n q t = rules.works m r s.moment note n q × (said ≡ []) × MayWork rules m s × (t.turn ≡ Rested)
 TurnAllows rules m r s (Came id kind) said n q t = MayAccept rules m s kind × (id ≡ s.next) × (t.next ≡ after_number id) × ServiceOpens rules m s.moment id kind said n t
+TurnAllows rules m r s (Called id kind) said n q t = ServiceCalls rules m s id kind said n t
 TurnAllows rules m r s (NoneCame kind) said n q t = Silent m said n × MayAccept rules m s kind × (t.turn ≡ Free)
 TurnAllows rules m r s (Crowded kind) said n q t = Silent m said n × Crowds rules m s kind × (t.turn ≡ Free)
 TurnAllows rules m r s (Displaced id) said n q t = ((kind : ℕ) × NoPlace rules m s kind true × (makes_room rules m s kind ≡ Some id)) × Parting rules m s id said n t
 TurnAllows rules m r s (Listened kind) said n q t = Silent m said n × NoPlace rules m s kind false × IsSome (makes_room rules m s kind) × (t.turn ≡ Free)
-TurnAllows rules m r s (InUse id) said n q t = Silent m said n × Passed rules m s id t
+TurnAllows rules m r s (InUse id) said n q t = Silent m said n × (Passed rules m s id t ⊎ PassedCall rules m s id t)
 TurnAllows rules m r s (Heard id piece) said n q t = ServiceHears rules m s id piece said n t
 TurnAllows rules m r s (ReadBlocked id) said n q t = Silent m said n × ReadEnds rules m s id Free t.turn
 TurnAllows rules m r s (Over id) said n q t = Silent m said n × ReadEnds rules m s id (Leaving id (client_kind (client_of s id))) t.turn

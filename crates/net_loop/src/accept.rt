@@ -24,7 +24,7 @@ pub const MAX_UNSENT: u64 = 60000;
 const MIN_DEAF: u64 = 1000;
 
 /// How many connections of that kind are open.
-fn count_open(service: &Service, kind: u32) -> usize
+pub fn count_open(service: &Service, kind: u32) -> usize
     ensures { result ≡ open_count kind service.now }
 {
     service
@@ -212,22 +212,23 @@ fn accept_once<O: Sockets + Clock, M: Machine<O>>(
     ensures { LoopActs O.told M.rules (loop_state outside.old machine.old service.old) (loop_state outside.new machine.new service.new) }
 {
     match outside.accept(kind, id) {
-        Accepted::Came => admit(machine, service, kind, id),
+        Accepted::Came => admit(machine, service, kind, id, Turn::Accepting(kind, false)),
         Accepted::Nobody => {
             service.turn = Turn::Free;
         }
     }
 }
 
-/// Takes one in.
-fn admit<O: Sockets + Clock, M: Machine<O>>(
+/// Takes one in, and turns `to` what follows then.
+pub fn admit<O: Sockets + Clock, M: Machine<O>>(
     machine: &mut M,
     service: &mut Service,
     kind: u32,
     id: u32,
+    to: Turn,
 )
     requires { client_of service.old id ≡ None }
-    ensures { ServiceAccepts M.rules (service_state machine.old service.old) id kind (service_state machine.new service.new) }
+    ensures { ServiceAccepts M.rules (service_state machine.old service.old) id kind to (service_state machine.new service.new) }
 {
     service.next = id.wrapping_add(1);
     let mut out = Octets::new(service.alloc);
@@ -244,7 +245,7 @@ fn admit<O: Sockets + Clock, M: Machine<O>>(
         until: service.moment.wrapping_add(MAX_UNSENT),
     };
     if service.clients.insert(id, client).is_ok() {
-        service.turn = Turn::Accepting(kind, false);
+        service.turn = to;
     } else {
         service.turn = Turn::OutOfMemory(id, kind);
     }

@@ -22,6 +22,8 @@ pub enum Act<N> {
     Worked(N),
     /// A connection was accepted, as `id`, of that `kind`.
     Came(u32, u32),
+    /// This side began to open a connection of that `kind`, as `id`. Whether it is reached is told by what is read and written.
+    Called(u32, u32),
     /// There was none of that `kind` to accept.
     NoneCame(u32),
     /// There was no place for another one of that `kind`, and nobody makes room now: a wait is to tell again of those who knock.

@@ -1,4 +1,5 @@
 //! Laws of what is served, each the contract of a function that does nothing.
+ghost use Rattle.net_loop.specs.Calls.{CalledFor, OwnNumber};
 ghost use Rattle.net_loop.specs.Life.{OneConnection, Apart, EndsRight, Bounded, NoneForgotten};
 ghost use Rattle.net_loop.specs.Room.{FirstGoes};
 
@@ -28,6 +29,17 @@ pub fn ends_right<O: Outside, M: Machine<O>>()
 /// What waits told is taken up, each once and in its order, and nothing of it is forgotten.
 pub fn none_forgotten<O: Outside, M: Machine<O>>()
     ensures { NoneForgotten M.rules }
+{}
+
+/// This side opens a connection only when the machine asks for one of that kind, one more of it may be, and nobody else has something
+/// to do.
+pub fn called_for<O: Outside, M: Machine<O>>()
+    ensures { CalledFor M.rules }
+{}
+
+/// No connection begins under a number that an open one has, whoever opens it.
+pub fn own_number<O: Outside, M: Machine<O>>()
+    ensures { OwnNumber M.rules }
 {}
 
 /// Whoever makes room may go, and no other that may go has a claim before its claim; if nobody makes room, none of those claims.

@@ -3,6 +3,7 @@
 
 mod accept;
 pub mod act;
+mod call;
 mod close;
 mod connection;
 pub mod laws;

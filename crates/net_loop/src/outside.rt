@@ -1,7 +1,7 @@
 //! All that is outside: one list of acts, and the sockets.
 ghost use Rattle.std.specs.Prelude.{◌≡◌, Bool, List, [], ◌<◌, length, IsTrue, OnOk, OnErr};
 ghost use Rattle.net_loop.specs.Told.{Telling, ToldBefore, IsLoopAct, TellsIf, LeavesIf, AfterAccept, AfterRead, AfterDiscard, AfterWrite, ReadFits, DiscardFits, WriteFits};
-ghost use Rattle.net_loop.specs.declared.act.Act.TheVariants.{Woke, Timed, Again, Crowded, Listened, Shut, Ended};
+ghost use Rattle.net_loop.specs.declared.act.Act.TheVariants.{Woke, Called, Timed, Again, Crowded, Listened, Shut, Ended};
 ghost use Rattle.net_loop.specs.declared.act.Act.{Act};
 
 use crate::act::Act;
@@ -45,6 +45,13 @@ pub trait Sockets: Outside {
     /// Accepts a waiting connection of that kind, under this number.
     fn accept(&mut self, kind: u32, id: u32) -> Accepted
         ensures seen { IsTrue (Self.told.tells self.new) → AfterAccept (Self.told.seen self.old) kind id result (Self.told.seen self.new) }
+        ensures left { LeavesIf Self.told self.old self.new }
+        ensures kept { ToldBefore Self.told self.old self.new };
+
+    /// Begins to open a connection of that kind, under this number. Until its peer is reached a read and a write find nothing; if it
+    /// can't be reached they find it lost, and a wait tells of it in both cases.
+    fn connect(&mut self, kind: u32, id: u32)
+        ensures seen { TellsIf Self.told self.old (Called id kind) self.new }
         ensures left { LeavesIf Self.told self.old self.new }
         ensures kept { ToldBefore Self.told self.old self.new };
 

@@ -3,11 +3,12 @@ ghost use Rattle.std.specs.Prelude.{◌≡◌, ◌==◌, ◌<◌, ◌↔◌, [],
 ghost use Rattle.net_loop.specs.Moves.{LoopActs, LoopActsOr, loop_state};
 ghost use Rattle.net_loop.specs.Talk.{client_of, client_kind, waits, is_closing_by, parting_span, is_quiet, is_late_at, task};
 ghost use Rattle.net_loop.specs.Turns.{ServiceParted, MayWait, Calm, RestsOrCalm, Quiet, service_state};
-ghost use Rattle.net_loop.specs.Turns.{came_since, turn_for_wake, first_late, first_resumable, is_runnable};
+ghost use Rattle.net_loop.specs.Turns.{came_since, turn_for_wake, first_late, first_resumable, is_runnable, kind_to_call};
 ghost use Rattle.net_loop.specs.declared.turn.Turn.TheVariants.{Free, Rested, Waked, Sweep, Accepting, Busy};
 ghost use Rattle.net_loop.specs.declared.turn.Task.TheVariants.{Rest};
 
 use crate::act::Act;
+use crate::call::{connect_once, kind_to_call};
 use crate::close::forget;
 use crate::connection::{kind_of_client, task_of};
 use crate::machine::Machine;
@@ -43,7 +44,7 @@ pub fn calm_once<O: Sockets + Clock, M: Machine<O>>(
     }
 }
 
-/// Lets the machine do some work of its own, or begins a wait.
+/// Opens a connection for which the machine asks, lets it do some work of its own, or begins a wait.
 fn idle_once<O: Sockets + Clock, M: Machine<O>>(
     outside: &mut O,
     machine: &mut M,
@@ -51,6 +52,26 @@ fn idle_once<O: Sockets + Clock, M: Machine<O>>(
 ) -> Result<(), WaitError>
     requires calm { Calm M.rules machine.old service.old }
     requires quiet { Quiet M.rules machine.old service.old }
+    ensures { LoopActsOr O.told O.broken M.rules (loop_state outside.old machine.old service.old) (loop_state outside.new machine.new service.new) result }
+{
+    match kind_to_call(machine, service) {
+        Some(kind) => {
+            connect_once(outside, machine, service, kind);
+            Ok(())
+        }
+        None => work_or_wait_once(outside, machine, service),
+    }
+}
+
+/// If it asks for no connection.
+fn work_or_wait_once<O: Sockets + Clock, M: Machine<O>>(
+    outside: &mut O,
+    machine: &mut M,
+    service: &mut Service,
+) -> Result<(), WaitError>
+    requires calm { Calm M.rules machine.old service.old }
+    requires quiet { Quiet M.rules machine.old service.old }
+    requires none { kind_to_call M.rules machine.old service.old ≡ None }
     ensures { LoopActsOr O.told O.broken M.rules (loop_state outside.old machine.old service.old) (loop_state outside.new machine.new service.new) result }
 {
     if machine.has_work(service.moment) {
@@ -351,6 +372,7 @@ fn work_once<O: Sockets + Clock, M: Machine<O>>(
     requires calm { Calm M.rules machine.old service.old }
     requires quiet { Quiet M.rules machine.old service.old }
     requires work { M.rules.has_work machine.old service.old.moment ≡ true }
+    requires none { kind_to_call M.rules machine.old service.old ≡ None }
     ensures { LoopActs O.told M.rules (loop_state outside.old machine.old service.old) (loop_state outside.new machine.new service.new) }
 {
     machine.work(outside, service.moment);

@@ -3,10 +3,11 @@ ghost use Rattle.std.specs.Prelude.{◌≡◌, ◌<◌, [], length, OnErr};
 ghost use Rattle.net_loop.specs.Told.{ReadFits, DiscardFits, WriteFits};
 
 use crate::listener::Listener;
-use crate::stream::Stream;
+use crate::stream::{Connecting, Stream};
+use crate::target::Target;
 use mio::{Events, Interest, Poll, Token};
 use net_loop::outcome::{Accepted, Input, Output, WaitError, Wake};
-use std::alloc::Global;
+use std::alloc::{AllocError, Global};
 use std::collections::{BTreeMap, VecDeque};
 use std::io;
 use std::io::ErrorKind;
@@ -39,14 +40,26 @@ struct ListenerState {
 #[derive(Drop)]
 struct Link {
     stream: Stream,
+    /// Whether its peer is reached; of one that this side opens that is asked of the system until it is known.
+    connecting: Connecting,
     /// A read got all that there was: there is no more until a wait tells of the connection.
     drained: bool,
     /// Its peer sends no more, which a read tells after the last octet.
     over: bool,
 }
 
-/// Listeners, one for each kind of connection (its number is its index), and their connections by their numbers. No call but `wait`
-/// blocks. What the system does can't be seen by a contract.
+impl Link {
+    /// Whether its peer is reached by now.
+    fn reach(&mut self) -> Connecting {
+        if self.connecting == Connecting::Waits {
+            self.connecting = self.stream.connecting();
+        }
+        self.connecting
+    }
+}
+
+/// Listeners, one for each kind of connection (its number is its index), servers to which this side connects, each for a kind of its own
+/// that has no listener, and connections by their numbers. No call but `wait` blocks. What the system does can't be seen by a contract.
 #[derive(Drop)]
 pub struct SystemSockets<'n, N: Net + Clock> {
     system: &'n N,
@@ -59,6 +72,8 @@ pub struct SystemSockets<'n, N: Net + Clock> {
     told: VecDeque<Wake>,
     listener_states: Vec<ListenerState>,
     links: BTreeMap<u32, Link>,
+    /// Where connections of these kinds are opened to.
+    targets: Vec<(u32, Target<'n>)>,
 }
 
 impl<'n, N: Net + Clock> SystemSockets<'n, N> {
@@ -81,6 +96,7 @@ impl<'n, N: Net + Clock> SystemSockets<'n, N> {
             told: VecDeque::with_capacity(alloc, 2 * MAX_EVENTS)?,
             listener_states: Vec::with_capacity(alloc, listeners.len())?,
             links: BTreeMap::new(alloc),
+            targets: Vec::new(alloc),
         };
         for listener in listeners {
             sockets.watch(listener)?;
@@ -240,6 +256,7 @@ impl<'n, N: Net + Clock> SystemSockets<'n, N> {
             .register(&mut stream, token_of(id), both_ways());
         let link = Link {
             stream,
+            connecting: Connecting::Reached,
             drained: false,
             over: false,
         };
@@ -247,6 +264,62 @@ impl<'n, N: Net + Clock> SystemSockets<'n, N> {
             return self.rest(kind);
         }
         Accepted::Came
+    }
+
+    /// Connections of that kind are opened to this server from now on. A kind has one server, the first that was named.
+    ///
+    /// # Errors
+    ///
+    /// If memory is lacking; nothing changes then.
+    pub fn add_target(&mut self, kind: u32, target: Target<'n>) -> Result<(), AllocError> {
+        match self.targets.push((kind, target)) {
+            Ok(()) => Ok(()),
+            Err(_) => Err(AllocError),
+        }
+    }
+
+    /// Begins to open a connection of that kind, under this number. Until its peer is reached reads and writes of it find nothing; if it
+    /// can't be reached, or that kind has no server, they find it lost. A wait tells of it in both cases.
+    pub fn connect(&mut self, kind: u32, id: u32) {
+        if !self.begin_call(kind, id) {
+            let _ = self.told.push_back(Wake::Ready(id));
+        }
+    }
+
+    /// Begins it. Returns false if it failed at once: then there is no link, and who reads finds it lost.
+    fn begin_call(&mut self, kind: u32, id: u32) -> bool {
+        let Some(target) = self.target_of(kind) else {
+            return false;
+        };
+        match Stream::connect(self.system, target) {
+            Ok(stream) => self.keep_call(id, stream),
+            Err(_) => false,
+        }
+    }
+
+    /// Where connections of that kind are opened to.
+    fn target_of(&self, kind: u32) -> Option<Target<'n>> {
+        for target in self.targets.iter() {
+            if target.0 == kind {
+                return Some(target.1);
+            }
+        }
+        None
+    }
+
+    /// Keeps a stream whose peer is to be reached, of which waits tell from now on.
+    fn keep_call(&mut self, id: u32, mut stream: Stream) -> bool {
+        let registered = self
+            .poll
+            .registry()
+            .register(&mut stream, token_of(id), both_ways());
+        let link = Link {
+            stream,
+            connecting: Connecting::Waits,
+            drained: false,
+            over: false,
+        };
+        registered.is_ok() && self.links.insert(id, link).is_ok()
     }
 
     /// Lets a listener rest after a connection that couldn't be accepted.
@@ -277,6 +350,11 @@ impl<'n, N: Net + Clock> SystemSockets<'n, N> {
         let Some(link) = self.links.get_mut(&id) else {
             return Input::Lost;
         };
+        match link.reach() {
+            Connecting::Waits => return Input::Nothing,
+            Connecting::Failed => return Input::Lost,
+            Connecting::Reached => {}
+        }
         if link.drained {
             return Input::Nothing;
         }
@@ -307,6 +385,11 @@ impl<'n, N: Net + Clock> SystemSockets<'n, N> {
         let Some(link) = self.links.get_mut(&id) else {
             return Output::Lost;
         };
+        match link.reach() {
+            Connecting::Waits => return Output::Nothing,
+            Connecting::Failed => return Output::Lost,
+            Connecting::Reached => {}
+        }
         match link.stream.write(octets) {
             Ok(0) => Output::Lost,
             Ok(count) => Output::Taken(count.min(octets.len())),

@@ -1,10 +1,11 @@
 //! A connection.
+use crate::target::Target;
 use mio::event::Source;
 use mio::net::{TcpStream, UnixStream};
 use mio::{Interest, Registry, Token};
 use std::io;
-use std::io::{Read, Write};
-use std::net::Shutdown;
+use std::io::{ErrorKind, Read, Write};
+use std::net::{Net, Shutdown};
 
 /// A connection, by TCP or over a socket in the file system.
 #[derive(Drop)]
@@ -13,7 +14,63 @@ pub enum Stream {
     Unix(UnixStream),
 }
 
+/// What an attempt to connect has come to.
+#[derive(Clone, Copy, Debug, PartialEq, Eq)]
+pub enum Connecting {
+    /// Nobody answered yet.
+    Waits,
+    /// The other side is reached.
+    Reached,
+    /// It can't be reached.
+    Failed,
+}
+
 impl Stream {
+    /// Begins to connect, and returns at once. What is sent on it is sent at once.
+    ///
+    /// # Errors
+    ///
+    /// What the system says at once: no descriptor is left, nobody listens at that path, or too many wait there.
+    pub fn connect<N: Net>(net: &N, target: Target<'_>) -> io::Result<Stream> {
+        match target {
+            Target::Port(address) => {
+                let stream = TcpStream::connect(net, address)?;
+                let _ = stream.set_nodelay(true);
+                Ok(Stream::Tcp(stream))
+            }
+            Target::Path(path) => Ok(Stream::Unix(UnixStream::connect(net, path)?)),
+        }
+    }
+
+    /// What an attempt to connect has come to. A failure is told once.
+    pub fn connecting(&self) -> Connecting {
+        match self.take_error() {
+            Ok(None) => self.peer_state(),
+            Ok(Some(_)) => Connecting::Failed,
+            Err(_) => Connecting::Failed,
+        }
+    }
+
+    fn take_error(&self) -> io::Result<Option<io::Error>> {
+        match self {
+            Stream::Tcp(stream) => stream.take_error(),
+            Stream::Unix(stream) => stream.take_error(),
+        }
+    }
+
+    /// Whether the other side is known to the system.
+    fn peer_state(&self) -> Connecting {
+        let peer = match self {
+            Stream::Tcp(stream) => stream.peer_addr().map(drop),
+            Stream::Unix(stream) => stream.peer_addr().map(drop),
+        };
+        match peer {
+            Ok(()) => Connecting::Reached,
+            Err(error) if error.kind() == ErrorKind::NotConnected => Connecting::Waits,
+            Err(_) => Connecting::Failed,
+        }
+    }
+
     /// Tells the other side that no more is sent.
     pub fn shut(&self) -> io::Result<()> {
         match self {

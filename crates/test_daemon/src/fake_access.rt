@@ -247,6 +247,10 @@ impl<S: Shelf + Drop> Sockets for FakeAccess<S> {
         self.stage.accept(kind, id)
     }
 
+    fn connect(&mut self, kind: u32, id: u32) {
+        self.stage.connect(kind, id)
+    }
+
     fn read(&mut self, id: u32, buffer: &mut [u8]) -> Input {
         self.stage.read(id, buffer)
     }

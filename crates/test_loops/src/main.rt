@@ -28,7 +28,7 @@ use test_sockets::stage::FakeNetwork;
 use total::Totals;
 
 /// Those of the echo, in the order in which they are played.
-const ECHOES: [&str; 20] = [
+const ECHOES: [&str; 22] = [
     "two-mixed.schedule",
     "pieces.schedule",
     "slow-reader.schedule",
@@ -49,6 +49,8 @@ const ECHOES: [&str; 20] = [
     "waits.schedule",
     "totals.schedule",
     "too-long.schedule",
+    "calls.schedule",
+    "calls-lost.schedule",
 ];
 
 /// Those of the daemon, in the order in which they are played.

@@ -33,6 +33,11 @@ abbrev pub echo_claim_by : ℕ → Option EchoClient → Option Claim
 echo_claim_by now (Some g) = claim_of now g
 echo_claim_by now None = None
 
+-- one of that kind begins: it is no longer asked for
+abbrev pub call_left : ℕ → Option ℕ → Option ℕ
+call_left kind None = None
+call_left kind (Some other) = if other == kind then None else Some other
+
 -- what a step or its own work makes of the total
 abbrev pub Totals : EchoNote → ℕ → ℕ → Type 0
 Totals Answered total later = later ≡ total
@@ -52,10 +57,11 @@ echo_rules = record {
   claim = λ m now id. echo_claim_by now (echo_client_of m id);
   wants = λ m id. echo_want_by (echo_client_of m id);
   has_work = λ m now. not (nat_lt now m.due);
+  calls = λ m now. m.call;
   patience = λ m. 1000;
   deadline = λ m id. echo_deadline_by (echo_client_of m id);
-  opens = λ m now kind id said n. (said ≡ echo_greeting) × (n.due ≡ m.due);
-  gives = λ m now id piece said n. (said ≡ []) × (n.due ≡ m.due);
+  opens = λ m now kind id said n. (said ≡ echo_greeting) × (n.due ≡ m.due) × (n.call ≡ call_left kind m.call);
+  gives = λ m now id piece said n. (said ≡ []) × (n.due ≡ m.due) × (n.call ≡ m.call);
   steps = λ m r now id note said n q. Totals note r q × (n.due ≡ m.due);
   lates = λ m now id said n. (said ≡ echo_farewell) × (n.due ≡ m.due);
   works = λ m r now note n q. (note ≡ Ticked) × (q ≡ r) × (n.due ≡ (now + 1000) % 2 ^ 64);

@@ -1,7 +1,7 @@
 //! A machine that says back each line.
 ghost use Rattle.std.specs.Prelude.{◌≡◌, ◌<◌, ◌==◌, ◌&&◌, [], length, IfSome, find, option_map, if◌then◌else◌, not, None, Some};
 ghost use Rattle.std.specs.BTreeMap as tree;
-ghost use Rattle.test_sockets.specs.EchoRules.{echo_rules, echo_keeps_limits, echo_claim_by, echo_want_by, echo_deadline_by, echo_client_of};
+ghost use Rattle.test_sockets.specs.EchoRules.{echo_rules, echo_keeps_limits, echo_claim_by, echo_want_by, echo_deadline_by, echo_client_of, call_left};
 
 use crate::echo_outside::EchoOutside;
 use net_loop::machine::{Claim, Machine, Want};
@@ -46,6 +46,8 @@ pub struct Echo {
     pub clients: BTreeMap<u32, EchoClient>,
     /// When it works next.
     pub due: u64,
+    /// The kind of the connection that it wants to be opened.
+    pub call: Option<u32>,
 }
 
 /// What a line asks for, besides its answer.
@@ -54,6 +56,8 @@ enum Asked {
     Nothing,
     /// To add that to the total.
     Sum(u64),
+    /// To open a connection of that kind.
+    Call(u32),
 }
 
 impl Echo {
@@ -63,6 +67,7 @@ impl Echo {
             alloc,
             clients: BTreeMap::new(alloc),
             due: PERIOD,
+            call: None,
         }
     }
 
@@ -147,7 +152,18 @@ impl EchoClient {
         }
         out.extend_from_slice(line)?;
         out.extend_from_slice(b"\r\n")?;
-        Ok(Asked::Nothing)
+        Ok(call_in(line))
+    }
+}
+
+/// What a line asks for that is answered by the same line.
+fn call_in(line: &[u8]) -> Asked {
+    match number_behind(line, b"call ") {
+        Some(kind) => match u32::try_from(kind) {
+            Ok(kind) => Asked::Call(kind),
+            Err(_) => Asked::Nothing,
+        },
+        None => Asked::Nothing,
     }
 }
 
@@ -197,6 +213,16 @@ fn say_total(out: &mut Octets, total: u64) -> Result<(), AllocError> {
     out.extend_from_slice(b"\r\n")
 }
 
+/// Which connection is still to be opened once one of that kind begins.
+fn call_left(kind: u32, call: Option<u32>) -> Option<u32>
+    ensures { result ≡ call_left kind call }
+{
+    match call {
+        Some(other) => { if other == kind { None } else { Some(other) } }
+        None => None,
+    }
+}
+
 impl<O: EchoOutside> Machine<O> for Echo {
     ghost rules = { echo_rules };
 
@@ -229,11 +255,16 @@ impl<O: EchoOutside> Machine<O> for Echo {
         now >= self.due
     }
 
+    fn calls(&self, now: u64) -> Option<u32> {
+        self.call
+    }
+
     fn patience(&self) -> u32 {
         PERIOD as u32
     }
 
     fn open(&mut self, now: u64, kind: u32, id: u32, out: &mut Octets) -> Result<(), AllocError> {
+        self.call = call_left(kind, self.call);
         let client = EchoClient {
             id,
             kind,
@@ -276,6 +307,10 @@ impl<O: EchoOutside> Machine<O> for Echo {
             Asked::Sum(count) => {
                 let total = outside.add(id, count);
                 let _ = say_total(out, total);
+            }
+            Asked::Call(kind) => {
+                self.call = Some(kind);
+                outside.answered(id)
             }
             Asked::Nothing => outside.answered(id),
         }

@@ -229,6 +229,10 @@ impl<N: Drop, R: Drop> Sockets for Fake<N, R> {
         }
     }
 
+    fn connect(&mut self, kind: u32, id: u32) {
+        self.keep(Act::Called(id, kind));
+    }
+
     fn read(&mut self, id: u32, buffer: &mut [u8]) -> Input {
         let reading = self.script.next_reading(id);
         self.answer_read(id, reading, buffer)

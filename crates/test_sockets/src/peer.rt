@@ -1,4 +1,4 @@
-//! A client of a schedule.
+//! A client of a schedule, or a server.
 ghost use Rattle.std.specs.Prelude.{◌≡◌, ◌≤◌, length};
 
 use crate::script::Reading;
@@ -17,13 +17,15 @@ pub enum Side {
     Failed,
 }
 
-/// A client, as it is at the other end.
+/// A client, or a server to which this side connects, as it is at the other end.
 #[derive(Drop)]
 pub struct FakePeer {
     pub name: Octets,
-    /// Of which listener it is.
+    /// Of which listener it is, or of which kind a server's connection is.
     pub kind: u32,
-    /// Its number, once it was accepted.
+    /// Whether it waits for this side to connect.
+    pub serves: bool,
+    /// Its number, once it was accepted or reached.
     pub id: Option<u32>,
     /// What it said and nobody read yet.
     pub pieces: VecDeque<Pending>,
@@ -45,6 +47,7 @@ impl FakePeer {
         FakePeer {
             name,
             kind,
+            serves: false,
             id: None,
             pieces: VecDeque::new(alloc),
             side: Side::Open,
@@ -56,6 +59,22 @@ impl FakePeer {
         }
     }
 
+    /// A server, which this side may reach.
+    pub fn server(alloc: Global, name: Octets, kind: u32) -> FakePeer {
+        let mut peer = FakePeer::new(alloc, name, kind);
+        peer.serves = true;
+        peer
+    }
+
+    /// Nobody: a connection that this side opened, and that failed.
+    pub fn unreachable(alloc: Global, kind: u32, id: u32) -> FakePeer {
+        let mut peer = FakePeer::server(alloc, Octets::new(alloc), kind);
+        peer.id = Some(id);
+        peer.side = Side::Failed;
+        peer.news = true;
+        peer
+    }
+
     /// Whether it has this number and isn't closed.
     pub fn is_at(&self, id: u32) -> bool {
         !self.closed && self.id == Some(id)
@@ -63,7 +82,12 @@ impl FakePeer {
 
     /// Whether it knocks at the listener of this kind.
     pub fn knocks_at(&self, kind: u32) -> bool {
-        self.kind == kind && self.id.is_none()
+        !self.serves && self.kind == kind && self.id.is_none()
+    }
+
+    /// Whether a connection of that kind may reach it.
+    pub fn awaits(&self, kind: u32) -> bool {
+        self.serves && self.kind == kind && self.id.is_none()
     }
 
     /// Whether more may be done on it.

@@ -102,7 +102,15 @@ impl<O: HasFakeNetwork + Drop, M: Machine<O> + Drop, W: ScheduleOwner<O> + Drop>
                 let name = Octets::from_slice(self.alloc, name)?;
                 self.outside.stage().come(name, *kind)
             }
-            PeerAct::Has(_) | PeerAct::IsOpen | PeerAct::IsShut | PeerAct::IsClosed => {
+            PeerAct::Serves(kind) => {
+                let name = Octets::from_slice(self.alloc, name)?;
+                self.outside.stage().serve(name, *kind)
+            }
+            PeerAct::Has(_)
+            | PeerAct::IsOpen
+            | PeerAct::IsShut
+            | PeerAct::IsClosed
+            | PeerAct::IsUnreached => {
                 self.settle(line)?;
                 self.look(line, name, peer_act)
             }
@@ -207,7 +215,9 @@ fn seen_by(
 }
 
 fn state_of(peer: &FakePeer) -> &'static [u8] {
-    if peer.closed {
+    if peer.awaits(peer.kind) {
+        b"unreached"
+    } else if peer.closed {
         b"closed"
     } else if peer.shut {
         b"shut"
@@ -220,6 +230,7 @@ fn state_wanted(peer_act: &PeerAct) -> &'static [u8] {
     match peer_act {
         PeerAct::IsClosed => b"closed",
         PeerAct::IsShut => b"shut",
+        PeerAct::IsUnreached => b"unreached",
         _ => b"open",
     }
 }

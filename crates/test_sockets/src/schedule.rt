@@ -21,6 +21,8 @@ pub enum Entry {
 pub enum PeerAct {
     /// It connects, through the listener of that kind.
     Comes(u32),
+    /// It is a server, which the next connection of that kind reaches that the server under test opens.
+    Serves(u32),
     /// It sends these octets, in one piece.
     Says(Octets),
     /// It sends no more.
@@ -41,6 +43,8 @@ pub enum PeerAct {
     IsShut,
     /// It was closed.
     IsClosed,
+    /// It is a server, and nobody reached it.
+    IsUnreached,
 }
 
 /// Why a text is no schedule.
@@ -144,7 +148,14 @@ fn parse_peer_act(alloc: Global, verb: &[u8], what: &[u8]) -> Result<Option<Peer
             Some(text) => Some(PeerAct::Has(text)),
             None => None,
         }),
-        b"comes" => Ok(parse_kind(what)),
+        b"comes" => Ok(match parse_kind(what) {
+            Some(kind) => Some(PeerAct::Comes(kind)),
+            None => None,
+        }),
+        b"serves" => Ok(match parse_kind(what) {
+            Some(kind) => Some(PeerAct::Serves(kind)),
+            None => None,
+        }),
         b"takes" => Ok(parse_taking(what)),
         b"is" => Ok(parse_state(what)),
         b"goes" => Ok(if what.is_empty() {
@@ -156,9 +167,9 @@ fn parse_peer_act(alloc: Global, verb: &[u8], what: &[u8]) -> Result<Option<Peer
     }
 }
 
-fn parse_kind(what: &[u8]) -> Option<PeerAct> {
+fn parse_kind(what: &[u8]) -> Option<u32> {
     match u32::try_from(parse_decimal(what)?) {
-        Ok(kind) => Some(PeerAct::Comes(kind)),
+        Ok(kind) => Some(kind),
         Err(_) => None,
     }
 }
@@ -180,6 +191,7 @@ fn parse_state(what: &[u8]) -> Option<PeerAct> {
         b"open" => Some(PeerAct::IsOpen),
         b"shut" => Some(PeerAct::IsShut),
         b"closed" => Some(PeerAct::IsClosed),
+        b"unreached" => Some(PeerAct::IsUnreached),
         _ => None,
     }
 }

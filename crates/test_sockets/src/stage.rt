@@ -86,6 +86,14 @@ impl<N: Drop, R: Drop> FakeNetwork<N, R> {
         self.knock(kind)
     }
 
+    /// A server waits for a connection of that kind that this side opens.
+    pub fn serve(&mut self, name: Octets, kind: u32) -> Result<(), AllocError> {
+        self.idle = 0;
+        self.peers
+            .push(FakePeer::server(self.fake.alloc, name, kind))?;
+        Ok(())
+    }
+
     /// A wait is to tell of that listener.
     fn knock(&mut self, kind: u32) -> Result<(), AllocError>
         ensures { self.new.fake ≡ self.old.fake }
@@ -166,6 +174,19 @@ fn admit(peers: &mut Vec<FakePeer>, kind: u32, id: u32) -> bool {
         }
     }
     false
+}
+
+/// The first server of that kind that nobody reached yet is reached under this number; if there is none, the connection fails.
+fn reach(alloc: Global, peers: &mut Vec<FakePeer>, kind: u32, id: u32) -> Result<(), AllocError> {
+    for peer in peers.iter_mut() {
+        if peer.awaits(kind) {
+            peer.id = Some(id);
+            peer.news = true;
+            return Ok(());
+        }
+    }
+    peers.push(FakePeer::unreachable(alloc, kind, id))?;
+    Ok(())
 }
 
 /// What a read comes to.
@@ -275,6 +296,14 @@ impl<N: Drop, R: Drop> Sockets for FakeNetwork<N, R> {
             self.fake.keep(Act::NoneCame(kind));
             Accepted::Nobody
         }
+    }
+
+    fn connect(&mut self, kind: u32, id: u32) {
+        self.idle = 0;
+        if reach(self.fake.alloc, &mut self.peers, kind, id).is_err() {
+            self.fake.lost = true;
+        }
+        self.fake.keep(Act::Called(id, kind));
     }
 
     fn read(&mut self, id: u32, buffer: &mut [u8]) -> Input {
