@@ -132,7 +132,7 @@ stuck (OutOfMemory id kind) = Some id
 stuck (Leaving id kind) = Some id
 stuck _ = None
 
-not_stuck : (id : ℕ) (turn to : Turn) → turn ≡ to → stuck to ≡ None → stuck turn ≡ Some id → ⊥
+pub not_stuck : (id : ℕ) (turn to : Turn) → turn ≡ to → stuck to ≡ None → stuck turn ≡ Some id → ⊥
 not_stuck id turn to is none h = let e : None ≡ Some id = sym none ∙ subst (λ t. stuck t ≡ Some id) is h in cc
 
 -- it is noted so, then it ends
@@ -144,7 +144,7 @@ IsOver id _ turn = ⊥
 one_of : (id n : ℕ) (turn to : Turn) → turn ≡ to → stuck to ≡ Some n → stuck turn ≡ Some id → n ≡ id
 one_of id n turn to is some h = let e : Some n ≡ Some id = sym some ∙ subst (λ t. stuck t ≡ Some id) is h in cc
 
-calm : {M N R : Type 0} (rules : Rules M N R) (m : M) (s : Service) (id : ℕ) → Calm rules m s → stuck s.turn ≡ Some id → ⊥
+pub calm : {M N R : Type 0} (rules : Rules M N R) (m : M) (s : Service) (id : ℕ) → Calm rules m s → stuck s.turn ≡ Some id → ⊥
 calm rules m s id (inl is) h = not_stuck id s.turn Free is refl h
 calm rules m s id (inr w) h = not_stuck id s.turn Sweep w.0 refl h
 
@@ -366,9 +366,9 @@ same_limits rules m k r q s u (Dropped n count) said keeps t = silent_keeps rule
 
 -- ---- how many
 
-record Held (limit : ℕ → ℕ) (open_kind : ℕ → Option ℕ) (s : Service) : Type 0 where
-  kept : (id kind : ℕ) → open_kind id ≡ Some kind → IsKept id kind (client_of s id) s.turn
-  few : (kind : ℕ) (ids : List ℕ) → Distinct (λ id. open_kind id ≡ Some kind) ids → length ids ≤ limit kind
+pub record Held (limit : ℕ → ℕ) (open_kind : ℕ → Option ℕ) (s : Service) : Type 0 where
+  pub kept : (id kind : ℕ) → open_kind id ≡ Some kind → IsKept id kind (client_of s id) s.turn
+  pub few : (kind : ℕ) (ids : List ℕ) → Distinct (λ id. open_kind id ≡ Some kind) ids → length ids ≤ limit kind
 
 differ-flips : (a b : ℕ) → is_same_id a b ≡ false → is_same_id b a ≡ false
 differ-flips a b is = go (is_same_id b a) refl
@@ -377,7 +377,7 @@ differ-flips a b is = go (is_same_id b a) refl
     go true at = let one : is_same_id a b ≡ true = same-flips b a at in let never : ⊥ = cc in absurd never
     go false at = refl
 
-is_there : (id kind : ℕ) (o : Option Client) (turn : Turn) → (stuck turn ≡ Some id → ⊥) → IsKept id kind o turn → is_of kind o ≡ true
+pub is_there : (id kind : ℕ) (o : Option Client) (turn : Turn) → (stuck turn ≡ Some id → ⊥) → IsKept id kind o turn → is_of kind o ≡ true
 is_there id kind o turn apart (inl h) = h
 is_there id kind o turn apart (inr h) = absurd (apart h)
 
@@ -397,7 +397,7 @@ still_open false kind o h = h
 less : (a b : ℕ) → nat_lt a b ≡ true → a < b
 less a b is = grind (arith, nat_tests)
 
-called_place : {M N R : Type 0} (rules : Rules M N R) (m : M) (s : Service) (kind : ℕ) → kind_to_call rules m s ≡ Some kind → open_count kind s < rules.limit m kind
+pub called_place : {M N R : Type 0} (rules : Rules M N R) (m : M) (s : Service) (kind : ℕ) → kind_to_call rules m s ≡ Some kind → open_count kind s < rules.limit m kind
 called_place rules m s kind is = go (rules.calls m s.moment) is
   where
     by : (of : ℕ) (b : Bool) → nat_lt (open_count of s) (rules.limit m of) ≡ b → cond b (Some of) None ≡ Some kind → open_count kind s < rules.limit m kind
@@ -408,7 +408,7 @@ called_place rules m s kind is = go (rules.calls m s.moment) is
     go None is = let never : ⊥ = cc in absurd never
     go (Some of) is = by of (nat_lt (open_count of s) (rules.limit m of)) refl is
 
-called_kind : {M N R : Type 0} (rules : Rules M N R) (m : M) (s : Service) (kind : ℕ) → kind_to_call rules m s ≡ Some kind → rules.calls m s.moment ≡ Some kind
+pub called_kind : {M N R : Type 0} (rules : Rules M N R) (m : M) (s : Service) (kind : ℕ) → kind_to_call rules m s ≡ Some kind → rules.calls m s.moment ≡ Some kind
 called_kind rules m s kind is = go (rules.calls m s.moment) is
   where
     by : (of : ℕ) (b : Bool) → cond b (Some of) None ≡ Some kind → Some of ≡ Some kind
@@ -466,7 +466,7 @@ none_yet limit kind [] d = omega arith
 none_yet limit kind (id ∷ ids) d = let is = d.0 in let never : ⊥ = cc in absurd never
 
 -- from no connection on
-held_fresh : {M N R : Type 0} (rules : Rules M N R) → KeepsLimits rules → (m : Moment M N R) (moves : List (Move N)) (n : Moment M N R) → PassesMoves rules m moves n
+pub held_fresh : {M N R : Type 0} (rules : Rules M N R) → KeepsLimits rules → (m : Moment M N R) (moves : List (Move N)) (n : Moment M N R) → PassesMoves rules m moves n
     → Held (rules.limit m.machine) (λ id. kind_on id None moves) n.service
 held_fresh rules keeps m moves n passes = held_on rules m moves n (rules.limit m.machine) (λ id. None) keeps passes (λ of. refl) (record {
   kept = λ id of is. let never : ⊥ = cc in absurd never;

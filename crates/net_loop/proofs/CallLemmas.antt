@@ -1,5 +1,5 @@
 -- Connections that this side opens, and the numbers of all.
-use Rattle.std.proofs.Common.{◌≡◌, ◌×◌, ℕ, List, ◌∷◌, Bool, true, false, Option, Some, None, refl, sym, ◌∙◌, ap, subst}
+use Rattle.std.proofs.Common.{◌≡◌, ℕ, List, ◌∷◌, Bool, true, false, Option, Some, None, refl, sym, ◌∙◌, ap, subst}
 use Rattle.net_loop.specs.declared.act.Act.{Act}
 use Rattle.net_loop.specs.declared.act.Act.TheVariants.{Came, Called}
 use Rattle.net_loop.specs.declared.service.Client.{Client}

@@ -1,5 +1,5 @@
 -- Whose turn it is, act by act, and what the machine is asked for.
-use Rattle.std.specs.Prelude.{◌≡◌, ◌⊎◌, ℕ, ◌+◌, ◌-◌, ◌%◌, ◌^◌, ◌≤◌, ◌<◌, ◌==◌, Bool, true, false, List, [], length, filter, find}
+use Rattle.std.specs.Prelude.{◌≡◌, ◌⊎◌, ℕ, ◌+◌, ◌-◌, ◌%◌, ◌^◌, ◌≤◌, ◌<◌, ◌==◌, Bool, true, false, if◌then◌else◌, List, [], length, filter, find}
 use Rattle.std.specs.Prelude.{nat_lt, not, option_map, ◌&&◌, Option, Some, None, IsSome}
 use Rattle.std.specs.BTreeMap as tree
 use Rattle.std.specs.List.{list_any}
