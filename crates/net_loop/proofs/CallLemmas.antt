@@ -1,17 +1,16 @@
 -- Connections that this side opens, and the numbers of all.
-use Rattle.std.proofs.Common.{◌≡◌, ℕ, List, ◌∷◌, Bool, true, false, Option, Some, None, refl, sym, ◌∙◌, ap, subst}
+use Rattle.std.proofs.Common.{◌≡◌, ℕ, List, ◌∷◌, true, false, Option, Some, None, refl, sym, ◌∙◌, ap, subst}
 use Rattle.net_loop.specs.declared.act.Act.{Act}
 use Rattle.net_loop.specs.declared.act.Act.TheVariants.{Came, Called}
 use Rattle.net_loop.specs.declared.service.Client.{Client}
 use Rattle.net_loop.specs.declared.service.Service.{Service}
 use Rattle.net_loop.specs.declared.turn.Turn.TheVariants.{Accepting}
 use Rattle.net_loop.specs.Calls.{CalledFor, BeginsAs, OwnNumber}
-use Rattle.net_loop.specs.Life.{Move, kind_on}
-use Rattle.net_loop.specs.Moves.{Moment}
+use Rattle.net_loop.specs.Life.{kind_on}
 use Rattle.net_loop.specs.Rules.{Rules, KeepsLimits}
 use Rattle.net_loop.specs.Talk.{client_of}
-use Rattle.net_loop.specs.Turns.{TurnAllows, if_place}
-use Rattle.net_loop.proofs.BoundLemmas.{stuck, not_stuck, calm, is_of, is_there, Held, held_fresh, called_place, called_kind}
+use Rattle.net_loop.specs.Turns.{TurnAllows}
+use Rattle.net_loop.proofs.BoundLemmas.{stuck, not_stuck, calm, is_of, is_there, held_fresh, called_place, called_kind}
 use Rattle.net_loop.proofs.LifeLemmas.{cut, turns_of}
 
 pub called_for : {M N R : Type 0} (rules : Rules M N R) → CalledFor rules

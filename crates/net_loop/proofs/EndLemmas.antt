@@ -7,7 +7,7 @@ use Rattle.net_loop.specs.declared.outcome.Wake.TheVariants.{Knock, Ready}
 use Rattle.net_loop.specs.declared.service.Client.{Client}
 use Rattle.net_loop.specs.declared.service.Service.{Service}
 use Rattle.net_loop.specs.declared.turn.Turn.{Turn}
-use Rattle.net_loop.specs.declared.turn.Turn.TheVariants.{Free, Rested, Sweep, Accepting, Leaving}
+use Rattle.net_loop.specs.declared.turn.Turn.TheVariants.{Free, Rested, Accepting, Leaving}
 use Rattle.net_loop.specs.Rules.{Rules}
 use Rattle.net_loop.specs.Talk.{client_of, client_kind}
 use Rattle.net_loop.specs.Turns.{TurnAllows, turn_at, turn_for_wake, Calm, Passed, PassedCall, OpensTo, HeardOrLacking, ReadEnds, Fails, Lacks, Parting}

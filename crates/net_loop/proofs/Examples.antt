@@ -1,5 +1,5 @@
 -- Right cases of the definitions, and near misses.
-use Rattle.std.proofs.Common.{◌≡◌, inl, ℕ, ◌+◌, ◌-◌, ◌^◌, true, false, if◌then◌else◌, List, [], ◌∷◌, length, filter, nat_lt, ◌==◌, Option, Some, None, refl, ◌∙◌, ap, arith}
+use Rattle.std.proofs.Common.{◌≡◌, inl, ℕ, ◌+◌, ◌-◌, ◌^◌, true, false, if◌then◌else◌, List, [], ◌∷◌, length, filter, nat_lt, ◌==◌, Option, Some, None, refl, ap, arith}
 use Rattle.std.specs.Map.{values_of}
 use Rattle.net_loop.specs.declared.act.Act.TheVariants.{Woke, Began, Timed, Waits, Resumed, Came, Called, Sent, Noted, Ended}
 use Rattle.net_loop.specs.declared.machine.Claim.{Claim}

@@ -1,5 +1,5 @@
 -- Connections that this side opens, and the numbers of all.
-use Rattle.std.specs.Prelude.{◌≡◌, ℕ, ◌<◌, List, ◌∷◌, ◌++◌, Option, Some, None}
+use Rattle.std.specs.Prelude.{◌≡◌, ℕ, ◌<◌, List, ◌∷◌, ◌++◌, Some, None}
 use Rattle.net_loop.specs.declared.act.Act.{Act}
 use Rattle.net_loop.specs.declared.act.Act.TheVariants.{Came, Called}
 use Rattle.net_loop.specs.Life.{Move, PassesMoves, Fresh, kind_on}
