@@ -254,7 +254,7 @@ pub record MayCall {M N R : Type 0} (rules : Rules M N R) (m : M) (s : Service) 
   pub quiet : Quiet rules m s
   pub asked : kind_to_call rules m s ≡ Some kind
 
--- it does so under a number that is free, and a wait follows
+-- it does so under a number that is free, and it is nobody's turn then, as after work
 pub record ServiceCalls {M N R : Type 0} (rules : Rules M N R) (m : M) (s : Service) (id kind : ℕ) (said : List ℕ) (n : M) (t : Service) : Type 0 where
   pub may : MayCall rules m s kind
   pub number : id ≡ s.next

@@ -60,8 +60,9 @@ pub trait Machine<O: Outside> {
     fn has_work(&self, now: u64) -> bool
         ensures { result ≡ rules.has_work self.now now };
 
-    /// The kind of a connection that it wants this side to open at that moment, if it wants one. If there is a place for it (`limit`) it
-    /// begins next, and comes by `open`; a wait lies between two of them. If it can't be reached it ends as any other: `close` tells so.
+    /// The kind of a connection that it wants this side to open at that moment, if it wants one. If there is a place for it (`limit`)
+    /// it begins next, and comes by `open`; then those that waited and may go on now do so, and a wait follows. If it can't be
+    /// reached it ends as any other: `close` tells so.
     fn calls(&self, now: u64) -> Option<u32>
         ensures { result ≡ rules.calls self.now now };
 

@@ -4,7 +4,7 @@
 pub enum Turn {
     /// Nobody's.
     Free,
-    /// Nobody's, and the machine has done some work of its own: now a wait follows.
+    /// Nobody's, and the machine has done some work of its own, or this side began to open a connection: now a wait follows.
     Rested,
     /// Nobody's: a wait has ended, and the clock is to be read.
     Waked,
